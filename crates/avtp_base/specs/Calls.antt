@@ -1,0 +1,7 @@
+-- Numbers of calls and of faults.
+use Rattle.std.specs.Prelude.{ℕ, ◌+◌, min}
+use Rattle.avtp_base.specs.Faults.{last_count}
+
+-- the number after this one, which stands still at the last value of a 64-bit number
+abbrev pub next_number : ℕ → ℕ
+next_number n = min (n + 1) last_count

@@ -1,0 +1,13 @@
+pub mod Calls
+pub mod Entries
+pub mod Faults
+pub mod Field
+pub mod FileShelf
+pub mod Files
+pub mod MemoryShelf
+pub mod MemorySink
+pub mod NamedFiles
+pub mod OpenFile
+pub mod Octets
+pub mod Rows
+pub mod Layout

@@ -1,0 +1,39 @@
+-- How a format refuses bytes: by the first row of its table that holds.
+use Rattle.std.specs.Prelude.{◌≡◌, ℕ, ◌<◌, ◌≤◌, Bool, false, if◌then◌else◌, List, [], ◌∷◌, ◌++◌, length, drop, Option, Some, None, Result, Ok, Err}
+use Rattle.avtp_base.specs.declared.field.Field.{Field}
+use Rattle.avtp_base.specs.declared.refusal.Refusal.{Refusal}
+use Rattle.avtp_base.specs.declared.refusal.Room.{Room}
+
+-- a row of a table of refusals: what it refuses, and whether it does
+pub record Row : Type 0 where
+  pub refusal : Refusal
+  pub holds : Bool
+
+-- the row that refuses the field at a byte for its value
+abbrev pub row : Field → ℕ → Bool → Row
+row field at holds = record { refusal = record { field = field; at = at; short = false }; holds = holds }
+
+abbrev pub first_row : List Row → Option Refusal
+first_row [] = None
+first_row (r ∷ rows) = if r.holds then Some r.refusal else first_row rows
+
+abbrev pub or_else : Option Refusal → Option Refusal → Option Refusal
+or_else None second = second
+or_else (Some refusal) second = Some refusal
+
+-- A reader answered so: the view that the bytes spell where nothing refuses them, and the refusal else.
+abbrev pub Reads : {X V : Type 0} → (X → V) → Option Refusal → V → Result X Refusal → Type 0
+Reads shape refusal view (Ok x) = (refusal ≡ None) × (shape x ≡ view)
+Reads shape refusal view (Err r) = refusal ≡ Some r
+
+-- A writer answered so: it put the spelling at the front and left the rest, or found too little room and left all.
+abbrev pub Writes : List ℕ → List ℕ → List ℕ → Result ℕ Room → Type 0
+Writes spelling old new (Ok n) =
+    (n ≡ length spelling) × (length spelling ≤ length old) × (new ≡ spelling ++ drop (length spelling) old)
+Writes spelling old new (Err room) =
+    (room ≡ record { need = length spelling; found = length old }) × (length old < length spelling) × (new ≡ old)
+
+-- Where nothing refuses bytes they spell one view and no other; where a row does they spell none.
+abbrev pub IsSpelledOnce : {V : Type 0} → Option Refusal → (V → Type 0) → Type 0
+IsSpelledOnce {V} None Spelled = (v : V) × Spelled v × ((w : V) → Spelled w → w ≡ v)
+IsSpelledOnce {V} (Some refusal) Spelled = (w : V) → ¬ Spelled w

@@ -1,0 +1,51 @@
+//! The errors of the outside and of memory.
+
+use std::alloc::{AllocError, AllocFailed};
+use thiserror::Error;
+
+/// A call of the outside failed. The object that was called counts it.
+#[derive(Clone, Copy, Debug, PartialEq, Eq, Error)]
+#[error("a call of the outside failed")]
+pub struct Failed;
+
+/// No memory was found.
+#[derive(Clone, Copy, Debug, PartialEq, Eq, Error)]
+#[error("out of memory")]
+pub struct NoMemory;
+
+/// Why a file was not opened or not made.
+#[derive(Clone, Copy, Debug, PartialEq, Eq, Error)]
+pub enum OpenFault {
+    /// The shelf tells its files, and none has the name.
+    #[error("no such file")]
+    Missing,
+    /// The outside failed, and the shelf counts it.
+    #[error("the file could not be opened")]
+    Failed,
+    /// No memory was found.
+    #[error("out of memory")]
+    Memory,
+}
+
+impl From<AllocError> for NoMemory {
+    fn from(_error: AllocError) -> NoMemory {
+        NoMemory
+    }
+}
+
+impl<T: Drop> From<AllocFailed<T>> for NoMemory {
+    fn from(_failed: AllocFailed<T>) -> NoMemory {
+        NoMemory
+    }
+}
+
+impl From<NoMemory> for OpenFault {
+    ghost use Rattle.std.specs.Prelude.{◌≡◌};
+    ghost use Rattle.avtp_base.specs.declared.failed.OpenFault.TheVariants.{Memory};
+
+    ghost from_gives = { λ _ fault. fault ≡ Memory };
+
+    fn from(_error: NoMemory) -> OpenFault {
+        OpenFault::Memory
+    }
+}

@@ -1,0 +1,141 @@
+//! Real files.
+
+ghost use Rattle.std.specs.Prelude.{◌≡◌, ◌<◌, ◌≤◌, ℕ, None, length, IsSome, IfSome};
+ghost use Rattle.std.proofs.Common.{rules};
+ghost use Rattle.avtp_base.specs.Entries.{entry_at};
+ghost use Rattle.avtp_base.specs.FileShelf.{real_slots};
+
+use crate::failed::{Failed, OpenFault};
+use crate::shelf::{Shelf, Slot};
+use crate::slots::Slots;
+use std::alloc::Global;
+use std::fs;
+use std::io::{Read, Write};
+use std::rt::Files;
+
+/// A real file that is open, and whether it was made for writing.
+#[derive(Drop)]
+pub struct RealFile<F> {
+    file: F,
+    made: bool,
+}
+
+/// Real files, by their paths. It tells nothing of their contents, and a missing file counts as a fault.
+#[derive(Drop)]
+pub struct FileShelf<'a, R: Files> {
+    rt: &'a R,
+    live: Slots<RealFile<R::File>>,
+    reading_faults: u64,
+    writing_faults: u64,
+}
+
+impl<'a, R: Files> FileShelf<'a, R> {
+    pub fn new(alloc: Global, rt: &'a R) -> Self
+        ensures closed { (k : ℕ) → real_slots result.live k ≡ None }
+        ensures reading { result.reading_faults ≡ 0 }
+        ensures writing { result.writing_faults ≡ 0 }
+    {
+        FileShelf {
+            rt,
+            live: Slots::new(alloc),
+            reading_faults: 0,
+            writing_faults: 0,
+        }
+    }
+}
+
+impl<R: Files + Sync> Shelf for FileShelf<'_, R>
+where
+    R::File: Send,
+{
+    ghost files = { λ shelf. None };
+
+    ghost slots = { λ shelf. real_slots shelf.live };
+
+    ghost reading_faults = { λ shelf. shelf.reading_faults };
+
+    ghost writing_faults = { λ shelf. shelf.writing_faults };
+
+    ghost told = { λ shelf k files live. Prim.search rules };
+
+    fn open_file(&mut self, name: &str) -> Result<Slot, OpenFault> {
+        let Ok(slot) = self.live.free_slot() else {
+            return Err(OpenFault::Memory);
+        };
+        let Ok(file) = fs::open(self.rt, name) else {
+            self.reading_faults = self.reading_faults.saturating_add(1);
+            return Err(OpenFault::Failed);
+        };
+        self.live.set(slot, Some(RealFile { file, made: false }));
+        Ok(slot)
+    }
+
+    fn create_file(&mut self, name: &str) -> Result<Slot, OpenFault> {
+        let Ok(slot) = self.live.free_slot() else {
+            return Err(OpenFault::Memory);
+        };
+        let Ok(file) = fs::create(self.rt, name) else {
+            self.writing_faults = self.writing_faults.saturating_add(1);
+            return Err(OpenFault::Failed);
+        };
+        self.live.set(slot, Some(RealFile { file, made: true }));
+        Ok(slot)
+    }
+
+    fn read(&mut self, slot: Slot, buf: &mut [u8]) -> Result<usize, Failed> {
+        match read_open(&mut self.live, slot, buf) {
+            Some(moved) => Ok(moved),
+            None => {
+                self.reading_faults = self.reading_faults.saturating_add(1);
+                Err(Failed)
+            }
+        }
+    }
+
+    fn write(&mut self, slot: Slot, piece: &[u8]) -> Result<usize, Failed> {
+        match write_open(&mut self.live, slot, piece) {
+            Some(taken) => Ok(taken),
+            None => {
+                self.writing_faults = self.writing_faults.saturating_add(1);
+                Err(Failed)
+            }
+        }
+    }
+
+    fn close_file(&mut self, slot: Slot) {
+        self.live.set(slot, None);
+    }
+}
+
+// Reads from the file in a live slot. None where that failed.
+fn read_open<F: Read + Drop>(
+    live: &mut Slots<RealFile<F>>,
+    slot: Slot,
+    buf: &mut [u8],
+) -> Option<usize>
+    requires { IsSome (entry_at live.old.entries.items slot.0) }
+    ensures within { IfSome result (λ n. n ≤ length buf.new) }
+    ensures same { (k : ℕ) → real_slots live.new k ≡ real_slots live.old k }
+{
+    let mut open = live.take(slot)?;
+    let moved = open.file.read(buf).ok();
+    live.set(slot, Some(open));
+    moved
+}
+
+// Writes to the file in a live slot. None where that failed, or took nothing.
+fn write_open<F: Write + Drop>(
+    live: &mut Slots<RealFile<F>>,
+    slot: Slot,
+    piece: &[u8],
+) -> Option<usize>
+    requires { IsSome (entry_at live.old.entries.items slot.0) }
+    ensures some { IfSome result (λ n. 0 < n) }
+    ensures within { IfSome result (λ n. n ≤ length piece.now) }
+    ensures same { (k : ℕ) → real_slots live.new k ≡ real_slots live.old k }
+{
+    let mut open = live.take(slot)?;
+    let taken = open.file.write(piece).ok();
+    live.set(slot, Some(open));
+    taken.filter(|taken| *taken > 0)
+}

@@ -1,0 +1,34 @@
+//! What every crate of the product stands on: the outside as two traits, with ends in memory and over real
+//! files, and the names of the fields that can be refused.
+#![tactic(auto)]
+
+mod bytes;
+mod calls;
+mod failed;
+mod field;
+mod file_shelf;
+mod memory_shelf;
+mod memory_sink;
+mod named_files;
+pub mod octets;
+mod open_file;
+mod refusal;
+pub mod rows;
+mod shelf;
+mod sink;
+mod slots;
+mod std_sink;
+
+pub use bytes::Bytes;
+pub use failed::{Failed, NoMemory, OpenFault};
+pub use field::Field;
+pub use file_shelf::FileShelf;
+pub use memory_shelf::MemoryShelf;
+pub use memory_sink::MemorySink;
+pub use refusal::{Refusal, Room};
+pub use shelf::{Shelf, Slot};
+pub use sink::Sink;
+pub use std_sink::StdSink;
+
+#[cfg(test)]
+mod tests;

@@ -1,0 +1,22 @@
+//! Why bytes were not read, and why they were not written.
+
+use crate::field::Field;
+
+/// The first field, in the order in which a format judges its fields, that cannot be accepted.
+#[derive(Clone, Copy, Debug, PartialEq, Eq)]
+pub struct Refusal {
+    pub field: Field,
+    /// The offset of the field's first byte in the bytes that were read.
+    pub at: u64,
+    /// The field does not lie wholly in the part that should hold it.
+    pub short: bool,
+}
+
+/// The refusal of a writer whose output slice is shorter than the spelling. The slice is unchanged.
+#[derive(Clone, Copy, Debug, PartialEq, Eq)]
+pub struct Room {
+    /// The length of the spelling in bytes.
+    pub need: usize,
+    /// The length of the output slice in bytes.
+    pub found: usize,
+}

@@ -1,0 +1,28 @@
+//! Where text goes.
+
+ghost use Rattle.std.specs.Prelude.{◌≤◌, ◌<◌, length, IfOk};
+ghost use Rattle.std.specs.Io.KnownBytes.{WriteAppends};
+ghost use Rattle.avtp_base.specs.Faults.{IsCounted};
+
+use crate::failed::Failed;
+
+/// A writer that appends bytes and counts its faults.
+pub trait Sink: Send {
+    ghost use Rattle.std.specs.Prelude.{List, ℕ, Option};
+
+    /// The bytes that the sink holds, where it tells them.
+    ghost held: { Self → Option (List ℕ) };
+
+    /// The number of faults so far, which stands still at the last value of a 64-bit number.
+    ghost faults: { Self → ℕ };
+
+    /// Appends a prefix of the piece, of at least one byte, and answers its length.
+    ///
+    /// `Failed` comes only where the count rose, and then nothing was appended.
+    fn write(&mut self, piece: &[u8]) -> Result<usize, Failed>
+        requires { 0 < length piece.now }
+        ensures some { IfOk result (λ n. 0 < n) }
+        ensures within { IfOk result (λ n. n ≤ length piece.now) }
+        ensures appends { WriteAppends (held self.old) (held self.new) result piece.now }
+        ensures counted { IsCounted (faults self.old) (faults self.new) result };
+}
