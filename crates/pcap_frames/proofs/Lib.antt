@@ -1,0 +1,11 @@
+pub mod FrameLemmas
+pub mod Append
+pub mod Ends
+pub mod Fields
+pub mod Held
+pub mod Joined
+pub mod One
+pub mod Steps
+pub mod Whole
+pub mod Written
+pub mod Firsts

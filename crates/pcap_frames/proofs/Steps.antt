@@ -1,0 +1,153 @@
+-- How a reader goes on.
+use Rattle.std.proofs.Common.{◌≡◌, ℕ, ◌+◌, ◌-◌, ◌<◌, false, cond, List, [], ◌++◌, length, take, drop, Option, Some, None, refl, sym, ap, subst, ◌∙◌, arith, is_none, inl, inr, append_assoc, length-append}
+use Rattle.std.proofs.lemmas.List.{append-nil, take_all, take-append-drop, length-drop}
+use Rattle.std.proofs.Math.Seq.{take-add}
+use Rattle.avtp_base.specs.declared.refusal.Refusal.{Refusal}
+use Rattle.pcap_frames.specs.declared.style.Style.{Style}
+use Rattle.pcap_frames.specs.Layout.{style_at, file_refusal, record_refusal}
+use Rattle.pcap_frames.specs.Capture.{Record, style_of}
+use Rattle.pcap_frames.specs.Reading.{Reading, HasRead, GoesOn, IsReading}
+use Rattle.pcap_frames.proofs.Append.{file_stays, record_stays, style_at_stays}
+use Rattle.pcap_frames.proofs.Fields.{file_whole, file_style, file_header_is, record_begins, header_begins}
+
+abbrev pub reading : Option Refusal → Option Style → ℕ → List ℕ → Reading
+reading refusal style start part = record { style = style; start = start; part = part; refusal = refusal }
+
+-- the style of the bytes, once a header of a file stands there
+style_by : (x : Option Refusal) (style : Option Style) (s : Style) → cond (is_none x) style None ≡ Some s → (x ≡ None) × (style ≡ Some s)
+style_by None style s e = (refl, e)
+style_by (Some r) style s e = absurd (cc)
+
+pub style_stays : (bytes more : List ℕ) (s : Style) → style_of bytes ≡ Some s → style_of (bytes ++ more) ≡ Some s
+style_stays bytes more s e =
+    let both = style_by (file_refusal bytes) (style_at bytes) s e in
+    let long = file_whole bytes both.0 in
+    rw (file_stays bytes more None both.0 refl, style_at_stays bytes more (omega arith)) both.1
+
+-- more of a file header came, and not the whole of it
+pub header_goes_on : (refusal : Option Refusal) (style : Option Style) (start : ℕ) (part more bytes : List ℕ) (records : List Record) (why : Refusal)
+    → refusal ≡ None → style ≡ None → file_refusal (part ++ more) ≡ Some why → IsReading refusal style start (part ++ more)
+    → HasRead (reading refusal style start part) bytes records → HasRead (reading refusal style start (part ++ more)) (bytes ++ more) records
+header_goes_on (Some r) style start part more bytes records why ref sty e keeps h = absurd (cc)
+header_goes_on None (Some s) start part more bytes records why ref sty e keeps h = absurd (cc)
+header_goes_on None None start part more bytes records why ref sty e keeps h = record {
+  style = rw (h.stands.1, e) refl;
+  stands = (h.stands.0, ap (λ (b : List ℕ). b ++ more) h.stands.1);
+  reading = keeps;
+}
+
+-- the whole file header came
+pub header_ends : (refusal : Option Refusal) (old style : Option Style) (start : ℕ) (part more next bytes : List ℕ) (records : List Record)
+    → refusal ≡ None → old ≡ None → file_refusal (part ++ more) ≡ None → length (part ++ more) ≡ 24 → style ≡ style_at (part ++ more) → next ≡ []
+    → HasRead (reading refusal old start part) bytes records → HasRead (reading refusal style 24 next) (bytes ++ more) records
+header_ends (Some r) old style start part more next bytes records ref sty e size is none h = absurd (cc)
+header_ends None (Some s) style start part more next bytes records ref sty e size is none h = absurd (cc)
+header_ends None None None start part more next bytes records ref sty e size is none h =
+    let some = file_style (part ++ more) e in
+    absurd (cc)
+header_ends None None (Some s) start part more next bytes records ref sty e size is none h =
+    let whole : bytes ++ more ≡ part ++ more = ap (λ (b : List ℕ). b ++ more) h.stands.1 in
+    record {
+      style = rw (whole, e) is;
+      stands = record {
+        front = part ++ more;
+        whole = rw (none, whole) (sym (append-nil (part ++ more)));
+        capture = record {
+          header = part ++ more;
+          body = [];
+          whole = sym (append-nil (part ++ more));
+          is_header = file_header_is (part ++ more) s e size (sym is);
+          spelled = rw h.stands.0 refl;
+        };
+        begins = size;
+      };
+      reading = record_begins s.order 24 next none;
+    }
+
+-- a field of the file header is refused
+pub header_refuses : (refusal : Option Refusal) (style : Option Style) (start : ℕ) (part more rest bytes : List ℕ) (records : List Record) (why : Refusal) (left : List ℕ)
+    → refusal ≡ None → style ≡ None → file_refusal (part ++ more) ≡ Some why → why.short ≡ false
+    → HasRead (reading refusal style start part) bytes records → HasRead (reading (Some why) style start left) (bytes ++ (more ++ rest)) records
+header_refuses (Some r) style start part more rest bytes records why left ref sty e long h = absurd (cc)
+header_refuses None (Some s) start part more rest bytes records why left ref sty e long h = absurd (cc)
+header_refuses None None start part more rest bytes records why left ref sty e long h =
+    let whole : bytes ++ (more ++ rest) ≡ (part ++ more) ++ rest = ap (λ (b : List ℕ). b ++ (more ++ rest)) h.stands.1 ∙ sym (append_assoc part more rest) in
+    let stays : file_refusal (bytes ++ (more ++ rest)) ≡ Some why = rw whole (file_stays (part ++ more) rest (Some why) e long) in
+    record {
+      style = rw stays refl;
+      stands = inl (h.stands.0, stays);
+      reading = long;
+    }
+
+-- more of a record came
+pub record_goes_on : (refusal : Option Refusal) (style : Option Style) (s : Style) (start : ℕ) (part more bytes : List ℕ) (records : List Record)
+    → refusal ≡ None → style ≡ Some s → IsReading refusal style start (part ++ more)
+    → HasRead (reading refusal style start part) bytes records → HasRead (reading refusal style start (part ++ more)) (bytes ++ more) records
+record_goes_on (Some r) style s start part more bytes records ref sty keeps h = absurd (cc)
+record_goes_on None None s start part more bytes records ref sty keeps h = absurd (cc)
+record_goes_on None (Some style) s start part more bytes records ref sty keeps h = record {
+  style = sym (style_stays bytes more style (sym h.style));
+  stands = record {
+    front = h.stands.front;
+    whole = ap (λ (b : List ℕ). b ++ more) h.stands.whole ∙ append_assoc h.stands.front part more;
+    capture = h.stands.capture;
+    begins = h.stands.begins;
+  };
+  reading = keeps;
+}
+
+-- a field of a record is refused
+pub record_refuses : (refusal : Option Refusal) (style : Option Style) (s : Style) (start : ℕ) (part more rest bytes : List ℕ) (records : List Record) (why : Refusal) (left : List ℕ)
+    → refusal ≡ None → style ≡ Some s → record_refusal s.order start (part ++ more) ≡ Some why → why.short ≡ false → 0 < length (part ++ more)
+    → HasRead (reading refusal style start part) bytes records → HasRead (reading (Some why) style start left) (bytes ++ (more ++ rest)) records
+record_refuses (Some r) style s start part more rest bytes records why left ref sty e long some h = absurd (cc)
+record_refuses None None s start part more rest bytes records why left ref sty e long some h = absurd (cc)
+record_refuses None (Some style) s start part more rest bytes records why left ref sty e long some h =
+    let same : style ≡ s = cc in
+    let f = h.stands in
+    let stays : record_refusal s.order start ((part ++ more) ++ rest) ≡ Some why = record_stays s.order start (part ++ more) rest (Some why) e long in
+    record {
+      style = sym (style_stays bytes (more ++ rest) style (sym h.style));
+      stands = inr (record {
+        style = s;
+        front = f.front;
+        rest = (part ++ more) ++ rest;
+        whole = ap (λ (b : List ℕ). b ++ (more ++ rest)) f.whole ∙ (append_assoc f.front part (more ++ rest) ∙ ap (λ (b : List ℕ). f.front ++ b) (sym (append_assoc part more rest)));
+        capture = rw (← same) f.capture;
+        some = rw length-append (omega arith);
+        refused = rw f.begins stays;
+      });
+      reading = long;
+    }
+
+-- the rest of a piece, as the code cuts it
+rest_is : (n : ℕ) (piece : List ℕ) → take (length piece - n) (drop n piece) ≡ drop n piece
+rest_is n piece = take_all (length piece - n) (drop n piece) (omega (arith, length-drop n piece))
+
+pub rest_long : (n : ℕ) (piece : List ℕ) → length (take (length piece - n) (drop n piece)) ≡ length piece - n
+rest_long n piece = ap length (rest_is n piece) ∙ length-drop n piece
+
+-- a piece taken in two steps
+pub two_steps : (bytes : List ℕ) (n m : ℕ) (piece : List ℕ) → (bytes ++ take n piece) ++ take m (take (length piece - n) (drop n piece)) ≡ bytes ++ take (n + m) piece
+two_steps bytes n m piece =
+    ap (λ (p : List ℕ). (bytes ++ take n piece) ++ take m p) (rest_is n piece)
+    ∙ (append_assoc bytes (take n piece) (take m (drop n piece)) ∙ ap (λ (p : List ℕ). bytes ++ p) (sym (take-add n m piece)))
+
+-- a step, and then all the rest of the piece
+pub all_steps : (bytes : List ℕ) (n : ℕ) (piece : List ℕ) → (bytes ++ take n piece) ++ take (length piece - n) (drop n piece) ≡ bytes ++ piece
+all_steps bytes n piece =
+    ap (λ (p : List ℕ). (bytes ++ take n piece) ++ p) (rest_is n piece)
+    ∙ (append_assoc bytes (take n piece) (drop n piece) ∙ ap (λ (p : List ℕ). bytes ++ p) (take-append-drop n piece))
+
+pub goes_on_twice : (a b c : Reading) (n m : ℕ) (piece : List ℕ) → GoesOn a (take n piece) b → GoesOn b (take m (take (length piece - n) (drop n piece))) c → GoesOn a (take (n + m) piece) c
+goes_on_twice a b c n m piece first then bytes records h =
+    subst (λ (p : List ℕ). HasRead c p records) (two_steps bytes n m piece) (then _ _ (first bytes records h))
+
+pub goes_on_whole : (a b c : Reading) (n : ℕ) (piece : List ℕ) → GoesOn a (take n piece) b → GoesOn b (take (length piece - n) (drop n piece)) c → GoesOn a piece c
+goes_on_whole a b c n piece first then bytes records h =
+    subst (λ (p : List ℕ). HasRead c p records) (all_steps bytes n piece) (then _ _ (first bytes records h))
+
+-- a reader that has taken nothing
+pub read_nothing : (part : List ℕ) → part ≡ [] → HasRead (reading None None 0 part) [] []
+unfolding file_refusal
+read_nothing part e = record { style = refl; stands = (refl, sym e); reading = header_begins part e }

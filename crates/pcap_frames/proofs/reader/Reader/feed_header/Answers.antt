@@ -1,0 +1,117 @@
+use Rattle.std.proofs.Common.{◌∙◌, sym, ap, Some, arith, rules, refl, is_some, subst, List, ℕ, ◌++◌}
+use Rattle.std.proofs.lemmas.List.{take-append-drop}
+use Rattle.pcap_frames.specs.Reading.{HasRead}
+use Rattle.pcap_frames.proofs.Fields.{file_whole, file_short, file_style, opened, in_header, still_in_header, short_only}
+use Rattle.pcap_frames.proofs.Steps.{reading, header_goes_on, header_ends, header_refuses}
+use Rattle.pcap_frames.proofs.reader.Reader.feed_header.Goals as goal
+
+pub style_at-self-inside-requires : goal.style_at-self-inside-requires
+style_at-self-inside-requires c =
+    let whole = file_whole _ (sym c.file_refusal.ensures ∙ c.in-None.is) in
+    omega arith
+
+pub invariant_of-self : goal.invariant_of-self
+invariant_of-self c =
+    let none = c.requires.accepted in
+    let mine = rw (← c.self.view_is) at none in
+    (omega arith, search rules, opened _ _ _ _ mine (ap is_some c.style_at-self-inside.ensures ∙ file_style _ (sym c.file_refusal.ensures ∙ c.in-None.is)) c.clear.ensures.items)
+
+pub invariant_of-self-then-refusal : goal.invariant_of-self-then-refusal
+invariant_of-self-then-refusal c =
+    let none = c.requires.accepted in
+    let accepted = rw (← c.self.view_is) at none in
+    let header = c.requires.header in
+    let unopened = rw (← c.self.view_is) at header in
+    let old = in_header _ _ _ _ accepted unopened c.self.invariant.2 in
+    let was = c.requires.bounded in
+    let room = rw (← c.self.view_is) at was in
+    let short = file_short _ _ (sym c.file_refusal.ensures ∙ c.in-Some.is) c.if-refusal.true in (
+      omega arith,
+      omega arith,
+      still_in_header _ _ _ _ accepted unopened (record {
+        begins = old.begins;
+        accepted = rw (← c.as_slice-header.ensures.value) (short_only _ _ (sym c.file_refusal.ensures ∙ c.in-Some.is) c.if-refusal.true);
+        partial = rw (← c.as_slice-header.ensures.value) short;
+      }),
+    )
+
+pub returns-in-None-clause-fed : goal.returns-in-None-clause-fed
+returns-in-None-clause-fed c =
+    let none = c.requires.accepted in
+    let accepted = rw (← c.self.view_is) at none in
+    let header = c.requires.header in
+    let unopened = rw (← c.self.view_is) at header in
+    let old = in_header _ _ _ _ accepted unopened c.self.invariant.2 in
+    let all = sym c.file_refusal.ensures ∙ c.in-None.is in
+    let whole = rw (c.as_slice-header.ensures.value, c.gather-taken.ensures.moved) at all in
+    let long = file_whole _ whole in
+    let is = rw (c.as_slice-header.ensures.value, c.gather-taken.ensures.moved) at c.style_at-self-inside.ensures in
+    let grown = rw c.gather-taken.ensures.moved at c.gather-taken.ensures.grown in
+    record {
+      within = omega arith;
+      counted = rw (c.clear.ensures.items, ← c.self.view_is) (omega arith);
+      bounded = rw (c.clear.ensures.items, ← c.self.view_is) (omega arith);
+      read = λ bytes records h.
+          let before = rw (← c.self.view_is) at h in
+          header_ends _ _ _ _ _ _ _ _ _ accepted unopened whole (omega arith) is c.clear.ensures.items before;
+      accepted = accepted;
+      refused = tt;
+      stopped = tt;
+    }
+
+pub returns-in-Some-clause-fed : goal.returns-in-Some-clause-fed
+returns-in-Some-clause-fed c =
+    let none = c.requires.accepted in
+    let accepted = rw (← c.self.view_is) at none in
+    let header = c.requires.header in
+    let unopened = rw (← c.self.view_is) at header in
+    let old = in_header _ _ _ _ accepted unopened c.self.invariant.2 in
+    let some = sym c.file_refusal.ensures ∙ c.in-Some.is in
+    let why = rw (c.as_slice-header.ensures.value, c.gather-taken.ensures.moved) at some in
+    record {
+      within = omega arith;
+      counted = rw (← c.self.view_is) (omega arith);
+      bounded = rw (← c.self.view_is) (omega arith);
+      read = λ bytes records h.
+          let before = rw (← c.self.view_is) at h in
+          rw c.gather-taken.ensures.moved (header_goes_on _ _ _ _ _ _ _ _ accepted unopened why (still_in_header _ _ _ _ accepted unopened (record {
+            begins = old.begins;
+            accepted = short_only _ _ why c.if-refusal.true;
+            partial = file_short _ _ why c.if-refusal.true;
+          })) before);
+      accepted = accepted;
+      refused = tt;
+      stopped = tt;
+    }
+
+pub returns-in-Some-2-clause-fed : goal.returns-in-Some-2-clause-fed
+returns-in-Some-2-clause-fed c =
+    let none = c.requires.accepted in
+    let accepted = rw (← c.self.view_is) at none in
+    let header = c.requires.header in
+    let unopened = rw (← c.self.view_is) at header in
+    let some = sym c.file_refusal.ensures ∙ c.in-Some.is in
+    let why = rw (c.as_slice-header.ensures.value, c.gather-taken.ensures.moved) at some in
+    record {
+      within = tt;
+      counted = tt;
+      bounded = rw (← c.self.view_is) (omega arith);
+      read = tt;
+      accepted = tt;
+      refused = refl;
+      stopped = λ bytes records h.
+          let before = rw (← c.self.view_is) at h in
+          subst (λ (p : List ℕ). HasRead (reading (Some c.in-Some.refusal) c.self.inside.style c.self.inside.start c.gather-taken.new.part.items) (bytes ++ p) records)
+          (take-append-drop c.gather-taken.result c.args.piece.now)
+          (header_refuses _ _ _ _ _ _ _ _ _ _ accepted unopened why c.if-refusal.false before);
+    }
+
+pub returns-in-None-clause-end : goal.returns-in-None-clause-end
+returns-in-None-clause-end c = λ less. ap is_some c.style_at-self-inside.ensures ∙ file_style _ (sym c.file_refusal.ensures ∙ c.in-None.is)
+
+pub returns-in-Some-clause-end : goal.returns-in-Some-clause-end
+returns-in-Some-clause-end c = λ less.
+    let some = sym c.file_refusal.ensures ∙ c.in-Some.is in
+    let why = rw c.as_slice-header.ensures.value at some in
+    let short = file_short _ _ why c.if-refusal.true in
+    absurd (omega arith)

@@ -1,0 +1,146 @@
+-- Captures, records and refusals, as relations over whole lists of bytes.
+use Rattle.std.specs.Prelude.{◌≡◌, ℕ, ℤ, pos, nat_abs, ◌+◌, ◌*◌, ◌/◌, ◌%◌, ◌^◌, ◌<◌, ◌≤◌, ◌≤ℤ◌, ◌<ℤ◌, ◌⊎◌, List, [], ◌∷◌, ◌++◌, length, take, drop, zero, suc, cond, if◌then◌else◌, is_none, Option, Some, None}
+use Rattle.std.specs.List.{flat_map}
+use Rattle.avtp_base.specs.declared.refusal.Refusal.{Refusal}
+use Rattle.pcap_frames.specs.declared.style.Style.{Style}
+use Rattle.pcap_frames.specs.Layout.{number_at, number_bytes, magic_of, scale, style_at, file_refusal, record_refusal, instant}
+
+-- A record: its instant in nanoseconds, the length of its frame on the wire, and its captured bytes.
+pub record Record : Type 0 where
+  pub arrival : ℤ
+  pub orig_len : ℕ
+  pub bytes : List ℕ
+
+-- The bytes are a file header of the style.
+pub record IsFileHeader (style : Style) (bytes : List ℕ) : Type 0 where
+  pub size : length bytes ≡ 24
+  pub magic : style_at bytes ≡ Some style
+  pub version_major : number_at style.order 4 2 bytes ≡ 2
+  pub network : number_at style.order 20 4 bytes % 65536 ≡ 1
+
+-- The bytes spell the record in the style.
+pub record Spells (style : Style) (r : Record) (bytes : List ℕ) : Type 0 where
+  pub size : length bytes ≡ 16 + length r.bytes
+  pub arrival : r.arrival ≡ pos (instant style.unit (number_at style.order 0 4 bytes) (number_at style.order 4 4 bytes))
+  pub incl_len : number_at style.order 8 4 bytes ≡ length r.bytes
+  pub limit : length r.bytes ≤ 262144
+  pub orig_len : number_at style.order 12 4 bytes ≡ r.orig_len
+  pub packet_bytes : drop 16 bytes ≡ r.bytes
+
+-- the bytes are one spelling of each record, in order, and nothing else
+abbrev pub SpellsAll : Style → List Record → List ℕ → Type 0
+SpellsAll style [] bytes = bytes ≡ []
+SpellsAll style (r ∷ records) bytes =
+    (first : List ℕ) × (rest : List ℕ) × (bytes ≡ first ++ rest) × Spells style r first × SpellsAll style records rest
+
+-- The bytes are a capture of the style and the records.
+pub record IsCapture (style : Style) (records : List Record) (bytes : List ℕ) : Type 0 where
+  pub header : List ℕ
+  pub body : List ℕ
+  pub whole : bytes ≡ header ++ body
+  pub is_header : IsFileHeader style header
+  pub spelled : SpellsAll style records body
+
+-- The bytes are a capture of the records, and then the part of a record in which this is the first field that is not
+-- whole or that is refused.
+pub record IsRefusedInRecord (bytes : List ℕ) (records : List Record) (refusal : Refusal) : Type 0 where
+  pub style : Style
+  pub front : List ℕ
+  pub rest : List ℕ
+  pub whole : bytes ≡ front ++ rest
+  pub capture : IsCapture style records front
+  pub some : 0 < length rest
+  pub refused : record_refusal style.order (length front) rest ≡ Some refusal
+
+-- the first refusal of the bytes, and the whole records before it
+abbrev pub IsRefused : List ℕ → List Record → Refusal → Type 0
+IsRefused bytes records refusal =
+    ((records ≡ []) × (file_refusal bytes ≡ Some refusal)) ⊎ IsRefusedInRecord bytes records refusal
+
+-- the bytes hold these whole records, and then end, or this is their first refusal
+abbrev pub Holds : List ℕ → List Record → Option Refusal → Type 0
+Holds bytes records None = (style : Style) × IsCapture style records bytes
+Holds bytes records (Some refusal) = IsRefused bytes records refusal
+
+-- the style of the bytes, once the whole file header stands there and none of its fields is refused
+abbrev pub style_of : List ℕ → Option Style
+style_of bytes = cond (is_none (file_refusal bytes)) (style_at bytes) None
+
+-- the record that the bytes spell
+abbrev pub record_of : Style → List ℕ → Record
+record_of style bytes = record {
+  arrival = pos (instant style.unit (number_at style.order 0 4 bytes) (number_at style.order 4 4 bytes));
+  orig_len = number_at style.order 12 4 bytes;
+  bytes = drop 16 bytes;
+}
+
+-- how many bytes a record has, by its header
+abbrev pub record_size : Style → List ℕ → ℕ
+record_size style bytes = 16 + number_at style.order 8 4 bytes
+
+-- the whole records at the front of the bytes, n at most
+abbrev pub records_from : ℕ → Style → List ℕ → List Record
+records_from zero style bytes = []
+records_from (suc n) style bytes =
+    if is_none (record_refusal style.order 0 bytes)
+    then record_of style (take (record_size style bytes) bytes) ∷ records_from n style (drop (record_size style bytes) bytes)
+    else []
+
+-- the first refusal behind n records at most; the bytes begin at `start`
+abbrev pub refusal_from : ℕ → Style → ℕ → List ℕ → Option Refusal
+refusal_from zero style start bytes = None
+refusal_from (suc n) style start [] = None
+refusal_from (suc n) style start (b ∷ bytes) =
+    if is_none (record_refusal style.order start (b ∷ bytes))
+    then refusal_from n style (start + record_size style (b ∷ bytes)) (drop (record_size style (b ∷ bytes)) (b ∷ bytes))
+    else record_refusal style.order start (b ∷ bytes)
+
+abbrev pub records_behind : Option Style → List ℕ → List Record
+records_behind None bytes = []
+records_behind (Some style) bytes = records_from (length bytes) style (drop 24 bytes)
+
+-- the whole records of the bytes, before their first refusal
+unfoldable pub whole_records : List ℕ → List Record
+whole_records bytes = records_behind (style_of bytes) bytes
+
+abbrev pub refusal_behind : Option Style → List ℕ → Option Refusal
+refusal_behind None bytes = file_refusal bytes
+refusal_behind (Some style) bytes = refusal_from (length bytes) style 24 (drop 24 bytes)
+
+-- the first refusal of the bytes
+unfoldable pub first_refusal : List ℕ → Option Refusal
+first_refusal bytes = refusal_behind (style_of bytes) bytes
+
+-- the canonical spelling of a file header: version 2.4, a zone and an accuracy of 0, a snapshot length of 262,144,
+-- and link type 1
+abbrev pub header_spelling : Style → List ℕ
+header_spelling style =
+    number_bytes style.order 4 (magic_of style.unit)
+    ++ number_bytes style.order 2 2
+    ++ number_bytes style.order 2 4
+    ++ number_bytes style.order 4 0
+    ++ number_bytes style.order 4 0
+    ++ number_bytes style.order 4 262144
+    ++ number_bytes style.order 4 1
+
+-- the canonical spelling of a record, with a fraction below a second
+abbrev pub record_spelling : Style → Record → List ℕ
+record_spelling style r =
+    number_bytes style.order 4 (nat_abs r.arrival / 1000000000)
+    ++ number_bytes style.order 4 (nat_abs r.arrival % 1000000000 / scale style.unit)
+    ++ number_bytes style.order 4 (length r.bytes)
+    ++ number_bytes style.order 4 r.orig_len
+    ++ r.bytes
+
+-- What the canonical spelling can say: an instant of 32 bits of seconds, in whole units of the fraction, and at most
+-- 262,144 bytes.
+pub record HasSpelling (style : Style) (r : Record) : Type 0 where
+  pub begun : pos 0 ≤ℤ r.arrival
+  pub ended : r.arrival <ℤ pos (2 ^ 32 * 1000000000)
+  pub whole : nat_abs r.arrival % scale style.unit ≡ 0
+  pub orig_len : r.orig_len < 2 ^ 32
+  pub limit : length r.bytes ≤ 262144
+
+-- the canonical spelling of a capture
+abbrev pub capture_spelling : Style → List Record → List ℕ
+capture_spelling style records = header_spelling style ++ flat_map (record_spelling style) records

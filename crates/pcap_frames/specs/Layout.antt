@@ -1,0 +1,120 @@
+-- The layout of a capture: the fields of its file header and of a record, where they stand, and which values are
+-- refused (draft-ietf-opsawg-pcap, "PCAP Capture File Format", sections 4 and 5).
+use Rattle.std.specs.Prelude.{ℕ, ◌+◌, ◌*◌, ◌%◌, Bool, true, false, cond, not, nat_lt, nat_eq, if◌then◌else◌, List, [], ◌∷◌, length, drop, Option, Some, None, is_none}
+use Rattle.std.specs.Option.{option_or}
+use Rattle.byteorder.specs.Endian.{big_number, little_number, big_bytes, little_bytes}
+use Rattle.avtp_base.specs.declared.field.Field.{Field}
+use Rattle.avtp_base.specs.declared.field.Field.TheVariants.{Magic, VersionMajor, VersionMinor, Thiszone, Sigfigs, Snaplen, Network, TsSec, TsFraction, InclLen, OrigLen, PacketBytes}
+use Rattle.avtp_base.specs.declared.refusal.Refusal.{Refusal}
+use Rattle.pcap_frames.specs.declared.style.Order.{Order}
+use Rattle.pcap_frames.specs.declared.style.Order.TheVariants.{Little, Big}
+use Rattle.pcap_frames.specs.declared.style.Unit as units
+use Rattle.pcap_frames.specs.declared.style.Unit.TheVariants.{Micro, Nano}
+use Rattle.pcap_frames.specs.declared.style.Style.{Style}
+
+-- the number of `size` bytes at an offset
+unfoldable pub number_at : Order → ℕ → ℕ → List ℕ → ℕ
+number_at Little offset size bytes = little_number size (drop offset bytes)
+number_at Big offset size bytes = big_number size (drop offset bytes)
+
+-- the lowest `size` bytes of a number
+unfoldable pub number_bytes : Order → ℕ → ℕ → List ℕ
+number_bytes Little size n = little_bytes size n
+number_bytes Big size n = big_bytes size n
+
+-- the magic number of a capture, in its byte order
+abbrev pub magic_of : units.Unit → ℕ
+magic_of Micro = 0xA1B2C3D4
+magic_of Nano = 0xA1B23C4D
+
+-- the style that a magic number tells, where its four bytes are read as little-endian
+abbrev pub style_of_magic : ℕ → Option Style
+style_of_magic n =
+    if nat_eq n 0xA1B2C3D4 then Some (record { order = Little; unit = Micro })
+    else if nat_eq n 0xA1B23C4D then Some (record { order = Little; unit = Nano })
+    else if nat_eq n 0xD4C3B2A1 then Some (record { order = Big; unit = Micro })
+    else if nat_eq n 0x4D3CB2A1 then Some (record { order = Big; unit = Nano })
+    else None
+
+unfoldable pub style_at : List ℕ → Option Style
+style_at bytes = style_of_magic (number_at Little 0 4 bytes)
+
+-- the byte order that the magic number tells
+abbrev pub order_of : Option Style → Order
+order_of None = Little
+order_of (Some style) = style.order
+
+-- A field of a header: its offset and its size in bytes, and which numbers are refused.
+pub record Row : Type 0 where
+  pub field : Field
+  pub offset : ℕ
+  pub size : ℕ
+  pub refuses : ℕ → Bool
+
+abbrev pub row : Field → ℕ → ℕ → (ℕ → Bool) → Row
+row field offset size refuses = record { field = field; offset = offset; size = size; refuses = refuses }
+
+-- no number is refused
+abbrev pub never : ℕ → Bool
+never n = false
+
+-- The magic number, which is read as little-endian. It tells the byte order of all other fields.
+abbrev pub magic_number : List Row
+magic_number = row Magic 0 4 (λ n. is_none (style_of_magic n)) ∷ []
+
+-- the rest of the file header, which has 24 bytes
+abbrev pub file_header : List Row
+file_header =
+    row VersionMajor 4 2 (λ n. not (nat_eq n 2))
+    ∷ row VersionMinor 6 2 never
+    ∷ row Thiszone 8 4 never
+    ∷ row Sigfigs 12 4 never
+    ∷ row Snaplen 16 4 never
+    ∷ row Network 20 4 (λ n. not (nat_eq (n % 65536) 1))
+    ∷ []
+
+-- a record's header, which has 16 bytes
+abbrev pub record_header : List Row
+record_header =
+    row TsSec 0 4 never
+    ∷ row TsFraction 4 4 never
+    ∷ row InclLen 8 4 (λ n. nat_lt 262144 n)
+    ∷ row OrigLen 12 4 never
+    ∷ []
+
+-- the bytes of a record whose header tells their number
+abbrev pub packet_bytes : ℕ → List Row
+packet_bytes n = row PacketBytes 16 n never ∷ []
+
+-- The first field of a table that is not whole at the end of the bytes, or whose number is refused. The bytes begin
+-- at the offset `start` of the capture.
+abbrev pub first_refused : Order → ℕ → List Row → List ℕ → Option Refusal
+first_refused order start [] bytes = None
+first_refused order start (r ∷ rows) bytes =
+    if nat_lt (length bytes) (r.offset + r.size) then Some (record { field = r.field; at = start + r.offset; short = true })
+    else if r.refuses (number_at order r.offset r.size bytes) then Some (record { field = r.field; at = start + r.offset; short = false })
+    else first_refused order start rows bytes
+
+-- the same for a file header
+unfoldable pub file_refusal : List ℕ → Option Refusal
+file_refusal bytes =
+    option_or (first_refused Little 0 magic_number bytes) (first_refused (order_of (style_at bytes)) 0 file_header bytes)
+
+-- the same for a record that begins at `start`
+unfoldable pub record_refusal : Order → ℕ → List ℕ → Option Refusal
+record_refusal order start bytes =
+    option_or (first_refused order start record_header bytes) (first_refused order start (packet_bytes (number_at order 8 4 bytes)) bytes)
+
+-- a refusal that stands however the bytes go on: its field is whole
+abbrev pub certain : Option Refusal → Option Refusal
+certain None = None
+certain (Some refusal) = cond refusal.short None (Some refusal)
+
+-- nanoseconds in one unit of the fraction
+abbrev pub scale : units.Unit → ℕ
+scale Micro = 1000
+scale Nano = 1
+
+-- the instant of a record, in nanoseconds: a fraction of a second or more is added as it stands
+abbrev pub instant : units.Unit → ℕ → ℕ → ℕ
+instant unit seconds fraction = seconds * 1000000000 + fraction * scale unit

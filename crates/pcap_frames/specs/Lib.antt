@@ -1,0 +1,5 @@
+pub mod Layout
+pub mod Capture
+pub mod Reading
+pub mod Frame
+pub mod Pieces

@@ -1,0 +1,13 @@
+-- Records that own their bytes.
+use Rattle.std.specs.Prelude.{List, ℕ}
+use Rattle.std.specs.List.{flat_map}
+use Rattle.pcap_frames.specs.declared.pieces.KeptRecord.{KeptRecord}
+use Rattle.pcap_frames.specs.Capture.{Record}
+
+-- what a record holds, apart from where it lies in memory
+abbrev pub kept : KeptRecord → Record
+kept r = record { arrival = r.arrival; orig_len = r.orig_len; bytes = r.bytes }
+
+-- the pieces, one after another
+abbrev pub joined : List (List ℕ) → List ℕ
+joined pieces = flat_map (λ piece. piece) pieces

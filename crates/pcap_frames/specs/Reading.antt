@@ -1,0 +1,100 @@
+-- What a reader stands for.
+use Rattle.std.specs.Prelude.{◌≡◌, ℕ, ◌+◌, ◌<◌, ◌≤◌, false, cond, ◌⊎◌, List, [], ◌∷◌, ◌++◌, length, take, Result, IfOk, IfErr, OnOk, OnErr, Option, Some, None, is_none}
+use Rattle.avtp_base.specs.declared.refusal.Refusal.{Refusal}
+use Rattle.pcap_frames.specs.declared.style.Order.{Order}
+use Rattle.pcap_frames.specs.declared.style.RecordView.{RecordView}
+use Rattle.pcap_frames.specs.declared.style.Style.{Style}
+use Rattle.pcap_frames.specs.Layout.{number_at, certain, file_refusal, record_refusal}
+use Rattle.pcap_frames.specs.Capture.{Record, IsCapture, IsRefused, record_of, style_of}
+
+-- A reader: the style, where the file header was accepted; the offset of what is being read, and what has come of
+-- it; and the refusal.
+pub record Reading : Type 0 where
+  pub style : Option Style
+  pub start : ℕ
+  pub part : List ℕ
+  pub refusal : Option Refusal
+
+abbrev pub nothing_read : Reading
+nothing_read = record { style = None; start = 0; part = []; refusal = None }
+
+-- how many bytes the reader has taken
+abbrev pub taken : Reading → ℕ
+taken r = r.start + length r.part
+
+-- what a record shows, apart from where it lies in memory
+abbrev pub shown : RecordView → Record
+shown view = record { arrival = view.arrival; orig_len = view.orig_len; bytes = view.bytes.now }
+
+-- the record that the bytes spell, where they are a whole one
+abbrev pub whole_record : Style → ℕ → List ℕ → Option Record
+whole_record style start bytes = cond (is_none (record_refusal style.order start bytes)) (Some (record_of style bytes)) None
+
+abbrev pub held_by : Option Refusal → Option Style → ℕ → List ℕ → Option Record
+held_by (Some refusal) style start part = None
+held_by None None start part = None
+held_by None (Some style) start part = whole_record style start part
+
+-- the record that the reader holds
+abbrev pub held : Reading → Option Record
+held r = held_by r.refusal r.style r.start r.part
+
+-- What has come of a record: nothing in it is refused, and it does not go past the record's end.
+pub record IsPart (order : Order) (start : ℕ) (part : List ℕ) : Type 0 where
+  pub accepted : certain (record_refusal order start part) ≡ None
+  pub within : (length part ≤ 16) ⊎ (length part ≤ 16 + number_at order 8 4 part)
+
+-- the same for a file header, which is not whole yet
+pub record IsHeaderPart (start : ℕ) (part : List ℕ) : Type 0 where
+  pub begins : start ≡ 0
+  pub accepted : certain (file_refusal part) ≡ None
+  pub partial : length part < 24
+
+-- what a reader keeps true of itself
+abbrev pub IsReading : Option Refusal → Option Style → ℕ → List ℕ → Type 0
+IsReading (Some refusal) style start part = refusal.short ≡ false
+IsReading None None start part = IsHeaderPart start part
+IsReading None (Some style) start part = IsPart style.order start part
+
+-- The bytes are a capture of the records, and then this part, which begins at `start`.
+pub record Follows (style : Style) (start : ℕ) (part bytes : List ℕ) (records : List Record) : Type 0 where
+  pub front : List ℕ
+  pub whole : bytes ≡ front ++ part
+  pub capture : IsCapture style records front
+  pub begins : length front ≡ start
+
+abbrev pub StandsFor : Option Refusal → Option Style → ℕ → List ℕ → List ℕ → List Record → Type 0
+StandsFor (Some refusal) style start part bytes records = IsRefused bytes records refusal
+StandsFor None None start part bytes records = (records ≡ []) × (bytes ≡ part)
+StandsFor None (Some style) start part bytes records = Follows style start part bytes records
+
+-- The reader has taken these bytes, and of their records it has given up these, in order.
+pub record HasRead (r : Reading) (bytes : List ℕ) (records : List Record) : Type 0 where
+  pub style : r.style ≡ style_of bytes
+  pub stands : StandsFor r.refusal r.style r.start r.part bytes records
+  pub reading : IsReading r.refusal r.style r.start r.part
+
+-- whatever the reader had read before, it has read these bytes too now, and no record was given up
+abbrev pub GoesOn : Reading → List ℕ → Reading → Type 0
+GoesOn old more new = (bytes : List ℕ) (records : List Record) → HasRead old bytes records → HasRead new (bytes ++ more) records
+
+-- What a step of feeding does with a piece: it takes bytes from its front and goes on, or it is refused, and then stands
+-- for the whole piece.
+pub record Feeds (old : Reading) (piece : List ℕ) (result : Result ℕ Refusal) (new : Reading) : Type 0 where
+  pub within : IfOk result (λ n. n ≤ length piece)
+  pub counted : IfOk result (λ n. taken new ≡ taken old + n)
+  pub bounded : taken new ≤ taken old + length piece
+  pub read : IfOk result (λ n. GoesOn old (take n piece) new)
+  pub accepted : OnOk result (new.refusal ≡ None)
+  pub refused : IfErr result (λ refusal. new.refusal ≡ Some refusal)
+  pub stopped : OnErr result (GoesOn old piece new)
+
+abbrev pub ending_by : Option Refusal → Option Style → ℕ → List ℕ → Option Refusal
+ending_by (Some refusal) style start part = Some refusal
+ending_by None None start part = file_refusal part
+ending_by None (Some style) start [] = None
+ending_by None (Some style) start (b ∷ part) = record_refusal style.order start (b ∷ part)
+
+-- the first refusal, where the capture ends with the bytes that were taken
+abbrev pub ending : Reading → Option Refusal
+ending r = ending_by r.refusal r.style r.start r.part

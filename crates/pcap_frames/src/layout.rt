@@ -1,0 +1,199 @@
+//! The fields of a capture: where they stand, how their numbers are spelled, and which values are refused
+//! (draft-ietf-opsawg-pcap, "PCAP Capture File Format", sections 4 and 5).
+
+ghost use Rattle.std.specs.Prelude.{◌≡◌, ◌+◌, ◌<◌, ◌≤◌, ◌^◌, length, pos, true, false, Some};
+ghost use Rattle.pcap_frames.specs.Capture.{record_of};
+ghost use Rattle.pcap_frames.specs.Reading.{shown};
+ghost use Rattle.pcap_frames.specs.Layout.{number_at, style_at as style_of_bytes, file_header, first_refused, certain as certain_of, file_refusal as refusal_of_file, record_refusal as refusal_of_record, instant};
+
+use crate::style::{Order, RecordView, Style, Unit};
+use avtp_base::{Field, Refusal};
+use byteorder::{BigEndian, ByteOrder, LittleEndian};
+
+/// The length in bytes of a capture's file header.
+pub const FILE_HEADER: usize = 24;
+
+/// The length in bytes of a record's header.
+pub const RECORD_HEADER: usize = 16;
+
+/// The most bytes that a record may have.
+pub const RECORD_LIMIT: u32 = 262_144;
+
+/// The magic number of a capture that counts microseconds.
+pub const MAGIC_MICRO: u32 = 0xA1B2_C3D4;
+
+/// The magic number of a capture that counts nanoseconds.
+pub const MAGIC_NANO: u32 = 0xA1B2_3C4D;
+
+/// The same two numbers, where they are read in the other byte order.
+const SWAPPED_MICRO: u32 = 0xD4C3_B2A1;
+
+const SWAPPED_NANO: u32 = 0x4D3C_B2A1;
+
+/// A field that is not whole at the end of the bytes.
+fn short(field: Field, at: u64) -> Option<Refusal>
+    ensures { result ≡ Some (record { field = field; at = at; short = true }) }
+{
+    Some(Refusal {
+        field,
+        at,
+        short: true,
+    })
+}
+
+/// A field whose value is refused.
+fn refused(field: Field, at: u64) -> Option<Refusal>
+    ensures { result ≡ Some (record { field = field; at = at; short = false }) }
+{
+    Some(Refusal {
+        field,
+        at,
+        short: false,
+    })
+}
+
+/// The number of 16 bits at an offset.
+#[tactic(auto, unfolding(crate::specs::Layout::number_at))]
+pub fn u16_at(order: Order, bytes: &[u8], offset: usize) -> u16
+    requires { offset + 2 ≤ length bytes.now }
+    ensures { result ≡ number_at order offset 2 bytes.now }
+{
+    match order {
+        Order::Little => LittleEndian::read_u16(&bytes[offset..]),
+        Order::Big => BigEndian::read_u16(&bytes[offset..]),
+    }
+}
+
+/// The number of 32 bits at an offset.
+#[tactic(auto, unfolding(crate::specs::Layout::number_at))]
+pub fn u32_at(order: Order, bytes: &[u8], offset: usize) -> u32
+    requires { offset + 4 ≤ length bytes.now }
+    ensures { result ≡ number_at order offset 4 bytes.now }
+{
+    match order {
+        Order::Little => LittleEndian::read_u32(&bytes[offset..]),
+        Order::Big => BigEndian::read_u32(&bytes[offset..]),
+    }
+}
+
+/// The style that the magic number at the front tells.
+#[tactic(auto, unfolding(crate::specs::Layout::style_at))]
+pub fn style_at(header: &[u8]) -> Option<Style>
+    requires { 4 ≤ length header.now }
+    ensures { result ≡ style_of_bytes header.now }
+{
+    let (order, unit) = match u32_at(Order::Little, header, 0) {
+        MAGIC_MICRO => (Order::Little, Unit::Micro),
+        MAGIC_NANO => (Order::Little, Unit::Nano),
+        SWAPPED_MICRO => (Order::Big, Unit::Micro),
+        SWAPPED_NANO => (Order::Big, Unit::Nano),
+        _ => return None,
+    };
+    Some(Style { order, unit })
+}
+
+/// The first field of the file header that is not whole at the end of these bytes, or whose value is refused.
+#[tactic(auto, unfolding(crate::specs::Layout::file_refusal, crate::specs::Layout::style_at))]
+pub fn file_refusal(header: &[u8]) -> Option<Refusal>
+    ensures { result ≡ refusal_of_file header.now }
+{
+    if header.len() < 4 {
+        return short(Field::Magic, 0);
+    }
+    match style_at(header) {
+        None => refused(Field::Magic, 0),
+        Some(style) => rest_refusal(style.order, header),
+    }
+}
+
+/// The same for the fields behind the magic number.
+fn rest_refusal(order: Order, header: &[u8]) -> Option<Refusal>
+    ensures { result ≡ first_refused order 0 file_header header.now }
+{
+    let len = header.len();
+    if len < 6 {
+        short(Field::VersionMajor, 4)
+    } else if u16_at(order, header, 4) != 2 {
+        refused(Field::VersionMajor, 4)
+    } else if len < 8 {
+        short(Field::VersionMinor, 6)
+    } else if len < 12 {
+        short(Field::Thiszone, 8)
+    } else if len < 16 {
+        short(Field::Sigfigs, 12)
+    } else if len < 20 {
+        short(Field::Snaplen, 16)
+    } else if len < FILE_HEADER {
+        short(Field::Network, 20)
+    } else if u32_at(order, header, 20) % 65536 != 1 {
+        refused(Field::Network, 20)
+    } else {
+        None
+    }
+}
+
+/// The first field of a record that is not whole at the end of these bytes, or whose value is refused. The record
+/// begins at an offset of the capture.
+#[tactic(auto, unfolding(crate::specs::Layout::record_refusal))]
+pub fn record_refusal(order: Order, start: u64, bytes: &[u8]) -> Option<Refusal>
+    requires { start < 2 ^ 63 }
+    ensures { result ≡ refusal_of_record order start bytes.now }
+{
+    let len = bytes.len();
+    if len < 4 {
+        return short(Field::TsSec, start);
+    }
+    if len < 8 {
+        return short(Field::TsFraction, start + 4);
+    }
+    if len < 12 {
+        return short(Field::InclLen, start + 8);
+    }
+    let captured = u32_at(order, bytes, 8);
+    if captured > RECORD_LIMIT {
+        return refused(Field::InclLen, start + 8);
+    }
+    if len < RECORD_HEADER {
+        return short(Field::OrigLen, start + 12);
+    }
+    if len < RECORD_HEADER + captured as usize {
+        return short(Field::PacketBytes, start + 16);
+    }
+    None
+}
+
+/// A refusal that stands however the bytes go on: its field is whole.
+pub fn certain(refusal: Option<Refusal>) -> Option<Refusal>
+    ensures { result ≡ certain_of refusal }
+{
+    match refusal {
+        Some(refusal) if !refusal.short => Some(refusal),
+        _ => None,
+    }
+}
+
+/// The instant of a record, in nanoseconds: the seconds and the fraction as they stand.
+pub fn arrival_of(unit: Unit, seconds: u32, fraction: u32) -> i64
+    ensures { result ≡ pos (instant unit seconds fraction) }
+{
+    let scale = match unit {
+        Unit::Micro => 1000,
+        Unit::Nano => 1,
+    };
+    let nanoseconds = u64::from(seconds) * 1_000_000_000 + u64::from(fraction) * scale;
+    nanoseconds as i64
+}
+
+/// The record that its bytes spell, header and all.
+pub fn view(style: Style, bytes: &[u8]) -> RecordView<'_>
+    requires { 16 ≤ length bytes.now }
+    ensures { shown result ≡ record_of style bytes.now }
+{
+    let seconds = u32_at(style.order, bytes, 0);
+    let fraction = u32_at(style.order, bytes, 4);
+    RecordView {
+        arrival: arrival_of(style.unit, seconds, fraction),
+        orig_len: u32_at(style.order, bytes, 12),
+        bytes: &bytes[RECORD_HEADER..],
+    }
+}

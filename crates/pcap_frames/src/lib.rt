@@ -1,0 +1,21 @@
+//! Captures in the classic pcap layout, in any pieces, and Ethernet frames.
+#![tactic(auto)]
+
+mod frame;
+mod law;
+mod layout;
+mod pieces;
+mod reader;
+mod style;
+#[cfg(test)]
+mod tests;
+mod writer;
+
+pub use frame::{
+    FrameView, Tag, frame_again, one_frame, one_frame_spelling, read_frame, write_frame,
+};
+pub use law::{capture_again, one_capture};
+pub use pieces::{Contents, KeptRecord, read_pieces};
+pub use reader::Reader;
+pub use style::{Order, RecordView, Style, Unit};
+pub use writer::{write_header, write_record};

@@ -1,0 +1,108 @@
+//! Whole captures, in memory.
+
+ghost use Rattle.std.specs.Prelude.{◌≡◌, ◌+◌, ◌≤◌, ◌^◌, ◌++◌, ℕ, List, None, length, map, IfOk, OnOk};
+ghost use Rattle.pcap_frames.specs.Capture.{Record, first_refusal, style_of, whole_records};
+ghost use Rattle.pcap_frames.specs.Reading.{HasRead, held, taken};
+ghost use Rattle.pcap_frames.specs.Pieces.{joined, kept};
+
+use crate::reader::Reader;
+use crate::style::Style;
+use avtp_base::{Bytes, NoMemory, Refusal};
+use std::alloc::Global;
+
+/// A record of a capture that owns its bytes.
+#[derive(Debug, Drop)]
+pub struct KeptRecord {
+    /// When the frame was captured, in nanoseconds.
+    pub arrival: i64,
+    /// The length in bytes of the frame on the wire.
+    pub orig_len: u32,
+    /// The captured bytes of the frame.
+    pub bytes: Bytes,
+}
+
+/// What a capture holds.
+#[derive(Debug, Drop)]
+pub struct Contents {
+    /// The style, where the file header is whole and accepted.
+    pub style: Option<Style>,
+    /// The whole records before the refusal, in order.
+    pub records: Vec<KeptRecord>,
+    /// The first field that is not whole or that is refused.
+    pub refusal: Option<Refusal>,
+}
+
+/// Reads a capture that comes in these pieces. However it was cut, the style, the records and the refusal are those
+/// of all its bytes.
+pub fn read_pieces(alloc: Global, pieces: &[Bytes]) -> Result<Contents, NoMemory>
+    requires { length (joined pieces.now) ≤ 2 ^ 62 }
+    ensures style { IfOk result (λ all. all.style ≡ style_of (joined pieces.now)) }
+    ensures records { IfOk result (λ all. map kept all.records.items ≡ whole_records (joined pieces.now)) }
+    ensures refusal { IfOk result (λ all. all.refusal ≡ first_refusal (joined pieces.now)) }
+{
+    let mut reader = Reader::new(alloc)?;
+    let mut records = Vec::new(alloc);
+    for piece in pieces {
+        read_piece(alloc, &mut reader, &mut records, piece.as_slice())?;
+    }
+    let refusal = reader.finish().err();
+    Ok(Contents {
+        style: reader.style(),
+        records,
+        refusal,
+    })
+}
+
+/// Feeds the whole piece, and keeps each record that is whole.
+fn read_piece(
+    alloc: Global,
+    reader: &mut Reader,
+    records: &mut Vec<KeptRecord>,
+    piece: &[u8],
+) -> Result<(), NoMemory>
+    requires bounded { taken reader.old + length piece.now ≤ 2 ^ 62 }
+    requires free { held reader.old ≡ None }
+    ensures read { OnOk result ((bytes : List ℕ) → HasRead reader.old bytes (map kept records.old.items) → HasRead reader.new (bytes ++ piece.now) (map kept records.new.items)) }
+    ensures free { OnOk result (held reader.new ≡ None) }
+    ensures bounded { taken reader.new ≤ taken reader.old + length piece.now }
+{
+    let mut used = 0;
+    while used < piece.len() {
+        match reader.feed(&piece[used..]) {
+            Err(_) => return Ok(()),
+            Ok(taken) => {
+                keep_held(alloc, reader, records)?;
+                used += taken;
+            }
+        }
+    }
+    Ok(())
+}
+
+/// Keeps the held record, if there is one.
+fn keep_held(
+    alloc: Global,
+    reader: &mut Reader,
+    records: &mut Vec<KeptRecord>,
+) -> Result<(), NoMemory>
+    ensures read { OnOk result ((bytes : List ℕ) → HasRead reader.old bytes (map kept records.old.items) → HasRead reader.new bytes (map kept records.new.items)) }
+    ensures free { OnOk result (held reader.new ≡ None) }
+    ensures taken { taken reader.new ≡ taken reader.old }
+{
+    let Some(record) = reader.held() else {
+        return Ok(());
+    };
+    let Ok(bytes) = Vec::from_slice(alloc, record.bytes) else {
+        return Err(NoMemory);
+    };
+    let kept = KeptRecord {
+        arrival: record.arrival,
+        orig_len: record.orig_len,
+        bytes: Bytes::over(bytes),
+    };
+    if records.push(kept).is_err() {
+        return Err(NoMemory);
+    }
+    let _ = reader.release();
+    Ok(())
+}

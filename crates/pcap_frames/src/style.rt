@@ -1,0 +1,33 @@
+//! What a capture is made of.
+
+/// The byte order of a capture's numbers.
+#[derive(Clone, Copy, Debug, PartialEq, Eq)]
+pub enum Order {
+    Little,
+    Big,
+}
+
+/// The unit in which a capture counts the fraction of a second.
+#[derive(Clone, Copy, Debug, PartialEq, Eq)]
+pub enum Unit {
+    Micro,
+    Nano,
+}
+
+/// How a capture is spelled: its magic number tells both.
+#[derive(Clone, Copy, Debug, PartialEq, Eq)]
+pub struct Style {
+    pub order: Order,
+    pub unit: Unit,
+}
+
+/// A record of a capture.
+#[derive(Clone, Copy, Debug)]
+pub struct RecordView<'a> {
+    /// When the frame was captured, in nanoseconds: seconds and fraction as they stand.
+    pub arrival: i64,
+    /// The length in bytes of the frame on the wire.
+    pub orig_len: u32,
+    /// The captured bytes of the frame.
+    pub bytes: &'a [u8],
+}

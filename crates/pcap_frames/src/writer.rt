@@ -1,0 +1,125 @@
+//! Captures in their canonical spelling.
+
+ghost use Rattle.std.specs.Prelude.{◌≡◌, ◌+◌, ◌≤◌, ◌<◌, ◌≤ℤ◌, ◌<ℤ◌, ◌*◌, ◌/◌, ◌%◌, ◌^◌, ◌++◌, ◌↔◌, ℕ, pos, nat_abs, length, take, drop, IsOk, IfOk, IfErr, OnOk, OnErr};
+ghost use Rattle.pcap_frames.specs.Layout.{number_bytes, scale};
+ghost use Rattle.pcap_frames.specs.Capture.{header_spelling, record_spelling};
+
+use crate::layout::{FILE_HEADER, MAGIC_MICRO, MAGIC_NANO, RECORD_HEADER, RECORD_LIMIT};
+use crate::style::{Order, Style, Unit};
+use avtp_base::Room;
+use byteorder::{BigEndian, ByteOrder, LittleEndian};
+
+/// Writes the file header of a capture of Ethernet frames (draft-ietf-opsawg-pcap, section 4): version 2.4, zone and accuracy 0, a snapshot length of
+/// 262,144 bytes, and link type 1. Answers its length.
+///
+/// `Room` comes exactly where `out` has fewer than 24 bytes, and then nothing is written.
+pub fn write_header(out: &mut [u8], style: Style) -> Result<usize, Room>
+    ensures fits { IsOk result ↔ (24 ≤ length out.old) }
+    ensures size { IfOk result (λ n. n ≡ 24) }
+    ensures spelled { OnOk result (take 24 out.new ≡ header_spelling style) }
+    ensures rest { OnOk result (drop 24 out.new ≡ drop 24 out.old) }
+    ensures room { IfErr result (λ room. room ≡ record { need = 24; found = length out.old }) }
+    ensures untouched { OnErr result (out.new ≡ out.old) }
+{
+    let found = out.len();
+    if found < FILE_HEADER {
+        return Err(Room {
+            need: FILE_HEADER,
+            found,
+        });
+    }
+    let magic = match style.unit {
+        Unit::Micro => MAGIC_MICRO,
+        Unit::Nano => MAGIC_NANO,
+    };
+    put_u32(style.order, out, 0, magic);
+    put_u16(style.order, out, 4, 2);
+    put_u16(style.order, out, 6, 4);
+    put_u32(style.order, out, 8, 0);
+    put_u32(style.order, out, 12, 0);
+    put_u32(style.order, out, 16, RECORD_LIMIT);
+    put_u32(style.order, out, 20, 1);
+    Ok(FILE_HEADER)
+}
+
+/// Writes a record (draft-ietf-opsawg-pcap, section 5): its header, with a fraction below one second, and its bytes. Answers its length.
+///
+/// `arrival` is in nanoseconds, 32 bits of seconds at most, and a multiple of 1000 in a capture that counts
+/// microseconds. `orig_len` is the frame's length on the wire. `Room` comes exactly where `out` has less room than 16
+/// bytes and the record's, and then nothing is written.
+pub fn write_record(
+    out: &mut [u8],
+    style: Style,
+    arrival: i64,
+    orig_len: u32,
+    bytes: &[u8],
+) -> Result<usize, Room>
+    requires begun { pos 0 ≤ℤ arrival }
+    requires ended { arrival <ℤ pos (2 ^ 32 * 1000000000) }
+    requires whole { nat_abs arrival % scale style.unit ≡ 0 }
+    requires limit { length bytes.now ≤ 262144 }
+    ensures fits { IsOk result ↔ (16 + length bytes.now ≤ length out.old) }
+    ensures size { IfOk result (λ n. n ≡ 16 + length bytes.now) }
+    ensures spelled { IfOk result (λ n. take n out.new ≡ record_spelling style (record { arrival = arrival; orig_len = orig_len; bytes = bytes.now })) }
+    ensures rest { IfOk result (λ n. drop n out.new ≡ drop n out.old) }
+    ensures room { IfErr result (λ room. room ≡ record { need = 16 + length bytes.now; found = length out.old }) }
+    ensures untouched { OnErr result (out.new ≡ out.old) }
+{
+    let need = RECORD_HEADER + bytes.len();
+    let found = out.len();
+    if found < need {
+        return Err(Room { need, found });
+    }
+    let nanoseconds = arrival as u64;
+    let scale = match style.unit {
+        Unit::Micro => 1000,
+        Unit::Nano => 1,
+    };
+    put_u32(style.order, out, 0, (nanoseconds / 1_000_000_000) as u32);
+    put_u32(
+        style.order,
+        out,
+        4,
+        (nanoseconds % 1_000_000_000 / scale) as u32,
+    );
+    put_u32(style.order, out, 8, bytes.len() as u32);
+    put_u32(style.order, out, 12, orig_len);
+    put_bytes(out, RECORD_HEADER, bytes);
+    Ok(need)
+}
+
+/// Writes a number of 16 bits at an offset.
+#[tactic(auto, using(std::proofs::lemmas::Slice::overwrites), unfolding(crate::specs::Layout::number_bytes))]
+fn put_u16(order: Order, out: &mut [u8], offset: usize, number: u16)
+    requires { offset + 2 ≤ length out.old }
+    ensures spelled { take (offset + 2) out.new ≡ take offset out.old ++ number_bytes order 2 number }
+    ensures rest { (n : ℕ) → offset + 2 ≤ n → drop n out.new ≡ drop n out.old }
+{
+    match order {
+        Order::Little => LittleEndian::write_u16(&mut out[offset..offset + 2], number),
+        Order::Big => BigEndian::write_u16(&mut out[offset..offset + 2], number),
+    }
+}
+
+/// Writes a number of 32 bits at an offset.
+#[tactic(auto, using(std::proofs::lemmas::Slice::overwrites), unfolding(crate::specs::Layout::number_bytes))]
+fn put_u32(order: Order, out: &mut [u8], offset: usize, number: u32)
+    requires { offset + 4 ≤ length out.old }
+    ensures spelled { take (offset + 4) out.new ≡ take offset out.old ++ number_bytes order 4 number }
+    ensures rest { (n : ℕ) → offset + 4 ≤ n → drop n out.new ≡ drop n out.old }
+{
+    match order {
+        Order::Little => LittleEndian::write_u32(&mut out[offset..offset + 4], number),
+        Order::Big => BigEndian::write_u32(&mut out[offset..offset + 4], number),
+    }
+}
+
+/// Writes bytes at an offset.
+#[tactic(auto, using(std::proofs::lemmas::Slice::overwrites))]
+fn put_bytes(out: &mut [u8], offset: usize, bytes: &[u8])
+    requires { offset + length bytes.now ≤ length out.old }
+    ensures spelled { take (offset + length bytes.now) out.new ≡ take offset out.old ++ bytes.now }
+    ensures rest { (n : ℕ) → offset + length bytes.now ≤ n → drop n out.new ≡ drop n out.old }
+{
+    out[offset..offset + bytes.len()].copy_from_slice(bytes);
+}
