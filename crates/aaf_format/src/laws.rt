@@ -1,0 +1,23 @@
+//! Laws of PCM packets. Each call is its contract, and does nothing.
+
+ghost use Rattle.std.specs.Prelude.{◌≡◌, ◌+◌, ◌++◌, false, length, List, ℕ};
+ghost use Rattle.avtp_base.specs.Layout.{Fits};
+ghost use Rattle.avtp_base.specs.Octets.{AreBytes};
+ghost use Rattle.avtp_base.specs.Rows.{IsSpelledOnce};
+ghost use Rattle.aaf_format.specs.Aaf.{Aaf, IsWritableAaf, SpellsAaf, aaf_layout, aaf_refusal, aaf_spelling, plain_aaf};
+
+/// Bytes spell exactly one packet, or are refused and spell none.
+pub fn one_packet()
+    ensures { (bytes : List ℕ) → IsSpelledOnce (aaf_refusal bytes) (λ (v : Aaf). SpellsAaf bytes v) }
+{}
+
+/// The spelling of a packet spells it with every reserved bit 0, whatever follows.
+pub fn packet_again()
+    ensures { (v : Aaf) (trail : List ℕ) → IsWritableAaf v → Fits aaf_layout v → SpellsAaf (aaf_spelling v ++ trail) (plain_aaf v) }
+{}
+
+/// Bytes that spell a packet with no reserved bit set, and nothing behind it, are its spelling.
+pub fn one_spelling()
+    ensures { (bytes : List ℕ) (v : Aaf) → AreBytes bytes → SpellsAaf bytes v → v.reserved ≡ false
+        → length bytes ≡ 24 + v.header.data_length → bytes ≡ aaf_spelling v }
+{}

@@ -1,0 +1,93 @@
+-- The common stream header (IEEE 1722-2016, 4.4.4).
+use Rattle.std.specs.Prelude.{◌≡◌, ℕ, ◌+◌, ◌==◌, Bool, not, nat_lt, List, [], ◌∷◌, ◌++◌, length, Option, None}
+use Rattle.avtp_base.specs.declared.field.Field.TheVariants.{Subtype, Version, SequenceNum, Tu, StreamId, AvtpTimestamp, FormatData, StreamDataLength, FormatFlags}
+use Rattle.avtp_base.specs.declared.refusal.Refusal.{Refusal}
+use Rattle.avtp_base.specs.Octets.{bits, is_set, flag}
+use Rattle.avtp_base.specs.Rows.{Row, row, first_row, or_else}
+use Rattle.avtp_base.specs.Layout.{Bits, Layout, part, holds, reserved, Spells, first_short}
+use Rattle.avtp_header.specs.declared.header.StreamHeader.{StreamHeader}
+use Rattle.avtp_header.specs.declared.header.Peeked.{Peeked}
+
+-- The table of the header, of a view that has a stream header. Each format gives its own meaning to two bits of
+-- byte 1, to bytes 16 to 19 and to bytes 22 and 23.
+abbrev pub stream_layout : {V : Type 0} → (V → StreamHeader) → List (Bits V) → Layout V → Layout V → Layout V
+stream_layout header format_bits format_data format_flags =
+    part Subtype 0 (holds 8 (λ v. (header v).subtype) ∷ []) ∷
+    part Version 1 (
+    holds 1 (λ v. flag (header v).sv) ∷
+    holds 3 (λ v. 0) ∷
+    holds 1 (λ v. flag (header v).mr) ∷
+    (format_bits ++
+    holds 1 (λ v. flag (header v).tv) ∷ [])) ∷
+    part SequenceNum 2 (holds 8 (λ v. (header v).seq) ∷ []) ∷
+    part Tu 3 (reserved 7 ∷ holds 1 (λ v. flag (header v).tu) ∷ []) ∷
+    part StreamId 4 (holds 64 (λ v. (header v).stream_id) ∷ []) ∷
+    part AvtpTimestamp 12 (holds 32 (λ v. (header v).timestamp) ∷ []) ∷
+    (format_data ++
+    part StreamDataLength 20 (holds 16 (λ v. (header v).data_length) ∷ []) ∷
+    format_flags)
+
+-- the header by itself, which shows the format bits and leaves the other bits to the format
+abbrev pub header_layout : Layout StreamHeader
+header_layout = stream_layout (λ h. h)
+    (holds 2 (λ h. h.format_bits) ∷ [])
+    (part FormatData 16 (reserved 32 ∷ []) ∷ [])
+    (part FormatFlags 22 (reserved 16 ∷ []) ∷ [])
+
+-- the header with these numbers in the bits that are left to each format
+abbrev pub filled_layout : ℕ → ℕ → ℕ → Layout StreamHeader
+filled_layout format_bits format_data format_flags = stream_layout (λ h. h)
+    (holds 2 (λ h. format_bits) ∷ [])
+    (part FormatData 16 (holds 32 (λ h. format_data) ∷ []) ∷ [])
+    (part FormatFlags 22 (holds 16 (λ h. format_flags) ∷ []) ∷ [])
+
+-- The rows that all formats of AVTP share: the subtype is the format's, and the version is 0.
+abbrev pub subtype_row : ℕ → List ℕ → Row
+subtype_row subtype bytes = row Subtype 0 (not (bits 0 0 8 bytes == subtype))
+
+abbrev pub version_row : List ℕ → Row
+version_row bytes = row Version 1 (not (bits 1 1 3 bytes == 0))
+
+-- why bytes are no stream header
+abbrev pub header_refusal : List ℕ → Option Refusal
+header_refusal bytes =
+    or_else (first_short header_layout (length bytes)) (first_row (version_row bytes ∷ []))
+
+-- why bytes do not begin as a packet of a format with this header does
+abbrev pub kind_refusal : ℕ → List ℕ → Option Refusal
+kind_refusal subtype bytes =
+    or_else (first_short header_layout (length bytes))
+    (first_row (subtype_row subtype bytes ∷ version_row bytes ∷ []))
+
+-- a stated length is more than what stands in n bytes behind the first `header` ones
+abbrev pub exceeds : ℕ → ℕ → ℕ → Bool
+exceeds header stated n = nat_lt n (header + stated)
+
+-- the bytes begin with this header
+pub record SpellsHeader (bytes : List ℕ) (h : StreamHeader) : Type 0 where
+  pub accepted : header_refusal bytes ≡ None
+  pub fields : Spells header_layout h bytes
+
+-- the one header that bytes begin with, where nothing refuses them
+abbrev pub header_of : List ℕ → StreamHeader
+header_of bytes = record {
+  subtype = bits 0 0 8 bytes;
+  sv = is_set 1 0 bytes;
+  mr = is_set 1 4 bytes;
+  format_bits = bits 1 5 2 bytes;
+  tv = is_set 1 7 bytes;
+  seq = bits 2 0 8 bytes;
+  tu = is_set 3 7 bytes;
+  stream_id = bits 4 0 64 bytes;
+  timestamp = bits 12 0 32 bytes;
+  data_length = bits 20 0 16 bytes;
+}
+
+-- the first fields of any packet of a stream, which CRF packets have at the same places
+abbrev pub peeked_of : List ℕ → Peeked
+peeked_of bytes = record {
+  subtype = bits 0 0 8 bytes;
+  sv = is_set 1 0 bytes;
+  seq = bits 2 0 8 bytes;
+  stream_id = bits 4 0 64 bytes;
+}

@@ -1,0 +1,35 @@
+//! The 24 bytes that IEC 61883, AAF and CVF packets begin with.
+
+/// The first fields of any AVTP packet of a stream.
+#[derive(Clone, Copy, Debug, PartialEq, Eq)]
+pub struct Peeked {
+    pub subtype: u8,
+    /// The stream id is valid.
+    pub sv: bool,
+    /// The sequence number.
+    pub seq: u8,
+    pub stream_id: u64,
+}
+
+/// The common stream header.
+#[derive(Clone, Copy, Debug, PartialEq, Eq)]
+pub struct StreamHeader {
+    pub subtype: u8,
+    /// The stream id is valid.
+    pub sv: bool,
+    /// The media clock restart: it toggles where the source of the media clock changes.
+    pub mr: bool,
+    /// The two bits that each format gives a meaning of its own, 0 to 3.
+    pub format_bits: u8,
+    /// The timestamp is valid.
+    pub tv: bool,
+    /// The sequence number.
+    pub seq: u8,
+    /// The timestamp is uncertain.
+    pub tu: bool,
+    pub stream_id: u64,
+    /// The presentation time, in nanoseconds of gPTP modulo 2^32.
+    pub timestamp: u32,
+    /// The number of bytes of the packet that follow byte 23.
+    pub data_length: u16,
+}

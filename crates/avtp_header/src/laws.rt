@@ -1,0 +1,24 @@
+//! Laws of stream headers. Each call is its contract, and does nothing.
+
+ghost use Rattle.std.specs.Prelude.{◌≡◌, ◌≤◌, ◌++◌, false, length, drop, List, ℕ};
+ghost use Rattle.avtp_base.specs.Layout.{Fits, reserved_ranges, spelling};
+ghost use Rattle.avtp_base.specs.Octets.{AreBytes, any_set};
+ghost use Rattle.avtp_base.specs.Rows.{IsSpelledOnce};
+ghost use Rattle.avtp_header.specs.declared.header.StreamHeader.{StreamHeader};
+ghost use Rattle.avtp_header.specs.Header.{SpellsHeader, header_layout, header_refusal};
+
+/// Bytes begin with exactly one header, or are refused and begin with none.
+pub fn one_header()
+    ensures { (bytes : List ℕ) → IsSpelledOnce (header_refusal bytes) (λ (h : StreamHeader). SpellsHeader bytes h) }
+{}
+
+/// The spelling of a header spells it, whatever follows.
+pub fn header_again()
+    ensures { (h : StreamHeader) (trail : List ℕ) → Fits header_layout h → SpellsHeader (spelling header_layout h ++ trail) h }
+{}
+
+/// Bytes that begin with a header, and have zeros where a format has its own bits, begin with the header's spelling.
+pub fn one_spelling()
+    ensures { (bytes : List ℕ) (h : StreamHeader) → AreBytes bytes → SpellsHeader bytes h → 24 ≤ length bytes
+        → any_set (reserved_ranges header_layout) bytes ≡ false → bytes ≡ spelling header_layout h ++ drop 24 bytes }
+{}
