@@ -1,0 +1,3 @@
+pub mod Floors
+pub mod Instants
+pub mod OnLine

@@ -1,0 +1,51 @@
+-- Which stamp a packet without a timestamp is counted from.
+use Rattle.std.specs.Prelude.{ℕ, ◌*◌, ◌-◌, ◌==◌, Bool, true, false, nat_le, if◌then◌else◌, ℤ, pos, ◌+ℤ◌, ◌-ℤ◌, unsigned_abs, List, [], ◌∷◌, length, drop, Option, Some, None}
+use Rattle.time_unfold.specs.declared.stamp.Stamp.{Stamp}
+use Rattle.time_unfold.specs.declared.stamp.Want.{Want}
+use Rattle.time_unfold.specs.Lines.{instant_at, nominal_line}
+
+abbrev pub same_block : Option ℕ → Option ℕ → Bool
+same_block None None = true
+same_block None (Some block) = false
+same_block (Some block) None = false
+same_block (Some block) (Some other) = block == other
+
+abbrev pub same_flag : Bool → Bool → Bool
+same_flag true other = other
+same_flag false true = false
+same_flag false false = true
+
+-- where the packet's first sample would be, counted from the stamp at the nominal rate
+abbrev pub candidate : Want → Stamp → ℤ
+candidate want stamp = instant_at (nominal_line stamp.instant want.rate) (pos want.back)
+
+-- That instant lies within 60 packets' time of the one at which the packet is expected: its sequence number alone
+-- does not tell a stamp from the one 256 packets away.
+abbrev pub is_near : Want → Stamp → Bool
+is_near want stamp =
+    nat_le (unsigned_abs ((want.arrival +ℤ pos want.lead) -ℤ candidate want stamp) * want.rate) (60 * want.count * 1000000000)
+
+-- the stamp can be the one that is looked for
+abbrev pub fits : Want → Stamp → Bool
+fits want stamp =
+    if stamp.seq == want.seq then
+    if same_flag stamp.mr want.mr then
+    if stamp.rate == want.rate then
+    if same_block stamp.block want.block then is_near want stamp else false else false else false else false
+
+-- the last of a list that passes a test
+abbrev pub find_last : {T : Type 0} → (T → Bool) → List T → Option T
+find_last {T} test [] = None
+find_last {T} test (x ∷ xs) = last_or (find_last test xs) (if test x then Some x else None)
+  where
+    last_or : Option T → Option T → Option T
+    last_or None first = first
+    last_or (Some y) first = Some y
+
+-- the last n of a list, or all of it
+abbrev pub last_of : {T : Type 0} → ℕ → List T → List T
+last_of n xs = drop (length xs - n) xs
+
+-- the stamp from which the packet is counted: the last of the list's last `room` that fits
+abbrev pub found : ℕ → Want → List Stamp → Option Stamp
+found room want stamps = find_last (fits want) (last_of room stamps)

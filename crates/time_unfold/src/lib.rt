@@ -1,0 +1,13 @@
+//! The time of a stream: instants from 32-bit timestamps, and the instants of evenly spaced samples.
+#![tactic(auto)]
+
+mod line;
+mod stamp;
+mod timestamp;
+
+pub use line::Line;
+pub use stamp::{Stamp, Want};
+pub use timestamp::unfold;
+
+#[cfg(test)]
+mod tests;

@@ -1,0 +1,28 @@
+//! Evenly spaced samples.
+
+/// Samples at evenly spaced instants: sample 0 is at `base`, in nanoseconds of gPTP, and each further one `num / den`
+/// nanoseconds later.
+#[derive(Clone, Copy, Debug, PartialEq, Eq)]
+pub struct Line {
+    pub base: i64,
+    pub num: u64,
+    pub den: u64,
+}
+
+impl Line {
+    ghost use Rattle.std.specs.Prelude.{◌≡◌, ◌≤◌, ℤ};
+    ghost use Rattle.time_unfold.specs.Time.{IsInstant};
+    ghost use Rattle.time_unfold.specs.Lines.{IsAt, instant_at};
+
+    /// The instant of sample `k`, rounded down to a whole nanosecond. Samples before sample 0 have a negative number.
+    pub fn at(&self, k: i64) -> i64
+        requires steps { 1 ≤ self.now.den }
+        requires instant { IsInstant (instant_at self.now k) }
+        ensures value { result ≡ instant_at self.now k }
+        ensures at { IsAt self.now k result }
+        ensures only { (other : ℤ) → IsAt self.now k other → other ≡ result }
+    {
+        let steps = i128::from(k) * i128::from(self.num);
+        (i128::from(self.base) + steps.div_euclid(i128::from(self.den))) as i64
+    }
+}

@@ -1,0 +1,17 @@
+//! A 32-bit timestamp becomes an instant.
+
+ghost use Rattle.std.specs.Prelude.{◌≡◌, ℤ};
+ghost use Rattle.time_unfold.specs.Time.{IsArrival, Unfolds, unfolded as unfolded_instant};
+
+/// The instant, in nanoseconds of gPTP, that a packet's timestamp means (IEEE 1722-2016, 4.4.4): the one whose low 32
+/// bits it is and which is less than 2^31 ns after the arrival, or at most 2^31 ns before it. The arrival is in
+/// nanoseconds of gPTP.
+pub fn unfold(timestamp: u32, arrival: i64) -> i64
+    requires { IsArrival arrival }
+    ensures value { result ≡ unfolded_instant timestamp arrival }
+    ensures unfolds { Unfolds timestamp arrival result }
+    ensures only { (other : ℤ) → Unfolds timestamp arrival other → other ≡ result }
+{
+    let first = arrival - (1 << 31);
+    first + (i64::from(timestamp) - first).rem_euclid(1 << 32)
+}
