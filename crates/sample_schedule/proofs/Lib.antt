@@ -1,0 +1,5 @@
+pub mod Presentable
+pub mod OrderLemmas
+pub mod VerdictLemmas
+pub mod StageLemmas
+pub mod LawLemmas

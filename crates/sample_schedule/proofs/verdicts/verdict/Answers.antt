@@ -1,0 +1,23 @@
+use Rattle.std.proofs.Common.{◌≡◌, Result, Ok, Err, sym, ap, ◌∙◌, arith, w64, to_z, of_z}
+use Rattle.std.proofs.lemmas.Int.{ints}
+use Rattle.sample_schedule.specs.Batches.{Presented}
+use Rattle.sample_schedule.specs.declared.shown.Reason.{Reason}
+use Rattle.sample_schedule.specs.Verdicts.{timed, verdict}
+use Rattle.sample_schedule.proofs.VerdictLemmas.{verdict-waiting}
+use Rattle.sample_schedule.proofs.verdicts.verdict.Goals as goal
+
+pub returns-in-Ok : goal.returns-in-Ok
+returns-in-Ok c clock prefix earlier e =
+    let is : Ok c.in-Ok.batch ≡ timed clock c.args.plan.now prefix c.args.item =
+    sym c.in-Ok.is ∙ c.timed.ensures clock c.args.plan.now prefix c.requires.no_clock in
+    let now : to_z w64 (of_z w64 c.args.now) ≡ c.args.now = omega (arith, ints) in
+    let judged = rw now at c.judge.ensures in
+    judged ∙ verdict-waiting c.args.plan.now c.args.now earlier c.args.place c.in-Ok.batch c.args.waiting.now e
+    ∙ ap (λ (r : Result Presented Reason). verdict c.args.plan.now c.args.now earlier c.args.place r) is
+
+pub returns-in-Err : goal.returns-in-Err
+unfolding verdict
+returns-in-Err c clock prefix earlier e =
+    let is : Err c.in-Err.reason ≡ timed clock c.args.plan.now prefix c.args.item =
+    sym c.in-Err.is ∙ c.timed.ensures clock c.args.plan.now prefix c.requires.no_clock in
+    ap (λ (r : Result Presented Reason). verdict c.args.plan.now c.args.now earlier c.args.place r) is

@@ -1,0 +1,30 @@
+-- Samples that are presented.
+use Rattle.std.specs.Prelude.{◌≡◌, ℕ, ◌%◌, ◌^◌, ◌≤◌, ℤ, pos, ◌+ℤ◌, ◌<ℤ◌, List, length}
+use Rattle.time_unfold.specs.declared.line.Line.{Line}
+use Rattle.time_unfold.specs.Lines.{instant_at}
+use Rattle.time_unfold.specs.Time.{IsInstant}
+
+-- sample j of the count is at number from + j of the line
+pub record Presented : Type 0 where
+  pub frame : ℕ
+  pub seq : ℕ
+  pub line : Line
+  pub from : ℤ
+  pub count : ℕ
+  pub bytes : List ℕ
+
+-- the instant of sample j
+abbrev pub sample_instant : Presented → ℕ → ℤ
+sample_instant batch j = instant_at batch.line (batch.from +ℤ pos j)
+
+-- what holds of every batch
+pub record IsPresentable (batch : Presented) : Type 0 where
+  pub some : 1 ≤ batch.count
+  pub count : batch.count ≤ 65535
+  pub some_num : 1 ≤ batch.line.num
+  pub num : batch.line.num ≤ 2 ^ 60
+  pub some_den : 1 ≤ batch.line.den
+  pub den : batch.line.den ≤ 2 ^ 60
+  pub frames : length batch.bytes % batch.count ≡ 0
+  pub numbers : (batch.from +ℤ pos batch.count) <ℤ pos (2 ^ 63)
+  pub instants : (j : ℕ) → j ≤ batch.count → IsInstant (sample_instant batch j)

@@ -1,0 +1,47 @@
+-- What holds of every schedule.
+use Rattle.std.specs.Prelude.{◌≡◌, ◌≢◌, ℕ, suc, ◌==◌, ◌<◌, ◌⊎◌, ⊤, ◌<ℤ◌, List, [], ◌∷◌, count_by, Option, Some, None}
+use Rattle.std.specs.List.{AllByRecursion}
+use Rattle.sample_schedule.specs.declared.accepted.Accepted.{Accepted}
+use Rattle.sample_schedule.specs.declared.entry.Entry.{Entry}
+use Rattle.sample_schedule.specs.declared.entry.Entry.TheVariants.{Item as OfItem, Clock as OfClock}
+use Rattle.sample_schedule.specs.declared.plan.SchedulePlan.{SchedulePlan}
+use Rattle.sample_schedule.specs.Order.{standing}
+use Rattle.sample_schedule.specs.Schedule.{Given, Presents, Flags, accepted, given, now_at}
+use Rattle.sample_schedule.specs.Verdicts.{Clock}
+
+abbrev pub place_of : Given → ℕ
+place_of (Presents a) = a.place
+place_of (Flags place item reason) = place
+
+-- how often the item at a place is shown
+abbrev pub times_shown : Clock → SchedulePlan → List Entry → ℕ → ℕ
+times_shown clock plan entries i = count_by (λ g. place_of g == i) (given clock plan entries)
+
+-- an item is shown once, and a packet of the clock never
+abbrev pub times_due : Option Entry → ℕ
+times_due None = 0
+times_due (Some (OfItem item)) = 1
+times_due (Some (OfClock arrival row)) = 0
+
+-- what is presented, in its order
+abbrev pub presented : List Given → List Accepted
+presented [] = []
+presented (Presents a ∷ rest) = a ∷ presented rest
+presented (Flags place item reason ∷ rest) = presented rest
+
+-- earlier, or at the same instant of an earlier item
+abbrev pub IsBefore : Accepted → Accepted → Type 0
+IsBefore a b = (a.instant <ℤ b.instant) ⊎ ((a.instant ≡ b.instant) × (a.place < b.place))
+
+-- not the same packet again
+abbrev pub IsNoCopy : Accepted → Accepted → Type 0
+IsNoCopy a b = a.instant ≡ b.instant → a.batch.seq ≢ b.batch.seq
+
+-- it holds of each of a list and each later one
+abbrev pub Pairwise : (Accepted → Accepted → Type 0) → List Accepted → Type 0
+Pairwise R [] = ⊤
+Pairwise R (a ∷ rest) = AllByRecursion (R a) rest × Pairwise R rest
+
+-- what waits once entry i is judged
+abbrev pub waiting_at : Clock → SchedulePlan → List Entry → ℕ → List Accepted
+waiting_at clock plan entries i = standing (now_at entries i) (accepted clock plan entries (suc i))

@@ -1,0 +1,60 @@
+-- What a schedule is asked for: a plan within its limits, and entries as the formats give them.
+use Rattle.std.specs.Prelude.{◌≡◌, ◌+◌, ◌%◌, ◌^◌, ◌≤◌, ◌⊎◌, ⊤, Bool, true, false, is_some, if◌then◌else◌, pos, neg_ℤ, ◌≤ℤ◌, ◌<ℤ◌, length}
+use Rattle.time_unfold.specs.Time.{IsArrival}
+use Rattle.sample_schedule.specs.declared.entry.Entry.{Entry}
+use Rattle.sample_schedule.specs.declared.entry.Entry.TheVariants.{Item as OfItem, Clock as OfClock}
+use Rattle.sample_schedule.specs.declared.item.HeadRule.{HeadRule}
+use Rattle.sample_schedule.specs.declared.item.HeadRule.TheVariants.{Own, Eight, Blocks}
+use Rattle.sample_schedule.specs.declared.item.Item.{Item}
+use Rattle.sample_schedule.specs.declared.item.Item.TheVariants.{Packet as OfPacket, Unit as OfUnit, Bad as OfBad}
+use Rattle.sample_schedule.specs.declared.item.Packet.{Packet}
+use Rattle.sample_schedule.specs.declared.item.Unit.{Unit as WholeUnit}
+use Rattle.sample_schedule.specs.declared.plan.SchedulePlan.{SchedulePlan}
+use Rattle.sample_schedule.specs.Heads.{own_head, distance}
+
+pub record IsPlan (plan : SchedulePlan) : Type 0 where
+  pub some_buffer : 1 ≤ plan.buffer
+  pub buffer : plan.buffer ≤ 65536
+  pub some_room : 1 ≤ plan.room
+  pub room : plan.room ≤ 1073741824
+  pub look : plan.look ≤ 64
+  pub lead : plan.lead ≤ 1000000000
+  pub shift_from : neg_ℤ (pos 1000000000) ≤ℤ plan.shift
+  pub shift_to : plan.shift ≤ℤ pos 1000000000
+
+abbrev pub IsRule : HeadRule → Type 0
+IsRule Own = ⊤
+IsRule Eight = ⊤
+IsRule (Blocks dbc interval) = (interval ≡ 8) ⊎ ((interval ≡ 16) ⊎ (interval ≡ 32))
+
+pub record IsPacket (p : Packet) : Type 0 where
+  pub arrival : IsArrival p.arrival
+  pub count : p.count ≤ 65535
+  pub frames : 1 ≤ p.count → length p.bytes % p.count ≡ 0
+  pub rate_from : 1 ≤ p.rate → 8000 ≤ p.rate
+  pub rate_to : p.rate ≤ 192000
+  pub rule : IsRule p.rule
+
+pub record IsUnit (u : WholeUnit) : Type 0 where
+  pub arrival : IsArrival u.arrival
+  pub from : neg_ℤ (pos (2 ^ 62)) ≤ℤ u.instant
+  pub to : u.instant <ℤ pos (2 ^ 62 + 2 ^ 31)
+
+abbrev pub IsItem : Item → Type 0
+IsItem (OfPacket p) = IsPacket p
+IsItem (OfUnit u) = IsUnit u
+IsItem (OfBad b) = IsArrival b.arrival
+
+abbrev pub IsEntry : Entry → Type 0
+IsEntry (OfItem item) = IsItem item
+IsEntry (OfClock arrival row) = IsArrival arrival
+
+-- The packet is counted from its own timestamp, or from none: its head does not lie some packets back.
+abbrev pub is_own : Packet → Bool
+is_own p = if is_some (own_head p) then true else if is_some (distance p) then false else true
+
+abbrev pub HasOwnHead : Entry → Type 0
+HasOwnHead (OfItem (OfPacket p)) = is_own p ≡ true
+HasOwnHead (OfItem (OfUnit u)) = ⊤
+HasOwnHead (OfItem (OfBad b)) = ⊤
+HasOwnHead (OfClock arrival row) = ⊤

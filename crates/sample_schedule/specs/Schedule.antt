@@ -1,0 +1,118 @@
+-- The schedule of a list of entries: what is shown, and in which order. Entries are counted from 0.
+use Rattle.std.specs.Prelude.{ℕ, zero, suc, ◌+◌, ◌-◌, ℤ, pos, List, [], ◌∷◌, ◌++◌, length, take, map, fold, slice_get, Option, Some, None, option_and_then, Result, Ok, Err}
+use Rattle.std.specs.Int.{int_max}
+use Rattle.sample_schedule.specs.declared.accepted.Accepted.{Accepted}
+use Rattle.sample_schedule.specs.declared.entry.Entry.{Entry}
+use Rattle.sample_schedule.specs.declared.entry.Entry.TheVariants.{Item as OfItem, Clock as OfClock}
+use Rattle.sample_schedule.specs.declared.item.Item.{Item}
+use Rattle.sample_schedule.specs.declared.item.Item.TheVariants.{Packet as OfPacket, Unit as OfUnit, Bad as OfBad}
+use Rattle.sample_schedule.specs.declared.plan.SchedulePlan.{SchedulePlan}
+use Rattle.sample_schedule.specs.declared.shown.Reason.{Reason}
+use Rattle.sample_schedule.specs.declared.shown.Shown.{Shown}
+use Rattle.sample_schedule.specs.declared.shown.Shown.TheVariants.{Present, Flag}
+use Rattle.sample_schedule.specs.Order.{between, by_instant, standing}
+use Rattle.sample_schedule.specs.Verdicts.{Clock, timed, verdict}
+
+-- ---- items
+
+abbrev pub item_arrival : Item → ℤ
+item_arrival (OfPacket p) = p.arrival
+item_arrival (OfUnit u) = u.arrival
+item_arrival (OfBad b) = b.arrival
+
+abbrev pub arrival_of : Entry → ℤ
+arrival_of (OfItem item) = item_arrival item
+arrival_of (OfClock arrival row) = arrival
+
+abbrev pub frame_of : Item → ℕ
+frame_of (OfPacket p) = p.frame
+frame_of (OfUnit u) = u.frame
+frame_of (OfBad b) = b.frame
+
+abbrev pub seq_of : Item → ℕ
+seq_of (OfPacket p) = p.seq
+seq_of (OfUnit u) = u.seq
+seq_of (OfBad b) = b.seq
+
+-- the greatest arrival of a list; arrivals are not below 0
+unfoldable pub latest : List Entry → ℤ
+latest entries = fold int_max (pos 0) (map arrival_of entries)
+
+-- ---- what is accepted
+
+-- the entries that are known when entry i is judged: those up to it, and `look` further ones
+abbrev pub prefix_of : SchedulePlan → List Entry → ℕ → List Entry
+prefix_of plan entries i = take (i + plan.look + 1) entries
+
+-- the greatest arrival of the entries 0 to i
+abbrev pub now_at : List Entry → ℕ → ℤ
+now_at entries i = latest (take (suc i) entries)
+
+-- the verdict of entry i, given what was accepted before it; a packet of the clock has none
+abbrev pub judged : Clock → SchedulePlan → List Entry → ℕ → List Accepted → Entry → Option (Result Accepted Reason)
+judged clock plan entries i earlier (OfItem item) =
+    Some (verdict plan (now_at entries i) earlier i (timed clock plan (prefix_of plan entries i) item))
+judged clock plan entries i earlier (OfClock arrival row) = None
+
+-- the same by its place; a place behind the list has none either
+unfoldable pub verdict_at : Clock → SchedulePlan → List Entry → ℕ → List Accepted → Option (Result Accepted Reason)
+verdict_at clock plan entries i earlier =
+    option_and_then (judged clock plan entries i earlier) (slice_get entries i)
+
+abbrev pub accepted_by : Option (Result Accepted Reason) → List Accepted
+accepted_by None = []
+accepted_by (Some (Ok a)) = a ∷ []
+accepted_by (Some (Err reason)) = []
+
+-- the accepted items among the first n entries, in their order
+unfoldable pub accepted : Clock → SchedulePlan → List Entry → ℕ → List Accepted
+accepted clock plan entries zero = []
+accepted clock plan entries (suc i) =
+    accepted clock plan entries i ++ accepted_by (verdict_at clock plan entries i (accepted clock plan entries i))
+
+-- ---- what is shown
+
+-- an item as it is shown: presented, or flagged at its place
+pub data Given : Type 0 where
+  Presents : Accepted → Given
+  Flags : ℕ → Item → Reason → Given
+
+abbrev pub present : Accepted → Shown
+present a = Present a.batch
+
+abbrev pub shown_of : Given → Shown
+shown_of (Presents a) = present a
+shown_of (Flags place item reason) = Flag (frame_of item) (seq_of item) reason
+
+abbrev pub flag_by : ℕ → Option Entry → Option (Result Accepted Reason) → List Given
+flag_by i (Some (OfItem item)) (Some (Err reason)) = Flags i item reason ∷ []
+flag_by i e v = []
+
+-- Step i presents what was accepted before entry i and whose first instant passed between the entry before it and this
+-- one, and then flags entry i, where it has a reason. (At step 0 nothing was accepted before.)
+unfoldable pub step : Clock → SchedulePlan → List Entry → ℕ → List Given
+step clock plan entries i =
+    let earlier = accepted clock plan entries i in
+    map Presents (by_instant (between (latest (take i entries)) (now_at entries i) earlier))
+    ++ flag_by i (slice_get entries i) (verdict_at clock plan entries i earlier)
+
+-- the first n steps
+unfoldable pub steps : Clock → SchedulePlan → List Entry → ℕ → List Given
+steps clock plan entries zero = []
+steps clock plan entries (suc i) = steps clock plan entries i ++ step clock plan entries i
+
+-- After the last entry stands what was accepted and no step presented: its first instant has not passed.
+abbrev pub rest_of : Clock → SchedulePlan → List Entry → List Given
+rest_of clock plan entries =
+    map Presents (by_instant (standing (latest entries) (accepted clock plan entries (length entries))))
+
+-- the whole schedule: all steps, and then the rest
+unfoldable pub given : Clock → SchedulePlan → List Entry → List Given
+given clock plan entries = steps clock plan entries (length entries) ++ rest_of clock plan entries
+
+abbrev pub shown : Clock → SchedulePlan → List Entry → List Shown
+shown clock plan entries = map shown_of (given clock plan entries)
+
+-- what is certain while further entries may follow: the steps whose prefix is whole
+abbrev pub due : Clock → SchedulePlan → List Entry → List Shown
+due clock plan entries = map shown_of (steps clock plan entries (length entries - plan.look))

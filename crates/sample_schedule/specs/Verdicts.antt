@@ -1,0 +1,117 @@
+-- The verdict of an item: it is accepted, or it has a reason why not.
+use Rattle.std.specs.Prelude.{ℕ, ◌+◌, ◌==◌, nat_lt, nat_le, Bool, true, false, if◌then◌else◌, ℤ, pos, ◌+ℤ◌, int_lt, int_le, List, length, sum_by, Option, Some, None, option_map, Result, Ok, Err}
+use Rattle.std.specs.List.{filter_map, list_any}
+use Rattle.clock_track.specs.declared.clock_row.ClockRow.{ClockRow}
+use Rattle.time_unfold.specs.declared.line.Line.{Line}
+use Rattle.time_unfold.specs.Lines.{nominal_line}
+use Rattle.sample_schedule.specs.declared.accepted.Accepted.{Accepted}
+use Rattle.sample_schedule.specs.declared.entry.Entry.{Entry}
+use Rattle.sample_schedule.specs.declared.entry.Entry.TheVariants.{Item as OfItem, Clock as OfClock}
+use Rattle.sample_schedule.specs.declared.item.Item.{Item}
+use Rattle.sample_schedule.specs.declared.item.Item.TheVariants.{Packet as OfPacket, Unit as OfUnit, Bad as OfBad}
+use Rattle.sample_schedule.specs.declared.item.Packet.{Packet}
+use Rattle.sample_schedule.specs.declared.item.Unit.{Unit as WholeUnit}
+use Rattle.sample_schedule.specs.declared.plan.SchedulePlan.{SchedulePlan}
+use Rattle.sample_schedule.specs.declared.shown.Reason.{Reason}
+use Rattle.sample_schedule.specs.declared.shown.Reason.TheVariants.{Uncertain, Empty, NoRate, Untimed, NoClock, Late, Repeat, Full}
+use Rattle.sample_schedule.specs.Batches.{Presented, sample_instant}
+use Rattle.sample_schedule.specs.Order.{standing}
+use Rattle.sample_schedule.specs.Heads.{Head, head_of}
+
+-- ---- where the samples of an item stand
+
+-- a sample's line, and its number on it
+pub record Spot : Type 0 where
+  pub line : Line
+  pub from : ℤ
+
+-- What a media clock answers: where on its lines an instant stands, by the clock's packets so far, what is added to
+-- their timestamps, and the rate of the stream. None where no line covers the instant.
+abbrev pub Clock : Type 0
+Clock = List ClockRow → ℤ → ℤ → ℕ → Option Spot
+
+abbrev pub row_of : Entry → Option ClockRow
+row_of (OfItem item) = None
+row_of (OfClock arrival row) = Some row
+
+-- n samples further on
+abbrev pub moved : ℤ → Spot → Spot
+moved n spot = record spot { from = spot.from +ℤ n }
+
+-- on the nominal line of the head: the head is its sample 0
+abbrev pub nominal_spot : ℕ → Head → Spot
+nominal_spot rate head = record { line = nominal_line head.instant rate; from = head.first }
+
+-- where the first sample stands that is counted from a head: on the nominal line of the head, or on the clock's
+abbrev pub spot_of : Clock → SchedulePlan → List Entry → ℕ → Head → Option Spot
+spot_of clock plan prefix rate head =
+    if plan.clock
+    then option_map (moved head.first) (clock (filter_map row_of prefix) plan.shift head.instant rate)
+    else Some (nominal_spot rate head)
+
+abbrev pub samples_at : Packet → Spot → Presented
+samples_at p spot =
+    record { frame = p.frame; seq = p.seq; line = spot.line; from = spot.from; count = p.count; bytes = p.bytes }
+
+-- a unit is presented at one instant
+abbrev pub unit_at_once : WholeUnit → Presented
+unit_at_once u =
+    record { frame = u.frame; seq = u.seq; line = record { base = u.instant; num = 1; den = 1 }; from = pos 0; count = 1; bytes = u.bytes }
+
+abbrev pub ok_or_reason : Reason → Option Presented → Result Presented Reason
+ok_or_reason reason None = Err reason
+ok_or_reason reason (Some batch) = Ok batch
+
+abbrev pub counted_from : Clock → SchedulePlan → List Entry → Packet → Option Head → Result Presented Reason
+counted_from clock plan prefix p None = Err Untimed
+counted_from clock plan prefix p (Some head) =
+    ok_or_reason NoClock (option_map (samples_at p) (spot_of clock plan prefix p.rate head))
+
+-- What can be presented of an item, given the prefix of the list that is known when it is judged; or the first reason
+-- why nothing can, whatever the time.
+unfoldable pub timed : Clock → SchedulePlan → List Entry → Item → Result Presented Reason
+timed clock plan prefix (OfPacket p) =
+    if p.tu then Err Uncertain else
+    if p.count == 0 then Err Empty else
+    if p.rate == 0 then Err NoRate else
+    counted_from clock plan prefix p (head_of plan prefix p)
+timed clock plan prefix (OfUnit u) = Ok (unit_at_once u)
+timed clock plan prefix (OfBad b) = Err b.reason
+
+-- ---- the verdict
+
+abbrev pub first_instant : Presented → ℤ
+first_instant batch = sample_instant batch 0
+
+abbrev pub total_bytes : List Accepted → ℕ
+total_bytes accepted = sum_by (λ a. length a.batch.bytes) accepted
+
+abbrev pub same_instant : ℤ → ℤ → Bool
+same_instant x y = if int_le x y then int_le y x else false
+
+-- an accepted item is taken for the same packet
+abbrev pub is_copy : ℤ → ℕ → Accepted → Bool
+is_copy instant seq a = if same_instant a.instant instant then a.batch.seq == seq else false
+
+-- the buffer has all its batches, or its bytes and so many more are more than its room
+abbrev pub is_full : SchedulePlan → List Accepted → ℕ → Bool
+is_full plan waiting size =
+    if nat_le plan.buffer (length waiting) then true else nat_lt plan.room (total_bytes waiting + size)
+
+-- The first row that holds decides: the first instant has passed, the item came before, the buffer or its room is full.
+abbrev pub decided : Bool → Bool → Bool → ℕ → Presented → Result Accepted Reason
+decided late repeat full place batch =
+    if late then Err Late else
+    if repeat then Err Repeat else
+    if full then Err Full else
+    Ok (record { place = place; instant = first_instant batch; batch = batch })
+
+-- The verdict of the item at a place. `now` is the greatest arrival up to it, and `earlier` what was accepted before.
+unfoldable pub verdict : SchedulePlan → ℤ → List Accepted → ℕ → Result Presented Reason → Result Accepted Reason
+verdict plan now earlier place (Err reason) = Err reason
+verdict plan now earlier place (Ok batch) =
+    decided
+    (int_lt (first_instant batch) now)
+    (list_any (is_copy (first_instant batch) batch.seq) earlier)
+    (is_full plan (standing now earlier) (length batch.bytes))
+    place batch

@@ -1,0 +1,45 @@
+//! Samples that are presented.
+
+use avtp_base::Bytes;
+use std::marker::Model;
+use time_unfold::Line;
+
+/// Samples with the line on which their instants lie. Sample j is at the instant of number `from + j`.
+#[derive(Debug, Drop)]
+pub struct Batch {
+    /// The number of the capture's frame, from 1.
+    pub frame: u64,
+    pub seq: u8,
+    pub line: Line,
+    /// The number of the first sample on the line.
+    pub from: i64,
+    /// The number of samples, 1 to 65,535.
+    pub count: u32,
+    /// The sample bytes, `count` times the same number.
+    pub bytes: Bytes,
+}
+
+impl Model for Batch {
+    ghost use Rattle.sample_schedule.specs.Batches.{Presented, IsPresentable};
+
+    ghost Value = { Presented };
+
+    ghost view = { λ b. record { frame = b.frame; seq = b.seq; line = b.line; from = b.from; count = b.count; bytes = b.bytes } };
+
+    ghost invariant = { λ b. IsPresentable (record { frame = b.frame; seq = b.seq; line = b.line; from = b.from; count = b.count; bytes = b.bytes }) };
+
+    ghost inverse = { λ b. record { frame = b.frame; seq = b.seq; line = b.line; from = b.from; count = b.count; bytes = b.bytes } };
+}
+
+impl Batch {
+    ghost use Rattle.std.specs.Prelude.{◌≡◌, ◌≤◌};
+    ghost use Rattle.sample_schedule.specs.Batches.{sample_instant};
+
+    /// The instant of sample `j`, in nanoseconds of gPTP; at the number of samples, that of the first one behind them.
+    pub fn instant(&self, j: u32) -> i64
+        requires { j ≤ self.now.count }
+        ensures { result ≡ sample_instant self.now j }
+    {
+        self.line.at(self.from + i64::from(j))
+    }
+}

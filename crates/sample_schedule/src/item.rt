@@ -1,0 +1,110 @@
+//! What the deliveries of a stream were made into.
+
+use crate::shown::Reason;
+use avtp_base::Bytes;
+
+/// Which sample of a packet its timestamp belongs to, and how a packet without one is counted from another.
+#[derive(Clone, Copy, Debug, PartialEq, Eq)]
+pub enum HeadRule {
+    /// AAF: each packet stamps its first sample (IEEE 1722-2016, 7).
+    Own,
+    /// AAF in sparse mode: the packets whose sequence number is a multiple of 8 stamp their first sample (IEEE 1722-2016,
+    /// 7).
+    Eight,
+    /// IEC 61883-6: the timestamp belongs to the data block whose block count is a multiple of `interval`. The first
+    /// block of the packet has the count `dbc`, modulo 256.
+    Blocks { dbc: u8, interval: u32 },
+}
+
+/// A well formed packet of audio samples.
+#[derive(Debug, Drop)]
+pub struct Packet {
+    /// The number of the capture's frame, from 1.
+    pub frame: u64,
+    /// When it was captured, in nanoseconds of gPTP.
+    pub arrival: i64,
+    pub seq: u8,
+    /// The media clock restart bit.
+    pub mr: bool,
+    /// The timestamp is uncertain.
+    pub tu: bool,
+    /// The timestamp, where there is a valid one.
+    pub stamp: Option<u32>,
+    pub rule: HeadRule,
+    /// The nominal rate in Hz; 0 where the packet names none.
+    pub rate: u32,
+    /// The number of sample frames or data blocks.
+    pub count: u32,
+    /// The sample bytes, `count` times the same number.
+    pub bytes: Bytes,
+}
+
+/// A whole H.264 unit.
+#[derive(Debug, Drop)]
+pub struct Unit {
+    /// The number of the capture's frame that made it whole, from 1.
+    pub frame: u64,
+    /// When that frame was captured, in nanoseconds of gPTP.
+    pub arrival: i64,
+    pub seq: u8,
+    /// When it is presented, in nanoseconds of gPTP.
+    pub instant: i64,
+    pub bytes: Bytes,
+}
+
+/// A delivery that cannot be presented, whatever comes beside it.
+#[derive(Debug, Drop)]
+pub struct Bad {
+    /// The number of the capture's frame, from 1.
+    pub frame: u64,
+    /// When it was captured, in nanoseconds of gPTP.
+    pub arrival: i64,
+    pub seq: u8,
+    pub reason: Reason,
+}
+
+/// An item of a stream.
+#[derive(Debug, Drop)]
+pub enum Item {
+    Packet(Packet),
+    Unit(Unit),
+    Bad(Bad),
+}
+
+impl Item {
+    ghost use Rattle.std.specs.Prelude.{◌≡◌};
+    ghost use Rattle.sample_schedule.specs.Schedule.{frame_of, item_arrival, seq_of};
+
+    /// The number of the capture's frame, from 1.
+    pub fn frame(&self) -> u64
+        ensures { result ≡ frame_of self.now }
+    {
+        match self {
+            Item::Packet(packet) => packet.frame,
+            Item::Unit(unit) => unit.frame,
+            Item::Bad(bad) => bad.frame,
+        }
+    }
+
+    /// When the item was captured, in nanoseconds of gPTP.
+    pub fn arrival(&self) -> i64
+        ensures { result ≡ item_arrival self.now }
+    {
+        match self {
+            Item::Packet(packet) => packet.arrival,
+            Item::Unit(unit) => unit.arrival,
+            Item::Bad(bad) => bad.arrival,
+        }
+    }
+
+    /// The sequence number.
+    pub fn seq(&self) -> u8
+        ensures { result ≡ seq_of self.now }
+    {
+        match self {
+            Item::Packet(packet) => packet.seq,
+            Item::Unit(unit) => unit.seq,
+            Item::Bad(bad) => bad.seq,
+        }
+    }
+}

@@ -1,0 +1,24 @@
+//! The schedule of a stream: what of a list of packets is presented, at which nanosecond, and why the rest is not.
+#![tactic(auto)]
+
+mod accepted;
+mod batch;
+mod entry;
+mod item;
+pub mod laws;
+mod plan;
+mod shown;
+mod stage;
+mod timing;
+mod verdicts;
+mod waiting;
+
+pub use batch::Batch;
+pub use entry::Entry;
+pub use item::{Bad, HeadRule, Item, Packet, Unit};
+pub use plan::SchedulePlan;
+pub use shown::{Reason, Shown};
+pub use stage::schedule;
+
+#[cfg(test)]
+mod tests;
