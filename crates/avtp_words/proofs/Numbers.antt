@@ -1,0 +1,63 @@
+-- A word that spells a number: what `parse` reads of it, and what `{n}` writes.
+use Rattle.std.proofs.Common.{◌≡◌, ◌≢◌, ℕ, zero, suc, ◌^◌, ◌<◌, ◌≤◌, List, length, get_or, Result, Ok, Err, Option, Some, None, IfSome, IfNone, unwrap_or, arith, sym, ap, ◌∙◌, decimal, nat_le, IsTrue, ◌↔◌}
+use Rattle.std.specs.Result.{result_ok}
+use Rattle.std.specs.Str.Parse.{ParsesUnsigned, AllDigits, digits_value}
+use Rattle.std.proofs.lemmas.Str.Parse.{IsNumeralModel, numerals_by_value, tells_digits, parse_plain, digit_at}
+use Rattle.std.proofs.lemmas.Fmt.{decimal_is_IsNumeral, parse-decimal, decimal_nonempty, first_decimal, decimal_digit, decimal-digits_value, decimal_injective}
+use Rattle.std.proofs.lemmas.Bool.{leb-true, le-leb}
+use Rattle.avtp_words.specs.Number.{BeginsAsNumber, IsNumber}
+
+own : IsNumeralModel (AllDigits 10) (digits_value 10)
+own = numerals_by_value _ tells_digits
+
+spelled_read : {E : Type 0} (bytes : List ℕ) (r : Result ℕ E) → ParsesUnsigned 64 10 bytes r → BeginsAsNumber bytes → IfSome (result_ok r) (λ n. bytes ≡ decimal n)
+spelled_read {E} bytes (Ok n) h begins =
+    let plain : get_or bytes 0 0 ≢ 43 = omega (arith, begins.low) in
+    let read = parse_plain own {E = E} 64 bytes (Ok n) h plain in
+    sym (decimal-digits_value own bytes read.0.0 begins.some begins.zero read.0.2) ∙ ap decimal (sym read.1)
+spelled_read bytes (Err e) h begins = tt
+
+-- what is read of a word that begins as a number is the number that it spells
+pub spelled : {E : Type 0} (bytes : List ℕ) (r : Result ℕ E) (o : Option ℕ) → ParsesUnsigned 64 10 bytes r → o ≡ result_ok r → BeginsAsNumber bytes → IfSome o (λ n. bytes ≡ decimal n)
+spelled bytes r o h e begins = rw e (spelled_read bytes r h begins)
+
+-- a number's spelling is read
+pub unread : {E : Type 0} (bytes : List ℕ) (r : Result ℕ E) (o : Option ℕ) → ParsesUnsigned 64 10 bytes r → o ≡ result_ok r → IfNone o ((n : ℕ) → n < 2 ^ 64 → bytes ≡ decimal n → ⊥)
+unread bytes r (Some n) h e = tt
+unread bytes r None h e = λ n small spells. let ok = parse-decimal 64 n bytes r small small spells h in cc
+
+first_digit : (n : ℕ) → n < 2 ^ 64 → (48 ≤ get_or (decimal n) 0 0) × (get_or (decimal n) 0 0 ≤ 57)
+first_digit n small = digit_at (decimal n) 0 (decimal_is_IsNumeral n small).0.1 (decimal_nonempty n small)
+
+alone : (n : ℕ) → n < 2 ^ 64 → get_or (decimal n) 0 0 ≡ 48 → length (decimal n) ≡ 1
+alone zero small e = ap length (decimal_digit 0 (omega arith))
+alone (suc n) small e = absurd (omega (arith, first_decimal (suc n) (omega arith) small))
+
+-- a number's spelling begins as a number
+pub begins-decimal : (bytes : List ℕ) (n : ℕ) → n < 2 ^ 64 → bytes ≡ decimal n → BeginsAsNumber bytes
+begins-decimal bytes n small e = rw e (record {
+  some = decimal_nonempty n small;
+  low = (first_digit n small).0;
+  high = (first_digit n small).1;
+  zero = alone n small;
+})
+
+-- a word that spells a number is a number in range exactly if that number is
+pub is_number-then : (low high n : ℕ) (word : List ℕ) (least : low ≤ n) (spells : word ≡ decimal n) → n < 2 ^ 64 → high < 2 ^ 64 → IsTrue (nat_le n high) ↔ ((m : ℕ) × IsNumber low high word m)
+is_number-then low high n word least spells small fits = (
+  (λ t. (n, record { least = least; most = leb-true n high t; spelled = spells })),
+  λ (m, is).
+      let same : m ≡ n = decimal_injective m n (omega (arith, is.most)) small (sym is.spelled ∙ spells) in le-leb n high (omega (arith, is.most)),
+)
+
+pub is_number-else : (low high n : ℕ) (word : List ℕ) (below : n < low) (spells : word ≡ decimal n) → n < 2 ^ 64 → high < 2 ^ 64 → IsTrue (nat_le low n) ↔ ((m : ℕ) × IsNumber low high word m)
+is_number-else low high n word below spells small fits = (
+  λ t. absurd (omega (arith, leb-true low n t)),
+  λ (m, is).
+      let same : m ≡ n = decimal_injective m n (omega (arith, is.most)) small (sym is.spelled ∙ spells) in absurd (omega (arith, is.least)),
+)
+
+-- the number that a word spells is the one that is read of it
+pub number_is : (word : List ℕ) (o : Option ℕ) (default n : ℕ) → unwrap_or o default < 2 ^ 64 → IfSome o (λ n. word ≡ decimal n) → IfNone o ((n : ℕ) → n < 2 ^ 64 → word ≢ decimal n) → n < 2 ^ 64 → word ≡ decimal n → unwrap_or o default ≡ n
+number_is word (Some m) default n fits spells none small e = decimal_injective m n fits small (sym spells ∙ e)
+number_is word None default n fits spells none small e = absurd (none n small e)

@@ -1,0 +1,102 @@
+-- Options as they are given, and how the words fall into them in one way only.
+use Rattle.std.proofs.Common.{◌≡◌, ◌≢◌, ℕ, zero, suc, ◌<◌, ◌^◌, inl, inr, ◌&&◌, Bool, true, false, List, [], ◌∷◌, ◌++◌, flat_map, length, get_or, Option, Some, None, IsSomeAnd, arith, add-zero, sym, subst, ap, ◌∙◌, refl, length-append, All, AllPairs, Contains}
+use Rattle.std.specs.Str.{bytes_eq}
+use Rattle.std.proofs.lemmas.Bool.{cases_Bool, ltb-true}
+use Rattle.std.proofs.lemmas.List.{get_or_append_left, get_or-append-add}
+use Rattle.std.proofs.lemmas.List.Elements.{All-nil, All-cons, All-head, All-tail, All-push, Contains-append_right, Contains-append_cases}
+use Rattle.std.proofs.lemmas.List.Quantifiers.{all_pairs_push}
+use Rattle.std.proofs.lemmas.Slice.Eq.{bytes_eq-Decides}
+use Rattle.avtp_words.specs.declared.option.Takes.{Takes}
+use Rattle.avtp_words.specs.declared.option.Takes.TheVariants.{Number}
+use Rattle.avtp_words.specs.Number.{BeginsAsNumber}
+use Rattle.avtp_words.specs.Reading.{is_sound, are_sound}
+use Rattle.avtp_words.specs.Word.{BeginsWithDash, IsName}
+use Rattle.avtp_words.specs.Options.{Row, row_named, Setting, words_of, IsValue, IsSetting, AreSettings}
+use Rattle.avtp_words.proofs.Numbers.{begins-decimal}
+
+-- no name begins as an option
+pub name-dash : (word : List ℕ) → IsName word → BeginsWithDash word → ⊥
+name-dash [] name dash = name
+name-dash (first ∷ more) name dash = name dash
+
+pub same-true : (xs ys : List ℕ) → bytes_eq xs ys ≡ true → xs ≡ ys
+same-true xs ys e = (bytes_eq-Decides xs ys).0 e
+
+pub same-false : (xs ys : List ℕ) → bytes_eq xs ys ≡ false → xs ≡ ys → ⊥
+same-false xs ys e same = let yes = (bytes_eq-Decides xs ys).1 same in cc
+
+pub both : (a b : Bool) → (a && b) ≡ true → (a ≡ true) × (b ≡ true)
+both true b e = (refl, e)
+both false b e = absurd (cc)
+
+-- a number begins with no dash
+pub value-dash : (takes : Takes) (word : List ℕ) → is_sound takes ≡ true → IsValue takes word → BeginsWithDash word → ⊥
+value-dash (Number low high) [] sound (n, is) dash = dash
+value-dash (Number low high) (first ∷ more) sound (n, is) dash =
+    let bound : high < 2 ^ 64 = ltb-true high (2 ^ 64) (both _ _ sound).1 in
+    let small : n < 2 ^ 64 = omega (arith, is.most) in
+    let begins : BeginsAsNumber (first ∷ more) = begins-decimal (first ∷ more) n small is.spelled in omega (arith, begins.low, dash)
+
+-- the row that a name finds is sound if all are
+pub found-sound : (rows : List Row) (name : List ℕ) (row : Row) → are_sound rows ≡ true → row_named rows name ≡ Some row → is_sound row.takes ≡ true
+found-sound [] name row sound found = cc
+found-sound (r ∷ rows) name row sound found =
+    elim (cases_Bool (bytes_eq r.name name)) [
+      | inl here ↦ (let same : r ≡ row = (let e : Some r ≡ Some row = rw here at found in cc) in subst (λ (x : Row). is_sound x.takes ≡ true) same (both _ _ sound).0)
+      | inr other ↦ found-sound rows name row (both _ _ sound).1 (rw other at found)
+    ]
+
+pub setting-value : (rows : List Row) (s : Setting) → are_sound rows ≡ true → IsSetting rows s → BeginsWithDash s.value → ⊥
+setting-value rows s sound is dash = setting_value (row_named rows s.name) refl is.value where
+  setting_value : (found : Option Row) → row_named rows s.name ≡ found → IsSomeAnd found (λ row. IsValue row.takes s.value) → ⊥
+  setting_value None e value = value
+  setting_value (Some row) e value = value-dash row.takes s.value (found-sound rows s.name row sound e) value dash
+
+-- a name that is not among the words is no option's
+pub fresh : (gs : List Setting) (name : List ℕ) → (Contains (flat_map words_of gs) name → ⊥) → All (λ s. s.name ≢ name) gs
+fresh [] name absent = All-nil (λ s. s.name ≢ name)
+fresh (g ∷ gs) name absent = All-cons (λ s. s.name ≢ name) g gs (λ e. absent (0, omega arith, e)) (fresh gs name (λ within. absent (Contains-append_right (words_of g) (flat_map words_of gs) name within)))
+
+-- one that begins as an option is among the words only as an option's
+pub taken : (rows : List Row) (gs : List Setting) (name : List ℕ) → are_sound rows ≡ true → All (IsSetting rows) gs → All (λ s. s.name ≢ name) gs → BeginsWithDash name → Contains (flat_map words_of gs) name → ⊥
+taken rows [] name sound each apart dash (k, lt, e) = absurd (omega (arith, lt))
+taken rows (g ∷ gs) name sound each apart dash within =
+    elim (Contains-append_cases (words_of g) (flat_map words_of gs) name within) [ inl here ↦ here_ here | inr later ↦ taken rows gs name sound (All-tail (IsSetting rows) g gs each) (All-tail (λ s. s.name ≢ name) g gs apart) dash later ] where
+      here_ : Contains (words_of g) name → ⊥
+      here_ (zero, lt, e) = All-head (λ s. s.name ≢ name) g gs apart e
+      here_ (suc zero, lt, e) = setting-value rows g sound (All-head (IsSetting rows) g gs each) (subst BeginsWithDash (sym e) dash)
+      here_ (suc (suc k), lt, e) = absurd (omega (arith, lt))
+
+-- in a list of options that are apart, one is apart from those before it
+pub apart : (gs ms : List Setting) (m : Setting) → AllPairs (λ s t. s.name ≢ t.name) (gs ++ m ∷ ms) → All (λ s. s.name ≢ m.name) gs
+apart gs ms m once k d lt =
+    let here : get_or (gs ++ m ∷ ms) k d ≡ get_or gs k d = get_or_append_left gs (m ∷ ms) d k lt in
+    let there : get_or (gs ++ m ∷ ms) (length gs) d ≡ m = rw add-zero at (get_or-append-add gs (m ∷ ms) 0 d) in
+    let ne : (get_or (gs ++ m ∷ ms) k d).name ≢ (get_or (gs ++ m ∷ ms) (length gs) d).name = once k (length gs) d lt (omega (arith, length-append gs (m ∷ ms))) in
+    λ same. ne (ap (λ (s : Setting). s.name) here ∙ same ∙ ap (λ (s : Setting). s.name) (sym there))
+
+pub push : (rows : List Row) (gs : List Setting) (s : Setting) → AreSettings rows gs → IsSetting rows s → All (λ t. t.name ≢ s.name) gs → AreSettings rows (gs ++ s ∷ [])
+push rows gs s options is new = record { each = All-push (IsSetting rows) gs s options.each is; once = all_pairs_push (λ s t. s.name ≢ t.name) gs s options.once new }
+
+pub same_setting : (g h : Setting) → g.name ≡ h.name → g.value ≡ h.value → g ≡ h
+same_setting g h p q = ap (λ n. let s : Setting = record { name = n; value = g.value } in s) p ∙ ap (λ v. let s : Setting = record { name = h.name; value = v } in s) q
+
+-- Options, then an option's name, begin options and names in one way: with those options, and then that one.
+pub record Next (rows : List Row) (gs hs : List Setting) (word : List ℕ) (rest names : List (List ℕ)) : Type 0 where
+  pub setting : Setting
+  pub more : List Setting
+  pub whole : hs ≡ gs ++ setting ∷ more
+  pub name : word ≡ setting.name
+  pub left : rest ≡ setting.value ∷ (flat_map words_of more ++ names)
+
+pub next : (rows : List Row) (gs hs : List Setting) (word : List ℕ) (rest names : List (List ℕ)) → All (IsSetting rows) gs → All IsName names → BeginsWithDash word → flat_map words_of gs ++ word ∷ rest ≡ flat_map words_of hs ++ names → Next rows gs hs word rest names
+next rows [] [] word rest [] each named dash e = absurd (cc)
+next rows [] [] word rest (name ∷ names) each named dash e = let same : word ≡ name = cc in absurd (name-dash name (All-head IsName name names named) (subst BeginsWithDash same dash))
+next rows [] (h ∷ hs) word rest names each named dash e = record { setting = h; more = hs; whole = refl; name = (cc); left = cc }
+next rows (g ∷ gs) [] word rest [] each named dash e = absurd (cc)
+next rows (g ∷ gs) [] word rest (name ∷ names) each named dash e = let same : g.name ≡ name = cc in absurd (name-dash name (All-head IsName name names named) (subst BeginsWithDash same (All-head (IsSetting rows) g gs each).dash))
+next rows (g ∷ gs) (h ∷ hs) word rest names each named dash e =
+    let tails : flat_map words_of gs ++ word ∷ rest ≡ flat_map words_of hs ++ names = cc in
+    let heads : g ≡ h = same_setting g h (cc) (cc) in
+    let n = next rows gs hs word rest names (All-tail (IsSetting rows) g gs each) named dash tails in
+    record { setting = n.setting; more = n.more; whole = ap (λ (s : Setting). s ∷ hs) (sym heads) ∙ ap (λ (ss : List Setting). g ∷ ss) n.whole; name = n.name; left = n.left }

@@ -1,0 +1,5 @@
+pub mod Word
+pub mod Number
+pub mod Options
+pub mod Grammar
+pub mod Reading

@@ -1,0 +1,9 @@
+//! The words of the command line as a type: a command with its options and names, or the position of the first
+//! word that cannot stand.
+#![tactic(auto)]
+
+mod command;
+mod number;
+mod option;
+
+pub use command::{Command, MAX_LIMIT, Offence, parse};
