@@ -1,0 +1,4 @@
+pub mod Moved
+pub mod Growth
+pub mod Digits
+pub mod Names

@@ -1,0 +1,63 @@
+-- The lines of `show`: one for each record of a capture, and one at its end.
+use Rattle.std.specs.Prelude.{List, ℕ, ℤ, ◌++◌, length, codes, decimal, unwrap_or}
+use Rattle.std.specs.Fmt.{signed_decimal}
+use Rattle.avtp_base.specs.declared.refusal.Refusal.{Refusal}
+use Rattle.pcap_frames.specs.Frame.{Frame}
+use Rattle.avtp_header.specs.declared.header.StreamHeader.{StreamHeader}
+use Rattle.aaf_format.specs.declared.aaf.AafFormat.{AafFormat}
+use Rattle.aaf_format.specs.declared.aaf.AafFormat.TheVariants.{Float32, Int32, Int24, Int16}
+use Rattle.aaf_format.specs.Aaf.{Aaf, rate_of}
+use Rattle.avtp_text.specs.Pieces.{newline, flag_text, id_text, refusal_text}
+
+-- how the line of a record begins: its number from 1, and its arrival in nanoseconds
+unfoldable pub frame_start : ℕ → ℤ → List ℕ
+frame_start number arrival = codes "frame " ++ decimal number ++ codes " at " ++ signed_decimal arrival ++ codes " "
+
+-- the line of a record: what it is, and what it holds
+abbrev pub frame_line : ℕ → ℤ → List ℕ → List ℕ
+frame_line number arrival content = frame_start number arrival ++ content ++ newline
+
+-- the end of a capture, with the number of its records
+unfoldable pub end_frames_line : ℕ → List ℕ
+end_frames_line frames = codes "end frames " ++ decimal frames ++ newline
+
+-- a frame or a packet that cannot be accepted; the offset is in the frame
+unfoldable pub refused_content : Refusal → List ℕ
+refused_content r = codes "refused " ++ refusal_text r
+
+-- a frame of an EtherType other than that of AVTP, with the length of its payload
+unfoldable pub ethertype_content : Frame → List ℕ
+ethertype_content f = codes "ethertype " ++ decimal f.ethertype ++ codes " bytes " ++ decimal (length f.payload)
+
+-- a packet of an AVTP subtype that is not read
+unfoldable pub other_content : ℕ → List ℕ
+other_content subtype = codes "other " ++ decimal subtype
+
+abbrev pub format_text : AafFormat → List ℕ
+format_text Float32 = codes "float32"
+format_text Int32 = codes "int32"
+format_text Int24 = codes "int24"
+format_text Int16 = codes "int16"
+
+-- the stream header that AAF, IEC 61883 and CVF packets begin with
+unfoldable pub header_text : StreamHeader → List ℕ
+header_text h =
+    codes "id " ++ id_text h.stream_id
+    ++ codes " seq " ++ decimal h.seq
+    ++ codes " ts " ++ decimal h.timestamp
+    ++ codes " tv " ++ flag_text h.tv
+    ++ codes " tu " ++ flag_text h.tu
+    ++ codes " mr " ++ flag_text h.mr
+
+-- an AAF packet; a rate that only the user knows is 0
+unfoldable pub aaf_content : Aaf → List ℕ
+aaf_content v =
+    codes "aaf " ++ header_text v.header
+    ++ codes " sp " ++ flag_text v.sparse
+    ++ codes " evt " ++ decimal v.evt
+    ++ codes " format " ++ format_text v.format
+    ++ codes " rate " ++ decimal (unwrap_or (rate_of v.nsr) 0)
+    ++ codes " channels " ++ decimal v.channels
+    ++ codes " depth " ++ decimal v.depth
+    ++ codes " count " ++ decimal v.count
+    ++ codes " bytes " ++ decimal v.header.data_length

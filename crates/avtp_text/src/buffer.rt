@@ -1,0 +1,112 @@
+//! The one buffer through which all text goes.
+
+ghost use Rattle.std.specs.Prelude.{◌≡◌, ◌+◌, ◌≤◌, ◌<◌, [], ◌++◌, length, take, OnOk, IfOk, OnErr};
+ghost use Rattle.std.specs.Io.KnownBytes.{Appends, Keeps};
+ghost use Rattle.avtp_base.specs.Faults.{IsCounted, Rose};
+ghost use Rattle.avtp_text.specs.Written.{written, Grows, Writes};
+
+use avtp_base::{Failed, NoMemory, Sink};
+use std::alloc::Global;
+use std::marker::Model;
+
+/// The most bytes that a [`Text`] holds, and the longest piece that it takes.
+pub const ROOM: usize = 65_536;
+
+/// Text that waits to be written to a sink, which contracts see as the list of its bytes: at most 65,536, for which
+/// the memory is reserved once.
+///
+/// Each call that may write is given the sink. What the sink holds and then what waits is all that was written so
+/// far: a call adds its whole line to that, or where the sink fails nothing. No text is lost or written twice, so after
+/// a failure the same call may be made again.
+#[derive(Drop)]
+pub struct Text {
+    buffer: Vec<u8>,
+}
+
+impl Model for Text {
+    ghost use Rattle.std.specs.Prelude.{List, ℕ, ◌≤◌, vec_len, vec_capacity};
+
+    ghost Value = { List ℕ };
+
+    ghost view = { λ text. text.buffer.items };
+
+    ghost invariant = { λ text. (vec_len text.buffer ≤ 65536) × (65536 ≤ vec_capacity text.buffer) };
+}
+
+/// Writes the bytes to the sink until it has taken all or fails, and answers how many it took.
+#[tactic(auto, using(crate::proofs::Moved::taken_none, crate::proofs::Moved::taken_more))]
+fn write_out<S: Sink>(out: &mut S, bytes: &[u8]) -> usize
+    ensures within { result ≤ length bytes.now }
+    ensures taken { Appends (S.held out.old) (S.held out.new) (take result bytes.now) }
+    ensures never_falls { S.faults out.old ≤ S.faults out.new }
+    ensures whole { result ≡ length bytes.now → S.faults out.new ≡ S.faults out.old }
+    ensures failed { result < length bytes.now → Rose (S.faults out.old) (S.faults out.new) }
+{
+    let mut taken = 0;
+    while taken < bytes.len() {
+        match out.write(&bytes[taken..]) {
+            Ok(count) => taken += count,
+            Err(_) => return taken,
+        }
+    }
+    taken
+}
+
+impl Text {
+    /// No text yet. Reserves all the memory that text will take.
+    pub fn new(alloc: Global) -> Result<Self, NoMemory>
+        ensures { IfOk result (λ text. text ≡ []) }
+    {
+        match Vec::with_capacity(alloc, ROOM) {
+            Ok(buffer) => Ok(Text { buffer }),
+            Err(_) => Err(NoMemory),
+        }
+    }
+
+    /// Writes all that waits to the sink. Where the sink fails, what it has not taken still waits.
+    #[tactic(auto, using(crate::proofs::Moved::written_moved, crate::proofs::Growth::grows_by))]
+    pub fn flush<S: Sink>(&mut self, out: &mut S) -> Result<(), Failed>
+        ensures written { Keeps (written (S.held out.old) self.old) (written (S.held out.new) self.new) }
+        ensures none_waits { OnOk result (self.new ≡ []) }
+        ensures grows { Grows (S.held out.old) (S.held out.new) }
+        ensures counted { IsCounted (S.faults out.old) (S.faults out.new) result }
+    {
+        let waiting = self.buffer.len();
+        let taken = write_out(out, &self.buffer);
+        self.buffer.rotate_left(taken);
+        self.buffer.truncate(waiting - taken);
+        if taken < waiting {
+            return Err(Failed);
+        }
+        Ok(())
+    }
+
+    /// Makes room for a piece of so many bytes.
+    #[tactic(auto, using(crate::proofs::Growth::grows_none))]
+    fn make_room<S: Sink>(&mut self, out: &mut S, len: usize) -> Result<(), Failed>
+        requires { len ≤ ROOM }
+        ensures written { Keeps (written (S.held out.old) self.old) (written (S.held out.new) self.new) }
+        ensures room { OnOk result (length self.new + len ≤ ROOM) }
+        ensures grows { Grows (S.held out.old) (S.held out.new) }
+        ensures counted { IsCounted (S.faults out.old) (S.faults out.new) result }
+    {
+        if ROOM - self.buffer.len() < len {
+            return self.flush(out);
+        }
+        Ok(())
+    }
+
+    /// Adds a piece of text of at most [`ROOM`] bytes, whole, or nothing where the sink fails.
+    pub fn print<S: Sink>(&mut self, out: &mut S, piece: &[u8]) -> Result<(), Failed>
+        requires { length piece.now ≤ ROOM }
+        ensures written { Writes (written (S.held out.old) self.old) (written (S.held out.new) self.new) result piece.now }
+        ensures grows { Grows (S.held out.old) (S.held out.new) }
+        ensures counted { IsCounted (S.faults out.old) (S.faults out.new) result }
+    {
+        self.make_room(out, piece.len())?;
+        let Ok(()) = self.buffer.extend_from_slice(piece) else {
+            unreachable!()
+        };
+        Ok(())
+    }
+}

@@ -1,0 +1,12 @@
+//! What `avtp` prints: the exact lines, and the one bounded buffer through which they go.
+#![tactic(auto)]
+
+mod buffer;
+mod line;
+mod notices;
+mod show;
+
+pub use buffer::{ROOM, Text};
+
+#[cfg(test)]
+mod tests;

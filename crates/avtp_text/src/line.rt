@@ -1,0 +1,163 @@
+//! One line of text while it is put together.
+
+ghost use Rattle.std.specs.Prelude.{◌≡◌, ◌+◌, ◌≤◌, ◌++◌, length, decimal};
+ghost use Rattle.std.specs.Fmt.{signed_decimal};
+ghost use Rattle.avtp_text.specs.Pieces.{newline, id_text, flag_text, refusal_text};
+
+use avtp_base::Refusal;
+use std::marker::Model;
+
+/// The room of a line, in bytes.
+pub const LONGEST: usize = 256;
+
+/// A line of bounded length, which contracts see as the list of its bytes. Its pieces are put one before the other
+/// from the last to the first, since a number's digits are found in that order.
+#[derive(Drop)]
+pub struct Line {
+    scratch: [u8; LONGEST],
+    start: usize,
+}
+
+impl Model for Line {
+    ghost use Rattle.std.specs.Prelude.{List, ℕ, drop, ◌≤◌};
+
+    ghost Value = { List ℕ };
+
+    ghost view = { λ line. drop line.start line.scratch };
+
+    ghost invariant = { λ line. line.start ≤ 256 };
+}
+
+impl Line {
+    /// Its newline alone.
+    #[inline(always)]
+    pub fn new() -> Self
+        ensures { result ≡ newline }
+    {
+        let mut scratch = [0; LONGEST];
+        scratch[LONGEST - 1] = b'\n';
+        Line {
+            scratch,
+            start: LONGEST - 1,
+        }
+    }
+
+    /// The line's bytes.
+    #[inline(always)]
+    pub fn as_slice(&self) -> &[u8]
+        ensures text { result.now ≡ self.now }
+        ensures short { length result.now ≤ LONGEST }
+    {
+        &self.scratch[self.start..]
+    }
+
+    #[inline(always)]
+    fn prepend_bytes(&mut self, piece: &[u8])
+        requires { length piece.now + length self.old ≤ LONGEST }
+        ensures text { self.new ≡ piece.now ++ self.old }
+        ensures len { length self.new ≡ length piece.now + length self.old }
+    {
+        let start = self.start - piece.len();
+        self.scratch[start..self.start].copy_from_slice(piece);
+        self.start = start;
+    }
+
+    /// Puts a text before the line.
+    #[inline(always)]
+    pub fn prepend(&mut self, piece: &str)
+        requires { length piece.now + length self.old ≤ LONGEST }
+        ensures text { self.new ≡ piece.now ++ self.old }
+        ensures len { length self.new ≡ length piece.now + length self.old }
+    {
+        self.prepend_bytes(piece.as_bytes());
+    }
+
+    #[inline(always)]
+    fn prepend_decimal(&mut self, number: u64)
+        requires { length (decimal number) + length self.old ≤ LONGEST }
+        ensures text { self.new ≡ decimal number ++ self.old }
+        ensures len { length self.new ≡ length (decimal number) + length self.old }
+    {
+        self.start = itoa::write_digits(number, &mut self.scratch, self.start);
+    }
+
+    /// Puts a label and a number before the line, in decimal.
+    #[tactic(auto, using(crate::proofs::Digits::digits_of_u64))]
+    #[inline(always)]
+    pub fn prepend_u64(&mut self, label: &str, number: u64)
+        requires { length label.now + 20 + length self.old ≤ LONGEST }
+        ensures text { self.new ≡ label.now ++ decimal number ++ self.old }
+        ensures len { length self.new ≤ length label.now + 20 + length self.old }
+    {
+        self.prepend_decimal(number);
+        self.prepend(label);
+    }
+
+    /// Puts a label and a number before the line, in decimal.
+    #[tactic(auto, using(crate::proofs::Digits::digits_of_u32))]
+    #[inline(always)]
+    pub fn prepend_u32(&mut self, label: &str, number: u32)
+        requires { length label.now + 10 + length self.old ≤ LONGEST }
+        ensures text { self.new ≡ label.now ++ decimal number ++ self.old }
+        ensures len { length self.new ≤ length label.now + 10 + length self.old }
+    {
+        self.prepend_decimal(number as u64);
+        self.prepend(label);
+    }
+
+    /// Puts a label and a number before the line, in decimal, with a minus sign where it is negative.
+    #[tactic(auto, using(crate::proofs::Digits::digits_of_u64))]
+    #[inline(always)]
+    pub fn prepend_i64(&mut self, label: &str, number: i64)
+        requires { length label.now + 21 + length self.old ≤ LONGEST }
+        ensures text { self.new ≡ label.now ++ signed_decimal number ++ self.old }
+        ensures len { length self.new ≤ length label.now + 21 + length self.old }
+    {
+        self.prepend_decimal(number.unsigned_abs());
+        if number < 0 {
+            self.prepend("-");
+        }
+        self.prepend(label);
+    }
+
+    /// Puts a label and a flag before the line: 0 or 1.
+    #[inline(always)]
+    pub fn prepend_flag(&mut self, label: &str, flag: bool)
+        requires { length label.now + 1 + length self.old ≤ LONGEST }
+        ensures text { self.new ≡ label.now ++ flag_text flag ++ self.old }
+        ensures len { length self.new ≡ length label.now + 1 + length self.old }
+    {
+        self.prepend(if flag { "1" } else { "0" });
+        self.prepend(label);
+    }
+
+    /// Puts a label and a stream id before the line: 16 hexadecimal digits in lower case.
+    #[tactic(auto, unfolding(crate::specs::Pieces::id_text))]
+    #[inline(always)]
+    pub fn prepend_id(&mut self, label: &str, id: u64)
+        requires { length label.now + 16 + length self.old ≤ LONGEST }
+        ensures text { self.new ≡ label.now ++ id_text id ++ self.old }
+        ensures len { length self.new ≡ length label.now + 16 + length self.old }
+    {
+        let mut digits = [0; 16];
+        let Ok(()) = hex::encode_to_slice(id.to_be_bytes(), &mut digits) else {
+            unreachable!()
+        };
+        self.prepend_bytes(&digits);
+        self.prepend(label);
+    }
+
+    /// Puts a refusal before the line: the field, its offset, and whether the part that should hold it is too short.
+    #[tactic(auto, using(crate::proofs::Names::name_fits), unfolding(crate::specs::Pieces::refusal_text))]
+    pub fn prepend_refusal(&mut self, refusal: Refusal)
+        requires { 48 + length self.old ≤ LONGEST }
+        ensures text { self.new ≡ refusal_text refusal ++ self.old }
+        ensures len { length self.new ≤ 48 + length self.old }
+    {
+        if refusal.short {
+            self.prepend(" short");
+        }
+        self.prepend_u64(" at ", refusal.at);
+        self.prepend(refusal.field.name());
+    }
+}

@@ -1,0 +1,168 @@
+//! The lines of `show`: one for each record of a capture, and one at its end. The records are numbered from 1, and an
+//! arrival is in nanoseconds.
+
+ghost use Rattle.std.specs.Prelude.{◌≡◌, ◌+◌, ◌≤◌, ◌++◌, length};
+ghost use Rattle.avtp_base.specs.Faults.{IsCounted};
+ghost use Rattle.avtp_text.specs.Show.{frame_start, frame_line, end_frames_line, refused_content, ethertype_content, other_content, format_text, header_text, aaf_content};
+ghost use Rattle.aaf_format.specs.Aaf.{aaf_shape};
+ghost use Rattle.pcap_frames.specs.Frame.{frame_shape};
+ghost use Rattle.avtp_text.specs.Written.{written, Grows, Writes};
+
+use crate::buffer::Text;
+use crate::line::{LONGEST, Line};
+use aaf_format::{AafFormat, AafView, rate_of};
+use avtp_base::{Failed, Refusal, Sink};
+use avtp_header::StreamHeader;
+use pcap_frames::FrameView;
+
+/// Puts before the line which record it is about.
+#[tactic(auto, unfolding(crate::specs::Show::frame_start))]
+#[inline(always)]
+fn prepend_frame(line: &mut Line, number: u64, arrival: i64)
+    requires { 52 + length line.old ≤ LONGEST }
+    ensures { line.new ≡ frame_start number arrival ++ line.old }
+{
+    line.prepend(" ");
+    line.prepend_i64(" at ", arrival);
+    line.prepend_u64("frame ", number);
+}
+
+fn format_name(format: AafFormat) -> &'static str
+    ensures name { result.now ≡ format_text format }
+    ensures short { length result.now ≤ 7 }
+{
+    match format {
+        AafFormat::Float32 => "float32",
+        AafFormat::Int32 => "int32",
+        AafFormat::Int24 => "int24",
+        AafFormat::Int16 => "int16",
+    }
+}
+
+/// Puts before the line the stream header that AAF, IEC 61883 and CVF packets begin with.
+#[tactic(auto, unfolding(crate::specs::Show::header_text))]
+#[inline(always)]
+fn prepend_header(line: &mut Line, header: &StreamHeader)
+    requires { 63 + length line.old ≤ LONGEST }
+    ensures text { line.new ≡ header_text header.now ++ line.old }
+    ensures len { length line.new ≤ 63 + length line.old }
+{
+    line.prepend_flag(" mr ", header.mr);
+    line.prepend_flag(" tu ", header.tu);
+    line.prepend_flag(" tv ", header.tv);
+    line.prepend_u32(" ts ", header.timestamp);
+    line.prepend_u32(" seq ", header.seq as u32);
+    line.prepend_id("id ", header.stream_id);
+}
+
+/// Puts before the line what an AAF packet holds.
+#[tactic(auto, unfolding(crate::specs::Show::aaf_content))]
+#[inline(always)]
+fn prepend_aaf(line: &mut Line, view: &AafView<'_>)
+    requires { 193 + length line.old ≤ LONGEST }
+    ensures text { line.new ≡ aaf_content (aaf_shape view.now) ++ line.old }
+    ensures len { length line.new ≤ 193 + length line.old }
+{
+    line.prepend_u32(" bytes ", view.header.data_length as u32);
+    line.prepend_u32(" count ", view.count);
+    line.prepend_u32(" depth ", view.depth as u32);
+    line.prepend_u32(" channels ", view.channels as u32);
+    line.prepend_u32(" rate ", rate_of(view.nsr).unwrap_or(0));
+    line.prepend(format_name(view.format));
+    line.prepend(" format ");
+    line.prepend_u32(" evt ", view.evt as u32);
+    line.prepend_flag(" sp ", view.sparse);
+    prepend_header(line, &view.header);
+    line.prepend("aaf ");
+}
+
+impl Text {
+    /// Says that a frame or its packet was refused at a field, whose offset is in the frame.
+    #[tactic(auto, unfolding(crate::specs::Show::refused_content))]
+    pub fn frame_refused<S: Sink>(
+        &mut self,
+        out: &mut S,
+        number: u64,
+        arrival: i64,
+        refusal: Refusal,
+    ) -> Result<(), Failed>
+        ensures written { Writes (written (S.held out.old) self.old) (written (S.held out.new) self.new) result (frame_line number arrival (refused_content refusal)) }
+        ensures grows { Grows (S.held out.old) (S.held out.new) }
+        ensures counted { IsCounted (S.faults out.old) (S.faults out.new) result }
+    {
+        let mut line = Line::new();
+        line.prepend_refusal(refusal);
+        line.prepend("refused ");
+        prepend_frame(&mut line, number, arrival);
+        self.print(out, line.as_slice())
+    }
+
+    /// Says which EtherType a frame has that is not AVTP's, and how long its payload is.
+    #[tactic(auto, unfolding(crate::specs::Show::ethertype_content))]
+    pub fn frame_ethertype<S: Sink>(
+        &mut self,
+        out: &mut S,
+        number: u64,
+        arrival: i64,
+        frame: &FrameView<'_>,
+    ) -> Result<(), Failed>
+        ensures written { Writes (written (S.held out.old) self.old) (written (S.held out.new) self.new) result (frame_line number arrival (ethertype_content (frame_shape frame.now))) }
+        ensures grows { Grows (S.held out.old) (S.held out.new) }
+        ensures counted { IsCounted (S.faults out.old) (S.faults out.new) result }
+    {
+        let mut line = Line::new();
+        line.prepend_u64(" bytes ", frame.payload.len() as u64);
+        line.prepend_u32("ethertype ", frame.ethertype as u32);
+        prepend_frame(&mut line, number, arrival);
+        self.print(out, line.as_slice())
+    }
+
+    /// Says which AVTP subtype a packet has that is not read.
+    #[tactic(auto, unfolding(crate::specs::Show::other_content))]
+    pub fn frame_other<S: Sink>(
+        &mut self,
+        out: &mut S,
+        number: u64,
+        arrival: i64,
+        subtype: u8,
+    ) -> Result<(), Failed>
+        ensures written { Writes (written (S.held out.old) self.old) (written (S.held out.new) self.new) result (frame_line number arrival (other_content subtype)) }
+        ensures grows { Grows (S.held out.old) (S.held out.new) }
+        ensures counted { IsCounted (S.faults out.old) (S.faults out.new) result }
+    {
+        let mut line = Line::new();
+        line.prepend_u32("other ", subtype as u32);
+        prepend_frame(&mut line, number, arrival);
+        self.print(out, line.as_slice())
+    }
+
+    /// Says what an AAF packet holds. The rate is in Hz, and 0 where only the user knows it.
+    pub fn frame_aaf<S: Sink>(
+        &mut self,
+        out: &mut S,
+        number: u64,
+        arrival: i64,
+        view: &AafView<'_>,
+    ) -> Result<(), Failed>
+        ensures written { Writes (written (S.held out.old) self.old) (written (S.held out.new) self.new) result (frame_line number arrival (aaf_content (aaf_shape view.now))) }
+        ensures grows { Grows (S.held out.old) (S.held out.new) }
+        ensures counted { IsCounted (S.faults out.old) (S.faults out.new) result }
+    {
+        let mut line = Line::new();
+        prepend_aaf(&mut line, view);
+        prepend_frame(&mut line, number, arrival);
+        self.print(out, line.as_slice())
+    }
+
+    /// Says that a capture ended after so many records.
+    #[tactic(auto, unfolding(crate::specs::Show::end_frames_line))]
+    pub fn end_frames<S: Sink>(&mut self, out: &mut S, frames: u64) -> Result<(), Failed>
+        ensures written { Writes (written (S.held out.old) self.old) (written (S.held out.new) self.new) result (end_frames_line frames) }
+        ensures grows { Grows (S.held out.old) (S.held out.new) }
+        ensures counted { IsCounted (S.faults out.old) (S.faults out.new) result }
+    {
+        let mut line = Line::new();
+        line.prepend_u64("end frames ", frames);
+        self.print(out, line.as_slice())
+    }
+}

@@ -1,0 +1,232 @@
+//! The printed text of each line, through sinks that take little at a time and fail in mid-stream.
+
+ghost use Rattle.std.specs.Prelude.{◌≡◌, ◌≤◌, IfOk};
+
+use crate::Text;
+use aaf_format::{AafFormat, AafView};
+use avtp_base::{Failed, Field, NoMemory, Refusal, Sink};
+use avtp_header::StreamHeader;
+use pcap_frames::FrameView;
+use std::alloc::Global;
+use std::test::Fail;
+
+/// A sink that takes at most so many bytes a call, and fails at every call whose number is a multiple of another.
+#[derive(Drop)]
+struct Trickle {
+    bytes: Vec<u8>,
+    at_most: usize,
+    fails_each: u64,
+    calls: u64,
+    faults: u64,
+    ghost takes_some: { 1 ≤ at_most },
+}
+
+impl Trickle {
+    fn new(alloc: Global, at_most: usize, fails_each: u64) -> Self
+        requires { 1 ≤ at_most }
+    {
+        Trickle {
+            bytes: Vec::new(alloc),
+            at_most,
+            fails_each,
+            calls: 0,
+            faults: 0,
+        }
+    }
+
+    fn fails_now(&mut self) -> bool
+        ensures bytes { self.new.bytes ≡ self.old.bytes }
+        ensures at_most { self.new.at_most ≡ self.old.at_most }
+        ensures faults { self.new.faults ≡ self.old.faults }
+    {
+        self.calls = self.calls.saturating_add(1);
+        self.fails_each != 0 && self.calls % self.fails_each == 0
+    }
+}
+
+impl Sink for Trickle {
+    ghost use Rattle.std.specs.Prelude.{Some};
+
+    ghost held = { λ sink. Some sink.bytes.items };
+
+    ghost faults = { λ sink. sink.faults };
+
+    fn write(&mut self, piece: &[u8]) -> Result<usize, Failed> {
+        let count = piece.len().min(self.at_most);
+        if self.fails_now() {
+            self.faults = self.faults.saturating_add(1);
+            return Err(Failed);
+        }
+        match self.bytes.extend_from_slice(&piece[..count]) {
+            Ok(()) => Ok(count),
+            Err(_) => {
+                self.faults = self.faults.saturating_add(1);
+                Err(Failed)
+            }
+        }
+    }
+}
+
+fn v1_header() -> StreamHeader {
+    StreamHeader {
+        subtype: 2,
+        sv: true,
+        mr: false,
+        format_bits: 0,
+        tv: true,
+        seq: 0,
+        tu: false,
+        stream_id: 0x0200_0000_0001_0001,
+        timestamp: 1_002_000_000,
+        data_length: 24,
+    }
+}
+
+/// Writes each kind of line once, in the order of `EVERY_LINE`.
+fn every_line<S: Sink>(text: &mut Text, out: &mut S) -> Result<(), Failed> {
+    let v1 = AafView {
+        header: v1_header(),
+        format: AafFormat::Int16,
+        nsr: 5,
+        channels: 2,
+        depth: 16,
+        sparse: false,
+        evt: 0,
+        count: 6,
+        payload: &[],
+        reserved: false,
+    };
+    let other_flags = AafView {
+        header: StreamHeader {
+            mr: true,
+            tv: false,
+            tu: true,
+            seq: 255,
+            stream_id: 0xfedc_ba98_7654_3210,
+            timestamp: u32::MAX,
+            data_length: u16::MAX,
+            ..v1.header
+        },
+        nsr: 0,
+        sparse: true,
+        evt: 15,
+        ..v1
+    };
+    let frame = FrameView {
+        dst: 0,
+        src: 0,
+        tag: None,
+        ethertype: 0x88f7,
+        start: 14,
+        payload: &[0; 44],
+    };
+    let short = Refusal {
+        field: Field::Subtype,
+        at: 14,
+        short: true,
+    };
+    let whole = Refusal {
+        field: Field::InclLen,
+        at: 32,
+        short: false,
+    };
+    text.frame_aaf(out, 1, 1_000_000_000, &v1)?;
+    for format in [AafFormat::Float32, AafFormat::Int32, AafFormat::Int24] {
+        text.frame_aaf(
+            out,
+            2,
+            0,
+            &AafView {
+                format,
+                ..other_flags
+            },
+        )?;
+    }
+    text.frame_ethertype(out, 3, -1, &frame)?;
+    text.frame_other(out, u64::MAX, i64::MIN, 0xfa)?;
+    text.frame_refused(out, 5, i64::MAX, short)?;
+    text.frame_refused(
+        out,
+        6,
+        7,
+        Refusal {
+            short: false,
+            ..short
+        },
+    )?;
+    text.end_frames(out, 6)?;
+    text.capture_refused(out, whole)?;
+    text.capture_refused(
+        out,
+        Refusal {
+            short: true,
+            ..whole
+        },
+    )?;
+    text.read_fault(out)?;
+    text.limit(out, 105)?;
+    text.words(out, 2)?;
+    text.print(out, b"")?;
+    text.flush(out)
+}
+
+const EVERY_LINE: &str = "\
+frame 1 at 1000000000 aaf id 0200000000010001 seq 0 ts 1002000000 tv 1 tu 0 mr 0 sp 0 evt 0 format int16 rate 48000 channels 2 depth 16 count 6 bytes 24
+frame 2 at 0 aaf id fedcba9876543210 seq 255 ts 4294967295 tv 0 tu 1 mr 1 sp 1 evt 15 format float32 rate 0 channels 2 depth 16 count 6 bytes 65535
+frame 2 at 0 aaf id fedcba9876543210 seq 255 ts 4294967295 tv 0 tu 1 mr 1 sp 1 evt 15 format int32 rate 0 channels 2 depth 16 count 6 bytes 65535
+frame 2 at 0 aaf id fedcba9876543210 seq 255 ts 4294967295 tv 0 tu 1 mr 1 sp 1 evt 15 format int24 rate 0 channels 2 depth 16 count 6 bytes 65535
+frame 3 at -1 ethertype 35063 bytes 44
+frame 18446744073709551615 at -9223372036854775808 other 250
+frame 5 at 9223372036854775807 refused subtype at 14 short
+frame 6 at 7 refused subtype at 14
+end frames 6
+capture refused: incl_len at 32
+capture refused: incl_len at 32 short
+read fault
+limit 105
+words: 2
+";
+
+fn may_cross_threads<T: Send>(_value: &T) {}
+
+#[test]
+fn each_line_is_printed_as_stated(rt: HostRuntime) -> Result<(), Fail> {
+    for at_most in [1, 7, 65_536] {
+        let mut text = Text::new(rt.alloc()).ok().ok_or("memory")?;
+        let mut out = Trickle::new(rt.alloc(), at_most, 0);
+        may_cross_threads(&text);
+        every_line(&mut text, &mut out).ok().ok_or("sink")?;
+        assert_eq!(rt; out.bytes.as_slice(), EVERY_LINE.as_bytes());
+    }
+    Ok(())
+}
+
+#[test]
+fn a_failing_sink_loses_nothing_and_gets_nothing_twice(rt: HostRuntime) -> Result<(), Fail> {
+    let mut text = Text::new(rt.alloc()).ok().ok_or("memory")?;
+    let mut out = Trickle::new(rt.alloc(), 10_000, 3);
+    let mut want = Vec::new(rt.alloc());
+    let mut failed = false;
+    let piece = [b'x'; 5_000];
+    for place in 0..40u64 {
+        for line in [piece.as_slice(), b"\n".as_slice()] {
+            if text.print(&mut out, line).is_ok() {
+                want.extend_from_slice(line)?;
+            } else {
+                failed = true;
+            }
+        }
+        if text.words(&mut out, place).is_ok() {
+            want.extend_from_slice(format!(in rt.alloc(); "words: {place}\n")?.as_bytes())?;
+        } else {
+            failed = true;
+        }
+    }
+    for _ in 0..10 {
+        let _ = text.flush(&mut out);
+    }
+    assert!(rt; text.flush(&mut out).is_ok());
+    assert!(rt; failed);
+    assert_eq!(rt; out.bytes.as_slice(), want.as_slice());
+    Ok(())
+}
