@@ -1,0 +1,6 @@
+pub mod Lines
+pub mod Printed
+pub mod Ending
+pub mod Asked
+pub mod Quiet
+pub mod Partly

@@ -1,0 +1,5 @@
+pub mod Status
+pub mod Record
+pub mod Report
+pub mod Progress
+pub mod Front

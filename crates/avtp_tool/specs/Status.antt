@@ -1,0 +1,16 @@
+-- The exit status of the command.
+use Rattle.std.specs.Prelude.{ℕ}
+use Rattle.avtp_tool.specs.declared.status.Status.{Status}
+use Rattle.avtp_tool.specs.declared.status.Status.TheVariants.{Done, Findings, Words, Refused, ReadFault, WriteFault, Memory, Limit, DeviceFault, TalkInput}
+
+abbrev pub code_of : Status → ℕ
+code_of Done = 0
+code_of Findings = 1
+code_of Words = 2
+code_of Refused = 3
+code_of ReadFault = 4
+code_of WriteFault = 5
+code_of Memory = 6
+code_of Limit = 7
+code_of DeviceFault = 8
+code_of TalkInput = 9

@@ -1,0 +1,144 @@
+//! The command `avtp`, over the outside that it is given.
+
+ghost use Rattle.std.specs.Prelude.{◌≡◌, ◌≢◌, ◌≤◌, ◌⊎◌, ℕ, List, Ok, Some, [], take, IfOk, OnErr, IsErr};
+ghost use Rattle.std.specs.Io.KnownBytes.{Appends, Keeps};
+ghost use Rattle.avtp_base.specs.Faults.{IsCounted, IsQuiet, Rose};
+ghost use Rattle.avtp_base.specs.Files.{Files, IsMissing, KeepsFiles, KeepsSlots};
+ghost use Rattle.avtp_text.specs.Notices.{read_fault_line, words_line};
+ghost use Rattle.avtp_text.specs.Written.{written, Grows};
+ghost use Rattle.avtp_words.specs.Grammar.{IsOffence, IsShow};
+ghost use Rattle.avtp_words.specs.Word.{texts};
+ghost use Rattle.avtp_tool.specs.Front.{AppendsFront, ShowsFront};
+ghost use Rattle.avtp_tool.specs.Report.{Shows, end_of, report, status_of};
+
+use crate::show::show;
+use crate::status::Status;
+use avtp_base::{Failed, Shelf, Sink};
+use avtp_text::Text;
+use avtp_words::{Command, parse};
+use std::alloc::Global;
+
+/// Does what the words ask for: reads the captures that they name, writes the text, and answers how that ended.
+pub fn run<F: Shelf, S: Sink>(alloc: Global, words: &[String], shelf: &mut F, out: &mut S) -> Status
+    // What `show` prints is the report of the capture's bytes.
+    ensures shown { result ≢ Status.Memory → result ≢ Status.WriteFault → (limit : ℕ) (file : List ℕ) (files : Files) (bytes : List ℕ) →
+        IsShow (texts words.now) limit file → F.files shelf.old ≡ Some files → files file ≡ Some bytes →
+        (printed : List ℕ) × Shows limit bytes result printed × Appends (S.held out.old) (S.held out.new) printed }
+    ensures missing { result ≢ Status.Memory → result ≢ Status.WriteFault → (limit : ℕ) (file : List ℕ) →
+        IsShow (texts words.now) limit file → IsMissing (F.files shelf.old) file →
+        (result ≡ Status.ReadFault) × Appends (S.held out.old) (S.held out.new) read_fault_line }
+
+    // Where no fault of reading comes, the whole report is printed.
+    ensures complete { result ≢ Status.Memory → result ≢ Status.WriteFault → (limit : ℕ) (file : List ℕ) (files : Files) (bytes : List ℕ) →
+        IsShow (texts words.now) limit file → F.files shelf.old ≡ Some files → files file ≡ Some bytes →
+        IsQuiet (F.reading_faults shelf.old) (F.reading_faults shelf.new) →
+        (result ≡ status_of (end_of limit bytes))
+        × Appends (S.held out.old) (S.held out.new) (report limit (take limit bytes) (end_of limit bytes)) }
+
+    // Words that are no command line are told by the first that cannot stand.
+    ensures words { result ≢ Status.Memory → result ≢ Status.WriteFault → (position : ℕ) → IsOffence (texts words.now) position →
+        (result ≡ Status.Words) × Appends (S.held out.old) (S.held out.new) (words_line position) }
+    ensures only_words { result ≡ Status.Words → (position : ℕ) × IsOffence (texts words.now) position }
+    ensures unopened { (position : ℕ) → IsOffence (texts words.now) position → shelf.new ≡ shelf.old }
+
+    // Whatever comes, the sink keeps what it held, and gains a front of such a text and nothing else.
+    ensures grows { Grows (S.held out.old) (S.held out.new) }
+    ensures part { (limit : ℕ) (file : List ℕ) (files : Files) (bytes : List ℕ) →
+        IsShow (texts words.now) limit file → F.files shelf.old ≡ Some files → files file ≡ Some bytes →
+        (ended : Status) × (whole : List ℕ) × Shows limit bytes ended whole × AppendsFront (S.held out.old) (S.held out.new) whole }
+    ensures part_complete { (limit : ℕ) (file : List ℕ) (files : Files) (bytes : List ℕ) →
+        IsShow (texts words.now) limit file → F.files shelf.old ≡ Some files → files file ≡ Some bytes →
+        IsQuiet (F.reading_faults shelf.old) (F.reading_faults shelf.new) →
+        AppendsFront (S.held out.old) (S.held out.new) (report limit (take limit bytes) (end_of limit bytes)) }
+    ensures part_missing { (limit : ℕ) (file : List ℕ) → IsShow (texts words.now) limit file → IsMissing (F.files shelf.old) file →
+        AppendsFront (S.held out.old) (S.held out.new) read_fault_line }
+    ensures part_words { (position : ℕ) → IsOffence (texts words.now) position → AppendsFront (S.held out.old) (S.held out.new) (words_line position) }
+
+    // A fault is the outside's.
+    ensures read_fault { result ≡ Status.ReadFault → Rose (F.reading_faults shelf.old) (F.reading_faults shelf.new)
+        ⊎ ((limit : ℕ) × (file : List ℕ) × IsShow (texts words.now) limit file × IsMissing (F.files shelf.old) file) }
+    ensures write_fault { result ≡ Status.WriteFault → Rose (S.faults out.old) (S.faults out.new) }
+    ensures no_write_fault { result ≢ Status.WriteFault → S.faults out.new ≡ S.faults out.old }
+    ensures memory { result ≡ Status.Memory → Keeps (S.held out.old) (S.held out.new) }
+
+    // Each file that was opened is closed, and none is changed.
+    ensures slots { KeepsSlots (F.slots shelf.old) (F.slots shelf.new) }
+    ensures files { KeepsFiles (F.files shelf.old) (F.files shelf.new) }
+    ensures never_falls { F.reading_faults shelf.old ≤ F.reading_faults shelf.new }
+    ensures writing { F.writing_faults shelf.new ≡ F.writing_faults shelf.old }
+{
+    let Ok(mut text) = Text::new(alloc) else {
+        return Status::Memory;
+    };
+    let ended = obey(alloc, words, shelf, &mut text, out);
+    finish(&mut text, out, ended)
+}
+
+/// Does what the words ask for, or says which of them cannot stand.
+fn obey<F: Shelf, S: Sink>(
+    alloc: Global,
+    words: &[String],
+    shelf: &mut F,
+    text: &mut Text,
+    out: &mut S,
+) -> Result<Status, Failed>
+    ensures shown { IfOk result (λ ended. ended ≢ Status.Memory → (limit : ℕ) (file : List ℕ) (files : Files) (bytes : List ℕ) →
+        IsShow (texts words.now) limit file → F.files shelf.old ≡ Some files → files file ≡ Some bytes →
+        (printed : List ℕ) × Shows limit bytes ended printed
+        × Appends (written (S.held out.old) text.old) (written (S.held out.new) text.new) printed) }
+    ensures missing { IfOk result (λ ended. ended ≢ Status.Memory → (limit : ℕ) (file : List ℕ) →
+        IsShow (texts words.now) limit file → IsMissing (F.files shelf.old) file →
+        (ended ≡ Status.ReadFault) × Appends (written (S.held out.old) text.old) (written (S.held out.new) text.new) read_fault_line) }
+    ensures words { IfOk result (λ ended. (position : ℕ) → IsOffence (texts words.now) position →
+        (ended ≡ Status.Words) × Appends (written (S.held out.old) text.old) (written (S.held out.new) text.new) (words_line position)) }
+    ensures only_words { result ≡ Ok Status.Words → (position : ℕ) × IsOffence (texts words.now) position }
+    ensures unopened { (position : ℕ) → IsOffence (texts words.now) position → shelf.new ≡ shelf.old }
+    ensures read_fault { result ≡ Ok Status.ReadFault → Rose (F.reading_faults shelf.old) (F.reading_faults shelf.new)
+        ⊎ ((limit : ℕ) × (file : List ℕ) × IsShow (texts words.now) limit file × IsMissing (F.files shelf.old) file) }
+    ensures told_fault { result ≡ Ok Status.ReadFault → (limit : ℕ) (file : List ℕ) (files : Files) (bytes : List ℕ) →
+        IsShow (texts words.now) limit file → F.files shelf.old ≡ Some files → files file ≡ Some bytes →
+        Rose (F.reading_faults shelf.old) (F.reading_faults shelf.new) }
+    ensures part { OnErr result ((limit : ℕ) (file : List ℕ) (files : Files) (bytes : List ℕ) →
+        IsShow (texts words.now) limit file → F.files shelf.old ≡ Some files → files file ≡ Some bytes →
+        ShowsFront limit bytes (written (S.held out.old) text.old) (written (S.held out.new) text.new) (F.reading_faults shelf.old) (F.reading_faults shelf.new)) }
+    ensures part_missing { OnErr result ((limit : ℕ) (file : List ℕ) → IsShow (texts words.now) limit file → IsMissing (F.files shelf.old) file →
+        Keeps (written (S.held out.old) text.old) (written (S.held out.new) text.new)) }
+    ensures part_words { OnErr result ((position : ℕ) → IsOffence (texts words.now) position →
+        Keeps (written (S.held out.old) text.old) (written (S.held out.new) text.new)) }
+    ensures memory { result ≡ Ok Status.Memory → Keeps (written (S.held out.old) text.old) (written (S.held out.new) text.new) }
+    ensures no_write_fault { IfOk result (λ ended. ended ≢ Status.WriteFault) }
+    ensures slots { KeepsSlots (F.slots shelf.old) (F.slots shelf.new) }
+    ensures files { KeepsFiles (F.files shelf.old) (F.files shelf.new) }
+    ensures never_falls { F.reading_faults shelf.old ≤ F.reading_faults shelf.new }
+    ensures writing { F.writing_faults shelf.new ≡ F.writing_faults shelf.old }
+    ensures grows { Grows (S.held out.old) (S.held out.new) }
+    ensures counted { IsCounted (S.faults out.old) (S.faults out.new) result }
+{
+    match parse(words) {
+        Ok(Command::Show { limit, file }) => show(alloc, limit, file, shelf, text, out),
+        Err(offence) => {
+            text.words(out, offence.position as u64)?;
+            Ok(Status::Words)
+        }
+    }
+}
+
+/// Writes the text that still waits.
+#[tactic(auto, using(avtp_text::proofs::Growth::grows_none))]
+fn finish<S: Sink>(text: &mut Text, out: &mut S, ended: Result<Status, Failed>) -> Status
+    requires { IfOk ended (λ status. status ≢ Status.WriteFault) }
+    ensures written { result ≢ Status.WriteFault → (ended ≡ Ok result) × (text.new ≡ []) × Keeps (written (S.held out.old) text.old) (written (S.held out.new) text.new) }
+    ensures kept { Keeps (written (S.held out.old) text.old) (written (S.held out.new) text.new) }
+    ensures grows { Grows (S.held out.old) (S.held out.new) }
+    ensures write_fault { result ≡ Status.WriteFault → IsErr ended ⊎ Rose (S.faults out.old) (S.faults out.new) }
+    ensures never_falls { S.faults out.old ≤ S.faults out.new }
+    ensures no_write_fault { result ≢ Status.WriteFault → S.faults out.new ≡ S.faults out.old }
+{
+    let Ok(status) = ended else {
+        return Status::WriteFault;
+    };
+    match text.flush(out) {
+        Ok(()) => status,
+        Err(Failed) => Status::WriteFault,
+    }
+}

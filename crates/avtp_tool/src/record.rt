@@ -1,0 +1,78 @@
+//! One record of a capture, as `show` prints it.
+
+ghost use Rattle.std.specs.Prelude.{◌≡◌, ◌+◌, ◌^◌, ◌<◌};
+ghost use Rattle.avtp_base.specs.Faults.{IsCounted};
+ghost use Rattle.avtp_text.specs.Show.{frame_line};
+ghost use Rattle.avtp_text.specs.Written.{written, Grows, Writes};
+ghost use Rattle.avtp_tool.specs.Record.{record_content, packet_content, inside};
+
+use aaf_format::read_aaf;
+use avtp_base::{Failed, Refusal, Sink};
+use avtp_header::peek_subtype;
+use avtp_text::Text;
+use pcap_frames::{FrameView, RecordView, read_frame};
+
+/// The EtherType of AVTP.
+const AVTP: u16 = 0x22F0;
+
+/// The subtype of the AVTP audio format.
+const AAF: u8 = 0x02;
+
+/// Prints what a record holds, under its number in the capture, from 1.
+#[tactic(auto, unfolding(crate::specs::Record::record_content, crate::specs::Record::frame_content))]
+pub fn print_record<S: Sink>(
+    text: &mut Text,
+    out: &mut S,
+    number: u64,
+    held: &RecordView<'_>,
+) -> Result<(), Failed>
+    ensures written { Writes (written (S.held out.old) text.old) (written (S.held out.new) text.new) result (frame_line number held.now.arrival (record_content held.now.bytes.now)) }
+    ensures grows { Grows (S.held out.old) (S.held out.new) }
+    ensures counted { IsCounted (S.faults out.old) (S.faults out.new) result }
+{
+    match read_frame(held.bytes) {
+        Err(refusal) => text.frame_refused(out, number, held.arrival, refusal),
+        Ok(frame) if frame.ethertype != AVTP => text.frame_ethertype(
+            out,
+            number,
+            held.arrival,
+            &frame,
+        ),
+        Ok(frame) => print_packet(text, out, number, held.arrival, &frame),
+    }
+}
+
+/// Prints the AVTP packet in a frame.
+#[tactic(auto, unfolding(crate::specs::Record::packet_content))]
+fn print_packet<S: Sink>(
+    text: &mut Text,
+    out: &mut S,
+    number: u64,
+    arrival: i64,
+    frame: &FrameView<'_>,
+) -> Result<(), Failed>
+    requires { frame.now.start < 2 ^ 32 }
+    ensures written { Writes (written (S.held out.old) text.old) (written (S.held out.new) text.new) result (frame_line number arrival (packet_content frame.now.start frame.now.payload.now)) }
+    ensures grows { Grows (S.held out.old) (S.held out.new) }
+    ensures counted { IsCounted (S.faults out.old) (S.faults out.new) result }
+{
+    match peek_subtype(frame.payload) {
+        Err(refusal) => text.frame_refused(out, number, arrival, in_frame(frame, refusal)),
+        Ok(AAF) => match read_aaf(frame.payload) {
+            Err(refusal) => text.frame_refused(out, number, arrival, in_frame(frame, refusal)),
+            Ok(view) => text.frame_aaf(out, number, arrival, &view),
+        },
+        Ok(subtype) => text.frame_other(out, number, arrival, subtype),
+    }
+}
+
+/// The refusal of a frame's packet, with its offset in the frame.
+fn in_frame(frame: &FrameView<'_>, refusal: Refusal) -> Refusal
+    requires { refusal.at + frame.now.start < 2 ^ 64 }
+    ensures { result ≡ inside frame.now.start refusal }
+{
+    Refusal {
+        at: refusal.at + frame.start as u64,
+        ..refusal
+    }
+}

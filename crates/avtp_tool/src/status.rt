@@ -1,0 +1,49 @@
+//! How a run ends.
+
+ghost use Rattle.std.specs.Prelude.{◌≡◌};
+ghost use Rattle.avtp_tool.specs.Status.{code_of};
+
+/// How a run ended. The command ends with its code.
+#[derive(Clone, Copy, Debug, PartialEq, Eq)]
+pub enum Status {
+    /// All that was asked for was done.
+    Done,
+    /// Something was found that is told in the text.
+    Findings,
+    /// The words are no command line.
+    Words,
+    /// A capture was refused at a field.
+    Refused,
+    /// A file could not be read.
+    ReadFault,
+    /// The text or a file could not be written.
+    WriteFault,
+    /// No memory was found.
+    Memory,
+    /// A file has more bytes than may be read.
+    Limit,
+    /// A device failed.
+    DeviceFault,
+    /// The input of a talker was refused.
+    TalkInput,
+}
+
+impl Status {
+    /// The exit status of the command.
+    pub fn code(self) -> u8
+        ensures { result ≡ code_of self }
+    {
+        match self {
+            Status::Done => 0,
+            Status::Findings => 1,
+            Status::Words => 2,
+            Status::Refused => 3,
+            Status::ReadFault => 4,
+            Status::WriteFault => 5,
+            Status::Memory => 6,
+            Status::Limit => 7,
+            Status::DeviceFault => 8,
+            Status::TalkInput => 9,
+        }
+    }
+}
