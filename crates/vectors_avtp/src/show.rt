@@ -1,0 +1,288 @@
+//! The command `show`, from its words and the capture's bytes to its text and status.
+
+use crate::vector;
+use avtp_base::{MemoryShelf, MemorySink, NoMemory};
+use avtp_tool::{Status, run};
+use std::alloc::Global;
+use std::test::Fail;
+
+const V1_LINE: &str =
+    "frame 1 at 1000000000 aaf id 0200000000010001 seq 0 ts 1002000000 tv 1 tu 0 mr 0 sp 0 evt 0 format int16 rate 48000 channels 2 depth 16 count 6 bytes 24\n";
+
+/// What a run wrote, and how it ended.
+#[derive(Drop)]
+struct Ran {
+    status: Status,
+    text: Vec<u8>,
+}
+
+/// Runs the words over a shelf that holds the capture under `c.pcap`. The numbered calls fail.
+fn run_over(
+    alloc: Global,
+    line: &[&str],
+    capture: Vec<u8>,
+    shelf_fails: &[u64],
+    sink_fails: &[u64],
+) -> Result<Ran, NoMemory> {
+    let mut words = Vec::new(alloc);
+    for word in line {
+        words.push(String::from_str(alloc, word)?)?;
+    }
+    let mut files = Vec::new(alloc);
+    files.push((String::from_str(alloc, "c.pcap")?, capture))?;
+    let mut shelf = MemoryShelf::over(alloc, files, Vec::from_slice(alloc, shelf_fails)?);
+    let mut sink = MemorySink::over(alloc, Vec::from_slice(alloc, sink_fails)?);
+    let status = run(alloc, &words, &mut shelf, &mut sink);
+    let text = Vec::from_slice(alloc, sink.bytes())?;
+    Ok(Ran { status, text })
+}
+
+/// The first vector with some bytes changed, cut to a length, and with zero bytes behind it.
+fn changed(
+    alloc: Global,
+    changes: &[(usize, u8)],
+    len: usize,
+    zeros: usize,
+) -> Result<Vec<u8>, NoMemory> {
+    let mut capture = vector(alloc, 1)?;
+    for (at, byte) in changes {
+        if let Some(place) = capture.get_mut(*at) {
+            *place = *byte;
+        }
+    }
+    capture.truncate(len);
+    for _ in 0..zeros {
+        capture.push(0)?;
+    }
+    Ok(capture)
+}
+
+/// The captures that are read to their end, and those that are refused, each with its text and status.
+#[test]
+fn captures(rt: HostRuntime) -> Result<(), Fail> {
+    let whole = format!(in rt.alloc(); "{V1_LINE}end frames 1\n")?;
+    let refused = format!(in rt.alloc();
+        "frame 1 at 1000000000 refused version at 19\nend frames 1\n"
+    )?;
+    let channels = format!(in rt.alloc();
+        "frame 1 at 1000000000 refused channels_per_frame at 35\nend frames 1\n"
+    )?;
+    let other = format!(in rt.alloc(); "frame 1 at 1000000000 other 110\nend frames 1\n")?;
+    let cases: [(&[(usize, u8)], usize, usize, Status, &str); 13] = [
+        (&[], 106, 0, Status::Done, whole.as_str()),
+        (
+            &[],
+            0,
+            0,
+            Status::Refused,
+            "capture refused: magic at 0 short\n",
+        ),
+        (&[], 24, 0, Status::Done, "end frames 0\n"),
+        (
+            &[],
+            10,
+            0,
+            Status::Refused,
+            "capture refused: thiszone at 8 short\n",
+        ),
+        (
+            &[],
+            28,
+            0,
+            Status::Refused,
+            "capture refused: ts_fraction at 28 short\n",
+        ),
+        (
+            &[],
+            105,
+            0,
+            Status::Refused,
+            "capture refused: packet_bytes at 40 short\n",
+        ),
+        (
+            &[(32, 1), (34, 4)],
+            106,
+            0,
+            Status::Refused,
+            "capture refused: incl_len at 32\n",
+        ),
+        (
+            &[(0, 0)],
+            106,
+            0,
+            Status::Refused,
+            "capture refused: magic at 0\n",
+        ),
+        // Reserved bits are set, and twelve bytes follow the packet.
+        (
+            &[(61, 0xfe), (32, 78), (36, 78)],
+            106,
+            12,
+            Status::Done,
+            whole.as_str(),
+        ),
+        (&[(59, 0x91)], 106, 0, Status::Done, refused.as_str()),
+        (
+            &[(75, 0x50), (76, 0)],
+            106,
+            0,
+            Status::Done,
+            channels.as_str(),
+        ),
+        (&[(58, 110)], 106, 0, Status::Done, other.as_str()),
+        (
+            &[(20, 2)],
+            106,
+            0,
+            Status::Refused,
+            "capture refused: network at 20\n",
+        ),
+    ];
+    for (changes, len, zeros, status, text) in cases {
+        let capture = changed(rt.alloc(), changes, len, zeros)?;
+        let ran = run_over(rt.alloc(), &["show", "c.pcap"], capture, &[], &[])?;
+        assert_eq!(rt; ran.text.as_slice(), text.as_bytes());
+        assert_eq!(rt; ran.status, status);
+    }
+    Ok(())
+}
+
+/// Words that cannot stand are told by their position, and the limit counts the capture's bytes.
+#[test]
+fn words_and_limits(rt: HostRuntime) -> Result<(), Fail> {
+    let whole = format!(in rt.alloc(); "{V1_LINE}end frames 1\n")?;
+    let cases: [(&[&str], Status, &str); 9] = [
+        (&[], Status::Words, "words: 1\n"),
+        (&["frob"], Status::Words, "words: 1\n"),
+        (&["show"], Status::Words, "words: 2\n"),
+        (&["show", "c.pcap", "d.pcap"], Status::Words, "words: 3\n"),
+        (&["show", "d.pcap"], Status::ReadFault, "read fault\n"),
+        (
+            &["show", "--limit", "105", "c.pcap"],
+            Status::Limit,
+            "limit 105\n",
+        ),
+        (
+            &["show", "--limit", "106", "c.pcap"],
+            Status::Done,
+            whole.as_str(),
+        ),
+        (
+            &["show", "--limit", "3", "c.pcap"],
+            Status::Limit,
+            "limit 3\n",
+        ),
+        (
+            &["show", "--limit", "24", "c.pcap"],
+            Status::Limit,
+            "limit 24\n",
+        ),
+    ];
+    for (line, status, text) in cases {
+        let ran = run_over(rt.alloc(), line, vector(rt.alloc(), 1)?, &[], &[])?;
+        assert_eq!(rt; ran.text.as_slice(), text.as_bytes());
+        assert_eq!(rt; ran.status, status);
+    }
+    Ok(())
+}
+
+/// Each call of the shelf and of the sink fails in turn, until none is left to fail.
+#[test]
+fn failing_calls(rt: HostRuntime) -> Result<(), Fail> {
+    let whole = format!(in rt.alloc(); "{V1_LINE}end frames 1\n")?;
+    let printed = format!(in rt.alloc(); "{V1_LINE}read fault\n")?;
+    // The shelf's calls are one to open the file and two to read it; the sink's is one.
+    let cases: [(&[u64], &[u64], Status, &str); 6] = [
+        (&[1], &[], Status::ReadFault, "read fault\n"),
+        (&[2], &[], Status::ReadFault, "read fault\n"),
+        (&[3], &[], Status::ReadFault, printed.as_str()),
+        (&[4], &[], Status::Done, whole.as_str()),
+        (&[], &[1], Status::WriteFault, ""),
+        (&[], &[2], Status::Done, whole.as_str()),
+    ];
+    for (shelf_fails, sink_fails, status, text) in cases {
+        let ran = run_over(
+            rt.alloc(),
+            &["show", "c.pcap"],
+            vector(rt.alloc(), 1)?,
+            shelf_fails,
+            sink_fails,
+        )?;
+        assert_eq!(rt; ran.text.as_slice(), text.as_bytes());
+        assert_eq!(rt; ran.status, status);
+    }
+    Ok(())
+}
+
+fn number(little: bool, n: u32) -> [u8; 4] {
+    if little {
+        n.to_le_bytes()
+    } else {
+        n.to_be_bytes()
+    }
+}
+
+/// A capture of one record, by the layout of classic pcap. The time is in seconds and in units of the fraction.
+fn capture_of(
+    alloc: Global,
+    little: bool,
+    magic: u32,
+    time: (u32, u32),
+    frame: &[u8],
+) -> Result<Vec<u8>, NoMemory> {
+    let version = if little { [2, 0, 4, 0] } else { [0, 2, 0, 4] };
+    let len = u32::try_from(frame.len()).unwrap_or(0);
+    let mut capture = Vec::new(alloc);
+    capture.extend_from_slice(&number(little, magic))?;
+    capture.extend_from_slice(&version)?;
+    for n in [0, 0, 262_144, 1, time.0, time.1, len, len] {
+        capture.extend_from_slice(&number(little, n))?;
+    }
+    capture.extend_from_slice(frame)?;
+    Ok(capture)
+}
+
+const MICRO: u32 = 0xa1b2_c3d4;
+
+const NANO: u32 = 0xa1b2_3c4d;
+
+/// A frame in each style is shown with the same fields, and an arrival in nanoseconds.
+#[test]
+fn styles(rt: HostRuntime) -> Result<(), Fail> {
+    let whole = format!(in rt.alloc(); "{V1_LINE}end frames 1\n")?;
+    let first = vector(rt.alloc(), 1)?;
+    let frame = first.get(40..).ok_or("a record")?;
+    let empty = b"\x00\x01\x02\x03\x04\x05\x06\x07\x08\x09\x0a\x0b\x22\xf0";
+    let later = "frame 1 at 1000500000 refused subtype at 14 short\nend frames 1\n";
+    let sooner = "frame 1 at 0 refused subtype at 14 short\nend frames 1\n";
+    let cases: [(bool, u32, (u32, u32), &[u8], &str); 7] = [
+        (true, MICRO, (1, 0), frame, whole.as_str()),
+        (true, NANO, (1, 0), frame, whole.as_str()),
+        (false, MICRO, (1, 0), frame, whole.as_str()),
+        (false, NANO, (1, 0), frame, whole.as_str()),
+        (false, MICRO, (1, 500), empty, later),
+        (true, NANO, (1, 500_000), empty, later),
+        (true, NANO, (0, 0), empty, sooner),
+    ];
+    for (little, magic, time, frame, text) in cases {
+        let capture = capture_of(rt.alloc(), little, magic, time, frame)?;
+        let ran = run_over(rt.alloc(), &["show", "c.pcap"], capture, &[], &[])?;
+        assert_eq!(rt; ran.text.as_slice(), text.as_bytes());
+        assert_eq!(rt; ran.status, Status::Done);
+    }
+    Ok(())
+}
+
+/// The longest record that is read.
+#[test]
+fn longest_record(rt: HostRuntime) -> Result<(), Fail> {
+    let zeros = vec![in rt.alloc(); 0u8; 262_144]?;
+    let capture = capture_of(rt.alloc(), true, NANO, (0, 0), &zeros)?;
+    let ran = run_over(rt.alloc(), &["show", "c.pcap"], capture, &[], &[])?;
+    assert_eq!(rt;
+        ran.text.as_slice(),
+        b"frame 1 at 0 ethertype 0 bytes 262130\nend frames 1\n".as_slice()
+    );
+    assert_eq!(rt; ran.status, Status::Done);
+    Ok(())
+}
