@@ -1,0 +1,174 @@
+//! `measure AVTP YARDSTICK CAPTURE PACKETS TEXT [TSHARK]`: runs `avtp show` and the yardstick in turn, to nothing and to a
+//! file that each of them leaves in TEXT, and tshark once. Prints, for the best run of each, packets a second, megabytes
+//! of text a second and the largest resident memory, and the ratios.
+
+use std::env;
+use std::fs::{self, File};
+use std::io::{self, Error};
+use std::process::{Command, Stdio};
+use std::thread::available_parallelism;
+use std::time::Instant;
+
+const ROUNDS: usize = 20;
+
+/// What tshark knows of the fields that `avtp show` prints.
+const TSHARK_FIELDS: [&str; 14] = [
+    "frame.number",
+    "frame.time_epoch",
+    "ieee1722.subtype",
+    "aaf.stream_id",
+    "aaf.seqnum",
+    "aaf.avtp_timestamp",
+    "aaf.tvfield",
+    "aaf.tufield",
+    "aaf.mrfield",
+    "aaf.format_info",
+    "aaf.nominal_sample_rate",
+    "aaf.channels_per_frame",
+    "aaf.bit_depth",
+    "aaf.stream_data_len",
+];
+
+/// `struct rusage` of Linux on a machine of 64 bits.
+#[repr(C)]
+#[derive(Default)]
+struct Usage {
+    user: [i64; 2],
+    system: [i64; 2],
+    /// In KiB, and never less than what the program held that started it: some 2 MiB here.
+    largest_resident: i64,
+    rest: [i64; 13],
+}
+
+unsafe extern "C" {
+    fn wait4(pid: i32, status: *mut i32, options: i32, usage: *mut Usage) -> i32;
+}
+
+/// A program with its words, and the best of its runs.
+struct Runner {
+    name: &'static str,
+    program: String,
+    words: Vec<String>,
+    output: Option<String>,
+    seconds: f64,
+    kib: i64,
+}
+
+impl Runner {
+    fn new(name: &'static str, program: &str, words: &[&str], output: Option<&str>) -> Self {
+        let words = words.iter().map(|word| word.to_string()).collect();
+        Runner {
+            name,
+            program: program.to_string(),
+            words,
+            output: output.map(str::to_string),
+            seconds: f64::INFINITY,
+            kib: 0,
+        }
+    }
+
+    fn run(&mut self) -> io::Result<()> {
+        let output = match &self.output {
+            Some(path) => Stdio::from(File::create(path)?),
+            None => Stdio::null(),
+        };
+        let mut command = Command::new(&self.program);
+        command.args(&self.words).stdout(output).stderr(Stdio::null());
+        let start = Instant::now();
+        let child = command.spawn()?;
+        let mut status = 0;
+        let mut usage = Usage::default();
+        // Sound, as the child is ours and is waited for nowhere else.
+        let waited = unsafe { wait4(child.id() as i32, &mut status, 0, &mut usage) };
+        let seconds = start.elapsed().as_secs_f64();
+        if waited < 0 || status != 0 {
+            return Err(Error::other(format!("{} failed", self.name)));
+        }
+        self.seconds = self.seconds.min(seconds);
+        self.kib = self.kib.max(usage.largest_resident);
+        Ok(())
+    }
+
+    fn print(&self, packets: f64, text_len: f64) {
+        let megabytes = if text_len > 0.0 {
+            format!("{:.0}", text_len / self.seconds / 1e6)
+        } else {
+            "-".to_string()
+        };
+        println!(
+            "| {} | {:.3} | {:.0} | {megabytes} | {} |",
+            self.name,
+            self.seconds,
+            packets / self.seconds,
+            self.kib
+        );
+    }
+}
+
+fn best_of(rounds: usize, runners: &mut [Runner]) -> io::Result<()> {
+    for _ in 0..rounds {
+        for runner in runners.iter_mut() {
+            runner.run()?;
+        }
+    }
+    Ok(())
+}
+
+fn main() -> io::Result<()> {
+    let words: Vec<String> = env::args().skip(1).collect();
+    let [avtp, yardstick, capture, packets, text, tshark @ ..] = words.as_slice() else {
+        return Err(Error::other(
+            "measure AVTP YARDSTICK CAPTURE PACKETS TEXT [TSHARK]",
+        ));
+    };
+    let packets: f64 = packets.parse().map_err(Error::other)?;
+    let load = fs::read_to_string("/proc/loadavg")?;
+    let mut runners = [
+        Runner::new("`avtp show`, to nothing", avtp, &["show", capture], None),
+        Runner::new("yardstick, to nothing", yardstick, &[capture], None),
+        Runner::new("`avtp show`, to a file", avtp, &["show", capture], Some(text)),
+        Runner::new("yardstick, to a file", yardstick, &[capture], Some(text)),
+    ];
+    best_of(ROUNDS, &mut runners)?;
+    let text_len = fs::metadata(text)?.len() as f64;
+
+    println!(
+        "{packets} packets, {:.1} MB, give {:.1} MB of text. {} processors, load {} at the start, best of {ROUNDS} runs.\n",
+        fs::metadata(capture)?.len() as f64 / 1e6,
+        text_len / 1e6,
+        available_parallelism()?,
+        load.split(' ').next().unwrap_or("unknown"),
+    );
+    println!("| | seconds | packets a second | MB of text a second | largest resident memory, KiB |");
+    println!("|---|---|---|---|---|");
+    for runner in &runners {
+        runner.print(packets, text_len);
+    }
+    let [nothing, nothing_peer, file, file_peer] = &runners;
+    let mut ratios = vec![
+        (
+            nothing_peer.seconds / nothing.seconds,
+            "of the yardstick's throughput, to nothing; at least 0.8 is aimed at",
+        ),
+        (
+            file_peer.seconds / file.seconds,
+            "of the yardstick's throughput, to a file; at least 0.8 is aimed at",
+        ),
+    ];
+    if let Some(tshark) = tshark.first() {
+        let mut fields = vec!["-n", "-r", capture, "-T", "fields"];
+        fields.extend(TSHARK_FIELDS.iter().flat_map(|field| ["-e", field]));
+        let mut tshark = Runner::new("`tshark -T fields`, to nothing", tshark, &fields, None);
+        tshark.run()?;
+        tshark.print(packets, 0.0);
+        ratios.push((
+            tshark.seconds / nothing.seconds,
+            "times tshark's throughput; at least 20 is aimed at",
+        ));
+    }
+    println!();
+    for (ratio, meaning) in ratios {
+        println!("`avtp show` has {ratio:.2} {meaning}.");
+    }
+    Ok(())
+}
