@@ -1,6 +1,7 @@
 //! The vectors, byte for byte.
 
-ghost use Rattle.std.specs.Prelude.{◌≤◌, ◌<◌};
+ghost use Rattle.std.specs.Prelude.{◌≡◌, ◌≤◌, ◌<◌, length, IfOk};
+ghost use Rattle.vectors_avtp.specs.Vectors.{size_of};
 
 use avtp_base::NoMemory;
 use std::alloc::Global;
@@ -52,9 +53,12 @@ const V5: [u8; 160] = [
 ];
 
 /// The vector of this number, 1 to 5.
+///
+/// `NoMemory` comes where no memory is found.
 pub fn vector(alloc: Global, n: u32) -> Result<Vec<u8>, NoMemory>
     requires first { 0 < n }
     requires last { n ≤ 5 }
+    ensures { IfOk result (λ bytes. length bytes.items ≡ size_of n) }
 {
     let bytes: &[u8] = match n {
         1 => &V1,
