@@ -1,4 +1,6 @@
 pub mod Numbers
 pub mod Settings
 pub mod Steps
-pub mod Shows
+pub mod Operands
+pub mod CommandLines
+pub mod Commands

@@ -1,5 +1,6 @@
 pub mod Word
 pub mod Number
+pub mod Operands
 pub mod Options
 pub mod Grammar
 pub mod Reading

@@ -5,6 +5,8 @@ use Rattle.std.specs.Str.{bytes_eq}
 use Rattle.avtp_words.specs.declared.option.Takes.{Takes}
 use Rattle.avtp_words.specs.declared.option.Takes.TheVariants.{Number}
 use Rattle.avtp_words.specs.declared.option.OptionRow.{OptionRow}
+use Rattle.avtp_words.specs.declared.operand.Operand.{Operand}
+use Rattle.avtp_words.specs.Operands.{AreOperands}
 use Rattle.avtp_words.specs.Word.{BeginsWithDash, IsName}
 use Rattle.avtp_words.specs.Options.{Row, Setting, words_of, AreSettings}
 use Rattle.avtp_words.specs.Grammar.{Begins, Stops}
@@ -41,6 +43,19 @@ pub record IsTail (rows : List Row) (words : List (List ℕ)) : Type 0 where
   pub spelled : words ≡ flat_map words_of settings ++ names
   pub options : AreSettings rows settings
   pub named : All IsName names
+
+-- a command line less the command: options, then the operands
+pub record IsRest (rows : List Row) (operands : List Operand) (words : List (List ℕ)) : Type 0 where
+  pub settings : List Setting
+  pub names : List (List ℕ)
+  pub spelled : words ≡ flat_map words_of settings ++ names
+  pub options : AreSettings rows settings
+  pub named : AreOperands operands names
+
+-- the same, with the place, from 0, of the first operand
+pub record IsRestTo (rows : List Row) (operands : List Operand) (words : List (List ℕ)) (place : ℕ) : Type 0 where
+  pub rest : IsRest rows operands words
+  pub here : place ≡ length (flat_map words_of rest.settings)
 
 -- the words before the place, from 0, are options
 pub record AreOptionsTo (rows : List Row) (words : List (List ℕ)) (place : ℕ) : Type 0 where

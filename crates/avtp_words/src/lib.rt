@@ -4,6 +4,7 @@
 
 mod command;
 mod number;
+mod operand;
 mod option;
 
-pub use command::{Command, MAX_LIMIT, Offence, parse};
+pub use command::{Command, Listen, MAX_LIMIT, Offence, parse};

@@ -1,0 +1,191 @@
+-- Command lines of every command, and where words stop being one.
+use Rattle.std.proofs.Common.{◌≡◌, ℕ, suc, ◌+◌, ◌-◌, ◌<◌, ◌≤◌, ◌^◌, ◌⊎◌, inl, inr, true, false, List, [], ◌∷◌, ◌++◌, flat_map, length, take, drop, Option, Some, None, slice_get, IsSomeAnd, IfSome, MatchOption, arith, sym, subst, ap, ◌∙◌, refl, append_assoc, length-append, All, decimal, codes, string_bytes, String}
+use Rattle.std.specs.Str.{bytes_eq}
+use Rattle.std.specs.declared.alloc.Global.{Global}
+use Rattle.std.proofs.lemmas.Bool.{cases_Bool}
+use Rattle.std.proofs.lemmas.Fmt.{decimal_injective}
+use Rattle.std.proofs.lemmas.List.{append-nil, length-map, length-drop, drop-map, take_all}
+use Rattle.std.proofs.lemmas.List.Elements.{All-nil, All-cons, All-head, All-tail}
+use Rattle.avtp_words.specs.declared.operand.Operand.{Operand}
+use Rattle.avtp_words.specs.declared.operand.Operand.TheVariants.{Id, Name}
+use Rattle.avtp_words.specs.declared.option.Takes.TheVariants.{Number}
+use Rattle.avtp_words.specs.Number.{IsNumber}
+use Rattle.avtp_words.specs.Operands.{IsId, IsOperand, AreOperands}
+use Rattle.avtp_words.specs.Reading.{are_sound, word_behind, IsTail, IsRest, IsRestTo, AreOptionsTo, EndsOptions, StopsOptions}
+use Rattle.avtp_words.specs.Word.{texts, BeginsWithDash, IsName}
+use Rattle.avtp_words.specs.Options.{Row, row_named, Setting, words_of, IsValue, IsSetting, AreSettings, value_in}
+use Rattle.avtp_words.specs.Grammar.{Request, Listening, show, listen, Form, show_form, listen_form, IsOf, IsGiven, IsShow, IsListen, IsCommandLine, IsLine, Begins, Stops, StopsAt, IsOffence}
+use Rattle.avtp_words.proofs.Settings.{name-dash, same-true, same-false, setting-value, same_setting}
+use Rattle.avtp_words.proofs.Operands.{names, samples, sampled}
+use Rattle.avtp_words.proofs.Steps.{fronts}
+
+-- the word behind an option's name is its value
+pub value-behind : (rows : List Row) (gs : List Setting) (name : List ℕ) → are_sound rows ≡ true → All (IsSetting rows) gs → BeginsWithDash name → word_behind name (flat_map words_of gs) ≡ value_in name gs
+value-behind rows [] name sound each dash = refl
+value-behind rows (g ∷ gs) name sound each dash =
+    elim (cases_Bool (bytes_eq g.name name)) [
+      | inl same ↦ rw same refl
+      | inr other ↦ rw other (elim (cases_Bool (bytes_eq g.value name)) [
+        | inl same ↦ absurd (setting-value rows g sound (All-head (IsSetting rows) g gs each) (subst BeginsWithDash (sym (same-true g.value name same)) dash))
+        | inr different ↦ rw different (value-behind rows gs name sound (All-tail (IsSetting rows) g gs each) dash)
+      ])
+    ]
+
+-- Options, then a word that begins as none, are options and names in one way.
+pub same_settings : (rows : List Row) (gs hs : List Setting) (rest names : List (List ℕ)) → All (IsSetting rows) gs → All (IsSetting rows) hs → All IsName names → IfSome (slice_get rest 0) (λ word. BeginsWithDash word → ⊥) → flat_map words_of gs ++ rest ≡ flat_map words_of hs ++ names → (gs ≡ hs) × (rest ≡ names)
+same_settings rows [] [] rest names gs_each hs_each named ends e = (refl, e)
+same_settings rows [] (h ∷ hs) [] names gs_each hs_each named ends e = absurd (cc)
+same_settings rows [] (h ∷ hs) (word ∷ rest) names gs_each hs_each named ends e = let same : h.name ≡ word = cc in absurd (ends (subst BeginsWithDash same (All-head (IsSetting rows) h hs hs_each).dash))
+same_settings rows (g ∷ gs) [] rest [] gs_each hs_each named ends e = absurd (cc)
+same_settings rows (g ∷ gs) [] rest (name ∷ names) gs_each hs_each named ends e = let same : g.name ≡ name = cc in absurd (name-dash name (All-head IsName name names named) (subst BeginsWithDash same (All-head (IsSetting rows) g gs gs_each).dash))
+same_settings rows (g ∷ gs) (h ∷ hs) rest names gs_each hs_each named ends e =
+    let tails : flat_map words_of gs ++ rest ≡ flat_map words_of hs ++ names = cc in
+    let heads : g ≡ h = same_setting g h (cc) (cc) in
+    let more = same_settings rows gs hs rest names (All-tail (IsSetting rows) g gs gs_each) (All-tail (IsSetting rows) h hs hs_each) named ends tails in
+    (ap (λ (s : Setting). s ∷ gs) heads ∙ ap (λ (ss : List Setting). h ∷ ss) more.0, more.1)
+
+pub beyond : (front rest : List (List ℕ)) (k : ℕ) → slice_get (front ++ rest) (length front + k) ≡ slice_get rest k
+beyond [] rest k = let none : length {A = List ℕ} [] + k ≡ k = omega arith in ap (slice_get rest) none
+beyond (x ∷ front) rest k = let more : length (x ∷ front) + k ≡ suc (length front + k) = omega arith in ap (slice_get (x ∷ front ++ rest)) more ∙ beyond front rest k
+
+start : (front rest : List (List ℕ)) → slice_get (front ++ rest) (length front) ≡ slice_get rest 0
+start [] rest = refl
+start (x ∷ front) rest = start front rest
+
+-- ---- options, then operands
+
+-- no operand begins as an option
+first_operand : (operands : List Operand) (ns : List (List ℕ)) → AreOperands operands ns → IfSome (slice_get ns 0) (λ word. BeginsWithDash word → ⊥)
+first_operand operands [] are = tt
+first_operand operands (n ∷ ns) are = λ dash. name-dash n (All-head IsName n ns (names operands (n ∷ ns) are)) dash
+
+-- where options stop being options, the rest of a command line stops being one
+pub stops_of_options : (rows : List Row) (operands : List Operand) (words : List (List ℕ)) (place : ℕ) → StopsOptions rows words place → StopsAt (IsRest rows operands) words place
+stops_of_options rows operands words place s = record {
+  before = s.before;
+  rest = s.rest;
+  split = s.split;
+  here = s.here;
+  begins = record {
+    more = s.begins.more ++ samples operands;
+    whole = record {
+      settings = s.begins.whole.settings;
+      names = samples operands;
+      spelled = sym (append_assoc s.before s.begins.more (samples operands)) ∙ ap (λ ws. ws ++ samples operands) s.begins.whole.spelled;
+      options = s.begins.whole.options;
+      named = sampled operands;
+    };
+  };
+  stops = go s.rest s.stops;
+} where
+  tail : (ws : List (List ℕ)) → IsRest rows operands ws → IsTail rows ws
+  tail ws r = record { settings = r.settings; names = r.names; spelled = r.spelled; options = r.options; named = names operands r.names r.named }
+
+  go : (rest : List (List ℕ)) → Stops (IsTail rows) s.before rest → Stops (IsRest rows operands) s.before rest
+  go [] never = λ line. never (tail s.before line)
+  go (word ∷ rest) never = λ b. never (record { more = b.more; whole = tail ((s.before ++ word ∷ []) ++ b.more) b.whole })
+
+-- what stands at the end of the options is the first of the rest
+at_end : (rows : List Row) (words : List (List ℕ)) (place : ℕ) (o : AreOptionsTo rows words place) → slice_get words place ≡ slice_get o.rest 0
+at_end rows words place o = ap (slice_get words) o.here ∙ ap (λ ws. slice_get ws (length (flat_map words_of o.settings))) o.split ∙ start (flat_map words_of o.settings) o.rest
+
+behind_front : (front rest : List (List ℕ)) → drop (length front) (front ++ rest) ≡ rest
+behind_front [] rest = refl
+behind_front (x ∷ front) rest = behind_front front rest
+
+-- what is left behind the options
+left_is : (rows : List Row) (words : List (List ℕ)) (place : ℕ) (o : AreOptionsTo rows words place) → drop place words ≡ o.rest
+left_is rows words place o = ap (λ n. drop n words) o.here ∙ ap (drop (length (flat_map words_of o.settings))) o.split ∙ behind_front (flat_map words_of o.settings) o.rest
+
+-- the first of a list is the first of its front and of what goes on from there
+first_of : (front more : List (List ℕ)) (word : List ℕ) (rest other : List (List ℕ)) → slice_get (front ++ word ∷ rest) 0 ≡ slice_get (front ++ word ∷ other) 0
+first_of [] more word rest other = refl
+first_of (x ∷ front) more word rest other = refl
+
+first_of_all : (front rest : List (List ℕ)) (P : List ℕ → Type 0) → IfSome (slice_get (front ++ rest) 0) P → IfSome (slice_get front 0) P
+first_of_all [] rest P has = tt
+first_of_all (x ∷ front) rest P has = has
+
+-- where the words behind the options stop being the operands
+pub stops_of_operands : (rows : List Row) (operands : List Operand) (words : List (List ℕ)) (place wrong : ℕ) → EndsOptions rows words place → StopsAt (AreOperands operands) (drop place words) wrong → StopsAt (IsRest rows operands) words (place + wrong)
+stops_of_operands rows operands words place wrong e s = record {
+  before = flat_map words_of o.settings ++ s.before;
+  rest = s.rest;
+  split = o.split ∙ ap (λ ws. flat_map words_of o.settings ++ ws) is ∙ sym (append_assoc (flat_map words_of o.settings) s.before s.rest);
+  here = omega (arith, o.here, s.here, length-append (flat_map words_of o.settings) s.before);
+  begins = record { more = s.begins.more; whole = record { settings = o.settings; names = s.before ++ s.begins.more; spelled = append_assoc (flat_map words_of o.settings) s.before s.begins.more; options = o.options; named = s.begins.whole } };
+  stops = go s.rest s.stops none;
+} where
+  o : AreOptionsTo rows words place
+  o = e.options
+
+  is : o.rest ≡ s.before ++ s.rest
+  is = sym (left_is rows words place o) ∙ s.split
+
+  none : IfSome (slice_get (s.before ++ s.rest) 0) (λ word. BeginsWithDash word → ⊥)
+  none = subst (λ ws. IfSome (slice_get ws 0) (λ word. BeginsWithDash word → ⊥)) is (subst (λ word. IfSome word (λ word. BeginsWithDash word → ⊥)) (at_end rows words place o) e.ends)
+
+  operands_are : (rest : List (List ℕ)) → IfSome (slice_get rest 0) (λ word. BeginsWithDash word → ⊥) → IsRest rows operands (flat_map words_of o.settings ++ rest) → AreOperands operands rest
+  operands_are rest ends r =
+      let same = (same_settings rows o.settings r.settings rest r.names o.options.each r.options.each (names operands r.names r.named) ends r.spelled).1 in
+      subst (AreOperands operands) (sym same) r.named
+
+  go : (rest : List (List ℕ)) → Stops (AreOperands operands) s.before rest → IfSome (slice_get (s.before ++ rest) 0) (λ word. BeginsWithDash word → ⊥) → Stops (IsRest rows operands) (flat_map words_of o.settings ++ s.before) rest
+  go [] never ends = λ r. never (operands_are s.before (first_of_all s.before [] (λ word. BeginsWithDash word → ⊥) ends) r)
+  go (word ∷ rest) never ends = λ b. never (record {
+    more = b.more;
+    whole = subst (AreOperands operands) (sym (append_assoc s.before (word ∷ []) b.more)) (operands_are (s.before ++ word ∷ b.more)
+        (subst (λ first. IfSome first (λ word. BeginsWithDash word → ⊥)) (first_of s.before [] word rest b.more) ends)
+        (subst (IsRest rows operands) (append_assoc (flat_map words_of o.settings ++ s.before) (word ∷ []) b.more ∙ append_assoc (flat_map words_of o.settings) s.before (word ∷ b.more)) b.whole));
+  })
+
+-- the words behind the options are the operands
+pub rest_to : (rows : List Row) (operands : List Operand) (words : List (List ℕ)) (place : ℕ) → EndsOptions rows words place → AreOperands operands (drop place words) → IsRestTo rows operands words place
+rest_to rows operands words place e are = record {
+  rest = record { settings = e.options.settings; names = e.options.rest; spelled = e.options.split; options = e.options.options; named = subst (AreOperands operands) (left_is rows words place e.options) are };
+  here = e.options.here;
+}
+
+abbrev pub options_to : (rows : List Row) (operands : List Operand) (words : List (List ℕ)) (place : ℕ) → IsRestTo rows operands words place → AreOptionsTo rows words place
+options_to rows operands words place r = record { settings = r.rest.settings; rest = r.rest.names; split = r.rest.spelled; here = r.here; options = r.rest.options }
+
+-- the words from a place on, as a slice has them
+pub behind_words : (words : List (String Global)) (place : ℕ) → texts (take (length words - place) (drop place words)) ≡ drop place (texts words)
+behind_words words place = ap texts (take_all (length words - place) (drop place words) (omega (arith, length-drop place words))) ∙ sym (drop-map {X = String Global} {Y = List ℕ} string_bytes place words)
+
+operands_length : (operands : List Operand) (ns : List (List ℕ)) → AreOperands operands ns → length ns ≡ length operands
+operands_length [] [] are = refl
+operands_length [] (n ∷ ns) are = absurd are
+operands_length (o ∷ operands) [] are = absurd are
+operands_length (o ∷ operands) (n ∷ ns) are = ap suc (operands_length operands ns are.1)
+
+-- they are the last of the words
+pub rest_length : (rows : List Row) (operands : List Operand) (words : List (String Global)) (place : ℕ) → IsRestTo rows operands (texts words) place → place + length operands ≡ length words
+rest_length rows operands words place r = omega (arith, r.here, ap length r.rest.spelled, length-append (flat_map words_of r.rest.settings) r.rest.names, operands_length operands r.rest.names r.rest.named, length-map {A = String Global} {B = List ℕ} words string_bytes)
+
+-- a line of a form falls into options and operands in one way
+pub same_line : (form : Form) (words : List (List ℕ)) (gs hs : List Setting) (ns ms : List (List ℕ)) → IsOf form words gs ns → IsOf form words hs ms → (gs ≡ hs) × (ns ≡ ms)
+same_line form words gs hs ns ms p q =
+    let spelled : flat_map words_of gs ++ ns ≡ flat_map words_of hs ++ ms = cc (p.spelled, q.spelled) in
+    same_settings form.rows gs hs ns ms p.options.each q.options.each (names form.operands ms q.operands) (first_operand form.operands ns p.operands) spelled
+
+-- ---- what options give
+
+-- an option that takes a number gives one within its range
+pub some_given : (rows : List Row) (name : List ℕ) (low high default : ℕ) (gs : List Setting) → row_named rows name ≡ Some (record { name = name; takes = Number low high }) → All (IsSetting rows) gs → (n : ℕ) × IsGiven name low high default gs n
+some_given rows name low high default [] row each = (default, refl)
+some_given rows name low high default (g ∷ gs) row each =
+    elim (cases_Bool (bytes_eq g.name name)) [
+      | inl same ↦ (
+          let takes : row_named rows g.name ≡ Some (record { name = name; takes = Number low high }) = ap (row_named rows) (same-true g.name name same) ∙ row in
+          let value : (n : ℕ) × IsNumber low high g.value n = subst (λ found. IsSomeAnd found (λ row. IsValue row.takes g.value)) takes (All-head (IsSetting rows) g gs each).value in
+          (value.0, rw same value.1))
+      | inr other ↦ rw other (some_given rows name low high default gs row (All-tail (IsSetting rows) g gs each))
+    ]
+
+-- options give one number
+pub same_given : (name : List ℕ) (low high default m n : ℕ) (gs : List Setting) → high < 2 ^ 64 → IsGiven name low high default gs m → IsGiven name low high default gs n → m ≡ n
+same_given name low high default m n gs small p q = go (value_in name gs) p q where
+  go : (v : Option (List ℕ)) → MatchOption v (m ≡ default) (λ word. IsNumber low high word m) → MatchOption v (n ≡ default) (λ word. IsNumber low high word n) → m ≡ n
+  go None p q = p ∙ sym q
+  go (Some word) p q = decimal_injective m n (omega (arith, p.most, small)) (omega (arith, q.most, small)) (sym p.spelled ∙ q.spelled)

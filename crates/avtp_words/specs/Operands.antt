@@ -1,0 +1,23 @@
+-- The operands of a command: the words behind its options.
+use Rattle.std.specs.Prelude.{◌≡◌, ℕ, ◌<◌, ◌^◌, List, [], ◌∷◌, Result, Ok, ⊤}
+use Rattle.std.specs.Int.{w64, to_be_bytes}
+use Rattle.hex.specs.Hex.{decode_sized}
+use Rattle.avtp_words.specs.declared.operand.Operand.{Operand}
+use Rattle.avtp_words.specs.declared.operand.Operand.TheVariants.{Id, Name}
+use Rattle.avtp_words.specs.Word.{IsName}
+
+-- the word is a stream id: sixteen hexadecimal digits of either case, the highest first
+pub record IsId (word : List ℕ) (id : ℕ) : Type 0 where
+  pub fits : id < 2 ^ 64
+  pub digits : decode_sized word 8 ≡ Ok (to_be_bytes w64 id)
+
+abbrev pub IsOperand : Operand → List ℕ → Type 0
+IsOperand Id word = (id : ℕ) × IsId word id
+IsOperand Name word = IsName word
+
+-- each word is the operand of its place, and there are no more and no fewer
+abbrev pub AreOperands : List Operand → List (List ℕ) → Type 0
+AreOperands [] [] = ⊤
+AreOperands [] (word ∷ words) = ⊥
+AreOperands (operand ∷ operands) [] = ⊥
+AreOperands (operand ∷ operands) (word ∷ words) = IsOperand operand word × AreOperands operands words

@@ -1,0 +1,85 @@
+//! The operands of a command: the words behind its options.
+
+ghost use Rattle.std.specs.Prelude.{◌≡◌, ◌+◌, ◌≤◌, ◌↔◌, ℕ, length, IsTrue, IfOk, IfErr, IfSome, IfNone};
+ghost use Rattle.avtp_words.specs.Grammar.{StopsAt};
+ghost use Rattle.avtp_words.specs.Operands.{AreOperands, IsId, IsOperand};
+ghost use Rattle.avtp_words.specs.Reading.{IsRest, IsRestTo, are_sound, rows_of};
+ghost use Rattle.avtp_words.specs.Word.{texts, IsName};
+
+use crate::option::{OptionRow, begins_with_dash, options_len};
+
+/// What an operand may be.
+#[derive(Clone, Copy)]
+pub enum Operand {
+    /// A stream id.
+    Id,
+    /// The name of a file.
+    Name,
+}
+
+impl Operand {
+    fn accepts(self, word: &str) -> bool
+        ensures { IsTrue result ↔ IsOperand self word.now }
+    {
+        match self {
+            Operand::Id => id_of(word).is_some(),
+            Operand::Name => is_name(word),
+        }
+    }
+}
+
+/// The stream id that a word spells, in sixteen hexadecimal digits of either case.
+pub fn id_of(word: &str) -> Option<u64>
+    ensures spelled { IfSome result (λ id. IsId word.now id) }
+    ensures none { IfNone result ((id : ℕ) → IsId word.now id → ⊥) }
+{
+    let mut bytes = [0u8; 8];
+    match hex::decode_to_slice(word.as_bytes(), &mut bytes) {
+        Ok(()) => Some(u64::from_be_bytes(bytes)),
+        Err(_) => None,
+    }
+}
+
+fn is_name(word: &str) -> bool
+    ensures { IsTrue result ↔ IsName word.now }
+{
+    !word.is_empty() && !begins_with_dash(word)
+}
+
+/// The place, from 0, of the first word that is not the operand of its place, or is missing, or is one too many.
+fn first_wrong(operands: &[Operand], words: &[String]) -> Option<usize>
+    ensures wrong { IfSome result (StopsAt (AreOperands operands.now) (texts words.now)) }
+    ensures within { IfSome result (λ place. place ≤ length words.now) }
+    ensures none { IfNone result (AreOperands operands.now (texts words.now)) }
+{
+    match (operands.split_first(), words.split_first()) {
+        (None, None) => None,
+        (Some((operand, operands)), Some((word, words))) if operand.accepts(word.as_str()) => {
+            match first_wrong(operands, words) {
+                Some(place) => Some(place + 1),
+                None => None,
+            }
+        }
+        _ => Some(0),
+    }
+}
+
+/// The place, from 0, of the first operand among the words behind a command; an error is the place of the first word
+/// that cannot stand.
+pub fn operands_at(
+    rows: &[OptionRow],
+    operands: &[Operand],
+    words: &[String],
+) -> Result<usize, usize>
+    requires { IsTrue (are_sound (rows_of rows.now)) }
+    ensures ok { IfOk result (IsRestTo (rows_of rows.now) operands.now (texts words.now)) }
+    ensures len { IfOk result (λ place. place + length operands.now ≡ length words.now) }
+    ensures err { IfErr result (StopsAt (IsRest (rows_of rows.now) operands.now) (texts words.now)) }
+    ensures within { IfErr result (λ place. place ≤ length words.now) }
+{
+    let place = options_len(rows, words)?;
+    match first_wrong(operands, &words[place..]) {
+        Some(wrong) => Err(place + wrong),
+        None => Ok(place),
+    }
+}
