@@ -1,0 +1,31 @@
+//! Packets of the clock reference format.
+
+/// A packet of timestamps of a media clock.
+#[derive(Clone, Copy, Debug)]
+pub struct CrfView<'a> {
+    /// The stream id is valid.
+    pub sv: bool,
+    /// The media clock restart: it toggles where the source of the media clock changes.
+    pub mr: bool,
+    /// Frame synchronization.
+    pub fs: bool,
+    /// The timestamps are uncertain.
+    pub tu: bool,
+    /// The sequence number.
+    pub seq: u8,
+    /// What the clock's events are: 0 for what the user says, 1 for audio samples, 2 for video frames, 3 for video lines,
+    /// 4 for machine cycles.
+    pub kind: u8,
+    pub stream_id: u64,
+    /// The code of the factor that `base_frequency` is multiplied by: 0 for 1, 1 for 1000/1001, 2 for 1001/1000, 3 for
+    /// 24/25, 4 for 25/24, 5 for 1/8.
+    pub pull: u8,
+    /// The nominal frequency of the events in Hz, apart from the factor: 1 to 2^29 - 1.
+    pub base_frequency: u32,
+    /// The number of events from each timestamp to the next, at least 1.
+    pub interval: u16,
+    /// The timestamps one after the other, each of 8 bytes, as `point` reads them: at least one.
+    pub payload: &'a [u8],
+    /// A reserved bit is set.
+    pub reserved: bool,
+}

@@ -1,0 +1,23 @@
+//! Laws of packets of the clock reference format. Each call is its contract, and does nothing.
+
+ghost use Rattle.std.specs.Prelude.{◌≡◌, ◌+◌, ◌++◌, false, length, List, ℕ};
+ghost use Rattle.avtp_base.specs.Layout.{Fits};
+ghost use Rattle.avtp_base.specs.Octets.{AreBytes};
+ghost use Rattle.avtp_base.specs.Rows.{IsSpelledOnce};
+ghost use Rattle.crf_format.specs.Crf.{Crf, IsWritableCrf, SpellsCrf, crf_layout, crf_refusal, crf_spelling, plain_crf};
+
+/// Bytes spell exactly one packet, or are refused and spell none.
+pub fn one_packet()
+    ensures { (bytes : List ℕ) → IsSpelledOnce (crf_refusal bytes) (λ (v : Crf). SpellsCrf bytes v) }
+{}
+
+/// The spelling of a packet spells it with every reserved bit 0, whatever follows.
+pub fn packet_again()
+    ensures { (v : Crf) (trail : List ℕ) → IsWritableCrf v → Fits crf_layout v → SpellsCrf (crf_spelling v ++ trail) (plain_crf v) }
+{}
+
+/// Bytes that spell a packet with no reserved bit set, and nothing behind it, are its spelling.
+pub fn one_spelling()
+    ensures { (bytes : List ℕ) (v : Crf) → AreBytes bytes → SpellsCrf bytes v → v.reserved ≡ false
+        → length bytes ≡ 20 + length v.payload → bytes ≡ crf_spelling v }
+{}

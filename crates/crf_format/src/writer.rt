@@ -1,0 +1,62 @@
+//! Packets of the clock reference format are written.
+
+ghost use Rattle.std.specs.Prelude.{◌≡◌, ◌++◌, List, ℕ, take, IfOk};
+ghost use Rattle.avtp_base.specs.Layout.{Fits, spelling};
+ghost use Rattle.avtp_base.specs.Rows.{Writes};
+ghost use Rattle.crf_format.specs.Crf.{IsWritableCrf, SpellsCrf, crf_layout, crf_shape, crf_spelling, plain_crf};
+
+use crate::crf::CrfView;
+use avtp_base::Room;
+use avtp_base::octets::write_front;
+
+/// All that stands before the timestamps.
+fn header_bytes(view: &CrfView<'_>) -> [u8; 20]
+    requires { IsWritableCrf (crf_shape view.now) }
+    ensures spelled { result ≡ spelling crf_layout (crf_shape view.now) }
+    ensures fits { Fits crf_layout (crf_shape view.now) }
+{
+    let id = view.stream_id.to_be_bytes();
+    let frequency = (u32::from(view.pull) << 29 | view.base_frequency).to_be_bytes();
+    let length = (view.payload.len() as u16).to_be_bytes();
+    let interval = view.interval.to_be_bytes();
+    let second = 128 * u8::from(view.sv)
+        + 8 * u8::from(view.mr)
+        + 2 * u8::from(view.fs)
+        + u8::from(view.tu);
+    [
+        4,
+        second,
+        view.seq,
+        view.kind,
+        id[0],
+        id[1],
+        id[2],
+        id[3],
+        id[4],
+        id[5],
+        id[6],
+        id[7],
+        frequency[0],
+        frequency[1],
+        frequency[2],
+        frequency[3],
+        length[0],
+        length[1],
+        interval[0],
+        interval[1],
+    ]
+}
+
+/// Writes a packet of the clock reference format, with the reserved bit 0, and answers its length. `Room` comes where the
+/// slice is shorter, which is then unchanged.
+///
+/// The view is one that `read_crf` could give: its pull at most 5, its base frequency 1 to 2^29 - 1, its interval at least
+/// 1, and its payload one or more whole timestamps of at most 65,535 bytes. `reserved` is not read.
+pub fn write_crf(out: &mut [u8], view: &CrfView<'_>) -> Result<usize, Room>
+    requires { IsWritableCrf (crf_shape view.now) }
+    ensures written { Writes (crf_spelling (crf_shape view.now)) out.old out.new result }
+    ensures read_back { IfOk result (λ n. (trail : List ℕ) → SpellsCrf (take n out.new ++ trail) (plain_crf (crf_shape view.now))) }
+{
+    let header = header_bytes(view);
+    write_front(out, &header, view.payload)
+}

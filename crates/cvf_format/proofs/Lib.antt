@@ -1,0 +1,5 @@
+mod AnnexBLemmas
+mod CvfLemmas
+mod NalLemmas
+mod PlaceLemmas
+mod UnitLemmas

@@ -1,0 +1,42 @@
+-- The first byte of a NAL unit from its parts, and the reserved bit of a fragment behind the others.
+use Rattle.std.proofs.Common.{◌≡◌, ℕ, ◌+◌, ◌*◌, ◌%◌, ◌^◌, ◌<◌, Bool, true, false, cond, not, eqb, ◌⊎◌, inl, inr, List, [], ◌∷◌, ◌++◌, bit_or, refl, ◌∙◌, arith}
+use Rattle.std.proofs.lemmas.Nat.{or_shifted}
+use Rattle.avtp_base.specs.Octets.{Range, range, any_set, bits}
+use Rattle.avtp_base.specs.Layout.{reserved_ranges}
+use Rattle.avtp_base.proofs.BitLemmas.{bits-below}
+use Rattle.cvf_format.specs.declared.cvf.NalPart.{NalPart}
+use Rattle.cvf_format.specs.declared.cvf.NalPart.TheVariants.{First, Middle, Last}
+use Rattle.cvf_format.specs.Cvf.{cvf_layout, fragment_headers, sets_reserved}
+
+pub joined : (at : ℕ) (xs : List ℕ) → bit_or (bits 28 0 3 xs * 32 % 256) (bits at 3 5 xs) ≡ bits 28 0 3 xs * 32 + bits at 3 5 xs
+joined at xs =
+    let a : bits 28 0 3 xs < 8 = bits-below 28 0 3 xs in
+    let b : bits at 3 5 xs < 32 = bits-below at 3 5 xs in
+    let whole : bits 28 0 3 xs * 32 % 256 ≡ bits 28 0 3 xs * 2 ^ 5 = omega arith in
+    rw whole (or_shifted (bits 28 0 3 xs) 5 (bits at 3 5 xs) b)
+
+unset_first : (zero_there rest : Bool) → cond zero_there rest true ≡ false → (zero_there ≡ true) × (rest ≡ false)
+unset_first true rest e = (refl, e)
+unset_first false rest e = absurd cc
+
+-- where none of the first ranges has a bit that is set, the others decide
+unset_before : (xs ys : List Range) (bytes : List ℕ) → any_set xs bytes ≡ false → any_set (xs ++ ys) bytes ≡ any_set ys bytes
+unset_before [] ys bytes unset = refl
+unset_before (x ∷ xs) ys bytes unset =
+    let parts = unset_first (eqb (bits x.at x.first x.width bytes) 0) (any_set xs bytes) unset in
+    rw (parts.0) (unset_before xs ys bytes parts.1)
+
+not_unset : (unset : Bool) → cond unset false true ≡ not unset
+not_unset true = refl
+not_unset false = refl
+
+-- the reserved bit of a fragment decides where the shared ones are 0
+pub fragment_reserved : (part : NalPart) (bytes : List ℕ) → (part ≡ First) ⊎ ((part ≡ Middle) ⊎ (part ≡ Last))
+    → any_set (reserved_ranges (cvf_layout [])) bytes ≡ false → sets_reserved part bytes ≡ not (eqb (bits 29 2 1 bytes) 0)
+fragment_reserved part bytes is unset =
+    let here : any_set (reserved_ranges (cvf_layout fragment_headers)) bytes ≡ not (eqb (bits 29 2 1 bytes) 0) =
+    unset_before (reserved_ranges (cvf_layout [])) (range 29 2 1 ∷ []) bytes unset ∙ not_unset (eqb (bits 29 2 1 bytes) 0) in
+    elim is [
+      | inl first ↦ rw first here
+      | inr more ↦ elim more [ inl middle ↦ rw middle here | inr last ↦ rw last here ]
+    ]

@@ -1,0 +1,3 @@
+pub mod AnnexB
+pub mod Cvf
+pub mod Packets

@@ -1,0 +1,21 @@
+-- How many packets carry a NAL unit (RFC 6184, 5.6 and 5.8). The two sizes are a choice of this project.
+use Rattle.std.specs.Prelude.{◌≡◌, ℕ, ◌+◌, ◌-◌, ◌*◌, ◌/◌, ◌<◌, ◌≤◌, nat_le, if◌then◌else◌}
+
+-- the bytes of the longest NAL unit that is sent whole
+abbrev pub longest_single : ℕ
+longest_single = 1400
+
+-- the bytes of the body of each fragment but the last
+abbrev pub full_body : ℕ
+full_body = 1398
+
+-- So many packets carry a NAL unit of `len` bytes. Fragments carry the bytes that follow its first: all but the last
+-- fragment a full body, and the last what is left, which is at least one byte and at most a full body.
+pub record IsCut (len packets : ℕ) : Type 0 where
+  pub whole : len ≤ longest_single → packets ≡ 1
+  pub some_left : longest_single < len → full_body * (packets - 1) < len - 1
+  pub all : longest_single < len → len - 1 ≤ full_body * packets
+
+-- the same as a function
+abbrev pub packets_of : ℕ → ℕ
+packets_of len = if nat_le len longest_single then 1 else (len - 1 + (full_body - 1)) / full_body

@@ -1,0 +1,105 @@
+//! NAL units in a byte stream (ITU-T H.264, annex B).
+
+ghost use Rattle.std.specs.Prelude.{◌≡◌, ◌+◌, ◌-◌, ◌<◌, ◌≤◌, [], ◌∷◌, length, None, MatchOption, IfSome, IfOk};
+ghost use Rattle.std.specs.List.{last_or};
+ghost use Rattle.std.specs.Option.{option_map};
+ghost use Rattle.memchr.specs.Find.{IsFirst, OccursAt};
+ghost use Rattle.cvf_format.specs.AnnexB.{AreUnits, end_behind, is_end, is_other_byte, nal_units, places, start_code, units_from};
+
+use avtp_base::NoMemory;
+use memchr::memmem;
+use std::alloc::Global;
+
+/// What stands before each unit.
+const START_CODE: [u8; 3] = [0, 0, 1];
+
+/// The first place from `from` on at which the needle stands.
+fn find_from(bytes: &[u8], needle: &[u8], from: usize) -> Option<usize>
+    requires { from ≤ length bytes.now }
+    ensures { IsFirst (OccursAt bytes.now needle.now) from (length bytes.now + 1) result }
+{
+    match memmem::find(&bytes[from..], needle) {
+        Some(found) => Some(from + found),
+        None => None,
+    }
+}
+
+/// Whether a unit ends before two zero bytes: they begin a start code, or three zero bytes.
+fn ends_at(bytes: &[u8], zeros: usize) -> bool
+    requires { OccursAt bytes.now (0 ∷ 0 ∷ []) zeros }
+    ensures { result ≡ is_end bytes.now zeros }
+{
+    zeros + 2 < bytes.len() && bytes[zeros + 2] <= 1
+}
+
+/// Where a unit that begins at `from` ends: before a start code or three zero bytes, or where the bytes end.
+fn end_of_unit(bytes: &[u8], from: usize) -> usize
+    requires { from ≤ length bytes.now }
+    ensures value { result ≡ end_behind bytes.now from }
+    ensures behind { from ≤ result }
+    ensures within { result ≤ length bytes.now }
+{
+    let mut at = from;
+    while let Some(zeros) = find_from(bytes, &[0, 0], at) {
+        if ends_at(bytes, zeros) {
+            return zeros;
+        }
+        at = zeros + 1;
+    }
+    bytes.len()
+}
+
+/// A range of bytes without the zero bytes at its end. `None` comes where it has no others.
+fn without_zeros(bytes: &[u8], from: usize, end: usize) -> Option<(usize, usize)>
+    requires order { from ≤ end }
+    requires inside { end ≤ length bytes.now }
+    ensures value { result ≡ option_map (λ last. (from, last + 1)) (last_or None (places (is_other_byte bytes.now) from end)) }
+    ensures some { IfSome result (λ range. from < range.1) }
+    ensures within { IfSome result (λ range. range.1 ≤ end) }
+{
+    for last in (from..end).rev() {
+        if bytes[last] != 0 {
+            return Some((from, last + 1));
+        }
+    }
+    None
+}
+
+/// The first NAL unit whose start code stands at `from` or behind: the place of its first byte, and the place behind its
+/// last. `None` comes where there is none. So all units come, in order, from 0 and then from the end of the one before.
+pub fn next_unit(bytes: &[u8], from: usize) -> Option<(usize, usize)>
+    requires { from ≤ length bytes.now }
+    ensures next { MatchOption result (units_from bytes.now from ≡ []) (λ unit. units_from bytes.now from ≡ unit ∷ units_from bytes.now unit.1) }
+    ensures some { IfSome result (λ unit. unit.0 < unit.1) }
+    ensures behind { IfSome result (λ unit. from + 3 ≤ unit.0) }
+    ensures within { IfSome result (λ unit. unit.1 ≤ length bytes.now) }
+{
+    let mut at = from;
+    while let Some(code) = find_from(bytes, &START_CODE, at) {
+        let end = end_of_unit(bytes, code + 3);
+        if let Some(unit) = without_zeros(bytes, code + 3, end) {
+            return Some(unit);
+        }
+        at = end;
+    }
+    None
+}
+
+/// The NAL units of a byte stream, in order: of each the place of its first byte, and the place behind its last.
+///
+/// A start code is 00 00 01. A unit begins behind a start code and ends before the next 00 00 01 or 00 00 00, or where the
+/// bytes end. Zero bytes at its end belong to none, and a unit without a byte is left out. Bytes before the first start
+/// code belong to none, nor do those behind 00 00 00, up to the next start code. `NoMemory` comes where no memory is found
+/// for the list, and nothing else is allocated.
+pub fn split_annex_b(alloc: Global, bytes: &[u8]) -> Result<Vec<(usize, usize)>, NoMemory>
+    ensures units { IfOk result (λ units. AreUnits bytes.now units.items) }
+    ensures value { IfOk result (λ units. units.items ≡ nal_units bytes.now) }
+{
+    let mut units = Vec::new(alloc);
+    let mut at = 0;
+    while let Some(unit) = next_unit(bytes, at) {
+        units.push(unit)?;
+        at = unit.1;
+    }
+    Ok(units)
+}

@@ -1,0 +1,48 @@
+//! The rates of data blocks, and the block that a packet's timestamp belongs to.
+
+ghost use Rattle.std.specs.Prelude.{◌≡◌, ◌+◌, ◌%◌, ◌<◌, ◌↔◌, IfSome, IsNone};
+ghost use Rattle.iec61883_format.specs.Iec.{IsSytInterval, anchor_index as index_of_anchor, rate_of_fdf as rate_of, syt_interval as interval_of};
+
+/// The sample rate in Hz that the code FDF names (IEC 61883-6). `None` comes for codes above 6, 255 among them, which a
+/// packet of no data has.
+pub fn rate_of_fdf(fdf: u8) -> Option<u32>
+    ensures exact { result ≡ rate_of fdf }
+    ensures none { IsNone result ↔ (6 < fdf) }
+{
+    Some(match fdf {
+        0 => 32_000,
+        1 => 44_100,
+        2 => 48_000,
+        3 => 88_200,
+        4 => 96_000,
+        5 => 176_400,
+        6 => 192_000,
+        _ => return None,
+    })
+}
+
+/// SYT_INTERVAL, of how many data blocks one has a timestamp, at the rate that the code FDF names (IEC 61883-6). `None`
+/// comes for codes above 6.
+pub fn syt_interval(fdf: u8) -> Option<u32>
+    ensures exact { result ≡ interval_of fdf }
+    ensures none { IsNone result ↔ (6 < fdf) }
+    ensures interval { IfSome result (λ interval. IsSytInterval interval) }
+{
+    Some(match fdf {
+        0 | 1 | 2 => 8,
+        3 | 4 => 16,
+        5 | 6 => 32,
+        _ => return None,
+    })
+}
+
+/// The data block, counted from 0, that the timestamp of a packet belongs to: the first whose block count is a multiple
+/// of SYT_INTERVAL, where the packet's first block has the count `dbc`. The packet may have fewer blocks than that.
+pub fn anchor_index(dbc: u8, interval: u32) -> u32
+    requires { IsSytInterval interval }
+    ensures exact { result ≡ index_of_anchor dbc interval }
+    ensures within { result < interval }
+    ensures multiple { (dbc + result) % interval ≡ 0 }
+{
+    (interval - u32::from(dbc) % interval) % interval
+}

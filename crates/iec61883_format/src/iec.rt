@@ -1,0 +1,41 @@
+//! IEC 61883-6 packets.
+
+use avtp_header::StreamHeader;
+
+/// The header of a common isochronous packet (IEC 61883-1), apart from the bits that are the same in all packets that
+/// are read.
+#[derive(Clone, Copy, Debug, PartialEq, Eq)]
+pub struct Cip {
+    /// The source's node on its bus, 0 to 63.
+    pub sid: u8,
+    /// The quadlets of each data block, 1 to 256.
+    pub dbs: u16,
+    /// The block count, modulo 256, of the first data block.
+    pub dbc: u8,
+    /// The code of the sample rate, 0 to 6, or 255 in a packet of no data.
+    pub fdf: u8,
+    /// The timestamp of the bus, which AVTP does not use.
+    pub syt: u16,
+}
+
+/// An IEC 61883-6 packet.
+#[derive(Clone, Copy, Debug)]
+pub struct IecView<'a> {
+    /// Of its format bits the higher is reserved, and the lower says that `gateway_info` is valid.
+    pub header: StreamHeader,
+    pub gateway_info: u32,
+    /// The channel of the bus, 0 to 63; 31 for a stream that comes from none.
+    pub channel: u8,
+    /// The transaction code of the bus, 0 to 15.
+    pub tcode: u8,
+    /// The synchronization code of the upper layer, 0 to 15.
+    pub sy: u8,
+    pub cip: Cip,
+    /// The number of data blocks; 0 in a packet of no data, whatever stands behind its CIP header.
+    pub count: u32,
+    /// What follows the CIP header: the data blocks one after the other, each of `cip.dbs` quadlets of a label byte and
+    /// 24 bits.
+    pub payload: &'a [u8],
+    /// A reserved bit is set.
+    pub reserved: bool,
+}
