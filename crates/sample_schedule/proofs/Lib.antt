@@ -3,3 +3,4 @@ pub mod OrderLemmas
 pub mod VerdictLemmas
 pub mod StageLemmas
 pub mod LawLemmas
+pub mod StampLemmas

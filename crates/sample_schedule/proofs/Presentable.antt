@@ -1,62 +1,74 @@
--- What is counted from a packet's own timestamp can be presented.
-use Rattle.std.proofs.Common.{◌≡◌, ℕ, ◌+◌, ◌*◌, ◌^◌, ◌<◌, ◌≤◌, ℤ, pos, neg_ℤ, ◌+ℤ◌, ◌*ℤ◌, ◌≤ℤ◌, ◌<ℤ◌, arith}
+-- What is counted from a head can be presented.
+use Rattle.std.proofs.Common.{◌≡◌, ℕ, ◌+◌, ◌*◌, ◌^◌, ◌≤◌, ℤ, pos, neg_ℤ, ◌+ℤ◌, ◌*ℤ◌, ◌≤ℤ◌, ◌<ℤ◌, arith}
 use Rattle.std.proofs.Math.Nat.{mul-le-mul_left}
 use Rattle.std.proofs.lemmas.Int.{ints, by_lt_z}
-use Rattle.time_unfold.specs.Time.{IsInstant, unfolded}
+use Rattle.time_unfold.specs.Time.{IsInstant}
 use Rattle.time_unfold.specs.Lines.{floor_of, instant_at, nominal_line}
 use Rattle.time_unfold.proofs.Floors.{floor_below, floor_above, times_more}
-use Rattle.time_unfold.proofs.Instants.{unfolded-unfolds}
 use Rattle.sample_schedule.specs.declared.item.Packet.{Packet}
 use Rattle.sample_schedule.specs.Batches.{IsPresentable}
-use Rattle.sample_schedule.specs.Heads.{head_at, stamped_index}
+use Rattle.sample_schedule.specs.Heads.{Head}
 use Rattle.sample_schedule.specs.Limits.{IsPacket}
+use Rattle.sample_schedule.specs.Reach.{IsCountable}
 use Rattle.sample_schedule.specs.Verdicts.{nominal_spot, samples_at}
 
--- at 8,000 Hz or more, 65,535 samples last less than 2^33 ns
-record Near (q : ℤ) : Type 0 where
-  from : neg_ℤ (pos (2 ^ 33)) ≤ℤ q
-  to : q ≤ℤ pos (2 ^ 33)
-
-near : (steps : ℤ) (rate : ℕ) → 8000 ≤ rate → neg_ℤ (pos 65535000000000) ≤ℤ steps → steps ≤ℤ pos 65535000000000 → Near (floor_of steps rate)
-near steps rate fast low high =
+-- at 8,000 Hz or more, 65,535 samples last less than 2^33 ns, and 8 times as many less than 2^36 ns
+floor_from : (steps : ℤ) (rate : ℕ) → 8000 ≤ rate → neg_ℤ (pos 65535000000000) ≤ℤ steps → neg_ℤ (pos (2 ^ 33)) ≤ℤ floor_of steps rate
+floor_from steps rate fast low =
     let q = floor_of steps rate in
-    let below = floor_below steps rate (omega arith) in
     let above = floor_above steps rate (omega arith) in
     let width : 2 ^ 33 * 8000 ≤ 2 ^ 33 * rate = mul-le-mul_left (2 ^ 33) fast in
+    by_lt_z q (neg_ℤ (pos (2 ^ 33)))
+    (λ h. let m = times_more (q +ℤ pos 1) (neg_ℤ (pos (2 ^ 33))) rate (omega (arith, ints)) in absurd (omega (arith, ints)))
+    (λ h. h)
+
+floor_to : (steps : ℤ) (rate : ℕ) → 8000 ≤ rate → steps ≤ℤ pos 524280000000000 → floor_of steps rate ≤ℤ pos (2 ^ 36)
+floor_to steps rate fast high =
+    let q = floor_of steps rate in
+    let below = floor_below steps rate (omega arith) in
+    let width : 2 ^ 36 * 8000 ≤ 2 ^ 36 * rate = mul-le-mul_left (2 ^ 36) fast in
+    by_lt_z (pos (2 ^ 36)) q
+    (λ h. let m = times_more (pos (2 ^ 36)) q rate (omega (arith, ints)) in absurd (omega (arith, ints)))
+    (λ h. h)
+
+floor_natural : (steps : ℤ) (rate : ℕ) → 8000 ≤ rate → pos 0 ≤ℤ steps → pos 0 ≤ℤ floor_of steps rate
+floor_natural steps rate fast natural =
+    let q = floor_of steps rate in
+    let above = floor_above steps rate (omega arith) in
+    by_lt_z q (pos 0)
+    (λ h. let m = times_more (q +ℤ pos 1) (pos 0) rate (omega (arith, ints)) in absurd (omega (arith, ints)))
+    (λ h. h)
+
+in_range : (base : ℤ) (k : ℤ) (rate : ℕ) → 8000 ≤ rate → neg_ℤ (pos (2 ^ 62)) ≤ℤ base → base <ℤ pos (2 ^ 62 + 2 ^ 31) → (k <ℤ pos 0 → neg_ℤ (pos (2 ^ 31)) ≤ℤ base) → neg_ℤ (pos 65535) ≤ℤ k → k ≤ℤ pos 524280 → IsInstant (instant_at (nominal_line base rate) k)
+in_range base k rate fast from to own low high =
+    let lower = floor_from (k *ℤ pos 1000000000) rate fast (omega (arith, ints)) in
+    let upper = floor_to (k *ℤ pos 1000000000) rate fast (omega (arith, ints)) in
     record {
-      from = by_lt_z q (neg_ℤ (pos (2 ^ 33)))
-          (λ h. let m = times_more (q +ℤ pos 1) (neg_ℤ (pos (2 ^ 33))) rate (omega (arith, ints)) in absurd (omega (arith, ints)))
-          (λ h. h);
-      to = by_lt_z (pos (2 ^ 33)) q
-          (λ h. let m = times_more (pos (2 ^ 33)) q rate (omega (arith, ints)) in absurd (omega (arith, ints)))
-          (λ h. h);
+      from = by_lt_z k (pos 0)
+          (λ h. let late = own h in omega (arith, ints))
+          (λ h. let natural = floor_natural (k *ℤ pos 1000000000) rate fast (omega (arith, ints)) in omega (arith, ints));
+      to = omega (arith, ints);
     }
 
-in_range : (base : ℤ) (k : ℤ) (rate : ℕ) → 8000 ≤ rate → neg_ℤ (pos (2 ^ 31)) ≤ℤ base → base <ℤ pos (2 ^ 62 + 2 ^ 31) → neg_ℤ (pos 65535) ≤ℤ k → k ≤ℤ pos 65535 → IsInstant (instant_at (nominal_line base rate) k)
-in_range base k rate fast from to low high =
-    let q = near (k *ℤ pos 1000000000) rate fast (omega (arith, ints)) (omega (arith, ints)) in
-    record { from = omega (arith, ints); to = omega (arith, ints) }
-
-pub own_presentable : (p : Packet) (timestamp : ℕ) → IsPacket p → 1 ≤ p.rate → stamped_index p.rule < p.count → timestamp < 2 ^ 32 → IsPresentable (samples_at p (nominal_spot p.rate (head_at p timestamp)))
-own_presentable p timestamp is some stamped small =
-    let u = unfolded-unfolds timestamp p.arrival small in
-    let low = is.arrival.from in
-    let high = is.arrival.to in
-    let fast = is.rate_from some in
+pub presentable : (p : Packet) (head : Head) → IsPacket p → 1 ≤ p.rate → 1 ≤ p.count → IsCountable head → IsPresentable (samples_at p (nominal_spot p.rate head))
+presentable p head is some_rate some near =
+    let fast = is.rate_from some_rate in
     let slow = is.rate_to in
     let many = is.count in
+    let first_from = near.first_from in
+    let first_to = near.first_to in
     record {
-      some = omega arith;
+      some = some;
       count = many;
       some_num = omega arith;
       num = omega arith;
-      some_den = some;
+      some_den = some_rate;
       den = omega arith;
-      frames = is.frames (omega arith);
+      frames = is.frames some;
       numbers = omega (arith, ints);
-      instants = λ j within. in_range (unfolded timestamp p.arrival) (neg_ℤ (pos (stamped_index p.rule)) +ℤ pos j) p.rate fast (omega (arith, ints)) (omega (arith, ints)) (omega (arith, ints)) (omega (arith, ints));
+      instants = λ j within. in_range head.instant (head.first +ℤ pos j) p.rate fast near.from near.to (λ h. near.own (omega (arith, ints))) (omega (arith, ints)) (omega (arith, ints));
     }
 
 -- the same, of the numbers that are computed
-pub counted_presentable : (p : Packet) (timestamp : ℕ) (base first : ℤ) (den : ℕ) → base ≡ unfolded timestamp p.arrival → den ≡ p.rate → first ≡ neg_ℤ (pos (stamped_index p.rule)) → IsPacket p → 1 ≤ p.rate → stamped_index p.rule < p.count → timestamp < 2 ^ 32 → IsPresentable (record { frame = p.frame; seq = p.seq; line = record { base = base; num = 1000000000; den = den }; from = first; count = p.count; bytes = p.bytes })
-counted_presentable p timestamp base first den e f g is some stamped small = rw (e, f, g) (own_presentable p timestamp is some stamped small)
+pub counted_presentable : (p : Packet) (head : Head) (base first : ℤ) (den : ℕ) → base ≡ head.instant → den ≡ p.rate → first ≡ head.first → IsPacket p → 1 ≤ p.rate → 1 ≤ p.count → IsCountable head → IsPresentable (record { frame = p.frame; seq = p.seq; line = record { base = base; num = 1000000000; den = den }; from = first; count = p.count; bytes = p.bytes })
+counted_presentable p head base first den e f g is some_rate some near = rw (e, f, g) (presentable p head is some_rate some near)

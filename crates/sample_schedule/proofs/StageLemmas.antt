@@ -200,3 +200,13 @@ stands-last clock plan entries stage list s within none is =
     is ∙ ap (λ (l : List Shown). l ++ map present stage.waiting.items) before ∙ ap (λ (l : List Accepted). map shown_of (steps clock plan entries (length entries)) ++ map present l) waiting
     ∙ ap (λ (l : List Shown). map shown_of (steps clock plan entries (length entries)) ++ l) (sym (shown-presents end))
     ∙ sym (map-after shown_of (steps clock plan entries (length entries)) (map Presents end))
+
+-- the next entry, and what is left behind it
+pub next-entry : (xs : List Entry) (n : ℕ) (x : Entry) (rest : List Entry) → drop n xs ≡ x ∷ rest → (slice_get xs n ≡ Some x) × (rest ≡ drop (n + 1) xs)
+next-entry [] zero x rest e = absurd cc
+next-entry [] (suc n) x rest e = absurd cc
+next-entry (y ∷ xs) zero x rest e = (cc, cc)
+next-entry (y ∷ xs) (suc n) x rest e =
+    let more : suc n + 1 ≡ suc (n + 1) = omega arith in
+    let next = next-entry xs n x rest e in
+    (next.0, next.1 ∙ ap (λ (k : ℕ). drop k (y ∷ xs)) (sym more))

@@ -4,5 +4,6 @@ pub mod Order
 pub mod Verdicts
 pub mod Schedule
 pub mod Limits
+pub mod Reach
 pub mod Stage
 pub mod Laws

@@ -1,5 +1,5 @@
 -- What a schedule is asked for: a plan within its limits, and entries as the formats give them.
-use Rattle.std.specs.Prelude.{◌≡◌, ◌+◌, ◌%◌, ◌^◌, ◌≤◌, ◌⊎◌, ⊤, Bool, true, false, is_some, if◌then◌else◌, pos, neg_ℤ, ◌≤ℤ◌, ◌<ℤ◌, length}
+use Rattle.std.specs.Prelude.{◌≡◌, ◌+◌, ◌%◌, ◌^◌, ◌≤◌, ◌⊎◌, ⊤, pos, neg_ℤ, ◌≤ℤ◌, ◌<ℤ◌, length}
 use Rattle.time_unfold.specs.Time.{IsArrival}
 use Rattle.sample_schedule.specs.declared.entry.Entry.{Entry}
 use Rattle.sample_schedule.specs.declared.entry.Entry.TheVariants.{Item as OfItem, Clock as OfClock}
@@ -10,7 +10,6 @@ use Rattle.sample_schedule.specs.declared.item.Item.TheVariants.{Packet as OfPac
 use Rattle.sample_schedule.specs.declared.item.Packet.{Packet}
 use Rattle.sample_schedule.specs.declared.item.Unit.{Unit as WholeUnit}
 use Rattle.sample_schedule.specs.declared.plan.SchedulePlan.{SchedulePlan}
-use Rattle.sample_schedule.specs.Heads.{own_head, distance}
 
 pub record IsPlan (plan : SchedulePlan) : Type 0 where
   pub some_buffer : 1 ≤ plan.buffer
@@ -48,13 +47,3 @@ IsItem (OfBad b) = IsArrival b.arrival
 abbrev pub IsEntry : Entry → Type 0
 IsEntry (OfItem item) = IsItem item
 IsEntry (OfClock arrival row) = IsArrival arrival
-
--- The packet is counted from its own timestamp, or from none: its head does not lie some packets back.
-abbrev pub is_own : Packet → Bool
-is_own p = if is_some (own_head p) then true else if is_some (distance p) then false else true
-
-abbrev pub HasOwnHead : Entry → Type 0
-HasOwnHead (OfItem (OfPacket p)) = is_own p ≡ true
-HasOwnHead (OfItem (OfUnit u)) = ⊤
-HasOwnHead (OfItem (OfBad b)) = ⊤
-HasOwnHead (OfClock arrival row) = ⊤

@@ -4,11 +4,13 @@
 mod accepted;
 mod batch;
 mod entry;
+mod head;
 mod item;
 pub mod laws;
 mod plan;
 mod shown;
 mod stage;
+mod stamps;
 mod timing;
 mod verdicts;
 mod waiting;

@@ -2,7 +2,7 @@
 
 ghost use Rattle.std.specs.Prelude.{◌≡◌, ◌≤◌, false, All, IfOk};
 ghost use Rattle.time_unfold.specs.Time.{IsArrival};
-ghost use Rattle.sample_schedule.specs.Limits.{HasOwnHead, IsEntry, IsPlan};
+ghost use Rattle.sample_schedule.specs.Limits.{IsEntry, IsPlan, IsRule};
 
 use super::{Batch, Entry, HeadRule, Item, Packet, Reason, SchedulePlan, Shown, schedule};
 use avtp_base::{Bytes, NoMemory};
@@ -17,11 +17,31 @@ const PLAN: SchedulePlan = SchedulePlan {
     shift: 0,
 };
 
-/// A packet of 6 sample frames of 4 bytes, each of which is stamped.
+/// How a stream is stamped: each packet, each eighth, or the data blocks with a count that is a multiple of 8.
+#[derive(Clone, Copy)]
+enum Format {
+    Plain,
+    Sparse,
+    Blocks(u8),
+}
+
+fn rule_of(format: Format) -> HeadRule
+    ensures { IsRule result }
+{
+    match format {
+        Format::Plain => HeadRule::Own,
+        Format::Sparse => HeadRule::Eight,
+        Format::Blocks(dbc) => HeadRule::Blocks { dbc, interval: 8 },
+    }
+}
+
+/// A packet of 6 sample frames or data blocks of 4 bytes.
 #[derive(Clone, Copy)]
 struct Sent {
     seq: u8,
-    stamp: u32,
+    mr: bool,
+    stamp: Option<u32>,
+    format: Format,
     arrival: i64,
     rate: u32,
     ghost arrives: { IsArrival arrival },
@@ -29,15 +49,64 @@ struct Sent {
     ghost rate_to: { rate ≤ 192000 },
 }
 
+/// A packet of a stream in which each packet is stamped.
 fn audio(seq: u8, stamp: u32, arrival: i64) -> Sent
     requires { IsArrival arrival }
 {
     Sent {
         seq,
-        stamp,
+        mr: false,
+        stamp: Some(stamp),
+        format: Format::Plain,
         arrival,
         rate: 48_000,
     }
+}
+
+/// A packet of data blocks, of which those with a count that is a multiple of 8 are stamped.
+fn blocks(seq: u8, dbc: u8, stamp: Option<u32>, arrival: i64) -> Sent
+    requires { IsArrival arrival }
+{
+    Sent {
+        seq,
+        mr: false,
+        stamp,
+        format: Format::Blocks(dbc),
+        arrival,
+        rate: 48_000,
+    }
+}
+
+/// Packet n of a sparse stream, as a talker sends it: its 6 samples last 125,000 ns, the first is due 1.002 s after the
+/// epoch, each packet is sent 2 ms ahead, and each eighth is stamped. The talker restarts behind so many packets, each
+/// time 1 ms later.
+fn sparse(n: u16, restart: u16) -> Sent
+    requires { 1 ≤ restart }
+{
+    let run = n / restart;
+    let due = 1_002_000_000 + 125_000 * u64::from(n) + 1_000_000 * u64::from(run);
+    Sent {
+        seq: (n % 256) as u8,
+        mr: run % 2 == 1,
+        stamp: if n % 8 == 0 {
+            Some((due % (1 << 32)) as u32)
+        } else {
+            None
+        },
+        format: Format::Sparse,
+        arrival: (due - 2_000_000) as i64,
+        rate: 48_000,
+    }
+}
+
+fn sparse_packets(alloc: Global, numbers: &[u16], restart: u16) -> Result<Vec<Sent>, NoMemory>
+    requires { 1 ≤ restart }
+{
+    let mut rows = Vec::new(alloc);
+    for n in numbers {
+        rows.push(sparse(*n, restart))?;
+    }
+    Ok(rows)
 }
 
 /// What is shown of a frame: the instants of its samples, or the reason why there are none.
@@ -57,50 +126,25 @@ const fn flag(frame: u64, reason: Reason) -> Seen {
 }
 
 fn packet(alloc: Global, frame: u64, row: Sent) -> Result<Entry, NoMemory>
-    ensures entry { IfOk result IsEntry }
-    ensures own { IfOk result HasOwnHead }
+    ensures { IfOk result IsEntry }
 {
     let bytes = Vec::from_array(alloc, [7u8; 24])?;
     Ok(Entry::Item(Item::Packet(Packet {
         frame,
         arrival: row.arrival,
         seq: row.seq,
-        mr: false,
+        mr: row.mr,
         tu: false,
-        stamp: Some(row.stamp),
-        rule: HeadRule::Own,
+        stamp: row.stamp,
+        rule: rule_of(row.format),
         rate: row.rate,
         count: 6,
         bytes: Bytes::over(bytes),
     })))
 }
 
-/// A packet whose fifth block is stamped: block counts begin at 12, and 16 is the first multiple of 8.
-fn blocks(alloc: Global) -> Result<Entry, NoMemory>
-    ensures entry { IfOk result IsEntry }
-    ensures own { IfOk result HasOwnHead }
-{
-    let bytes = Vec::from_array(alloc, [7u8; 24])?;
-    Ok(Entry::Item(Item::Packet(Packet {
-        frame: 1,
-        arrival: 4_997_916_666,
-        seq: 0,
-        mr: false,
-        tu: false,
-        stamp: Some(705_032_704),
-        rule: HeadRule::Blocks {
-            dbc: 12,
-            interval: 8,
-        },
-        rate: 48_000,
-        count: 6,
-        bytes: Bytes::over(bytes),
-    })))
-}
-
 fn packets(alloc: Global, rows: &[Sent]) -> Result<Vec<Entry>, NoMemory>
-    ensures entries { IfOk result (λ v. All IsEntry v.items) }
-    ensures own { IfOk result (λ v. All HasOwnHead v.items) }
+    ensures { IfOk result (λ v. All IsEntry v.items) }
 {
     let mut entries = Vec::new(alloc);
     let mut frame = 1;
@@ -160,20 +204,29 @@ fn shows(alloc: Global, plan: &SchedulePlan, rows: &[Sent], seen: &[Seen]) -> Re
     Ok(are_seen(list.as_slice(), seen))
 }
 
-fn shows_blocks(alloc: Global, seen: &[Seen]) -> Result<bool, NoMemory> {
-    let mut entries = Vec::new(alloc);
-    entries.push(blocks(alloc)?)?;
-    let list = schedule(alloc, &PLAN, entries)?;
-    Ok(are_seen(list.as_slice(), seen))
+fn shows_sparse(
+    alloc: Global,
+    plan: &SchedulePlan,
+    numbers: &[u16],
+    restart: u16,
+    seen: &[Seen],
+) -> Result<bool, NoMemory>
+    requires plan { IsPlan plan.now }
+    requires no_clock { plan.now.clock ≡ false }
+    requires restart { 1 ≤ restart }
+{
+    let rows = sparse_packets(alloc, numbers, restart)?;
+    shows(alloc, plan, rows.as_slice(), seen)
 }
 
-/// One packet alone: both ends of the half circle, across the wrap of the timestamp, the offsets of 44.1 kHz, and a
-/// stamped block that is not the packet's first.
+/// One packet alone: both ends of the half circle, across the wrap of the timestamp, and the offsets of 44.1 kHz.
 #[test]
 fn packets_are_presented_from_their_timestamp(rt: HostRuntime) {
     let cd = Sent {
         seq: 0,
-        stamp: 1_002_000_000,
+        mr: false,
+        stamp: Some(1_002_000_000),
+        format: Format::Plain,
         arrival: 1_000_000_000,
         rate: 44_100,
     };
@@ -205,18 +258,123 @@ fn packets_are_presented_from_their_timestamp(rt: HostRuntime) {
     for (row, seen) in rows {
         assert_eq!(rt; shows(rt.alloc(), &PLAN, &[row], &[seen]), Ok(true));
     }
-    let behind = Seen::From {
-        frame: 1,
-        instants: [
-            4_999_916_666,
-            4_999_937_500,
-            4_999_958_333,
-            4_999_979_166,
-            5_000_000_000,
-            5_000_020_833,
-        ],
-    };
-    assert_eq!(rt; shows_blocks(rt.alloc(), &[behind]), Ok(true));
+}
+
+/// Two packets of data blocks, with counts from 12 and from 18: the stamped block 16 is the fifth of the first packet,
+/// and two blocks before the second.
+#[test]
+fn blocks_are_counted_from_the_stamped_one(rt: HostRuntime) {
+    let stamped = blocks(0, 12, Some(705_032_704), 4_997_916_666);
+    let behind = blocks(1, 18, None, 4_998_041_666);
+    let both = [
+        Seen::From {
+            frame: 1,
+            instants: [
+                4_999_916_666,
+                4_999_937_500,
+                4_999_958_333,
+                4_999_979_166,
+                5_000_000_000,
+                5_000_020_833,
+            ],
+        },
+        Seen::From {
+            frame: 2,
+            instants: [
+                5_000_041_666,
+                5_000_062_500,
+                5_000_083_333,
+                5_000_104_166,
+                5_000_125_000,
+                5_000_145_833,
+            ],
+        },
+    ];
+    let alone = [flag(1, Reason::Untimed)];
+    assert_eq!(rt;
+        shows(rt.alloc(), &PLAN, &[stamped, behind], &both),
+        Ok(true)
+    );
+    assert_eq!(rt; shows(rt.alloc(), &PLAN, &[behind], &alone), Ok(true));
+}
+
+/// Sparse streams: the first packet is lost; 256 packets are lost, so that the sequence number alone names the wrong
+/// stamp; a restart, behind which the packets wait for a stamp of their own; a stamp that is overtaken, which is found
+/// once another packet is waited for.
+#[test]
+fn sparse_packets_find_their_stamp(rt: HostRuntime) {
+    let lost = [1, 2, 3, 4, 5, 6, 7, 8, 9, 10, 11, 12, 13, 14, 15];
+    let seen = [
+        flag(1, Reason::Untimed),
+        flag(2, Reason::Untimed),
+        flag(3, Reason::Untimed),
+        flag(4, Reason::Untimed),
+        flag(5, Reason::Untimed),
+        flag(6, Reason::Untimed),
+        flag(7, Reason::Untimed),
+        at(8, 1_003_000_000),
+        at(9, 1_003_125_000),
+        at(10, 1_003_250_000),
+        at(11, 1_003_375_000),
+        at(12, 1_003_500_000),
+        at(13, 1_003_625_000),
+        at(14, 1_003_750_000),
+        at(15, 1_003_875_000),
+    ];
+    assert_eq!(rt;
+        shows_sparse(rt.alloc(), &PLAN, &lost, 1_000, &seen),
+        Ok(true)
+    );
+
+    let gap = [at(1, 1_002_000_000), flag(2, Reason::Untimed)];
+    assert_eq!(rt;
+        shows_sparse(rt.alloc(), &PLAN, &[0, 257], 1_000, &gap),
+        Ok(true)
+    );
+
+    let overtaken = [flag(1, Reason::Untimed), at(2, 1_003_000_000)];
+    assert_eq!(rt;
+        shows_sparse(rt.alloc(), &PLAN, &[9, 8], 1_000, &overtaken),
+        Ok(true)
+    );
+    let one_more = SchedulePlan { look: 1, ..PLAN };
+    let waited = [at(2, 1_003_000_000), at(1, 1_003_125_000)];
+    assert_eq!(rt;
+        shows_sparse(rt.alloc(), &one_more, &[9, 8], 1_000, &waited),
+        Ok(true)
+    );
+}
+
+/// A sparse stream that restarts behind ten packets, so that packets 10 to 15 would be counted from a stamp of the run
+/// before.
+#[test]
+fn stamps_of_another_run_are_not_found(rt: HostRuntime) {
+    let all = [
+        0, 1, 2, 3, 4, 5, 6, 7, 8, 9, 10, 11, 12, 13, 14, 15, 16, 17, 18, 19,
+    ];
+    let seen = [
+        at(1, 1_002_000_000),
+        at(2, 1_002_125_000),
+        flag(11, Reason::Untimed),
+        at(3, 1_002_250_000),
+        flag(12, Reason::Untimed),
+        at(4, 1_002_375_000),
+        flag(13, Reason::Untimed),
+        at(5, 1_002_500_000),
+        flag(14, Reason::Untimed),
+        at(6, 1_002_625_000),
+        flag(15, Reason::Untimed),
+        at(7, 1_002_750_000),
+        flag(16, Reason::Untimed),
+        at(8, 1_002_875_000),
+        at(9, 1_003_000_000),
+        at(10, 1_003_125_000),
+        at(17, 1_005_000_000),
+        at(18, 1_005_125_000),
+        at(19, 1_005_250_000),
+        at(20, 1_005_375_000),
+    ];
+    assert_eq!(rt; shows_sparse(rt.alloc(), &PLAN, &all, 10, &seen), Ok(true));
 }
 
 /// A repeat and one that comes too late; packets that overtake each other; a full buffer and a full room.

@@ -1,50 +1,33 @@
 //! What can be presented of an item, and from which instant.
 
-ghost use Rattle.std.specs.Prelude.{◌≡◌, ◌≤◌, ◌<◌, Bool, true, false, List, Option, Some};
+ghost use Rattle.std.specs.Prelude.{◌≡◌, ◌≤◌, false, All, List};
+ghost use Rattle.time_unfold.specs.Limits.{IsStamp};
 ghost use Rattle.sample_schedule.specs.declared.entry.Entry.{Entry as EntryValue};
-ghost use Rattle.sample_schedule.specs.declared.plan.SchedulePlan.{SchedulePlan as Plan};
-ghost use Rattle.sample_schedule.specs.Heads.{head_at, stamped_index as stamped_index_of, usable_stamp as usable_stamp_of};
-ghost use Rattle.sample_schedule.specs.Limits.{HasOwnHead, IsItem, IsPacket, IsRule, IsUnit, is_own};
+ghost use Rattle.sample_schedule.specs.Heads.{stamps_of};
+ghost use Rattle.sample_schedule.specs.Limits.{IsItem, IsPacket, IsPlan, IsUnit};
+ghost use Rattle.sample_schedule.specs.Reach.{IsCountable};
 ghost use Rattle.sample_schedule.specs.Verdicts.{Clock, nominal_spot, samples_at, timed as timed_of, unit_at_once};
 
 use crate::batch::Batch;
-use crate::item::{HeadRule, Item, Packet, Unit};
+use crate::head::{Head, head_of};
+use crate::item::{Item, Packet, Unit};
+use crate::plan::SchedulePlan;
 use crate::shown::Reason;
-use time_unfold::{Line, unfold};
+use time_unfold::{Line, Stamp};
 
 const NANOSECONDS: u64 = 1_000_000_000;
 
-fn stamped_index(rule: HeadRule) -> u32
-    requires { IsRule rule }
-    ensures { result ≡ stamped_index_of rule }
-{
-    match rule {
-        HeadRule::Own | HeadRule::Eight => 0,
-        HeadRule::Blocks { dbc, interval } => (interval - u32::from(dbc) % interval) % interval,
-    }
-}
-
-fn usable_stamp(packet: &Packet) -> Option<u32>
-    requires { IsRule packet.now.rule }
-    ensures { result ≡ usable_stamp_of packet.now }
-{
-    if packet.tu || packet.rate == 0 || packet.count <= stamped_index(packet.rule) {
-        return None;
-    }
-    packet.stamp
-}
-
-/// The samples of a packet on the nominal line of its own head.
-fn counted(packet: Packet, timestamp: u32) -> Batch
+/// The samples of a packet on the nominal line of its head.
+fn counted(packet: Packet, head: &Head) -> Batch
     requires packet { IsPacket packet }
     requires rate { 1 ≤ packet.rate }
-    requires stamped { stamped_index_of packet.rule < packet.count }
-    ensures { result ≡ samples_at packet (nominal_spot packet.rate (head_at packet timestamp)) }
+    requires some { 1 ≤ packet.count }
+    requires countable { IsCountable head.now }
+    ensures { result ≡ samples_at packet (nominal_spot packet.rate head.now) }
 {
-    let first = -i64::from(stamped_index(packet.rule));
     let Packet {
         frame,
-        arrival,
+        arrival: _,
         seq,
         mr: _,
         tu: _,
@@ -58,21 +41,23 @@ fn counted(packet: Packet, timestamp: u32) -> Batch
         frame,
         seq,
         line: Line {
-            base: unfold(timestamp, arrival),
+            base: head.instant,
             num: NANOSECONDS,
             den: u64::from(rate),
         },
-        from: first,
+        from: head.first,
         count,
         bytes,
     }
 }
 
 #[tactic(auto, unfolding(crate::specs::Verdicts::timed))]
-fn timed_packet(packet: Packet) -> Result<Batch, Reason>
+fn timed_packet(plan: &SchedulePlan, stamps: &[Stamp], packet: Packet) -> Result<Batch, Reason>
+    requires plan { IsPlan plan.now }
+    requires no_clock { plan.now.clock ≡ false }
+    requires stamps { All IsStamp stamps.now }
     requires packet { IsPacket packet }
-    requires own { is_own packet ≡ true }
-    ensures { (clock : Clock) (plan : Plan) (prefix : List EntryValue) → plan.clock ≡ false → result ≡ timed_of clock plan prefix (Item.Packet packet) }
+    ensures { (clock : Clock) (prefix : List EntryValue) → stamps.now ≡ stamps_of prefix → result ≡ timed_of clock plan.now prefix (Item.Packet packet) }
 {
     if packet.tu {
         return Err(Reason::Uncertain);
@@ -83,8 +68,8 @@ fn timed_packet(packet: Packet) -> Result<Batch, Reason>
     if packet.rate == 0 {
         return Err(Reason::NoRate);
     }
-    match usable_stamp(&packet) {
-        Some(timestamp) => Ok(counted(packet, timestamp)),
+    match head_of(plan, stamps, &packet) {
+        Some(head) => Ok(counted(packet, &head)),
         None => Err(Reason::Untimed),
     }
 }
@@ -114,16 +99,18 @@ fn timed_unit(unit: Unit) -> Batch
     }
 }
 
-/// What can be presented of an item whose head is its own, where there is no clock; or the first reason why nothing can,
-/// whatever the time.
+/// What can be presented of an item where there is no clock, given the stamps of the prefix that is known when it is
+/// judged; or the first reason why nothing can, whatever the time.
 #[tactic(auto, unfolding(crate::specs::Verdicts::timed))]
-pub fn timed(item: Item) -> Result<Batch, Reason>
+pub fn timed(plan: &SchedulePlan, stamps: &[Stamp], item: Item) -> Result<Batch, Reason>
+    requires plan { IsPlan plan.now }
+    requires no_clock { plan.now.clock ≡ false }
+    requires stamps { All IsStamp stamps.now }
     requires item { IsItem item }
-    requires own { HasOwnHead (EntryValue.Item item) }
-    ensures { (clock : Clock) (plan : Plan) (prefix : List EntryValue) → plan.clock ≡ false → result ≡ timed_of clock plan prefix item }
+    ensures { (clock : Clock) (prefix : List EntryValue) → stamps.now ≡ stamps_of prefix → result ≡ timed_of clock plan.now prefix item }
 {
     match item {
-        Item::Packet(packet) => timed_packet(packet),
+        Item::Packet(packet) => timed_packet(plan, stamps, packet),
         Item::Unit(unit) => Ok(timed_unit(unit)),
         Item::Bad(bad) => Err(bad.reason),
     }

@@ -1,10 +1,12 @@
 //! An item is accepted, or has a reason why not.
 
-ghost use Rattle.std.specs.Prelude.{◌≡◌, ◌-◌, ◌^◌, false, length, List, int_lt, min, Ok, Err};
+ghost use Rattle.std.specs.Prelude.{◌≡◌, ◌-◌, ◌^◌, false, All, length, List, int_lt, min, Ok, Err};
 ghost use Rattle.std.specs.List.{list_any};
+ghost use Rattle.time_unfold.specs.Limits.{IsStamp};
 ghost use Rattle.sample_schedule.specs.declared.accepted.Accepted.{Accepted as AcceptedValue};
 ghost use Rattle.sample_schedule.specs.declared.entry.Entry.{Entry as EntryValue};
-ghost use Rattle.sample_schedule.specs.Limits.{HasOwnHead, IsItem};
+ghost use Rattle.sample_schedule.specs.Heads.{stamps_of};
+ghost use Rattle.sample_schedule.specs.Limits.{IsItem, IsPlan};
 ghost use Rattle.sample_schedule.specs.Order.{by_instant, standing};
 ghost use Rattle.sample_schedule.specs.Verdicts.{Clock, decided, first_instant, is_copy as is_copy_of, is_full as is_full_of, timed as timed_of, total_bytes as total_bytes_of, verdict as verdict_of};
 
@@ -14,6 +16,7 @@ use crate::item::Item;
 use crate::plan::SchedulePlan;
 use crate::shown::Reason;
 use crate::timing::timed;
+use time_unfold::Stamp;
 
 fn is_copy(accepted: &Accepted, instant: i64, seq: u8) -> bool
     ensures { result ≡ is_copy_of instant seq accepted.now }
@@ -73,20 +76,22 @@ fn judge(
     })
 }
 
-/// The verdict of an item, over what is accepted before it and waits.
+/// The verdict of an item, over what is accepted before it and waits, and the stamps of the prefix that is known.
 pub fn verdict(
     plan: &SchedulePlan,
     now: i64,
     waiting: &[Accepted],
+    stamps: &[Stamp],
     place: u64,
     item: Item,
 ) -> Result<Accepted, Reason>
+    requires plan { IsPlan plan.now }
     requires no_clock { plan.now.clock ≡ false }
+    requires stamps { All IsStamp stamps.now }
     requires item { IsItem item }
-    requires own { HasOwnHead (EntryValue.Item item) }
-    ensures { (clock : Clock) (prefix : List EntryValue) (earlier : List AcceptedValue) → waiting.now ≡ by_instant (standing now earlier) → result ≡ verdict_of plan.now now earlier place (timed_of clock plan.now prefix item) }
+    ensures { (clock : Clock) (prefix : List EntryValue) (earlier : List AcceptedValue) → stamps.now ≡ stamps_of prefix → waiting.now ≡ by_instant (standing now earlier) → result ≡ verdict_of plan.now now earlier place (timed_of clock plan.now prefix item) }
 {
-    match timed(item) {
+    match timed(plan, stamps, item) {
         Ok(batch) => judge(plan, now, waiting, place, batch),
         Err(reason) => Err(reason),
     }

@@ -1,3 +1,4 @@
 pub mod Floors
 pub mod Instants
 pub mod OnLine
+pub mod Found

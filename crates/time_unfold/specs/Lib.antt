@@ -1,3 +1,4 @@
 pub mod Time
 pub mod Lines
 pub mod Stamps
+pub mod Limits

@@ -1,5 +1,5 @@
 -- Which stamp a packet without a timestamp is counted from.
-use Rattle.std.specs.Prelude.{ℕ, ◌*◌, ◌-◌, ◌==◌, Bool, true, false, nat_le, if◌then◌else◌, ℤ, pos, ◌+ℤ◌, ◌-ℤ◌, unsigned_abs, List, [], ◌∷◌, length, drop, Option, Some, None}
+use Rattle.std.specs.Prelude.{◌≡◌, ℕ, ◌*◌, ◌-◌, ◌==◌, Bool, true, false, nat_le, if◌then◌else◌, ℤ, pos, ◌+ℤ◌, ◌-ℤ◌, unsigned_abs, List, [], ◌∷◌, ◌++◌, length, drop, All, Option, Some, None}
 use Rattle.time_unfold.specs.declared.stamp.Stamp.{Stamp}
 use Rattle.time_unfold.specs.declared.stamp.Want.{Want}
 use Rattle.time_unfold.specs.Lines.{instant_at, nominal_line}
@@ -49,3 +49,15 @@ last_of n xs = drop (length xs - n) xs
 -- the stamp from which the packet is counted: the last of the list's last `room` that fits
 abbrev pub found : ℕ → Want → List Stamp → Option Stamp
 found room want stamps = find_last (fits want) (last_of room stamps)
+
+-- The same without a search: a stamp of the list that fits, and behind it none does; or none does at all.
+pub record IsLastFit (want : Want) (stamps : List Stamp) (stamp : Stamp) : Type 0 where
+  pub before : List Stamp
+  pub behind : List Stamp
+  pub place : stamps ≡ before ++ stamp ∷ behind
+  pub this_fits : fits want stamp ≡ true
+  pub none_behind : All (λ other. fits want other ≡ false) behind
+
+abbrev pub IsFound : Want → List Stamp → Option Stamp → Type 0
+IsFound want stamps None = All (λ stamp. fits want stamp ≡ false) stamps
+IsFound want stamps (Some stamp) = IsLastFit want stamps stamp

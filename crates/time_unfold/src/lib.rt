@@ -1,10 +1,12 @@
 //! The time of a stream: instants from 32-bit timestamps, and the instants of evenly spaced samples.
 #![tactic(auto)]
 
+mod head;
 mod line;
 mod stamp;
 mod timestamp;
 
+pub use head::head_among;
 pub use line::Line;
 pub use stamp::{Stamp, Want};
 pub use timestamp::unfold;

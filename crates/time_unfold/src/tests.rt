@@ -1,6 +1,6 @@
 //! Instants that were worked out by hand.
 
-use super::{Line, unfold};
+use super::{Line, Stamp, Want, head_among, unfold};
 
 /// Each timestamp, arrival and instant: the last nanosecond before the half circle's end and the first behind it, both
 /// ends around a wrap, and times before 0.
@@ -41,5 +41,45 @@ fn samples_stand_at_exact_instants(rt: HostRuntime) {
     ];
     for (k, instant) in rows {
         assert_eq!(rt; line.at(k), instant);
+    }
+}
+
+/// The second packet of a sparse stream of 48 kHz, whose first sample is expected at 1,002,125,000, and two stamps that
+/// are 40 ns apart: 60 packets' time is 7,500,000 ns, on either side.
+#[test]
+fn packets_find_the_last_stamp_that_fits(rt: HostRuntime) {
+    let first = Stamp {
+        seq: 0,
+        mr: false,
+        block: None,
+        rate: 48_000,
+        instant: 1_002_000_000,
+    };
+    let second = Stamp {
+        instant: 1_002_000_040,
+        ..first
+    };
+    let rows: [(u32, bool, i64, Option<Stamp>); 8] = [
+        (2, false, 1_000_125_000, Some(second)),
+        (1, false, 1_000_125_000, Some(second)),
+        (0, false, 1_000_125_000, None),
+        (2, true, 1_000_125_000, None),
+        (2, false, 992_625_000, Some(first)),
+        (2, false, 992_624_999, None),
+        (2, false, 1_007_625_040, Some(second)),
+        (2, false, 1_007_625_041, None),
+    ];
+    for (room, mr, arrival, found) in rows {
+        let want = Want {
+            seq: 0,
+            mr,
+            block: None,
+            rate: 48_000,
+            arrival,
+            lead: 2_000_000,
+            back: 6,
+            count: 6,
+        };
+        assert_eq!(rt; head_among(&[first, second], room, &want), found);
     }
 }

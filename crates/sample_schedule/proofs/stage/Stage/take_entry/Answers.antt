@@ -9,7 +9,7 @@ use Rattle.sample_schedule.proofs.StageLemmas.{now-passed, waiting-passed, stand
 use Rattle.sample_schedule.proofs.stage.Stage.take_entry.Goals as goal
 
 pub returns : goal.returns
-returns c clock entries at s =
+returns c clock entries at known s =
     let old = c.args.self.now in
     let now : ℤ = to_z w64 (of_z w64 c.max-self.result) in
     let mid : Stage = record { place = old.place; now = now; waiting = c.present_due.new.waiting; list = c.present_due.new.list } in
@@ -25,5 +25,5 @@ returns c clock entries at s =
     let list : c.present_due.new.list.items ≡ old.list.items ++ map present (due_of now old.waiting.items) =
     c.in_ok-present_due.ensures.shown ∙ ap (λ (z : ℤ). old.list.items ++ map present (due_of z old.waiting.items)) again in
     stands-next clock c.args.plan.now entries c.args.entry old mid c.take_kind.new.self _ at s refl at_now waiting list
-    (c.in_ok-take_kind.ensures.taken clock entries (accepted clock c.args.plan.now entries old.place) at_now waiting)
+    (c.in_ok-take_kind.ensures.taken clock entries (accepted clock c.args.plan.now entries old.place) known at_now waiting)
     (ap (λ (k : ℕ). k + 1) c.in_ok-take_kind.ensures.place) refl refl refl

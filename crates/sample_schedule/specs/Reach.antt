@@ -1,0 +1,17 @@
+-- How far the head of a packet can lie, which bounds the instants that are counted from it.
+use Rattle.std.specs.Prelude.{ℕ, ◌+◌, ◌*◌, ◌^◌, ◌≤◌, pos, neg_ℤ, ◌≤ℤ◌, ◌<ℤ◌}
+use Rattle.sample_schedule.specs.Heads.{Distance, Head}
+
+-- at most 7 packets back, of so many samples each
+pub record IsBehind (count : ℕ) (far : Distance) : Type 0 where
+  pub packets : far.packets ≤ 7
+  pub samples : far.samples ≤ 7 * count
+
+-- The stamped sample is one of the packet itself, whose instant is at most 2^31 ns before an arrival, or it lies at
+-- most 7 packets back.
+pub record IsCountable (head : Head) : Type 0 where
+  pub from : neg_ℤ (pos (2 ^ 62)) ≤ℤ head.instant
+  pub to : head.instant <ℤ pos (2 ^ 62 + 2 ^ 31)
+  pub own : head.first <ℤ pos 0 → neg_ℤ (pos (2 ^ 31)) ≤ℤ head.instant
+  pub first_from : neg_ℤ (pos 65535) ≤ℤ head.first
+  pub first_to : head.first ≤ℤ pos (7 * 65535)

@@ -1,0 +1,72 @@
+//! The stamp from which a packet is counted that has none of its own.
+
+ghost use Rattle.std.specs.Prelude.{◌≡◌, ◌≤◌, ◌*◌, All};
+ghost use Rattle.time_unfold.specs.Limits.{IsStamp, IsWant};
+ghost use Rattle.time_unfold.specs.Stamps.{IsFound, candidate as candidate_of, fits as fits_of, found, is_near as is_near_of, last_of};
+
+use crate::line::Line;
+use crate::stamp::{Stamp, Want};
+
+const NANOSECONDS: u64 = 1_000_000_000;
+
+/// How far from its stamp a packet is looked for, in packets of its own length.
+const REACH: u64 = 60;
+
+fn candidate(stamp: &Stamp, want: &Want) -> i64
+    requires stamp { IsStamp stamp.now }
+    requires want { IsWant want.now }
+    ensures { result ≡ candidate_of want.now stamp.now }
+{
+    let line = Line {
+        base: stamp.instant,
+        num: NANOSECONDS,
+        den: u64::from(want.rate),
+    };
+    line.at(i64::from(want.back))
+}
+
+fn is_near(stamp: &Stamp, want: &Want) -> bool
+    requires stamp { IsStamp stamp.now }
+    requires want { IsWant want.now }
+    ensures { result ≡ is_near_of want.now stamp.now }
+{
+    let expected = want.arrival + i64::from(want.lead);
+    let distance = expected.abs_diff(candidate(stamp, want));
+    u128::from(distance) * u128::from(want.rate)
+        <= u128::from(REACH * u64::from(want.count) * NANOSECONDS)
+}
+
+fn fits(stamp: &Stamp, want: &Want) -> bool
+    requires stamp { IsStamp stamp.now }
+    requires want { IsWant want.now }
+    ensures { result ≡ fits_of want.now stamp.now }
+{
+    stamp.seq == want.seq
+        && stamp.mr == want.mr
+        && stamp.rate == want.rate
+        && stamp.block == want.block
+        && is_near(stamp, want)
+}
+
+/// The stamp from which a packet is counted that has none of its own: the last of the list's last `room` stamps that
+/// fits, and none exactly where none of them fits. A stamp fits that has the wanted sequence number, media clock restart
+/// bit, rate and block count, and from which the packet's first sample would be within 60 packets' time of the arrival
+/// and the lead together (sparse timestamps: IEEE 1722-2016, 7; block counts: IEC 61883-6).
+///
+/// The stamps are in the order in which they came, with instants from -2^62 to below 2^62 + 2^31 ns. The packet has a
+/// rate of at least 1 Hz and at most 65,535 samples, and the stamped sample is at most 7 such packets before its first.
+pub fn head_among(stamps: &[Stamp], room: u32, want: &Want) -> Option<Stamp>
+    requires stamps { All IsStamp stamps.now }
+    requires want { IsWant want.now }
+    ensures value { result ≡ found room want.now stamps.now }
+    ensures last { IsFound want.now (last_of room stamps.now) result }
+{
+    let mut rest = &stamps[stamps.len().saturating_sub(room as usize)..];
+    while let Some((last, front)) = rest.split_last() {
+        if fits(last, want) {
+            return Some(*last);
+        }
+        rest = front;
+    }
+    None
+}
