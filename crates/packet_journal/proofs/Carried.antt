@@ -1,0 +1,149 @@
+-- A record that carries a packet belongs to the stream, and its delivery is a copy of the packet.
+use Rattle.std.proofs.Common.{◌≡◌, ℕ, ◌+◌, ◌≤◌, true, false, ℤ, List, [], ◌∷◌, length, map, filter, Option, None, is_none, refl, sym, ap, ◌∙◌, eq-eqb, arith}
+use Rattle.std.specs.Prelude.{nat_le, nat_lt, ◌==◌}
+use Rattle.std.specs.List.{enumerate_from, list_any}
+use Rattle.std.proofs.lemmas.Bool.Decides.{nat_tests}
+use Rattle.avtp_base.specs.Octets.{bits, flag, is_set}
+use Rattle.avtp_base.specs.Layout.{first_short, short_row}
+use Rattle.avtp_base.specs.Rows.{first_row, or_else}
+use Rattle.avtp_base.proofs.RowLemmas.{or_else-none, rows_passed}
+use Rattle.pcap_frames.specs.Capture.{Record}
+use Rattle.pcap_frames.specs.Frame.{Frame, frame_of, frame_refusal, frame_spelling, plain_frame}
+use Rattle.pcap_frames.proofs.FrameLemmas.{frame_again, one_frame}
+use Rattle.avtp_header.specs.Header.{header_layout, kind_refusal, subtype_row, version_row}
+use Rattle.avtp_header.specs.declared.header.StreamHeader.{StreamHeader}
+use Rattle.aaf_format.specs.Aaf.{Aaf, IsWritableAaf, SpellsAaf, aaf_subtype, length_rows, plain_aaf, sample_rows}
+use Rattle.iec61883_format.specs.Iec.{Iec, IsWritableIec, SpellsIec, carrier_rows, cip_refusal, iec_subtype, plain_iec}
+use Rattle.cvf_format.specs.Cvf.{Cvf, IsWritableCvf, SpellsCvf, cvf_subtype, format_rows, nal_rows, plain_cvf}
+use Rattle.stream_journal.specs.Journal.{Journal, Kind, DenseAaf, SparseAaf, Am824, H264}
+use Rattle.stream_journal.specs.Delivered.{AreNear}
+use Rattle.packet_journal.specs.Deliveries.{avtp_ethertype, belongs, delivery, is_delivered, packet_in, stream_kinds}
+use Rattle.packet_journal.specs.Packets.{IsConforming, IsHeader, IsPacket, PacketJournal, PacketView, Pcm, Am824Data, H264Data}
+use Rattle.packet_journal.specs.Delivered.{AreFrom, Delivers, IsCopyOf, OfStream, stream_numbers}
+use Rattle.packet_journal.specs.Carried.{AllCarry, Carries, IsReadKind, subtype_of}
+use Rattle.packet_journal.specs.Laws.{IsReadAs}
+use Rattle.packet_journal.proofs.Copies.{CvfAgain, packet_read}
+
+-- ---- the packet of a frame
+
+record IsFrame (bytes payload : List ℕ) : Type 0 where
+  accepted : frame_refusal bytes ≡ None
+  ethertype : (frame_of bytes).ethertype ≡ avtp_ethertype
+  payload_is : packet_in bytes ≡ payload
+
+frame_is : (p : PacketJournal) (lead n : ℕ) (r : Record) (c : Carries p lead n r) → IsFrame r.bytes c.frame.payload
+frame_is p lead n r c =
+    let again = frame_again c.frame c.writable in
+    let same : plain_frame c.frame ≡ frame_of (frame_spelling c.frame) = one_frame (frame_spelling c.frame) (plain_frame c.frame) again in
+    rw c.bytes (record {
+      accepted = again.accepted;
+      ethertype = sym (ap (λ (f : Frame). f.ethertype) same) ∙ c.avtp;
+      payload_is = sym (ap (λ (f : Frame). f.payload) same);
+    })
+
+-- ---- a packet belongs to its stream
+
+kind_long : (subtype : ℕ) (bytes : List ℕ) → kind_refusal subtype bytes ≡ None → 12 ≤ length bytes
+kind_long subtype bytes accepted =
+    let start = or_else-none (first_short header_layout (length bytes)) (first_row (subtype_row subtype bytes ∷ version_row bytes ∷ [])) accepted in
+    let within = rows_passed (map (short_row (length bytes)) header_layout) start.0 in
+    let short : nat_lt (length bytes) 12 ≡ false = within.1.1.1.1.0 in
+    grind (arith, nat_tests)
+
+-- what every delivery of the stream shows
+record IsOfStream (subtype stream : ℕ) (bytes : List ℕ) : Type 0 where
+  long : 12 ≤ length bytes
+  kind : bits 0 0 8 bytes ≡ subtype
+  valid : is_set 1 0 bytes ≡ true
+  id : bits 4 0 64 bytes ≡ stream
+
+-- the header shows it
+of_stream : (j : Journal) (subtype stream n : ℕ) (h : StreamHeader) (bytes : List ℕ) → kind_refusal subtype bytes ≡ None → IsHeader j stream n h → h.subtype ≡ subtype
+    → bits 0 0 8 bytes ≡ h.subtype → bits 1 0 1 bytes ≡ flag h.sv → bits 4 0 64 bytes ≡ h.stream_id → IsOfStream subtype stream bytes
+of_stream j subtype stream n h bytes accepted is kind a b c = record {
+  long = kind_long subtype bytes accepted;
+  kind = a ∙ kind;
+  valid = rw (b, is.valid_id) refl;
+  id = c ∙ is.id;
+}
+
+aaf_of_stream : (j : Journal) (stream n : ℕ) (v : Aaf) (bytes : List ℕ) → IsWritableAaf v → IsHeader j stream n v.header → SpellsAaf bytes (plain_aaf v) → IsOfStream aaf_subtype stream bytes
+aaf_of_stream j stream n v bytes writable is s =
+    let kind = or_else-none (kind_refusal aaf_subtype bytes) (or_else (first_row (sample_rows bytes)) (first_row (length_rows bytes))) s.accepted in
+    let f = s.fields in
+    of_stream j aaf_subtype stream n v.header bytes kind.0 is writable.subtype f.0.0 f.1.0.0 f.1.1.1.1.0.0
+
+iec_of_stream : (j : Journal) (stream n : ℕ) (v : Iec) (bytes : List ℕ) → IsWritableIec v → IsHeader j stream n v.header → SpellsIec bytes (plain_iec v) → IsOfStream iec_subtype stream bytes
+iec_of_stream j stream n v bytes writable is s =
+    let kind = or_else-none (kind_refusal iec_subtype bytes) (or_else (first_row (carrier_rows bytes)) (cip_refusal bytes)) s.accepted in
+    let f = s.fields in
+    of_stream j iec_subtype stream n v.header bytes kind.0 is writable.subtype f.0.0 f.1.0.0 f.1.1.1.1.0.0
+
+cvf_of_stream : (j : Journal) (stream n : ℕ) (v : Cvf) (bytes : List ℕ) → IsWritableCvf v → IsHeader j stream n v.header → SpellsCvf bytes (plain_cvf v) → IsOfStream cvf_subtype stream bytes
+cvf_of_stream j stream n v bytes writable is s =
+    let kind = or_else-none (kind_refusal cvf_subtype bytes) (or_else (first_row (format_rows bytes)) (first_row (nal_rows bytes))) s.accepted in
+    let f = s.fields in
+    of_stream j cvf_subtype stream n v.header bytes kind.0 is writable.subtype f.0.0 f.1.0.0 f.1.1.1.1.0.0
+
+packet_of_stream : (kind : Kind) (j : Journal) (stream n : ℕ) (view : PacketView) (bytes : List ℕ) → IsPacket kind j stream n view → IsReadAs view bytes → IsOfStream (subtype_of kind) stream bytes
+packet_of_stream DenseAaf j stream n (Pcm v) bytes is read = aaf_of_stream j stream n v bytes is.writable is.header read
+packet_of_stream DenseAaf j stream n (Am824Data v) bytes is read = absurd is
+packet_of_stream DenseAaf j stream n (H264Data v) bytes is read = absurd is
+packet_of_stream SparseAaf j stream n (Pcm v) bytes is read = aaf_of_stream j stream n v bytes is.writable is.header read
+packet_of_stream SparseAaf j stream n (Am824Data v) bytes is read = absurd is
+packet_of_stream SparseAaf j stream n (H264Data v) bytes is read = absurd is
+packet_of_stream (Am824 interval dbc) j stream n (Pcm v) bytes is read = absurd is
+packet_of_stream (Am824 interval dbc) j stream n (Am824Data v) bytes is read = iec_of_stream j stream n v bytes is.writable is.header read
+packet_of_stream (Am824 interval dbc) j stream n (H264Data v) bytes is read = absurd is
+packet_of_stream (H264 part) j stream n (Pcm v) bytes is read = absurd is
+packet_of_stream (H264 part) j stream n (Am824Data v) bytes is read = absurd is
+packet_of_stream (H264 part) j stream n (H264Data v) bytes is read = cvf_of_stream j stream n v bytes is.writable is.header read
+
+belongs_so : (subtype stream : ℕ) (bytes payload : List ℕ) → list_any (λ (k : ℕ). subtype == k) stream_kinds ≡ true → IsFrame bytes payload → IsOfStream subtype stream payload → belongs stream_kinds stream bytes ≡ true
+belongs_so subtype stream bytes payload known f is =
+    let long = is.long in
+    let a : is_none (frame_refusal bytes) ≡ true = rw f.accepted refl in
+    let b : ((frame_of bytes).ethertype == avtp_ethertype) ≡ true = rw f.ethertype refl in
+    let c : nat_le 12 (length (packet_in bytes)) ≡ true = rw f.payload_is (grind (arith, nat_tests)) in
+    let d : list_any (λ kind. bits 0 0 8 (packet_in bytes) == kind) stream_kinds ≡ true = rw (f.payload_is, is.kind) known in
+    let e : is_set 1 0 (packet_in bytes) ≡ true = rw f.payload_is is.valid in
+    let g : (bits 4 0 64 (packet_in bytes) == stream) ≡ true = rw (f.payload_is, is.id) (eq-eqb stream stream refl) in
+    rw (a, b, c, d, e, g) refl
+
+carried_belongs : CvfAgain → (shift : ℤ) (p : PacketJournal) (lead n : ℕ) (r : Record) → IsConforming shift p → IsReadKind p.times.kind → Carries p lead n r → belongs stream_kinds p.stream r.bytes ≡ true
+carried_belongs again shift p lead n r is known c =
+    let packet = is.packets n c.delivered.known in
+    let read = packet_read again p.times.kind p.times p.stream n (p.packet n) c.frame.payload packet c.packet in
+    belongs_so (subtype_of p.times.kind) p.stream r.bytes c.frame.payload known (frame_is p lead n r c)
+    (packet_of_stream p.times.kind p.times p.stream n (p.packet n) c.frame.payload packet read)
+
+copy_of : (p : PacketJournal) (lead n i : ℕ) (r : Record) → Carries p lead n r → IsCopyOf p lead n (delivery i r)
+copy_of p lead n i r c = record {
+  arrival = c.arrival;
+  arrived = c.arrived;
+  delivered = c.delivered;
+  spelled = rw (frame_is p lead n r c).payload_is c.packet;
+}
+
+-- ---- all records
+
+numbers_again : (numbers : List ℕ) → stream_numbers (map OfStream numbers) ≡ numbers
+numbers_again [] = refl
+numbers_again (n ∷ numbers) = ap (λ (l : List ℕ). n ∷ l) (numbers_again numbers)
+
+all_from : CvfAgain → (shift : ℤ) (p : PacketJournal) (clock : Option ℕ) (lead i : ℕ) (numbers : List ℕ) (records : List Record) → IsConforming shift p → IsReadKind p.times.kind → AllCarry p lead numbers records
+    → AreFrom p lead (map OfStream numbers) (map (λ (x : ℕ × Record). delivery x.0 x.1) (filter (λ (x : ℕ × Record). is_delivered p.stream clock x.1.bytes) (enumerate_from i records)))
+all_from again shift p clock lead i [] [] is known all = tt
+all_from again shift p clock lead i [] (r ∷ records) is known all = absurd all
+all_from again shift p clock lead i (n ∷ numbers) [] is known all = absurd all
+all_from again shift p clock lead i (n ∷ numbers) (r ∷ records) is known all =
+    rw (carried_belongs again shift p lead n r is known all.0)
+    (copy_of p lead n i r all.0, all_from again shift p clock lead (i + 1) numbers records is known all.1)
+
+pub all_delivered : CvfAgain → (shift : ℤ) (p : PacketJournal) (clock : Option ℕ) (lead : ℕ) (numbers : List ℕ) (records : List Record) → IsConforming shift p → IsReadKind p.times.kind → AllCarry p lead numbers records
+    → AreNear p.times numbers → Delivers p clock lead records
+all_delivered again shift p clock lead numbers records is known all near = record {
+  origins = map OfStream numbers;
+  copies = all_from again shift p clock lead 1 numbers records is known all;
+  near = rw (numbers_again numbers) near;
+}

@@ -1,0 +1,5 @@
+use Rattle.packet_journal.proofs.Silent.{clocked_conform}
+use Rattle.packet_journal.proofs.examples.clocked_packets_conform.Goals as goal
+
+pub returns : goal.returns
+returns c = clocked_conform c.clocked_talker_conforms.ensures.conforms

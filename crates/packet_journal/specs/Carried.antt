@@ -1,0 +1,42 @@
+-- Records whose frames carry a journal's packets.
+use Rattle.std.specs.Prelude.{◌≡◌, ◌==◌, ℕ, true, pos, List, [], ◌∷◌, ⊤}
+use Rattle.std.specs.List.{list_any}
+use Rattle.pcap_frames.specs.Capture.{Record}
+use Rattle.pcap_frames.specs.Frame.{Frame, IsWritableFrame, frame_spelling}
+use Rattle.aaf_format.specs.Aaf.{aaf_subtype}
+use Rattle.iec61883_format.specs.Iec.{iec_subtype}
+use Rattle.cvf_format.specs.Cvf.{cvf_subtype}
+use Rattle.stream_journal.specs.Journal.{Kind, DenseAaf, SparseAaf, Am824, H264}
+use Rattle.stream_journal.specs.Delivered.{IsDelivered}
+use Rattle.packet_journal.specs.Deliveries.{avtp_ethertype, stream_kinds}
+use Rattle.packet_journal.specs.Delivered.{Spells}
+use Rattle.packet_journal.specs.Packets.{PacketJournal, spelling_of}
+
+-- the subtype of a stream's packets (IEEE 1722-2016, table 6)
+abbrev pub subtype_of : Kind → ℕ
+subtype_of DenseAaf = aaf_subtype
+subtype_of SparseAaf = aaf_subtype
+subtype_of (Am824 interval dbc) = iec_subtype
+subtype_of (H264 part) = cvf_subtype
+
+-- packets of this kind are among those that belong to a stream
+abbrev pub IsReadKind : Kind → Type 0
+IsReadKind kind = list_any (λ subtype. subtype_of kind == subtype) stream_kinds ≡ true
+
+-- A record holds an Ethernet frame of AVTP with packet n, and was captured in time.
+pub record Carries (p : PacketJournal) (lead n : ℕ) (r : Record) : Type 0 where
+  pub frame : Frame
+  pub writable : IsWritableFrame frame
+  pub bytes : r.bytes ≡ frame_spelling frame
+  pub avtp : frame.ethertype ≡ avtp_ethertype
+  pub packet : Spells (spelling_of (p.packet n)) frame.payload
+  pub arrival : ℕ
+  pub arrived : r.arrival ≡ pos arrival
+  pub delivered : IsDelivered p.times lead (record { number = n; arrival = arrival })
+
+-- each record carries the packet of its number
+abbrev pub AllCarry : PacketJournal → ℕ → List ℕ → List Record → Type 0
+AllCarry p lead [] [] = ⊤
+AllCarry p lead [] (r ∷ rs) = ⊥
+AllCarry p lead (n ∷ ns) [] = ⊥
+AllCarry p lead (n ∷ ns) (r ∷ rs) = Carries p lead n r × AllCarry p lead ns rs

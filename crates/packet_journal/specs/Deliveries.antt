@@ -1,0 +1,70 @@
+-- The records of a capture that belong to a stream or to its clock.
+use Rattle.std.specs.Prelude.{ℕ, ◌==◌, Bool, ◌&&◌, ◌||◌, false, nat_le, is_none, ℤ, List, [], ◌∷◌, length, filter, map, Option, Some, None}
+use Rattle.std.specs.List.{enumerate_from, list_any}
+use Rattle.pcap_frames.specs.Capture.{Record}
+use Rattle.pcap_frames.specs.Frame.{frame_of, frame_refusal}
+use Rattle.avtp_header.specs.declared.header.Peeked.{Peeked}
+use Rattle.avtp_header.specs.Header.{peeked_of}
+
+-- the EtherType of AVTP (IEEE 1722-2016, 4.2)
+abbrev pub avtp_ethertype : ℕ
+avtp_ethertype = 0x22F0
+
+-- The kinds of packets of a stream that are read, by their subtypes (IEEE 1722-2016, table 6). A stream may also consist
+-- of packets of IEC 61883 (0x00) and of CVF (0x03); they are passed until their formats are read.
+abbrev pub stream_kinds : List ℕ
+stream_kinds =
+    0x02 ∷  -- AAF
+    []
+
+-- the kinds of packets of a media clock that are read: none so far, so CRF (0x04) is passed
+abbrev pub clock_kinds : List ℕ
+clock_kinds = []
+
+-- the payload of the frame in a record
+abbrev pub packet_in : List ℕ → List ℕ
+packet_in bytes = (frame_of bytes).payload
+
+-- a record is a frame of AVTP whose packet has the fields that every packet of a stream begins with
+abbrev pub is_avtp : List ℕ → Bool
+is_avtp bytes =
+    is_none (frame_refusal bytes)
+    && ((frame_of bytes).ethertype == avtp_ethertype)
+    && nat_le 12 (length (packet_in bytes))
+
+-- a packet is of one of these kinds, and its id is valid and this one
+abbrev pub is_wanted : List ℕ → ℕ → Peeked → Bool
+is_wanted kinds id peeked = list_any (λ kind. peeked.subtype == kind) kinds && peeked.sv && (peeked.stream_id == id)
+
+abbrev pub belongs : List ℕ → ℕ → List ℕ → Bool
+belongs kinds id bytes = is_avtp bytes && is_wanted kinds id (peeked_of (packet_in bytes))
+
+abbrev pub belongs_to_clock : Option ℕ → List ℕ → Bool
+belongs_to_clock None bytes = false
+belongs_to_clock (Some id) bytes = belongs clock_kinds id bytes
+
+-- a record belongs to the stream, or to the clock, where there is one
+abbrev pub is_delivered : ℕ → Option ℕ → List ℕ → Bool
+is_delivered stream clock bytes = belongs stream_kinds stream bytes || belongs_to_clock clock bytes
+
+-- A delivery: the number of its record in the capture, counted from 1; when it was captured; and its packet, with the
+-- sequence number.
+pub record Delivery : Type 0 where
+  pub frame : ℕ
+  pub arrival : ℤ
+  pub seq : ℕ
+  pub packet : List ℕ
+
+abbrev pub delivery : ℕ → Record → Delivery
+delivery frame r = record {
+  frame = frame;
+  arrival = r.arrival;
+  seq = (peeked_of (packet_in r.bytes)).seq;
+  packet = packet_in r.bytes;
+}
+
+-- the deliveries of a list of records, in its order
+abbrev pub deliveries : ℕ → Option ℕ → List Record → List Delivery
+deliveries stream clock records =
+    map (λ numbered. delivery numbered.0 numbered.1)
+    (filter (λ numbered. is_delivered stream clock numbered.1.bytes) (enumerate_from 1 records))

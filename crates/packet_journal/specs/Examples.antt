@@ -1,0 +1,97 @@
+-- Small journals with their packets.
+use Rattle.std.specs.Prelude.{ℕ, ◌+◌, ◌*◌, ◌%◌, ◌^◌, false, true, is_some, unwrap_or, [], ◌++◌, replicate}
+use Rattle.byteorder.specs.Endian.{big_bytes}
+use Rattle.avtp_header.specs.declared.header.StreamHeader.{StreamHeader}
+use Rattle.aaf_format.specs.declared.aaf.AafFormat.TheVariants.{Int16}
+use Rattle.aaf_format.specs.Aaf.{Aaf}
+use Rattle.crf_format.specs.Crf.{Crf}
+use Rattle.stream_journal.specs.Journal.{Journal}
+use Rattle.stream_journal.specs.Examples.{clocked, restarted}
+use Rattle.packet_journal.specs.Packets.{PacketJournal, Pcm}
+
+-- packet n of a stereo stream of 16 bits at 48 kHz, 6 silent sample frames, in sparse mode or not
+abbrev pub silent_header : Journal → ℕ → StreamHeader
+silent_header j n = record {
+  subtype = 2;
+  sv = true;
+  mr = j.mr n;
+  format_bits = 0;
+  tv = is_some (j.stamp n);
+  seq = n % 256;
+  tu = false;
+  stream_id = 0x0200000000010001;
+  timestamp = unwrap_or (j.stamp n) 0 % 2 ^ 32;
+  data_length = 24;
+}
+
+abbrev pub silent_sparse : ℕ → Aaf
+silent_sparse n = record {
+  header = silent_header restarted n;
+  format = Int16;
+  nsr = 5;
+  channels = 2;
+  depth = 16;
+  sparse = true;
+  evt = 0;
+  count = 6;
+  payload = replicate 24 0;
+  reserved = false;
+}
+
+-- no clock packet is sent; this stands where one would
+abbrev pub no_packet : Crf
+no_packet = record {
+  sv = false;
+  mr = false;
+  fs = false;
+  tu = false;
+  seq = 0;
+  kind = 0;
+  stream_id = 0;
+  pull = 0;
+  base_frequency = 1;
+  interval = 1;
+  payload = [];
+  reserved = false;
+}
+
+-- the sparse talker that restarts, with its packets
+abbrev pub restarted_packets : PacketJournal
+restarted_packets = record {
+  times = restarted;
+  stream = 0x0200000000010001;
+  packet = λ n. Pcm (silent_sparse n);
+  clock = 0;
+  clock_packet = λ m. no_packet;
+}
+
+-- the same packets, all of them stamped
+abbrev pub silent : ℕ → Aaf
+silent n = record (silent_sparse n) { header = silent_header clocked n; sparse = false }
+
+-- packet m of the clock of the clocked talker, for listeners that add a microsecond to its timestamps
+abbrev pub clock_data : ℕ → Crf
+clock_data m = record {
+  sv = true;
+  mr = false;
+  fs = false;
+  tu = false;
+  seq = m % 256;
+  kind = 1;
+  stream_id = 0x0200000000010002;
+  pull = 0;
+  base_frequency = 48000;
+  interval = 96;
+  payload = big_bytes 8 (1001999000 + m * 4000000) ++ big_bytes 8 (1003999000 + m * 4000000);
+  reserved = false;
+}
+
+-- the clocked talker, with its packets and those of its clock
+abbrev pub clocked_packets : PacketJournal
+clocked_packets = record {
+  times = clocked;
+  stream = 0x0200000000010001;
+  packet = λ n. Pcm (silent n);
+  clock = 0x0200000000010002;
+  clock_packet = clock_data;
+}

@@ -1,0 +1,6 @@
+pub mod Deliveries
+pub mod Packets
+pub mod Delivered
+pub mod Laws
+pub mod Carried
+pub mod Examples

@@ -1,0 +1,27 @@
+//! Laws of packets and their copies. Each call is its contract, and does nothing.
+
+ghost use Rattle.std.specs.Prelude.{ℕ, ℤ, List, Option};
+ghost use Rattle.pcap_frames.specs.Capture.{Record};
+ghost use Rattle.stream_journal.specs.Delivered.{AreNear};
+ghost use Rattle.packet_journal.specs.Deliveries.{Delivery};
+ghost use Rattle.packet_journal.specs.Packets.{IsConforming, PacketJournal};
+ghost use Rattle.packet_journal.specs.Delivered.{Delivers, IsClockCopyOf, IsCopyOf};
+ghost use Rattle.packet_journal.specs.Carried.{AllCarry, IsReadKind};
+ghost use Rattle.packet_journal.specs.Laws.{IsClockReadAs, IsReadAs};
+
+/// What a listener reads of a copy of a packet is the packet that was sent, whatever trail the copy has.
+pub fn copies_are_read()
+    ensures packet { (shift : ℤ) (p : PacketJournal) (lead n : ℕ) (d : Delivery) → IsConforming shift p → IsCopyOf p lead n d → IsReadAs (p.packet n) d.packet }
+    ensures clock { (shift : ℤ) (p : PacketJournal) (m : ℕ) (d : Delivery) → IsConforming shift p → IsClockCopyOf p m d → IsClockReadAs (p.clock_packet m) d.packet }
+{
+    cvf_format::laws::packet_again();
+}
+
+/// Records whose frames carry packets of a conforming talker, captured in time, deliver its journal, whichever packets they
+/// are, where the kind is
+/// one of those that belong to a stream.
+pub fn carried_packets_are_delivered()
+    ensures { (shift : ℤ) (p : PacketJournal) (clock : Option ℕ) (lead : ℕ) (numbers : List ℕ) (records : List Record) → IsConforming shift p → IsReadKind p.times.kind → AllCarry p lead numbers records → AreNear p.times numbers → Delivers p clock lead records }
+{
+    cvf_format::laws::packet_again();
+}

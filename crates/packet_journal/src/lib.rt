@@ -1,0 +1,6 @@
+//! The packets of a talker's journal, and which records of a capture are copies of them. The definitions stand here; each
+//! call is a law of them, and does nothing.
+#![tactic(auto)]
+
+pub mod examples;
+pub mod laws;

@@ -1,0 +1,11 @@
+pub mod TrueTime
+pub mod Worked
+pub mod Spacing
+pub mod Apart
+pub mod Numbers
+pub mod TrueHeads
+pub mod OneInstant
+pub mod Restarted
+pub mod Video
+pub mod TrueClock
+pub mod RestartedCopies

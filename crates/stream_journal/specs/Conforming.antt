@@ -1,0 +1,146 @@
+-- The rules that a talker keeps. Whatever is counted from its timestamps rests on them alone. They are this project's own
+-- where no standard is named.
+use Rattle.std.specs.Prelude.{◌≡◌, ◌≢◌, ◌⊎◌, ◌↔◌, ℕ, suc, ◌+◌, ◌*◌, ◌%◌, ◌^◌, ◌==◌, ◌<◌, ◌≤◌, nat_lt, Bool, true, ⊤, pos, Some, is_some}
+use Rattle.time_unfold.specs.Lines.{instant_at}
+use Rattle.stream_journal.specs.Rules.{Rule, Own, Eight, Blocks, stamped_index}
+use Rattle.stream_journal.specs.Clocks.{Clock, Covers, Follows, InOneRun, IsJoined, IsJoinedAt, IsOfRate, IsPlace, IsSpaced, Pair, Place, pair_at, period, point, spot_by}
+use Rattle.stream_journal.specs.Journal.{Head, Journal, Kind, DenseAaf, SparseAaf, Am824, H264, Part, Single, First, Last, head_of, nominal_instant, rule_of}
+
+-- ---- rules for every stream
+
+-- The restart bit keeps a new value for at least 8 packets.
+abbrev pub HoldsEight : ℕ → (ℕ → Bool) → Type 0
+HoldsEight packets mr =
+    (n k : ℕ) → mr (suc n) ≢ mr n → k < 8 → suc n + k < packets → mr (suc n + k) ≡ mr (suc n)
+
+-- all instants lie between 0 and 2^62
+pub record AreInstants (j : Journal) : Type 0 where
+  pub due : (n : ℕ) → n < j.packets → j.due n ≤ 2 ^ 62
+  pub stamp : (n instant : ℕ) → n < j.packets → j.stamp n ≡ Some instant → instant ≤ 2 ^ 62
+
+-- ---- audio
+
+-- Which packets are stamped: all, each eighth, or those that have the block whose count is a multiple of the interval.
+abbrev pub is_stamped : Rule → ℕ → ℕ → Bool
+is_stamped Own n count = true
+is_stamped Eight n count = n % 8 == 0
+is_stamped (Blocks dbc interval) n count = nat_lt (stamped_index (Blocks dbc interval)) count
+
+-- Block counts go on from packet to packet, from any first one, and the interval is one of the standard's (IEC 61883-6).
+pub record BlocksGoOn (interval : ℕ) (dbc : ℕ → ℕ) (count packets : ℕ) : Type 0 where
+  pub standard : (interval ≡ 8) ⊎ ((interval ≡ 16) ⊎ (interval ≡ 32))
+  pub first : dbc 0 < 256
+  pub next : (n : ℕ) → suc n < packets → dbc (suc n) ≡ (dbc n + count) % 256
+
+abbrev pub HasBlocks : Kind → ℕ → ℕ → Type 0
+HasBlocks DenseAaf count packets = ⊤
+HasBlocks SparseAaf count packets = ⊤
+HasBlocks (Am824 interval dbc) count packets = BlocksGoOn interval dbc count packets
+HasBlocks (H264 part) count packets = ⊤
+
+-- From one instant to another pass at least `quarters` quarters of a packet's time, which is count / rate seconds.
+abbrev pub IsApart : Journal → ℕ → ℕ → ℕ → Type 0
+IsApart j quarters from to = 4 * (from * j.rate) + quarters * (j.count * 1000000000) ≤ 4 * (to * j.rate)
+
+-- Packets of one kind, one rate and one count.
+pub record IsAudio (j : Journal) : Type 0 where
+  -- the nominal rates that the formats name lie between these
+  pub rate_from : 8000 ≤ j.rate
+  pub rate_to : j.rate ≤ 192000
+  pub some : 1 ≤ j.count
+  -- stamps stand where the format says
+  pub stamps : (n : ℕ) → n < j.packets → is_some (j.stamp n) ≡ is_stamped (rule_of j.kind n) n j.count
+  pub blocks : HasBlocks j.kind j.count j.packets
+  -- first instants are at least 3/4 of a packet's time apart
+  pub spacing : (n : ℕ) → suc n < j.packets → IsApart j 3 (j.due n) (j.due (suc n))
+  -- a packet that has a head is due at its first sample
+  pub first_instants : (n : ℕ) (head : Head) → n < j.packets → head_of j n ≡ Some head → pos (j.due n) ≡ nominal_instant j head 0
+
+-- ---- H.264
+
+-- a unit begins, or ends, with the packet
+abbrev pub Begins : Part → Type 0
+Begins part = (part ≡ Single) ⊎ (part ≡ First)
+
+abbrev pub Ends : Part → Type 0
+Ends part = (part ≡ Single) ⊎ (part ≡ Last)
+
+-- Each packet is stamped, or exactly those that end a unit.
+abbrev pub StampsUnits : Journal → (ℕ → Part) → Type 0
+StampsUnits j part =
+    ((n : ℕ) → n < j.packets → is_some (j.stamp n) ≡ true)
+    ⊎ ((n : ℕ) → n < j.packets → (is_some (j.stamp n) ≡ true) ↔ Ends (part n))
+
+-- The packets of one access unit share one instant, and other access units have other instants: packets are of one access
+-- unit where they are due at one instant.
+pub record IsVideo (j : Journal) (part : ℕ → Part) : Type 0 where
+  pub stamps : StampsUnits j part
+  pub one_instant : (n instant : ℕ) → n < j.packets → j.stamp n ≡ Some instant → instant ≡ j.due n
+  -- the fragments of a unit are packets beside each other: a first, then only middle ones, then a last
+  pub first : 1 ≤ j.packets → Begins (part 0)
+  pub last : (n : ℕ) → j.packets ≡ suc n → Ends (part n)
+  pub beside : (n : ℕ) → suc n < j.packets → Ends (part n) ↔ Begins (part (suc n))
+  -- they are of one access unit
+  pub unit : (n : ℕ) → suc n < j.packets → ¬ Ends (part n) → j.due (suc n) ≡ j.due n
+  -- the packets of one access unit are beside each other, and at most 255
+  pub together : (n k m : ℕ) → n ≤ k → k ≤ m → m < j.packets → j.due n ≡ j.due m → j.due k ≡ j.due n
+  pub few : (n m : ℕ) → m < j.packets → j.due n ≡ j.due m → m < n + 255
+
+-- ---- the clock
+
+-- two periods of the clock differ by at most a quarter of the nominal spacing of two events
+pub record IsSteady (first second : Pair) : Type 0 where
+  pub longer : 4 * (period second * second.up) ≤ 4 * (period first * first.up) + 1000000000 * first.down
+  pub shorter : 4 * (period first * first.up) ≤ 4 * (period second * second.up) + 1000000000 * first.down
+
+-- A clock keeps these rules. Points beside each other in one run stand in one packet or in packets beside each other with
+-- equal `mr`, and a new run begins with a new packet and the other `mr`, since runs are told by it.
+pub record IsClock (c : Clock) : Type 0 where
+  pub base : 1 ≤ c.base
+  pub pull : c.pull ≤ 5
+  pub interval : 1 ≤ c.interval
+  -- each packet has a point
+  pub some : (n : ℕ) → n < c.packets → IsPlace c (record { packet = n; at = 0 })
+  pub instants : (p : Place) → IsPlace c p → point c p ≤ 2 ^ 62
+  -- each point is at least 3/4 of the nominal interval after the one before it, over all runs
+  pub spaced : (p q : Place) → Follows c p q → IsSpaced (pair_at c p q)
+  -- points beside each other in a run are within 1/8 of the nominal interval
+  pub even : (p q : Place) → Follows c p q → InOneRun c p q → IsJoined (pair_at c p q)
+  -- periods beside each other in a run differ little
+  pub steady : (p q r : Place) → Follows c p q → Follows c q r → InOneRun c p q → InOneRun c q r
+      → IsSteady (pair_at c p q) (pair_at c q r)
+  -- the first point of a new run isn't before the last point and the last period behind it
+  pub renewed : (p q r : Place) → Follows c p q → Follows c q r → InOneRun c p q → ¬ InOneRun c q r
+      → point c q + period (pair_at c p q) ≤ point c r
+  pub holds : HoldsEight c.packets c.mr
+
+-- ---- the clock and the timestamps of an audio stream
+
+-- the timestamp of packet n is at this instant, and the joined pair of these points covers it
+pub record IsCovered (j : Journal) (n instant : ℕ) (p q : Place) : Type 0 where
+  pub known : n < j.packets
+  pub stamped : j.stamp n ≡ Some instant
+  pub joined : IsJoinedAt j.clock p q
+  pub covers : Covers (pair_at j.clock p q) j.rate instant
+
+pub record AgreesWithClock (j : Journal) : Type 0 where
+  -- at most one joined pair of the whole list of points covers a timestamp
+  pub one : (n instant : ℕ) (p q r s : Place) → IsCovered j n instant p q → IsCovered j n instant r s → (p ≡ r) × (q ≡ s)
+  -- where the clock's frequency is the stream's rate, the timestamp is the instant of an event
+  pub exact : (n instant : ℕ) (p q : Place) → IsCovered j n instant p q → IsOfRate (pair_at j.clock p q) j.rate
+      → instant_at (spot_by (pair_at j.clock p q) j.rate instant).line (spot_by (pair_at j.clock p q) j.rate instant).from ≡ pos instant
+
+-- ---- all of it
+
+abbrev pub IsOfKind : Kind → Journal → Type 0
+IsOfKind DenseAaf j = IsAudio j × AgreesWithClock j
+IsOfKind SparseAaf j = IsAudio j × AgreesWithClock j
+IsOfKind (Am824 interval dbc) j = IsAudio j × AgreesWithClock j
+IsOfKind (H264 part) j = IsVideo j part
+
+-- The journal of a talker that keeps the rules.
+pub record Conforms (j : Journal) : Type 0 where
+  pub kind : IsOfKind j.kind j
+  pub holds : HoldsEight j.packets j.mr
+  pub instants : AreInstants j
+  pub clock : IsClock j.clock

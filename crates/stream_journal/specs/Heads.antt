@@ -1,0 +1,75 @@
+-- What a listener notes of the copies that it has, and what it looks for among them.
+use Rattle.std.specs.Prelude.{◌≡◌, ◌≢◌, ℕ, ◌+◌, ◌-◌, ◌*◌, ◌/◌, ◌%◌, ◌<◌, ◌≤◌, ◌⊎◌, pos, Some, None}
+use Rattle.time_unfold.specs.declared.stamp.Stamp.{Stamp}
+use Rattle.time_unfold.specs.declared.stamp.Want.{Want}
+use Rattle.stream_journal.specs.Rules.{Distance, counted_block, distance, stamped_block}
+use Rattle.stream_journal.specs.Journal.{Journal, head_of, rule_of}
+use Rattle.stream_journal.specs.Conforming.{IsApart}
+use Rattle.stream_journal.specs.Delivered.{Copy, IsDelivered}
+
+-- the stamp that a listener notes of a copy of packet k, which is stamped with an instant
+abbrev pub stamp_at : Journal → ℕ → ℕ → Stamp
+stamp_at j k instant = record {
+  seq = k % 256;
+  mr = j.mr k;
+  block = stamped_block (rule_of j.kind k);
+  rate = j.rate;
+  instant = pos instant;
+}
+
+-- a stamp of a packet of the journal
+pub record IsStampOf (j : Journal) (k : ℕ) (stamp : Stamp) : Type 0 where
+  pub known : k < j.packets
+  pub instant : ℕ
+  pub stamped : j.stamp k ≡ Some instant
+  pub same : stamp ≡ stamp_at j k instant
+
+-- a stamp that a talker sent
+pub record IsTrue (j : Journal) (stamp : Stamp) : Type 0 where
+  pub number : ℕ
+  pub is : IsStampOf j number stamp
+
+-- what a listener looks for, to count the copy of a packet without a timestamp from a stamp so far back
+abbrev pub wanted : Journal → ℕ → Copy → Distance → Want
+wanted j lead c far = record {
+  seq = (c.number % 256 + 256 - far.packets) % 256;
+  mr = j.mr c.number;
+  block = counted_block (rule_of j.kind c.number);
+  rate = j.rate;
+  arrival = pos c.arrival;
+  lead = lead;
+  back = far.samples;
+  count = j.count;
+}
+
+-- A listener that expects packets so long before their first instant has a copy of a packet without a timestamp, which is
+-- counted from a stamp so far back.
+pub record IsUnstamped (j : Journal) (lead : ℕ) (c : Copy) (far : Distance) : Type 0 where
+  pub came : IsDelivered j lead c
+  pub none : j.stamp c.number ≡ None
+  pub back : distance (rule_of j.kind c.number) c.number j.count ≡ Some far
+
+-- packet k is not the one from which packet n is counted, but has its sequence number
+pub record IsOther (n k : ℕ) (far : Distance) : Type 0 where
+  pub same : (k + far.packets) % 256 ≡ n % 256
+  pub other : k + far.packets ≢ n
+
+-- The stamp is that of packet n - d, and no restart lies between the two.
+pub record IsHeadOf (j : Journal) (n : ℕ) (far : Distance) (stamp : Stamp) : Type 0 where
+  pub back : far.packets ≤ n
+  pub is : IsStampOf j (n - far.packets) stamp
+  pub one_run : j.mr (n - far.packets) ≡ j.mr n
+
+-- the instant of the sample that is so many samples behind a stamped one
+abbrev pub behind : Journal → ℕ → ℕ → ℕ
+behind j instant samples = instant + samples * 1000000000 / j.rate
+
+-- two instants are at least so many packets' time apart
+abbrev pub AreApart : Journal → ℕ → ℕ → ℕ → Type 0
+AreApart j times x y = IsApart j (4 * times) x y ⊎ IsApart j (4 * times) y x
+
+-- The head of packet n is this stamp, so far back.
+pub record IsCountedFrom (j : Journal) (n : ℕ) (far : Distance) (stamp : Stamp) : Type 0 where
+  pub instant : ℕ
+  pub same : stamp.instant ≡ pos instant
+  pub head : head_of j n ≡ Some (record { instant = instant; first = pos far.samples })

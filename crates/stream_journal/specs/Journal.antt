@@ -1,0 +1,113 @@
+-- The journal of a talker: what it sent, as far as time is concerned, in true numbers. Packets are counted from 0 and not
+-- modulo 256, and instants are whole nanoseconds of gPTP and not modulo 2^32.
+use Rattle.std.specs.Prelude.{◌≡◌, ℕ, ◌-◌, nat_le, if◌then◌else◌, Bool, true, false, ℤ, pos, neg_ℤ, ◌+ℤ◌, Option, Some, None, option_map, option_and_then}
+use Rattle.std.specs.Option.{option_or}
+use Rattle.time_unfold.specs.Lines.{instant_at, nominal_line}
+use Rattle.time_unfold.specs.Stamps.{same_flag}
+use Rattle.stream_journal.specs.Rules.{Rule, Own, Eight, Blocks, Distance, distance, stamped_index}
+use Rattle.stream_journal.specs.Clocks.{Clock, Covers, IsJoinedAt, Pair, Place, pair_at, spot_by}
+
+-- what a packet of H.264 carries: a whole unit, or its first, a middle or its last fragment (RFC 6184)
+pub data Part : Type 0 where
+  Single : Part
+  First : Part
+  Middle : Part
+  Last : Part
+
+-- The kind of a stream's packets, with what of each packet only this kind has.
+pub data Kind : Type 0 where
+  DenseAaf : Kind
+  SparseAaf : Kind
+  -- IEC 61883-6 of an interval (SYT_INTERVAL), with the block count of each packet's first block, modulo 256
+  Am824 : ℕ → (ℕ → ℕ) → Kind
+  -- with the part of a unit that each packet carries
+  H264 : (ℕ → Part) → Kind
+
+-- A talker's stream. An audio stream has one nominal rate in Hz and one count of sample frames or data blocks in each
+-- packet; for H.264 they have no meaning.
+pub record Journal : Type 0 where
+  pub kind : Kind
+  pub rate : ℕ
+  pub count : ℕ
+  -- the number of packets
+  pub packets : ℕ
+  -- the instant of each packet's first sample or of its access unit
+  pub due : ℕ → ℕ
+  -- the instant of the stamped sample or access unit, in the packets that have a timestamp
+  pub stamp : ℕ → Option ℕ
+  -- the media clock restart bit of each packet
+  pub mr : ℕ → Bool
+  pub clock : Clock
+
+-- how packet n is stamped; a packet of H.264 has its own timestamp or none
+abbrev pub rule_of : Kind → ℕ → Rule
+rule_of DenseAaf n = Own
+rule_of SparseAaf n = Eight
+rule_of (Am824 interval dbc) n = Blocks (dbc n) interval
+rule_of (H264 part) n = Own
+
+-- ---- the instants of a packet's samples
+
+-- The stamped sample from which a packet is counted: its instant, and the number of the packet's first sample, counted
+-- from it.
+pub record Head : Type 0 where
+  pub instant : ℕ
+  pub first : ℤ
+
+-- packet n by its own timestamp
+abbrev pub own_head : Journal → ℕ → Option Head
+own_head j n =
+    option_map (λ instant. record { instant = instant; first = neg_ℤ (pos (stamped_index (rule_of j.kind n))) }) (j.stamp n)
+
+-- packet n by the timestamp of packet n - d, where no restart lies between them
+abbrev pub head_from : Journal → ℕ → Distance → Option Head
+head_from j n far =
+    if nat_le far.packets n then
+    if same_flag (j.mr (n - far.packets)) (j.mr n) then
+    option_map (λ instant. record { instant = instant; first = pos far.samples }) (j.stamp (n - far.packets))
+    else None else None
+
+-- The head of packet n: its own timestamp, or that of the packet from which it is counted, where there is one.
+abbrev pub head_of : Journal → ℕ → Option Head
+head_of j n = option_or (own_head j n) (option_and_then (head_from j n) (distance (rule_of j.kind n) n j.count))
+
+-- sample k of a packet with this head, at the nominal rate
+abbrev pub nominal_instant : Journal → Head → ℕ → ℤ
+nominal_instant j head k = instant_at (nominal_line (pos head.instant) j.rate) (head.first +ℤ pos k)
+
+-- sample k of a packet with this head, by a pair of the clock's points
+abbrev pub instant_by : Pair → Journal → Head → ℕ → ℤ
+instant_by pair j head k =
+    let spot = spot_by pair j.rate head.instant in
+    instant_at spot.line ((spot.from +ℤ head.first) +ℤ pos k)
+
+-- Without a clock, sample k of packet n is at this instant.
+pub record IsAtNominal (j : Journal) (n k : ℕ) (instant : ℤ) : Type 0 where
+  pub head : Head
+  pub is_head : head_of j n ≡ Some head
+  pub at : instant ≡ nominal_instant j head k
+
+-- With the clock, sample k of packet n is at this instant: by the joined pair that covers the packet's head.
+pub record IsAtByClock (j : Journal) (n k : ℕ) (instant : ℤ) : Type 0 where
+  pub head : Head
+  pub is_head : head_of j n ≡ Some head
+  pub earlier : Place
+  pub later : Place
+  pub joined : IsJoinedAt j.clock earlier later
+  pub covers : Covers (pair_at j.clock earlier later) j.rate head.instant
+  pub at : instant ≡ instant_by (pair_at j.clock earlier later) j head k
+
+-- Sample k of a packet of audio, or a unit of H.264, which is at the one instant of its packets.
+abbrev pub IsAtBy : Kind → Bool → Journal → ℕ → ℕ → ℤ → Type 0
+IsAtBy DenseAaf true j n k instant = IsAtByClock j n k instant
+IsAtBy DenseAaf false j n k instant = IsAtNominal j n k instant
+IsAtBy SparseAaf true j n k instant = IsAtByClock j n k instant
+IsAtBy SparseAaf false j n k instant = IsAtNominal j n k instant
+IsAtBy (Am824 interval dbc) true j n k instant = IsAtByClock j n k instant
+IsAtBy (Am824 interval dbc) false j n k instant = IsAtNominal j n k instant
+IsAtBy (H264 part) by_clock j n k instant = (k ≡ 0) × (instant ≡ pos (j.due n))
+
+-- Sample k of packet n is at this instant, for listeners with the clock or without. A packet of audio without a head, and
+-- with the clock one whose head no joined pair covers, has no instants.
+abbrev pub IsAt : Bool → Journal → ℕ → ℕ → ℤ → Type 0
+IsAt by_clock j n k instant = IsAtBy j.kind by_clock j n k instant

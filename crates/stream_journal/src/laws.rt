@@ -1,0 +1,64 @@
+//! Laws of journals. Each call is its contract, and does nothing.
+
+ghost use Rattle.std.specs.Prelude.{◌≡◌, ◌⊎◌, ◌+◌, ◌*◌, ◌%◌, ◌^◌, ◌<◌, ◌≤◌, ◌-◌, ℤ, Bool, All, IfSome, List, ℕ, None, Some, false, pos};
+ghost use Rattle.time_unfold.specs.declared.stamp.Stamp.{Stamp};
+ghost use Rattle.time_unfold.specs.Stamps.{candidate, found, is_near};
+ghost use Rattle.time_unfold.specs.Time.{unfolded};
+ghost use Rattle.stream_journal.specs.Rules.{Distance, distance};
+ghost use Rattle.stream_journal.specs.Clocks.{Clock, IsJoinedAt, Place, SeemsJoined};
+ghost use Rattle.stream_journal.specs.Journal.{IsAt, Journal, head_of, rule_of};
+ghost use Rattle.stream_journal.specs.Conforming.{Conforms, HoldsEight, IsApart, IsAudio, IsClock};
+ghost use Rattle.stream_journal.specs.Delivered.{Copy, IsDelivered};
+ghost use Rattle.stream_journal.specs.Heads.{AreApart, IsCountedFrom, IsHeadOf, IsOther, IsStampOf, IsTrue, IsUnstamped, behind, wanted};
+
+/// True time: the timestamp of a copy means the instant that the talker stamped.
+pub fn timestamps_are_true()
+    ensures { (j : Journal) (lead : ℕ) (c : Copy) (instant : ℕ) → IsDelivered j lead c → j.stamp c.number ≡ Some instant → unfolded (instant % 2 ^ 32) (pos c.arrival) ≡ pos instant }
+{}
+
+/// Packets that are so many numbers apart are due at least 3/4 of so many packets' time apart, so they are due in the order
+/// of their numbers.
+pub fn packets_are_spaced()
+    ensures rising { (j : Journal) (n m : ℕ) → IsAudio j → n < m → m < j.packets → j.due n < j.due m }
+    ensures apart { (j : Journal) (n m : ℕ) → IsAudio j → n + m < j.packets → IsApart j (3 * m) (j.due n) (j.due (n + m)) }
+{}
+
+/// A stamped packet that is not the one from which packet n is counted, but has its sequence number, is at least 256
+/// numbers from that one. What would be counted from it is at least 189 packets' time from the instant at which packet n
+/// is due.
+pub fn other_stamps_are_far()
+    ensures numbers { (n k : ℕ) (far : Distance) → IsOther n k far → (k + far.packets + 256 ≤ n) ⊎ (n + 256 ≤ k + far.packets) }
+    ensures instants { (j : Journal) (n k instant : ℕ) (far : Distance) → IsAudio j → n < j.packets → k < j.packets → j.stamp k ≡ Some instant → distance (rule_of j.kind n) n j.count ≡ Some far → IsOther n k far → AreApart j 189 (j.due n) (behind j instant far.samples) }
+{}
+
+/// A listener that has a copy of a packet without a timestamp refuses the stamp of every packet but the right one, whatever
+/// has its sequence number: the copy comes too far from the instant that would be counted from it.
+pub fn other_stamps_are_refused()
+    ensures candidate { (j : Journal) (lead : ℕ) (c : Copy) (far : Distance) (k : ℕ) (stamp : Stamp) (is : IsStampOf j k stamp) → candidate (wanted j lead c far) stamp ≡ pos (behind j is.instant far.samples) }
+    ensures refused { (j : Journal) (lead : ℕ) (c : Copy) (far : Distance) (k : ℕ) (stamp : Stamp) → IsAudio j → IsUnstamped j lead c far → IsStampOf j k stamp → IsOther c.number k far → is_near (wanted j lead c far) stamp ≡ false }
+{}
+
+/// True heads: what a listener finds for a copy of a packet without a timestamp, among whatever stamps it has of the
+/// talker, is the stamp of the packet from which that packet is counted, with no restart between the two. So it is the
+/// head that the packet has in the journal, and for a packet that has none there nothing is found.
+pub fn heads_are_true()
+    ensures stamp { (j : Journal) (lead room : ℕ) (c : Copy) (far : Distance) (stamps : List Stamp) → IsAudio j → IsUnstamped j lead c far → All (IsTrue j) stamps → IfSome (found room (wanted j lead c far) stamps) (IsHeadOf j c.number far) }
+    ensures head { (j : Journal) (lead room : ℕ) (c : Copy) (far : Distance) (stamps : List Stamp) → IsAudio j → IsUnstamped j lead c far → All (IsTrue j) stamps → IfSome (found room (wanted j lead c far) stamps) (IsCountedFrom j c.number far) }
+    ensures none { (j : Journal) (lead room : ℕ) (c : Copy) (far : Distance) (stamps : List Stamp) → IsAudio j → IsUnstamped j lead c far → All (IsTrue j) stamps → head_of j c.number ≡ None → found room (wanted j lead c far) stamps ≡ None }
+{}
+
+/// A sample of a conforming talker has one instant at most, with the clock and without.
+pub fn samples_have_one_instant()
+    ensures { (j : Journal) (by_clock : Bool) (n k : ℕ) (x y : ℤ) → Conforms j → n < j.packets → IsAt by_clock j n k x → IsAt by_clock j n k y → x ≡ y }
+{}
+
+/// Where two packets at most 8 apart have one restart bit, all packets between them have it: no restart lies there.
+pub fn no_restart_lies_between()
+    ensures { (j : Journal) (n d k : ℕ) → HoldsEight j.packets j.mr → n < j.packets → d ≤ n → d ≤ 8 → j.mr (n - d) ≡ j.mr n → n - d ≤ k → k ≤ n → j.mr k ≡ j.mr n }
+{}
+
+/// True clock: a pair of points that a listener joins over copies of the clock's packets is a joined pair of the whole list
+/// of points. Sequence numbers alone would not tell packets that are 256 apart; the time between their points does.
+pub fn joined_pairs_are_true()
+    ensures { (c : Clock) (p q : Place) → IsClock c → SeemsJoined c p q → IsJoinedAt c p q }
+{}
