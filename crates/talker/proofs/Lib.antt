@@ -1,0 +1,9 @@
+pub mod RateLemmas
+pub mod TimingLemmas
+pub mod SampleLemmas
+pub mod SizeLemmas
+pub mod FrameLemmas
+pub mod StreamLemmas
+pub mod LawLemmas
+pub mod PacketLemmas
+pub mod ConformLemmas

@@ -1,0 +1,13 @@
+-- What a talker is once the frame that it lent is given back.
+use Rattle.std.specs.Prelude.{[], ⊤}
+use Rattle.std.specs.Borrow.{follows_so, MutBor, Fml}
+use mathlib.Core.Option.{none}
+use mir.Syntax.{named}
+use Rattle.talker.specs.declared.talker.Talker.{Talker}
+use Rattle.talker.specs.contracts.talker.Talker.{the_row}
+
+-- P holds of it then. `named 0` is the place of the input's lifetime in the signature.
+abbrev pub EndsAs : MutBor Talker → (Talker → Type 0) → Fml
+EndsAs talker P =
+    let row = the_row (record { mir = named 0; lft = [] }) in
+    follows_so row row talker.ghost_name none (λ _ _. ⊤) P

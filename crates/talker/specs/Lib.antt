@@ -1,0 +1,9 @@
+pub mod Plan
+pub mod Timing
+pub mod Samples
+pub mod Frames
+pub mod Faults
+pub mod Journal
+pub mod Talking
+pub mod Kept
+pub mod Lending

@@ -1,0 +1,51 @@
+-- Which plans are talked.
+use Rattle.std.specs.Prelude.{◌≡◌, ℕ, ◌*◌, ◌^◌, ◌≤◌, ◌==◌, false, pos, ◌≤ℤ◌, if◌then◌else◌, Option, Some, None, IsSome}
+use Rattle.aaf_format.specs.Aaf.{frame_size}
+use Rattle.talker.specs.declared.plan.TalkKind.{TalkKind}
+use Rattle.talker.specs.declared.plan.TalkKind.TheVariants.{Aaf, Am824, H264}
+use Rattle.talker.specs.declared.plan.TalkPlan.{TalkPlan}
+
+-- the code of a sample rate in the table of AAF (IEEE 1722-2016, 7), for each rate that it has
+abbrev pub rate_code : ℕ → Option ℕ
+rate_code rate =
+    if rate == 8000 then Some 1 else
+    if rate == 16000 then Some 2 else
+    if rate == 32000 then Some 3 else
+    if rate == 44100 then Some 4 else
+    if rate == 48000 then Some 5 else
+    if rate == 88200 then Some 6 else
+    if rate == 96000 then Some 7 else
+    if rate == 176400 then Some 8 else
+    if rate == 192000 then Some 9 else
+    if rate == 24000 then Some 10 else None
+
+-- the most bytes of samples that a packet of AAF holds in an Ethernet frame
+abbrev pub most_samples : ℕ
+most_samples = 1476
+
+-- PCM in which each packet is stamped. (So far no other kind is talked.)
+abbrev pub IsTalked : TalkKind → Type 0
+IsTalked (Aaf format sparse) = sparse ≡ false
+IsTalked Am824 = ⊥
+IsTalked (H264 last_stamp) = ⊥
+
+abbrev pub FitsPacket : TalkKind → ℕ → ℕ → Type 0
+FitsPacket (Aaf format sparse) channels count = count * frame_size channels format ≤ most_samples
+FitsPacket Am824 channels count = ⊥
+FitsPacket (H264 last_stamp) channels count = ⊥
+
+-- A plan that is talked: PCM in the AVTP audio format, each packet stamped, without a restart and without a media clock.
+pub record IsPlan (plan : TalkPlan) : Type 0 where
+  pub kind : IsTalked plan.kind
+  pub rate : IsSome (rate_code plan.rate)
+  pub some_channels : 1 ≤ plan.channels
+  pub channels : plan.channels ≤ 1023
+  pub some_count : 1 ≤ plan.count
+  pub count : plan.count ≤ 1476
+  pub fits : FitsPacket plan.kind plan.channels plan.count
+  pub started : pos 0 ≤ℤ plan.start
+  pub start : plan.start ≤ℤ pos (4 * 10 ^ 18)
+  pub some_lead : 1 ≤ plan.lead
+  pub lead : plan.lead ≤ 1000000000
+  pub restart : plan.restart ≡ None
+  pub crf : plan.crf ≡ None

@@ -1,0 +1,23 @@
+-- The samples of a plan's packets: the input is sample frames, one after another.
+use Rattle.std.specs.Prelude.{ℕ, ◌-◌, ◌*◌, ◌/◌, ◌%◌, ◌==◌, Bool, List, ◌++◌, length, take, drop, replicate}
+use Rattle.std.specs.Int.{div_ceil}
+
+-- the input is whole sample frames of so many bytes
+abbrev pub is_whole : ℕ → List ℕ → Bool
+is_whole frame input = length input % frame == 0
+
+-- how many packets of `count` sample frames they fill, the last one maybe in part
+abbrev pub packets_for : ℕ → ℕ → List ℕ → ℕ
+packets_for frame count input = div_ceil (length input / frame) count
+
+-- `count` sample frames from the one with this number on, as far as there are any
+abbrev pub sample_frames : ℕ → ℕ → ℕ → List ℕ → List ℕ
+sample_frames frame first count input = take (count * frame) (drop (first * frame) input)
+
+-- filled up with zero bytes
+abbrev pub filled_up : ℕ → List ℕ → List ℕ
+filled_up size bytes = bytes ++ replicate (size - length bytes) 0
+
+-- the samples of packet n
+unfoldable pub samples_of : ℕ → ℕ → List ℕ → ℕ → List ℕ
+samples_of frame count input n = filled_up (count * frame) (sample_frames frame (n * count) count input)

@@ -1,0 +1,26 @@
+//! Why an input makes no stream.
+
+use thiserror::Error;
+
+/// Why a plan and its input make no stream, in the order in which it is tested.
+#[derive(Clone, Copy, Debug, PartialEq, Eq, Error)]
+pub enum TalkFault {
+    /// The input is not whole sample frames.
+    #[error("the input is not whole sample frames")]
+    Frames,
+    /// The input has no start code of H.264 (ITU-T H.264, annex B).
+    #[error("the input has no start code")]
+    StartCode,
+    /// A NAL unit of the input has a type other than 1 to 23.
+    #[error("the input has a NAL unit of another type than 1 to 23")]
+    NalType,
+    /// An access unit needs more than 255 packets.
+    #[error("an access unit needs more than 255 packets")]
+    Packets,
+    /// A packet would arrive later than a capture can say.
+    #[error("a packet would arrive later than a capture can say")]
+    Arrival,
+    /// No memory was found.
+    #[error("out of memory")]
+    Memory,
+}

@@ -1,0 +1,17 @@
+//! A talker: the packets of a stream, made from raw samples.
+#![tactic(auto)]
+
+mod fault;
+pub mod laws;
+mod pcm;
+mod plan;
+mod sent;
+mod talker;
+
+pub use fault::TalkFault;
+pub use plan::{CrfPlan, TalkKind, TalkPlan};
+pub use sent::Sent;
+pub use talker::Talker;
+
+#[cfg(test)]
+mod tests;

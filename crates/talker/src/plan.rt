@@ -1,0 +1,52 @@
+//! What a talker sends, and when.
+
+use aaf_format::AafFormat;
+
+/// The format of a stream.
+#[derive(Clone, Copy, Debug, PartialEq, Eq)]
+pub enum TalkKind {
+    /// PCM in the AVTP audio format (IEEE 1722-2016, 7). A sparse stream stamps one packet in eight.
+    Aaf { format: AafFormat, sparse: bool },
+    /// AM824 (IEC 61883-6).
+    Am824,
+    /// H.264 (IEEE 1722-2016, 8; RFC 6184). A NAL unit may be stamped on its last fragment alone.
+    H264 { last_stamp: bool },
+}
+
+/// A media clock that is sent beside the stream (IEEE 1722-2016, 10).
+#[derive(Clone, Copy, Debug, PartialEq, Eq)]
+pub struct CrfPlan {
+    /// The stream id of the clock.
+    pub id: u64,
+    /// The base frequency in Hz.
+    pub rate: u32,
+    /// The code of the factor by which the base frequency is multiplied.
+    pub pull: u8,
+    /// The events of the clock from one timestamp to the next.
+    pub interval: u16,
+    /// The timestamps of a packet.
+    pub points: u8,
+}
+
+/// What a talker sends, and when.
+#[derive(Clone, Copy, Debug, PartialEq, Eq)]
+pub struct TalkPlan {
+    pub kind: TalkKind,
+    /// The sample rate in Hz; of H.264 the access units in a second.
+    pub rate: u32,
+    /// The channels of each sample frame.
+    pub channels: u16,
+    /// The sample frames of a packet.
+    pub count: u32,
+    /// The stream id.
+    pub id: u64,
+    /// When the first packet is sent, in nanoseconds of gPTP.
+    pub start: i64,
+    /// How long before its first presentation time a packet is sent, in nanoseconds: the maximum transit time.
+    pub lead: u32,
+    /// The packets after which the media clock restarts.
+    pub restart: Option<u32>,
+    /// How far a restart sets presentation times forward, in nanoseconds.
+    pub jump: u32,
+    pub crf: Option<CrfPlan>,
+}

@@ -1,0 +1,14 @@
+//! A frame as it is sent.
+
+/// A frame as it is sent. Its bytes are lent.
+#[derive(Clone, Copy, Debug)]
+pub struct Sent<'a> {
+    /// When it is sent, in nanoseconds of gPTP.
+    pub arrival: i64,
+    /// The number of its packet in the stream, or in the clock, from 0.
+    pub number: u64,
+    /// It is a packet of the media clock.
+    pub clock: bool,
+    /// The bytes of the Ethernet frame.
+    pub bytes: &'a [u8],
+}

@@ -1,0 +1,275 @@
+//! Streams made from samples, and what they must be.
+
+ghost use Rattle.std.specs.Prelude.{◌≡◌, ◌≤◌, ◌<◌, length, IfSome};
+ghost use Rattle.talker.specs.Plan.{IsPlan};
+ghost use Rattle.talker.specs.Talking.{most_input};
+
+use super::{Sent, TalkFault, TalkKind, TalkPlan, Talker};
+use aaf_format::{AafFormat, rate_of, read_aaf};
+use avtp_header::StreamHeader;
+use pcap_frames::{Order, Style, Tag, Unit, read_frame, write_header, write_record};
+use std::process::Abort;
+use std::test::Fail;
+
+/// A capture of one AAF packet of six sample frames, which is sent at 1 s and presented at 1.002 s.
+const ONE: [u8; 106] = [
+    0x4d, 0x3c, 0xb2, 0xa1, 0x02, 0x00, 0x04, 0x00, 0x00, 0x00, 0x00, 0x00, 0x00, 0x00, 0x00, 0x00,
+    0x00, 0x00, 0x04, 0x00, 0x01, 0x00, 0x00, 0x00, 0x01, 0x00, 0x00, 0x00, 0x00, 0x00, 0x00, 0x00,
+    0x42, 0x00, 0x00, 0x00, 0x42, 0x00, 0x00, 0x00, 0x91, 0xe0, 0xf0, 0x00, 0xfe, 0x00, 0x02, 0x00,
+    0x00, 0x00, 0x00, 0x01, 0x81, 0x00, 0x60, 0x02, 0x22, 0xf0, 0x02, 0x81, 0x00, 0x00, 0x02, 0x00,
+    0x00, 0x00, 0x00, 0x01, 0x00, 0x01, 0x3b, 0xb9, 0x4e, 0x80, 0x04, 0x50, 0x02, 0x10, 0x00, 0x18,
+    0x00, 0x00, 0x00, 0x01, 0xff, 0xff, 0x00, 0x02, 0xff, 0xfe, 0x00, 0x03, 0xff, 0xfd, 0x00, 0x04,
+    0xff, 0xfc, 0x00, 0x05, 0xff, 0xfb, 0x00, 0x06, 0xff, 0xfa,
+];
+
+/// Where the samples of that capture begin.
+const SAMPLES: usize = 82;
+
+/// Where the samples of a frame begin.
+const PAYLOAD: usize = 42;
+
+/// The plan of that capture.
+const PLAN: TalkPlan = TalkPlan {
+    kind: TalkKind::Aaf {
+        format: AafFormat::Int16,
+        sparse: false,
+    },
+    rate: 48_000,
+    channels: 2,
+    count: 6,
+    id: 0x0200_0000_0001_0001,
+    start: 1_000_000_000,
+    lead: 2_000_000,
+    restart: None,
+    jump: 1_000_000,
+    crf: None,
+};
+
+const STYLE: Style = Style {
+    order: Order::Little,
+    unit: Unit::Nano,
+};
+
+/// The capture of all frames of that plan.
+fn capture(rt: &HostRuntime, input: &[u8]) -> Result<Vec<u8>, Fail>
+    requires { length input.now ≤ most_input }
+{
+    let mut bytes = Vec::new(rt.alloc());
+    let mut header = [0; 24];
+    write_header(&mut header, STYLE)?;
+    bytes.extend_from_slice(&header)?;
+    let mut talker = Talker::begin(rt.alloc(), PLAN, input)?;
+    for _ in 0..100u32 {
+        let Some(sent) = talker.next() else {
+            return Ok(bytes);
+        };
+        let mut record = [0; 2000];
+        let size = write_record(
+            &mut record,
+            STYLE,
+            sent.arrival,
+            sent.bytes.len() as u32,
+            sent.bytes,
+        )?;
+        bytes.extend_from_slice(&record[..size])?;
+    }
+    Err(Fail::new("more than 100 frames"))
+}
+
+/// Six sample frames make a capture of one packet, and none make the file header alone.
+#[test]
+fn makes_captures(rt: HostRuntime) -> Result<(), Fail> {
+    assert!(rt; capture(&rt, &ONE[SAMPLES..])?.as_slice() == ONE.as_slice());
+    assert!(rt; capture(&rt, &[])?.as_slice() == &ONE[..24]);
+    let none = Talker::begin(rt.alloc(), PLAN, &[])?;
+    assert_eq!(rt; (none.packets(), none.clocks()), (0, 0));
+    Ok(())
+}
+
+/// An input that ends within a sample frame makes no stream.
+#[test]
+fn refuses_parts_of_sample_frames(rt: HostRuntime) -> Result<(), Fail> {
+    for len in 0..9usize {
+        let fault = Talker::begin(rt.alloc(), PLAN, &ONE[..len]).err();
+        let want = if len % 4 == 0 {
+            None
+        } else {
+            Some(TalkFault::Frames)
+        };
+        assert_eq!(rt; fault, want, "{len} bytes");
+    }
+    Ok(())
+}
+
+/// Seven sample frames make two packets, and the second is filled up with zero bytes.
+#[test]
+fn fills_up_the_last_packet(rt: HostRuntime) -> Result<(), Fail> {
+    let mut talker = Talker::begin(rt.alloc(), PLAN, &ONE[78..])?;
+    assert_eq!(rt; talker.packets(), 2);
+    if talker.packets() > 1 {
+        let last = talker.packet(1);
+        assert_eq!(rt;
+            (last.arrival, last.number, last.clock),
+            (1_000_125_000, 1, false)
+        );
+        assert!(rt; last.bytes.get(PAYLOAD..PAYLOAD + 4) == Some(&[0x00, 0x06, 0xff, 0xfa]));
+        assert!(rt; last.bytes.get(PAYLOAD + 4..) == Some(&[0; 20]));
+    }
+    Ok(())
+}
+
+fn same(one: Sent<'_>, other: Sent<'_>) -> bool {
+    one.arrival == other.arrival
+        && one.number == other.number
+        && one.clock == other.clock
+        && one.bytes == other.bytes
+}
+
+/// One after another come the frames of packets 0, 1 and so on to the last, whichever were made before.
+#[test]
+fn gives_each_packet_in_order(rt: HostRuntime) -> Result<(), Fail> {
+    let mut next = Talker::begin(rt.alloc(), PLAN, &ONE[..100])?;
+    let mut numbered = Talker::begin(rt.alloc(), PLAN, &ONE[..100])?;
+    for n in 0..5u64 {
+        if n < numbered.packets() {
+            let wanted = numbered.packet(n);
+            assert!(rt;
+                next.next().is_some_and(|sent| same(sent, wanted)),
+                "packet {n}"
+            );
+        }
+    }
+    assert_eq!(rt; numbered.packets(), 5);
+    assert!(rt; next.next().is_none());
+    assert!(rt; next.next().is_none());
+    Ok(())
+}
+
+/// The plan at the rate with this code, and in this format.
+#[tactic(auto, using(crate::proofs::LawLemmas::named_rate))]
+fn plan_at(code: u8, format: AafFormat) -> Option<TalkPlan>
+    ensures { IfSome result (λ plan. IsPlan plan) }
+{
+    let rate = rate_of(code)?;
+    Some(TalkPlan {
+        kind: TalkKind::Aaf {
+            format,
+            sparse: false,
+        },
+        rate,
+        ..PLAN
+    })
+}
+
+/// A frame is read as packet `n`, and its packet has this header.
+fn check_frame(rt: &impl Abort, sent: Sent<'_>, n: u64, header: StreamHeader) -> Result<(), Fail> {
+    let frame = read_frame(sent.bytes)?;
+    assert_eq!(rt; (sent.number, sent.clock), (n, false));
+    assert_eq!(rt;
+        (frame.dst, frame.src),
+        (0x91e0_f000_fe00, 0x0200_0000_0001)
+    );
+    let tag = Tag {
+        pcp: 3,
+        dei: false,
+        vid: 2,
+    };
+    assert_eq!(rt; (frame.tag, frame.ethertype), (Some(tag), 0x22f0));
+    let packet = read_aaf(frame.payload)?;
+    assert_eq!(rt; packet.header, header, "packet {n}");
+    Ok(())
+}
+
+/// A packet has samples of this format, rate code and depth, all of them this byte.
+fn check_samples(
+    rt: &impl Abort,
+    sent: Sent<'_>,
+    shape: (AafFormat, u8, u8),
+    byte: u8,
+) -> Result<(), Fail> {
+    let frame = read_frame(sent.bytes)?;
+    let packet = read_aaf(frame.payload)?;
+    assert_eq!(rt; (packet.format, packet.nsr, packet.depth), shape);
+    assert_eq!(rt; (packet.channels, packet.count), (2, 6));
+    assert_eq!(rt;
+        (packet.sparse, packet.evt, packet.reserved),
+        (false, 0, false)
+    );
+    assert_eq!(rt;
+        packet
+            .payload
+            .iter()
+            .filter(|sample| **sample == byte)
+            .count(),
+        packet.payload.len()
+    );
+    Ok(())
+}
+
+/// The header of a packet with this sequence number, timestamp and number of bytes.
+fn header(seq: u8, timestamp: u32, data_length: u16) -> StreamHeader {
+    StreamHeader {
+        subtype: 0x02,
+        sv: true,
+        mr: false,
+        format_bits: 0,
+        tv: true,
+        seq,
+        tu: false,
+        stream_id: 0x0200_0000_0001_0001,
+        timestamp,
+        data_length,
+    }
+}
+
+/// Rate codes, and how many nanoseconds behind packet 0 packets 1 and 257 of six sample frames are, rounded down.
+const OFFSETS: [(u8, u32, u32); 10] = [
+    (1, 750_000, 192_750_000),
+    (2, 375_000, 96_375_000),
+    (3, 187_500, 48_187_500),
+    (4, 136_054, 34_965_986),
+    (5, 125_000, 32_125_000),
+    (6, 68_027, 17_482_993),
+    (7, 62_500, 16_062_500),
+    (8, 34_013, 8_741_496),
+    (9, 31_250, 8_031_250),
+    (10, 250_000, 64_250_000),
+];
+
+/// Formats, their depth in bits, and the bytes of a packet's samples.
+const FORMATS: [(AafFormat, u8, u16); 4] = [
+    (AafFormat::Float32, 32, 48),
+    (AafFormat::Int32, 32, 48),
+    (AafFormat::Int24, 24, 36),
+    (AafFormat::Int16, 16, 24),
+];
+
+/// Each format at each rate reads back as the plan has it.
+#[test]
+fn reads_back_as_planned(rt: HostRuntime) -> Result<(), Fail> {
+    let input = [0x5a; 258 * 48];
+    for (code, second, last) in OFFSETS {
+        for (format, depth, size) in FORMATS {
+            let plan = plan_at(code, format).ok_or("no such rate")?;
+            let samples = input
+                .get(..258 * usize::from(size))
+                .ok_or("more than the input")?;
+            let mut talker = Talker::begin(rt.alloc(), plan, samples)?;
+            for (n, seq, offset) in [(0, 0, 0), (1, 1, second), (257, 1, last)] {
+                if n < talker.packets() {
+                    let sent = talker.packet(n);
+                    assert_eq!(rt; sent.arrival, 1_000_000_000 + i64::from(offset));
+                    check_frame(
+                        &rt,
+                        sent,
+                        n,
+                        header(seq, offset.wrapping_add(1_002_000_000), size),
+                    )?;
+                    check_samples(&rt, sent, (format, code, depth), 0x5a)?;
+                }
+            }
+            assert_eq!(rt; talker.packets(), 258);
+        }
+    }
+    Ok(())
+}
