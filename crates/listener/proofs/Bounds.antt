@@ -1,0 +1,140 @@
+-- What is made of a capture is what a schedule takes.
+use Rattle.std.proofs.Common.{◌≡◌, ℕ, zero, suc, ◌+◌, ◌*◌, ◌/◌, ◌%◌, ◌^◌, ◌<◌, ◌≤◌, Bool, true, false, List, [], ◌∷◌, All, length, take, drop, Option, Some, None, refl, arith, inl, inr}
+use Rattle.std.proofs.lemmas.Int.{ints}
+use Rattle.std.proofs.Math.Nat.{div-le_self}
+use Rattle.std.proofs.lemmas.Bool.{cases_lt, ltb-false}
+use Rattle.std.specs.Prelude.{is_none, unwrap_or, if◌then◌else◌}
+use Rattle.std.specs.List.{enumerate_from}
+use Rattle.std.proofs.Math.Nat.{mul-mod_left}
+use Rattle.std.proofs.lemmas.Bool.Decides.{nat_tests}
+use Rattle.std.proofs.lemmas.List.{length-take, length-drop, get_or-drop, get_or-take, get_or_past}
+use Rattle.std.proofs.lemmas.List.Elements.{All-cons, All-filter, All-head, All-map, All-nil, All-tail, All-weaker}
+use Rattle.avtp_base.specs.Octets.{AreBytes, bits}
+use Rattle.avtp_base.specs.Rows.{first_row, or_else}
+use Rattle.avtp_base.specs.declared.refusal.Refusal.{Refusal}
+use Rattle.avtp_base.proofs.BitLemmas.{bits-below}
+use Rattle.avtp_base.proofs.RowLemmas.{or_else-none, rows_passed}
+use Rattle.avtp_header.specs.Header.{kind_refusal}
+use Rattle.aaf_format.specs.Aaf.{Aaf, aaf_of, aaf_refusal, aaf_subtype, frame_size, length_rows, rate_of, sample_rows}
+use Rattle.aaf_format.proofs.AafLemmas.{aaf_spelled}
+use Rattle.pcap_frames.specs.declared.style.Order.{Order}
+use Rattle.pcap_frames.specs.declared.style.Order.TheVariants.{Little, Big}
+use Rattle.pcap_frames.specs.declared.style.Unit as units
+use Rattle.pcap_frames.specs.declared.style.Unit.TheVariants.{Micro, Nano}
+use Rattle.pcap_frames.specs.declared.style.Style.{Style}
+use Rattle.pcap_frames.specs.Layout.{instant, number_at, record_refusal}
+use Rattle.pcap_frames.specs.Capture.{Record, record_of, record_size, records_behind, records_from, style_of, whole_records}
+use Rattle.time_unfold.specs.Time.{IsArrival}
+use Rattle.sample_schedule.specs.declared.entry.Entry.TheVariants.{Item as OfItem}
+use Rattle.sample_schedule.specs.declared.item.HeadRule.TheVariants.{Own, Eight}
+use Rattle.sample_schedule.specs.Limits.{IsEntry, IsItem, IsRule}
+use Rattle.packet_journal.specs.Deliveries.{Delivery, deliveries, delivery, is_delivered}
+use Rattle.listener.specs.Items.{entries, item_of, refused_or, samples_of}
+
+-- ---- arrivals
+
+number_below : (order : Order) (at : ℕ) (bytes : List ℕ) → AreBytes (drop at bytes) → number_at order at 4 bytes < 2 ^ 32
+unfolding number_at
+number_below Little at bytes are = omega (arith, are 0, are 1, are 2, are 3)
+number_below Big at bytes are = omega (arith, are 0, are 1, are 2, are 3)
+
+instant_within : (unit : units.Unit) (seconds fraction : ℕ) → seconds < 2 ^ 32 → fraction < 2 ^ 32 → instant unit seconds fraction ≤ 2 ^ 62
+instant_within Micro seconds fraction s f = omega arith
+instant_within Nano seconds fraction s f = omega arith
+
+are_dropped : (n : ℕ) (bytes : List ℕ) → AreBytes bytes → AreBytes (drop n bytes)
+are_dropped n bytes are i = rw (get_or-drop n bytes i 0) (are (n + i))
+
+are_taken : (n : ℕ) (bytes : List ℕ) → AreBytes bytes → AreBytes (take n bytes)
+are_taken n bytes are i =
+    elim (cases_lt i n) [
+      | inl before ↦ rw (get_or-take n bytes i 0 before) (are i)
+      | inr behind ↦ rw (get_or_past (take n bytes) i 0 (omega (arith, length-take n bytes))) (omega arith)
+    ]
+
+arrives : (style : Style) (bytes : List ℕ) → AreBytes bytes → IsArrival (record_of style bytes).arrival
+arrives style bytes are =
+    let seconds = number_below style.order 0 bytes (are_dropped 0 bytes are) in
+    let fraction = number_below style.order 4 bytes (are_dropped 4 bytes are) in
+    record { from = omega (arith, ints); to = omega (arith, ints, instant_within style.unit _ _ seconds fraction) }
+
+abbrev Arrives : Record → Type 0
+Arrives r = IsArrival r.arrival
+
+first_and_rest : (b : Bool) (r : Record) (records : List Record) → Arrives r → All Arrives records → All Arrives (if b then r ∷ records else [])
+first_and_rest true r records first rest = All-cons Arrives r records first rest
+first_and_rest false r records first rest = All-nil Arrives
+
+from_arrive : (n : ℕ) (style : Style) (bytes : List ℕ) → AreBytes bytes → All Arrives (records_from n style bytes)
+from_arrive zero style bytes are = All-nil Arrives
+from_arrive (suc n) style bytes are =
+    let size = record_size style bytes in
+    first_and_rest (is_none (record_refusal style.order 0 bytes)) _ _
+    (arrives style (take size bytes) (are_taken size bytes are))
+    (from_arrive n style (drop size bytes) (are_dropped size bytes are))
+
+behind_arrive : (style : Option Style) (bytes : List ℕ) → AreBytes bytes → All Arrives (records_behind style bytes)
+behind_arrive None bytes are = All-nil Arrives
+behind_arrive (Some style) bytes are = from_arrive (length bytes) style (drop 24 bytes) (are_dropped 24 bytes are)
+
+-- each whole record has an arrival
+records_arrive : (bytes : List ℕ) → AreBytes bytes → All Arrives (whole_records bytes)
+unfolding whole_records
+records_arrive bytes are = behind_arrive (style_of bytes) bytes are
+
+numbered_arrive : (n : ℕ) (records : List Record) → All Arrives records → All (λ (p : ℕ × Record). Arrives p.1) (enumerate_from n records)
+numbered_arrive n [] all = All-nil (λ (p : ℕ × Record). Arrives p.1)
+numbered_arrive n (r ∷ records) all =
+    All-cons (λ (p : ℕ × Record). Arrives p.1) (n, r) (enumerate_from (n + 1) records) (All-head Arrives r records all) (numbered_arrive (n + 1) records (All-tail Arrives r records all))
+
+-- ---- packets
+
+rate_fits : (nsr : ℕ) → (1 ≤ unwrap_or (rate_of nsr) 0 → 8000 ≤ unwrap_or (rate_of nsr) 0) × (unwrap_or (rate_of nsr) 0 ≤ 192000)
+rate_fits nsr = (λ some. grind (arith, nat_tests), grind (arith, nat_tests))
+
+counted_within : (count frame stated : ℕ) → count ≡ stated / frame → stated < 2 ^ 16 → count ≤ 65535
+counted_within count frame stated e below = omega (arith, div-le_self stated frame)
+
+rule_fits : (sparse : Bool) → IsRule (if sparse then Eight else Own)
+rule_fits true = tt
+rule_fits false = tt
+
+-- the payload has the stated length
+payload_long : (bytes : List ℕ) → aaf_refusal bytes ≡ None → length (aaf_of bytes).payload ≡ bits 20 0 16 bytes
+payload_long bytes accepted =
+    let kind = or_else-none (kind_refusal aaf_subtype bytes) (or_else (first_row (sample_rows bytes)) (first_row (length_rows bytes))) accepted in
+    let rows = or_else-none (first_row (sample_rows bytes)) (first_row (length_rows bytes)) kind.1 in
+    let within = rows_passed (length_rows bytes) rows.1 in
+    let long : 24 + bits 20 0 16 bytes ≤ length bytes = ltb-false _ _ within.0 in
+    omega (arith, length-take (bits 20 0 16 bytes) (drop 24 bytes), length-drop 24 bytes)
+
+whole_frames : (size count frame : ℕ) → count * frame ≡ size → size % count ≡ 0
+whole_frames size count frame e = let turned : frame * count ≡ size = omega arith in rw (← turned) (mul-mod_left frame count)
+
+samples_fit : (d : Delivery) → IsArrival d.arrival → aaf_refusal d.packet ≡ None → IsItem (samples_of d (aaf_of d.packet))
+samples_fit d arrives accepted =
+    let v : Aaf = aaf_of d.packet in
+    let spelled = aaf_spelled d.packet accepted in
+    record {
+      arrival = arrives;
+      count = counted_within v.count (frame_size v.channels v.format) (bits 20 0 16 d.packet) refl (bits-below 20 0 16 d.packet);
+      frames = λ some. rw (payload_long d.packet accepted) (whole_frames (bits 20 0 16 d.packet) v.count (frame_size v.channels v.format) spelled.count);
+      rate_from = (rate_fits v.nsr).0;
+      rate_to = (rate_fits v.nsr).1;
+      rule = rule_fits v.sparse;
+    }
+
+item_fits_by : (d : Delivery) (refusal : Option Refusal) → aaf_refusal d.packet ≡ refusal → IsArrival d.arrival → IsItem (refused_or d refusal (samples_of d (aaf_of d.packet)))
+item_fits_by d None e arrives = samples_fit d arrives e
+item_fits_by d (Some refusal) e arrives = arrives
+
+item_fits : (d : Delivery) → IsArrival d.arrival → IsItem (item_of d)
+item_fits d arrives = item_fits_by d (aaf_refusal d.packet) refl arrives
+
+-- the entries of a capture's records are as a schedule takes them
+pub entries_fit : (stream : ℕ) (bytes : List ℕ) → AreBytes bytes → All IsEntry (entries (deliveries stream None (whole_records bytes)))
+entries_fit stream bytes are =
+    let picked = All-filter (λ (p : ℕ × Record). is_delivered stream None p.1.bytes) (λ (p : ℕ × Record). Arrives p.1) (enumerate_from 1 (whole_records bytes)) (numbered_arrive 1 (whole_records bytes) (records_arrive bytes are)) in
+    All-map IsEntry (λ (d : Delivery). OfItem (item_of d)) (deliveries stream None (whole_records bytes))
+    (All-map (λ (d : Delivery). IsItem (item_of d)) (λ (p : ℕ × Record). delivery p.0 p.1) _
+    (All-weaker (λ (p : ℕ × Record). Arrives p.1) (λ (p : ℕ × Record). IsItem (item_of (delivery p.0 p.1))) (λ p arrives. item_fits (delivery p.0 p.1) arrives) _ picked))

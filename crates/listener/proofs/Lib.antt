@@ -1,0 +1,9 @@
+pub mod Further
+pub mod Bounds
+pub mod Counted
+pub mod TrueItems
+pub mod TrueHeard
+pub mod TrueList
+pub mod TrueOnce
+pub mod TrueTimely
+pub mod TrueOrder

@@ -1,0 +1,211 @@
+-- A copy against which nothing speaks is presented.
+use Rattle.std.proofs.Common.{◌≡◌, ◌⊎◌, inl, inr, ℕ, zero, suc, ◌+◌, ◌-◌, ◌<◌, Bool, true, false, cond, ℤ, pos, ◌≤ℤ◌, List, [], ◌∷◌, ◌++◌, All, length, Option, Some, None, Ok, is_some, refl, sym, ap, ◌∙◌, subst, arith}
+use Rattle.std.specs.Prelude.{◌==◌, if◌then◌else◌, int_lt, IfOk, Result, Any, map, fold, slice_get}
+use Rattle.std.specs.List.{list_any}
+use Rattle.std.proofs.lemmas.Int.{ints}
+use Rattle.std.proofs.lemmas.List.Elements.{All-head, All-tail, All-take}
+use Rattle.pcap_frames.specs.Capture.{whole_records}
+use Rattle.stream_journal.specs.Conforming.{IsAudio}
+use Rattle.sample_schedule.specs.declared.accepted.Accepted.{Accepted}
+use Rattle.sample_schedule.specs.declared.entry.Entry.{Entry}
+use Rattle.sample_schedule.specs.declared.entry.Entry.TheVariants.{Item as OfItem}
+use Rattle.sample_schedule.specs.declared.item.Item.{Item}
+use Rattle.sample_schedule.specs.declared.item.Item.TheVariants.{Packet as OfPacket}
+use Rattle.sample_schedule.specs.declared.plan.SchedulePlan.{SchedulePlan}
+use Rattle.sample_schedule.specs.declared.shown.Reason.{Reason}
+use Rattle.sample_schedule.specs.Batches.{Presented}
+use Rattle.sample_schedule.specs.Laws.{presented}
+use Rattle.sample_schedule.specs.Order.{by_instant, put_behind, standing}
+use Rattle.sample_schedule.specs.Schedule.{accepted, accepted_by, given, now_at, prefix_of, verdict_at}
+use Rattle.sample_schedule.specs.Verdicts.{Clock, first_instant, is_copy, is_full, same_instant, timed, verdict}
+use Rattle.sample_schedule.proofs.LawLemmas.{accepted-presented}
+use Rattle.sample_schedule.proofs.OrderLemmas.{lt_false}
+use Rattle.packet_journal.specs.Deliveries.{Delivery, deliveries}
+use Rattle.packet_journal.specs.Packets.{PacketJournal, carried}
+use Rattle.listener.specs.declared.plan.ListenPlan.{ListenPlan}
+use Rattle.listener.specs.Heard.{heard_of, schedule_plan}
+use Rattle.listener.specs.Items.{entries, item_of}
+use Rattle.listener.specs.Laws.{Hears, IsAaf, IsOfPacket, IsPresentedOf, IsWelcome, accepted_before, deliveries_of, entries_in, has_head, presented_of, time_of}
+use Rattle.listener.proofs.TrueItems.{Shows, all_shown, copy_item, sent}
+use Rattle.listener.proofs.TrueHeard.{IsBatchOf, timed_ok, timed_true}
+use Rattle.listener.proofs.TrueList.{IsTrueAccepted, IsTrueEntry, accepted_true, audio, batches_are, entries_true, stamps_true}
+use Rattle.listener.proofs.TrueOnce.{due_once, first_due}
+
+-- ---- elements of lists
+
+In : {X : Type 0} → List X → X → Type 0
+In {X} [] x = ⊥
+In {X} (y ∷ ys) x = (y ≡ x) ⊎ In ys x
+
+in_left : {X : Type 0} (xs ys : List X) (x : X) → In xs x → In (xs ++ ys) x
+unfolding In
+in_left {X} [] ys x h = absurd h
+in_left {X} (y ∷ xs) ys x (inl e) = inl e
+in_left {X} (y ∷ xs) ys x (inr h) = inr (in_left xs ys x h)
+
+in_last : {X : Type 0} (xs : List X) (x : X) → In (xs ++ x ∷ []) x
+unfolding In
+in_last {X} [] x = inl refl
+in_last {X} (y ∷ xs) x = inr (in_last xs x)
+
+in_behind : (ys : List Accepted) (a x : Accepted) → (a ≡ x) ⊎ In ys x → In (put_behind ys a) x
+unfolding In
+in_behind [] a x (inl e) = inl e
+in_behind [] a x (inr h) = absurd h
+in_behind (b ∷ bs) a x h = elim (int_lt a.instant b.instant) as (λ v. In (cond v (a ∷ b ∷ bs) (b ∷ put_behind bs a)) x) [
+  | true ↦ h
+  | false ↦ elim h [
+    | inl e ↦ inr (in_behind bs a x (inl e))
+    | inr (inl e) ↦ inl e
+    | inr (inr g) ↦ inr (in_behind bs a x (inr g))
+  ]
+]
+
+in_sorted : (xs ys : List Accepted) (x : Accepted) → In ys x ⊎ In xs x → In (fold put_behind ys xs) x
+unfolding In
+in_sorted [] ys x (inl h) = h
+in_sorted [] ys x (inr h) = absurd h
+in_sorted (y ∷ xs) ys x (inl h) = in_sorted xs (put_behind ys y) x (inl (in_behind ys y x (inr h)))
+in_sorted (y ∷ xs) ys x (inr (inl e)) = in_sorted xs (put_behind ys y) x (inl (in_behind ys y x (inl e)))
+in_sorted (y ∷ xs) ys x (inr (inr h)) = in_sorted xs (put_behind ys y) x (inr h)
+
+in_order : (xs : List Accepted) (x : Accepted) → In xs x → In (by_instant xs) x
+unfolding by_instant
+in_order xs x h = in_sorted xs [] x (inr h)
+
+any_batch : (P : Presented → Type 0) (xs : List Accepted) (x : Accepted) → In xs x → P x.batch → Any P (map (λ (a : Accepted). a.batch) xs)
+unfolding In
+any_batch P [] x h holds = absurd h
+any_batch P (y ∷ xs) x (inl e) holds = (0, x.batch, omega arith, ap (λ (a : Accepted). a.batch) e, holds)
+any_batch P (y ∷ xs) x (inr h) holds =
+    let rest = any_batch P xs x h holds in
+    (suc rest.0, rest.1, let within = rest.2 in omega arith, rest.3, rest.4)
+
+at_place : {X : Type 0} (P : X → Type 0) (xs : List X) (n : ℕ) (x : X) → All P xs → slice_get xs n ≡ Some x → P x
+at_place {X} P [] n x all e = absurd cc
+at_place {X} P (y ∷ xs) zero x all e = let same : y ≡ x = cc in subst P same (All-head P y xs all)
+at_place {X} P (y ∷ xs) (suc n) x all e = at_place P xs n x (All-tail P y xs all) e
+
+place_within : {X : Type 0} (xs : List X) (n : ℕ) (x : X) → slice_get xs n ≡ Some x → n < length xs
+place_within {X} [] n x e = absurd cc
+place_within {X} (y ∷ xs) zero x e = omega arith
+place_within {X} (y ∷ xs) (suc n) x e = let h = place_within xs n x e in omega arith
+
+entry_there : (ds : List Delivery) (n : ℕ) (d : Delivery) → slice_get ds n ≡ Some d → slice_get (entries ds) n ≡ Some (OfItem (item_of d))
+entry_there [] n d e = absurd cc
+entry_there (x ∷ ds) zero d e = let same : x ≡ d = cc in ap (λ (y : Delivery). Some (OfItem (item_of y))) same
+entry_there (x ∷ ds) (suc n) d e = entry_there ds n d e
+
+-- ---- what is accepted stays accepted
+
+stays : (clock : Clock) (plan : SchedulePlan) (es : List Entry) (n k : ℕ) (a : Accepted) → In (accepted clock plan es n) a → In (accepted clock plan es (n + k)) a
+unfolding accepted
+stays clock plan es n zero a h = let e : n + 0 ≡ n = omega arith in rw e h
+stays clock plan es n (suc k) a h =
+    let e : n + suc k ≡ suc (n + k) = omega arith in
+    rw e (in_left (accepted clock plan es (n + k)) (accepted_by (verdict_at clock plan es (n + k) (accepted clock plan es (n + k)))) a (stays clock plan es n k a h))
+
+becomes : (clock : Clock) (plan : SchedulePlan) (es : List Entry) (n : ℕ) (a : Accepted) → verdict_at clock plan es n (accepted clock plan es n) ≡ Some (Ok a) → In (accepted clock plan es (suc n)) a
+unfolding accepted
+becomes clock plan es n a e = rw e (in_last (accepted clock plan es n) a)
+
+accepted_shown : (clock : Clock) (plan : SchedulePlan) (es : List Entry) (n : ℕ) (a : Accepted) → n < length es → verdict_at clock plan es n (accepted clock plan es n) ≡ Some (Ok a) → In (presented (given clock plan es)) a
+accepted_shown clock plan es n a within e =
+    let last : suc n + (length es - suc n) ≡ length es = omega arith in
+    let all : In (accepted clock plan es (length es)) a = subst (λ (m : ℕ). In (accepted clock plan es m) a) last (stays clock plan es (suc n) (length es - suc n) a (becomes clock plan es n a e)) in
+    subst (λ (l : List Accepted). In l a) (sym (accepted-presented clock plan es)) (in_order (accepted clock plan es (length es)) a all)
+
+-- ---- no copy was accepted
+
+one_instant_of : (x y : ℤ) → same_instant x y ≡ true → x ≡ y
+one_instant_of x y e = grind (arith, ints)
+
+is_copy_so : (instant : ℤ) (seq : ℕ) (a : Accepted) → is_copy instant seq a ≡ true → a.instant ≡ instant
+is_copy_so instant seq a e = by (same_instant a.instant instant) refl e
+  where
+    by : (b : Bool) → same_instant a.instant instant ≡ b → (if b then a.batch.seq == seq else false) ≡ true → a.instant ≡ instant
+    by true f g = one_instant_of a.instant instant f
+    by false f g = absurd cc
+
+one_due_of : (z w : ℤ) (a b : ℕ) → z ≡ w → z ≡ pos a → w ≡ pos b → a ≡ b
+one_due_of z w a b e f g = omega (arith, ints)
+
+not_copied : (p : PacketJournal) (n : ℕ) (batch : Presented) (a : Accepted) (b : Bool) → IsAudio p.times → IsAaf p.times.kind → IsOfPacket p n batch → IsTrueAccepted p a → ¬ IsOfPacket p n a.batch
+    → is_copy (first_instant batch) batch.seq a ≡ b → b ≡ false
+not_copied p n batch a true is aaf x t other e =
+    let m = t.is.number in
+    let instant : first_instant a.batch ≡ first_instant batch = sym t.instant ∙ is_copy_so (first_instant batch) batch.seq a e in
+    let due = one_due_of (first_instant a.batch) (first_instant batch) (p.times.due m) (p.times.due n) instant (first_due p m a.batch aaf is t.is.is) (first_due p n batch aaf is x) in
+    let same : m ≡ n = due_once p.times m n is t.is.is.known x.known due in
+    absurd (other (subst (λ (k : ℕ). IsOfPacket p k a.batch) same t.is.is))
+not_copied p n batch a false is aaf x t other e = refl
+
+none_copied : (p : PacketJournal) (n : ℕ) (batch : Presented) (earlier : List Accepted) → IsAudio p.times → IsAaf p.times.kind → IsOfPacket p n batch → All (IsTrueAccepted p) earlier
+    → All (λ a. ¬ IsOfPacket p n a.batch) earlier → list_any (is_copy (first_instant batch) batch.seq) earlier ≡ false
+none_copied p n batch [] is aaf x true_ones others = refl
+none_copied p n batch (a ∷ rest) is aaf x true_ones others =
+    rw (not_copied p n batch a (is_copy (first_instant batch) batch.seq a) is aaf x (All-head (IsTrueAccepted p) a rest true_ones) (All-head (λ a. ¬ IsOfPacket p n a.batch) a rest others) refl)
+    (none_copied p n batch rest is aaf x (All-tail (IsTrueAccepted p) a rest true_ones) (All-tail (λ a. ¬ IsOfPacket p n a.batch) a rest others))
+
+-- ---- the verdict
+
+abbrev taken : ℕ → Presented → Accepted
+taken place batch = record { place = place; instant = first_instant batch; batch = batch }
+
+verdict_is : (plan : SchedulePlan) (now : ℤ) (earlier : List Accepted) (place : ℕ) (r : Result Presented Reason) (batch : Presented) → r ≡ Ok batch → now ≤ℤ first_instant batch
+    → list_any (is_copy (first_instant batch) batch.seq) earlier ≡ false → is_full plan (standing now earlier) (length batch.bytes) ≡ false → verdict plan now earlier place r ≡ Ok (taken place batch)
+unfolding verdict
+verdict_is plan now earlier place r batch e h fresh room = rw (e, lt_false (first_instant batch) now h, fresh, room) refl
+
+verdict_of : (clock : Clock) (plan : SchedulePlan) (es : List Entry) (n : ℕ) (earlier : List Accepted) (item : Item) (a : Accepted) → slice_get es n ≡ Some (OfItem item)
+    → verdict plan (now_at es n) earlier n (timed clock plan (prefix_of plan es n) item) ≡ Ok a → verdict_at clock plan es n earlier ≡ Some (Ok a)
+unfolding verdict_at
+verdict_of clock plan es n earlier item a e f = rw e (ap Some f)
+
+-- what the listener makes of the delivery
+record IsTimely (clock : Clock) (p : PacketJournal) (plan : ListenPlan) (bytes : List ℕ) (place n : ℕ) (d : Delivery) : Type 0 where
+  batch : Presented
+  timed_is : timed clock (schedule_plan plan) (prefix_of (schedule_plan plan) (entries_in plan bytes) place) (item_of d) ≡ Ok batch
+  is : IsBatchOf p n d.frame batch
+
+timely : (clock : Clock) (shift : ℤ) (p : PacketJournal) (plan : ListenPlan) (bytes : List ℕ) (place n : ℕ) (d : Delivery) → Hears shift p plan bytes → IsWelcome clock p plan bytes place n d → IsTimely clock p plan bytes place n d
+timely clock shift p plan bytes place n d h w =
+    let sp = schedule_plan plan in
+    let records = whole_records bytes in
+    let es = entries_in plan bytes in
+    let prefix = prefix_of sp es place in
+    let is = audio p h.kind h.conforming.times in
+    let off : is_some plan.clock ≡ false = rw h.clock refl in
+    let there : slice_get (deliveries plan.stream None records) place ≡ Some d = subst (λ (c : Option ℕ). slice_get (deliveries plan.stream c records) place ≡ Some d) h.clock w.there in
+    let shows = at_place Shows (deliveries plan.stream None records) place d (all_shown plan.stream 1 records) there in
+    let same : item_of d ≡ OfPacket (sent p.times p.times.kind n d.frame w.copy.arrival (carried (p.packet n))) = copy_item shift p plan.lead n d h.conforming h.kind w.copy shows.seq in
+    let known = subst (λ (i : Item). has_head sp prefix i ≡ true) same w.known in
+    let stamps = stamps_true (deliveries_of plan bytes) p plan.lead prefix is h.kind (All-take (IsTrueEntry (deliveries_of plan bytes) p plan.lead) (place + plan.look + 1) es (entries_true shift p plan bytes h)) in
+    let ok = timed_ok p clock sp n d.frame w.copy.arrival prefix off is known in
+    let so = timed_true p clock sp n d.frame w.copy.arrival prefix off is h.kind w.copy.delivered stamps in
+    record {
+      batch = ok.batch;
+      timed_is = ap (timed clock sp prefix) same ∙ ok.same;
+      is = subst (λ (r : Result Presented Reason). IfOk r (IsBatchOf p n d.frame)) ok.same so;
+    }
+
+pub welcome_shown : (clock : Clock) (shift : ℤ) (p : PacketJournal) (plan : ListenPlan) (bytes : List ℕ) (place n : ℕ) (d : Delivery) → Hears shift p plan bytes → IsWelcome clock p plan bytes place n d
+    → Any (IsPresentedOf p n d) (presented_of (heard_of clock plan bytes).shown)
+welcome_shown clock shift p plan bytes place n d h w =
+    let sp = schedule_plan plan in
+    let es = entries_in plan bytes in
+    let earlier = accepted_before clock plan bytes place in
+    let is = audio p h.kind h.conforming.times in
+    let off : is_some plan.clock ≡ false = rw h.clock refl in
+    let t = timely clock shift p plan bytes place n d h w in
+    let first = first_due p n t.batch h.kind is t.is.is in
+    let now : time_of plan bytes place ≤ℤ first_instant t.batch = subst (λ (z : ℤ). time_of plan bytes place ≤ℤ z) (sym first) w.in_time in
+    let fresh = none_copied p n t.batch earlier is h.kind t.is.is (accepted_true (deliveries_of plan bytes) p clock sp es place off is h.kind (entries_true shift p plan bytes h)) w.first in
+    let room : is_full sp (standing (time_of plan bytes place) earlier) (length t.batch.bytes) ≡ false =
+    subst (λ (l : List ℕ). is_full sp (standing (time_of plan bytes place) earlier) (length l) ≡ false) (sym t.is.is.bytes) w.room in
+    let there = entry_there (deliveries_of plan bytes) place d w.there in
+    let accepted_so = verdict_of clock sp es place earlier (item_of d) (taken place t.batch) there (verdict_is sp (time_of plan bytes place) earlier place _ t.batch t.timed_is now fresh room) in
+    let shown = accepted_shown clock sp es place (taken place t.batch) (place_within es place _ there) accepted_so in
+    let gs = given clock sp es in
+    subst (λ (l : List Presented). Any (IsPresentedOf p n d) l) (sym (batches_are gs))
+    (any_batch (IsPresentedOf p n d) (presented gs) (taken place t.batch) shown (record { frame = t.is.frame_is; is = t.is.is }))

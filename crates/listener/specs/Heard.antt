@@ -1,0 +1,58 @@
+-- What a listener shows of a whole capture.
+use Rattle.std.specs.Prelude.{ℕ, Bool, true, false, is_some, List, length, count_by, None}
+use Rattle.pcap_frames.specs.Capture.{Record, first_refusal, whole_records}
+use Rattle.sample_schedule.specs.declared.entry.Entry.{Entry}
+use Rattle.sample_schedule.specs.declared.plan.SchedulePlan.{SchedulePlan}
+use Rattle.sample_schedule.specs.declared.shown.Shown.{Shown}
+use Rattle.sample_schedule.specs.declared.shown.Shown.TheVariants.{Present, Flag}
+use Rattle.sample_schedule.specs.Schedule.{shown}
+use Rattle.sample_schedule.specs.Verdicts.{Clock}
+use Rattle.listener.specs.declared.heard.Counts.{Counts}
+use Rattle.listener.specs.declared.heard.Heard.{Heard}
+use Rattle.listener.specs.declared.plan.ListenPlan.{ListenPlan}
+use Rattle.packet_journal.specs.Deliveries.{deliveries}
+use Rattle.listener.specs.Items.{entries}
+
+-- the schedule's part of a plan
+abbrev pub schedule_plan : ListenPlan → SchedulePlan
+schedule_plan plan = record {
+  buffer = plan.buffer;
+  room = plan.room;
+  look = plan.look;
+  lead = plan.lead;
+  clock = is_some plan.clock;
+  shift = plan.shift;
+}
+
+-- the entries of a list of records
+abbrev pub entries_of : ListenPlan → List Record → List Entry
+entries_of plan records = entries (deliveries plan.stream plan.clock records)
+
+-- what is shown of a list of records
+abbrev pub shown_of : Clock → ListenPlan → List Record → List Shown
+shown_of clock plan records = shown clock (schedule_plan plan) (entries_of plan records)
+
+abbrev pub is_present : Shown → Bool
+is_present (Present batch) = true
+is_present (Flag frame seq reason) = false
+
+abbrev pub is_flag : Shown → Bool
+is_flag (Present batch) = false
+is_flag (Flag frame seq reason) = true
+
+-- The numbers of the records, of the deliveries of the stream, and of what is presented and flagged.
+abbrev pub counts_of : ListenPlan → List Record → List Shown → Counts
+counts_of plan records list = record {
+  frames = length records;
+  packets = length (deliveries plan.stream None records);
+  presented = count_by is_present list;
+  flagged = count_by is_flag list;
+}
+
+-- What a listener shows of the bytes: the schedule of their whole records, which is that of those before the first
+-- refusal; its numbers; and the first refusal, where there is one.
+abbrev pub heard_of : Clock → ListenPlan → List ℕ → Heard
+heard_of clock plan bytes =
+    let records = whole_records bytes in
+    let list = shown_of clock plan records in
+    record { shown = list; counts = counts_of plan records list; refused = first_refusal bytes }

@@ -1,0 +1,5 @@
+pub mod Views
+pub mod Items
+pub mod Heard
+pub mod Collected
+pub mod Laws

@@ -1,0 +1,48 @@
+//! A whole capture at once.
+
+ghost use Rattle.std.specs.Prelude.{◌≡◌, ◌≤◌, ◌^◌, None, IfOk, length};
+ghost use Rattle.pcap_frames.specs.Capture.{first_refusal, whole_records};
+ghost use Rattle.sample_schedule.specs.Limits.{IsPlan};
+ghost use Rattle.sample_schedule.specs.Verdicts.{Clock};
+ghost use Rattle.listener.specs.Heard.{counts_of, heard_of, schedule_plan, shown_of};
+
+use crate::collected::Collected;
+use crate::heard::{Counts, Heard, ShownList};
+use crate::plan::ListenPlan;
+use crate::reading::{Reading, read_capture};
+use avtp_base::NoMemory;
+use sample_schedule::schedule;
+use std::alloc::Global;
+
+/// What a listener shows of a whole capture: the schedule of the stream's packets in its whole records, which are those
+/// before the first refusal; how many there were; and the first refusal.
+///
+/// A record belongs to the stream where it is a readable Ethernet frame of AVTP, its packet is of a kind that is read (so
+/// far AAF, IEEE 1722-2016, 7), and its stream id is valid and the wanted one. A packet that its reader refuses is flagged
+/// as malformed. Record times are taken as nanoseconds of gPTP. The plan is within the limits that `ListenPlan` names, and
+/// has no clock.
+///
+/// `NoMemory` comes where no memory is found, and nothing is shown then.
+pub fn whole(alloc: Global, plan: &ListenPlan, bytes: &[u8]) -> Result<Heard, NoMemory>
+    requires plan { IsPlan (schedule_plan plan.now) }
+    requires no_clock { plan.now.clock ≡ None }
+    requires bounded { length bytes.now ≤ 2 ^ 62 }
+    ensures exact { IfOk result (λ heard. (clock : Clock) → heard ≡ heard_of clock plan.now bytes.now) }
+    ensures shown { IfOk result (λ heard. (clock : Clock) → heard.shown ≡ shown_of clock plan.now (whole_records bytes.now)) }
+    ensures counts { IfOk result (λ heard. heard.counts ≡ counts_of plan.now (whole_records bytes.now) heard.shown) }
+    ensures refused { IfOk result (λ heard. heard.refused ≡ first_refusal bytes.now) }
+{
+    let Reading { collected, refused } = read_capture(alloc, plan.stream, bytes)?;
+    let Collected {
+        frames,
+        packets,
+        entries,
+    } = collected;
+    let list = schedule(alloc, &plan.schedule_plan(), entries)?;
+    let counts = Counts::of(frames, packets, list.as_slice());
+    Ok(Heard {
+        shown: ShownList::over(list),
+        counts,
+        refused,
+    })
+}

@@ -1,0 +1,60 @@
+//! What a delivery is made into.
+
+ghost use Rattle.std.specs.Prelude.{◌≡◌, IfOk};
+ghost use Rattle.aaf_format.specs.Aaf.{aaf_shape};
+ghost use Rattle.listener.specs.Views.{delivery_shape};
+ghost use Rattle.listener.specs.Items.{item_of as item_of_delivery, malformed as malformed_of, samples_of as samples_of_packet};
+
+use crate::delivery::DeliveryView;
+use aaf_format::{AafView, rate_of, read_aaf};
+use avtp_base::{Bytes, NoMemory, Refusal};
+use sample_schedule::{Bad, HeadRule, Item, Packet, Reason};
+use std::alloc::Global;
+
+fn malformed(delivery: &DeliveryView<'_>, refusal: Refusal) -> Item
+    ensures { result ≡ malformed_of (delivery_shape delivery.now) refusal }
+{
+    Item::Bad(Bad {
+        frame: delivery.frame,
+        arrival: delivery.arrival,
+        seq: delivery.seq,
+        reason: Reason::Malformed(refusal.field),
+    })
+}
+
+/// The samples of a packet, copied.
+fn samples_of(
+    alloc: Global,
+    delivery: &DeliveryView<'_>,
+    view: &AafView<'_>,
+) -> Result<Item, NoMemory>
+    ensures { IfOk result (λ item. item ≡ samples_of_packet (delivery_shape delivery.now) (aaf_shape view.now)) }
+{
+    let bytes = Vec::from_slice(alloc, view.payload)?;
+    Ok(Item::Packet(Packet {
+        frame: delivery.frame,
+        arrival: delivery.arrival,
+        seq: delivery.seq,
+        mr: view.header.mr,
+        tu: view.header.tu,
+        stamp: view.header.tv.then_some(view.header.timestamp),
+        rule: if view.sparse {
+            HeadRule::Eight
+        } else {
+            HeadRule::Own
+        },
+        rate: rate_of(view.nsr).unwrap_or(0),
+        count: view.count,
+        bytes: Bytes::over(bytes),
+    }))
+}
+
+/// The item that a delivery is: its samples, or the field by which its packet is refused.
+pub fn item_of(alloc: Global, delivery: &DeliveryView<'_>) -> Result<Item, NoMemory>
+    ensures { IfOk result (λ item. item ≡ item_of_delivery (delivery_shape delivery.now)) }
+{
+    match read_aaf(delivery.packet) {
+        Ok(view) => samples_of(alloc, delivery, &view),
+        Err(refusal) => Ok(malformed(delivery, refusal)),
+    }
+}

@@ -1,0 +1,18 @@
+//! A listener: what of a stream is presented, at which nanosecond, and why the rest is not, from the bytes of a capture.
+#![tactic(auto)]
+
+mod capture;
+mod collected;
+mod delivery;
+mod heard;
+mod item;
+pub mod laws;
+mod plan;
+mod reading;
+
+pub use capture::whole;
+pub use heard::{Counts, Heard, ShownList};
+pub use plan::ListenPlan;
+
+#[cfg(test)]
+mod tests;

@@ -1,0 +1,41 @@
+//! What a listener is told.
+
+ghost use Rattle.std.specs.Prelude.{◌≡◌};
+ghost use Rattle.listener.specs.Heard.{schedule_plan as schedule_plan_of};
+
+use sample_schedule::SchedulePlan;
+
+/// What a listener listens to, and how.
+#[derive(Clone, Copy, Debug, PartialEq, Eq)]
+pub struct ListenPlan {
+    /// The id of the stream.
+    pub stream: u64,
+    /// The id of the stream's media clock, where its samples are counted on the clock's lines.
+    pub clock: Option<u64>,
+    /// The most batches that wait for their instant, 1 to 65,536.
+    pub buffer: u32,
+    /// The most bytes that they have together, 1 to 1,073,741,824.
+    pub room: u32,
+    /// How many further items an item waits for before it is judged, 0 to 64.
+    pub look: u32,
+    /// How long before its instant a packet is expected, at most 1,000,000,000 ns.
+    pub lead: u32,
+    /// What is added to each timestamp of the clock, from -1,000,000,000 to 1,000,000,000 ns.
+    pub shift: i64,
+}
+
+impl ListenPlan {
+    /// The schedule's part of the plan.
+    pub(crate) fn schedule_plan(&self) -> SchedulePlan
+        ensures { result ≡ schedule_plan_of self.now }
+    {
+        SchedulePlan {
+            buffer: self.buffer,
+            room: self.room,
+            look: self.look,
+            lead: self.lead,
+            clock: self.clock.is_some(),
+            shift: self.shift,
+        }
+    }
+}
