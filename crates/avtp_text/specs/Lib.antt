@@ -2,3 +2,4 @@ pub mod Written
 pub mod Pieces
 pub mod Notices
 pub mod Show
+pub mod Listen

@@ -1,5 +1,5 @@
 -- The lines of `show`: one for each record of a capture, and one at its end.
-use Rattle.std.specs.Prelude.{List, ℕ, ℤ, ◌++◌, length, codes, decimal, unwrap_or}
+use Rattle.std.specs.Prelude.{List, ℕ, ℤ, ◌/◌, ◌%◌, ◌++◌, length, codes, decimal, unwrap_or}
 use Rattle.std.specs.Fmt.{signed_decimal}
 use Rattle.avtp_base.specs.declared.refusal.Refusal.{Refusal}
 use Rattle.pcap_frames.specs.Frame.{Frame}
@@ -7,6 +7,11 @@ use Rattle.avtp_header.specs.declared.header.StreamHeader.{StreamHeader}
 use Rattle.aaf_format.specs.declared.aaf.AafFormat.{AafFormat}
 use Rattle.aaf_format.specs.declared.aaf.AafFormat.TheVariants.{Float32, Int32, Int24, Int16}
 use Rattle.aaf_format.specs.Aaf.{Aaf, rate_of}
+use Rattle.iec61883_format.specs.Iec.{Iec}
+use Rattle.cvf_format.specs.declared.cvf.NalPart.{NalPart}
+use Rattle.cvf_format.specs.declared.cvf.NalPart.TheVariants.{Single, First, Middle, Last}
+use Rattle.cvf_format.specs.Cvf.{Cvf}
+use Rattle.crf_format.specs.Crf.{Crf, point_at}
 use Rattle.avtp_text.specs.Pieces.{newline, flag_text, id_text, refusal_text}
 
 -- how the line of a record begins: its number from 1, and its arrival in nanoseconds
@@ -61,3 +66,48 @@ aaf_content v =
     ++ codes " depth " ++ decimal v.depth
     ++ codes " count " ++ decimal v.count
     ++ codes " bytes " ++ decimal v.header.data_length
+
+-- an IEC 61883-6 packet
+unfoldable pub iec_content : Iec → List ℕ
+iec_content v =
+    codes "iec " ++ header_text v.header
+    ++ codes " dbs " ++ decimal v.cip.dbs
+    ++ codes " dbc " ++ decimal v.cip.dbc
+    ++ codes " fdf " ++ decimal v.cip.fdf
+    ++ codes " count " ++ decimal v.count
+    ++ codes " bytes " ++ decimal v.header.data_length
+
+abbrev pub part_text : NalPart → List ℕ
+part_text Single = codes "single"
+part_text First = codes "first"
+part_text Middle = codes "middle"
+part_text Last = codes "last"
+
+-- the type of a NAL unit, by the unit's first byte
+abbrev pub nal_type : ℕ → ℕ
+nal_type nal = nal % 32
+
+-- an H.264 packet
+unfoldable pub h264_content : Cvf → List ℕ
+h264_content v =
+    codes "h264 " ++ header_text v.header
+    ++ codes " ptv " ++ flag_text v.ptv
+    ++ codes " pt " ++ decimal v.h264_timestamp
+    ++ codes " marker " ++ flag_text v.marker
+    ++ codes " nal " ++ decimal (nal_type v.nal)
+    ++ codes " part " ++ part_text v.part
+    ++ codes " bytes " ++ decimal v.header.data_length
+
+-- a CRF packet, with the number of its timestamps and the first of them
+unfoldable pub crf_content : Crf → List ℕ
+crf_content v =
+    codes "crf id " ++ id_text v.stream_id
+    ++ codes " seq " ++ decimal v.seq
+    ++ codes " mr " ++ flag_text v.mr
+    ++ codes " tu " ++ flag_text v.tu
+    ++ codes " type " ++ decimal v.kind
+    ++ codes " base " ++ decimal v.base_frequency
+    ++ codes " pull " ++ decimal v.pull
+    ++ codes " interval " ++ decimal v.interval
+    ++ codes " points " ++ decimal (length v.payload / 8)
+    ++ codes " first " ++ decimal (point_at 0 v.payload)

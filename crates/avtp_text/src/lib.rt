@@ -3,6 +3,7 @@
 
 mod buffer;
 mod line;
+mod listen;
 mod notices;
 mod show;
 

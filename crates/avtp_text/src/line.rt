@@ -1,7 +1,8 @@
 //! One line of text while it is put together.
 
-ghost use Rattle.std.specs.Prelude.{◌≡◌, ◌+◌, ◌≤◌, ◌++◌, length, decimal};
+ghost use Rattle.std.specs.Prelude.{◌≡◌, ◌+◌, ◌*◌, ◌≤◌, [], ◌++◌, length, decimal};
 ghost use Rattle.std.specs.Fmt.{signed_decimal};
+ghost use Rattle.hex.specs.Hex.{encode_lower};
 ghost use Rattle.avtp_text.specs.Pieces.{newline, id_text, flag_text, refusal_text};
 
 use avtp_base::Refusal;
@@ -39,6 +40,17 @@ impl Line {
         Line {
             scratch,
             start: LONGEST - 1,
+        }
+    }
+
+    /// Nothing yet, not even a newline.
+    #[inline(always)]
+    pub fn blank() -> Self
+        ensures { result ≡ [] }
+    {
+        Line {
+            scratch: [0; LONGEST],
+            start: LONGEST,
         }
     }
 
@@ -145,6 +157,20 @@ impl Line {
         };
         self.prepend_bytes(&digits);
         self.prepend(label);
+    }
+
+    /// Puts bytes before the line, in hexadecimal digits of lower case.
+    #[inline(always)]
+    pub fn prepend_hex(&mut self, bytes: &[u8])
+        requires { 2 * length bytes.now + length self.old ≤ LONGEST }
+        ensures text { self.new ≡ encode_lower bytes.now ++ self.old }
+        ensures len { length self.new ≡ 2 * length bytes.now + length self.old }
+    {
+        let start = self.start - 2 * bytes.len();
+        let Ok(()) = hex::encode_to_slice(bytes, &mut self.scratch[start..self.start]) else {
+            unreachable!()
+        };
+        self.start = start;
     }
 
     /// Puts a refusal before the line: the field, its offset, and whether the part that should hold it is too short.

@@ -1,10 +1,13 @@
 //! The lines of `show`: one for each record of a capture, and one at its end. The records are numbered from 1, and an
 //! arrival is in nanoseconds.
 
-ghost use Rattle.std.specs.Prelude.{◌≡◌, ◌+◌, ◌≤◌, ◌++◌, length};
+ghost use Rattle.std.specs.Prelude.{◌≡◌, ◌+◌, ◌/◌, ◌≤◌, ◌++◌, length, codes, decimal};
 ghost use Rattle.avtp_base.specs.Faults.{IsCounted};
-ghost use Rattle.avtp_text.specs.Show.{frame_start, frame_line, end_frames_line, refused_content, ethertype_content, other_content, format_text, header_text, aaf_content};
+ghost use Rattle.avtp_text.specs.Show.{frame_start, frame_line, end_frames_line, refused_content, ethertype_content, other_content, format_text, header_text, aaf_content, iec_content, part_text, nal_type as type_of_nal, h264_content, crf_content};
 ghost use Rattle.aaf_format.specs.Aaf.{aaf_shape};
+ghost use Rattle.iec61883_format.specs.Iec.{iec_shape};
+ghost use Rattle.cvf_format.specs.Cvf.{cvf_shape};
+ghost use Rattle.crf_format.specs.Crf.{crf_shape, point_at};
 ghost use Rattle.pcap_frames.specs.Frame.{frame_shape};
 ghost use Rattle.avtp_text.specs.Written.{written, Grows, Writes};
 
@@ -13,6 +16,9 @@ use crate::line::{LONGEST, Line};
 use aaf_format::{AafFormat, AafView, rate_of};
 use avtp_base::{Failed, Refusal, Sink};
 use avtp_header::StreamHeader;
+use crf_format::{CrfView, point};
+use cvf_format::{CvfView, NalPart};
+use iec61883_format::IecView;
 use pcap_frames::FrameView;
 
 /// Puts before the line which record it is about.
@@ -74,6 +80,89 @@ fn prepend_aaf(line: &mut Line, view: &AafView<'_>)
     line.prepend_flag(" sp ", view.sparse);
     prepend_header(line, &view.header);
     line.prepend("aaf ");
+}
+
+/// Puts before the line what an IEC 61883-6 packet holds.
+#[inline(always)]
+fn prepend_iec(line: &mut Line, view: &IecView<'_>)
+    requires { 146 + length line.old ≤ LONGEST }
+    ensures text { line.new ≡ iec_content (iec_shape view.now) ++ line.old }
+    ensures len { length line.new ≤ 146 + length line.old }
+{
+    line.prepend_u32(" bytes ", view.header.data_length as u32);
+    line.prepend_u32(" count ", view.count);
+    line.prepend_u32(" fdf ", view.cip.fdf as u32);
+    line.prepend_u32(" dbc ", view.cip.dbc as u32);
+    line.prepend_u32(" dbs ", view.cip.dbs as u32);
+    prepend_header(line, &view.header);
+    line.prepend("iec ");
+}
+
+fn part_name(part: NalPart) -> &'static str
+    ensures name { result.now ≡ part_text part }
+    ensures short { length result.now ≤ 6 }
+{
+    match part {
+        NalPart::Single => "single",
+        NalPart::First => "first",
+        NalPart::Middle => "middle",
+        NalPart::Last => "last",
+    }
+}
+
+/// The type of a NAL unit, by the unit's first byte.
+fn nal_type(nal: u8) -> u32
+    ensures { result ≡ type_of_nal nal }
+{
+    u32::from(nal % 32)
+}
+
+/// Puts before the line what an H.264 packet holds.
+#[inline(always)]
+fn prepend_h264(line: &mut Line, view: &CvfView<'_>)
+    requires { 144 + length line.old ≤ LONGEST }
+    ensures text { line.new ≡ h264_content (cvf_shape view.now) ++ line.old }
+    ensures len { length line.new ≤ 144 + length line.old }
+{
+    line.prepend_u32(" bytes ", view.header.data_length as u32);
+    line.prepend(part_name(view.part));
+    line.prepend(" part ");
+    line.prepend_u32(" nal ", nal_type(view.nal));
+    line.prepend_flag(" marker ", view.marker);
+    line.prepend_u32(" pt ", view.h264_timestamp);
+    line.prepend_flag(" ptv ", view.ptv);
+    prepend_header(line, &view.header);
+    line.prepend("h264 ");
+}
+
+/// Puts before the line the timestamps of a CRF packet: how many there are, and the first.
+fn prepend_points(line: &mut Line, view: &CrfView<'_>)
+    requires some { 8 ≤ length view.now.payload.now }
+    requires room { 55 + length line.old ≤ LONGEST }
+    ensures text { line.new ≡ codes " points " ++ decimal (length view.now.payload.now / 8) ++ codes " first " ++ decimal (point_at 0 view.now.payload.now) ++ line.old }
+    ensures len { length line.new ≤ 55 + length line.old }
+{
+    line.prepend_u64(" first ", point(view, 0));
+    line.prepend_u64(" points ", (view.payload.len() / 8) as u64);
+}
+
+/// Puts before the line what a CRF packet holds.
+#[inline(always)]
+fn prepend_crf(line: &mut Line, view: &CrfView<'_>)
+    requires some { 8 ≤ length view.now.payload.now }
+    requires room { 171 + length line.old ≤ LONGEST }
+    ensures text { line.new ≡ crf_content (crf_shape view.now) ++ line.old }
+    ensures len { length line.new ≤ 171 + length line.old }
+{
+    prepend_points(line, view);
+    line.prepend_u32(" interval ", view.interval as u32);
+    line.prepend_u32(" pull ", view.pull as u32);
+    line.prepend_u32(" base ", view.base_frequency);
+    line.prepend_u32(" type ", view.kind as u32);
+    line.prepend_flag(" tu ", view.tu);
+    line.prepend_flag(" mr ", view.mr);
+    line.prepend_u32(" seq ", view.seq as u32);
+    line.prepend_id("crf id ", view.stream_id);
 }
 
 impl Text {
@@ -150,6 +239,61 @@ impl Text {
     {
         let mut line = Line::new();
         prepend_aaf(&mut line, view);
+        prepend_frame(&mut line, number, arrival);
+        self.print(out, line.as_slice())
+    }
+
+    /// Says what an IEC 61883-6 packet holds.
+    pub fn frame_iec<S: Sink>(
+        &mut self,
+        out: &mut S,
+        number: u64,
+        arrival: i64,
+        view: &IecView<'_>,
+    ) -> Result<(), Failed>
+        ensures written { Writes (written (S.held out.old) self.old) (written (S.held out.new) self.new) result (frame_line number arrival (iec_content (iec_shape view.now))) }
+        ensures grows { Grows (S.held out.old) (S.held out.new) }
+        ensures counted { IsCounted (S.faults out.old) (S.faults out.new) result }
+    {
+        let mut line = Line::new();
+        prepend_iec(&mut line, view);
+        prepend_frame(&mut line, number, arrival);
+        self.print(out, line.as_slice())
+    }
+
+    /// Says what an H.264 packet holds.
+    pub fn frame_h264<S: Sink>(
+        &mut self,
+        out: &mut S,
+        number: u64,
+        arrival: i64,
+        view: &CvfView<'_>,
+    ) -> Result<(), Failed>
+        ensures written { Writes (written (S.held out.old) self.old) (written (S.held out.new) self.new) result (frame_line number arrival (h264_content (cvf_shape view.now))) }
+        ensures grows { Grows (S.held out.old) (S.held out.new) }
+        ensures counted { IsCounted (S.faults out.old) (S.faults out.new) result }
+    {
+        let mut line = Line::new();
+        prepend_h264(&mut line, view);
+        prepend_frame(&mut line, number, arrival);
+        self.print(out, line.as_slice())
+    }
+
+    /// Says what a CRF packet holds, which has at least one timestamp.
+    pub fn frame_crf<S: Sink>(
+        &mut self,
+        out: &mut S,
+        number: u64,
+        arrival: i64,
+        view: &CrfView<'_>,
+    ) -> Result<(), Failed>
+        requires { 8 ≤ length view.now.payload.now }
+        ensures written { Writes (written (S.held out.old) self.old) (written (S.held out.new) self.new) result (frame_line number arrival (crf_content (crf_shape view.now))) }
+        ensures grows { Grows (S.held out.old) (S.held out.new) }
+        ensures counted { IsCounted (S.faults out.old) (S.faults out.new) result }
+    {
+        let mut line = Line::new();
+        prepend_crf(&mut line, view);
         prepend_frame(&mut line, number, arrival);
         self.print(out, line.as_slice())
     }

@@ -6,7 +6,12 @@ use crate::Text;
 use aaf_format::{AafFormat, AafView};
 use avtp_base::{Failed, Field, NoMemory, Refusal, Sink};
 use avtp_header::StreamHeader;
+use crf_format::CrfView;
+use cvf_format::{CvfView, NalPart};
+use iec61883_format::{Cip, IecView};
+use listener::Counts;
 use pcap_frames::FrameView;
+use sample_schedule::Reason;
 use std::alloc::Global;
 use std::test::Fail;
 
@@ -166,6 +171,31 @@ fn every_line<S: Sink>(text: &mut Text, out: &mut S) -> Result<(), Failed> {
     text.read_fault(out)?;
     text.limit(out, 105)?;
     text.words(out, 2)?;
+    text.capture(out, "c.pcap")?;
+    for reason in [
+        Reason::Malformed(Field::ChannelsPerFrame),
+        Reason::Uncertain,
+        Reason::Empty,
+        Reason::NoRate,
+        Reason::Untimed,
+        Reason::NoClock,
+        Reason::Late,
+        Reason::Repeat,
+        Reason::Full,
+        Reason::Broken,
+        Reason::Long,
+    ] {
+        text.flag(out, 12, 255, reason)?;
+    }
+    text.end_listen(
+        out,
+        &Counts {
+            frames: 4,
+            packets: 3,
+            presented: 2,
+            flagged: 1,
+        },
+    )?;
     text.print(out, b"")?;
     text.flush(out)
 }
@@ -185,6 +215,19 @@ capture refused: incl_len at 32 short
 read fault
 limit 105
 words: 2
+capture c.pcap
+flag frame 12 seq 255 malformed channels_per_frame
+flag frame 12 seq 255 uncertain
+flag frame 12 seq 255 empty
+flag frame 12 seq 255 norate
+flag frame 12 seq 255 untimed
+flag frame 12 seq 255 noclock
+flag frame 12 seq 255 late
+flag frame 12 seq 255 repeat
+flag frame 12 seq 255 full
+flag frame 12 seq 255 broken
+flag frame 12 seq 255 long
+end frames 4 packets 3 presented 2 flagged 1
 ";
 
 fn may_cross_threads<T: Send>(_value: &T) {}
@@ -228,5 +271,100 @@ fn a_failing_sink_loses_nothing_and_gets_nothing_twice(rt: HostRuntime) -> Resul
     assert!(rt; text.flush(&mut out).is_ok());
     assert!(rt; failed);
     assert_eq!(rt; out.bytes.as_slice(), want.as_slice());
+    Ok(())
+}
+
+/// A header whose numbers have the most digits.
+fn longest_header() -> StreamHeader {
+    StreamHeader {
+        tu: true,
+        mr: true,
+        tv: false,
+        seq: 255,
+        stream_id: 0xfedc_ba98_7654_3210,
+        timestamp: u32::MAX,
+        data_length: u16::MAX,
+        ..v1_header()
+    }
+}
+
+fn longest_iec() -> IecView<'static> {
+    IecView {
+        header: longest_header(),
+        gateway_info: 1,
+        channel: 63,
+        tcode: 15,
+        sy: 14,
+        cip: Cip {
+            sid: 62,
+            dbs: 256,
+            dbc: 254,
+            fdf: 255,
+            syt: 0,
+        },
+        count: u32::MAX,
+        payload: &[],
+        reserved: true,
+    }
+}
+
+fn longest_h264(part: NalPart) -> CvfView<'static> {
+    CvfView {
+        header: longest_header(),
+        ptv: true,
+        marker: false,
+        evt: 15,
+        h264_timestamp: u32::MAX,
+        nal: 0xf7,
+        part,
+        body: &[],
+        reserved: true,
+    }
+}
+
+/// Writes a line of each format with the longest numbers, in the order of `EVERY_PACKET`.
+fn every_packet<S: Sink>(text: &mut Text, out: &mut S) -> Result<(), Failed> {
+    text.frame_iec(out, u64::MAX, i64::MIN, &longest_iec())?;
+    for part in [
+        NalPart::Single,
+        NalPart::First,
+        NalPart::Middle,
+        NalPart::Last,
+    ] {
+        text.frame_h264(out, u64::MAX, i64::MIN, &longest_h264(part))?;
+    }
+    let crf = CrfView {
+        sv: false,
+        mr: false,
+        fs: true,
+        tu: true,
+        seq: 255,
+        kind: 254,
+        stream_id: 0xfedc_ba98_7654_3210,
+        pull: 5,
+        base_frequency: 0x1fff_ffff,
+        interval: 65_535,
+        payload: &[0xff; 24],
+        reserved: true,
+    };
+    text.frame_crf(out, u64::MAX, i64::MIN, &crf)?;
+    text.flush(out)
+}
+
+const EVERY_PACKET: &str = "\
+frame 18446744073709551615 at -9223372036854775808 iec id fedcba9876543210 seq 255 ts 4294967295 tv 0 tu 1 mr 1 dbs 256 dbc 254 fdf 255 count 4294967295 bytes 65535
+frame 18446744073709551615 at -9223372036854775808 h264 id fedcba9876543210 seq 255 ts 4294967295 tv 0 tu 1 mr 1 ptv 1 pt 4294967295 marker 0 nal 23 part single bytes 65535
+frame 18446744073709551615 at -9223372036854775808 h264 id fedcba9876543210 seq 255 ts 4294967295 tv 0 tu 1 mr 1 ptv 1 pt 4294967295 marker 0 nal 23 part first bytes 65535
+frame 18446744073709551615 at -9223372036854775808 h264 id fedcba9876543210 seq 255 ts 4294967295 tv 0 tu 1 mr 1 ptv 1 pt 4294967295 marker 0 nal 23 part middle bytes 65535
+frame 18446744073709551615 at -9223372036854775808 h264 id fedcba9876543210 seq 255 ts 4294967295 tv 0 tu 1 mr 1 ptv 1 pt 4294967295 marker 0 nal 23 part last bytes 65535
+frame 18446744073709551615 at -9223372036854775808 crf id fedcba9876543210 seq 255 mr 0 tu 1 type 254 base 536870911 pull 5 interval 65535 points 3 first 18446744073709551615
+";
+
+#[test]
+fn each_packet_is_printed_as_stated(rt: HostRuntime) -> Result<(), Fail> {
+    let mut text = Text::new(rt.alloc()).ok().ok_or("memory")?;
+    let mut out = Trickle::new(rt.alloc(), 7, 0);
+    every_packet(&mut text, &mut out).ok().ok_or("sink")?;
+    assert_eq!(rt; out.bytes.as_slice(), EVERY_PACKET.as_bytes());
     Ok(())
 }

@@ -1,0 +1,59 @@
+-- Lines that are printed one after the other.
+use Rattle.std.proofs.Common.{◌≡◌, ℕ, zero, suc, ◌+◌, ◌-◌, ◌<◌, List, [], ◌∷◌, ◌++◌, length, take, drop, flat_map, get_or, Option, Result, arith, refl, sym, ap, ◌∙◌, subst, append_assoc}
+use Rattle.std.proofs.lemmas.List.{append-nil, take-append-drop}
+use Rattle.std.proofs.lemmas.Grind.{flat_map-append}
+use Rattle.std.proofs.Math.Seq.{split_at}
+use Rattle.std.specs.List.{range_with_len}
+use Rattle.std.specs.Io.KnownBytes.{Appends}
+use Rattle.std.proofs.KnownBytes.{Appends-trans}
+use Rattle.avtp_text.specs.Written.{AppendsFront}
+use Rattle.avtp_text.proofs.Fronts.{front_after, front_before}
+
+range_split : (a j more : ℕ) → range_with_len a (j + suc more) ≡ range_with_len a j ++ (a + j) ∷ range_with_len (a + j + 1) more
+range_split a zero more =
+    let all : zero + suc more ≡ suc more = omega arith in
+    let here : a ≡ a + zero = omega arith in
+    ap (range_with_len a) all ∙ ap (λ n. n ∷ range_with_len (n + 1) more) here
+range_split a (suc j) more =
+    let all : suc j + suc more ≡ suc (j + suc more) = omega arith in
+    let here : (a + 1) + j ≡ a + suc j = omega arith in
+    ap (range_with_len a) all ∙ ap (λ ns. a ∷ ns) (range_split (a + 1) j more ∙ ap (λ n. range_with_len (a + 1) j ++ n ∷ range_with_len (n + 1) more) here)
+
+-- numbers from 0 up to n, around j
+numbers : (n j : ℕ) → j < n → range_with_len 0 n ≡ range_with_len 0 j ++ j ∷ range_with_len (j + 1) (n - j - 1)
+numbers n j lt =
+    let all : n ≡ j + suc (n - j - 1) = omega (arith, lt) in
+    let here : 0 + j ≡ j = omega arith in
+    ap (range_with_len 0) all ∙ range_split 0 j (n - j - 1) ∙ ap (λ k. range_with_len 0 j ++ k ∷ range_with_len (k + 1) (n - j - 1)) here
+
+-- one line more
+pub one_more : (line : ℕ → List ℕ) (j : ℕ) → flat_map line (range_with_len 0 (j + 1)) ≡ flat_map line (range_with_len 0 j) ++ line j
+one_more line j =
+    let none : j + 1 - j - 1 ≡ 0 = omega arith in
+    ap (flat_map line) (numbers (j + 1) j (omega arith) ∙ ap (λ k. range_with_len 0 j ++ j ∷ range_with_len (j + 1) k) none)
+    ∙ flat_map-append line (range_with_len 0 j) (j ∷ []) ∙ ap (λ t. flat_map line (range_with_len 0 j) ++ t) (append-nil (line j))
+
+-- the first lines were written, and of the next one a front
+pub lines_front : (before mid now : Option (List ℕ)) (line : ℕ → List ℕ) (n j : ℕ) → j < n → Appends before mid (flat_map line (range_with_len 0 j)) → AppendsFront mid now (line j) → AppendsFront before now (flat_map line (range_with_len 0 n))
+lines_front before mid now line n j lt first next =
+    let split : flat_map line (range_with_len 0 n) ≡ flat_map line (range_with_len 0 j) ++ (line j ++ flat_map line (range_with_len (j + 1) (n - j - 1))) =
+    ap (flat_map line) (numbers n j lt) ∙ flat_map-append line (range_with_len 0 j) (j ∷ range_with_len (j + 1) (n - j - 1)) in
+    subst (AppendsFront before now) (sym split) (front_after before mid now _ _ first (front_before mid now (line j) _ next))
+
+-- the same of a list
+
+take_more : {X : Type 0} (xs : List X) (i : ℕ) (d : X) → i < length xs → take (i + 1) xs ≡ take i xs ++ get_or xs i d ∷ []
+take_more [] i d lt = absurd (omega (arith, lt))
+take_more (x ∷ xs) zero d lt = refl
+take_more (x ∷ xs) (suc i) d lt =
+    let more : suc i + 1 ≡ suc (i + 1) = omega arith in
+    ap (λ n. take n (x ∷ xs)) more ∙ ap (λ ys. x ∷ ys) (take_more xs i d (omega (arith, lt)))
+
+pub one_shown : {X : Type 0} (lines : X → List ℕ) (xs : List X) (i : ℕ) (d : X) → i < length xs → flat_map lines (take (i + 1) xs) ≡ flat_map lines (take i xs) ++ lines (get_or xs i d)
+one_shown lines xs i d lt = ap (flat_map lines) (take_more xs i d lt) ∙ flat_map-append lines (take i xs) (get_or xs i d ∷ []) ∙ ap (λ t. flat_map lines (take i xs) ++ t) (append-nil (lines (get_or xs i d)))
+
+pub shown_front : {X : Type 0} (before mid now : Option (List ℕ)) (lines : X → List ℕ) (xs : List X) (i : ℕ) (d : X) → i < length xs → Appends before mid (flat_map lines (take i xs)) → AppendsFront mid now (lines (get_or xs i d)) → AppendsFront before now (flat_map lines xs)
+shown_front before mid now lines xs i d lt first next =
+    let split : flat_map lines xs ≡ flat_map lines (take i xs) ++ (lines (get_or xs i d) ++ flat_map lines (drop (suc i) xs)) =
+    ap (flat_map lines) (split_at xs i d lt) ∙ flat_map-append lines (take i xs) (get_or xs i d ∷ drop (suc i) xs) in
+    subst (AppendsFront before now) (sym split) (front_after before mid now _ _ first (front_before mid now (lines (get_or xs i d)) _ next))

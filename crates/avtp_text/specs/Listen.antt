@@ -1,0 +1,72 @@
+-- The lines of `listen`: one for each sample that is presented and for each item that is not.
+use Rattle.std.specs.Prelude.{List, ℕ, ℤ, ◌++◌, ◌*◌, ◌/◌, length, take, drop, flat_map, codes, decimal}
+use Rattle.std.specs.Fmt.{signed_decimal}
+use Rattle.std.specs.List.{range_with_len}
+use Rattle.hex.specs.Hex.{encode_lower}
+use Rattle.avtp_base.specs.Field.{name_of}
+use Rattle.sample_schedule.specs.declared.shown.Reason.{Reason}
+use Rattle.sample_schedule.specs.declared.shown.Reason.TheVariants.{Malformed, Uncertain, Empty, NoRate, Untimed, NoClock, Late, Repeat, Full, Broken, Long}
+use Rattle.sample_schedule.specs.declared.shown.Shown.{Shown}
+use Rattle.sample_schedule.specs.declared.shown.Shown.TheVariants.{Present, Flag}
+use Rattle.sample_schedule.specs.Batches.{Presented, sample_instant}
+use Rattle.listener.specs.declared.heard.Counts.{Counts}
+use Rattle.avtp_text.specs.Pieces.{newline}
+
+-- the capture that was opened
+unfoldable pub capture_line : List ℕ → List ℕ
+capture_line name = codes "capture " ++ name ++ newline
+
+-- the bytes of sample j, of all channels: its share of the batch
+abbrev pub sample_bytes : Presented → ℕ → List ℕ
+sample_bytes batch j = take (length batch.bytes / batch.count) (drop (j * (length batch.bytes / batch.count)) batch.bytes)
+
+-- when a sample is due, in nanoseconds, and the frame that it came in
+unfoldable pub due_text : ℤ → ℕ → List ℕ
+due_text instant frame = codes "at " ++ signed_decimal instant ++ codes " frame " ++ decimal frame
+
+-- the sequence number of its packet, and its number there
+unfoldable pub place_text : ℕ → ℕ → List ℕ
+place_text seq j = codes " seq " ++ decimal seq ++ codes " sample " ++ decimal j ++ codes " "
+
+-- the line of sample j: its bytes are in hexadecimal digits
+abbrev pub sample_line : Presented → ℕ → List ℕ
+sample_line batch j =
+    due_text (sample_instant batch j) batch.frame ++ place_text batch.seq j ++ encode_lower (sample_bytes batch j) ++ newline
+
+-- a line for each sample of a batch
+abbrev pub batch_lines : Presented → List ℕ
+batch_lines batch = flat_map (sample_line batch) (range_with_len 0 batch.count)
+
+abbrev pub reason_text : Reason → List ℕ
+reason_text (Malformed field) = codes "malformed " ++ name_of field
+reason_text Uncertain = codes "uncertain"
+reason_text Empty = codes "empty"
+reason_text NoRate = codes "norate"
+reason_text Untimed = codes "untimed"
+reason_text NoClock = codes "noclock"
+reason_text Late = codes "late"
+reason_text Repeat = codes "repeat"
+reason_text Full = codes "full"
+reason_text Broken = codes "broken"
+reason_text Long = codes "long"
+
+-- an item that is not presented, and why
+unfoldable pub flag_line : ℕ → ℕ → Reason → List ℕ
+flag_line frame seq reason = codes "flag frame " ++ decimal frame ++ codes " seq " ++ decimal seq ++ codes " " ++ reason_text reason ++ newline
+
+abbrev pub shown_lines : Shown → List ℕ
+shown_lines (Present batch) = batch_lines batch
+shown_lines (Flag frame seq reason) = flag_line frame seq reason
+
+-- all that is shown, in its order
+abbrev pub list_lines : List Shown → List ℕ
+list_lines list = flat_map shown_lines list
+
+-- the end of a capture: its records, the packets of the stream among them, and what became of these
+unfoldable pub end_listen_line : Counts → List ℕ
+end_listen_line counts =
+    codes "end frames " ++ decimal counts.frames
+    ++ codes " packets " ++ decimal counts.packets
+    ++ codes " presented " ++ decimal counts.presented
+    ++ codes " flagged " ++ decimal counts.flagged
+    ++ newline

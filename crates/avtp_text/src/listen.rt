@@ -1,0 +1,284 @@
+//! The lines of `listen`: one for each sample that is presented and for each item that is not.
+
+ghost use Rattle.std.specs.Prelude.{◌≡◌, ◌+◌, ◌*◌, ◌/◌, ◌<◌, ◌≤◌, ◌++◌, length};
+ghost use Rattle.hex.specs.Hex.{encode_lower};
+ghost use Rattle.avtp_base.specs.Faults.{IsCounted};
+ghost use Rattle.avtp_text.specs.Listen.{batch_lines, capture_line, end_listen_line, flag_line, list_lines, reason_text, sample_bytes, sample_line, due_text, place_text, shown_lines};
+ghost use Rattle.avtp_text.specs.Pieces.{newline};
+ghost use Rattle.avtp_text.specs.Written.{written, Grows, Writes, WritesFront};
+
+use crate::buffer::{ROOM, Text};
+use crate::line::{LONGEST, Line};
+use avtp_base::{Failed, Sink};
+use listener::Counts;
+use sample_schedule::{Batch, Reason, Shown};
+
+/// The most bytes of a sample with which its line fits a [`Line`]: 64.
+const SHORT: usize = 64;
+
+/// The bytes that are printed at a time of a longer sample.
+const PIECE: usize = 2_048;
+
+/// Puts before the line which sample of which packet it is.
+#[tactic(auto, unfolding(crate::specs::Listen::place_text))]
+#[inline(always)]
+fn prepend_place(line: &mut Line, seq: u8, j: u32)
+    requires { 34 + length line.old ≤ LONGEST }
+    ensures text { line.new ≡ place_text seq j ++ line.old }
+    ensures len { length line.new ≤ 34 + length line.old }
+{
+    line.prepend(" ");
+    line.prepend_u32(" sample ", j);
+    line.prepend_u32(" seq ", seq as u32);
+}
+
+/// Puts before the line when a sample is due, and the frame that it came in.
+#[tactic(auto, unfolding(crate::specs::Listen::due_text))]
+#[inline(always)]
+fn prepend_due(line: &mut Line, instant: i64, frame: u64)
+    requires { 51 + length line.old ≤ LONGEST }
+    ensures text { line.new ≡ due_text instant frame ++ line.old }
+{
+    line.prepend_u64(" frame ", frame);
+    line.prepend_i64("at ", instant);
+}
+
+/// Puts a reason before the line.
+#[tactic(auto, using(crate::proofs::Names::name_fits))]
+fn prepend_reason(line: &mut Line, reason: Reason)
+    requires { 40 + length line.old ≤ LONGEST }
+    ensures text { line.new ≡ reason_text reason ++ line.old }
+    ensures len { length line.new ≤ 40 + length line.old }
+{
+    match reason {
+        Reason::Malformed(field) => {
+            line.prepend(field.name());
+            line.prepend("malformed ");
+        }
+        Reason::Uncertain => line.prepend("uncertain"),
+        Reason::Empty => line.prepend("empty"),
+        Reason::NoRate => line.prepend("norate"),
+        Reason::Untimed => line.prepend("untimed"),
+        Reason::NoClock => line.prepend("noclock"),
+        Reason::Late => line.prepend("late"),
+        Reason::Repeat => line.prepend("repeat"),
+        Reason::Full => line.prepend("full"),
+        Reason::Broken => line.prepend("broken"),
+        Reason::Long => line.prepend("long"),
+    }
+}
+
+impl Text {
+    /// Adds a text of any length. Where the sink fails, a front of it was added.
+    #[tactic(auto, using(crate::proofs::Growth::grows_none, crate::proofs::Fronts::writes_front))]
+    fn print_all<S: Sink>(&mut self, out: &mut S, text: &[u8]) -> Result<(), Failed>
+        ensures written { WritesFront (written (S.held out.old) self.old) (written (S.held out.new) self.new) result text.now }
+        ensures grows { Grows (S.held out.old) (S.held out.new) }
+        ensures counted { IsCounted (S.faults out.old) (S.faults out.new) result }
+    {
+        if text.len() <= ROOM {
+            return self.print(out, text);
+        }
+        let (piece, rest) = text.split_at(ROOM);
+        self.print(out, piece)?;
+        self.print_all(out, rest)
+    }
+
+    /// Adds the hexadecimal digits of bytes, in lower case.
+    fn print_hex<S: Sink>(&mut self, out: &mut S, bytes: &[u8]) -> Result<(), Failed>
+        ensures written { WritesFront (written (S.held out.old) self.old) (written (S.held out.new) self.new) result (encode_lower bytes.now) }
+        ensures grows { Grows (S.held out.old) (S.held out.new) }
+        ensures counted { IsCounted (S.faults out.old) (S.faults out.new) result }
+    {
+        if bytes.len() <= PIECE {
+            return self.print_hex_piece(out, bytes);
+        }
+        let (piece, rest) = bytes.split_at(PIECE);
+        self.print_hex_piece(out, piece)?;
+        self.print_hex(out, rest)
+    }
+
+    fn print_hex_piece<S: Sink>(&mut self, out: &mut S, bytes: &[u8]) -> Result<(), Failed>
+        requires { length bytes.now ≤ PIECE }
+        ensures written { Writes (written (S.held out.old) self.old) (written (S.held out.new) self.new) result (encode_lower bytes.now) }
+        ensures grows { Grows (S.held out.old) (S.held out.new) }
+        ensures counted { IsCounted (S.faults out.old) (S.faults out.new) result }
+    {
+        let mut digits = [0; 2 * PIECE];
+        let digits = &mut digits[..2 * bytes.len()];
+        let Ok(()) = hex::encode_to_slice(bytes, digits) else {
+            unreachable!()
+        };
+        self.print(out, digits)
+    }
+
+    /// Says which capture was opened.
+    #[tactic(auto, unfolding(crate::specs::Listen::capture_line))]
+    pub fn capture<S: Sink>(&mut self, out: &mut S, name: &str) -> Result<(), Failed>
+        ensures written { WritesFront (written (S.held out.old) self.old) (written (S.held out.new) self.new) result (capture_line name.now) }
+        ensures grows { Grows (S.held out.old) (S.held out.new) }
+        ensures counted { IsCounted (S.faults out.old) (S.faults out.new) result }
+    {
+        self.print(out, b"capture ")?;
+        self.print_all(out, name.as_bytes())?;
+        self.print(out, b"\n")
+    }
+
+    /// Says that an item is not presented, and why.
+    #[tactic(auto, unfolding(crate::specs::Listen::flag_line))]
+    pub fn flag<S: Sink>(
+        &mut self,
+        out: &mut S,
+        frame: u64,
+        seq: u8,
+        reason: Reason,
+    ) -> Result<(), Failed>
+        ensures written { Writes (written (S.held out.old) self.old) (written (S.held out.new) self.new) result (flag_line frame seq reason) }
+        ensures grows { Grows (S.held out.old) (S.held out.new) }
+        ensures counted { IsCounted (S.faults out.old) (S.faults out.new) result }
+    {
+        let mut line = Line::new();
+        prepend_reason(&mut line, reason);
+        line.prepend(" ");
+        line.prepend_u32(" seq ", seq as u32);
+        line.prepend_u64("flag frame ", frame);
+        self.print(out, line.as_slice())
+    }
+
+    /// Prints sample `j` of a batch, whose bytes these are.
+    fn sample<S: Sink>(
+        &mut self,
+        out: &mut S,
+        batch: &Batch,
+        j: u32,
+        bytes: &[u8],
+    ) -> Result<(), Failed>
+        requires sample { j < batch.now.count }
+        requires bytes { bytes.now ≡ sample_bytes batch.now j }
+        ensures written { WritesFront (written (S.held out.old) self.old) (written (S.held out.new) self.new) result (sample_line batch.now j) }
+        ensures grows { Grows (S.held out.old) (S.held out.new) }
+        ensures counted { IsCounted (S.faults out.old) (S.faults out.new) result }
+    {
+        self.one_sample(out, batch.instant(j), batch.frame, batch.seq, j, bytes)
+    }
+
+    /// Prints a sample with these bytes.
+    #[tactic(auto, using(crate::proofs::Fronts::writes_front))]
+    fn one_sample<S: Sink>(
+        &mut self,
+        out: &mut S,
+        instant: i64,
+        frame: u64,
+        seq: u8,
+        j: u32,
+        bytes: &[u8],
+    ) -> Result<(), Failed>
+        ensures written { WritesFront (written (S.held out.old) self.old) (written (S.held out.new) self.new) result (due_text instant frame ++ place_text seq j ++ encode_lower bytes.now ++ newline) }
+        ensures grows { Grows (S.held out.old) (S.held out.new) }
+        ensures counted { IsCounted (S.faults out.old) (S.faults out.new) result }
+    {
+        if bytes.len() <= SHORT {
+            self.short_sample(out, instant, frame, seq, j, bytes)
+        } else {
+            self.long_sample(out, instant, frame, seq, j, bytes)
+        }
+    }
+
+    /// Prints a sample in one piece.
+    fn short_sample<S: Sink>(
+        &mut self,
+        out: &mut S,
+        instant: i64,
+        frame: u64,
+        seq: u8,
+        j: u32,
+        bytes: &[u8],
+    ) -> Result<(), Failed>
+        requires { length bytes.now ≤ SHORT }
+        ensures written { Writes (written (S.held out.old) self.old) (written (S.held out.new) self.new) result (due_text instant frame ++ place_text seq j ++ encode_lower bytes.now ++ newline) }
+        ensures grows { Grows (S.held out.old) (S.held out.new) }
+        ensures counted { IsCounted (S.faults out.old) (S.faults out.new) result }
+    {
+        let mut line = Line::new();
+        line.prepend_hex(bytes);
+        prepend_place(&mut line, seq, j);
+        prepend_due(&mut line, instant, frame);
+        self.print(out, line.as_slice())
+    }
+
+    /// Prints a sample of any length.
+    fn long_sample<S: Sink>(
+        &mut self,
+        out: &mut S,
+        instant: i64,
+        frame: u64,
+        seq: u8,
+        j: u32,
+        bytes: &[u8],
+    ) -> Result<(), Failed>
+        ensures written { WritesFront (written (S.held out.old) self.old) (written (S.held out.new) self.new) result (due_text instant frame ++ place_text seq j ++ encode_lower bytes.now ++ newline) }
+        ensures grows { Grows (S.held out.old) (S.held out.new) }
+        ensures counted { IsCounted (S.faults out.old) (S.faults out.new) result }
+    {
+        let mut line = Line::blank();
+        prepend_place(&mut line, seq, j);
+        prepend_due(&mut line, instant, frame);
+        self.print(out, line.as_slice())?;
+        self.print_hex(out, bytes)?;
+        self.print(out, b"\n")
+    }
+
+    /// Prints the samples of a batch, one on each line.
+    fn batch<S: Sink>(&mut self, out: &mut S, batch: &Batch) -> Result<(), Failed>
+        ensures written { WritesFront (written (S.held out.old) self.old) (written (S.held out.new) self.new) result (batch_lines batch.now) }
+        ensures grows { Grows (S.held out.old) (S.held out.new) }
+        ensures counted { IsCounted (S.faults out.old) (S.faults out.new) result }
+    {
+        let bytes = batch.bytes.as_slice();
+        let size = bytes.len() / batch.count as usize;
+        for j in 0..batch.count {
+            let start = j as usize * size;
+            self.sample(out, batch, j, &bytes[start..start + size])?;
+        }
+        Ok(())
+    }
+
+    /// Prints what a schedule shows: the samples that are presented, and why an item is not.
+    pub fn shown<S: Sink>(&mut self, out: &mut S, shown: &Shown) -> Result<(), Failed>
+        ensures written { WritesFront (written (S.held out.old) self.old) (written (S.held out.new) self.new) result (shown_lines shown.now) }
+        ensures grows { Grows (S.held out.old) (S.held out.new) }
+        ensures counted { IsCounted (S.faults out.old) (S.faults out.new) result }
+    {
+        match shown {
+            Shown::Present(batch) => self.batch(out, batch),
+            Shown::Flag { frame, seq, reason } => self.flag(out, *frame, *seq, *reason),
+        }
+    }
+
+    /// Prints all that a schedule shows, in its order.
+    pub fn shown_list<S: Sink>(&mut self, out: &mut S, list: &[Shown]) -> Result<(), Failed>
+        ensures written { WritesFront (written (S.held out.old) self.old) (written (S.held out.new) self.new) result (list_lines list.now) }
+        ensures grows { Grows (S.held out.old) (S.held out.new) }
+        ensures counted { IsCounted (S.faults out.old) (S.faults out.new) result }
+    {
+        for shown in list {
+            self.shown(out, shown)?;
+        }
+        Ok(())
+    }
+
+    /// Says that a capture ended, and what it held of the stream.
+    #[tactic(auto, unfolding(crate::specs::Listen::end_listen_line))]
+    pub fn end_listen<S: Sink>(&mut self, out: &mut S, counts: &Counts) -> Result<(), Failed>
+        ensures written { Writes (written (S.held out.old) self.old) (written (S.held out.new) self.new) result (end_listen_line counts.now) }
+        ensures grows { Grows (S.held out.old) (S.held out.new) }
+        ensures counted { IsCounted (S.faults out.old) (S.faults out.new) result }
+    {
+        let mut line = Line::new();
+        line.prepend_u64(" flagged ", counts.flagged);
+        line.prepend_u64(" presented ", counts.presented);
+        line.prepend_u64(" packets ", counts.packets);
+        line.prepend_u64("end frames ", counts.frames);
+        self.print(out, line.as_slice())
+    }
+}
