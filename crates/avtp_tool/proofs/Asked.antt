@@ -1,6 +1,6 @@
 -- What words ask for.
 use Rattle.std.proofs.Common.{◌≡◌, ℕ, List, [], ◌≤◌, Option, Some, None, Result, Ok, Err, Bor, inl, inr, refl, sym, subst, ap, ◌∙◌, arith}
-use Rattle.std.specs.Prelude.{◌⊎◌, IfOk, IsErr, IsErrAnd}
+use Rattle.std.specs.Prelude.{◌⊎◌, ◌^◌, codes, IfOk, IsErr, IsErrAnd, MatchOption}
 use Rattle.std.specs.Io.KnownBytes.{Appends, Keeps}
 use Rattle.std.proofs.KnownBytes.{Appends-kept, Keeps-trans}
 use Rattle.std.proofs.lemmas.List.{append-nil}
@@ -8,26 +8,29 @@ use Rattle.avtp_base.specs.Faults.{IsCounted, Rose}
 use Rattle.avtp_text.specs.Written.{written}
 use Rattle.avtp_text.specs.Notices.{words_line}
 use Rattle.avtp_words.specs.declared.command.Command.{Command}
-use Rattle.avtp_words.specs.declared.command.Command.TheVariants.{Show}
 use Rattle.avtp_words.specs.declared.command.Offence.{Offence}
-use Rattle.avtp_words.specs.Grammar.{show}
+use Rattle.avtp_words.specs.Grammar.{Request, show, listen, IsCommandLine}
+use Rattle.avtp_words.specs.Number.{IsNumber}
+use Rattle.avtp_words.specs.Options.{value_in}
+use Rattle.avtp_tool.specs.Reports.{IsRequest}
 use Rattle.avtp_tool.specs.declared.status.Status.{Status}
 use Rattle.avtp_tool.specs.declared.status.Status.TheVariants as status
 use Rattle.avtp_base.specs.declared.failed.Failed.{Failed}
 use Rattle.avtp_tool.specs.declared.capture.End.{End}
 use Rattle.avtp_tool.specs.declared.capture.End.TheVariants as end
-use Rattle.avtp_tool.specs.Report.{Shows, status_of}
+use Rattle.avtp_tool.specs.Report.{status_of}
 
--- the only command is `show`
-pub command_is : (command : Command) → (limit : ℕ) × (file : Bor (List ℕ)) × (command ≡ Show limit file)
-command_is (Show limit file) = (limit, file, refl)
+given_within : (v : Option (List ℕ)) (low high default n : ℕ) → low ≤ default → default ≤ high → MatchOption v (n ≡ default) (λ word. IsNumber low high word n) → (low ≤ n) × (n ≤ high)
+given_within None low high default n least most given = (omega (arith, given, least), omega (arith, given, most))
+given_within (Some word) low high default n least most given = (given.least, given.most)
 
-pub same_show : (l limit : ℕ) (f file : List ℕ) → show l f ≡ show limit file → (l ≡ limit) × (f ≡ file)
-same_show l limit f file e = (cc, cc)
-
-pub shown_as : (l limit : ℕ) (bytes : List ℕ) (ended : Status) (before now : Option (List ℕ)) → l ≡ limit
-    → (printed : List ℕ) × Shows l bytes ended printed × Appends before now printed → (printed : List ℕ) × Shows limit bytes ended printed × Appends before now printed
-shown_as l limit bytes ended before now same h = subst (λ n. (printed : List ℕ) × Shows n bytes ended printed × Appends before now printed) same h
+-- what words ask for is within its bounds
+pub requested : (words : List (List ℕ)) (request : Request) → IsCommandLine words request → IsRequest request
+requested words (show limit file) line = (given_within (value_in (codes "--limit") line.settings) 1 (2 ^ 40) (2 ^ 40) limit (omega arith) (omega arith) line.limit_given).1
+requested words (listen asked) line =
+    let buffer = given_within (value_in (codes "--buffer") line.settings) 1 65536 4096 asked.buffer (omega arith) (omega arith) line.buffer in
+    let room = given_within (value_in (codes "--room") line.settings) 1 (2 ^ 30) (2 ^ 26) asked.room (omega arith) (omega arith) line.room in
+    record { some_buffer = buffer.0; buffer = buffer.1; some_room = room.0; room = room.1 }
 
 -- words that were read have no offence
 pub not_offence : (r : Result Command Offence) (command : Command) (position : ℕ) → IsErrAnd r (λ offence. offence.position ≡ position) → r ≡ Ok command → ⊥
@@ -46,7 +49,7 @@ not_end_write_fault (end.Refused r) e = absurd cc
 not_end_write_fault end.ReadFault e = absurd cc
 not_end_write_fault end.Limit e = absurd cc
 
--- `show` never ends for its words
+-- no report ends for its words
 pub status_words : (r : Result Status Failed) → IfOk r (λ ended. (ended ≡ status.Memory) ⊎ ((how : End) × (ended ≡ status_of how))) → r ≡ Ok status.Words → ⊥
 status_words (Ok s) ends e =
     let same : s ≡ status.Words = cc in
@@ -86,9 +89,9 @@ kept_flushed old mid new start last none ended first second =
     subst (λ h. Keeps h new) (written_none old) (subst (λ h. Keeps (written old []) h) (written_none new) to)
 
 -- the same for a report, and for a fixed line
-pub shown_flushed : (limit : ℕ) (bytes : List ℕ) (ended : Status) (old mid new : Option (List ℕ)) (start last : List ℕ) → start ≡ [] → last ≡ []
-    → (printed : List ℕ) × Shows limit bytes ended printed × Appends (written old start) mid printed → Keeps mid (written new last) → (printed : List ℕ) × Shows limit bytes ended printed × Appends old new printed
-shown_flushed limit bytes ended old mid new start last none last_none h keeps = (h.0, h.1, flushed old mid new start last h.0 none last_none h.2 keeps)
+pub shown_flushed : (Prints : Status → List ℕ → Type 0) (ended : Status) (old mid new : Option (List ℕ)) (start last : List ℕ) → start ≡ [] → last ≡ []
+    → (printed : List ℕ) × Prints ended printed × Appends (written old start) mid printed → Keeps mid (written new last) → (printed : List ℕ) × Prints ended printed × Appends old new printed
+shown_flushed Prints ended old mid new start last none last_none h keeps = (h.0, h.1, flushed old mid new start last h.0 none last_none h.2 keeps)
 
 pub rose_later : (before mid after : ℕ) (r : Result Status Failed) → IsErr r → IsCounted before mid r → mid ≤ after → Rose before after
 rose_later before mid after (Ok s) err counted more = absurd cc

@@ -20,6 +20,8 @@ use Rattle.avtp_tool.specs.declared.capture.End.{End}
 use Rattle.avtp_tool.specs.declared.capture.End.TheVariants as end
 use Rattle.avtp_tool.specs.Report.{EndsAt, end_of, at_end, at_limit}
 use Rattle.avtp_tool.specs.Report.{Shows, end_line, status_of, report, record_lines, lines_from}
+use Rattle.avtp_words.specs.Grammar.{Request, show, listen}
+use Rattle.avtp_tool.specs.Reports.{Reports}
 use Rattle.avtp_tool.specs.Progress.{IsPrinted}
 use Rattle.avtp_base.specs.declared.failed.Failed.{Failed}
 use Rattle.avtp_tool.specs.declared.status.Status.{Status}
@@ -167,7 +169,7 @@ missing_has (Some files) name told bytes missing e has =
     cc
 
 -- a fault before the first byte
-pub shows_none : (limit : ℕ) (bytes : List ℕ) (ended : Status) (before now : Option (List ℕ)) → ended ≡ status_of end.ReadFault → Appends before now read_fault_line
+shows_none : (limit : ℕ) (bytes : List ℕ) (ended : Status) (before now : Option (List ℕ)) → ended ≡ status_of end.ReadFault → Appends before now read_fault_line
     → (printed : List ℕ) × Shows limit bytes ended printed × Appends before now printed
 shows_none limit bytes ended before now status line =
     let sure = uncertain nothing_read [] [] refl (read_nothing [] refl) in
@@ -192,3 +194,12 @@ not_memory_end end.Limit e = absurd cc
 pub not_memory : (r : Result Status Failed) → IfOk r (λ ended. (how : End) × (ended ≡ status_of how)) → r ≡ Ok status.Memory → ⊥
 not_memory (Ok s) ends e = let same : s ≡ status.Memory = cc in not_memory_end ends.0 (sym ends.1 ∙ same)
 not_memory (Err f) ends e = absurd cc
+
+-- a file that could not be opened
+pub reports_none : (request : Request) (bytes : List ℕ) (ended : Status) (before now : Option (List ℕ)) → ended ≡ status.ReadFault → Appends before now read_fault_line
+    → (printed : List ℕ) × Reports request bytes ended printed × Appends before now printed
+reports_none (show limit file) bytes ended before now status line = shows_none limit bytes ended before now status line
+reports_none (listen asked) bytes ended before now status line = (read_fault_line, inr (status, refl), line)
+
+pub missing_as : (files : Option Files) (name other : List ℕ) → name ≡ other → IsMissing files name → IsMissing files other
+missing_as files name other same missing = subst (IsMissing files) same missing

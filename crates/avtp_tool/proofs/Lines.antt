@@ -1,28 +1,19 @@
 -- Lines of records, one after the other.
-use Rattle.std.proofs.Common.{◌≡◌, ℕ, suc, ◌+◌, ◌==◌, Bool, true, cond, List, [], ◌∷◌, ◌++◌, length, Option, None, Result, refl, sym, ap, subst, ◌∙◌, append_assoc, arith}
-use Rattle.std.specs.Option.{option_map}
-use Rattle.std.proofs.lemmas.Bool.{eq-eqb}
+use Rattle.std.proofs.Common.{◌≡◌, ◌≢◌, ℕ, suc, ◌+◌, List, [], ◌∷◌, ◌++◌, length, Option, Result, refl, sym, ap, subst, ◌∙◌, append_assoc, arith}
 use Rattle.std.proofs.lemmas.List.{append-nil}
 use Rattle.avtp_base.specs.declared.failed.Failed.{Failed}
-use Rattle.avtp_base.specs.declared.refusal.Refusal.{Refusal}
 use Rattle.avtp_text.specs.Written.{Writes}
 use Rattle.pcap_frames.specs.Capture.{Record}
-use Rattle.avtp_base.specs.Octets.{bits}
-use Rattle.aaf_format.specs.Aaf.{aaf_refusal, aaf_of}
-use Rattle.avtp_text.specs.Show.{frame_line, aaf_content, other_content}
-use Rattle.avtp_tool.specs.Record.{record_content, packet_content, subtype_refusal, refused_or, inside, aaf_kind}
+use Rattle.avtp_base.proofs.RowLemmas.{unequal}
+use Rattle.avtp_text.specs.Show.{frame_line, other_content}
+use Rattle.avtp_tool.specs.Record.{record_content, kind_content}
 use Rattle.avtp_tool.specs.Report.{lines_from}
 
--- two refusals that did not come
-accepted_both : (start : ℕ) (x y : Option Refusal) (b : Bool) (inner other : List ℕ) → x ≡ None → b ≡ true → y ≡ None
-    → refused_or (option_map (inside start) x) (cond b (refused_or (option_map (inside start) y) inner) other) ≡ inner
-accepted_both start x y b inner other p q r = rw (p, q, r) refl
-
--- what is said of a PCM packet
-pub aaf_is : (start : ℕ) (pdu : List ℕ) → subtype_refusal pdu ≡ None → bits 0 0 8 pdu ≡ 2 → aaf_refusal pdu ≡ None → packet_content start pdu ≡ aaf_content (aaf_of pdu)
-unfolding packet_content
-aaf_is start pdu has kind accepted =
-    accepted_both start (subtype_refusal pdu) (aaf_refusal pdu) (bits 0 0 8 pdu == aaf_kind) (aaf_content (aaf_of pdu)) (other_content (bits 0 0 8 pdu)) has (eq-eqb _ _ kind) accepted
+-- what is said of a packet of another subtype
+pub other_is : (start subtype : ℕ) (pdu : List ℕ) → subtype ≢ 0 → subtype ≢ 2 → subtype ≢ 3 → subtype ≢ 4
+    → kind_content start subtype pdu ≡ other_content subtype
+unfolding kind_content
+other_is start subtype pdu a b c d = rw (unequal subtype 0 a, unequal subtype 2 b, unequal subtype 3 c, unequal subtype 4 d) refl
 
 -- one more record
 pub lines_more : (n : ℕ) (records : List Record) (r : Record)

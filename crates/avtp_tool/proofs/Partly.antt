@@ -12,16 +12,19 @@ use Rattle.pcap_frames.specs.Layout.{certain}
 use Rattle.pcap_frames.specs.Capture.{Record, whole_records, first_refusal}
 use Rattle.pcap_frames.specs.Reading.{Reading}
 use Rattle.pcap_frames.proofs.Firsts.{records_first}
-use Rattle.avtp_text.specs.Written.{written, Grows}
+use Rattle.avtp_text.specs.Written.{written, AppendsFront, Grows}
 use Rattle.avtp_text.specs.Show.{frame_line}
 use Rattle.avtp_tool.specs.declared.capture.End.{End}
 use Rattle.avtp_tool.specs.declared.capture.End.TheVariants as end
 use Rattle.avtp_tool.specs.declared.status.Status.{Status}
 use Rattle.avtp_tool.specs.declared.status.Status.TheVariants as status
+use Rattle.avtp_words.specs.Grammar.{Request, show, listen}
+use Rattle.avtp_tool.specs.Listen.{heard_limit}
 use Rattle.avtp_tool.specs.Record.{record_content}
+use Rattle.avtp_tool.specs.Reports.{Reports, status_for, report_for}
 use Rattle.avtp_tool.specs.Report.{EndsAt, Shows, at_end, at_limit, end_of, end_line, status_of, report, record_lines, lines_from}
 use Rattle.avtp_tool.specs.Progress.{HasPrinted, IsPrinted, IsPrintedFirst}
-use Rattle.avtp_tool.specs.Front.{AppendsFront, ShowsFront}
+use Rattle.avtp_tool.specs.Front.{ShowsFront}
 use Rattle.avtp_tool.proofs.Ending.{at_end_is, at_limit_is, ends_by}
 
 -- the lines of the first records are a front of all lines
@@ -57,7 +60,7 @@ ends_limited None limit bytes e = (e, refl)
 ends_limited (Some r) limit bytes e = (e, refl)
 
 -- the end without a fault of reading
-ends_here : (limit : ℕ) (bytes : List ℕ) → EndsAt limit bytes (end_of limit bytes) (take limit bytes)
+pub ends_here : (limit : ℕ) (bytes : List ℕ) → EndsAt limit bytes (end_of limit bytes) (take limit bytes)
 ends_here limit bytes =
     elim (cases_lt limit (length bytes)) [
       | inl more ↦
@@ -77,24 +80,24 @@ end_unfaulty None e = absurd cc
 end_unfaulty (Some r) e = absurd cc
 
 -- it is no fault of reading
-unfaulty : (limit : ℕ) (bytes : List ℕ) → status_of (end_of limit bytes) ≡ status.ReadFault → ⊥
+pub unfaulty : (limit : ℕ) (bytes : List ℕ) → status_of (end_of limit bytes) ≡ status.ReadFault → ⊥
 unfaulty limit bytes e =
     elim (cases_lt limit (length bytes)) [
       | inl more ↦ limit_unfaulty (certain (first_refusal (take limit bytes))) (sym (ap status_of (at_limit_is limit bytes more)) ∙ e)
       | inr fits ↦ end_unfaulty (first_refusal bytes) (sym (ap status_of (at_end_is limit bytes fits)) ∙ e)
     ]
 
-fault_is : (how : End) → status_of how ≡ status.ReadFault → how ≡ end.ReadFault
+pub fault_is : (how : End) → status_of how ≡ status.ReadFault → how ≡ end.ReadFault
 fault_is end.Whole e = absurd cc
 fault_is (end.Refused r) e = absurd cc
 fault_is end.ReadFault e = refl
 fault_is end.Limit e = absurd cc
 
-shows_ended : (limit : ℕ) (bytes front : List ℕ) (how : End) → EndsAt limit bytes how front → Shows limit bytes (status_of how) (report limit front how)
+pub shows_ended : (limit : ℕ) (bytes front : List ℕ) (how : End) → EndsAt limit bytes how front → Shows limit bytes (status_of how) (report limit front how)
 shows_ended limit bytes front how ends = record { how = how; front = front; ends = ends; status = refl; printed = refl }
 
 -- the first lines alone
-pub shows_first : (limit : ℕ) (bytes : List ℕ) (before now : Option (List ℕ)) (faults later : ℕ) → IsPrintedFirst before now (take limit bytes) → ShowsFront limit bytes before now faults later
+pub shows_first : (limit : ℕ) (bytes : List ℕ) (before now : Option (List ℕ)) (faults later : ℕ) → IsPrintedFirst before now (take limit bytes) → ShowsFront (Shows limit bytes) before now faults later
 shows_first limit bytes before now faults later p =
     let how = end_of limit bytes in
     let front = take limit bytes in
@@ -112,7 +115,7 @@ shows_first limit bytes before now faults later p =
 
 -- the lines of all records, and not the last line
 pub shows_unended : (limit : ℕ) (bytes front : List ℕ) (how : End) (before mid now : Option (List ℕ)) (frames faults later : ℕ) → EndsAt limit bytes how front
-    → IsPrinted before mid frames front → Keeps mid now → (how ≡ end.ReadFault → Rose faults later) → ShowsFront limit bytes before now faults later
+    → IsPrinted before mid frames front → Keeps mid now → (how ≡ end.ReadFault → Rose faults later) → ShowsFront (Shows limit bytes) before now faults later
 shows_unended limit bytes front how before mid now frames faults later ends printed keeps fault =
     record {
       ended = status_of how;
@@ -128,28 +131,35 @@ shows_unended limit bytes front how before mid now frames faults later ends prin
     }
 
 -- no text was written
-front_none : (before now : Option (List ℕ)) (text : List ℕ) → Keeps before now → AppendsFront before now text
+pub front_none : (before now : Option (List ℕ)) (text : List ℕ) → Keeps before now → AppendsFront before now text
 front_none before now text keeps = record { front = []; rest = text; split = refl; appends = Appends-kept before before now [] (Appends-nil before) keeps }
 
-pub shows_unbegun : (limit : ℕ) (bytes : List ℕ) (before now : Option (List ℕ)) (faults later : ℕ) → Keeps before now → ShowsFront limit bytes before now faults later
-shows_unbegun limit bytes before now faults later keeps =
-    let how = end_of limit bytes in
-    record {
-      ended = status_of how;
-      whole = report limit (take limit bytes) how;
-      shows = shows_ended limit bytes (take limit bytes) how (ends_here limit bytes);
-      fault = λ is. absurd (unfaulty limit bytes is);
-      written = front_none before now (report limit (take limit bytes) how) keeps;
-    }
+-- what a request gives without a fault of reading
+reports_here : (request : Request) (bytes : List ℕ) → Reports request bytes (status_for request bytes) (report_for request bytes)
+reports_here (show limit file) bytes = shows_ended limit bytes (take limit bytes) (end_of limit bytes) (ends_here limit bytes)
+reports_here (listen asked) bytes = inl (record { how = end_of heard_limit bytes; front = take heard_limit bytes; ends = ends_here heard_limit bytes; status = refl; printed = refl })
 
-pub shows_front_as : (l limit : ℕ) (bytes : List ℕ) (before now : Option (List ℕ)) (faults later : ℕ) → l ≡ limit → ShowsFront l bytes before now faults later → ShowsFront limit bytes before now faults later
-shows_front_as l limit bytes before now faults later same h = subst (λ n. ShowsFront n bytes before now faults later) same h
+reports_unfaulty : (request : Request) (bytes : List ℕ) → status_for request bytes ≡ status.ReadFault → ⊥
+reports_unfaulty (show limit file) bytes = unfaulty limit bytes
+reports_unfaulty (listen asked) bytes = unfaulty heard_limit bytes
+
+pub shows_unbegun : (request : Request) (bytes : List ℕ) (before now : Option (List ℕ)) (faults later : ℕ) → Keeps before now → ShowsFront (Reports request bytes) before now faults later
+shows_unbegun request bytes before now faults later keeps = record {
+  ended = status_for request bytes;
+  whole = report_for request bytes;
+  shows = reports_here request bytes;
+  fault = λ is. absurd (reports_unfaulty request bytes is);
+  written = front_none before now (report_for request bytes) keeps;
+}
+
+pub front_for : (request other : Request) (bytes : List ℕ) (before now : Option (List ℕ)) (faults later : ℕ) → request ≡ other → ShowsFront (Reports request bytes) before now faults later → ShowsFront (Reports other bytes) before now faults later
+front_for request other bytes before now faults later same h = subst (λ r. ShowsFront (Reports r bytes) before now faults later) same h
 
 -- counted from an equal count
-pub shows_from : (limit : ℕ) (bytes : List ℕ) (before now : Option (List ℕ)) (faults other later : ℕ) → faults ≡ other → ShowsFront limit bytes before now faults later → ShowsFront limit bytes before now other later
-shows_from limit bytes before now faults other later same h = subst (λ n. ShowsFront limit bytes before now n later) same h
+pub shows_from : (Prints : Status → List ℕ → Type 0) (before now : Option (List ℕ)) (faults other later : ℕ) → faults ≡ other → ShowsFront Prints before now faults later → ShowsFront Prints before now other later
+shows_from Prints before now faults other later same h = subst (λ n. ShowsFront Prints before now n later) same h
 
-front_all : (before now : Option (List ℕ)) (text : List ℕ) → Appends before now text → AppendsFront before now text
+pub front_all : (before now : Option (List ℕ)) (text : List ℕ) → Appends before now text → AppendsFront before now text
 front_all before now text appends = record { front = text; rest = []; split = sym (append-nil text); appends = appends }
 
 memory_or : (ended : Status) → (ended ≡ status.Memory) ⊎ (ended ≡ status.Memory → ⊥)
@@ -165,18 +175,18 @@ memory_or status.TalkInput = inr (λ e. cc)
 memory_or status.Memory = inl refl
 
 -- whatever was answered, a front of the text was written
-pub shows_any : (r : Result Status Failed) (limit : ℕ) (bytes : List ℕ) (before now : Option (List ℕ)) (faults later : ℕ)
-    → IfOk r (λ ended. (ended ≡ status.Memory → ⊥) → (printed : List ℕ) × Shows limit bytes ended printed × Appends before now printed)
-    → (r ≡ Ok status.ReadFault → Rose faults later) → (r ≡ Ok status.Memory → Keeps before now) → OnErr r (ShowsFront limit bytes before now faults later)
-    → ShowsFront limit bytes before now faults later
-shows_any (Ok s) limit bytes before now faults later shown fault memory part =
+pub shows_any : (r : Result Status Failed) (request : Request) (bytes : List ℕ) (before now : Option (List ℕ)) (faults later : ℕ)
+    → IfOk r (λ ended. (ended ≡ status.Memory → ⊥) → (printed : List ℕ) × Reports request bytes ended printed × Appends before now printed)
+    → (r ≡ Ok status.ReadFault → Rose faults later) → (r ≡ Ok status.Memory → Keeps before now) → OnErr r (ShowsFront (Reports request bytes) before now faults later)
+    → ShowsFront (Reports request bytes) before now faults later
+shows_any (Ok s) request bytes before now faults later shown fault memory part =
     elim (memory_or s) [
-      | inl is ↦ shows_unbegun limit bytes before now faults later (memory (ap (λ x. Ok x) is))
+      | inl is ↦ shows_unbegun request bytes before now faults later (memory (ap (λ x. Ok x) is))
       | inr other ↦
           let all = shown other in
           record { ended = s; whole = all.0; shows = all.1; fault = λ is. fault (ap (λ x. Ok x) is); written = front_all before now all.0 all.2 }
     ]
-shows_any (Err f) limit bytes before now faults later shown fault memory part = part
+shows_any (Err f) request bytes before now faults later shown fault memory part = part
 
 -- the same for a fixed line
 pub line_any : (r : Result Status Failed) (line : List ℕ) (before now : Option (List ℕ))

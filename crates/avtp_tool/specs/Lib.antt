@@ -3,3 +3,6 @@ pub mod Record
 pub mod Report
 pub mod Progress
 pub mod Front
+pub mod Listen
+pub mod Contents
+pub mod Reports

@@ -8,9 +8,10 @@ ghost use Rattle.avtp_text.specs.Written.{written, Grows};
 ghost use Rattle.pcap_frames.specs.Capture.{first_refusal};
 ghost use Rattle.pcap_frames.specs.Reading.{held, taken, nothing_read};
 ghost use Rattle.avtp_tool.specs.Progress.{HasPrinted, IsPrinted, IsPrintedFirst};
-ghost use Rattle.avtp_tool.specs.Report.{EndsAt, at_end};
+ghost use Rattle.avtp_tool.specs.Report.{EndsAt, at_end, status_of};
 
 use crate::record::print_record;
+use crate::status::Status;
 use avtp_base::{Failed, Refusal, Shelf, Sink, Slot};
 use avtp_text::Text;
 use pcap_frames::Reader;
@@ -26,6 +27,20 @@ pub enum End {
     ReadFault,
     /// At the last byte that may be read, with more behind it.
     Limit,
+}
+
+impl End {
+    /// The status of a run that ends so.
+    pub fn status(self) -> Status
+        ensures { result ≡ status_of self }
+    {
+        match self {
+            End::Whole => Status::Done,
+            End::Refused(_) => Status::Refused,
+            End::ReadFault => Status::ReadFault,
+            End::Limit => Status::Limit,
+        }
+    }
 }
 
 /// How far a capture was read and printed.

@@ -1,39 +1,39 @@
 //! The command `avtp`, over the outside that it is given.
 
-ghost use Rattle.std.specs.Prelude.{◌≡◌, ◌≢◌, ◌≤◌, ◌⊎◌, ℕ, List, Ok, Some, [], take, IfOk, OnErr, IsErr};
+ghost use Rattle.std.specs.Prelude.{◌≡◌, ◌≢◌, ◌≤◌, ◌⊎◌, ℕ, List, Ok, Some, [], IfOk, OnErr, IsErr};
 ghost use Rattle.std.specs.Io.KnownBytes.{Appends, Keeps};
 ghost use Rattle.avtp_base.specs.Faults.{IsCounted, IsQuiet, Rose};
 ghost use Rattle.avtp_base.specs.Files.{Files, IsMissing, KeepsFiles, KeepsSlots};
 ghost use Rattle.avtp_text.specs.Notices.{read_fault_line, words_line};
-ghost use Rattle.avtp_text.specs.Written.{written, Grows};
-ghost use Rattle.avtp_words.specs.Grammar.{IsOffence, IsShow};
+ghost use Rattle.avtp_text.specs.Written.{written, AppendsFront, Grows};
+ghost use Rattle.avtp_words.specs.Grammar.{file_of, IsCommandLine, IsOffence, Request};
 ghost use Rattle.avtp_words.specs.Word.{texts};
-ghost use Rattle.avtp_tool.specs.Front.{AppendsFront, ShowsFront};
-ghost use Rattle.avtp_tool.specs.Report.{Shows, end_of, report, status_of};
+ghost use Rattle.avtp_tool.specs.Front.{ShowsFront};
+ghost use Rattle.avtp_tool.specs.Reports.{report_for, Reports, status_for};
 
-use crate::show::show;
+use crate::report::report;
 use crate::status::Status;
 use avtp_base::{Failed, Shelf, Sink};
 use avtp_text::Text;
-use avtp_words::{Command, parse};
+use avtp_words::parse;
 use std::alloc::Global;
 
 /// Does what the words ask for: reads the captures that they name, writes the text, and answers how that ended.
 pub fn run<F: Shelf, S: Sink>(alloc: Global, words: &[String], shelf: &mut F, out: &mut S) -> Status
-    // What `show` prints is the report of the capture's bytes.
-    ensures shown { result ≢ Status.Memory → result ≢ Status.WriteFault → (limit : ℕ) (file : List ℕ) (files : Files) (bytes : List ℕ) →
-        IsShow (texts words.now) limit file → F.files shelf.old ≡ Some files → files file ≡ Some bytes →
-        (printed : List ℕ) × Shows limit bytes result printed × Appends (S.held out.old) (S.held out.new) printed }
-    ensures missing { result ≢ Status.Memory → result ≢ Status.WriteFault → (limit : ℕ) (file : List ℕ) →
-        IsShow (texts words.now) limit file → IsMissing (F.files shelf.old) file →
+    // What is printed is the report of the capture's bytes.
+    ensures shown { result ≢ Status.Memory → result ≢ Status.WriteFault → (request : Request) (files : Files) (bytes : List ℕ) →
+        IsCommandLine (texts words.now) request → F.files shelf.old ≡ Some files → files (file_of request) ≡ Some bytes →
+        (printed : List ℕ) × Reports request bytes result printed × Appends (S.held out.old) (S.held out.new) printed }
+    ensures missing { result ≢ Status.Memory → result ≢ Status.WriteFault → (request : Request) →
+        IsCommandLine (texts words.now) request → IsMissing (F.files shelf.old) (file_of request) →
         (result ≡ Status.ReadFault) × Appends (S.held out.old) (S.held out.new) read_fault_line }
 
     // Where no fault of reading comes, the whole report is printed.
-    ensures complete { result ≢ Status.Memory → result ≢ Status.WriteFault → (limit : ℕ) (file : List ℕ) (files : Files) (bytes : List ℕ) →
-        IsShow (texts words.now) limit file → F.files shelf.old ≡ Some files → files file ≡ Some bytes →
+    ensures complete { result ≢ Status.Memory → result ≢ Status.WriteFault → (request : Request) (files : Files) (bytes : List ℕ) →
+        IsCommandLine (texts words.now) request → F.files shelf.old ≡ Some files → files (file_of request) ≡ Some bytes →
         IsQuiet (F.reading_faults shelf.old) (F.reading_faults shelf.new) →
-        (result ≡ status_of (end_of limit bytes))
-        × Appends (S.held out.old) (S.held out.new) (report limit (take limit bytes) (end_of limit bytes)) }
+        (result ≡ status_for request bytes)
+        × Appends (S.held out.old) (S.held out.new) (report_for request bytes) }
 
     // Words that are no command line are told by the first that cannot stand.
     ensures words { result ≢ Status.Memory → result ≢ Status.WriteFault → (position : ℕ) → IsOffence (texts words.now) position →
@@ -43,20 +43,20 @@ pub fn run<F: Shelf, S: Sink>(alloc: Global, words: &[String], shelf: &mut F, ou
 
     // Whatever comes, the sink keeps what it held, and gains a front of such a text and nothing else.
     ensures grows { Grows (S.held out.old) (S.held out.new) }
-    ensures part { (limit : ℕ) (file : List ℕ) (files : Files) (bytes : List ℕ) →
-        IsShow (texts words.now) limit file → F.files shelf.old ≡ Some files → files file ≡ Some bytes →
-        (ended : Status) × (whole : List ℕ) × Shows limit bytes ended whole × AppendsFront (S.held out.old) (S.held out.new) whole }
-    ensures part_complete { (limit : ℕ) (file : List ℕ) (files : Files) (bytes : List ℕ) →
-        IsShow (texts words.now) limit file → F.files shelf.old ≡ Some files → files file ≡ Some bytes →
+    ensures part { (request : Request) (files : Files) (bytes : List ℕ) →
+        IsCommandLine (texts words.now) request → F.files shelf.old ≡ Some files → files (file_of request) ≡ Some bytes →
+        (ended : Status) × (whole : List ℕ) × Reports request bytes ended whole × AppendsFront (S.held out.old) (S.held out.new) whole }
+    ensures part_complete { (request : Request) (files : Files) (bytes : List ℕ) →
+        IsCommandLine (texts words.now) request → F.files shelf.old ≡ Some files → files (file_of request) ≡ Some bytes →
         IsQuiet (F.reading_faults shelf.old) (F.reading_faults shelf.new) →
-        AppendsFront (S.held out.old) (S.held out.new) (report limit (take limit bytes) (end_of limit bytes)) }
-    ensures part_missing { (limit : ℕ) (file : List ℕ) → IsShow (texts words.now) limit file → IsMissing (F.files shelf.old) file →
+        AppendsFront (S.held out.old) (S.held out.new) (report_for request bytes) }
+    ensures part_missing { (request : Request) → IsCommandLine (texts words.now) request → IsMissing (F.files shelf.old) (file_of request) →
         AppendsFront (S.held out.old) (S.held out.new) read_fault_line }
     ensures part_words { (position : ℕ) → IsOffence (texts words.now) position → AppendsFront (S.held out.old) (S.held out.new) (words_line position) }
 
     // A fault is the outside's.
     ensures read_fault { result ≡ Status.ReadFault → Rose (F.reading_faults shelf.old) (F.reading_faults shelf.new)
-        ⊎ ((limit : ℕ) × (file : List ℕ) × IsShow (texts words.now) limit file × IsMissing (F.files shelf.old) file) }
+        ⊎ ((request : Request) × IsCommandLine (texts words.now) request × IsMissing (F.files shelf.old) (file_of request)) }
     ensures write_fault { result ≡ Status.WriteFault → Rose (S.faults out.old) (S.faults out.new) }
     ensures no_write_fault { result ≢ Status.WriteFault → S.faults out.new ≡ S.faults out.old }
     ensures memory { result ≡ Status.Memory → Keeps (S.held out.old) (S.held out.new) }
@@ -82,26 +82,26 @@ fn obey<F: Shelf, S: Sink>(
     text: &mut Text,
     out: &mut S,
 ) -> Result<Status, Failed>
-    ensures shown { IfOk result (λ ended. ended ≢ Status.Memory → (limit : ℕ) (file : List ℕ) (files : Files) (bytes : List ℕ) →
-        IsShow (texts words.now) limit file → F.files shelf.old ≡ Some files → files file ≡ Some bytes →
-        (printed : List ℕ) × Shows limit bytes ended printed
+    ensures shown { IfOk result (λ ended. ended ≢ Status.Memory → (request : Request) (files : Files) (bytes : List ℕ) →
+        IsCommandLine (texts words.now) request → F.files shelf.old ≡ Some files → files (file_of request) ≡ Some bytes →
+        (printed : List ℕ) × Reports request bytes ended printed
         × Appends (written (S.held out.old) text.old) (written (S.held out.new) text.new) printed) }
-    ensures missing { IfOk result (λ ended. ended ≢ Status.Memory → (limit : ℕ) (file : List ℕ) →
-        IsShow (texts words.now) limit file → IsMissing (F.files shelf.old) file →
+    ensures missing { IfOk result (λ ended. ended ≢ Status.Memory → (request : Request) →
+        IsCommandLine (texts words.now) request → IsMissing (F.files shelf.old) (file_of request) →
         (ended ≡ Status.ReadFault) × Appends (written (S.held out.old) text.old) (written (S.held out.new) text.new) read_fault_line) }
     ensures words { IfOk result (λ ended. (position : ℕ) → IsOffence (texts words.now) position →
         (ended ≡ Status.Words) × Appends (written (S.held out.old) text.old) (written (S.held out.new) text.new) (words_line position)) }
     ensures only_words { result ≡ Ok Status.Words → (position : ℕ) × IsOffence (texts words.now) position }
     ensures unopened { (position : ℕ) → IsOffence (texts words.now) position → shelf.new ≡ shelf.old }
     ensures read_fault { result ≡ Ok Status.ReadFault → Rose (F.reading_faults shelf.old) (F.reading_faults shelf.new)
-        ⊎ ((limit : ℕ) × (file : List ℕ) × IsShow (texts words.now) limit file × IsMissing (F.files shelf.old) file) }
-    ensures told_fault { result ≡ Ok Status.ReadFault → (limit : ℕ) (file : List ℕ) (files : Files) (bytes : List ℕ) →
-        IsShow (texts words.now) limit file → F.files shelf.old ≡ Some files → files file ≡ Some bytes →
+        ⊎ ((request : Request) × IsCommandLine (texts words.now) request × IsMissing (F.files shelf.old) (file_of request)) }
+    ensures told_fault { result ≡ Ok Status.ReadFault → (request : Request) (files : Files) (bytes : List ℕ) →
+        IsCommandLine (texts words.now) request → F.files shelf.old ≡ Some files → files (file_of request) ≡ Some bytes →
         Rose (F.reading_faults shelf.old) (F.reading_faults shelf.new) }
-    ensures part { OnErr result ((limit : ℕ) (file : List ℕ) (files : Files) (bytes : List ℕ) →
-        IsShow (texts words.now) limit file → F.files shelf.old ≡ Some files → files file ≡ Some bytes →
-        ShowsFront limit bytes (written (S.held out.old) text.old) (written (S.held out.new) text.new) (F.reading_faults shelf.old) (F.reading_faults shelf.new)) }
-    ensures part_missing { OnErr result ((limit : ℕ) (file : List ℕ) → IsShow (texts words.now) limit file → IsMissing (F.files shelf.old) file →
+    ensures part { OnErr result ((request : Request) (files : Files) (bytes : List ℕ) →
+        IsCommandLine (texts words.now) request → F.files shelf.old ≡ Some files → files (file_of request) ≡ Some bytes →
+        ShowsFront (Reports request bytes) (written (S.held out.old) text.old) (written (S.held out.new) text.new) (F.reading_faults shelf.old) (F.reading_faults shelf.new)) }
+    ensures part_missing { OnErr result ((request : Request) → IsCommandLine (texts words.now) request → IsMissing (F.files shelf.old) (file_of request) →
         Keeps (written (S.held out.old) text.old) (written (S.held out.new) text.new)) }
     ensures part_words { OnErr result ((position : ℕ) → IsOffence (texts words.now) position →
         Keeps (written (S.held out.old) text.old) (written (S.held out.new) text.new)) }
@@ -115,7 +115,7 @@ fn obey<F: Shelf, S: Sink>(
     ensures counted { IsCounted (S.faults out.old) (S.faults out.new) result }
 {
     match parse(words) {
-        Ok(Command::Show { limit, file }) => show(alloc, limit, file, shelf, text, out),
+        Ok(command) => report(alloc, &command, shelf, text, out),
         Err(offence) => {
             text.words(out, offence.position as u64)?;
             Ok(Status::Words)

@@ -3,7 +3,10 @@
 
 mod capture;
 mod command;
+mod contents;
+mod listen;
 mod record;
+mod report;
 mod show;
 mod status;
 

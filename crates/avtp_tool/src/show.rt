@@ -3,49 +3,45 @@
 ghost use Rattle.std.specs.Prelude.{◌≡◌, ◌≢◌, ◌≤◌, ◌<◌, ◌^◌, ◌⊎◌, ℕ, List, Ok, Some, None, length, IsSome, IfOk, OnErr};
 ghost use Rattle.std.specs.Io.KnownBytes.{Appends, Keeps};
 ghost use Rattle.avtp_base.specs.Faults.{IsCounted, Rose};
-ghost use Rattle.avtp_base.specs.Files.{Files, left_in, IsMissing, KeepsFiles, KeepsOthers, KeepsSlots};
+ghost use Rattle.avtp_base.specs.Files.{left_in, KeepsFiles, KeepsOthers};
 ghost use Rattle.pcap_frames.specs.Reading.{nothing_read};
-ghost use Rattle.avtp_text.specs.Notices.{read_fault_line};
-ghost use Rattle.avtp_text.specs.Written.{written, Grows, Writes};
+ghost use Rattle.avtp_text.specs.Written.{written, Grows};
 ghost use Rattle.avtp_tool.specs.Front.{ShowsFront};
 ghost use Rattle.avtp_tool.specs.declared.capture.End as ends;
 ghost use Rattle.avtp_tool.specs.Report.{Shows, end_line, status_of};
 
 use crate::capture::{End, Progress};
 use crate::status::Status;
-use avtp_base::{Failed, OpenFault, Shelf, Sink, Slot};
+use avtp_base::{Failed, Shelf, Sink, Slot};
 use avtp_text::Text;
 use pcap_frames::Reader;
 use std::alloc::Global;
 
-/// The length of the buffer for each read of a capture.
-const PIECE: usize = 65_536;
-
-/// Prints a line for each record of the capture, and a line for its end. At most `limit` bytes are read.
+/// Prints a line for each record of an open capture, and a line for its end, and closes it. At most `limit` bytes are
+/// read.
 #[tactic(auto, using(avtp_text::proofs::Growth::grows_none))]
 pub fn show<F: Shelf, S: Sink>(
     alloc: Global,
     limit: u64,
-    file: &str,
     shelf: &mut F,
+    slot: Slot,
+    buffer: &mut [u8],
     text: &mut Text,
     out: &mut S,
 ) -> Result<Status, Failed>
-    requires { limit ≤ 2 ^ 40 }
-    ensures shown { IfOk result (λ ended. ended ≢ Status.Memory → (files : Files) (bytes : List ℕ) →
-        F.files shelf.old ≡ Some files → files file.now ≡ Some bytes →
+    requires live { IsSome (F.slots shelf.old slot.0) }
+    requires room { 0 < length buffer.old }
+    requires limit { limit ≤ 2 ^ 40 }
+    ensures shown { IfOk result (λ ended. ended ≢ Status.Memory → (bytes : List ℕ) → left_in (F.slots shelf.old) slot.0 ≡ Some bytes →
         (printed : List ℕ) × Shows limit bytes ended printed
         × Appends (written (S.held out.old) text.old) (written (S.held out.new) text.new) printed) }
-    ensures missing { IfOk result (λ ended. ended ≢ Status.Memory → IsMissing (F.files shelf.old) file.now →
-        (ended ≡ Status.ReadFault) × Appends (written (S.held out.old) text.old) (written (S.held out.new) text.new) read_fault_line) }
-    ensures part { OnErr result ((files : Files) (bytes : List ℕ) → F.files shelf.old ≡ Some files → files file.now ≡ Some bytes →
-        ShowsFront limit bytes (written (S.held out.old) text.old) (written (S.held out.new) text.new) (F.reading_faults shelf.old) (F.reading_faults shelf.new)) }
-    ensures part_missing { OnErr result (IsMissing (F.files shelf.old) file.now → Keeps (written (S.held out.old) text.old) (written (S.held out.new) text.new)) }
+    ensures part { OnErr result ((bytes : List ℕ) → left_in (F.slots shelf.old) slot.0 ≡ Some bytes →
+        ShowsFront (Shows limit bytes) (written (S.held out.old) text.old) (written (S.held out.new) text.new) (F.reading_faults shelf.old) (F.reading_faults shelf.new)) }
     ensures memory { result ≡ Ok Status.Memory → Keeps (written (S.held out.old) text.old) (written (S.held out.new) text.new) }
     ensures ends { IfOk result (λ ended. (ended ≡ Status.Memory) ⊎ ((how : ends.End) × (ended ≡ status_of how))) }
-    ensures read_fault { result ≡ Ok Status.ReadFault →
-        Rose (F.reading_faults shelf.old) (F.reading_faults shelf.new) ⊎ IsMissing (F.files shelf.old) file.now }
-    ensures slots { KeepsSlots (F.slots shelf.old) (F.slots shelf.new) }
+    ensures read_fault { result ≡ Ok Status.ReadFault → Rose (F.reading_faults shelf.old) (F.reading_faults shelf.new) }
+    ensures closed { F.slots shelf.new slot.0 ≡ None }
+    ensures others { KeepsOthers (F.slots shelf.old) (F.slots shelf.new) slot.0 }
     ensures files { KeepsFiles (F.files shelf.old) (F.files shelf.new) }
     ensures never_falls { F.reading_faults shelf.old ≤ F.reading_faults shelf.new }
     ensures writing { F.writing_faults shelf.new ≡ F.writing_faults shelf.old }
@@ -53,53 +49,10 @@ pub fn show<F: Shelf, S: Sink>(
     ensures counted { IsCounted (S.faults out.old) (S.faults out.new) result }
 {
     let Ok(reader) = Reader::new(alloc) else {
+        shelf.close_file(slot);
         return Ok(Status::Memory);
     };
-    let Ok(mut buffer) = vec![in alloc; 0u8; PIECE] else {
-        return Ok(Status::Memory);
-    };
-    show_file(limit, file, shelf, reader, &mut buffer, text, out)
-}
-
-/// Opens the capture, prints its records and how its reading ended, and closes it.
-fn show_file<F: Shelf, S: Sink>(
-    limit: u64,
-    file: &str,
-    shelf: &mut F,
-    reader: Reader,
-    buffer: &mut [u8],
-    text: &mut Text,
-    out: &mut S,
-) -> Result<Status, Failed>
-    requires room { 0 < length buffer.old }
-    requires limit { limit ≤ 2 ^ 40 }
-    requires fresh { reader ≡ nothing_read }
-    ensures shown { IfOk result (λ ended. ended ≢ Status.Memory → (files : Files) (bytes : List ℕ) →
-        F.files shelf.old ≡ Some files → files file.now ≡ Some bytes →
-        (printed : List ℕ) × Shows limit bytes ended printed
-        × Appends (written (S.held out.old) text.old) (written (S.held out.new) text.new) printed) }
-    ensures missing { IfOk result (λ ended. ended ≢ Status.Memory → IsMissing (F.files shelf.old) file.now →
-        (ended ≡ Status.ReadFault) × Appends (written (S.held out.old) text.old) (written (S.held out.new) text.new) read_fault_line) }
-    ensures part { OnErr result ((files : Files) (bytes : List ℕ) → F.files shelf.old ≡ Some files → files file.now ≡ Some bytes →
-        ShowsFront limit bytes (written (S.held out.old) text.old) (written (S.held out.new) text.new) (F.reading_faults shelf.old) (F.reading_faults shelf.new)) }
-    ensures part_missing { OnErr result (IsMissing (F.files shelf.old) file.now → Keeps (written (S.held out.old) text.old) (written (S.held out.new) text.new)) }
-    ensures memory { result ≡ Ok Status.Memory → Keeps (written (S.held out.old) text.old) (written (S.held out.new) text.new) }
-    ensures ends { IfOk result (λ ended. (ended ≡ Status.Memory) ⊎ ((how : ends.End) × (ended ≡ status_of how))) }
-    ensures read_fault { result ≡ Ok Status.ReadFault →
-        Rose (F.reading_faults shelf.old) (F.reading_faults shelf.new) ⊎ IsMissing (F.files shelf.old) file.now }
-    ensures slots { KeepsSlots (F.slots shelf.old) (F.slots shelf.new) }
-    ensures files { KeepsFiles (F.files shelf.old) (F.files shelf.new) }
-    ensures never_falls { F.reading_faults shelf.old ≤ F.reading_faults shelf.new }
-    ensures writing { F.writing_faults shelf.new ≡ F.writing_faults shelf.old }
-    ensures grows { Grows (S.held out.old) (S.held out.new) }
-    ensures counted { IsCounted (S.faults out.old) (S.faults out.new) result }
-{
-    match shelf.open_file(file) {
-        Ok(slot) => print_open(limit, shelf, slot, reader, buffer, text, out),
-        Err(OpenFault::Memory) => Ok(Status::Memory),
-        Err(OpenFault::Missing) => print_end(text, out, limit, 0, End::ReadFault),
-        Err(OpenFault::Failed) => print_end(text, out, limit, 0, End::ReadFault),
-    }
+    print_open(limit, shelf, slot, reader, buffer, text, out)
 }
 
 /// Prints the records of an open capture and how its reading ended, and closes it.
@@ -120,7 +73,7 @@ fn print_open<F: Shelf, S: Sink>(
         (printed : List ℕ) × Shows limit bytes ended printed
         × Appends (written (S.held out.old) text.old) (written (S.held out.new) text.new) printed) }
     ensures part { OnErr result ((bytes : List ℕ) → left_in (F.slots shelf.old) slot.0 ≡ Some bytes →
-        ShowsFront limit bytes (written (S.held out.old) text.old) (written (S.held out.new) text.new) (F.reading_faults shelf.old) (F.reading_faults shelf.new)) }
+        ShowsFront (Shows limit bytes) (written (S.held out.old) text.old) (written (S.held out.new) text.new) (F.reading_faults shelf.old) (F.reading_faults shelf.new)) }
     ensures ends { IfOk result (λ ended. (how : ends.End) × (ended ≡ status_of how)) }
     ensures read_fault { result ≡ Ok Status.ReadFault → Rose (F.reading_faults shelf.old) (F.reading_faults shelf.new) }
     ensures closed { F.slots shelf.new slot.0 ≡ None }

@@ -8,28 +8,29 @@ use Rattle.avtp_tool.proofs.Ending.{if_one}
 use Rattle.avtp_text.proofs.Growth.{grows_none, grows_further}
 use Rattle.std.proofs.KnownBytes.{Keeps-refl}
 use Rattle.std.specs.Io.KnownBytes.{Appends}
-use Rattle.avtp_tool.specs.Front.{AppendsFront}
+use Rattle.avtp_text.specs.Written.{AppendsFront}
+use Rattle.avtp_tool.specs.Reports.{Reports}
 use Rattle.avtp_tool.proofs.command.run.Goals as goal
 
 pub returns-clause-shown : goal.returns-clause-shown
-returns-clause-shown g c memory write limit file files bytes line told has =
+returns-clause-shown g c memory write request files bytes line told has =
     let done = c.finish.ensures.written write in
     let shown = rw done.0 at c.obey-ended.ensures.shown in
-    shown_flushed limit bytes c.finish.result _ _ _ _ _ c.in-Ok.ensures done.1 (shown memory limit file files bytes line told has) done.2
+    shown_flushed (Reports request bytes) c.finish.result _ _ _ _ _ c.in-Ok.ensures done.1 (shown memory request files bytes line told has) done.2
 
 pub returns-clause-missing : goal.returns-clause-missing
-returns-clause-missing g c memory write limit file line none =
+returns-clause-missing g c memory write request line none =
     let done = c.finish.ensures.written write in
     let missing = rw done.0 at c.obey-ended.ensures.missing in
-    let told = missing memory limit file line none in
+    let told = missing memory request line none in
     (told.0, flushed _ _ _ _ _ _ c.in-Ok.ensures done.1 told.1 done.2)
 
 pub returns-clause-complete : goal.returns-clause-complete
-returns-clause-complete g c memory write limit file files bytes line told has quiet =
+returns-clause-complete g c memory write request files bytes line told has quiet =
     let done = c.finish.ensures.written write in
     let shown = rw done.0 at c.obey-ended.ensures.shown in
-    let shows = shown_flushed limit bytes c.finish.result _ _ _ _ _ c.in-Ok.ensures done.1 (shown memory limit file files bytes line told has) done.2 in
-    complete (λ text. Appends (g.S.Sink.held c.args.out.now) (g.S.Sink.held c.finish.new.out) text) limit bytes c.finish.result shows.0 _ _ shows.1 shows.2 (λ is. c.obey-ended.ensures.told_fault (done.0 ∙ ap (λ s. Ok s) is) limit file files bytes line told has) quiet
+    let shows = shown_flushed (Reports request bytes) c.finish.result _ _ _ _ _ c.in-Ok.ensures done.1 (shown memory request files bytes line told has) done.2 in
+    complete (λ text. Appends (g.S.Sink.held c.args.out.now) (g.S.Sink.held c.finish.new.out) text) request bytes c.finish.result shows.0 _ _ shows.1 shows.2 (λ is. c.obey-ended.ensures.told_fault (done.0 ∙ ap (λ s. Ok s) is) request files bytes line told has) quiet
 
 pub returns-clause-words : goal.returns-clause-words
 returns-clause-words g c memory write position offence =
@@ -39,34 +40,34 @@ returns-clause-words g c memory write position offence =
     (told.0, flushed _ _ _ _ _ _ c.in-Ok.ensures done.1 told.1 done.2)
 
 pub returns-clause-part : goal.returns-clause-part
-returns-clause-part g c limit file files bytes line told has =
+returns-clause-part g c request files bytes line told has =
     let ended = c.obey-ended.result in
     let obeyed = c.obey-ended.ensures in
     let grown = grows_further _ _ _ obeyed.grows c.finish.ensures.grows in
-    let front = shows_any ended limit bytes _ _ _ _
-    (if_one ended _ _ obeyed.shown (λ status shown memory. shown memory limit file files bytes line told has)) (λ is. obeyed.told_fault is limit file files bytes line told has) obeyed.memory
-    (err_one ended _ _ obeyed.part (λ part. part limit file files bytes line told has)) in
+    let front = shows_any ended request bytes _ _ _ _
+    (if_one ended _ _ obeyed.shown (λ status shown memory. shown memory request files bytes line told has)) (λ is. obeyed.told_fault is request files bytes line told has) obeyed.memory
+    (err_one ended _ _ obeyed.part (λ part. part request files bytes line told has)) in
     (front.ended, front.whole, front.shows, gains_front _ _ _ _ _ front.whole c.in-Ok.ensures front.written c.finish.ensures.kept grown)
 
 pub returns-clause-part_complete : goal.returns-clause-part_complete
-returns-clause-part_complete g c limit file files bytes line told has quiet =
+returns-clause-part_complete g c request files bytes line told has quiet =
     let ended = c.obey-ended.result in
     let obeyed = c.obey-ended.ensures in
     let grown = grows_further _ _ _ obeyed.grows c.finish.ensures.grows in
-    let front = shows_any ended limit bytes _ _ _ _
-    (if_one ended _ _ obeyed.shown (λ status shown memory. shown memory limit file files bytes line told has)) (λ is. obeyed.told_fault is limit file files bytes line told has) obeyed.memory
-    (err_one ended _ _ obeyed.part (λ part. part limit file files bytes line told has)) in
+    let front = shows_any ended request bytes _ _ _ _
+    (if_one ended _ _ obeyed.shown (λ status shown memory. shown memory request files bytes line told has)) (λ is. obeyed.told_fault is request files bytes line told has) obeyed.memory
+    (err_one ended _ _ obeyed.part (λ part. part request files bytes line told has)) in
     let holds = gains_front _ _ _ _ _ front.whole c.in-Ok.ensures front.written c.finish.ensures.kept grown in
-    (complete (λ text. AppendsFront (g.S.Sink.held c.args.out.now) (g.S.Sink.held c.finish.new.out) text) limit bytes front.ended front.whole _ _ front.shows holds front.fault quiet).1
+    (complete (λ text. AppendsFront (g.S.Sink.held c.args.out.now) (g.S.Sink.held c.finish.new.out) text) request bytes front.ended front.whole _ _ front.shows holds front.fault quiet).1
 
 pub returns-clause-part_missing : goal.returns-clause-part_missing
-returns-clause-part_missing g c limit file line none =
+returns-clause-part_missing g c request line none =
     let ended = c.obey-ended.result in
     let obeyed = c.obey-ended.ensures in
     let grown = grows_further _ _ _ obeyed.grows c.finish.ensures.grows in
     let front = line_any ended read_fault_line _ _
-    (if_one ended _ _ obeyed.missing (λ status missing memory. (missing memory limit file line none).1)) obeyed.memory
-    (err_one ended _ _ obeyed.part_missing (λ missing. missing limit file line none)) in
+    (if_one ended _ _ obeyed.missing (λ status missing memory. (missing memory request line none).1)) obeyed.memory
+    (err_one ended _ _ obeyed.part_missing (λ missing. missing request line none)) in
     gains_front _ _ _ _ _ read_fault_line c.in-Ok.ensures front c.finish.ensures.kept grown
 
 pub returns-clause-part_words : goal.returns-clause-part_words
@@ -127,18 +128,18 @@ pub returns-clause-writing : goal.returns-clause-writing
 returns-clause-writing g c = c.obey-ended.ensures.writing
 
 pub returns-in_default-clause-part : goal.returns-in_default-clause-part
-returns-in_default-clause-part g c limit file files bytes line told has =
-    let front = shows_unbegun limit bytes _ _ 0 0 (Keeps-refl (g.S.Sink.held c.args.out.now)) in
+returns-in_default-clause-part g c request files bytes line told has =
+    let front = shows_unbegun request bytes _ _ 0 0 (Keeps-refl (g.S.Sink.held c.args.out.now)) in
     (front.ended, front.whole, front.shows, gains_none (g.S.Sink.held c.args.out.now) front.whole)
 
 pub returns-in_default-clause-part_missing : goal.returns-in_default-clause-part_missing
-returns-in_default-clause-part_missing g c limit file line none = gains_none (g.S.Sink.held c.args.out.now) read_fault_line
+returns-in_default-clause-part_missing g c request line none = gains_none (g.S.Sink.held c.args.out.now) read_fault_line
 
 pub returns-in_default-clause-part_words : goal.returns-in_default-clause-part_words
 returns-in_default-clause-part_words g c position offence = gains_none (g.S.Sink.held c.args.out.now) (words_line position)
 
 pub returns-in_default-clause-part_complete : goal.returns-in_default-clause-part_complete
-returns-in_default-clause-part_complete g c limit file files bytes line told has quiet = gains_none (g.S.Sink.held c.args.out.now) _
+returns-in_default-clause-part_complete g c request files bytes line told has quiet = gains_none (g.S.Sink.held c.args.out.now) _
 
 pub returns-in_default-clause-grows : goal.returns-in_default-clause-grows
 returns-in_default-clause-grows g c = grows_none (g.S.Sink.held c.args.out.now)
