@@ -2,6 +2,10 @@
 #![tactic(auto)]
 
 #[cfg(test)]
+mod listen;
+#[cfg(test)]
+mod runs;
+#[cfg(test)]
 mod show;
 mod vectors;
 

@@ -1,61 +1,14 @@
 //! The command `show`, from its words and the capture's bytes to its text and status.
 
+use crate::runs::{Ran, changed, run_over};
 use crate::vector;
-use avtp_base::{MemoryShelf, MemorySink, NoMemory};
-use avtp_tool::{Status, run};
+use avtp_base::NoMemory;
+use avtp_tool::Status;
 use std::alloc::Global;
 use std::test::Fail;
 
 const V1_LINE: &str =
     "frame 1 at 1000000000 aaf id 0200000000010001 seq 0 ts 1002000000 tv 1 tu 0 mr 0 sp 0 evt 0 format int16 rate 48000 channels 2 depth 16 count 6 bytes 24\n";
-
-/// What a run wrote, and how it ended.
-#[derive(Drop)]
-struct Ran {
-    status: Status,
-    text: Vec<u8>,
-}
-
-/// Runs the words over a shelf that holds the capture under `c.pcap`. The numbered calls fail.
-fn run_over(
-    alloc: Global,
-    line: &[&str],
-    capture: Vec<u8>,
-    shelf_fails: &[u64],
-    sink_fails: &[u64],
-) -> Result<Ran, NoMemory> {
-    let mut words = Vec::new(alloc);
-    for word in line {
-        words.push(String::from_str(alloc, word)?)?;
-    }
-    let mut files = Vec::new(alloc);
-    files.push((String::from_str(alloc, "c.pcap")?, capture))?;
-    let mut shelf = MemoryShelf::over(alloc, files, Vec::from_slice(alloc, shelf_fails)?);
-    let mut sink = MemorySink::over(alloc, Vec::from_slice(alloc, sink_fails)?);
-    let status = run(alloc, &words, &mut shelf, &mut sink);
-    let text = Vec::from_slice(alloc, sink.bytes())?;
-    Ok(Ran { status, text })
-}
-
-/// The first vector with some bytes changed, cut to a length, and with zero bytes behind it.
-fn changed(
-    alloc: Global,
-    changes: &[(usize, u8)],
-    len: usize,
-    zeros: usize,
-) -> Result<Vec<u8>, NoMemory> {
-    let mut capture = vector(alloc, 1)?;
-    for (at, byte) in changes {
-        if let Some(place) = capture.get_mut(*at) {
-            *place = *byte;
-        }
-    }
-    capture.truncate(len);
-    for _ in 0..zeros {
-        capture.push(0)?;
-    }
-    Ok(capture)
-}
 
 /// The captures that are read to their end, and those that are refused, each with its text and status.
 #[test]
@@ -139,7 +92,7 @@ fn captures(rt: HostRuntime) -> Result<(), Fail> {
         ),
     ];
     for (changes, len, zeros, status, text) in cases {
-        let capture = changed(rt.alloc(), changes, len, zeros)?;
+        let capture = changed(vector(rt.alloc(), 1)?, changes, len, zeros)?;
         let ran = run_over(rt.alloc(), &["show", "c.pcap"], capture, &[], &[])?;
         assert_eq!(rt; ran.text.as_slice(), text.as_bytes());
         assert_eq!(rt; ran.status, status);
@@ -284,5 +237,141 @@ fn longest_record(rt: HostRuntime) -> Result<(), Fail> {
         b"frame 1 at 0 ethertype 0 bytes 262130\nend frames 1\n".as_slice()
     );
     assert_eq!(rt; ran.status, Status::Done);
+    Ok(())
+}
+
+/// The addresses, the tag and the EtherType of the first vector's frame.
+const FRAME_START: [u8; 18] = [
+    0x91, 0xe0, 0xf0, 0x00, 0xfe, 0x00, 0x02, 0x00, 0x00, 0x00, 0x00, 0x01, 0x81, 0x00, 0x60, 0x02,
+    0x22, 0xf0,
+];
+
+/// Runs `show` over a capture of one frame, which holds the packet.
+fn shown(alloc: Global, packet: &[u8]) -> Result<Ran, NoMemory> {
+    let mut frame = Vec::from_slice(alloc, &FRAME_START)?;
+    frame.extend_from_slice(packet)?;
+    let capture = capture_of(alloc, true, NANO, (1, 0), &frame)?;
+    run_over(alloc, &["show", "c.pcap"], capture, &[], &[])
+}
+
+/// An IEC 61883-6 packet of 256 quadlets in one block, and one of no data.
+#[test]
+fn iec_packets(rt: HostRuntime) -> Result<(), Fail> {
+    let widest: [(usize, u8); 3] = [(20, 4), (21, 8), (25, 0)];
+    let header = "iec id 0200000000010001 seq 0 ts 1002000000 tv 1 tu 0 mr 0";
+    let cases: [(&[(usize, u8)], usize, usize, &str); 5] = [
+        (&[], 80, 0, " dbs 2 dbc 0 fdf 2 count 6 bytes 56"),
+        (&[], 80, 46, " dbs 2 dbc 0 fdf 2 count 6 bytes 56"),
+        (&widest, 32, 1024, " dbs 256 dbc 0 fdf 2 count 1 bytes 1032"),
+        (
+            &[(21, 8), (29, 255)],
+            32,
+            0,
+            " dbs 2 dbc 0 fdf 255 count 0 bytes 8",
+        ),
+        (&[(27, 250)], 80, 0, " dbs 2 dbc 250 fdf 2 count 6 bytes 56"),
+    ];
+    for (changes, len, zeros, fields) in cases {
+        let packet = changed(vector(rt.alloc(), 2)?, changes, len, zeros)?;
+        let ran = shown(rt.alloc(), &packet)?;
+        let text = format!(in rt.alloc();
+            "frame 1 at 1000000000 {header}{fields}\nend frames 1\n"
+        )?;
+        assert_eq!(rt; ran.text.as_slice(), text.as_bytes());
+        assert_eq!(rt; ran.status, Status::Done);
+    }
+    Ok(())
+}
+
+/// An H.264 packet of a whole NAL unit, and of its fragments.
+#[test]
+fn h264_packets(rt: HostRuntime) -> Result<(), Fail> {
+    let header = "h264 id 0200000000010001 seq 0 ts 1002000000 tv 1 tu 0 mr 0";
+    let cases: [(&[(usize, u8)], &str); 6] = [
+        (
+            &[],
+            " ptv 1 pt 1002000000 marker 1 nal 7 part single bytes 8",
+        ),
+        (
+            &[(28, 0x7c), (29, 0x85)],
+            " ptv 1 pt 1002000000 marker 1 nal 5 part first bytes 8",
+        ),
+        (
+            &[(28, 0x7c), (29, 0x05)],
+            " ptv 1 pt 1002000000 marker 1 nal 5 part middle bytes 8",
+        ),
+        (
+            &[(28, 0x7c), (29, 0x45)],
+            " ptv 1 pt 1002000000 marker 1 nal 5 part last bytes 8",
+        ),
+        (
+            &[(22, 0x10)],
+            " ptv 0 pt 1002000000 marker 1 nal 7 part single bytes 8",
+        ),
+        (
+            &[(22, 0x20), (24, 0), (25, 0), (26, 0), (27, 9)],
+            " ptv 1 pt 9 marker 0 nal 7 part single bytes 8",
+        ),
+    ];
+    for (changes, fields) in cases {
+        let packet = changed(vector(rt.alloc(), 3)?, changes, 32, 0)?;
+        let ran = shown(rt.alloc(), &packet)?;
+        let text = format!(in rt.alloc();
+            "frame 1 at 1000000000 {header}{fields}\nend frames 1\n"
+        )?;
+        assert_eq!(rt; ran.text.as_slice(), text.as_bytes());
+        assert_eq!(rt; ran.status, Status::Done);
+    }
+    Ok(())
+}
+
+/// A CRF packet of one timestamp, one of two, and one with other flags and codes.
+#[test]
+fn crf_packets(rt: HostRuntime) -> Result<(), Fail> {
+    let one = "seq 0 mr 0 tu 0 type 1 base 48000 pull 0 interval 96 points 1 first 1002000000";
+    let two = "seq 0 mr 0 tu 0 type 1 base 48000 pull 0 interval 96 points 2 first 1002000000";
+    let other = "seq 9 mr 1 tu 1 type 4 base 48000 pull 5 interval 1 points 1 first 1002000000";
+    let cases: [(&[(usize, u8)], usize, &str); 3] = [
+        (&[], 0, one),
+        (&[(17, 16)], 8, two),
+        (&[(1, 0x89), (2, 9), (3, 4), (12, 0xa0), (19, 1)], 0, other),
+    ];
+    for (changes, zeros, fields) in cases {
+        let packet = changed(vector(rt.alloc(), 4)?, changes, 28, zeros)?;
+        let ran = shown(rt.alloc(), &packet)?;
+        let text = format!(in rt.alloc();
+            "frame 1 at 1000000000 crf id 0200000000010002 {fields}\nend frames 1\n"
+        )?;
+        assert_eq!(rt; ran.text.as_slice(), text.as_bytes());
+        assert_eq!(rt; ran.status, Status::Done);
+    }
+    Ok(())
+}
+
+/// Refused packets of each format. The offset is in the frame, whose packet begins at its nineteenth byte.
+#[test]
+fn refused_packets(rt: HostRuntime) -> Result<(), Fail> {
+    let iec = changed(vector(rt.alloc(), 2)?, &[(26, 0x48)], 80, 0)?;
+    let short_iec = changed(vector(rt.alloc(), 2)?, &[], 23, 0)?;
+    let h264 = changed(vector(rt.alloc(), 3)?, &[(28, 0x7c), (29, 0xc5)], 32, 0)?;
+    let short_h264 = changed(vector(rt.alloc(), 3)?, &[(21, 5), (28, 0x7c)], 29, 0)?;
+    let crf = changed(vector(rt.alloc(), 4)?, &[], 27, 0)?;
+    let short_crf = changed(vector(rt.alloc(), 4)?, &[], 19, 0)?;
+    let cases: [(&[u8], &str); 6] = [
+        (&iec, "fn at 44"),
+        (&short_iec, "format_flags at 40 short"),
+        (&h264, "fu_header at 47"),
+        (&short_h264, "fu_header at 47 short"),
+        (&crf, "crf_data_length at 34"),
+        (&short_crf, "timestamp_interval at 36 short"),
+    ];
+    for (packet, refusal) in cases {
+        let ran = shown(rt.alloc(), packet)?;
+        let text = format!(in rt.alloc();
+            "frame 1 at 1000000000 refused {refusal}\nend frames 1\n"
+        )?;
+        assert_eq!(rt; ran.text.as_slice(), text.as_bytes());
+        assert_eq!(rt; ran.status, Status::Done);
+    }
     Ok(())
 }
