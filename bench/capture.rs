@@ -2,8 +2,9 @@
 //! frames each. Packet n arrives at 1 s + n * 125 us, has the sequence number n mod 256, and is due 2 ms after its arrival.
 //!
 //! - `capture OUT COUNT`: so many packets, in little-endian nanoseconds.
-//! - `capture OUT COUNT STYLE`: the same in `le-ns`, `le-us`, `be-ns` or `be-us`, with half of the frames damaged, then one
-//!   of the greatest length, and then a record that is cut off.
+//! - `capture OUT COUNT STYLE`: the same in `le-ns`, `le-us`, `be-ns` or `be-us`. Half of the packets are damaged, of every
+//!   2,048 the latter 1,024 are sparse, which leaves one timestamp in eight, and one in 16 comes twice. Then come a frame of
+//!   the greatest length and a record that is cut off.
 
 use std::env;
 use std::fs::File;
@@ -17,9 +18,11 @@ const FRAME: [u8; 66] = [
     0xfa,
 ];
 
-/// Where the sequence number and the timestamp stand in the frame.
+/// Where `tv`, the sequence number, the timestamp and `sp` stand in the frame.
+const TV: usize = 19;
 const SEQUENCE_NUM: usize = 20;
 const TIMESTAMP: usize = 30;
+const SP: usize = 40;
 
 /// The most bytes that a record may have.
 const LONGEST: usize = 262_144;
@@ -57,6 +60,26 @@ impl Capture {
         self.numbers(&[(arrival / 1_000_000_000) as u32, fraction as u32, len, len])?;
         self.out.write_all(frame)
     }
+
+    fn damaged_packets(&mut self, count: u64) -> io::Result<()> {
+        let mut noise = 1;
+        for n in 0..count {
+            let whole = if n % 2048 < 1024 {
+                packet(n)
+            } else {
+                sparse_packet(n)
+            };
+            let frame = if n % 2 == 1 {
+                damaged(whole, &mut noise)
+            } else {
+                whole.to_vec()
+            };
+            for _ in 0..if n % 16 == 2 { 2 } else { 1 } {
+                self.record(n, &frame)?;
+            }
+        }
+        Ok(())
+    }
 }
 
 fn packet(n: u64) -> [u8; 66] {
@@ -64,6 +87,17 @@ fn packet(n: u64) -> [u8; 66] {
     let due = 1_002_000_000 + n * 125_000;
     frame[SEQUENCE_NUM] = n as u8;
     frame[TIMESTAMP..TIMESTAMP + 4].copy_from_slice(&(due as u32).to_be_bytes());
+    frame
+}
+
+/// The same packet of a sparse stream.
+fn sparse_packet(n: u64) -> [u8; 66] {
+    let mut frame = packet(n);
+    frame[SP] |= 0x10;
+    if n % 8 != 0 {
+        frame[TV] &= 0xfe;
+        frame[TIMESTAMP..TIMESTAMP + 4].fill(0);
+    }
     frame
 }
 
@@ -98,17 +132,14 @@ fn main() -> io::Result<()> {
         },
     };
     capture.header()?;
-    let mut noise = 1;
-    for n in 0..count {
-        if style.is_some() && n % 2 == 1 {
-            capture.record(n, &damaged(packet(n), &mut noise))?;
-        } else {
-            capture.record(n, &packet(n))?;
-        }
-    }
     if style.is_some() {
+        capture.damaged_packets(count)?;
         capture.record(count, &[0; LONGEST])?;
         capture.numbers(&[0, 0, 66])?;
+    } else {
+        for n in 0..count {
+            capture.record(n, &packet(n))?;
+        }
     }
     capture.out.flush()
 }

@@ -1,6 +1,6 @@
-//! `measure AVTP YARDSTICK CAPTURE PACKETS TEXT [TSHARK]`: runs `avtp show` and the yardstick in turn, to nothing and to a
-//! file that each of them leaves in TEXT, and tshark once. Prints, for the best run of each, packets a second, megabytes
-//! of text a second and the largest resident memory, and the ratios.
+//! `measure AVTP YARDSTICK PACKETS TEXT TSHARK COMMAND [STREAM] CAPTURE`: runs a command of `avtp` and its yardstick in turn,
+//! to nothing and to a file that each of them leaves in TEXT, and tshark once where TSHARK is not empty. Prints, for the
+//! best run of each, packets a second, megabytes of text a second and the largest resident memory, and the ratios.
 
 use std::env;
 use std::fs::{self, File};
@@ -8,6 +8,8 @@ use std::io::{self, Error};
 use std::process::{Command, Stdio};
 use std::thread::available_parallelism;
 use std::time::Instant;
+
+const USAGE: &str = "measure AVTP YARDSTICK PACKETS TEXT TSHARK COMMAND [STREAM] CAPTURE";
 
 const ROUNDS: usize = 20;
 
@@ -46,7 +48,7 @@ unsafe extern "C" {
 
 /// A program with its words, and the best of its runs.
 struct Runner {
-    name: &'static str,
+    name: String,
     program: String,
     words: Vec<String>,
     output: Option<String>,
@@ -55,10 +57,10 @@ struct Runner {
 }
 
 impl Runner {
-    fn new(name: &'static str, program: &str, words: &[&str], output: Option<&str>) -> Self {
+    fn new(name: &str, program: &str, words: &[&str], output: Option<&str>) -> Self {
         let words = words.iter().map(|word| word.to_string()).collect();
         Runner {
-            name,
+            name: name.to_string(),
             program: program.to_string(),
             words,
             output: output.map(str::to_string),
@@ -114,20 +116,33 @@ fn best_of(rounds: usize, runners: &mut [Runner]) -> io::Result<()> {
     Ok(())
 }
 
+/// Runs tshark once over the capture, for the fields that `avtp show` prints.
+fn run_tshark(tshark: &str, capture: &str) -> io::Result<Runner> {
+    let mut words = vec!["-n", "-r", capture, "-T", "fields"];
+    words.extend(TSHARK_FIELDS.iter().flat_map(|field| ["-e", field]));
+    let mut runner = Runner::new("`tshark -T fields`, to nothing", tshark, &words, None);
+    runner.run()?;
+    Ok(runner)
+}
+
 fn main() -> io::Result<()> {
     let words: Vec<String> = env::args().skip(1).collect();
-    let [avtp, yardstick, capture, packets, text, tshark @ ..] = words.as_slice() else {
-        return Err(Error::other(
-            "measure AVTP YARDSTICK CAPTURE PACKETS TEXT [TSHARK]",
-        ));
+    let words: Vec<&str> = words.iter().map(String::as_str).collect();
+    let [avtp, yardstick, packets, text, tshark, ref asked @ ..] = words[..] else {
+        return Err(Error::other(USAGE));
     };
+    let [command, peer_words @ ..] = asked else {
+        return Err(Error::other(USAGE));
+    };
+    let capture = asked[asked.len() - 1];
     let packets: f64 = packets.parse().map_err(Error::other)?;
     let load = fs::read_to_string("/proc/loadavg")?;
+    let command = format!("`avtp {command}`");
     let mut runners = [
-        Runner::new("`avtp show`, to nothing", avtp, &["show", capture], None),
-        Runner::new("yardstick, to nothing", yardstick, &[capture], None),
-        Runner::new("`avtp show`, to a file", avtp, &["show", capture], Some(text)),
-        Runner::new("yardstick, to a file", yardstick, &[capture], Some(text)),
+        Runner::new(&format!("{command}, to nothing"), avtp, asked, None),
+        Runner::new("yardstick, to nothing", yardstick, peer_words, None),
+        Runner::new(&format!("{command}, to a file"), avtp, asked, Some(text)),
+        Runner::new("yardstick, to a file", yardstick, peer_words, Some(text)),
     ];
     best_of(ROUNDS, &mut runners)?;
     let text_len = fs::metadata(text)?.len() as f64;
@@ -155,11 +170,8 @@ fn main() -> io::Result<()> {
             "of the yardstick's throughput, to a file; at least 0.8 is aimed at",
         ),
     ];
-    if let Some(tshark) = tshark.first() {
-        let mut fields = vec!["-n", "-r", capture, "-T", "fields"];
-        fields.extend(TSHARK_FIELDS.iter().flat_map(|field| ["-e", field]));
-        let mut tshark = Runner::new("`tshark -T fields`, to nothing", tshark, &fields, None);
-        tshark.run()?;
+    if !tshark.is_empty() {
+        let tshark = run_tshark(tshark, capture)?;
         tshark.print(packets, 0.0);
         ratios.push((
             tshark.seconds / nothing.seconds,
@@ -168,7 +180,8 @@ fn main() -> io::Result<()> {
     }
     println!();
     for (ratio, meaning) in ratios {
-        println!("`avtp show` has {ratio:.2} {meaning}.");
+        println!("{command} has {ratio:.2} {meaning}.");
     }
+    println!();
     Ok(())
 }

@@ -1,0 +1,198 @@
+//! The records of a classic capture, looked at where they were read, and the Ethernet frames in them.
+
+use std::fs::File;
+use std::io::{self, Read};
+
+const FILE_HEADER: usize = 24;
+const RECORD_HEADER: usize = 16;
+const RECORD_LIMIT: usize = 262_144;
+const PIECE: usize = 65_536;
+
+/// A field that is refused, its offset, and whether it is cut off.
+pub struct Refusal(pub &'static str, pub usize, pub bool);
+
+/// The field that holds the first missing byte of `len`, by the ends of the fields.
+pub fn cut_off(fields: &[(usize, &'static str)], len: usize, start: usize) -> Option<Refusal> {
+    let mut at = 0;
+    for &(end, field) in fields {
+        if len < end {
+            return Some(Refusal(field, start + at, true));
+        }
+        at = end;
+    }
+    None
+}
+
+pub fn u16_at(bytes: &[u8], at: usize) -> u16 {
+    u16::from_be_bytes([bytes[at], bytes[at + 1]])
+}
+
+/// The EtherType of a frame, and where its payload starts.
+#[inline(always)]
+pub fn read_frame(frame: &[u8]) -> Result<(u16, usize), Refusal> {
+    const FIELDS: [(usize, &str); 5] = [
+        (6, "destination"),
+        (12, "source"),
+        (14, "ethertype"),
+        (16, "tag_control"),
+        (18, "ethertype"),
+    ];
+    let tagged = frame.len() >= 14 && u16_at(frame, 12) == 0x8100;
+    let start = if tagged { 18 } else { 14 };
+    if frame.len() < start {
+        return Err(cut_off(&FIELDS, frame.len(), 0).unwrap());
+    }
+    Ok((u16_at(frame, start - 2), start))
+}
+
+/// The byte order and the unit of a capture's numbers.
+#[derive(Clone, Copy)]
+struct Style {
+    big: bool,
+    unit: u64,
+}
+
+impl Style {
+    #[inline(always)]
+    fn u32_at(self, bytes: &[u8], at: usize) -> u32 {
+        let four = bytes[at..at + 4].try_into().unwrap();
+        if self.big {
+            u32::from_be_bytes(four)
+        } else {
+            u32::from_le_bytes(four)
+        }
+    }
+}
+
+fn read_style(header: &[u8]) -> Result<Style, Refusal> {
+    let refuse = |field, at| Err(Refusal(field, at, false));
+    if header.len() < 4 {
+        return Err(Refusal("magic", 0, true));
+    }
+    let style = match header[..4] {
+        [0xd4, 0xc3, 0xb2, 0xa1] => Style {
+            big: false,
+            unit: 1000,
+        },
+        [0x4d, 0x3c, 0xb2, 0xa1] => Style { big: false, unit: 1 },
+        [0xa1, 0xb2, 0xc3, 0xd4] => Style {
+            big: true,
+            unit: 1000,
+        },
+        [0xa1, 0xb2, 0x3c, 0x4d] => Style { big: true, unit: 1 },
+        _ => return refuse("magic", 0),
+    };
+    if header.len() >= 6 && header[4..6] != if style.big { [0, 2] } else { [2, 0] } {
+        return refuse("version_major", 4);
+    }
+    const FIELDS: [(usize, &str); 7] = [
+        (4, "magic"),
+        (6, "version_major"),
+        (8, "version_minor"),
+        (12, "thiszone"),
+        (16, "sigfigs"),
+        (20, "snaplen"),
+        (24, "network"),
+    ];
+    if let Some(refusal) = cut_off(&FIELDS, header.len(), 0) {
+        return Err(refusal);
+    }
+    if style.u32_at(header, 20) & 0xffff != 1 {
+        return refuse("network", 20);
+    }
+    Ok(style)
+}
+
+/// The length of the record's frame, where the record stands whole in the bytes.
+#[inline(always)]
+fn whole_record(style: Style, bytes: &[u8], start: usize) -> Result<usize, Refusal> {
+    if bytes.len() >= 12 {
+        let len = style.u32_at(bytes, 8) as usize;
+        if len > RECORD_LIMIT {
+            return Err(Refusal("incl_len", start + 8, false));
+        }
+        if bytes.len() >= RECORD_HEADER + len {
+            return Ok(len);
+        }
+    }
+    const FIELDS: [(usize, &str); 5] = [
+        (4, "ts_sec"),
+        (8, "ts_fraction"),
+        (12, "incl_len"),
+        (16, "orig_len"),
+        (usize::MAX, "packet_bytes"),
+    ];
+    Err(cut_off(&FIELDS, bytes.len(), start).unwrap())
+}
+
+/// What was read of a file and is not used yet, in a buffer that has room for a record and a piece.
+struct Input {
+    file: File,
+    buffer: Vec<u8>,
+    used: usize,
+    len: usize,
+}
+
+impl Input {
+    fn open(path: &str) -> io::Result<Self> {
+        let buffer = vec![0; RECORD_HEADER + RECORD_LIMIT + PIECE];
+        Ok(Input {
+            file: File::open(path)?,
+            buffer,
+            used: 0,
+            len: 0,
+        })
+    }
+
+    fn unused(&self) -> &[u8] {
+        &self.buffer[self.used..self.len]
+    }
+
+    /// Reads a piece behind what is not used. Answers whether one came.
+    fn read(&mut self) -> io::Result<bool> {
+        self.buffer.copy_within(self.used..self.len, 0);
+        self.len -= self.used;
+        self.used = 0;
+        let moved = self.file.read(&mut self.buffer[self.len..self.len + PIECE])?;
+        self.len += moved;
+        Ok(moved > 0)
+    }
+}
+
+/// Gives each whole record of the capture to `take`: its number, from 1, its arrival in nanoseconds, and its frame. Answers
+/// the number of records, or the capture's first refusal.
+#[inline(always)]
+pub fn read_records(
+    path: &str,
+    mut take: impl FnMut(u64, u64, &[u8]) -> io::Result<()>,
+) -> io::Result<Result<u64, Refusal>> {
+    let mut input = Input::open(path)?;
+    while input.len < FILE_HEADER && input.read()? {}
+    let style = match read_style(&input.buffer[..input.len.min(FILE_HEADER)]) {
+        Ok(style) => style,
+        Err(refusal) => return Ok(Err(refusal)),
+    };
+    input.used = FILE_HEADER;
+    let mut start = FILE_HEADER;
+    let mut frames = 0;
+    loop {
+        let bytes = input.unused();
+        match whole_record(style, bytes, start) {
+            Ok(len) => {
+                frames += 1;
+                let seconds = u64::from(style.u32_at(bytes, 0));
+                let fraction = u64::from(style.u32_at(bytes, 4));
+                let arrival = seconds * 1_000_000_000 + fraction * style.unit;
+                take(frames, arrival, &bytes[RECORD_HEADER..RECORD_HEADER + len])?;
+                start += RECORD_HEADER + len;
+                input.used += RECORD_HEADER + len;
+            }
+            Err(refusal) if !refusal.2 => return Ok(Err(refusal)),
+            Err(refusal) => {
+                if !input.read()? {
+                    return Ok(if input.len == 0 { Ok(frames) } else { Err(refusal) });
+                }
+            }
+        }
+    }
+}
