@@ -1,34 +1,15 @@
 -- Records that were given up stay the first of the capture's, however it goes on.
-use Rattle.std.proofs.Common.{◌≡◌, ℕ, ℤ, zero, suc, ◌≤◌, List, [], ◌∷◌, ◌++◌, length, take, drop, Option, Some, None, refl, sym, ap, ◌∙◌, arith, append_assoc, length-append}
+use Rattle.std.proofs.Common.{◌≡◌, ℕ, zero, suc, ◌≤◌, List, [], ◌∷◌, ◌++◌, length, take, drop, Option, Some, None, refl, sym, ap, ◌∙◌, arith, append_assoc, length-append}
 use Rattle.std.proofs.lemmas.List.{append-nil, take_at, drop_at}
 use Rattle.avtp_base.specs.declared.refusal.Refusal.{Refusal}
 use Rattle.pcap_frames.specs.declared.style.Style.{Style}
-use Rattle.pcap_frames.specs.Layout.{number_at, record_refusal}
+use Rattle.pcap_frames.specs.Layout.{record_refusal}
 use Rattle.pcap_frames.specs.Capture.{Record, Spells, SpellsAll, Holds, record_of, record_size, records_from, records_behind, style_of, whole_records}
 use Rattle.pcap_frames.specs.Reading.{Reading, HasRead, Follows, StandsFor, IsReading}
-use Rattle.pcap_frames.proofs.Append.{number_stays, record_stays}
 use Rattle.pcap_frames.proofs.Held.{refused_stays}
-use Rattle.pcap_frames.proofs.One.{holds_one, record_fits}
+use Rattle.pcap_frames.proofs.One.{holds_one, spells_accepted, spells_one, spells_size}
 use Rattle.pcap_frames.proofs.Steps.{style_stays}
 use Rattle.pcap_frames.proofs.Whole.{holds_whole}
-
-accepted : (style : Style) (r : Record) (first more : List ℕ) → Spells style r first → record_refusal style.order 0 (first ++ more) ≡ None
-accepted style r first more s =
-    record_stays style.order 0 first more None (record_fits style.order 0 first (omega (arith, s.size, s.incl_len)) (omega (arith, s.limit, s.incl_len))) refl
-
-sized : (style : Style) (r : Record) (first more : List ℕ) → Spells style r first → record_size style (first ++ more) ≡ length first
-sized style r first more s =
-    let stays : number_at style.order 8 4 (first ++ more) ≡ number_at style.order 8 4 first = number_stays style.order 8 4 first more (omega (arith, s.size)) in
-    omega (arith, s.size, s.incl_len)
-
-abbrev make : ℤ → ℕ → List ℕ → Record
-make arrival orig_len bytes = record { arrival = arrival; orig_len = orig_len; bytes = bytes }
-
-spelled : (style : Style) (r : Record) (first : List ℕ) → Spells style r first → record_of style first ≡ r
-spelled style r first s =
-    ap (λ (a : ℤ). make a (record_of style first).orig_len (record_of style first).bytes) (sym s.arrival)
-    ∙ (ap (λ (n : ℕ). make r.arrival n (record_of style first).bytes) s.orig_len
-    ∙ ap (λ (b : List ℕ). make r.arrival r.orig_len b) s.packet_bytes)
 
 from_step : (n : ℕ) (style : Style) (bytes : List ℕ) → record_refusal style.order 0 bytes ≡ None
     → records_from (suc n) style bytes ≡ record_of style (take (record_size style bytes) bytes) ∷ records_from n style (drop (record_size style bytes) bytes)
@@ -43,8 +24,8 @@ from_spelled (suc n) style (r ∷ records) body rest s fits =
     let all : List ℕ = body ++ rest in
     let tail : List ℕ = s.1 ++ rest in
     let whole : all ≡ s.0 ++ tail = ap (λ (z : List ℕ). z ++ rest) s.2 ∙ append_assoc s.0 s.1 rest in
-    let none : record_refusal style.order 0 all ≡ None = ap (record_refusal style.order 0) whole ∙ accepted style r s.0 tail s.3 in
-    let size : record_size style all ≡ length s.0 = ap (record_size style) whole ∙ sized style r s.0 tail s.3 in
+    let none : record_refusal style.order 0 all ≡ None = ap (record_refusal style.order 0) whole ∙ spells_accepted style r 0 s.0 tail s.3 in
+    let size : record_size style all ≡ length s.0 = ap (record_size style) whole ∙ sym (spells_size style r s.0 tail s.3) in
     let first : take (record_size style all) all ≡ s.0 = ap (take (record_size style all)) whole ∙ take_at s.0 tail (record_size style all) (sym size) in
     let behind : drop (record_size style all) all ≡ tail = ap (drop (record_size style all)) whole ∙ drop_at s.0 tail (record_size style all) (sym size) in
     let less : length tail ≤ n = omega (arith, s.3.size, ap length whole, length-append s.0 tail) in
@@ -52,7 +33,7 @@ from_spelled (suc n) style (r ∷ records) body rest s fits =
       next.0,
       from_step n style all none
           ∙ (ap (λ (f : List ℕ). record_of style f ∷ records_from n style (drop (record_size style all) all)) first
-          ∙ (ap (λ (x : Record). x ∷ records_from n style (drop (record_size style all) all)) (spelled style r s.0 s.3)
+          ∙ (ap (λ (x : Record). x ∷ records_from n style (drop (record_size style all) all)) (sym (spells_one style r s.0 s.3))
           ∙ (ap (λ (l : List ℕ). r ∷ records_from n style l) behind ∙ ap (λ (rs : List Record). r ∷ rs) next.1))),
     )
 

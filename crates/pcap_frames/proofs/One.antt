@@ -27,12 +27,12 @@ same_back : (p q p' q' : List ℕ) → p ++ q ≡ p' ++ q' → length p ≡ leng
 same_back p q p' q' e l = sym (drop_at p q (length p) refl) ∙ (ap (drop (length p)) e ∙ drop_at p' q' (length p) (sym l))
 
 -- a spelling is not refused, whatever follows
-spells_accepted : (style : Style) (r : Record) (start : ℕ) (first more : List ℕ) → Spells style r first → record_refusal style.order start (first ++ more) ≡ None
+pub spells_accepted : (style : Style) (r : Record) (start : ℕ) (first more : List ℕ) → Spells style r first → record_refusal style.order start (first ++ more) ≡ None
 spells_accepted style r start first more s =
     record_stays style.order start first more None (record_fits style.order start first (omega (arith, s.size, s.incl_len)) (omega (arith, s.limit, s.incl_len))) refl
 
 -- how long a spelling is stands in the bytes
-spells_size : (style : Style) (r : Record) (first more : List ℕ) → Spells style r first → length first ≡ record_size style (first ++ more)
+pub spells_size : (style : Style) (r : Record) (first more : List ℕ) → Spells style r first → length first ≡ record_size style (first ++ more)
 spells_size style r first more s =
     let stays : number_at style.order 8 4 (first ++ more) ≡ number_at style.order 8 4 first = number_stays style.order 8 4 first more (omega (arith, s.size)) in
     omega (arith, s.size, s.incl_len)
@@ -41,7 +41,7 @@ abbrev make : ℤ → ℕ → List ℕ → Record
 make arrival orig_len bytes = record { arrival = arrival; orig_len = orig_len; bytes = bytes }
 
 -- the bytes spell one record alone
-spells_one : (style : Style) (r : Record) (first : List ℕ) → Spells style r first → r ≡ record_of style first
+pub spells_one : (style : Style) (r : Record) (first : List ℕ) → Spells style r first → r ≡ record_of style first
 spells_one style r first s =
     ap (λ (a : ℤ). make a r.orig_len r.bytes) s.arrival
     ∙ (ap (λ (n : ℕ). make (record_of style first).arrival n r.bytes) (sym s.orig_len)
