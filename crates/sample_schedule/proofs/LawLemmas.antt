@@ -21,22 +21,22 @@ use Rattle.sample_schedule.specs.Laws.{IsBefore, IsNoCopy, Pairwise, place_of, p
 use Rattle.sample_schedule.specs.Order.{between, by_instant, due_of, left_of, put_behind, standing}
 use Rattle.sample_schedule.specs.Schedule.{Given, Presents, Flags, accepted, accepted_by, arrival_of, flag_by, given, judged, latest, now_at, step, steps, verdict_at}
 use Rattle.sample_schedule.specs.Verdicts.{Clock, decided, first_instant, is_copy, is_full, total_bytes, verdict}
-use Rattle.sample_schedule.proofs.OrderLemmas.{lt_true, lt_false, le_true, any-by_instant, due-waiting, sum-by_instant, left-waiting, standing-standing, waiting-more}
+use Rattle.sample_schedule.proofs.OrderLemmas.{all-put_behind, all-weaker, lt_true, lt_false, le_true, any-by_instant, due-waiting, sum-by_instant, left-waiting, standing-standing, waiting-more}
 use Rattle.sample_schedule.proofs.StageLemmas.{max_above, now-next}
 
 -- ---- what a verdict says of what it accepts
 
 pub record AcceptedSo (plan : SchedulePlan) (now : ℤ) (earlier : List Accepted) (n : ℕ) (a : Accepted) : Type 0 where
-  place : a.place ≡ n
+  pub place : a.place ≡ n
   stands : now ≤ℤ a.instant
   fresh : list_any (is_copy a.instant a.batch.seq) earlier ≡ false
   room : is_full plan (standing now earlier) (length a.batch.bytes) ≡ false
 
-abbrev OkSo : SchedulePlan → ℤ → List Accepted → ℕ → Result Accepted Reason → Type 0
+abbrev pub OkSo : SchedulePlan → ℤ → List Accepted → ℕ → Result Accepted Reason → Type 0
 OkSo plan now earlier place (Ok a) = AcceptedSo plan now earlier place a
 OkSo plan now earlier place (Err reason) = Unit {0}
 
-verdict-so : (plan : SchedulePlan) (now : ℤ) (earlier : List Accepted) (place : ℕ) (r : Result Presented Reason) → OkSo plan now earlier place (verdict plan now earlier place r)
+pub verdict-so : (plan : SchedulePlan) (now : ℤ) (earlier : List Accepted) (place : ℕ) (r : Result Presented Reason) → OkSo plan now earlier place (verdict plan now earlier place r)
 unfolding verdict
 verdict-so plan now earlier place (Err reason) = tt
 verdict-so plan now earlier place (Ok batch) = by_lt_z (first_instant batch) now
@@ -176,17 +176,6 @@ due-passed t (y ∷ ys) = by_lt_z y.instant t
 all-after : (P : Accepted → Type 0) (xs ys : List Accepted) → AllByRecursion P xs → AllByRecursion P ys → AllByRecursion P (xs ++ ys)
 all-after P [] ys p q = q
 all-after P (x ∷ xs) ys p q = (p.0, all-after P xs ys p.1 q)
-
-all-weaker : (P Q : Accepted → Type 0) → ((a : Accepted) → P a → Q a) → (xs : List Accepted) → AllByRecursion P xs → AllByRecursion Q xs
-all-weaker P Q w [] p = tt
-all-weaker P Q w (x ∷ xs) p = (w x p.0, all-weaker P Q w xs p.1)
-
-all-put_behind : (P : Accepted → Type 0) (ys : List Accepted) (a : Accepted) → AllByRecursion P ys → P a → AllByRecursion P (put_behind ys a)
-all-put_behind P [] a p q = (q, tt)
-all-put_behind P (b ∷ bs) a p q = elim (int_lt a.instant b.instant) as (λ v. AllByRecursion P (cond v (a ∷ b ∷ bs) (b ∷ put_behind bs a))) [
-  | true ↦ (q, p)
-  | false ↦ (p.0, all-put_behind P bs a p.1 q)
-]
 
 -- behind all that passed
 behind-all : (ps ws : List Accepted) (a : Accepted) → AllByRecursion (λ p. p.instant ≤ℤ a.instant) ps → put_behind (ps ++ ws) a ≡ ps ++ put_behind ws a

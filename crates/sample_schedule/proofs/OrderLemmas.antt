@@ -1,7 +1,7 @@
 -- Accepted items, by their first instants.
 use Rattle.std.proofs.Common.{◌≡◌, ℕ, suc, ◌+◌, Bool, true, false, cond, ◌||◌, ℤ, ◌≤ℤ◌, ◌<ℤ◌, List, [], ◌∷◌, ◌++◌, length, filter, refl, ap, ◌∙◌, arith, fold}
 use Rattle.std.specs.Prelude.{int_lt, int_le}
-use Rattle.std.specs.List.{list_any, sum_by}
+use Rattle.std.specs.List.{AllByRecursion, list_any, sum_by}
 use Rattle.std.proofs.lemmas.Int.{ints, by_lt_z}
 use Rattle.std.proofs.lemmas.List.Sums.{fold-append}
 use Rattle.std.proofs.lemmas.List.Elements.{filter-append}
@@ -22,6 +22,19 @@ le_true a b h = grind (arith, ints)
 
 pub le_false : (a b : ℤ) → b <ℤ a → int_le a b ≡ false
 le_false a b h = grind (arith, ints)
+
+-- ---- what holds of all
+
+pub all-weaker : (P Q : Accepted → Type 0) → ((a : Accepted) → P a → Q a) → (xs : List Accepted) → AllByRecursion P xs → AllByRecursion Q xs
+all-weaker P Q w [] p = tt
+all-weaker P Q w (x ∷ xs) p = (w x p.0, all-weaker P Q w xs p.1)
+
+pub all-put_behind : (P : Accepted → Type 0) (ys : List Accepted) (a : Accepted) → AllByRecursion P ys → P a → AllByRecursion P (put_behind ys a)
+all-put_behind P [] a p q = (q, tt)
+all-put_behind P (b ∷ bs) a p q = elim (int_lt a.instant b.instant) as (λ v. AllByRecursion P (cond v (a ∷ b ∷ bs) (b ∷ put_behind bs a))) [
+  | true ↦ (q, p)
+  | false ↦ (p.0, all-put_behind P bs a p.1 q)
+]
 
 -- ---- what has passed and what has not, of a list by first instant
 

@@ -80,7 +80,7 @@ waiting-judged clock plan entries n earlier (OfClock arrival row) = rw append-ni
 
 -- ---- one step
 
-verdict-at : (clock : Clock) (plan : SchedulePlan) (entries : List Entry) (n : ℕ) (earlier : List Accepted) (e : Entry) → slice_get entries n ≡ Some e → verdict_at clock plan entries n earlier ≡ judged clock plan entries n earlier e
+pub verdict-at : (clock : Clock) (plan : SchedulePlan) (entries : List Entry) (n : ℕ) (earlier : List Accepted) (e : Entry) → slice_get entries n ≡ Some e → verdict_at clock plan entries n earlier ≡ judged clock plan entries n earlier e
 unfolding verdict_at
 verdict-at clock plan entries n earlier e at = rw at refl
 
@@ -111,15 +111,15 @@ shown-next clock plan entries n e at =
 pub now-passed : (clock : Clock) (plan : SchedulePlan) (entries : List Entry) (e : Entry) (old : Stage) (now : ℤ) → slice_get entries old.place ≡ Some e → StandsBefore clock plan entries old.place old → now ≡ int_max old.now (arrival_of e) → now ≡ now_at entries old.place
 now-passed clock plan entries e old now at s is = is ∙ ap (λ (z : ℤ). int_max z (arrival_of e)) s.now ∙ sym (now-next entries old.place e at)
 
-pub waiting-passed : (clock : Clock) (plan : SchedulePlan) (entries : List Entry) (e : Entry) (old : Stage) (now : ℤ) → StandsBefore clock plan entries old.place old → now ≡ int_max old.now (arrival_of e) → left_of now old.waiting.items ≡ by_instant (standing now (accepted clock plan entries old.place))
+pub waiting-passed : (clock : Clock) (plan : SchedulePlan) (entries : List Entry) (e : Entry) (old : Stage) (now : ℤ) → StandsBefore clock plan entries old.place old → now ≡ int_max old.now (arrival_of e) → left_of now old.waiting.list.items ≡ by_instant (standing now (accepted clock plan entries old.place))
 waiting-passed clock plan entries e old now s is =
     let above : latest (take old.place entries) ≤ℤ now = rw (is, s.now) (max_above (latest (take old.place entries)) (arrival_of e)) in
     ap (λ (l : List Accepted). left_of now l) s.waiting ∙ left-waiting (latest (take old.place entries)) now (accepted clock plan entries old.place) above
 
 pub stands-next : (clock : Clock) (plan : SchedulePlan) (entries : List Entry) (e : Entry) (old mid new last : Stage) → slice_get entries old.place ≡ Some e → StandsBefore clock plan entries old.place old
-    → mid.place ≡ old.place → mid.now ≡ now_at entries old.place → mid.waiting.items ≡ by_instant (standing mid.now (accepted clock plan entries old.place)) → mid.list.items ≡ old.list.items ++ map present (due_of mid.now old.waiting.items)
+    → mid.place ≡ old.place → mid.now ≡ now_at entries old.place → mid.waiting.list.items ≡ by_instant (standing mid.now (accepted clock plan entries old.place)) → mid.list.items ≡ old.list.items ++ map present (due_of mid.now old.waiting.list.items)
     → Takes e (judged clock plan entries mid.place (accepted clock plan entries old.place) e) mid new
-    → last.place ≡ old.place + 1 → last.now ≡ new.now → last.waiting.items ≡ new.waiting.items → last.list.items ≡ new.list.items
+    → last.place ≡ old.place + 1 → last.now ≡ new.now → last.waiting.list.items ≡ new.waiting.list.items → last.list.items ≡ new.list.items
     → StandsBefore clock plan entries (old.place + 1) last
 stands-next clock plan entries e old mid new last at s same now waiting list takes p q r t =
     let n : ℕ = old.place in
@@ -127,7 +127,7 @@ stands-next clock plan entries e old mid new last at s same now waiting list tak
     let v = judged clock plan entries n acc e in
     let next : old.place + 1 ≡ suc n = omega arith in
     let takes' = rw same at takes in
-    let due : due_of mid.now old.waiting.items ≡ by_instant (between (latest (take n entries)) (now_at entries n) acc) =
+    let due : due_of mid.now old.waiting.list.items ≡ by_instant (between (latest (take n entries)) (now_at entries n) acc) =
     ap (λ (l : List Accepted). due_of mid.now l) s.waiting ∙ due-waiting (latest (take n entries)) mid.now acc ∙ ap (λ (z : ℤ). by_instant (between (latest (take n entries)) z acc)) now in
     record {
       place = p;
@@ -142,14 +142,14 @@ stands-next clock plan entries e old mid new last at s same now waiting list tak
 
 -- ---- one item
 
-pub takes-ok : (item : Item) (v : Result Accepted Reason) (a : Accepted) (old new : Stage) → v ≡ Ok a → new.now ≡ old.now → new.waiting.items ≡ put_behind old.waiting.items a → new.list.items ≡ old.list.items → Takes (OfItem item) (Some v) old new
+pub takes-ok : (item : Item) (v : Result Accepted Reason) (a : Accepted) (old new : Stage) → v ≡ Ok a → new.now ≡ old.now → new.waiting.list.items ≡ put_behind old.waiting.list.items a → new.list.items ≡ old.list.items → Takes (OfItem item) (Some v) old new
 takes-ok item v a old new is now waiting list = record {
   now = now;
   waiting = rw is waiting;
   list = rw (is, append-nil) list;
 }
 
-pub takes-err : (item : Item) (v : Result Accepted Reason) (reason : Reason) (old new : Stage) → v ≡ Err reason → new.now ≡ old.now → new.waiting.items ≡ old.waiting.items → new.list.items ≡ old.list.items ++ shown_of (Flags old.place item reason) ∷ [] → Takes (OfItem item) (Some v) old new
+pub takes-err : (item : Item) (v : Result Accepted Reason) (reason : Reason) (old new : Stage) → v ≡ Err reason → new.now ≡ old.now → new.waiting.list.items ≡ old.waiting.list.items → new.list.items ≡ old.list.items ++ shown_of (Flags old.place item reason) ∷ [] → Takes (OfItem item) (Some v) old new
 takes-err item v reason old new is now waiting list = record {
   now = now;
   waiting = rw is waiting;
@@ -158,7 +158,7 @@ takes-err item v reason old new is now waiting list = record {
 
 -- ---- the whole list
 
-pub stands-first : (clock : Clock) (plan : SchedulePlan) (entries : List Entry) (stage : Stage) → stage.place ≡ 0 → stage.now ≡ pos 0 → stage.waiting.items ≡ [] → stage.list.items ≡ [] → StandsBefore clock plan entries 0 stage
+pub stands-first : (clock : Clock) (plan : SchedulePlan) (entries : List Entry) (stage : Stage) → stage.place ≡ 0 → stage.now ≡ pos 0 → stage.waiting.list.items ≡ [] → stage.list.items ≡ [] → StandsBefore clock plan entries 0 stage
 unfolding latest by_instant accepted steps
 stands-first clock plan entries stage place now waiting list = record { place = place; now = now; waiting = waiting; list = list }
 
@@ -188,16 +188,16 @@ whole xs n within none = let e = length-drop n xs in omega arith
 pub no_lines : Clock
 no_lines rows shift instant rate = None
 
-pub stands-last : (clock : Clock) (plan : SchedulePlan) (entries : List Entry) (stage : Stage) (list : List Shown) → StandsBefore clock plan entries stage.place stage → stage.place ≤ length entries → length (drop stage.place entries) ≡ 0 → list ≡ stage.list.items ++ map present stage.waiting.items → list ≡ shown clock plan entries
+pub stands-last : (clock : Clock) (plan : SchedulePlan) (entries : List Entry) (stage : Stage) (list : List Shown) → StandsBefore clock plan entries stage.place stage → stage.place ≤ length entries → length (drop stage.place entries) ≡ 0 → list ≡ stage.list.items ++ map present stage.waiting.list.items → list ≡ shown clock plan entries
 unfolding given
 stands-last clock plan entries stage list s within none is =
     let n : stage.place ≡ length entries = whole entries stage.place within none in
     let all : take stage.place entries ≡ entries = rw n (take-length entries) in
-    let waiting : stage.waiting.items ≡ by_instant (standing (latest entries) (accepted clock plan entries (length entries))) =
+    let waiting : stage.waiting.list.items ≡ by_instant (standing (latest entries) (accepted clock plan entries (length entries))) =
     s.waiting ∙ ap (λ (l : List Entry). by_instant (standing (latest l) (accepted clock plan entries stage.place))) all ∙ ap (λ (k : ℕ). by_instant (standing (latest entries) (accepted clock plan entries k))) n in
     let before : stage.list.items ≡ map shown_of (steps clock plan entries (length entries)) = s.list ∙ ap (λ (k : ℕ). map shown_of (steps clock plan entries k)) n in
     let end = by_instant (standing (latest entries) (accepted clock plan entries (length entries))) in
-    is ∙ ap (λ (l : List Shown). l ++ map present stage.waiting.items) before ∙ ap (λ (l : List Accepted). map shown_of (steps clock plan entries (length entries)) ++ map present l) waiting
+    is ∙ ap (λ (l : List Shown). l ++ map present stage.waiting.list.items) before ∙ ap (λ (l : List Accepted). map shown_of (steps clock plan entries (length entries)) ++ map present l) waiting
     ∙ ap (λ (l : List Shown). map shown_of (steps clock plan entries (length entries)) ++ l) (sym (shown-presents end))
     ∙ sym (map-after shown_of (steps clock plan entries (length entries)) (map Presents end))
 

@@ -1,13 +1,15 @@
 -- What holds of every schedule.
-use Rattle.std.specs.Prelude.{◌≡◌, ◌≢◌, ℕ, suc, ◌==◌, ◌<◌, ◌⊎◌, ⊤, ◌<ℤ◌, List, [], ◌∷◌, count_by, Option, Some, None}
+use Rattle.std.specs.Prelude.{◌≡◌, ◌≢◌, ℕ, suc, ◌==◌, ◌<◌, ◌⊎◌, ⊤, ◌<ℤ◌, List, [], ◌∷◌, count_by, filter, Option, Some, None, Result, Ok, Err}
 use Rattle.std.specs.List.{AllByRecursion}
 use Rattle.sample_schedule.specs.declared.accepted.Accepted.{Accepted}
 use Rattle.sample_schedule.specs.declared.entry.Entry.{Entry}
 use Rattle.sample_schedule.specs.declared.entry.Entry.TheVariants.{Item as OfItem, Clock as OfClock}
+use Rattle.sample_schedule.specs.declared.item.Item.{Item}
 use Rattle.sample_schedule.specs.declared.plan.SchedulePlan.{SchedulePlan}
+use Rattle.sample_schedule.specs.declared.shown.Reason.{Reason}
 use Rattle.sample_schedule.specs.Order.{standing}
-use Rattle.sample_schedule.specs.Schedule.{Given, Presents, Flags, accepted, given, now_at}
-use Rattle.sample_schedule.specs.Verdicts.{Clock}
+use Rattle.sample_schedule.specs.Schedule.{Given, Presents, Flags, accepted, given, now_at, prefix_of}
+use Rattle.sample_schedule.specs.Verdicts.{Clock, timed, verdict}
 
 abbrev pub place_of : Given → ℕ
 place_of (Presents a) = a.place
@@ -22,6 +24,20 @@ abbrev pub times_due : Option Entry → ℕ
 times_due None = 0
 times_due (Some (OfItem item)) = 1
 times_due (Some (OfClock arrival row)) = 0
+
+-- what is shown of the item at a place
+abbrev pub shown_at : ℕ → List Given → List Given
+shown_at i list = filter (λ g. place_of g == i) list
+
+-- the verdict of the item at a place of a list
+abbrev pub verdict_in : Clock → SchedulePlan → List Entry → ℕ → Item → Result Accepted Reason
+verdict_in clock plan entries i item =
+    verdict plan (now_at entries i) (accepted clock plan entries i) i (timed clock plan (prefix_of plan entries i) item)
+
+-- what a verdict makes of an item: what it accepts is presented, and any other item is flagged with its one reason
+abbrev pub given_by : ℕ → Item → Result Accepted Reason → Given
+given_by place item (Ok a) = Presents a
+given_by place item (Err reason) = Flags place item reason
 
 -- what is presented, in its order
 abbrev pub presented : List Given → List Accepted

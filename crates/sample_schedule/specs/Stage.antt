@@ -16,7 +16,7 @@ use Rattle.sample_schedule.specs.Verdicts.{Clock}
 pub record StandsBefore (clock : Clock) (plan : SchedulePlan) (entries : List Entry) (n : ℕ) (stage : Stage) : Type 0 where
   pub place : stage.place ≡ n
   pub now : stage.now ≡ latest (take n entries)
-  pub waiting : stage.waiting.items ≡ by_instant (standing (latest (take n entries)) (accepted clock plan entries n))
+  pub waiting : stage.waiting.list.items ≡ by_instant (standing (latest (take n entries)) (accepted clock plan entries n))
   pub list : stage.list.items ≡ map shown_of (steps clock plan entries n)
 
 -- the usable stamp of the entry at a place, where there is one
@@ -31,5 +31,5 @@ waiting_after (Some (Err reason)) waiting = waiting
 -- an entry was judged: what is accepted waits, and what has a reason is flagged
 pub record Takes (entry : Entry) (verdict : Option (Result Accepted Reason)) (old new : Stage) : Type 0 where
   pub now : new.now ≡ old.now
-  pub waiting : new.waiting.items ≡ waiting_after verdict old.waiting.items
+  pub waiting : new.waiting.list.items ≡ waiting_after verdict old.waiting.list.items
   pub list : new.list.items ≡ old.list.items ++ map shown_of (flag_by old.place (Some entry) verdict)

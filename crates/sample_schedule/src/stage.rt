@@ -10,14 +10,13 @@ ghost use Rattle.sample_schedule.specs.Order.{by_instant, standing};
 ghost use Rattle.sample_schedule.specs.Schedule.{judged, now_at, prefix_of, shown};
 ghost use Rattle.sample_schedule.specs.Verdicts.{Clock, timed as timed_of, verdict as verdict_of};
 
-use crate::accepted::Accepted;
 use crate::entry::Entry;
 use crate::item::Item;
 use crate::plan::SchedulePlan;
 use crate::shown::Shown;
 use crate::stamps::{entry_ahead, note_stamp, stamps_before};
 use crate::verdicts::verdict;
-use crate::waiting::{present_all, present_due, put_behind};
+use crate::waiting::Waiting;
 use avtp_base::NoMemory;
 use std::alloc::Global;
 use std::collections::VecDeque;
@@ -29,7 +28,7 @@ use time_unfold::Stamp;
 struct Stage {
     place: u64,
     now: i64,
-    waiting: Vec<Accepted>,
+    waiting: Waiting,
     list: Vec<Shown>,
 }
 
@@ -47,19 +46,12 @@ impl Stage {
         requires stamps { All IsStamp stamps.now }
         requires item { IsItem item }
         ensures place { self.new.place ≡ self.old.place }
-        ensures taken { (clock : Clock) (prefix : List EntryValue) (earlier : List AcceptedValue) → stamps.now ≡ stamps_of prefix → self.old.waiting.items ≡ by_instant (standing self.old.now earlier) → OnOk result (Takes (EntryValue.Item item) (Some (verdict_of plan.now self.old.now earlier self.old.place (timed_of clock plan.now prefix item))) self.old self.new) }
+        ensures taken { (clock : Clock) (prefix : List EntryValue) (earlier : List AcceptedValue) → stamps.now ≡ stamps_of prefix → self.old.waiting.list.items ≡ by_instant (standing self.old.now earlier) → OnOk result (Takes (EntryValue.Item item) (Some (verdict_of plan.now self.old.now earlier self.old.place (timed_of clock plan.now prefix item))) self.old self.new) }
     {
         let frame = item.frame();
         let seq = item.seq();
-        match verdict(
-            plan,
-            self.now,
-            self.waiting.as_slice(),
-            stamps,
-            self.place,
-            item,
-        ) {
-            Ok(accepted) => put_behind(&mut self.waiting, accepted)?,
+        match verdict(plan, self.now, &self.waiting, stamps, self.place, item) {
+            Ok(accepted) => self.waiting.put_behind(accepted)?,
             Err(reason) => self.list.push(Shown::Flag { frame, seq, reason })?,
         }
         Ok(())
@@ -76,7 +68,7 @@ impl Stage {
         requires stamps { All IsStamp stamps.now }
         requires entry { IsEntry entry }
         ensures place { self.new.place ≡ self.old.place }
-        ensures taken { (clock : Clock) (entries : List EntryValue) (earlier : List AcceptedValue) → stamps.now ≡ stamps_of (prefix_of plan.now entries self.old.place) → self.old.now ≡ now_at entries self.old.place → self.old.waiting.items ≡ by_instant (standing self.old.now earlier) → OnOk result (Takes entry (judged clock plan.now entries self.old.place earlier entry) self.old self.new) }
+        ensures taken { (clock : Clock) (entries : List EntryValue) (earlier : List AcceptedValue) → stamps.now ≡ stamps_of (prefix_of plan.now entries self.old.place) → self.old.now ≡ now_at entries self.old.place → self.old.waiting.list.items ≡ by_instant (standing self.old.now earlier) → OnOk result (Takes entry (judged clock plan.now entries self.old.place earlier entry) self.old self.new) }
     {
         match entry {
             Entry::Item(item) => self.take_item(plan, stamps, item),
@@ -101,7 +93,7 @@ impl Stage {
         ensures { (clock : Clock) (entries : List EntryValue) → slice_get entries self.old.place ≡ Some entry → stamps.now ≡ stamps_of (prefix_of plan.now entries self.old.place) → StandsBefore clock plan.now entries self.old.place self.old → OnOk result (StandsBefore clock plan.now entries (self.old.place + 1) self.new) }
     {
         self.now = self.now.max(entry.arrival());
-        present_due(&mut self.waiting, self.now, &mut self.list)?;
+        self.waiting.present_due(self.now, &mut self.list)?;
         self.take_kind(plan, stamps, entry)?;
         self.place += 1;
         Ok(())
@@ -133,7 +125,7 @@ pub fn schedule(
     let mut stage = Stage {
         place: 0,
         now: 0,
-        waiting: Vec::new(alloc),
+        waiting: Waiting::new(alloc),
         list: Vec::new(alloc),
     };
     loop {
@@ -149,6 +141,6 @@ pub fn schedule(
         waiting,
         mut list,
     } = stage;
-    present_all(waiting, &mut list)?;
+    waiting.present_all(&mut list)?;
     Ok(list)
 }

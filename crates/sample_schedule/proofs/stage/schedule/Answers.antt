@@ -1,6 +1,5 @@
-use Rattle.std.proofs.Common.{◌≡◌, ℕ, ◌+◌, List, ◌∷◌, All, take, drop, length, Some, sym, ap, refl, ◌∙◌, subst, arith, rules}
+use Rattle.std.proofs.Common.{◌≡◌, ℕ, ◌+◌, List, ◌∷◌, All, take, drop, length, sym, ap, refl, ◌∙◌, subst, arith, rules}
 use Rattle.std.proofs.lemmas.List.Elements.{All-tail}
-use Rattle.std.specs.Prelude.{slice_get}
 use Rattle.sample_schedule.specs.declared.entry.Entry.{Entry}
 use Rattle.sample_schedule.specs.Heads.{stamps_of}
 use Rattle.sample_schedule.specs.Limits.{IsEntry}
@@ -21,7 +20,7 @@ loop-stage-init c =
       rest = c.from_vec-entries.ensures.items;
       noted = rw look (c.in_ok-stamps.ensures.noted ∙ ap (λ (l : List Entry). stamps_of (take c.args.plan.now.look l)) c.as_slice.ensures.value);
       stamps = c.in_ok-stamps.ensures.stamps;
-      stands = λ clock. stands-first clock c.args.plan.now xs _ refl refl c.new.ensures.items c.new-2.ensures.items;
+      stands = λ clock. stands-first clock c.args.plan.now xs _ refl refl c.new.ensures c.new-2.ensures.items;
     }
 
 -- what is left has a first entry

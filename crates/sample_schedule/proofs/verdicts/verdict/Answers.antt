@@ -6,18 +6,18 @@ use Rattle.sample_schedule.specs.Verdicts.{timed, verdict}
 use Rattle.sample_schedule.proofs.VerdictLemmas.{verdict-waiting}
 use Rattle.sample_schedule.proofs.verdicts.verdict.Goals as goal
 
-pub returns-in-Ok : goal.returns-in-Ok
-returns-in-Ok c clock prefix earlier known e =
+pub returns-in-Ok-clause-judged : goal.returns-in-Ok-clause-judged
+returns-in-Ok-clause-judged c clock prefix earlier known e =
     let is : Ok c.in-Ok.batch ≡ timed clock c.args.plan.now prefix c.args.item =
     sym c.in-Ok.is ∙ c.timed.ensures clock prefix known in
     let now : to_z w64 (of_z w64 c.args.now) ≡ c.args.now = omega (arith, ints) in
-    let judged = rw now at c.judge.ensures in
-    judged ∙ verdict-waiting c.args.plan.now c.args.now earlier c.args.place c.in-Ok.batch c.args.waiting.now e
+    let judged = rw now at c.judge.ensures.judged in
+    judged ∙ verdict-waiting c.args.plan.now c.args.now earlier c.args.place c.in-Ok.batch c.args.waiting.now.list.items e
     ∙ ap (λ (r : Result Presented Reason). verdict c.args.plan.now c.args.now earlier c.args.place r) is
 
-pub returns-in-Err : goal.returns-in-Err
+pub returns-in-Err-clause-judged : goal.returns-in-Err-clause-judged
 unfolding verdict
-returns-in-Err c clock prefix earlier known e =
+returns-in-Err-clause-judged c clock prefix earlier known e =
     let is : Err c.in-Err.reason ≡ timed clock c.args.plan.now prefix c.args.item =
     sym c.in-Err.is ∙ c.timed.ensures clock prefix known in
     ap (λ (r : Result Presented Reason). verdict c.args.plan.now c.args.now earlier c.args.place r) is
