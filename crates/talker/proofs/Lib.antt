@@ -1,4 +1,5 @@
 pub mod RateLemmas
+pub mod RunLemmas
 pub mod TimingLemmas
 pub mod SampleLemmas
 pub mod SizeLemmas
@@ -6,4 +7,6 @@ pub mod FrameLemmas
 pub mod StreamLemmas
 pub mod LawLemmas
 pub mod PacketLemmas
+pub mod DueLemmas
 pub mod ConformLemmas
+pub mod LossLemmas

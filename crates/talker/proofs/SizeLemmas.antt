@@ -1,5 +1,5 @@
 -- How long a frame is.
-use Rattle.std.proofs.Common.{◌≡◌, ℕ, ◌+◌, true, false, List, [], ◌∷◌, length, refl, ◌∙◌, arith}
+use Rattle.std.proofs.Common.{◌≡◌, ℕ, ◌+◌, Bool, true, List, [], ◌∷◌, length, refl, ◌∙◌, arith}
 use Rattle.std.proofs.lemmas.List.{length-append}
 use Rattle.std.specs.Int.{bytes_high_first}
 use Rattle.byteorder.specs.Numbers.{length-bytes_high_first}
@@ -20,10 +20,10 @@ length-spelling (p ∷ parts) v =
     let here : List ℕ = bytes_high_first (size_of p) (packed p.bits v) in
     omega (arith, length-append here (spelling parts v), length-bytes_high_first (size_of p) (packed p.bits v), length-spelling parts v)
 
-pub aaf_size : (format : AafFormat) (plan : TalkPlan) (n : ℕ) (samples : List ℕ) → length (aaf_bytes format false plan n samples) ≡ 42 + length samples
+pub aaf_size : (format : AafFormat) (sparse : Bool) (plan : TalkPlan) (n : ℕ) (samples : List ℕ) → length (aaf_bytes format sparse plan n samples) ≡ 42 + length samples
 unfolding aaf_bytes
-aaf_size format plan n samples =
-    let packet = aaf_packet format false plan n samples in
+aaf_size format sparse plan n samples =
+    let packet = aaf_packet format sparse plan n samples in
     let header = length-spelling aaf_layout packet in
     let whole = length-append (spelling aaf_layout packet) samples in
     let outer = length-spelling (frame_layout true) (ethernet (aaf_spelling packet)) in

@@ -1,7 +1,7 @@
 -- The frames of a stream of PCM.
-use Rattle.std.proofs.Common.{◌≡◌, ℕ, ◌+◌, ◌*◌, ◌/◌, ◌^◌, ◌<◌, ◌≤◌, true, false, List, [], length, Some, pos, nat_abs, ℤ, refl, sym, ap, min, ◌∙◌, arith}
+use Rattle.std.proofs.Common.{◌≡◌, ℕ, ◌+◌, ◌*◌, ◌^◌, ◌<◌, ◌≤◌, true, false, List, [], length, Some, pos, ℤ, refl, sym, ap, min, ◌∙◌, arith}
 use Rattle.std.specs.Prelude.{int_le, slice_get}
-use Rattle.std.proofs.Math.Nat.{div-le_self, le-mul_of_pos_right, mod-one, mul-pos, mul_assoc}
+use Rattle.std.proofs.Math.Nat.{le-mul_of_pos_right, mod-one, mul-pos, mul_assoc}
 use Rattle.std.proofs.lemmas.Bool.{le-leb, lt-leb}
 use Rattle.std.proofs.lemmas.Int.{ints}
 use Rattle.std.proofs.lemmas.List.FromFn.{length-map-range_with_len}
@@ -19,7 +19,7 @@ use Rattle.talker.proofs.FrameLemmas.{in_order, none, numbered}
 use Rattle.talker.proofs.RateLemmas.{known_rate}
 use Rattle.talker.proofs.SampleLemmas.{begun_within, samples_whole}
 use Rattle.talker.proofs.SizeLemmas.{aaf_size}
-use Rattle.talker.proofs.TimingLemmas.{one_run, rising}
+use Rattle.talker.proofs.TimingLemmas.{in_time, rising}
 
 width-some : (f : AafFormat) → 0 < width_of f
 width-some Float32 = omega arith
@@ -27,23 +27,20 @@ width-some Int32 = omega arith
 width-some Int24 = omega arith
 width-some Int16 = omega arith
 
-pub stream_is : (s : PcmStream) (input : List ℕ) → IsPcm s → stream_frames s.plan input ≡ aaf_frames s.format false s.plan input
+pub stream_is : (s : PcmStream) (input : List ℕ) → IsPcm s → stream_frames s.plan input ≡ aaf_frames s.format s.sparse s.plan input
 stream_is s input p = rw (p.kind, p.plan.crf) refl
 
 pub no_clock : (s : PcmStream) (input : List ℕ) → IsPcm s → clock_frames s.plan input ≡ []
 no_clock s input p = rw (p.plan.crf) refl
 
-some_rate : (s : PcmStream) → IsPcm s → 0 < s.plan.rate
-some_rate s p = let r = known_rate s.plan.rate s.code p.code in omega (arith, r.least)
-
-pub frames_are : (s : PcmStream) (input : List ℕ) → IsPcm s → frames s.plan input ≡ aaf_frames s.format false s.plan input
+pub frames_are : (s : PcmStream) (input : List ℕ) → IsPcm s → frames s.plan input ≡ aaf_frames s.format s.sparse s.plan input
 frames_are s input p =
     let rises : (k : ℕ) → int_le (pos (arrival_of s.plan k)) (pos (arrival_of s.plan (k + 1))) ≡ true =
-    λ k. le-leb _ _ (rising s.plan k p.plan.restart (some_rate s p)) in
-    rw (no_clock s input p, stream_is s input p) (in_order (aaf_frame s.format false s.plan input) rises 0 (packets_of s input))
+    λ k. le-leb _ _ (let rate = known_rate s.plan.rate s.code p.code in rising s.plan k p.plan rate.least rate.most) in
+    rw (no_clock s input p, stream_is s input p) (in_order (aaf_frame s.format s.sparse s.plan input) rises 0 (packets_of s input))
 
 pub packets_are : (s : PcmStream) (input : List ℕ) → IsPcm s → length (stream_frames s.plan input) ≡ packets_of s input
-packets_are s input p = rw (stream_is s input p) (length-map-range_with_len (aaf_frame s.format false s.plan input) 0 (packets_of s input))
+packets_are s input p = rw (stream_is s input p) (length-map-range_with_len (aaf_frame s.format s.sparse s.plan input) 0 (packets_of s input))
 
 -- ---- packet n of an input that is not too long
 
@@ -59,23 +56,22 @@ timely s input n p limit h =
     let begins : n * (s.plan.count * frame) < length input = begun_within frame s.plan.count n input some p.plan.some_count h in
     let fewer : n * s.plan.count ≤ n * s.plan.count * frame = le-mul_of_pos_right (n * s.plan.count) some in
     let events : n * s.plan.count ≤ 268435456 = omega (arith, mul_assoc n s.plan.count frame) in
-    let instant = one_run s.plan n 0 p.plan.restart in
-    let offset : (n * s.plan.count + 0) * 1000000000 / s.plan.rate ≤ (n * s.plan.count + 0) * 1000000000 = div-le_self ((n * s.plan.count + 0) * 1000000000) s.plan.rate in
-    let start : nat_abs s.plan.start ≤ 4000000000000000000 = omega (arith, ints) in
+    let rate = known_rate s.plan.rate s.code p.code in
+    let instant = in_time s.plan n p.plan rate.least events in
     record { events = events; sent = omega arith }
 
 pub never_late : (s : PcmStream) (input : List ℕ) → IsPcm s → length input ≤ most_input → arrives_too_late s.plan input ≡ false
 never_late s input p limit =
     rw (frames_are s input p)
-    (none (aaf_frame s.format false s.plan input) (λ f. int_le (pos (2 ^ 32 * 1000000000)) f.arrival) 0 (packets_of s input)
+    (none (aaf_frame s.format s.sparse s.plan input) (λ f. int_le (pos (2 ^ 32 * 1000000000)) f.arrival) 0 (packets_of s input)
     (λ k h. let known : k < packets_of s input = omega arith in lt-leb (2 ^ 32 * 1000000000) (arrival_of s.plan k) (timely s input k p limit known).sent))
 
 pub has_spelling : (s : PcmStream) (input : List ℕ) (n : ℕ) → IsPcm s → length input ≤ most_input → n < packets_of s input
-    → HasSpelling capture_style (record_of (aaf_frame s.format false s.plan input n))
+    → HasSpelling capture_style (record_of (aaf_frame s.format s.sparse s.plan input n))
 has_spelling s input n p limit h =
     let frame : ℕ = frame_size s.plan.channels s.format in
     let fits : s.plan.count * frame ≤ 1476 = rw p.kind at p.plan.fits in
-    let size = aaf_size s.format s.plan n (samples_of frame s.plan.count input n) in
+    let size = aaf_size s.format s.sparse s.plan n (samples_of frame s.plan.count input n) in
     let samples = samples_whole frame s.plan.count n input in
     let sent = (timely s input n p limit h).sent in
     record {
@@ -88,13 +84,13 @@ has_spelling s input n p limit h =
 
 -- packet n as it is sent, and its place among the others
 pub frame_sent : (s : PcmStream) (input : List ℕ) (n : ℕ) (arrival : ℤ) (bytes : List ℕ) → arrival ≡ pos (arrival_of s.plan n)
-    → bytes ≡ aaf_bytes s.format false s.plan n (samples_of (frame_size s.plan.channels s.format) s.plan.count input n)
-    → record { arrival = arrival; number = n; clock = false; bytes = bytes } ≡ aaf_frame s.format false s.plan input n
+    → bytes ≡ aaf_bytes s.format s.sparse s.plan n (samples_of (frame_size s.plan.channels s.format) s.plan.count input n)
+    → record { arrival = arrival; number = n; clock = false; bytes = bytes } ≡ aaf_frame s.format s.sparse s.plan input n
 frame_sent s input n arrival bytes at made = rw (at, made) refl
 
 pub stream_at : (s : PcmStream) (input : List ℕ) (n : ℕ) (f : SentFrame) → IsPcm s → n < packets_of s input
-    → f ≡ aaf_frame s.format false s.plan input n → slice_get (stream_frames s.plan input) n ≡ Some f
-stream_at s input n f p h e = rw (stream_is s input p, e) (numbered (aaf_frame s.format false s.plan input) 0 (packets_of s input) n n h (omega arith))
+    → f ≡ aaf_frame s.format s.sparse s.plan input n → slice_get (stream_frames s.plan input) n ≡ Some f
+stream_at s input n f p h e = rw (stream_is s input p, e) (numbered (aaf_frame s.format s.sparse s.plan input) 0 (packets_of s input) n n h (omega arith))
 
 -- ---- all frames
 

@@ -1,6 +1,6 @@
 -- The frames of a plan, and the capture that they make.
-use Rattle.std.specs.Prelude.{ℕ, ◌*◌, ◌%◌, ◌==◌, Bool, true, false, if◌then◌else◌, ℤ, pos, int_le, ◌≤ℤ◌, List, [], ◌∷◌, ◌++◌, length, map, Option, Some, None, unwrap_or, ⊤}
-use Rattle.std.specs.List.{range_with_len}
+use Rattle.std.specs.Prelude.{ℕ, ◌*◌, ◌%◌, ◌==◌, Bool, true, false, if◌then◌else◌, ℤ, pos, int_le, ◌≤ℤ◌, List, [], ◌∷◌, ◌++◌, length, map, slice_get, Option, Some, None, unwrap_or, ⊤}
+use Rattle.std.specs.List.{filter_map, range_with_len}
 use Rattle.pcap_frames.specs.declared.style.Order.TheVariants.{Little}
 use Rattle.pcap_frames.specs.declared.style.Style.{Style}
 use Rattle.pcap_frames.specs.declared.style.Unit.TheVariants.{Nano}
@@ -134,6 +134,10 @@ RiseByArrival [] = ⊤
 RiseByArrival (f ∷ []) = ⊤
 RiseByArrival (f ∷ g ∷ frames) = (f.arrival ≤ℤ g.arrival) × RiseByArrival (g ∷ frames)
 
+-- the frames in these places, in this order: some may be missing, come again, or change places
+abbrev pub frames_at : TalkPlan → List ℕ → List ℕ → List SentFrame
+frames_at plan input places = filter_map (slice_get (frames plan input)) places
+
 -- ---- the capture
 
 -- a little-endian capture that counts nanoseconds
@@ -147,6 +151,10 @@ record_of f = record { arrival = f.arrival; orig_len = length f.bytes; bytes = f
 abbrev pub records : TalkPlan → List ℕ → List Record
 records plan input = map record_of (frames plan input)
 
--- the bytes of the capture of a plan
+-- the bytes of a capture of frames
+abbrev pub capture_of : List SentFrame → List ℕ
+capture_of frames = capture_spelling capture_style (map record_of frames)
+
+-- and of the capture of a plan
 abbrev pub capture : TalkPlan → List ℕ → List ℕ
-capture plan input = capture_spelling capture_style (records plan input)
+capture plan input = capture_of (frames plan input)

@@ -7,3 +7,4 @@ pub mod Journal
 pub mod Talking
 pub mod Kept
 pub mod Lending
+pub mod Examples

@@ -1,5 +1,5 @@
 -- Which plans are talked.
-use Rattle.std.specs.Prelude.{◌≡◌, ℕ, ◌*◌, ◌^◌, ◌≤◌, ◌==◌, false, pos, ◌≤ℤ◌, if◌then◌else◌, Option, Some, None, IsSome}
+use Rattle.std.specs.Prelude.{◌≡◌, ℕ, ◌+◌, ◌*◌, ◌^◌, ◌<◌, ◌≤◌, ◌==◌, true, false, pos, ◌≤ℤ◌, if◌then◌else◌, Option, Some, None, IsSome, ⊤}
 use Rattle.aaf_format.specs.Aaf.{frame_size}
 use Rattle.talker.specs.declared.plan.TalkKind.{TalkKind}
 use Rattle.talker.specs.declared.plan.TalkKind.TheVariants.{Aaf, Am824, H264}
@@ -23,9 +23,9 @@ rate_code rate =
 abbrev pub most_samples : ℕ
 most_samples = 1476
 
--- PCM in which each packet is stamped. (So far no other kind is talked.)
+-- PCM. (So far no other kind is talked.)
 abbrev pub IsTalked : TalkKind → Type 0
-IsTalked (Aaf format sparse) = sparse ≡ false
+IsTalked (Aaf format sparse) = ⊤
 IsTalked Am824 = ⊥
 IsTalked (H264 last_stamp) = ⊥
 
@@ -34,7 +34,19 @@ FitsPacket (Aaf format sparse) channels count = count * frame_size channels form
 FitsPacket Am824 channels count = ⊥
 FitsPacket (H264 last_stamp) channels count = ⊥
 
--- A plan that is talked: PCM in the AVTP audio format, each packet stamped, without a restart and without a media clock.
+-- A restart after so many packets, which sets presentation times so many nanoseconds forward. Listeners rely on a restart
+-- bit that stands for 8 packets at least.
+pub record IsRestart (packets jump : ℕ) : Type 0 where
+  pub some : 8 ≤ packets
+  pub most : packets ≤ 1000000000
+  pub least_jump : 4 ≤ jump
+  pub most_jump : jump ≤ 1000000000
+
+abbrev pub Restarts : Option ℕ → ℕ → Type 0
+Restarts None jump = ⊤
+Restarts (Some packets) jump = IsRestart packets jump
+
+-- A plan that is talked: PCM in the AVTP audio format, sparse or not, with restarts or without, and without a media clock.
 pub record IsPlan (plan : TalkPlan) : Type 0 where
   pub kind : IsTalked plan.kind
   pub rate : IsSome (rate_code plan.rate)
@@ -47,5 +59,23 @@ pub record IsPlan (plan : TalkPlan) : Type 0 where
   pub start : plan.start ≤ℤ pos (4 * 10 ^ 18)
   pub some_lead : 1 ≤ plan.lead
   pub lead : plan.lead ≤ 1000000000
-  pub restart : plan.restart ≡ None
+  pub restart : Restarts plan.restart plan.jump
   pub crf : plan.crf ≡ None
+
+-- ---- listeners
+
+-- A listener's lead is less than 127 packets' time from the plan's.
+pub record IsNearLead (plan : TalkPlan) (lead : ℕ) : Type 0 where
+  pub from : plan.lead * plan.rate < lead * plan.rate + 127 * (plan.count * 1000000000)
+  pub to : lead * plan.rate < plan.lead * plan.rate + 127 * (plan.count * 1000000000)
+
+abbrev pub ExpectsBy : TalkKind → TalkPlan → ℕ → Type 0
+ExpectsBy (Aaf format false) plan lead = ⊤
+ExpectsBy (Aaf format true) plan lead = IsNearLead plan lead
+ExpectsBy Am824 plan lead = ⊤
+ExpectsBy (H264 last_stamp) plan lead = ⊤
+
+-- A listener that tells packets without a timestamp apart by when they come has to expect them when the plan sends them.
+-- Where each packet is stamped, any lead will do.
+abbrev pub Expects : TalkPlan → ℕ → Type 0
+Expects plan lead = ExpectsBy plan.kind plan lead

@@ -1,5 +1,5 @@
 -- What a talker stands for.
-use Rattle.std.specs.Prelude.{◌≡◌, ℕ, ◌+◌, ◌*◌, min, false, List, length, Some}
+use Rattle.std.specs.Prelude.{◌≡◌, ℕ, ◌+◌, ◌*◌, min, List, length, Some}
 use Rattle.aaf_format.specs.Aaf.{frame_size}
 use Rattle.talker.specs.declared.pcm.PcmStream.{PcmStream}
 use Rattle.talker.specs.declared.plan.TalkKind.TheVariants.{Aaf}
@@ -20,10 +20,10 @@ gone_on t = record t { given = min (t.given + 1) (length (frames t.plan t.input)
 
 -- ---- what a talker keeps true of itself
 
--- a plan that is talked, with its format and the code of its sample rate
+-- a plan that is talked, with its format, whether it is sparse, and the code of its sample rate
 pub record IsPcm (stream : PcmStream) : Type 0 where
   pub plan : IsPlan stream.plan
-  pub kind : stream.plan.kind ≡ Aaf stream.format false
+  pub kind : stream.plan.kind ≡ Aaf stream.format stream.sparse
   pub code : rate_code stream.plan.rate ≡ Some stream.code
 
 -- the most bytes that a plan is talked of

@@ -1,6 +1,6 @@
 //! Laws of plans and their frames. Each call is its contract, and does nothing.
 
-ghost use Rattle.std.specs.Prelude.{◌≡◌, ◌↔◌, ◌<◌, ◌≤◌, ◌+◌, ◌*◌, ◌/◌, ◌^◌, false, length, nat_abs, pos, List, ℕ, Option, Some, None};
+ghost use Rattle.std.specs.Prelude.{◌≡◌, ◌↔◌, ◌<◌, ◌≤◌, ◌+◌, ◌*◌, ◌/◌, ◌%◌, ◌^◌, Bool, length, map, nat_abs, pos, List, ℕ, Option, Some, None};
 ghost use Rattle.aaf_format.specs.declared.aaf.AafFormat.{AafFormat};
 ghost use Rattle.aaf_format.specs.Aaf.{SpellsAaf, aaf_spelling, frame_size, rate_of};
 ghost use Rattle.std.specs.List.{range_with_len};
@@ -11,9 +11,9 @@ ghost use Rattle.pcap_frames.specs.Capture.{IsCapture, first_refusal, whole_reco
 ghost use Rattle.pcap_frames.specs.Frame.{SpellsFrame};
 ghost use Rattle.talker.specs.declared.plan.TalkKind.TheVariants.{Aaf};
 ghost use Rattle.talker.specs.declared.plan.TalkPlan.{TalkPlan};
-ghost use Rattle.talker.specs.Frames.{RiseByArrival, aaf_bytes, aaf_packet, capture, capture_style, ethernet, frames, records};
+ghost use Rattle.talker.specs.Frames.{RiseByArrival, aaf_bytes, aaf_packet, capture, capture_of, capture_style, ethernet, frames, frames_at, record_of, records};
 ghost use Rattle.talker.specs.Journal.{journal};
-ghost use Rattle.talker.specs.Plan.{IsPlan, rate_code};
+ghost use Rattle.talker.specs.Plan.{Expects, IsPlan, rate_code};
 ghost use Rattle.talker.specs.Talking.{most_input};
 ghost use Rattle.talker.specs.Timing.{arrival_of};
 
@@ -24,9 +24,11 @@ pub fn rates_are_named()
     ensures { (rate code : ℕ) → rate_code rate ≡ Some code ↔ rate_of code ≡ Some rate }
 {}
 
-/// Packet `n` is sent at the plan's start and the time of the sample frames before its own, rounded down.
+/// Packet `n` is sent at the plan's start and the time of the sample frames before its own, rounded down. With restarts
+/// each run begins so much later as all jumps before it make, and the time of its sample frames is counted anew.
 pub fn packets_are_paced()
-    ensures { (plan : TalkPlan) (n : ℕ) → IsPlan plan → arrival_of plan n ≡ nat_abs plan.start + n * plan.count * 1000000000 / plan.rate }
+    ensures steady { (plan : TalkPlan) (n : ℕ) → plan.restart ≡ None → arrival_of plan n ≡ nat_abs plan.start + n * plan.count * 1000000000 / plan.rate }
+    ensures restarting { (plan : TalkPlan) (packets n : ℕ) → plan.restart ≡ Some packets → arrival_of plan n ≡ nat_abs plan.start + n / packets * plan.jump + n / packets * packets * plan.count * 1000000000 / plan.rate + n % packets * plan.count * 1000000000 / plan.rate }
 {}
 
 /// No frame arrives before the one in front of it.
@@ -36,9 +38,9 @@ pub fn frames_rise()
 
 /// The bytes of a packet's frame spell the frame, and its payload the packet.
 pub fn packets_read_back()
-    ensures frame { (plan : TalkPlan) (format : AafFormat) (n : ℕ) (samples : List ℕ) → SpellsFrame (aaf_bytes format false plan n samples) (ethernet (aaf_spelling (aaf_packet format false plan n samples))) }
-    ensures packet { (plan : TalkPlan) (format : AafFormat) (n : ℕ) (samples : List ℕ) → IsPlan plan → plan.kind ≡ Aaf format false → plan.id < 2 ^ 64
-        → length samples ≡ plan.count * frame_size plan.channels format → SpellsAaf (aaf_spelling (aaf_packet format false plan n samples)) (aaf_packet format false plan n samples) }
+    ensures frame { (plan : TalkPlan) (format : AafFormat) (sparse : Bool) (n : ℕ) (samples : List ℕ) → SpellsFrame (aaf_bytes format sparse plan n samples) (ethernet (aaf_spelling (aaf_packet format sparse plan n samples))) }
+    ensures packet { (plan : TalkPlan) (format : AafFormat) (sparse : Bool) (n : ℕ) (samples : List ℕ) → IsPlan plan → plan.kind ≡ Aaf format sparse → plan.id < 2 ^ 64
+        → length samples ≡ plan.count * frame_size plan.channels format → SpellsAaf (aaf_spelling (aaf_packet format sparse plan n samples)) (aaf_packet format sparse plan n samples) }
 {}
 
 /// The capture of a plan is a capture of just the records of its frames, so it reads back.
@@ -53,10 +55,22 @@ pub fn journal_conforms()
     ensures { (plan : TalkPlan) (input : List ℕ) → IsPlan plan → plan.id < 2 ^ 64 → length input ≤ most_input → IsConforming (pos 0) (journal plan input) }
 {}
 
-/// The capture of a plan delivers its journal to every listener: its records carry the packets, each once and in order.
+/// The capture of a plan delivers its journal: its records carry the packets, each once and in order. It does so to every
+/// listener where each packet is stamped, and of a sparse stream to every listener that expects packets by about the plan's
+/// lead before their first instants.
 pub fn capture_delivers()
-    ensures carries { (plan : TalkPlan) (input : List ℕ) (lead : ℕ) → IsPlan plan → length input ≤ most_input → AllCarry (journal plan input) lead (range_with_len 0 (journal plan input).times.packets) (records plan input) }
-    ensures delivers { (plan : TalkPlan) (input : List ℕ) (clock : Option ℕ) (lead : ℕ) → IsPlan plan → plan.id < 2 ^ 64 → length input ≤ most_input → Delivers (journal plan input) clock lead (records plan input) }
+    ensures carries { (plan : TalkPlan) (input : List ℕ) (lead : ℕ) → IsPlan plan → length input ≤ most_input → Expects plan lead → AllCarry (journal plan input) lead (range_with_len 0 (journal plan input).times.packets) (records plan input) }
+    ensures delivers { (plan : TalkPlan) (input : List ℕ) (clock : Option ℕ) (lead : ℕ) → IsPlan plan → plan.id < 2 ^ 64 → length input ≤ most_input → Expects plan lead → Delivers (journal plan input) clock lead (records plan input) }
+{
+    carried_packets_are_delivered();
+}
+
+/// Whatever a capture loses, repeats or reorders of a plan's frames, each captured when it was sent: it reads back as just
+/// the records of these frames, and delivers the plan's journal to the same listeners as the whole capture, those of the
+/// law above.
+pub fn losses_are_delivered()
+    ensures records { (plan : TalkPlan) (input places : List ℕ) → IsPlan plan → length input ≤ most_input → whole_records (capture_of (frames_at plan input places)) ≡ map record_of (frames_at plan input places) }
+    ensures delivers { (plan : TalkPlan) (input places : List ℕ) (clock : Option ℕ) (lead : ℕ) → IsPlan plan → plan.id < 2 ^ 64 → length input ≤ most_input → Expects plan lead → Delivers (journal plan input) clock lead (whole_records (capture_of (frames_at plan input places))) }
 {
     carried_packets_are_delivered();
 }

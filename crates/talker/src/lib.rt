@@ -1,6 +1,7 @@
 //! A talker: the packets of a stream, made from raw samples.
 #![tactic(auto)]
 
+pub mod examples;
 mod fault;
 pub mod laws;
 mod pcm;

@@ -6,11 +6,11 @@ ghost use Rattle.avtp_base.specs.Layout.{spelling};
 ghost use Rattle.pcap_frames.specs.Frame.{frame_layout};
 ghost use Rattle.talker.specs.declared.fault.TalkFault.TheVariants.{Memory};
 ghost use Rattle.talker.specs.Faults.{fault_of};
-ghost use Rattle.talker.specs.Frames.{aaf_bytes, aaf_packet, ethernet};
+ghost use Rattle.talker.specs.Frames.{aaf_bytes, aaf_packet, ethernet, is_stamped as is_stamped_of};
 ghost use Rattle.talker.specs.Plan.{IsPlan, rate_code as rate_code_of};
 ghost use Rattle.talker.specs.Samples.{filled_up, samples_of};
 ghost use Rattle.talker.specs.Talking.{IsPcm, most_input, packets_of, samples_size};
-ghost use Rattle.talker.specs.Timing.{arrival_of, first_instant as first_instant_of, nominal_offset as nominal_offset_of};
+ghost use Rattle.talker.specs.Timing.{arrival_of, first_instant as first_instant_of, first_packet as first_packet_of, nominal_offset as nominal_offset_of, run_of, timestamp_of};
 
 use crate::fault::TalkFault;
 use crate::plan::{TalkKind, TalkPlan};
@@ -24,6 +24,8 @@ use std::alloc::Global;
 pub(crate) struct PcmStream {
     pub plan: TalkPlan,
     pub format: AafFormat,
+    /// One packet in eight is stamped, and not each.
+    pub sparse: bool,
     /// The code of the sample rate.
     pub code: u8,
 }
@@ -68,7 +70,12 @@ impl PcmStream {
         ensures whole { IsPcm result }
     {
         match (plan.kind, rate_code(plan.rate)) {
-            (TalkKind::Aaf { format, .. }, Some(code)) => PcmStream { plan, format, code },
+            (TalkKind::Aaf { format, sparse }, Some(code)) => PcmStream {
+                plan,
+                format,
+                sparse,
+                code,
+            },
             _ => unreachable!(),
         }
     }
@@ -125,8 +132,55 @@ impl PcmStream {
         }
     }
 
+    /// The run of packet `n`: one begins with the stream, and one with each restart.
+    #[tactic(auto, using(crate::proofs::RunLemmas::some_packets))]
+    fn run(&self, n: u64) -> u64
+        requires { IsPcm self.now }
+        ensures { result ≡ run_of self.now.plan n }
+    {
+        match self.plan.restart {
+            None => 0,
+            Some(packets) => n / u64::from(packets),
+        }
+    }
+
+    /// The first packet of that run.
+    #[tactic(auto, using(crate::proofs::RunLemmas::some_packets, crate::proofs::RunLemmas::begun))]
+    fn first_packet(&self, n: u64) -> u64
+        requires { IsPcm self.now }
+        ensures value { result ≡ first_packet_of self.now.plan (run_of self.now.plan n) }
+        ensures bound { result ≤ n }
+    {
+        match self.plan.restart {
+            None => 0,
+            Some(packets) => self.run(n) * u64::from(packets),
+        }
+    }
+
+    /// How far the restarts before packet `n` set presentation times forward, in nanoseconds.
+    #[tactic(auto, using(crate::proofs::TimingLemmas::few_jumps))]
+    fn jumps(&self, n: u64) -> u64
+        requires stream { IsPcm self.now }
+        requires frames { n * self.now.plan.count ≤ 2 ^ 28 }
+        ensures value { result ≡ run_of self.now.plan n * self.now.plan.jump }
+        ensures bound { result ≤ 2 ^ 25 * 1000000000 }
+    {
+        self.run(n) * u64::from(self.plan.jump)
+    }
+
+    /// How long so many sample frames take, in nanoseconds.
+    #[tactic(auto, using(crate::proofs::TimingLemmas::short_offset))]
+    fn offset(&self, frames: u64) -> u64
+        requires stream { IsPcm self.now }
+        requires frames { frames ≤ 2 ^ 28 }
+        ensures value { result ≡ nominal_offset_of self.now.plan.rate frames }
+        ensures bound { result ≤ frames * 125000 }
+    {
+        frames * NANOSECONDS / u64::from(self.plan.rate)
+    }
+
     /// The instant of the first sample frame of packet `n`, in nanoseconds of gPTP.
-    #[tactic(auto, using(crate::proofs::TimingLemmas::one_run))]
+    #[tactic(auto, using(crate::proofs::RunLemmas::in_run), unfolding(crate::specs::Timing::nominal_instant))]
     fn first_instant(&self, n: u64) -> u64
         requires stream { IsPcm self.now }
         requires frames { n * self.now.plan.count ≤ 2 ^ 28 }
@@ -134,9 +188,13 @@ impl PcmStream {
         ensures lead { self.now.plan.lead ≤ result }
         ensures bound { result < self.now.plan.lead + 2 ^ 32 * 1000000000 }
     {
-        let events = n * u64::from(self.plan.count);
-        let offset = events * NANOSECONDS / u64::from(self.plan.rate);
-        self.plan.start as u64 + u64::from(self.plan.lead) + offset
+        let count = u64::from(self.plan.count);
+        let first = self.first_packet(n);
+        self.plan.start as u64
+            + u64::from(self.plan.lead)
+            + self.jumps(n)
+            + self.offset(first * count)
+            + self.offset((n - first) * count)
     }
 
     /// When packet `n` is sent, in nanoseconds of gPTP.
@@ -148,32 +206,48 @@ impl PcmStream {
         (self.first_instant(n) - u64::from(self.plan.lead)) as i64
     }
 
+    /// Packet `n` has a timestamp. In sparse mode one packet in eight has (IEEE 1722-2016, 7).
+    fn is_stamped(&self, n: u64) -> bool
+        ensures { result ≡ is_stamped_of self.now.sparse n }
+    {
+        !self.sparse || n % 8 == 0
+    }
+
+    /// The timestamp of the first sample frame of packet `n` (IEEE 1722-2016, 4.4.4).
+    fn timestamp(&self, n: u64) -> u32
+        requires stream { IsPcm self.now }
+        requires frames { n * self.now.plan.count ≤ 2 ^ 28 }
+        ensures { result ≡ timestamp_of (first_instant_of self.now.plan n) }
+    {
+        (self.first_instant(n) % (1 << 32)) as u32
+    }
+
     /// Packet `n`, with its samples.
-    #[tactic(auto, using(crate::proofs::TimingLemmas::no_restart))]
     fn packet<'a>(&self, n: u64, samples: &'a [u8]) -> AafView<'a>
         requires stream { IsPcm self.now }
         requires frames { n * self.now.plan.count ≤ 2 ^ 28 }
         requires whole { length samples.now ≡ samples_size self.now }
-        ensures { aaf_shape result ≡ aaf_packet self.now.format false self.now.plan n samples.now }
+        ensures { aaf_shape result ≡ aaf_packet self.now.format self.now.sparse self.now.plan n samples.now }
     {
+        let stamped = self.is_stamped(n);
         AafView {
             header: StreamHeader {
                 subtype: AAF,
                 sv: true,
-                mr: false,
+                mr: self.run(n) % 2 == 1,
                 format_bits: 0,
-                tv: true,
+                tv: stamped,
                 seq: (n % 256) as u8,
                 tu: false,
                 stream_id: self.plan.id,
-                timestamp: (self.first_instant(n) % (1 << 32)) as u32,
+                timestamp: if stamped { self.timestamp(n) } else { 0 },
                 data_length: samples.len() as u16,
             },
             format: self.format,
             nsr: self.code,
             channels: self.plan.channels,
             depth: (8 * width_of(self.format)) as u8,
-            sparse: false,
+            sparse: self.sparse,
             evt: 0,
             count: self.plan.count,
             payload: samples,
@@ -188,7 +262,7 @@ impl PcmStream {
         requires frames { n * self.now.plan.count ≤ 2 ^ 28 }
         requires whole { length samples.now ≡ samples_size self.now }
         requires room { length out.old ≡ 42 + samples_size self.now }
-        ensures { out.new ≡ aaf_bytes self.now.format false self.now.plan n samples.now }
+        ensures { out.new ≡ aaf_bytes self.now.format self.now.sparse self.now.plan n samples.now }
     {
         write_ethernet(&mut out[..HEADER]);
         let Ok(_) = write_aaf(&mut out[HEADER..], &self.packet(n, samples)) else {
@@ -203,7 +277,7 @@ impl PcmStream {
         requires frames { n * self.now.plan.count ≤ 2 ^ 28 }
         requires part { length rest.now ≤ samples_size self.now }
         requires room { length out.old ≡ 42 + samples_size self.now }
-        ensures { out.new ≡ aaf_bytes self.now.format false self.now.plan n (filled_up (samples_size self.now) rest.now) }
+        ensures { out.new ≡ aaf_bytes self.now.format self.now.sparse self.now.plan n (filled_up (samples_size self.now) rest.now) }
     {
         let mut filled = [0; SAMPLES_LIMIT];
         filled[..rest.len()].copy_from_slice(rest);
@@ -228,7 +302,7 @@ impl PcmStream {
         requires limit { length input.now ≤ most_input }
         requires number { n < packets_of self.now input.now }
         requires room { length out.old ≡ 42 + samples_size self.now }
-        ensures { out.new ≡ aaf_bytes self.now.format false self.now.plan n (samples_of (frame_size_of self.now.plan.channels self.now.format) self.now.plan.count input.now n) }
+        ensures { out.new ≡ aaf_bytes self.now.format self.now.sparse self.now.plan n (samples_of (frame_size_of self.now.plan.channels self.now.format) self.now.plan.count input.now n) }
     {
         let size = self.samples_size();
         let rest = self.samples_from(input, n);

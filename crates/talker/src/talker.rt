@@ -48,9 +48,10 @@ impl<'a> Talker<'a> {
     /// A talker of the plan and the input, which is sample frames, one after another: the channels of each in order, each
     /// sample with its highest byte first.
     ///
-    /// The plan is one that is talked so far: PCM in which each packet is stamped, at one of AAF's rates, with 1 to 1023
-    /// channels, 1 to 1476 sample frames in a packet that have at most 1476 bytes, a start of 0 to 4 * 10^18 and a lead of
-    /// 1 to 10^9, without a restart and without a media clock. The input has at most 268,435,456 bytes.
+    /// The plan is one that is talked so far: PCM, sparse or not, at one of AAF's rates, with 1 to 1023 channels, 1 to 1476
+    /// sample frames in a packet that have at most 1476 bytes, a start of 0 to 4 * 10^18, a lead of 1 to 10^9, no restart or
+    /// one after each 8 to 10^9 packets with a jump of 4 to 10^9, and no media clock. The input has at most 268,435,456
+    /// bytes.
     ///
     /// `Frames` comes exactly where the input is not whole sample frames, and `Arrival` exactly where a packet would
     /// arrive 2^32 seconds after 0 or later, which no such plan does. `Memory` comes where no memory is found.

@@ -1,10 +1,15 @@
 //! Streams made from samples, and what they must be.
 
-ghost use Rattle.std.specs.Prelude.{◌≡◌, ◌≤◌, ◌<◌, length, IfSome};
-ghost use Rattle.talker.specs.Plan.{IsPlan};
+ghost use Rattle.std.specs.Prelude.{◌≡◌, ◌≤◌, ◌<◌, ◌++◌, length, pos, None, IfOk, IfSome, OnOk};
+ghost use Rattle.packet_journal.specs.Delivered.{Delivers};
+ghost use Rattle.packet_journal.specs.Packets.{IsConforming};
+ghost use Rattle.pcap_frames.specs.Capture.{HasSpelling, record_spelling, whole_records};
+ghost use Rattle.talker.specs.Frames.{capture_of, capture_style, frames_at, record_of, sent_frame};
+ghost use Rattle.talker.specs.Journal.{journal};
+ghost use Rattle.talker.specs.Plan.{Expects, IsPlan};
 ghost use Rattle.talker.specs.Talking.{most_input};
 
-use super::{Sent, TalkFault, TalkKind, TalkPlan, Talker};
+use super::{Sent, TalkFault, TalkKind, TalkPlan, Talker, laws};
 use aaf_format::{AafFormat, rate_of, read_aaf};
 use avtp_header::StreamHeader;
 use pcap_frames::{Order, Style, Tag, Unit, read_frame, write_header, write_record};
@@ -50,39 +55,109 @@ const STYLE: Style = Style {
     unit: Unit::Nano,
 };
 
-/// The capture of all frames of that plan.
-fn capture(rt: &HostRuntime, input: &[u8]) -> Result<Vec<u8>, Fail>
-    requires { length input.now ≤ most_input }
+/// The same in sparse mode.
+const SPARSE: TalkPlan = TalkPlan {
+    kind: TalkKind::Aaf {
+        format: AafFormat::Int16,
+        sparse: true,
+    },
+    ..PLAN
+};
+
+/// And with a restart after each ten packets.
+const RESTARTING: TalkPlan = TalkPlan {
+    restart: Some(10),
+    ..SPARSE
+};
+
+/// The samples of 258 packets.
+const SILENCE: [u8; 6192] = [0; 6192];
+
+/// The numbers of twenty packets.
+const NUMBERS: [u64; 20] = [
+    0, 1, 2, 3, 4, 5, 6, 7, 8, 9, 10, 11, 12, 13, 14, 15, 16, 17, 18, 19,
+];
+
+/// Appends the record of a frame to a capture.
+fn append(bytes: &mut Vec<u8>, sent: Sent<'_>) -> Result<(), Fail>
+    requires fits { HasSpelling capture_style (record_of (sent_frame sent)) }
+    ensures { OnOk result (bytes.new.items ≡ bytes.old.items ++ record_spelling capture_style (record_of (sent_frame sent.entry))) }
 {
+    let mut record = [0; 2000];
+    let size = write_record(
+        &mut record,
+        STYLE,
+        sent.arrival,
+        sent.bytes.len() as u32,
+        sent.bytes,
+    )?;
+    bytes.extend_from_slice(&record[..size])?;
+    Ok(())
+}
+
+/// The capture of the frames with these numbers, in this order.
+fn capture(rt: &HostRuntime, plan: TalkPlan, input: &[u8], numbers: &[u64]) -> Result<Vec<u8>, Fail>
+    requires plan { IsPlan plan }
+    requires limit { length input.now ≤ most_input }
+    ensures { IfOk result (λ bytes. bytes.items ≡ capture_of (frames_at plan input.now numbers.now)) }
+{
+    let mut talker = Talker::begin(rt.alloc(), plan, input)?;
     let mut bytes = Vec::new(rt.alloc());
     let mut header = [0; 24];
     write_header(&mut header, STYLE)?;
     bytes.extend_from_slice(&header)?;
-    let mut talker = Talker::begin(rt.alloc(), PLAN, input)?;
-    for _ in 0..100u32 {
-        let Some(sent) = talker.next() else {
-            return Ok(bytes);
-        };
-        let mut record = [0; 2000];
-        let size = write_record(
-            &mut record,
-            STYLE,
-            sent.arrival,
-            sent.bytes.len() as u32,
-            sent.bytes,
-        )?;
-        bytes.extend_from_slice(&record[..size])?;
+    for number in numbers {
+        if *number >= talker.packets() {
+            return Err(Fail::new("no such packet"));
+        }
+        append(&mut bytes, talker.packet(*number))?;
     }
-    Err(Fail::new("more than 100 frames"))
+    Ok(bytes)
 }
 
 /// Six sample frames make a capture of one packet, and none make the file header alone.
 #[test]
 fn makes_captures(rt: HostRuntime) -> Result<(), Fail> {
-    assert!(rt; capture(&rt, &ONE[SAMPLES..])?.as_slice() == ONE.as_slice());
-    assert!(rt; capture(&rt, &[])?.as_slice() == &ONE[..24]);
+    assert!(rt; capture(&rt, PLAN, &ONE[SAMPLES..], &[0])?.as_slice() == ONE.as_slice());
+    assert!(rt; capture(&rt, PLAN, &[], &[])?.as_slice() == &ONE[..24]);
     let none = Talker::begin(rt.alloc(), PLAN, &[])?;
     assert_eq!(rt; (none.packets(), none.clocks()), (0, 0));
+    Ok(())
+}
+
+/// What a listener relies on in the capture of a stream: the talker keeps the rules, and the capture delivers its journal
+/// to a listener that expects packets 2 ms before their first instants, without a clock.
+fn check_heard(_plan: TalkPlan, _input: &[u8], _bytes: &[u8])
+    requires conforming { IsConforming (pos 0) (journal _plan _input.now) }
+    requires delivers { Delivers (journal _plan _input.now) None 2000000 (whole_records _bytes.now) }
+{}
+
+/// The length of the capture of the frames with these numbers. It has what a listener relies on.
+fn heard(rt: &HostRuntime, plan: TalkPlan, input: &[u8], numbers: &[u64]) -> Result<usize, Fail>
+    requires plan { IsPlan plan }
+    requires limit { length input.now ≤ most_input }
+    requires lead { Expects plan 2000000 }
+{
+    laws::journal_conforms();
+    laws::losses_are_delivered();
+    let bytes = capture(rt, plan, input, numbers)?;
+    check_heard(plan, input, &bytes);
+    Ok(bytes.len())
+}
+
+/// A sparse stream without its first record, one of which packets 0 and 257 alone came, and one that restarts have what a
+/// listener relies on.
+#[test]
+fn captures_with_losses_are_heard(rt: HostRuntime) -> Result<(), Fail> {
+    assert_eq!(rt;
+        heard(&rt, SPARSE, &SILENCE[..384], &NUMBERS[1..16])?,
+        24 + 15 * 82
+    );
+    assert_eq!(rt; heard(&rt, SPARSE, &SILENCE, &[0, 257])?, 24 + 2 * 82);
+    assert_eq!(rt;
+        heard(&rt, RESTARTING, &SILENCE[..480], &NUMBERS)?,
+        24 + 20 * 82
+    );
     Ok(())
 }
 
@@ -220,6 +295,56 @@ fn header(seq: u8, timestamp: u32, data_length: u16) -> StreamHeader {
         timestamp,
         data_length,
     }
+}
+
+/// In sparse mode one packet in eight has a timestamp.
+#[test]
+fn stamps_one_packet_in_eight(rt: HostRuntime) -> Result<(), Fail> {
+    let mut talker = Talker::begin(rt.alloc(), SPARSE, &SILENCE[..480])?;
+    for (n, tv, timestamp) in [
+        (0, true, 1_002_000_000),
+        (1, false, 0),
+        (7, false, 0),
+        (8, true, 1_003_000_000),
+        (9, false, 0),
+        (16, true, 1_004_000_000),
+    ] {
+        if n < talker.packets() {
+            let sent = talker.packet(n);
+            let want = StreamHeader {
+                tv,
+                ..header(n as u8, timestamp, 24)
+            };
+            check_frame(&rt, sent, n, want)?;
+            assert!(rt; read_aaf(read_frame(sent.bytes)?.payload)?.sparse);
+        }
+    }
+    assert_eq!(rt; talker.packets(), 20);
+    Ok(())
+}
+
+/// At packet 10 the stream restarts: presentation times are set a millisecond forward, and the restart bit is turned over.
+#[test]
+fn restarts(rt: HostRuntime) -> Result<(), Fail> {
+    let mut talker = Talker::begin(rt.alloc(), RESTARTING, &SILENCE[..480])?;
+    for (n, arrival, mr, timestamp) in [
+        (9, 1_001_125_000, false, 0),
+        (10, 1_002_250_000, true, 0),
+        (16, 1_003_000_000, true, 1_005_000_000),
+    ] {
+        if n < talker.packets() {
+            let sent = talker.packet(n);
+            let want = StreamHeader {
+                mr,
+                tv: n == 16,
+                ..header(n as u8, timestamp, 24)
+            };
+            assert_eq!(rt; sent.arrival, arrival);
+            check_frame(&rt, sent, n, want)?;
+        }
+    }
+    assert_eq!(rt; talker.packets(), 20);
+    Ok(())
 }
 
 /// Rate codes, and how many nanoseconds behind packet 0 packets 1 and 257 of six sample frames are, rounded down.

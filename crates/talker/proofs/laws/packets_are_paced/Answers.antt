@@ -1,5 +1,8 @@
-use Rattle.talker.proofs.LawLemmas.{paced}
+use Rattle.talker.proofs.LawLemmas.{paced, paced_restarting}
 use Rattle.talker.proofs.laws.packets_are_paced.Goals as goal
 
-pub returns : goal.returns
-returns c = λ plan n p. paced plan n p
+pub returns-clause-steady : goal.returns-clause-steady
+returns-clause-steady c = λ plan n e. paced plan n e
+
+pub returns-clause-restarting : goal.returns-clause-restarting
+returns-clause-restarting c = λ plan packets n e. paced_restarting plan packets n e

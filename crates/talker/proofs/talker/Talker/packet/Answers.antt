@@ -1,4 +1,4 @@
-use Rattle.std.proofs.Common.{false, ◌≡◌, ◌<◌, List, ℕ, pos, ◌∙◌, length, refl, ap, subst, sym, arith}
+use Rattle.std.proofs.Common.{◌≡◌, ◌<◌, List, ℕ, pos, length, refl, ap, subst, sym, arith}
 use Rattle.std.proofs.lemmas.Grind.{common_steps}
 use Rattle.std.proofs.lemmas.Int.{ints}
 use mir.Val.{of_z, to_z}
@@ -39,14 +39,14 @@ returns c =
     let at : to_z w64 (of_z w64 c.arrival.result) ≡ pos (arrival_of s.plan c.args.n) = omega (arith, ints) in
     let kept : c.as_slice.result.now ≡ c.write.new.out = grind (arith, common_steps) in
     let samples : List ℕ = samples_of (frame_size s.plan.channels s.format) s.plan.count input c.args.n in
-    let made : c.as_slice.result.now ≡ aaf_bytes s.format false s.plan c.args.n samples = rw kept c.write.ensures in
+    let made : c.as_slice.result.now ≡ aaf_bytes s.format s.sparse s.plan c.args.n samples = rw kept c.write.ensures in
     let e = frame_sent s input c.args.n (to_z w64 (of_z w64 c.arrival.result)) c.as_slice.result.now at made in (
       (refl, (λ _. tt), c.self.view_is),
       record {
         frame = rw (← c.self.view_is) (stream_at s input c.args.n _ p below e);
         fits = let P : SentFrame → Type 0 = λ f. HasSpelling capture_style (record_of f) in
             subst P (sym e) (has_spelling s input c.args.n p c.self.invariant.limit below);
-        size = omega (arith, aaf_size s.format s.plan c.args.n samples, samples_whole (frame_size s.plan.channels s.format) s.plan.count c.args.n input, size_fits s p, ap length made);
+        size = omega (arith, aaf_size s.format s.sparse s.plan c.args.n samples, samples_whole (frame_size s.plan.channels s.format) s.plan.count c.args.n input, size_fits s p, ap length made);
         after = tt;
       },
     )

@@ -1,0 +1,27 @@
+-- A plan whose times are worked out by hand.
+use Rattle.std.specs.Prelude.{◌≡◌, ℕ, true, pos, Some, None}
+use Rattle.aaf_format.specs.declared.aaf.AafFormat.TheVariants.{Int16}
+use Rattle.stream_journal.specs.Journal.{Journal}
+use Rattle.talker.specs.declared.plan.TalkKind.TheVariants.{Aaf}
+use Rattle.talker.specs.declared.plan.TalkPlan.{TalkPlan}
+
+-- Packets of 6 stereo sample frames of 16 bits at 48 kHz, in sparse mode, with a restart after each ten packets.
+abbrev pub restarting : TalkPlan
+restarting = record {
+  kind = Aaf Int16 true;
+  rate = 48000;
+  channels = 2;
+  count = 6;
+  id = 0x0200000000010001;
+  start = pos 1000000000;
+  lead = 2000000;
+  restart = Some 10;
+  jump = 1000000;
+  crf = None;
+}
+
+-- packet n has the same times in two journals
+pub record HasSameTimes (a b : Journal) (n : ℕ) : Type 0 where
+  pub due : a.due n ≡ b.due n
+  pub stamp : a.stamp n ≡ b.stamp n
+  pub mr : a.mr n ≡ b.mr n
