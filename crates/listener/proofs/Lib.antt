@@ -7,3 +7,5 @@ pub mod TrueList
 pub mod TrueOnce
 pub mod TrueTimely
 pub mod TrueOrder
+pub mod Shown
+pub mod TrueHeadline

@@ -1,13 +1,13 @@
--- A copy against which nothing speaks is presented.
-use Rattle.std.proofs.Common.{◌≡◌, ◌⊎◌, inl, inr, ℕ, zero, suc, ◌+◌, ◌-◌, ◌<◌, Bool, true, false, cond, ℤ, pos, ◌≤ℤ◌, List, [], ◌∷◌, ◌++◌, All, length, Option, Some, None, Ok, is_some, refl, sym, ap, ◌∙◌, subst, arith}
-use Rattle.std.specs.Prelude.{◌==◌, if◌then◌else◌, int_lt, IfOk, Result, Any, map, fold, slice_get}
+-- A copy against which nothing speaks is presented, and a further one is flagged as such.
+use Rattle.std.proofs.Common.{◌≡◌, inl, inr, ℕ, zero, suc, ◌+◌, Bool, true, false, ℤ, pos, ◌≤ℤ◌, List, [], ◌∷◌, All, length, Option, Some, None, Ok, is_some, refl, sym, ap, ◌∙◌, subst, eq-eqb, arith}
+use Rattle.std.specs.Prelude.{◌==◌, if◌then◌else◌, IfOk, Result, Err, Any, map, slice_get}
 use Rattle.std.specs.List.{list_any}
 use Rattle.std.proofs.lemmas.Int.{ints}
+use Rattle.std.proofs.lemmas.List.Folds.{list_any_at}
 use Rattle.std.proofs.lemmas.List.Elements.{All-head, All-tail, All-take}
 use Rattle.pcap_frames.specs.Capture.{whole_records}
 use Rattle.stream_journal.specs.Conforming.{IsAudio}
 use Rattle.sample_schedule.specs.declared.accepted.Accepted.{Accepted}
-use Rattle.sample_schedule.specs.declared.entry.Entry.{Entry}
 use Rattle.sample_schedule.specs.declared.entry.Entry.TheVariants.{Item as OfItem}
 use Rattle.sample_schedule.specs.declared.item.Item.{Item}
 use Rattle.sample_schedule.specs.declared.item.Item.TheVariants.{Packet as OfPacket}
@@ -15,63 +15,24 @@ use Rattle.sample_schedule.specs.declared.plan.SchedulePlan.{SchedulePlan}
 use Rattle.sample_schedule.specs.declared.shown.Reason.{Reason}
 use Rattle.sample_schedule.specs.Batches.{Presented}
 use Rattle.sample_schedule.specs.Laws.{presented}
-use Rattle.sample_schedule.specs.Order.{by_instant, put_behind, standing}
-use Rattle.sample_schedule.specs.Schedule.{accepted, accepted_by, given, now_at, prefix_of, verdict_at}
+use Rattle.sample_schedule.specs.Order.{standing}
+use Rattle.sample_schedule.specs.Schedule.{given, prefix_of}
 use Rattle.sample_schedule.specs.Verdicts.{Clock, first_instant, is_copy, is_full, same_instant, timed, verdict}
-use Rattle.sample_schedule.proofs.LawLemmas.{accepted-presented}
-use Rattle.sample_schedule.proofs.OrderLemmas.{lt_false}
+use Rattle.sample_schedule.specs.declared.shown.Reason.TheVariants.{Repeat}
+use Rattle.sample_schedule.proofs.Judged.{In, ok-presented}
+use Rattle.sample_schedule.proofs.OrderLemmas.{le_true, lt_false}
 use Rattle.packet_journal.specs.Deliveries.{Delivery, deliveries}
 use Rattle.packet_journal.specs.Packets.{PacketJournal, carried}
 use Rattle.listener.specs.declared.plan.ListenPlan.{ListenPlan}
 use Rattle.listener.specs.Heard.{heard_of, schedule_plan}
 use Rattle.listener.specs.Items.{entries, item_of}
-use Rattle.listener.specs.Laws.{Hears, IsAaf, IsOfPacket, IsPresentedOf, IsWelcome, accepted_before, deliveries_of, entries_in, has_head, presented_of, time_of}
+use Rattle.listener.specs.Laws.{Hears, IsAaf, IsFurther, IsOfPacket, IsPresentedOf, IsTimely, IsWelcome, verdict_of, accepted_before, deliveries_of, entries_in, has_head, presented_of, time_of}
 use Rattle.listener.proofs.TrueItems.{Shows, all_shown, copy_item, sent}
 use Rattle.listener.proofs.TrueHeard.{IsBatchOf, timed_ok, timed_true}
 use Rattle.listener.proofs.TrueList.{IsTrueAccepted, IsTrueEntry, accepted_true, audio, batches_are, entries_true, stamps_true}
 use Rattle.listener.proofs.TrueOnce.{due_once, first_due}
 
 -- ---- elements of lists
-
-In : {X : Type 0} → List X → X → Type 0
-In {X} [] x = ⊥
-In {X} (y ∷ ys) x = (y ≡ x) ⊎ In ys x
-
-in_left : {X : Type 0} (xs ys : List X) (x : X) → In xs x → In (xs ++ ys) x
-unfolding In
-in_left {X} [] ys x h = absurd h
-in_left {X} (y ∷ xs) ys x (inl e) = inl e
-in_left {X} (y ∷ xs) ys x (inr h) = inr (in_left xs ys x h)
-
-in_last : {X : Type 0} (xs : List X) (x : X) → In (xs ++ x ∷ []) x
-unfolding In
-in_last {X} [] x = inl refl
-in_last {X} (y ∷ xs) x = inr (in_last xs x)
-
-in_behind : (ys : List Accepted) (a x : Accepted) → (a ≡ x) ⊎ In ys x → In (put_behind ys a) x
-unfolding In
-in_behind [] a x (inl e) = inl e
-in_behind [] a x (inr h) = absurd h
-in_behind (b ∷ bs) a x h = elim (int_lt a.instant b.instant) as (λ v. In (cond v (a ∷ b ∷ bs) (b ∷ put_behind bs a)) x) [
-  | true ↦ h
-  | false ↦ elim h [
-    | inl e ↦ inr (in_behind bs a x (inl e))
-    | inr (inl e) ↦ inl e
-    | inr (inr g) ↦ inr (in_behind bs a x (inr g))
-  ]
-]
-
-in_sorted : (xs ys : List Accepted) (x : Accepted) → In ys x ⊎ In xs x → In (fold put_behind ys xs) x
-unfolding In
-in_sorted [] ys x (inl h) = h
-in_sorted [] ys x (inr h) = absurd h
-in_sorted (y ∷ xs) ys x (inl h) = in_sorted xs (put_behind ys y) x (inl (in_behind ys y x (inr h)))
-in_sorted (y ∷ xs) ys x (inr (inl e)) = in_sorted xs (put_behind ys y) x (inl (in_behind ys y x (inl e)))
-in_sorted (y ∷ xs) ys x (inr (inr h)) = in_sorted xs (put_behind ys y) x (inr h)
-
-in_order : (xs : List Accepted) (x : Accepted) → In xs x → In (by_instant xs) x
-unfolding by_instant
-in_order xs x h = in_sorted xs [] x (inr h)
 
 any_batch : (P : Presented → Type 0) (xs : List Accepted) (x : Accepted) → In xs x → P x.batch → Any P (map (λ (a : Accepted). a.batch) xs)
 unfolding In
@@ -86,34 +47,10 @@ at_place {X} P [] n x all e = absurd cc
 at_place {X} P (y ∷ xs) zero x all e = let same : y ≡ x = cc in subst P same (All-head P y xs all)
 at_place {X} P (y ∷ xs) (suc n) x all e = at_place P xs n x (All-tail P y xs all) e
 
-place_within : {X : Type 0} (xs : List X) (n : ℕ) (x : X) → slice_get xs n ≡ Some x → n < length xs
-place_within {X} [] n x e = absurd cc
-place_within {X} (y ∷ xs) zero x e = omega arith
-place_within {X} (y ∷ xs) (suc n) x e = let h = place_within xs n x e in omega arith
-
-entry_there : (ds : List Delivery) (n : ℕ) (d : Delivery) → slice_get ds n ≡ Some d → slice_get (entries ds) n ≡ Some (OfItem (item_of d))
+pub entry_there : (ds : List Delivery) (n : ℕ) (d : Delivery) → slice_get ds n ≡ Some d → slice_get (entries ds) n ≡ Some (OfItem (item_of d))
 entry_there [] n d e = absurd cc
 entry_there (x ∷ ds) zero d e = let same : x ≡ d = cc in ap (λ (y : Delivery). Some (OfItem (item_of y))) same
 entry_there (x ∷ ds) (suc n) d e = entry_there ds n d e
-
--- ---- what is accepted stays accepted
-
-stays : (clock : Clock) (plan : SchedulePlan) (es : List Entry) (n k : ℕ) (a : Accepted) → In (accepted clock plan es n) a → In (accepted clock plan es (n + k)) a
-unfolding accepted
-stays clock plan es n zero a h = let e : n + 0 ≡ n = omega arith in rw e h
-stays clock plan es n (suc k) a h =
-    let e : n + suc k ≡ suc (n + k) = omega arith in
-    rw e (in_left (accepted clock plan es (n + k)) (accepted_by (verdict_at clock plan es (n + k) (accepted clock plan es (n + k)))) a (stays clock plan es n k a h))
-
-becomes : (clock : Clock) (plan : SchedulePlan) (es : List Entry) (n : ℕ) (a : Accepted) → verdict_at clock plan es n (accepted clock plan es n) ≡ Some (Ok a) → In (accepted clock plan es (suc n)) a
-unfolding accepted
-becomes clock plan es n a e = rw e (in_last (accepted clock plan es n) a)
-
-accepted_shown : (clock : Clock) (plan : SchedulePlan) (es : List Entry) (n : ℕ) (a : Accepted) → n < length es → verdict_at clock plan es n (accepted clock plan es n) ≡ Some (Ok a) → In (presented (given clock plan es)) a
-accepted_shown clock plan es n a within e =
-    let last : suc n + (length es - suc n) ≡ length es = omega arith in
-    let all : In (accepted clock plan es (length es)) a = subst (λ (m : ℕ). In (accepted clock plan es m) a) last (stays clock plan es (suc n) (length es - suc n) a (becomes clock plan es n a e)) in
-    subst (λ (l : List Accepted). In l a) (sym (accepted-presented clock plan es)) (in_order (accepted clock plan es (length es)) a all)
 
 -- ---- no copy was accepted
 
@@ -147,6 +84,19 @@ none_copied p n batch (a ∷ rest) is aaf x true_ones others =
     rw (not_copied p n batch a (is_copy (first_instant batch) batch.seq a) is aaf x (All-head (IsTrueAccepted p) a rest true_ones) (All-head (λ a. ¬ IsOfPacket p n a.batch) a rest others) refl)
     (none_copied p n batch rest is aaf x (All-tail (IsTrueAccepted p) a rest true_ones) (All-tail (λ a. ¬ IsOfPacket p n a.batch) a rest others))
 
+-- ---- a copy was accepted
+
+same_copy : (instant : ℤ) (seq : ℕ) (a : Accepted) → a.instant ≡ instant → a.batch.seq ≡ seq → is_copy instant seq a ≡ true
+same_copy instant seq a e f = rw (e, le_true instant instant (omega (arith, ints))) (eq-eqb a.batch.seq seq f)
+
+is_copied : (p : PacketJournal) (n : ℕ) (batch : Presented) (earlier : List Accepted) → IsAudio p.times → IsAaf p.times.kind → IsOfPacket p n batch → All (IsTrueAccepted p) earlier
+    → Any (λ a. IsOfPacket p n a.batch) earlier → list_any (is_copy (first_instant batch) batch.seq) earlier ≡ true
+is_copied p n batch earlier is aaf x true_ones (k, a, within, there, y) =
+    let t : IsTrueAccepted p a = subst (IsTrueAccepted p) there (true_ones k a within) in
+    let instant : a.instant ≡ first_instant batch = t.instant ∙ (first_due p n a.batch aaf is y ∙ sym (first_due p n batch aaf is x)) in
+    let copy = same_copy (first_instant batch) batch.seq a instant (y.seq ∙ sym x.seq) in
+    list_any_at (is_copy (first_instant batch) batch.seq) earlier k a within (subst (λ (b : Accepted). is_copy (first_instant batch) batch.seq b ≡ true) (sym there) copy)
+
 -- ---- the verdict
 
 abbrev taken : ℕ → Presented → Accepted
@@ -157,18 +107,19 @@ verdict_is : (plan : SchedulePlan) (now : ℤ) (earlier : List Accepted) (place 
 unfolding verdict
 verdict_is plan now earlier place r batch e h fresh room = rw (e, lt_false (first_instant batch) now h, fresh, room) refl
 
-verdict_of : (clock : Clock) (plan : SchedulePlan) (es : List Entry) (n : ℕ) (earlier : List Accepted) (item : Item) (a : Accepted) → slice_get es n ≡ Some (OfItem item)
-    → verdict plan (now_at es n) earlier n (timed clock plan (prefix_of plan es n) item) ≡ Ok a → verdict_at clock plan es n earlier ≡ Some (Ok a)
-unfolding verdict_at
-verdict_of clock plan es n earlier item a e f = rw e (ap Some f)
+-- a further one is told as such, whether or not there is room
+verdict_repeats : (plan : SchedulePlan) (now : ℤ) (earlier : List Accepted) (place : ℕ) (r : Result Presented Reason) (batch : Presented) → r ≡ Ok batch → now ≤ℤ first_instant batch
+    → list_any (is_copy (first_instant batch) batch.seq) earlier ≡ true → verdict plan now earlier place r ≡ Err Repeat
+unfolding verdict
+verdict_repeats plan now earlier place r batch e h copied = rw (e, lt_false (first_instant batch) now h, copied) refl
 
 -- what the listener makes of the delivery
-record IsTimely (clock : Clock) (p : PacketJournal) (plan : ListenPlan) (bytes : List ℕ) (place n : ℕ) (d : Delivery) : Type 0 where
+record IsTimed (clock : Clock) (p : PacketJournal) (plan : ListenPlan) (bytes : List ℕ) (place n : ℕ) (d : Delivery) : Type 0 where
   batch : Presented
   timed_is : timed clock (schedule_plan plan) (prefix_of (schedule_plan plan) (entries_in plan bytes) place) (item_of d) ≡ Ok batch
   is : IsBatchOf p n d.frame batch
 
-timely : (clock : Clock) (shift : ℤ) (p : PacketJournal) (plan : ListenPlan) (bytes : List ℕ) (place n : ℕ) (d : Delivery) → Hears shift p plan bytes → IsWelcome clock p plan bytes place n d → IsTimely clock p plan bytes place n d
+timely : (clock : Clock) (shift : ℤ) (p : PacketJournal) (plan : ListenPlan) (bytes : List ℕ) (place n : ℕ) (d : Delivery) → Hears shift p plan bytes → IsTimely p plan bytes place n d → IsTimed clock p plan bytes place n d
 timely clock shift p plan bytes place n d h w =
     let sp = schedule_plan plan in
     let records = whole_records bytes in
@@ -189,6 +140,15 @@ timely clock shift p plan bytes place n d h w =
       is = subst (λ (r : Result Presented Reason). IfOk r (IsBatchOf p n d.frame)) ok.same so;
     }
 
+in_time : (clock : Clock) (p : PacketJournal) (plan : ListenPlan) (bytes : List ℕ) (place n : ℕ) (d : Delivery) → IsAaf p.times.kind → IsAudio p.times → IsTimely p plan bytes place n d → (t : IsTimed clock p plan bytes place n d)
+    → time_of plan bytes place ≤ℤ first_instant t.batch
+in_time clock p plan bytes place n d aaf is w t = subst (λ (z : ℤ). time_of plan bytes place ≤ℤ z) (sym (first_due p n t.batch aaf is t.is.is)) w.in_time
+
+earlier_true : (clock : Clock) (shift : ℤ) (p : PacketJournal) (plan : ListenPlan) (bytes : List ℕ) (place : ℕ) → Hears shift p plan bytes → All (IsTrueAccepted p) (accepted_before clock plan bytes place)
+earlier_true clock shift p plan bytes place h =
+    let off : is_some plan.clock ≡ false = rw h.clock refl in
+    accepted_true (deliveries_of plan bytes) p clock (schedule_plan plan) (entries_in plan bytes) place off (audio p h.kind h.conforming.times) h.kind (entries_true shift p plan bytes h)
+
 pub welcome_shown : (clock : Clock) (shift : ℤ) (p : PacketJournal) (plan : ListenPlan) (bytes : List ℕ) (place n : ℕ) (d : Delivery) → Hears shift p plan bytes → IsWelcome clock p plan bytes place n d
     → Any (IsPresentedOf p n d) (presented_of (heard_of clock plan bytes).shown)
 welcome_shown clock shift p plan bytes place n d h w =
@@ -196,16 +156,22 @@ welcome_shown clock shift p plan bytes place n d h w =
     let es = entries_in plan bytes in
     let earlier = accepted_before clock plan bytes place in
     let is = audio p h.kind h.conforming.times in
-    let off : is_some plan.clock ≡ false = rw h.clock refl in
-    let t = timely clock shift p plan bytes place n d h w in
-    let first = first_due p n t.batch h.kind is t.is.is in
-    let now : time_of plan bytes place ≤ℤ first_instant t.batch = subst (λ (z : ℤ). time_of plan bytes place ≤ℤ z) (sym first) w.in_time in
-    let fresh = none_copied p n t.batch earlier is h.kind t.is.is (accepted_true (deliveries_of plan bytes) p clock sp es place off is h.kind (entries_true shift p plan bytes h)) w.first in
+    let t = timely clock shift p plan bytes place n d h w.timely in
+    let fresh = none_copied p n t.batch earlier is h.kind t.is.is (earlier_true clock shift p plan bytes place h) w.first in
     let room : is_full sp (standing (time_of plan bytes place) earlier) (length t.batch.bytes) ≡ false =
     subst (λ (l : List ℕ). is_full sp (standing (time_of plan bytes place) earlier) (length l) ≡ false) (sym t.is.is.bytes) w.room in
-    let there = entry_there (deliveries_of plan bytes) place d w.there in
-    let accepted_so = verdict_of clock sp es place earlier (item_of d) (taken place t.batch) there (verdict_is sp (time_of plan bytes place) earlier place _ t.batch t.timed_is now fresh room) in
-    let shown = accepted_shown clock sp es place (taken place t.batch) (place_within es place _ there) accepted_so in
+    let there = entry_there (deliveries_of plan bytes) place d w.timely.there in
+    let verdict_so = verdict_is sp (time_of plan bytes place) earlier place _ t.batch t.timed_is (in_time clock p plan bytes place n d h.kind is w.timely t) fresh room in
+    let shown = ok-presented clock sp es place (item_of d) (taken place t.batch) there verdict_so in
     let gs = given clock sp es in
     subst (λ (l : List Presented). Any (IsPresentedOf p n d) l) (sym (batches_are gs))
     (any_batch (IsPresentedOf p n d) (presented gs) (taken place t.batch) shown (record { frame = t.is.frame_is; is = t.is.is }))
+
+pub further_judged : (clock : Clock) (shift : ℤ) (p : PacketJournal) (plan : ListenPlan) (bytes : List ℕ) (place n : ℕ) (d : Delivery) → Hears shift p plan bytes → IsFurther clock p plan bytes place n d
+    → verdict_of clock plan bytes place d ≡ Err Repeat
+further_judged clock shift p plan bytes place n d h w =
+    let earlier = accepted_before clock plan bytes place in
+    let is = audio p h.kind h.conforming.times in
+    let t = timely clock shift p plan bytes place n d h w.timely in
+    verdict_repeats (schedule_plan plan) (time_of plan bytes place) earlier place _ t.batch t.timed_is (in_time clock p plan bytes place n d h.kind is w.timely t)
+    (is_copied p n t.batch earlier is h.kind t.is.is (earlier_true clock shift p plan bytes place h) w.before)

@@ -1,5 +1,5 @@
 -- What a listener hears of a talker that keeps the rules.
-use Rattle.std.specs.Prelude.{Contains, ◌≡◌, ℕ, ◌<◌, ◌%◌, ⊤, Bool, true, false, ℤ, pos, ◌≤ℤ◌, List, [], ◌∷◌, length, All, slice_get, Some, None, is_some}
+use Rattle.std.specs.Prelude.{Any, Contains, ◌≡◌, ℕ, ◌<◌, ◌%◌, ◌==◌, ⊤, Bool, true, false, ℤ, pos, ◌≤ℤ◌, List, [], ◌∷◌, length, filter, All, slice_get, Some, None, is_some, Result, Ok, Err}
 use Rattle.pcap_frames.specs.Capture.{whole_records}
 use Rattle.sample_schedule.specs.declared.accepted.Accepted.{Accepted}
 use Rattle.sample_schedule.specs.declared.entry.Entry.{Entry}
@@ -7,10 +7,12 @@ use Rattle.sample_schedule.specs.declared.item.Item.{Item}
 use Rattle.sample_schedule.specs.declared.item.Item.TheVariants.{Packet as OfPacket, Unit as OfUnit, Bad as OfBad}
 use Rattle.sample_schedule.specs.declared.plan.SchedulePlan.{SchedulePlan}
 use Rattle.sample_schedule.specs.Heads.{head_of}
+use Rattle.sample_schedule.specs.Laws.{verdict_in}
 use Rattle.sample_schedule.specs.Order.{standing}
 use Rattle.sample_schedule.specs.Schedule.{accepted, now_at, prefix_of}
 use Rattle.sample_schedule.specs.Verdicts.{Clock, is_full}
 use Rattle.sample_schedule.specs.Batches.{Presented, sample_instant}
+use Rattle.sample_schedule.specs.declared.shown.Reason.{Reason}
 use Rattle.sample_schedule.specs.declared.shown.Shown.{Shown}
 use Rattle.sample_schedule.specs.declared.shown.Shown.TheVariants.{Present, Flag}
 use Rattle.stream_journal.specs.Journal.{IsAt, Kind, DenseAaf, SparseAaf, Am824, H264}
@@ -98,18 +100,26 @@ has_head plan prefix (OfPacket packet) = is_some (head_of plan prefix packet)
 has_head plan prefix (OfUnit whole) = false
 has_head plan prefix (OfBad bad) = false
 
--- The delivery at a place is a copy of packet n against which nothing speaks.
-pub record IsWelcome (clock : Clock) (p : PacketJournal) (plan : ListenPlan) (bytes : List ℕ) (place n : ℕ) (d : Delivery) : Type 0 where
+-- The delivery at a place is a copy of packet n that can be told: its timestamp is known, and its first instant has not
+-- passed.
+pub record IsTimely (p : PacketJournal) (plan : ListenPlan) (bytes : List ℕ) (place n : ℕ) (d : Delivery) : Type 0 where
   pub there : slice_get (deliveries_of plan bytes) place ≡ Some d
   pub copy : IsCopyOf p plan.lead n d
-  -- its timestamp is known
   pub known : has_head (schedule_plan plan) (prefix_of (schedule_plan plan) (entries_in plan bytes) place) (item_of d) ≡ true
-  -- its first instant has not passed
   pub in_time : time_of plan bytes place ≤ℤ pos (p.times.due n)
+
+-- It is a copy against which nothing speaks.
+pub record IsWelcome (clock : Clock) (p : PacketJournal) (plan : ListenPlan) (bytes : List ℕ) (place n : ℕ) (d : Delivery) : Type 0 where
+  pub timely : IsTimely p plan bytes place n d
   -- no copy of the packet was accepted before
   pub first : All (λ a. ¬ IsOfPacket p n a.batch) (accepted_before clock plan bytes place)
   -- the buffer has room for it
   pub room : is_full (schedule_plan plan) (standing (time_of plan bytes place) (accepted_before clock plan bytes place)) (length (carried (p.packet n))) ≡ false
+
+-- It is a further copy: one of the packet was accepted before.
+pub record IsFurther (clock : Clock) (p : PacketJournal) (plan : ListenPlan) (bytes : List ℕ) (place n : ℕ) (d : Delivery) : Type 0 where
+  pub timely : IsTimely p plan bytes place n d
+  pub before : Any (λ a. IsOfPacket p n a.batch) (accepted_before clock plan bytes place)
 
 -- the batch is what is presented of a delivery of packet n
 pub record IsPresentedOf (p : PacketJournal) (n : ℕ) (d : Delivery) (batch : Presented) : Type 0 where
@@ -123,3 +133,23 @@ pub record IsHeardFrom (ds : List Delivery) (p : PacketJournal) (lead : ℕ) (ba
   pub listed : Contains ds delivery
   pub copy : IsCopyOf p lead number delivery
   pub is : IsPresentedOf p number delivery batch
+
+-- ---- what is shown of each delivery
+
+-- the number of the record of which it is shown
+abbrev pub frame_of : Shown → ℕ
+frame_of (Present batch) = batch.frame
+frame_of (Flag frame seq reason) = frame
+
+-- what is shown of the record with this number
+abbrev pub shown_of_frame : ℕ → List Shown → List Shown
+shown_of_frame frame list = filter (λ s. frame_of s == frame) list
+
+-- the verdict of the delivery at a place
+abbrev pub verdict_of : Clock → ListenPlan → List ℕ → ℕ → Delivery → Result Accepted Reason
+verdict_of clock plan bytes place d = verdict_in clock (schedule_plan plan) (entries_in plan bytes) place (item_of d)
+
+-- what a verdict makes of a delivery: what it accepts is presented, and any other is flagged with its one reason
+abbrev pub shown_by : Delivery → Result Accepted Reason → Shown
+shown_by d (Ok a) = Present a.batch
+shown_by d (Err reason) = Flag d.frame d.seq reason

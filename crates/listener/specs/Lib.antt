@@ -3,3 +3,4 @@ pub mod Items
 pub mod Heard
 pub mod Collected
 pub mod Laws
+pub mod Headline

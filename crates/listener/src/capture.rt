@@ -1,9 +1,12 @@
 //! A whole capture at once.
 
-ghost use Rattle.std.specs.Prelude.{◌≡◌, ◌≤◌, ◌^◌, None, IfOk, length};
+ghost use Rattle.std.specs.Prelude.{◌≡◌, ◌≤◌, ◌^◌, ℤ, None, IfOk, length};
+ghost use Rattle.packet_journal.specs.Packets.{PacketJournal};
 ghost use Rattle.pcap_frames.specs.Capture.{first_refusal, whole_records};
 ghost use Rattle.sample_schedule.specs.Limits.{IsPlan};
 ghost use Rattle.sample_schedule.specs.Verdicts.{Clock};
+ghost use Rattle.listener.specs.Headline.{KeepsHeadline};
+ghost use Rattle.listener.specs.Laws.{Hears};
 ghost use Rattle.listener.specs.Heard.{counts_of, heard_of, schedule_plan, shown_of};
 
 use crate::collected::Collected;
@@ -22,6 +25,10 @@ use std::alloc::Global;
 /// as malformed. Record times are taken as nanoseconds of gPTP. The plan is within the limits that `ListenPlan` names, and
 /// has no clock.
 ///
+/// Whatever the capture loses, repeats or reorders of the AAF packets of a talker that keeps the rules, what is shown keeps
+/// the headline: what came in time, found room and has a known timestamp is presented once, in order, at the talker's own
+/// nanoseconds, so that any two listeners agree, and every other packet that came is flagged with its one reason.
+///
 /// `NoMemory` comes where no memory is found, and nothing is shown then.
 pub fn whole(alloc: Global, plan: &ListenPlan, bytes: &[u8]) -> Result<Heard, NoMemory>
     requires plan { IsPlan (schedule_plan plan.now) }
@@ -31,6 +38,7 @@ pub fn whole(alloc: Global, plan: &ListenPlan, bytes: &[u8]) -> Result<Heard, No
     ensures shown { IfOk result (λ heard. (clock : Clock) → heard.shown ≡ shown_of clock plan.now (whole_records bytes.now)) }
     ensures counts { IfOk result (λ heard. heard.counts ≡ counts_of plan.now (whole_records bytes.now) heard.shown) }
     ensures refused { IfOk result (λ heard. heard.refused ≡ first_refusal bytes.now) }
+    ensures headline { IfOk result (λ heard. (clock : Clock) (shift : ℤ) (p : PacketJournal) → Hears shift p plan.now bytes.now → KeepsHeadline clock shift p plan.now bytes.now heard.shown) }
 {
     let Reading { collected, refused } = read_capture(alloc, plan.stream, bytes)?;
     let Collected {
