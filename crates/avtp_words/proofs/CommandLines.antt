@@ -1,35 +1,61 @@
 -- Command lines of every command, and where words stop being one.
-use Rattle.std.proofs.Common.{◌≡◌, ℕ, suc, ◌+◌, ◌-◌, ◌<◌, ◌≤◌, ◌^◌, ◌⊎◌, inl, inr, true, false, List, [], ◌∷◌, ◌++◌, flat_map, length, take, drop, Option, Some, None, slice_get, IsSomeAnd, IfSome, MatchOption, arith, sym, subst, ap, ◌∙◌, refl, append_assoc, length-append, All, decimal, codes, string_bytes, String}
+use Rattle.std.proofs.Common.{◌≡◌, ℕ, suc, ◌+◌, ◌-◌, ◌<◌, ◌^◌, inl, inr, true, false, List, [], ◌∷◌, ◌++◌, flat_map, length, take, drop, Option, Some, None, slice_get, IsSomeAnd, IfSome, MatchOption, option_to_list, get_or, ◌==◌, if◌then◌else◌, arith, sym, subst, ap, ◌∙◌, refl, append_assoc, length-append, All, string_bytes, String}
 use Rattle.std.specs.Str.{bytes_eq}
 use Rattle.std.specs.declared.alloc.Global.{Global}
 use Rattle.std.proofs.lemmas.Bool.{cases_Bool}
+use Rattle.std.specs.Int.{w64, to_be_bytes, from_be_bytes}
+use Rattle.std.proofs.lemmas.Nat.{from_be_bytes-to_be_bytes_8}
 use Rattle.std.proofs.lemmas.Fmt.{decimal_injective}
-use Rattle.std.proofs.lemmas.List.{append-nil, length-map, length-drop, drop-map, take_all}
-use Rattle.std.proofs.lemmas.List.Elements.{All-nil, All-cons, All-head, All-tail}
+use Rattle.std.proofs.lemmas.List.{length-map, length-drop, drop-map, take_all}
+use Rattle.std.proofs.lemmas.List.Elements.{All-head, All-tail}
+use Rattle.aaf_format.specs.declared.aaf.AafFormat.{AafFormat}
+use Rattle.aaf_format.specs.declared.aaf.AafFormat.TheVariants.{Float32, Int32, Int24, Int16}
 use Rattle.avtp_words.specs.declared.operand.Operand.{Operand}
-use Rattle.avtp_words.specs.declared.operand.Operand.TheVariants.{Id, Name}
+use Rattle.avtp_words.specs.declared.option.Takes.TheVariants as takes
 use Rattle.avtp_words.specs.declared.option.Takes.TheVariants.{Number}
 use Rattle.avtp_words.specs.Number.{IsNumber}
-use Rattle.avtp_words.specs.Operands.{IsId, IsOperand, AreOperands}
-use Rattle.avtp_words.specs.Reading.{are_sound, word_behind, IsTail, IsRest, IsRestTo, AreOptionsTo, EndsOptions, StopsOptions}
+use Rattle.avtp_words.specs.Operands.{IsId, AreOperands}
+use Rattle.avtp_words.specs.Reading.{are_sound, word_behind, IsTail, IsRest, IsRestTo, AreOptionsTo, EndsOptions, StopsOptions, IsRead, IsReadId, IsReadIf, IsReadFormat}
 use Rattle.avtp_words.specs.Word.{texts, BeginsWithDash, IsName}
-use Rattle.avtp_words.specs.Options.{Row, row_named, Setting, words_of, IsValue, IsSetting, AreSettings, value_in}
-use Rattle.avtp_words.specs.Grammar.{Request, Listening, show, listen, Form, show_form, listen_form, IsOf, IsGiven, IsShow, IsListen, IsCommandLine, IsLine, Begins, Stops, StopsAt, IsOffence}
-use Rattle.avtp_words.proofs.Settings.{name-dash, same-true, same-false, setting-value, same_setting}
+use Rattle.avtp_words.specs.Options.{Row, row_named, Setting, words_of, IsValue, IsTaken, stands_alone, format_name, IsSetting, value_in}
+use Rattle.avtp_words.specs.Grammar.{Form, IsOf, IsGiven, IsGivenId, IsGivenIf, IsGivenFormat, Stops, StopsAt}
+use Rattle.avtp_words.proofs.Settings.{name-dash, same-true, setting-value, same_first}
 use Rattle.avtp_words.proofs.Operands.{names, samples, sampled}
-use Rattle.avtp_words.proofs.Steps.{fronts}
 
--- the word behind an option's name is its value
-pub value-behind : (rows : List Row) (gs : List Setting) (name : List ℕ) → are_sound rows ≡ true → All (IsSetting rows) gs → BeginsWithDash name → word_behind name (flat_map words_of gs) ≡ value_in name gs
-value-behind rows [] name sound each dash = refl
-value-behind rows (g ∷ gs) name sound each dash =
+-- the value of an option is one that its row takes
+pub value_is : (rows : List Row) (name : List ℕ) (row : Row) (gs : List Setting) → row_named rows name ≡ Some row → All (IsSetting rows) gs → IfSome (value_in name gs) (IsValue row.takes)
+value_is rows name row [] is_row each = tt
+value_is rows name row (g ∷ gs) is_row each =
     elim (cases_Bool (bytes_eq g.name name)) [
-      | inl same ↦ rw same refl
-      | inr other ↦ rw other (elim (cases_Bool (bytes_eq g.value name)) [
-        | inl same ↦ absurd (setting-value rows g sound (All-head (IsSetting rows) g gs each) (subst BeginsWithDash (sym (same-true g.value name same)) dash))
-        | inr different ↦ rw different (value-behind rows gs name sound (All-tail (IsSetting rows) g gs each) dash)
-      ])
-    ]
+      | inl same ↦ (
+          let takes : row_named rows g.name ≡ Some row = ap (row_named rows) (same-true g.name name same) ∙ is_row in
+          rw same (valued g.value (subst (λ found. IsSomeAnd found (λ row. IsTaken row.takes g.value)) takes (All-head (IsSetting rows) g gs each).value)))
+      | inr other ↦ rw other (value_is rows name row gs is_row (All-tail (IsSetting rows) g gs each))
+    ] where
+      valued : (value : Option (List ℕ)) → IsTaken row.takes value → IfSome value (IsValue row.takes)
+      valued None taken = tt
+      valued (Some word) taken = taken
+
+-- the word behind the name of an option that takes a value is its value
+pub value-behind : (rows : List Row) (gs : List Setting) (name : List ℕ) (row : Row) → are_sound rows ≡ true → All (IsSetting rows) gs → BeginsWithDash name → row_named rows name ≡ Some row → stands_alone row.takes ≡ false → word_behind name (flat_map words_of gs) ≡ value_in name gs
+value-behind rows [] name row sound each dash is_row wanted = refl
+value-behind rows (g ∷ gs) name row sound each dash is_row wanted =
+    elim (cases_Bool (bytes_eq g.name name)) [
+      | inl same ↦ (
+          let takes : row_named rows g.name ≡ Some row = ap (row_named rows) (same-true g.name name same) ∙ is_row in
+          rw same (valued g.value (subst (λ found. IsSomeAnd found (λ row. IsTaken row.takes g.value)) takes (All-head (IsSetting rows) g gs each).value)))
+      | inr other ↦ rw other (skipped g.value refl (value-behind rows gs name row sound (All-tail (IsSetting rows) g gs each) dash is_row wanted))
+    ] where
+      valued : (value : Option (List ℕ)) → IsTaken row.takes value → slice_get (option_to_list value ++ flat_map words_of gs) 0 ≡ value
+      valued None taken = absurd (let no : true ≡ false = sym taken ∙ wanted in cc)
+      valued (Some word) taken = refl
+
+      skipped : (value : Option (List ℕ)) → g.value ≡ value → word_behind name (flat_map words_of gs) ≡ value_in name gs → word_behind name (option_to_list value ++ flat_map words_of gs) ≡ value_in name gs
+      skipped None e later = later
+      skipped (Some word) e later = elim (cases_Bool (bytes_eq word name)) [
+        | inl same ↦ absurd (setting-value rows g word sound (All-head (IsSetting rows) g gs each) e (subst BeginsWithDash (sym (same-true word name same)) dash))
+        | inr different ↦ rw different later
+      ]
 
 -- Options, then a word that begins as none, are options and names in one way.
 pub same_settings : (rows : List Row) (gs hs : List Setting) (rest names : List (List ℕ)) → All (IsSetting rows) gs → All (IsSetting rows) hs → All IsName names → IfSome (slice_get rest 0) (λ word. BeginsWithDash word → ⊥) → flat_map words_of gs ++ rest ≡ flat_map words_of hs ++ names → (gs ≡ hs) × (rest ≡ names)
@@ -39,10 +65,10 @@ same_settings rows [] (h ∷ hs) (word ∷ rest) names gs_each hs_each named end
 same_settings rows (g ∷ gs) [] rest [] gs_each hs_each named ends e = absurd (cc)
 same_settings rows (g ∷ gs) [] rest (name ∷ names) gs_each hs_each named ends e = let same : g.name ≡ name = cc in absurd (name-dash name (All-head IsName name names named) (subst BeginsWithDash same (All-head (IsSetting rows) g gs gs_each).dash))
 same_settings rows (g ∷ gs) (h ∷ hs) rest names gs_each hs_each named ends e =
-    let tails : flat_map words_of gs ++ rest ≡ flat_map words_of hs ++ names = cc in
-    let heads : g ≡ h = same_setting g h (cc) (cc) in
-    let more = same_settings rows gs hs rest names (All-tail (IsSetting rows) g gs gs_each) (All-tail (IsSetting rows) h hs hs_each) named ends tails in
-    (ap (λ (s : Setting). s ∷ gs) heads ∙ ap (λ (ss : List Setting). h ∷ ss) more.0, more.1)
+    let split : words_of g ++ (flat_map words_of gs ++ rest) ≡ words_of h ++ (flat_map words_of hs ++ names) = sym (append_assoc (words_of g) (flat_map words_of gs) rest) ∙ e ∙ append_assoc (words_of h) (flat_map words_of hs) names in
+    let same = same_first rows g h (flat_map words_of gs ++ rest) (flat_map words_of hs ++ names) (All-head (IsSetting rows) g gs gs_each) (All-head (IsSetting rows) h hs hs_each) split in
+    let more = same_settings rows gs hs rest names (All-tail (IsSetting rows) g gs gs_each) (All-tail (IsSetting rows) h hs hs_each) named ends same.1 in
+    (ap (λ (s : Setting). s ∷ gs) same.0 ∙ ap (λ (ss : List Setting). h ∷ ss) more.0, more.1)
 
 pub beyond : (front rest : List (List ℕ)) (k : ℕ) → slice_get (front ++ rest) (length front + k) ≡ slice_get rest k
 beyond [] rest k = let none : length {A = List ℕ} [] + k ≡ k = omega arith in ap (slice_get rest) none
@@ -153,7 +179,7 @@ options_to rows operands words place r = record { settings = r.rest.settings; re
 pub behind_words : (words : List (String Global)) (place : ℕ) → texts (take (length words - place) (drop place words)) ≡ drop place (texts words)
 behind_words words place = ap texts (take_all (length words - place) (drop place words) (omega (arith, length-drop place words))) ∙ sym (drop-map {X = String Global} {Y = List ℕ} string_bytes place words)
 
-operands_length : (operands : List Operand) (ns : List (List ℕ)) → AreOperands operands ns → length ns ≡ length operands
+pub operands_length : (operands : List Operand) (ns : List (List ℕ)) → AreOperands operands ns → length ns ≡ length operands
 operands_length [] [] are = refl
 operands_length [] (n ∷ ns) are = absurd are
 operands_length (o ∷ operands) [] are = absurd are
@@ -171,21 +197,70 @@ same_line form words gs hs ns ms p q =
 
 -- ---- what options give
 
--- an option that takes a number gives one within its range
-pub some_given : (rows : List Row) (name : List ℕ) (low high default : ℕ) (gs : List Setting) → row_named rows name ≡ Some (record { name = name; takes = Number low high }) → All (IsSetting rows) gs → (n : ℕ) × IsGiven name low high default gs n
-some_given rows name low high default [] row each = (default, refl)
-some_given rows name low high default (g ∷ gs) row each =
-    elim (cases_Bool (bytes_eq g.name name)) [
-      | inl same ↦ (
-          let takes : row_named rows g.name ≡ Some (record { name = name; takes = Number low high }) = ap (row_named rows) (same-true g.name name same) ∙ row in
-          let value : (n : ℕ) × IsNumber low high g.value n = subst (λ found. IsSomeAnd found (λ row. IsValue row.takes g.value)) takes (All-head (IsSetting rows) g gs each).value in
-          (value.0, rw same value.1))
-      | inr other ↦ rw other (some_given rows name low high default gs row (All-tail (IsSetting rows) g gs each))
-    ]
+-- a number is the one that the value of its option spells
+pub number_given : (low high default bound n : ℕ) (v : Option (List ℕ)) → high < bound → IfSome v (IsValue (Number low high)) → IsRead bound default v n → MatchOption v (n ≡ default) (λ word. IsNumber low high word n)
+number_given low high default bound n None small is reads = reads.absent
+number_given low high default bound n (Some word) small (m, is) reads =
+    let same : n ≡ m = reads.read m (omega (arith, is.most, small)) is.spelled in
+    subst (IsNumber low high word) (sym same) is
+
+pub number_given_if : (low high bound : ℕ) (given : Option ℕ) (v : Option (List ℕ)) → high < bound → IfSome v (IsValue (Number low high)) → IsReadIf bound v given → MatchOption v (given ≡ None) (λ word. (n : ℕ) × (given ≡ Some n) × IsNumber low high word n)
+number_given_if low high bound given None small is reads = reads.absent
+number_given_if low high bound given (Some word) small (m, is) reads = (m, reads.read m (omega (arith, is.most, small)) is.spelled, is)
+
+pub id_given : (default n : ℕ) (v : Option (List ℕ)) → IfSome v (IsValue takes.Id) → IsReadId default v n → MatchOption v (n ≡ default) (λ word. IsId word n)
+id_given default n None is reads = reads.absent
+id_given default n (Some word) (id, is) reads = subst (IsId word) (sym (reads.read id is)) is
+
+pub format_given : (default format : AafFormat) (v : Option (List ℕ)) → IfSome v (IsValue takes.Format) → IsReadFormat default v format → MatchOption v (format ≡ default) (λ word. word ≡ format_name format)
+format_given default format None is reads = reads.absent
+format_given default format (Some word) (named, is) reads = is ∙ ap format_name (sym (reads.read named is))
 
 -- options give one number
-pub same_given : (name : List ℕ) (low high default m n : ℕ) (gs : List Setting) → high < 2 ^ 64 → IsGiven name low high default gs m → IsGiven name low high default gs n → m ≡ n
-same_given name low high default m n gs small p q = go (value_in name gs) p q where
+pub same_number : (name : List ℕ) (low high default m n : ℕ) (gs : List Setting) → high < 2 ^ 64 → IsGiven name low high default gs m → IsGiven name low high default gs n → m ≡ n
+same_number name low high default m n gs small p q = go (value_in name gs) p q where
   go : (v : Option (List ℕ)) → MatchOption v (m ≡ default) (λ word. IsNumber low high word m) → MatchOption v (n ≡ default) (λ word. IsNumber low high word n) → m ≡ n
   go None p q = p ∙ sym q
   go (Some word) p q = decimal_injective m n (omega (arith, p.most, small)) (omega (arith, q.most, small)) (sym p.spelled ∙ q.spelled)
+
+pub same_number_if : (name : List ℕ) (low high : ℕ) (a b : Option ℕ) (gs : List Setting) → high < 2 ^ 64 → IsGivenIf name low high gs a → IsGivenIf name low high gs b → a ≡ b
+same_number_if name low high a b gs small p q = go (value_in name gs) p q where
+  go : (v : Option (List ℕ)) → MatchOption v (a ≡ None) (λ word. (n : ℕ) × (a ≡ Some n) × IsNumber low high word n) → MatchOption v (b ≡ None) (λ word. (n : ℕ) × (b ≡ Some n) × IsNumber low high word n) → a ≡ b
+  go None p q = p ∙ sym q
+  go (Some word) (m, p, first) (n, q, second) =
+      let same : m ≡ n = decimal_injective m n (omega (arith, first.most, small)) (omega (arith, second.most, small)) (sym first.spelled ∙ second.spelled) in
+      p ∙ ap Some same ∙ sym q
+
+-- a word is one id
+pub same_id : (word : List ℕ) (a b : ℕ) → IsId word a → IsId word b → a ≡ b
+same_id word a b p q =
+    let both = sym p.digits ∙ q.digits in
+    let bytes : to_be_bytes w64 a ≡ to_be_bytes w64 b = cc in
+    sym (from_be_bytes-to_be_bytes_8 a p.fits) ∙ ap (from_be_bytes w64) bytes ∙ from_be_bytes-to_be_bytes_8 b q.fits
+
+pub same_id_given : (name : List ℕ) (default m n : ℕ) (gs : List Setting) → IsGivenId name default gs m → IsGivenId name default gs n → m ≡ n
+same_id_given name default m n gs p q = go (value_in name gs) p q where
+  go : (v : Option (List ℕ)) → MatchOption v (m ≡ default) (λ word. IsId word m) → MatchOption v (n ≡ default) (λ word. IsId word n) → m ≡ n
+  go None p q = p ∙ sym q
+  go (Some word) p q = same_id word m n p q
+
+-- formats differ in the fourth letter of their words
+by_fourth : ℕ → AafFormat
+by_fourth letter = if letter == 49 then Int16 else if letter == 50 then Int24 else if letter == 51 then Int32 else Float32
+
+fourth_is : (format : AafFormat) → by_fourth (get_or (format_name format) 3 0) ≡ format
+unfolding by_fourth
+fourth_is Int16 = refl
+fourth_is Int24 = refl
+fourth_is Int32 = refl
+fourth_is Float32 = refl
+
+-- a word is one format
+same_format : (a b : AafFormat) → format_name a ≡ format_name b → a ≡ b
+same_format a b e = sym (fourth_is a) ∙ ap (λ (name : List ℕ). by_fourth (get_or name 3 0)) e ∙ fourth_is b
+
+pub same_format_given : (name : List ℕ) (default f g : AafFormat) (gs : List Setting) → IsGivenFormat name default gs f → IsGivenFormat name default gs g → f ≡ g
+same_format_given name default f g gs p q = go (value_in name gs) p q where
+  go : (v : Option (List ℕ)) → MatchOption v (f ≡ default) (λ word. word ≡ format_name f) → MatchOption v (g ≡ default) (λ word. word ≡ format_name g) → f ≡ g
+  go None p q = p ∙ sym q
+  go (Some word) p q = same_format f g (sym p ∙ q)

@@ -4,3 +4,4 @@ pub mod Steps
 pub mod Operands
 pub mod CommandLines
 pub mod Commands
+pub mod Rates

@@ -1,11 +1,13 @@
 -- A word that spells a number: what `parse` reads of it, and what `{n}` writes.
-use Rattle.std.proofs.Common.{◌≡◌, ◌≢◌, ℕ, zero, suc, ◌^◌, ◌<◌, ◌≤◌, List, length, get_or, Result, Ok, Err, Option, Some, None, IfSome, IfNone, unwrap_or, arith, sym, ap, ◌∙◌, decimal, nat_le, IsTrue, ◌↔◌}
+use Rattle.std.proofs.Common.{◌≡◌, ◌≢◌, ℕ, zero, suc, ◌^◌, ◌<◌, ◌≤◌, List, length, get_or, Result, Ok, Err, Option, Some, None, IfSome, IfNone, unwrap_or, arith, sym, ap, ◌∙◌, decimal, nat_le, IsTrue, ◌↔◌, refl, ℤ, pos, w64, FitsSigned}
 use Rattle.std.specs.Result.{result_ok}
 use Rattle.std.specs.Str.Parse.{ParsesUnsigned, AllDigits, digits_value}
 use Rattle.std.proofs.lemmas.Str.Parse.{IsNumeralModel, numerals_by_value, tells_digits, parse_plain, digit_at}
 use Rattle.std.proofs.lemmas.Fmt.{decimal_is_IsNumeral, parse-decimal, decimal_nonempty, first_decimal, decimal_digit, decimal-digits_value, decimal_injective}
 use Rattle.std.proofs.lemmas.Bool.{leb-true, le-leb}
+use Rattle.std.specs.Result.{OkIff, result_unwrap_or}
 use Rattle.avtp_words.specs.Number.{BeginsAsNumber, IsNumber}
+use Rattle.avtp_words.specs.Reading.{IsRead, IsReadIf}
 
 own : IsNumeralModel (AllDigits 10) (digits_value 10)
 own = numerals_by_value _ tells_digits
@@ -61,3 +63,25 @@ is_number-else low high n word below spells small fits = (
 pub number_is : (word : List ℕ) (o : Option ℕ) (default n : ℕ) → unwrap_or o default < 2 ^ 64 → IfSome o (λ n. word ≡ decimal n) → IfNone o ((n : ℕ) → n < 2 ^ 64 → word ≢ decimal n) → n < 2 ^ 64 → word ≡ decimal n → unwrap_or o default ≡ n
 number_is word (Some m) default n fits spells none small e = decimal_injective m n fits small (sym spells ∙ e)
 number_is word None default n fits spells none small e = absurd (none n small e)
+
+-- a number below 2^63 is read as a signed one
+pub signed_read : {E : Type 0} (word : Option (List ℕ)) (default n : ℕ) (r : Result ℤ E) → default < 2 ^ 63 → OkIff r (FitsSigned w64 (pos n)) (pos n) → IsRead (2 ^ 64) default word n → (k : ℕ) × FitsSigned w64 (pos k) × (result_unwrap_or r (pos default) ≡ pos k) × IsRead (2 ^ 63) default word k
+signed_read word default n (Ok x) small (fits, is) reads = (n, fits, is, record { absent = reads.absent; read = lower word reads.read }) where
+  lower : (word : Option (List ℕ)) → IfSome word (λ word. (k : ℕ) → k < 2 ^ 64 → word ≡ decimal k → n ≡ k) → IfSome word (λ word. (k : ℕ) → k < 2 ^ 63 → word ≡ decimal k → n ≡ k)
+  lower None read = tt
+  lower (Some word) read = λ k below. read k (omega (arith, below))
+signed_read word default n (Err e) small large reads = (default, omega (arith, small), refl, record { absent = same word; read = none word reads.read }) where
+  same : (word : Option (List ℕ)) → IfNone word (default ≡ default)
+  same None = refl
+  same (Some word) = tt
+
+  none : (word : Option (List ℕ)) → IfSome word (λ word. (k : ℕ) → k < 2 ^ 64 → word ≡ decimal k → n ≡ k) → IfSome word (λ word. (k : ℕ) → k < 2 ^ 63 → word ≡ decimal k → default ≡ k)
+  none None read = tt
+  none (Some word) read = λ k below e. absurd (let same : n ≡ k = read k (omega (arith, below)) e in large (omega (arith, same, below)))
+
+-- the number that a word spells, where there is a word, is the one that is read of it
+pub read_if : {E : Type 0} (word : List ℕ) (n : ℕ) (r : Result ℕ E) (given : Option ℕ) → n < 2 ^ 64 → word ≡ decimal n → OkIff r (n < 2 ^ 32) n → given ≡ result_ok r → IsReadIf (2 ^ 32) (Some word) given
+read_if {E = E} word n r given small spells tried is = record { absent = tt; read = λ k below e. is ∙ go r tried k below (decimal_injective k n (omega (arith, below)) small (sym e ∙ spells)) } where
+  go : (r : Result ℕ E) → OkIff r (n < 2 ^ 32) n → (k : ℕ) → k < 2 ^ 32 → k ≡ n → result_ok r ≡ Some k
+  go (Ok x) (fits, x_is) k below same = ap Some (x_is ∙ sym same)
+  go (Err e) large k below same = absurd (large (omega (arith, below, same)))

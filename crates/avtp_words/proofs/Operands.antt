@@ -1,5 +1,5 @@
 -- Operands, and where words stop being them.
-use Rattle.std.proofs.Common.{◌≡◌, ℕ, zero, suc, ◌+◌, ◌<◌, get_or, ◌/◌, ◌%◌, ◌==◌, Bool, true, false, if◌then◌else◌, List, [], ◌∷◌, ◌++◌, length, Result, Ok, Err, arith, sym, subst, ap, ◌∙◌, refl, codes, All, String}
+use Rattle.std.proofs.Common.{◌≡◌, ℕ, ◌+◌, ◌/◌, ◌%◌, ◌==◌, Bool, true, false, if◌then◌else◌, List, [], ◌∷◌, length, Result, Ok, Err, arith, sym, subst, ap, ◌∙◌, refl, codes, All, String}
 use Rattle.std.specs.Int.{w64, to_be_bytes}
 use Rattle.std.proofs.lemmas.List.Elements.{All-nil, All-cons}
 use Rattle.hex.proofs.HexLemmas.{decode_pairs-ok}
@@ -9,13 +9,13 @@ use Rattle.hex.specs.declared.error.FromHexError.{FromHexError}
 use Rattle.hex.specs.declared.error.FromHexError.TheVariants.{OddLength, InvalidStringLength}
 use Rattle.avtp_words.specs.declared.operand.Operand.{Operand}
 use Rattle.avtp_words.specs.declared.operand.Operand.TheVariants.{Id, Name}
-use Rattle.avtp_words.specs.Grammar.{Begins, Stops, StopsAt}
+use Rattle.avtp_words.specs.Grammar.{Stops, StopsAt}
 use Rattle.avtp_words.specs.Operands.{IsId, IsOperand, AreOperands}
 use Rattle.std.specs.declared.alloc.Global.{Global}
 use Rattle.avtp_words.specs.Word.{texts, IsName}
 
 -- an id is a name too
-id_name : (word : List ℕ) (id : ℕ) → IsId word id → IsName word
+pub id_name : (word : List ℕ) (id : ℕ) → IsId word id → IsName word
 unfolding decode_pairs
 id_name [] id is = absurd (let d = is.digits in cc)
 id_name (first ∷ more) id is = λ dash. dash_none more (subst (λ f. decode_sized (f ∷ more) 8 ≡ Ok (to_be_bytes w64 id)) dash is.digits) where
@@ -56,10 +56,6 @@ pub sampled : (operands : List Operand) → AreOperands operands (samples operan
 unfolding samples
 sampled [] = tt
 sampled (o ∷ operands) = (sample_is o, sampled operands)
-
--- one word too many
-pub too_many : (word : List ℕ) (words : List (List ℕ)) → StopsAt (AreOperands []) (word ∷ words) 0
-too_many word words = record { before = []; rest = word ∷ words; split = refl; here = refl; begins = record { more = []; whole = tt }; stops = λ b. b.whole }
 
 -- one is missing
 missing : (operand : Operand) (operands : List Operand) → StopsAt (AreOperands (operand ∷ operands)) [] 0

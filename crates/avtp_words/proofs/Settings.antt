@@ -1,18 +1,21 @@
 -- Options as they are given, and how the words fall into them in one way only.
-use Rattle.std.proofs.Common.{◌≡◌, ◌≢◌, ℕ, zero, suc, ◌<◌, ◌^◌, inl, inr, ◌&&◌, Bool, true, false, List, [], ◌∷◌, ◌++◌, flat_map, length, get_or, Option, Some, None, IsSomeAnd, arith, add-zero, sym, subst, ap, ◌∙◌, refl, length-append, All, AllPairs, Contains}
+use Rattle.std.proofs.Common.{◌≡◌, ◌≢◌, ℕ, zero, suc, ◌<◌, ◌^◌, inl, inr, ◌&&◌, Bool, true, false, List, [], ◌∷◌, ◌++◌, flat_map, length, get_or, Option, Some, None, IsSomeAnd, arith, add-zero, sym, subst, ap, ◌∙◌, refl, append_assoc, length-append, All, AllPairs, Contains, codes, IsTrue, option_to_list}
 use Rattle.std.specs.Str.{bytes_eq}
 use Rattle.std.proofs.lemmas.Bool.{cases_Bool, ltb-true}
 use Rattle.std.proofs.lemmas.List.{get_or_append_left, get_or-append-add}
 use Rattle.std.proofs.lemmas.List.Elements.{All-nil, All-cons, All-head, All-tail, All-push, Contains-append_right, Contains-append_cases}
 use Rattle.std.proofs.lemmas.List.Quantifiers.{all_pairs_push}
 use Rattle.std.proofs.lemmas.Slice.Eq.{bytes_eq-Decides}
+use Rattle.aaf_format.specs.declared.aaf.AafFormat.{AafFormat}
+use Rattle.aaf_format.specs.declared.aaf.AafFormat.TheVariants.{Float32, Int32, Int24, Int16}
 use Rattle.avtp_words.specs.declared.option.Takes.{Takes}
-use Rattle.avtp_words.specs.declared.option.Takes.TheVariants.{Number}
+use Rattle.avtp_words.specs.declared.option.Takes.TheVariants.{Number, Id, Kind, Format, Nothing}
 use Rattle.avtp_words.specs.Number.{BeginsAsNumber}
 use Rattle.avtp_words.specs.Reading.{is_sound, are_sound}
 use Rattle.avtp_words.specs.Word.{BeginsWithDash, IsName}
-use Rattle.avtp_words.specs.Options.{Row, row_named, Setting, words_of, IsValue, IsSetting, AreSettings}
+use Rattle.avtp_words.specs.Options.{Row, row_named, Setting, words_of, IsValue, IsTaken, stands_alone, format_name, IsSetting, AreSettings}
 use Rattle.avtp_words.proofs.Numbers.{begins-decimal}
+use Rattle.avtp_words.proofs.Operands.{id_name}
 
 -- no name begins as an option
 pub name-dash : (word : List ℕ) → IsName word → BeginsWithDash word → ⊥
@@ -29,13 +32,32 @@ pub both : (a b : Bool) → (a && b) ≡ true → (a ≡ true) × (b ≡ true)
 both true b e = (refl, e)
 both false b e = absurd (cc)
 
--- a number begins with no dash
+-- no value begins with a dash
 pub value-dash : (takes : Takes) (word : List ℕ) → is_sound takes ≡ true → IsValue takes word → BeginsWithDash word → ⊥
 value-dash (Number low high) [] sound (n, is) dash = dash
 value-dash (Number low high) (first ∷ more) sound (n, is) dash =
     let bound : high < 2 ^ 64 = ltb-true high (2 ^ 64) (both _ _ sound).1 in
     let small : n < 2 ^ 64 = omega (arith, is.most) in
     let begins : BeginsAsNumber (first ∷ more) = begins-decimal (first ∷ more) n small is.spelled in omega (arith, begins.low, dash)
+value-dash Id word sound (id, is) dash = name-dash word (id_name word id is) dash
+value-dash Kind word sound is dash = no_dash_aaf (subst BeginsWithDash is dash) where
+  no_dash_aaf : BeginsWithDash (codes "aaf") → ⊥
+  no_dash_aaf dash = absurd (omega (arith, dash))
+value-dash Format word sound (format, is) dash = named format (subst BeginsWithDash is dash) where
+  named : (format : AafFormat) → BeginsWithDash (format_name format) → ⊥
+  named Int16 dash = absurd (omega (arith, dash))
+  named Int24 dash = absurd (omega (arith, dash))
+  named Int32 dash = absurd (omega (arith, dash))
+  named Float32 dash = absurd (omega (arith, dash))
+value-dash Nothing word sound is dash = is
+
+-- an option that stands alone has no value
+alone : (takes : Takes) (word : List ℕ) → IsTrue (stands_alone takes) → IsValue takes word → ⊥
+alone (Number low high) word stands is = absurd cc
+alone Id word stands is = absurd cc
+alone Kind word stands is = absurd cc
+alone Format word stands is = absurd cc
+alone Nothing word stands is = is
 
 -- the row that a name finds is sound if all are
 pub found-sound : (rows : List Row) (name : List ℕ) (row : Row) → are_sound rows ≡ true → row_named rows name ≡ Some row → is_sound row.takes ≡ true
@@ -46,11 +68,11 @@ found-sound (r ∷ rows) name row sound found =
       | inr other ↦ found-sound rows name row (both _ _ sound).1 (rw other at found)
     ]
 
-pub setting-value : (rows : List Row) (s : Setting) → are_sound rows ≡ true → IsSetting rows s → BeginsWithDash s.value → ⊥
-setting-value rows s sound is dash = setting_value (row_named rows s.name) refl is.value where
-  setting_value : (found : Option Row) → row_named rows s.name ≡ found → IsSomeAnd found (λ row. IsValue row.takes s.value) → ⊥
-  setting_value None e value = value
-  setting_value (Some row) e value = value-dash row.takes s.value (found-sound rows s.name row sound e) value dash
+pub setting-value : (rows : List Row) (s : Setting) (value : List ℕ) → are_sound rows ≡ true → IsSetting rows s → s.value ≡ Some value → BeginsWithDash value → ⊥
+setting-value rows s value sound is valued = setting_value (row_named rows s.name) refl (subst (λ v. IsSomeAnd (row_named rows s.name) (λ row. IsTaken row.takes v)) valued is.value) where
+  setting_value : (found : Option Row) → row_named rows s.name ≡ found → IsSomeAnd found (λ row. IsValue row.takes value) → BeginsWithDash value → ⊥
+  setting_value None e taken dash = taken
+  setting_value (Some row) e taken dash = value-dash row.takes value (found-sound rows s.name row sound e) taken dash
 
 -- a name that is not among the words is no option's
 pub fresh : (gs : List Setting) (name : List ℕ) → (Contains (flat_map words_of gs) name → ⊥) → All (λ s. s.name ≢ name) gs
@@ -62,10 +84,14 @@ pub taken : (rows : List Row) (gs : List Setting) (name : List ℕ) → are_soun
 taken rows [] name sound each apart dash (k, lt, e) = absurd (omega (arith, lt))
 taken rows (g ∷ gs) name sound each apart dash within =
     elim (Contains-append_cases (words_of g) (flat_map words_of gs) name within) [ inl here ↦ here_ here | inr later ↦ taken rows gs name sound (All-tail (IsSetting rows) g gs each) (All-tail (λ s. s.name ≢ name) g gs apart) dash later ] where
+      valued : (v : Option (List ℕ)) → g.value ≡ v → Contains (option_to_list v) name → ⊥
+      valued None e (k, lt, at_k) = absurd (omega (arith, lt))
+      valued (Some value) e (zero, lt, same) = setting-value rows g value sound (All-head (IsSetting rows) g gs each) e (subst BeginsWithDash (sym same) dash)
+      valued (Some value) e (suc k, lt, at_k) = absurd (omega (arith, lt))
+
       here_ : Contains (words_of g) name → ⊥
       here_ (zero, lt, e) = All-head (λ s. s.name ≢ name) g gs apart e
-      here_ (suc zero, lt, e) = setting-value rows g sound (All-head (IsSetting rows) g gs each) (subst BeginsWithDash (sym e) dash)
-      here_ (suc (suc k), lt, e) = absurd (omega (arith, lt))
+      here_ (suc k, lt, e) = valued g.value refl (k, omega (arith, lt), e)
 
 -- in a list of options that are apart, one is apart from those before it
 pub apart : (gs ms : List Setting) (m : Setting) → AllPairs (λ s t. s.name ≢ t.name) (gs ++ m ∷ ms) → All (λ s. s.name ≢ m.name) gs
@@ -78,8 +104,24 @@ apart gs ms m once k d lt =
 pub push : (rows : List Row) (gs : List Setting) (s : Setting) → AreSettings rows gs → IsSetting rows s → All (λ t. t.name ≢ s.name) gs → AreSettings rows (gs ++ s ∷ [])
 push rows gs s options is new = record { each = All-push (IsSetting rows) gs s options.each is; once = all_pairs_push (λ s t. s.name ≢ t.name) gs s options.once new }
 
-pub same_setting : (g h : Setting) → g.name ≡ h.name → g.value ≡ h.value → g ≡ h
+same_setting : (g h : Setting) → g.name ≡ h.name → g.value ≡ h.value → g ≡ h
 same_setting g h p q = ap (λ n. let s : Setting = record { name = n; value = g.value } in s) p ∙ ap (λ v. let s : Setting = record { name = h.name; value = v } in s) q
+
+-- An option that begins a list of words is one alone.
+pub same_first : (rows : List Row) (g h : Setting) (xs ys : List (List ℕ)) → IsSetting rows g → IsSetting rows h → words_of g ++ xs ≡ words_of h ++ ys → (g ≡ h) × (xs ≡ ys)
+same_first rows g h xs ys g_is h_is e = go (row_named rows h.name) g.value h.value refl refl
+    (subst (λ name. IsSomeAnd (row_named rows name) (λ row. IsTaken row.takes g.value)) names g_is.value) h_is.value (cc) where
+      names : g.name ≡ h.name
+      names = cc
+
+      go : (row : Option Row) (v w : Option (List ℕ)) → g.value ≡ v → h.value ≡ w → IsSomeAnd row (λ row. IsTaken row.takes v) → IsSomeAnd row (λ row. IsTaken row.takes w) → option_to_list v ++ xs ≡ option_to_list w ++ ys → (g ≡ h) × (xs ≡ ys)
+      go None v w v_is w_is v_taken w_taken e = absurd v_taken
+      go (Some row) None None v_is w_is v_taken w_taken e = (same_setting g h names (v_is ∙ sym w_is), e)
+      go (Some row) None (Some value) v_is w_is v_taken w_taken e = absurd (alone row.takes value v_taken w_taken)
+      go (Some row) (Some value) None v_is w_is v_taken w_taken e = absurd (alone row.takes value w_taken v_taken)
+      go (Some row) (Some value) (Some other) v_is w_is v_taken w_taken e =
+          let values : value ≡ other = cc in
+          (same_setting g h names (v_is ∙ ap Some values ∙ sym w_is), cc)
 
 -- Options, then an option's name, begin options and names in one way: with those options, and then that one.
 pub record Next (rows : List Row) (gs hs : List Setting) (word : List ℕ) (rest names : List (List ℕ)) : Type 0 where
@@ -87,16 +129,18 @@ pub record Next (rows : List Row) (gs hs : List Setting) (word : List ℕ) (rest
   pub more : List Setting
   pub whole : hs ≡ gs ++ setting ∷ more
   pub name : word ≡ setting.name
-  pub left : rest ≡ setting.value ∷ (flat_map words_of more ++ names)
+  pub left : rest ≡ option_to_list setting.value ++ (flat_map words_of more ++ names)
 
-pub next : (rows : List Row) (gs hs : List Setting) (word : List ℕ) (rest names : List (List ℕ)) → All (IsSetting rows) gs → All IsName names → BeginsWithDash word → flat_map words_of gs ++ word ∷ rest ≡ flat_map words_of hs ++ names → Next rows gs hs word rest names
-next rows [] [] word rest [] each named dash e = absurd (cc)
-next rows [] [] word rest (name ∷ names) each named dash e = let same : word ≡ name = cc in absurd (name-dash name (All-head IsName name names named) (subst BeginsWithDash same dash))
-next rows [] (h ∷ hs) word rest names each named dash e = record { setting = h; more = hs; whole = refl; name = (cc); left = cc }
-next rows (g ∷ gs) [] word rest [] each named dash e = absurd (cc)
-next rows (g ∷ gs) [] word rest (name ∷ names) each named dash e = let same : g.name ≡ name = cc in absurd (name-dash name (All-head IsName name names named) (subst BeginsWithDash same (All-head (IsSetting rows) g gs each).dash))
-next rows (g ∷ gs) (h ∷ hs) word rest names each named dash e =
-    let tails : flat_map words_of gs ++ word ∷ rest ≡ flat_map words_of hs ++ names = cc in
-    let heads : g ≡ h = same_setting g h (cc) (cc) in
-    let n = next rows gs hs word rest names (All-tail (IsSetting rows) g gs each) named dash tails in
-    record { setting = n.setting; more = n.more; whole = ap (λ (s : Setting). s ∷ hs) (sym heads) ∙ ap (λ (ss : List Setting). g ∷ ss) n.whole; name = n.name; left = n.left }
+pub next : (rows : List Row) (gs hs : List Setting) (word : List ℕ) (rest names : List (List ℕ)) → All (IsSetting rows) gs → All (IsSetting rows) hs → All IsName names → BeginsWithDash word → flat_map words_of gs ++ word ∷ rest ≡ flat_map words_of hs ++ names → Next rows gs hs word rest names
+next rows [] [] word rest [] gs_each hs_each named dash e = absurd (cc)
+next rows [] [] word rest (name ∷ names) gs_each hs_each named dash e = let same : word ≡ name = cc in absurd (name-dash name (All-head IsName name names named) (subst BeginsWithDash same dash))
+next rows [] (h ∷ hs) word rest names gs_each hs_each named dash e =
+    let split : word ∷ rest ≡ words_of h ++ (flat_map words_of hs ++ names) = e ∙ append_assoc (words_of h) (flat_map words_of hs) names in
+    record { setting = h; more = hs; whole = refl; name = (cc); left = (cc) }
+next rows (g ∷ gs) [] word rest [] gs_each hs_each named dash e = absurd (cc)
+next rows (g ∷ gs) [] word rest (name ∷ names) gs_each hs_each named dash e = let same : g.name ≡ name = cc in absurd (name-dash name (All-head IsName name names named) (subst BeginsWithDash same (All-head (IsSetting rows) g gs gs_each).dash))
+next rows (g ∷ gs) (h ∷ hs) word rest names gs_each hs_each named dash e =
+    let split : words_of g ++ (flat_map words_of gs ++ word ∷ rest) ≡ words_of h ++ (flat_map words_of hs ++ names) = sym (append_assoc (words_of g) (flat_map words_of gs) (word ∷ rest)) ∙ e ∙ append_assoc (words_of h) (flat_map words_of hs) names in
+    let same = same_first rows g h (flat_map words_of gs ++ word ∷ rest) (flat_map words_of hs ++ names) (All-head (IsSetting rows) g gs gs_each) (All-head (IsSetting rows) h hs hs_each) split in
+    let n = next rows gs hs word rest names (All-tail (IsSetting rows) g gs gs_each) (All-tail (IsSetting rows) h hs hs_each) named dash same.1 in
+    record { setting = n.setting; more = n.more; whole = ap (λ (s : Setting). s ∷ hs) (sym same.0) ∙ ap (λ (ss : List Setting). g ∷ ss) n.whole; name = n.name; left = n.left }

@@ -1,5 +1,5 @@
 -- The operands of a command: the words behind its options.
-use Rattle.std.specs.Prelude.{◌≡◌, ℕ, ◌<◌, ◌^◌, List, [], ◌∷◌, Result, Ok, ⊤}
+use Rattle.std.specs.Prelude.{◌≡◌, ℕ, ◌<◌, ◌^◌, List, [], ◌∷◌, Ok, ⊤}
 use Rattle.std.specs.Int.{w64, to_be_bytes}
 use Rattle.hex.specs.Hex.{decode_sized}
 use Rattle.avtp_words.specs.declared.operand.Operand.{Operand}

@@ -1,10 +1,13 @@
 -- The options of a command: what it knows, what was given, and when the two meet.
-use Rattle.std.specs.Prelude.{◌≢◌, ℕ, List, [], ◌∷◌, Option, option_map, IsSomeAnd, All, AllPairs}
+use Rattle.std.specs.Prelude.{◌≡◌, ◌≢◌, ℕ, List, ◌∷◌, Bool, true, false, IsTrue, Option, Some, None, option_to_list, option_and_then, IsSomeAnd, All, AllPairs, codes}
 use Rattle.std.specs.List.{find}
 use Rattle.std.specs.Str.{bytes_eq}
+use Rattle.aaf_format.specs.declared.aaf.AafFormat.{AafFormat}
+use Rattle.aaf_format.specs.declared.aaf.AafFormat.TheVariants.{Float32, Int32, Int24, Int16}
 use Rattle.avtp_words.specs.declared.option.Takes.{Takes}
-use Rattle.avtp_words.specs.declared.option.Takes.TheVariants.{Number}
+use Rattle.avtp_words.specs.declared.option.Takes.TheVariants.{Number, Id, Kind, Format, Nothing}
 use Rattle.avtp_words.specs.Number.{IsNumber}
+use Rattle.avtp_words.specs.Operands.{IsId}
 use Rattle.avtp_words.specs.Word.{BeginsWithDash}
 
 -- an option that a command knows: its name, and what the word behind the name may be
@@ -16,22 +19,45 @@ pub record Row : Type 0 where
 abbrev pub row_named : List Row → List ℕ → Option Row
 row_named rows name = find (λ row. bytes_eq row.name name) rows
 
--- an option as it is given, in two words: its name and its value
+-- an option as it is given: its name, and its value where it has one
 pub record Setting : Type 0 where
   pub name : List ℕ
-  pub value : List ℕ
+  pub value : Option (List ℕ)
 
 abbrev pub words_of : Setting → List (List ℕ)
-words_of s = s.name ∷ s.value ∷ []
+words_of s = s.name ∷ option_to_list s.value
+
+-- the word of a format
+abbrev pub format_name : AafFormat → List ℕ
+format_name Int16 = codes "int16"
+format_name Int24 = codes "int24"
+format_name Int32 = codes "int32"
+format_name Float32 = codes "float32"
 
 -- the word is a value of such an option
 abbrev pub IsValue : Takes → List ℕ → Type 0
 IsValue (Number low high) word = (n : ℕ) × IsNumber low high word n
+IsValue Id word = (id : ℕ) × IsId word id
+IsValue Kind word = word ≡ codes "aaf"
+IsValue Format word = (format : AafFormat) × (word ≡ format_name format)
+IsValue Nothing word = ⊥
+
+abbrev pub stands_alone : Takes → Bool
+stands_alone (Number low high) = false
+stands_alone Id = false
+stands_alone Kind = false
+stands_alone Format = false
+stands_alone Nothing = true
+
+-- An option has a value, or stands alone.
+abbrev pub IsTaken : Takes → Option (List ℕ) → Type 0
+IsTaken takes None = IsTrue (stands_alone takes)
+IsTaken takes (Some word) = IsValue takes word
 
 -- the table has the option, and its row takes the value
 pub record IsSetting (rows : List Row) (s : Setting) : Type 0 where
   pub dash : BeginsWithDash s.name
-  pub value : IsSomeAnd (row_named rows s.name) (λ row. IsValue row.takes s.value)
+  pub value : IsSomeAnd (row_named rows s.name) (λ row. IsTaken row.takes s.value)
 
 -- options in any order, each at most once
 pub record AreSettings (rows : List Row) (settings : List Setting) : Type 0 where
@@ -40,4 +66,4 @@ pub record AreSettings (rows : List Row) (settings : List Setting) : Type 0 wher
 
 -- the value of the option of this name, where it is given
 abbrev pub value_in : List ℕ → List Setting → Option (List ℕ)
-value_in name settings = option_map (λ s. s.value) (find (λ s. bytes_eq s.name name) settings)
+value_in name settings = option_and_then (λ s. s.value) (find (λ s. bytes_eq s.name name) settings)

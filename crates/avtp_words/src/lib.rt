@@ -6,5 +6,11 @@ mod command;
 mod number;
 mod operand;
 mod option;
+mod talk;
+mod value;
 
 pub use command::{Command, Listen, MAX_LIMIT, Offence, parse};
+pub use talk::Talk;
+
+#[cfg(test)]
+mod tests;

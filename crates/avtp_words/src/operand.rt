@@ -3,9 +3,10 @@
 ghost use Rattle.std.specs.Prelude.{◌≡◌, ◌+◌, ◌≤◌, ◌↔◌, ℕ, length, IsTrue, IfOk, IfErr, IfSome, IfNone};
 ghost use Rattle.avtp_words.specs.Grammar.{StopsAt};
 ghost use Rattle.avtp_words.specs.Operands.{AreOperands, IsId, IsOperand};
-ghost use Rattle.avtp_words.specs.Reading.{IsRest, IsRestTo, are_sound, rows_of};
+ghost use Rattle.avtp_words.specs.Reading.{IsRest, IsRestTo, StopsBehind, are_sound, rows_of};
 ghost use Rattle.avtp_words.specs.Word.{texts, IsName};
 
+use crate::command::Offence;
 use crate::option::{OptionRow, begins_with_dash, options_len};
 
 /// What an operand may be.
@@ -64,22 +65,23 @@ fn first_wrong(operands: &[Operand], words: &[String]) -> Option<usize>
     }
 }
 
-/// The place, from 0, of the first operand among the words behind a command; an error is the place of the first word
-/// that cannot stand.
+/// The place, from 0, of the first operand among the words behind a command; an offence counts the command in.
 pub fn operands_at(
     rows: &[OptionRow],
     operands: &[Operand],
     words: &[String],
-) -> Result<usize, usize>
+) -> Result<usize, Offence>
     requires { IsTrue (are_sound (rows_of rows.now)) }
     ensures ok { IfOk result (IsRestTo (rows_of rows.now) operands.now (texts words.now)) }
     ensures len { IfOk result (λ place. place + length operands.now ≡ length words.now) }
-    ensures err { IfErr result (StopsAt (IsRest (rows_of rows.now) operands.now) (texts words.now)) }
-    ensures within { IfErr result (λ place. place ≤ length words.now) }
+    ensures err { IfErr result (λ offence. StopsBehind (IsRest (rows_of rows.now) operands.now) (texts words.now) offence.position) }
 {
-    let place = options_len(rows, words)?;
+    let place = match options_len(rows, words) {
+        Ok(place) => place,
+        Err(place) => return Err(Offence::behind_command(place)),
+    };
     match first_wrong(operands, &words[place..]) {
-        Some(wrong) => Err(place + wrong),
+        Some(wrong) => Err(Offence::behind_command(place + wrong)),
         None => Ok(place),
     }
 }

@@ -1,20 +1,30 @@
 //! The options of a command: a table of what it knows, and the reading of them.
 
-ghost use Rattle.std.specs.Prelude.{◌≡◌, ◌≤◌, ◌↔◌, length, IsTrue, IfOk, IfErr, IsSomeAnd, slice_get, string_bytes};
+ghost use Rattle.std.specs.Prelude.{◌≡◌, ◌≤◌, ◌↔◌, length, IsTrue, IfOk, IfErr, IfSome, IfNone, slice_get, string_bytes};
 ghost use Rattle.std.specs.List.{find, list_any};
 ghost use Rattle.std.specs.Option.{option_copied};
 ghost use Rattle.std.specs.Str.{bytes_eq};
-ghost use Rattle.avtp_words.specs.Options.{IsValue};
-ghost use Rattle.avtp_words.specs.Reading.{StopsOptions, rows_of, are_sound, EndsOptions, word_behind};
+ghost use Rattle.avtp_words.specs.Options.{IsValue, stands_alone as stands_alone_of};
+ghost use Rattle.avtp_words.specs.Reading.{EndsOptions, IsTakenAt, LacksValue, StopsOptions, are_sound, rows_of, word_behind};
 ghost use Rattle.avtp_words.specs.Word.{texts, BeginsWithDash};
 
 use crate::number::is_number;
+use crate::operand::id_of;
+use crate::value::format_of;
 
 /// What the value of an option may be.
 #[derive(Clone, Copy)]
 pub enum Takes {
     /// A number, from the first to the second.
     Number { low: u64, high: u64 },
+    /// A stream id.
+    Id,
+    /// The kind of a stream: `aaf`.
+    Kind,
+    /// The format of samples, as `int16`.
+    Format,
+    /// No value at all: the option is its name alone.
+    Nothing,
 }
 
 impl Takes {
@@ -23,7 +33,18 @@ impl Takes {
     {
         match self {
             Takes::Number { low, high } => is_number(word, low, high),
+            Takes::Id => id_of(word).is_some(),
+            Takes::Kind => word == "aaf",
+            Takes::Format => format_of(word).is_some(),
+            Takes::Nothing => false,
         }
+    }
+
+    /// Whether no value follows the option's name.
+    fn stands_alone(self) -> bool
+        ensures { result ≡ stands_alone_of self }
+    {
+        matches!(self, Takes::Nothing)
     }
 }
 
@@ -59,18 +80,25 @@ fn find_row<'a>(rows: &'a [OptionRow], name: &str) -> Option<&'a OptionRow>
     rows.iter().find(|row| row.name == name)
 }
 
-fn contains(words: &[String], name: &str) -> bool
+/// Whether a word is among others.
+pub fn contains(words: &[String], name: &str) -> bool
     ensures { result ≡ list_any (λ word. bytes_eq (string_bytes word) name.now) words.now }
 {
     words.iter().any(|word| word.as_str() == name)
 }
 
-fn has_value(words: &[String], place: usize, takes: Takes) -> bool
-    ensures { IsTrue result ↔ IsSomeAnd (slice_get (texts words.now) place) (IsValue takes) }
+/// How many words from a place on are the value of an option: none where it stands alone, and else one. None comes
+/// where no value stands there.
+fn value_len(words: &[String], place: usize, takes: Takes) -> Option<usize>
+    ensures some { IfSome result (IsTakenAt takes (texts words.now) place) }
+    ensures none { IfNone result (LacksValue takes (texts words.now) place) }
 {
+    if takes.stands_alone() {
+        return Some(0);
+    }
     match word_at(words, place) {
-        Some(word) => takes.accepts(word),
-        None => false,
+        Some(word) if takes.accepts(word) => Some(1),
+        _ => None,
     }
 }
 
@@ -92,10 +120,10 @@ pub fn options_len(rows: &[OptionRow], words: &[String]) -> Result<usize, usize>
         if contains(&words[..place], name) {
             return Err(place);
         }
-        if !has_value(words, place + 1, row.takes) {
+        let Some(len) = value_len(words, place + 1, row.takes) else {
             return Err(place + 1);
-        }
-        place += 2;
+        };
+        place += 1 + len;
     }
     Ok(place)
 }

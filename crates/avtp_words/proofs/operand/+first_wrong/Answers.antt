@@ -1,8 +1,6 @@
-use Rattle.std.proofs.Common.{◌≡◌, List, ℕ, string_bytes, subst, sym, ap, false, true}
-use Rattle.std.specs.Prelude.{IsTrue}
-use Rattle.avtp_words.specs.Operands.{AreOperands, IsOperand}
+use Rattle.std.proofs.Common.{string_bytes, subst, sym}
+use Rattle.avtp_words.specs.Operands.{IsOperand}
 use Rattle.avtp_words.specs.Word.{texts}
-use Rattle.avtp_words.specs.Grammar.{StopsAt}
 use Rattle.avtp_words.proofs.Operands.{later, missing_of, other}
 use Rattle.avtp_words.proofs.operand.+first_wrong.Goals as goal
 

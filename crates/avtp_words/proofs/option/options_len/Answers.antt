@@ -1,8 +1,8 @@
-use Rattle.std.proofs.Common.{◌≡◌, ◌+◌, ◌<◌, length, Some, arith, sym}
-use Rattle.avtp_words.specs.Options.{row_named, IsValue}
+use Rattle.std.proofs.Common.{◌≡◌, ◌<◌, length, Some, arith, sym}
+use Rattle.avtp_words.specs.Options.{row_named}
 use Rattle.avtp_words.specs.Reading.{rows_of, row_of}
 use Rattle.avtp_words.specs.Word.{texts}
-use Rattle.avtp_words.proofs.Steps.{unknown, repeated, first, row_is, within, stops_next, goes_on}
+use Rattle.avtp_words.proofs.Steps.{unknown, repeated, first, row_is, stands, within, stops_next, goes_on}
 use Rattle.avtp_words.proofs.option.options_len.Goals as goal
 
 pub returns-in_default-clause-err : goal.returns-in_default-clause-err
@@ -13,23 +13,26 @@ pub returns-then-contains-clause-err : goal.returns-then-contains-clause-err
 returns-then-contains-clause-err c =
     repeated c.args.rows.now c.args.words.now c.loop-name.place c.loop-name.invariant.1 c.in-Some.name.now c.requires (sym c.in-Some.ensures) (c.begins_with_dash.ensures.0 c.if-begins_with_dash.true) (sym c.if-contains.ensures)
 
-pub returns-then-not-has_value-clause-err : goal.returns-then-not-has_value-clause-err
-returns-then-not-has_value-clause-err c =
+pub returns-in_default-value_len-clause-err : goal.returns-in_default-value_len-clause-err
+returns-in_default-value_len-clause-err c =
     let row : row_named (rows_of c.args.rows.now) c.in-Some.name.now ≡ Some (row_of c.in-Some-find_row.row.now) = row_is c.args.rows.now c.in-Some.name.now c.in-Some-find_row.row.now (sym c.in-Some-find_row.ensures) in
     stops_next (rows_of c.args.rows.now) (texts c.args.words.now) c.loop-name.place c.loop-name.invariant.1 c.in-Some.name.now (row_of c.in-Some-find_row.row.now) c.requires (sym c.in-Some.ensures) (c.begins_with_dash.ensures.0 c.if-begins_with_dash.true) row
     (first c.args.rows.now c.args.words.now c.loop-name.place c.loop-name.invariant.1 c.in-Some.name.now (sym c.if-contains.ensures))
-    (λ has. absurd (let t = c.if-not-has_value.ensures.1 has in cc))
+    c.in_default-value_len.ensures.none
+
+pub returns-in_default-value_len-clause-err_within : goal.returns-in_default-value_len-clause-err_within
+returns-in_default-value_len-clause-err_within c =
+    let lt : c.loop-name.place < length c.args.words.now = stands c.args.words.now c.loop-name.place c.in-Some.name.now (sym c.in-Some.ensures) in omega arith
 
 pub loop-name-smaller : goal.loop-name-smaller
 loop-name-smaller c =
-    let lt : c.loop-name.place + 1 < length c.args.words.now = within c.args.words.now (c.loop-name.place + 1) (IsValue c.in-Some-find_row.row.now.takes) (c.has_value.ensures.0 c.if-not-has_value.false) in omega arith
+    let lt : c.loop-name.place < length c.args.words.now = stands c.args.words.now c.loop-name.place c.in-Some.name.now (sym c.in-Some.ensures) in omega arith
 
 pub loop-name-preserved : goal.loop-name-preserved
 loop-name-preserved c =
-    let has = c.has_value.ensures.0 c.if-not-has_value.false in
-    let lt : c.loop-name.place + 1 < length c.args.words.now = within c.args.words.now (c.loop-name.place + 1) (IsValue c.in-Some-find_row.row.now.takes) has in
+    let lt : c.loop-name.place < length c.args.words.now = stands c.args.words.now c.loop-name.place c.in-Some.name.now (sym c.in-Some.ensures) in
     let row : row_named (rows_of c.args.rows.now) c.in-Some.name.now ≡ Some (row_of c.in-Some-find_row.row.now) = row_is c.args.rows.now c.in-Some.name.now c.in-Some-find_row.row.now (sym c.in-Some-find_row.ensures) in (
-      omega arith,
-      goes_on (rows_of c.args.rows.now) (texts c.args.words.now) c.loop-name.place c.loop-name.invariant.1 c.in-Some.name.now (row_of c.in-Some-find_row.row.now) (sym c.in-Some.ensures) (c.begins_with_dash.ensures.0 c.if-begins_with_dash.true) row
-          (first c.args.rows.now c.args.words.now c.loop-name.place c.loop-name.invariant.1 c.in-Some.name.now (sym c.if-contains.ensures)) has,
+      within c.in-Some-find_row.row.now.takes c.args.words.now c.loop-name.place c.in-Some-value_len.len lt c.in-Some-value_len.ensures.some,
+      goes_on (rows_of c.args.rows.now) (texts c.args.words.now) c.loop-name.place c.in-Some-value_len.len c.loop-name.invariant.1 c.in-Some.name.now (row_of c.in-Some-find_row.row.now) (sym c.in-Some.ensures) (c.begins_with_dash.ensures.0 c.if-begins_with_dash.true) row
+          (first c.args.rows.now c.args.words.now c.loop-name.place c.loop-name.invariant.1 c.in-Some.name.now (sym c.if-contains.ensures)) c.in-Some-value_len.ensures.some,
     )

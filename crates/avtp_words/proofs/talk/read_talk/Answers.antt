@@ -1,0 +1,9 @@
+use Rattle.std.proofs.Common.{◌∷◌, codes}
+use Rattle.avtp_words.specs.Grammar.{talking_of}
+use Rattle.avtp_words.specs.Word.{texts}
+use Rattle.avtp_words.proofs.Commands.{offence_of_rule}
+use Rattle.avtp_words.proofs.talk.read_talk.Goals as goal
+
+pub returns-else-keeps_rules-clause-err : goal.returns-else-keeps_rules-clause-err
+returns-else-keeps_rules-clause-err c =
+    offence_of_rule (codes "talk" ∷ texts c.args.words.now) (talking_of c.in_ok-asked.asked) c.in_ok-asked.ensures.ok (λ keeps. absurd (let kept = c.if-keeps_rules.ensures.1 keeps in cc))

@@ -1,0 +1,77 @@
+//! What the options of a command give: the value of one, or else a fixed one.
+
+ghost use Rattle.std.specs.Prelude.{◌≡◌, ◌^◌, IfSome, IfNone};
+ghost use Rattle.avtp_words.specs.Options.{format_name};
+ghost use Rattle.avtp_words.specs.Reading.{IsRead, IsReadFormat, IsReadId, IsReadIf, word_behind};
+ghost use Rattle.avtp_words.specs.Word.{texts};
+
+use crate::number::number_of;
+use crate::operand::id_of;
+use crate::option::word_after;
+use aaf_format::AafFormat;
+
+/// The number behind the option of this name, or else `default`.
+pub fn number_behind(options: &[String], name: &str, default: u64) -> u64
+    ensures { IsRead (2 ^ 64) default (word_behind name.now (texts options.now)) result }
+{
+    match word_after(options, name) {
+        Some(word) => number_of(word).unwrap_or(default),
+        None => default,
+    }
+}
+
+/// The same for a number of at most 32 bits.
+pub fn small_number_behind(options: &[String], name: &str, default: u32) -> u32
+    ensures { IsRead (2 ^ 32) default (word_behind name.now (texts options.now)) result }
+{
+    u32::try_from(number_behind(options, name, u64::from(default))).unwrap_or(default)
+}
+
+/// The same for a number of at most 16 bits.
+pub fn short_number_behind(options: &[String], name: &str, default: u16) -> u16
+    ensures { IsRead (2 ^ 16) default (word_behind name.now (texts options.now)) result }
+{
+    u16::try_from(number_behind(options, name, u64::from(default))).unwrap_or(default)
+}
+
+/// The number of at most 32 bits behind the option of this name, where it is given.
+pub fn small_number_if(options: &[String], name: &str) -> Option<u32>
+    ensures { IsReadIf (2 ^ 32) (word_behind name.now (texts options.now)) result }
+{
+    let word = word_after(options, name)?;
+    u32::try_from(number_of(word)?).ok()
+}
+
+/// The stream id behind the option of this name, or else `default`.
+pub fn id_behind(options: &[String], name: &str, default: u64) -> u64
+    ensures { IsReadId default (word_behind name.now (texts options.now)) result }
+{
+    match word_after(options, name) {
+        Some(word) => id_of(word).unwrap_or(default),
+        None => default,
+    }
+}
+
+/// The format that a word names.
+pub fn format_of(word: &str) -> Option<AafFormat>
+    ensures named { IfSome result (λ format. word.now ≡ format_name format) }
+    ensures none { IfNone result ((format : AafFormat) → word.now ≡ format_name format → ⊥) }
+{
+    match word {
+        "int16" => Some(AafFormat::Int16),
+        "int24" => Some(AafFormat::Int24),
+        "int32" => Some(AafFormat::Int32),
+        "float32" => Some(AafFormat::Float32),
+        _ => None,
+    }
+}
+
+/// The format behind the option of this name, or else `default`.
+pub fn format_behind(options: &[String], name: &str, default: AafFormat) -> AafFormat
+    ensures { IsReadFormat default (word_behind name.now (texts options.now)) result }
+{
+    match word_after(options, name) {
+        Some(word) => format_of(word).unwrap_or(default),
+        None => default,
+    }
+}
