@@ -3,3 +3,4 @@ pub mod Pieces
 pub mod Notices
 pub mod Show
 pub mod Listen
+pub mod Talk

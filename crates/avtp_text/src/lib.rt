@@ -6,6 +6,7 @@ mod line;
 mod listen;
 mod notices;
 mod show;
+mod talk;
 
 pub use buffer::{ROOM, Text};
 

@@ -14,6 +14,7 @@ use pcap_frames::FrameView;
 use sample_schedule::Reason;
 use std::alloc::Global;
 use std::test::Fail;
+use talker::TalkFault;
 
 /// A sink that takes at most so many bytes a call, and fails at every call whose number is a multiple of another.
 #[derive(Drop)]
@@ -196,6 +197,16 @@ fn every_line<S: Sink>(text: &mut Text, out: &mut S) -> Result<(), Failed> {
             flagged: 1,
         },
     )?;
+    text.talk(out, 8_000, 500)?;
+    for fault in [
+        TalkFault::Frames,
+        TalkFault::StartCode,
+        TalkFault::NalType,
+        TalkFault::Packets,
+        TalkFault::Arrival,
+    ] {
+        text.talk_input(out, fault)?;
+    }
     text.print(out, b"")?;
     text.flush(out)
 }
@@ -228,6 +239,12 @@ flag frame 12 seq 255 full
 flag frame 12 seq 255 broken
 flag frame 12 seq 255 long
 end frames 4 packets 3 presented 2 flagged 1
+talk packets 8000 clock 500
+talk input: frames
+talk input: start_code
+talk input: nal_type
+talk input: packets
+talk input: arrival
 ";
 
 fn may_cross_threads<T: Send>(_value: &T) {}

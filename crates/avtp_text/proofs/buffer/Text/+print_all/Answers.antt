@@ -1,4 +1,3 @@
-use Rattle.std.proofs.Common.{◌++◌, sym, ap, ◌∙◌}
 use Rattle.std.proofs.lemmas.List.{take-append-drop}
 use Rattle.avtp_text.proofs.Fronts.{writes_after, writes_as}
 use Rattle.avtp_text.proofs.Growth.{grows_further}

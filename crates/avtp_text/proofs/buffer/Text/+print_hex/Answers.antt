@@ -1,6 +1,5 @@
-use Rattle.std.proofs.Common.{◌++◌, sym, ap, ◌∙◌}
+use Rattle.std.proofs.Common.{sym}
 use Rattle.std.proofs.lemmas.List.{take-append-drop}
-use Rattle.hex.specs.Hex.{encode_lower}
 use Rattle.avtp_text.proofs.Fronts.{writes_after, writes_as, failed_front, front_kept}
 use Rattle.avtp_text.proofs.Growth.{grows_further}
 use Rattle.avtp_text.proofs.Hex.{split_hex}

@@ -1,4 +1,3 @@
-use Rattle.std.proofs.Common.{◌++◌, sym, ap, ◌∙◌}
 use Rattle.avtp_text.specs.Listen.{capture_line}
 use Rattle.avtp_text.proofs.Fronts.{writes_after, writes_front, failed_front, front_after, front_before}
 use Rattle.avtp_text.proofs.Growth.{grows_further}

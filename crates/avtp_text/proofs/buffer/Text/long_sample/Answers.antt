@@ -1,4 +1,4 @@
-use Rattle.std.proofs.Common.{◌≡◌, ◌++◌, List, ℕ, [], sym, ap, ◌∙◌, append_assoc, to_z-of_z}
+use Rattle.std.proofs.Common.{◌++◌, sym, append_assoc, to_z-of_z}
 use Rattle.std.proofs.lemmas.List.{append-nil}
 use Rattle.hex.specs.Hex.{encode_lower}
 use Rattle.avtp_text.specs.Listen.{due_text, place_text}

@@ -1,0 +1,22 @@
+-- The lines of `talk`.
+use Rattle.std.specs.Prelude.{List, ℕ, ◌++◌, codes, decimal}
+use Rattle.talker.specs.declared.fault.TalkFault.{TalkFault}
+use Rattle.talker.specs.declared.fault.TalkFault.TheVariants.{Frames, StartCode, NalType, Packets, Arrival, Memory}
+use Rattle.avtp_text.specs.Pieces.{newline}
+
+-- how a fault of the input is named
+abbrev pub fault_text : TalkFault → List ℕ
+fault_text Frames = codes "frames"
+fault_text StartCode = codes "start_code"
+fault_text NalType = codes "nal_type"
+fault_text Packets = codes "packets"
+fault_text Arrival = codes "arrival"
+fault_text Memory = codes "memory"
+
+-- why the input makes no stream
+unfoldable pub talk_input_line : TalkFault → List ℕ
+talk_input_line fault = codes "talk input: " ++ fault_text fault ++ newline
+
+-- how many packets the capture has of the stream, and of its media clock
+unfoldable pub talk_line : ℕ → ℕ → List ℕ
+talk_line packets clocks = codes "talk packets " ++ decimal packets ++ codes " clock " ++ decimal clocks ++ newline

@@ -1,0 +1,55 @@
+//! The lines of `talk`: what was sent, or why nothing was.
+
+ghost use Rattle.std.specs.Prelude.{◌≡◌, ◌+◌, ◌≤◌, ◌++◌, length};
+ghost use Rattle.avtp_base.specs.Faults.{IsCounted};
+ghost use Rattle.avtp_text.specs.Talk.{fault_text, talk_input_line, talk_line};
+ghost use Rattle.avtp_text.specs.Written.{written, Grows, Writes};
+
+use crate::buffer::Text;
+use crate::line::{LONGEST, Line};
+use avtp_base::{Failed, Sink};
+use talker::TalkFault;
+
+/// Puts a fault before the line.
+fn prepend_fault(line: &mut Line, fault: TalkFault)
+    requires { 10 + length line.old ≤ LONGEST }
+    ensures text { line.new ≡ fault_text fault ++ line.old }
+    ensures len { length line.new ≤ 10 + length line.old }
+{
+    match fault {
+        TalkFault::Frames => line.prepend("frames"),
+        TalkFault::StartCode => line.prepend("start_code"),
+        TalkFault::NalType => line.prepend("nal_type"),
+        TalkFault::Packets => line.prepend("packets"),
+        TalkFault::Arrival => line.prepend("arrival"),
+        TalkFault::Memory => line.prepend("memory"),
+    }
+}
+
+impl Text {
+    /// Says how many packets of a stream and of its media clock a capture was made of.
+    #[tactic(auto, unfolding(crate::specs::Talk::talk_line))]
+    pub fn talk<S: Sink>(&mut self, out: &mut S, packets: u64, clocks: u64) -> Result<(), Failed>
+        ensures written { Writes (written (S.held out.old) self.old) (written (S.held out.new) self.new) result (talk_line packets clocks) }
+        ensures grows { Grows (S.held out.old) (S.held out.new) }
+        ensures counted { IsCounted (S.faults out.old) (S.faults out.new) result }
+    {
+        let mut line = Line::new();
+        line.prepend_u64(" clock ", clocks);
+        line.prepend_u64("talk packets ", packets);
+        self.print(out, line.as_slice())
+    }
+
+    /// Says why an input makes no stream.
+    #[tactic(auto, unfolding(crate::specs::Talk::talk_input_line))]
+    pub fn talk_input<S: Sink>(&mut self, out: &mut S, fault: TalkFault) -> Result<(), Failed>
+        ensures written { Writes (written (S.held out.old) self.old) (written (S.held out.new) self.new) result (talk_input_line fault) }
+        ensures grows { Grows (S.held out.old) (S.held out.new) }
+        ensures counted { IsCounted (S.faults out.old) (S.faults out.new) result }
+    {
+        let mut line = Line::new();
+        prepend_fault(&mut line, fault);
+        line.prepend("talk input: ");
+        self.print(out, line.as_slice())
+    }
+}
