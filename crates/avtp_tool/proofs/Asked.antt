@@ -1,28 +1,37 @@
 -- What words ask for.
-use Rattle.std.proofs.Common.{◌≡◌, ℕ, List, [], ◌≤◌, Option, Some, None, Result, Ok, Err, Bor, inl, inr, refl, sym, subst, ap, ◌∙◌, arith}
-use Rattle.std.specs.Prelude.{◌⊎◌, ◌^◌, codes, IfOk, IsErr, IsErrAnd, MatchOption}
+use Rattle.std.proofs.Common.{◌≡◌, ℕ, ◌*◌, ℤ, pos, ◌≤ℤ◌, List, [], ◌≤◌, Option, Some, None, Result, Ok, Err, refl, sym, subst, ap, ◌∙◌, arith}
+use Rattle.std.specs.Prelude.{◌^◌, codes, IfOk, IsErr, IsErrAnd, IsSome, MatchOption}
 use Rattle.std.specs.Io.KnownBytes.{Appends, Keeps}
 use Rattle.std.proofs.KnownBytes.{Appends-kept, Keeps-trans}
 use Rattle.std.proofs.lemmas.List.{append-nil}
+use Rattle.std.proofs.lemmas.Int.{ints}
 use Rattle.avtp_base.specs.Faults.{IsCounted, Rose}
+use Rattle.talker.specs.Plan.{Restarts, rate_code}
+use Rattle.talker.proofs.LawLemmas.{named_rate}
 use Rattle.avtp_text.specs.Written.{written}
 use Rattle.avtp_text.specs.Notices.{words_line}
 use Rattle.avtp_words.specs.declared.command.Command.{Command}
 use Rattle.avtp_words.specs.declared.command.Offence.{Offence}
-use Rattle.avtp_words.specs.Grammar.{Request, show, listen, IsCommandLine}
+use Rattle.avtp_words.specs.Grammar.{Request, show, listen, talk, IsCommandLine}
 use Rattle.avtp_words.specs.Number.{IsNumber}
 use Rattle.avtp_words.specs.Options.{value_in}
 use Rattle.avtp_tool.specs.Reports.{IsRequest}
 use Rattle.avtp_tool.specs.declared.status.Status.{Status}
 use Rattle.avtp_tool.specs.declared.status.Status.TheVariants as status
 use Rattle.avtp_base.specs.declared.failed.Failed.{Failed}
-use Rattle.avtp_tool.specs.declared.capture.End.{End}
-use Rattle.avtp_tool.specs.declared.capture.End.TheVariants as end
-use Rattle.avtp_tool.specs.Report.{status_of}
 
 given_within : (v : Option (List ℕ)) (low high default n : ℕ) → low ≤ default → default ≤ high → MatchOption v (n ≡ default) (λ word. IsNumber low high word n) → (low ≤ n) × (n ≤ high)
 given_within None low high default n least most given = (omega (arith, given, least), omega (arith, given, most))
 given_within (Some word) low high default n least most given = (given.least, given.most)
+
+some_is : {A : Type 0} (x : Option A) (y : A) → x ≡ Some y → IsSome x
+some_is None y is = absurd cc
+some_is (Some x) y is = refl
+
+restarts : (v : Option (List ℕ)) (given : Option ℕ) (jump : ℕ) → MatchOption v (given ≡ None) (λ word. (n : ℕ) × (given ≡ Some n) × IsNumber 8 (10 ^ 9) word n)
+    → (4 ≤ jump) × (jump ≤ 10 ^ 9) → Restarts given jump
+restarts None given jump none within = subst (λ g. Restarts g jump) (sym none) tt
+restarts (Some word) given jump some within = subst (λ g. Restarts g jump) (sym some.1) (record { some = some.2.least; most = some.2.most; least_jump = within.0; most_jump = within.1 })
 
 -- what words ask for is within its bounds
 pub requested : (words : List (List ℕ)) (request : Request) → IsCommandLine words request → IsRequest request
@@ -30,41 +39,54 @@ requested words (show limit file) line = (given_within (value_in (codes "--limit
 requested words (listen asked) line =
     let buffer = given_within (value_in (codes "--buffer") line.settings) 1 65536 4096 asked.buffer (omega arith) (omega arith) line.buffer in
     let room = given_within (value_in (codes "--room") line.settings) 1 (2 ^ 30) (2 ^ 26) asked.room (omega arith) (omega arith) line.room in
-    record { some_buffer = buffer.0; buffer = buffer.1; some_room = room.0; room = room.1 }
+    let lead = given_within (value_in (codes "--lead") line.settings) 0 (10 ^ 9) 2000000 asked.lead (omega arith) (omega arith) line.lead in
+    record { some_buffer = buffer.0; buffer = buffer.1; some_room = room.0; room = room.1; lead = lead.1 }
+requested words (talk asked) (line, rules) =
+    let channels = given_within (value_in (codes "--channels") line.settings) 1 1023 2 asked.channels (omega arith) (omega arith) line.channels in
+    let count = given_within (value_in (codes "--count") line.settings) 1 1476 6 asked.count (omega arith) (omega arith) line.count in
+    let start = given_within (value_in (codes "--start") line.settings) 0 (4 * 10 ^ 18) (10 ^ 9) line.start_at (omega arith) (omega arith) line.start in
+    let lead = given_within (value_in (codes "--lead") line.settings) 1 (10 ^ 9) 2000000 asked.lead (omega arith) (omega arith) line.lead in
+    let jump = given_within (value_in (codes "--jump") line.settings) 4 (10 ^ 9) 1000000 asked.jump (omega arith) (omega arith) line.jump in
+    record {
+      kind = tt;
+      rate = some_is (rate_code asked.rate) rules.rate.0 (named_rate asked.rate rules.rate.0 rules.rate.1);
+      some_channels = channels.0;
+      channels = channels.1;
+      some_count = count.0;
+      count = count.1;
+      fits = rules.size;
+      started = subst (λ (z : ℤ). pos 0 ≤ℤ z) (sym line.start_is) (omega (arith, ints));
+      start = subst (λ (z : ℤ). z ≤ℤ pos (4 * 10 ^ 18)) (sym line.start_is) (omega (arith, ints, start.1));
+      some_lead = lead.0;
+      lead = lead.1;
+      restart = restarts (value_in (codes "--restart") line.settings) asked.restart asked.jump line.restart jump;
+      crf = refl;
+    }
 
 -- words that were read have no offence
 pub not_offence : (r : Result Command Offence) (command : Command) (position : ℕ) → IsErrAnd r (λ offence. offence.position ≡ position) → r ≡ Ok command → ⊥
 not_offence (Ok c) command position h e = h
 not_offence (Err o) command position h e = absurd cc
 
-not_end_words : (how : End) → status_of how ≡ status.Words → ⊥
-not_end_words end.Whole e = absurd cc
-not_end_words (end.Refused r) e = absurd cc
-not_end_words end.ReadFault e = absurd cc
-not_end_words end.Limit e = absurd cc
+pub never_words : (r : Result Status Failed) → IfOk r (λ ended. ended ≡ status.Words → ⊥) → r ≡ Ok status.Words → ⊥
+never_words (Ok s) none e = none cc
+never_words (Err f) none e = absurd cc
 
-not_end_write_fault : (how : End) → status_of how ≡ status.WriteFault → ⊥
-not_end_write_fault end.Whole e = absurd cc
-not_end_write_fault (end.Refused r) e = absurd cc
-not_end_write_fault end.ReadFault e = absurd cc
-not_end_write_fault end.Limit e = absurd cc
+pub some_none : {A : Type 0} (x : Option A) → IsSome x → x ≡ None → ⊥
+some_none None some none = absurd cc
+some_none (Some x) some none = absurd cc
 
--- no report ends for its words
-pub status_words : (r : Result Status Failed) → IfOk r (λ ended. (ended ≡ status.Memory) ⊎ ((how : End) × (ended ≡ status_of how))) → r ≡ Ok status.Words → ⊥
-status_words (Ok s) ends e =
-    let same : s ≡ status.Words = cc in
-    elim ends [
-      | inl memory ↦ absurd (let t : status.Memory ≡ status.Words = sym memory ∙ same in cc)
-      | inr how ↦ not_end_words how.0 (sym how.1 ∙ same)
-    ]
-status_words (Err f) ends e = absurd cc
+-- a fault of reading is another end
+pub not_words : (ended : Status) → ended ≡ status.ReadFault → ended ≡ status.Words → ⊥
+not_words ended is e = let t : status.ReadFault ≡ status.Words = sym is ∙ e in cc
 
-pub status_write_fault : (ended : Status) → (ended ≡ status.Memory) ⊎ ((how : End) × (ended ≡ status_of how)) → ended ≡ status.WriteFault → ⊥
-status_write_fault ended ends e =
-    elim ends [
-      | inl memory ↦ absurd (let t : status.Memory ≡ status.WriteFault = sym memory ∙ e in cc)
-      | inr how ↦ not_end_write_fault how.0 (sym how.1 ∙ e)
-    ]
+pub not_written : (r : Result Status Failed) → IfOk r (λ ended. ended ≡ status.ReadFault) → r ≡ Ok status.WriteFault → ⊥
+not_written (Ok s) is e = cc
+not_written (Err f) is e = absurd cc
+
+pub not_done : (r : Result Status Failed) → IfOk r (λ ended. ended ≡ status.ReadFault) → r ≡ Ok status.Done → ⊥
+not_done (Ok s) is e = cc
+not_done (Err f) is e = absurd cc
 
 pub words_as : (position other : ℕ) (before now : Option (List ℕ)) → position ≡ other → Appends before now (words_line position) → Appends before now (words_line other)
 words_as position other before now same h = subst (λ n. Appends before now (words_line n)) same h

@@ -20,8 +20,9 @@ use Rattle.avtp_tool.specs.declared.capture.End.{End}
 use Rattle.avtp_tool.specs.declared.capture.End.TheVariants as end
 use Rattle.avtp_tool.specs.Report.{EndsAt, end_of, at_end, at_limit}
 use Rattle.avtp_tool.specs.Report.{Shows, end_line, status_of, report, record_lines, lines_from}
-use Rattle.avtp_words.specs.Grammar.{Request, show, listen}
+use Rattle.avtp_words.specs.Grammar.{Request, show, listen, talk}
 use Rattle.avtp_tool.specs.Reports.{Reports}
+use Rattle.avtp_tool.specs.Talk.{Talks, talk_plan}
 use Rattle.avtp_tool.specs.Progress.{IsPrinted}
 use Rattle.avtp_base.specs.declared.failed.Failed.{Failed}
 use Rattle.avtp_tool.specs.declared.status.Status.{Status}
@@ -200,6 +201,7 @@ pub reports_none : (request : Request) (bytes : List ℕ) (ended : Status) (befo
     → (printed : List ℕ) × Reports request bytes ended printed × Appends before now printed
 reports_none (show limit file) bytes ended before now status line = shows_none limit bytes ended before now status line
 reports_none (listen asked) bytes ended before now status line = (read_fault_line, inr (status, refl), line)
+reports_none (talk asked) bytes ended before now status line = (read_fault_line, subst (λ (s : Status). Talks (talk_plan asked) bytes s read_fault_line) (sym status) refl, line)
 
 pub missing_as : (files : Option Files) (name other : List ℕ) → name ≡ other → IsMissing files name → IsMissing files other
 missing_as files name other same missing = subst (IsMissing files) same missing

@@ -5,7 +5,7 @@ use Rattle.std.proofs.lemmas.List.{append-nil}
 use Rattle.avtp_base.specs.Faults.{Rose}
 use Rattle.avtp_base.specs.declared.refusal.Refusal.{Refusal}
 use Rattle.pcap_frames.specs.Layout.{certain}
-use Rattle.pcap_frames.specs.Capture.{Record, Holds, IsRefused, first_refusal, whole_records}
+use Rattle.pcap_frames.specs.Capture.{Record, Holds, first_refusal, whole_records}
 use Rattle.pcap_frames.proofs.Held.{refused_stays}
 use Rattle.pcap_frames.proofs.One.{holds_one}
 use Rattle.pcap_frames.proofs.Whole.{holds_whole}

@@ -5,4 +5,9 @@ pub mod Asked
 pub mod Quiet
 pub mod Contained
 pub mod Partly
+pub mod Headline
 pub mod Heard
+pub mod Making
+pub mod Sending
+pub mod Talked
+pub mod Leaving

@@ -18,13 +18,15 @@ use Rattle.avtp_tool.specs.declared.capture.End.{End}
 use Rattle.avtp_tool.specs.declared.capture.End.TheVariants as end
 use Rattle.avtp_tool.specs.declared.status.Status.{Status}
 use Rattle.avtp_tool.specs.declared.status.Status.TheVariants as status
-use Rattle.avtp_words.specs.Grammar.{Request, show, listen}
+use Rattle.avtp_words.specs.Grammar.{Request, show, listen, talk}
 use Rattle.avtp_tool.specs.Listen.{heard_limit}
 use Rattle.avtp_tool.specs.Record.{record_content}
 use Rattle.avtp_tool.specs.Reports.{Reports, status_for, report_for}
 use Rattle.avtp_tool.specs.Report.{EndsAt, Shows, at_end, at_limit, end_of, end_line, status_of, report, record_lines, lines_from}
 use Rattle.avtp_tool.specs.Progress.{HasPrinted, IsPrinted, IsPrintedFirst}
 use Rattle.avtp_tool.specs.Front.{ShowsFront}
+use Rattle.avtp_tool.specs.Talk.{talk_plan}
+use Rattle.avtp_tool.proofs.Quiet.{talk_unfaulty, talks_here}
 use Rattle.avtp_tool.proofs.Ending.{at_end_is, at_limit_is, ends_by}
 
 -- the lines of the first records are a front of all lines
@@ -138,10 +140,12 @@ front_none before now text keeps = record { front = []; rest = text; split = ref
 reports_here : (request : Request) (bytes : List ℕ) → Reports request bytes (status_for request bytes) (report_for request bytes)
 reports_here (show limit file) bytes = shows_ended limit bytes (take limit bytes) (end_of limit bytes) (ends_here limit bytes)
 reports_here (listen asked) bytes = inl (record { how = end_of heard_limit bytes; front = take heard_limit bytes; ends = ends_here heard_limit bytes; status = refl; printed = refl })
+reports_here (talk asked) bytes = talks_here (talk_plan asked) bytes
 
 reports_unfaulty : (request : Request) (bytes : List ℕ) → status_for request bytes ≡ status.ReadFault → ⊥
 reports_unfaulty (show limit file) bytes = unfaulty limit bytes
 reports_unfaulty (listen asked) bytes = unfaulty heard_limit bytes
+reports_unfaulty (talk asked) bytes = talk_unfaulty (talk_plan asked) bytes
 
 pub shows_unbegun : (request : Request) (bytes : List ℕ) (before now : Option (List ℕ)) (faults later : ℕ) → Keeps before now → ShowsFront (Reports request bytes) before now faults later
 shows_unbegun request bytes before now faults later keeps = record {
@@ -174,19 +178,34 @@ memory_or status.DeviceFault = inr (λ e. cc)
 memory_or status.TalkInput = inr (λ e. cc)
 memory_or status.Memory = inl refl
 
+write_fault_or : (ended : Status) → (ended ≡ status.WriteFault) ⊎ (ended ≡ status.WriteFault → ⊥)
+write_fault_or status.Done = inr (λ e. cc)
+write_fault_or status.Findings = inr (λ e. cc)
+write_fault_or status.Words = inr (λ e. cc)
+write_fault_or status.Refused = inr (λ e. cc)
+write_fault_or status.ReadFault = inr (λ e. cc)
+write_fault_or status.Memory = inr (λ e. cc)
+write_fault_or status.Limit = inr (λ e. cc)
+write_fault_or status.DeviceFault = inr (λ e. cc)
+write_fault_or status.TalkInput = inr (λ e. cc)
+write_fault_or status.WriteFault = inl refl
+
 -- whatever was answered, a front of the text was written
 pub shows_any : (r : Result Status Failed) (request : Request) (bytes : List ℕ) (before now : Option (List ℕ)) (faults later : ℕ)
-    → IfOk r (λ ended. (ended ≡ status.Memory → ⊥) → (printed : List ℕ) × Reports request bytes ended printed × Appends before now printed)
-    → (r ≡ Ok status.ReadFault → Rose faults later) → (r ≡ Ok status.Memory → Keeps before now) → OnErr r (ShowsFront (Reports request bytes) before now faults later)
-    → ShowsFront (Reports request bytes) before now faults later
-shows_any (Ok s) request bytes before now faults later shown fault memory part =
+    → IfOk r (λ ended. (ended ≡ status.Memory → ⊥) → (ended ≡ status.WriteFault → ⊥) → (printed : List ℕ) × Reports request bytes ended printed × Appends before now printed)
+    → (r ≡ Ok status.ReadFault → Rose faults later) → (r ≡ Ok status.Memory → Keeps before now) → (r ≡ Ok status.WriteFault → Keeps before now)
+    → OnErr r (ShowsFront (Reports request bytes) before now faults later) → ShowsFront (Reports request bytes) before now faults later
+shows_any (Ok s) request bytes before now faults later shown fault memory unwritten part =
     elim (memory_or s) [
       | inl is ↦ shows_unbegun request bytes before now faults later (memory (ap (λ x. Ok x) is))
-      | inr other ↦
-          let all = shown other in
-          record { ended = s; whole = all.0; shows = all.1; fault = λ is. fault (ap (λ x. Ok x) is); written = front_all before now all.0 all.2 }
+      | inr other ↦ elim (write_fault_or s) [
+        | inl is ↦ shows_unbegun request bytes before now faults later (unwritten (ap (λ x. Ok x) is))
+        | inr different ↦
+            let all = shown other different in
+            record { ended = s; whole = all.0; shows = all.1; fault = λ is. fault (ap (λ x. Ok x) is); written = front_all before now all.0 all.2 }
+      ]
     ]
-shows_any (Err f) request bytes before now faults later shown fault memory part = part
+shows_any (Err f) request bytes before now faults later shown fault memory unwritten part = part
 
 -- the same for a fixed line
 pub line_any : (r : Result Status Failed) (line : List ℕ) (before now : Option (List ℕ))

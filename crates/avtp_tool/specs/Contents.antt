@@ -1,5 +1,5 @@
 -- A file that is read whole.
-use Rattle.std.specs.Prelude.{◌≡◌, ◌++◌, ◌<◌, ◌≤◌, ℕ, List, length, take, Option, Some, None, false, if◌then◌else◌}
+use Rattle.std.specs.Prelude.{◌≡◌, ◌++◌, ◌<◌, ◌≤◌, ℕ, List, length, take, Option, Some, None, if◌then◌else◌}
 use Rattle.avtp_base.specs.declared.refusal.Refusal.{Refusal}
 use Rattle.avtp_tool.specs.declared.capture.End as ends
 use Rattle.avtp_tool.specs.declared.capture.End.TheVariants as end

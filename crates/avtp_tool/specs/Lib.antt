@@ -6,3 +6,5 @@ pub mod Front
 pub mod Listen
 pub mod Contents
 pub mod Reports
+pub mod Made
+pub mod Talk

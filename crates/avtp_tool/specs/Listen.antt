@@ -1,9 +1,14 @@
 -- What `listen` prints and how it ends, as a function of the capture's bytes.
-use Rattle.std.specs.Prelude.{◌≡◌, ◌⊎◌, ℕ, List, ◌++◌, Option, Some, None, pos}
-use Rattle.time_unfold.specs.declared.line.Line.{Line}
+use Rattle.std.specs.Prelude.{◌≡◌, ◌⊎◌, ℕ, ℤ, List, ◌++◌, Option, None, Some, pos}
+use Rattle.avtp_base.specs.declared.refusal.Refusal.{Refusal}
+use Rattle.pcap_frames.specs.Capture.{first_refusal}
+use Rattle.packet_journal.specs.Packets.{PacketJournal}
+use Rattle.sample_schedule.specs.declared.shown.Shown.{Shown}
 use Rattle.sample_schedule.specs.Verdicts.{Clock}
+use Rattle.listener.specs.declared.heard.Counts.{Counts}
 use Rattle.listener.specs.declared.heard.Heard.{Heard}
 use Rattle.listener.specs.declared.plan.ListenPlan.{ListenPlan}
+use Rattle.listener.specs.Headline.{KeepsHeadline}
 use Rattle.listener.specs.Heard.{heard_of}
 use Rattle.avtp_words.specs.Grammar.{Listening}
 use Rattle.avtp_text.specs.Listen.{capture_line, list_lines, end_listen_line}
@@ -18,9 +23,9 @@ use Rattle.avtp_tool.specs.Report.{EndsAt, status_of}
 abbrev pub heard_limit : ℕ
 heard_limit = 16777216
 
--- A listener without a clock, which judges each packet as it comes; a packet is expected 2 ms before its instant.
+-- a listener without a clock, which judges each packet as it comes
 abbrev pub plan_of : Listening → ListenPlan
-plan_of asked = record { stream = asked.stream; clock = None; buffer = asked.buffer; room = asked.room; look = 0; lead = 2000000; shift = pos 0 }
+plan_of asked = record { stream = asked.stream; clock = None; buffer = asked.buffer; room = asked.room; look = 0; lead = asked.lead; shift = pos 0 }
 
 -- a clock that is never asked
 abbrev pub no_clock : Clock
@@ -54,3 +59,16 @@ pub record HearsOpen (asked : Listening) (bytes : List ℕ) (ended : Status) (te
 -- the fault alone.
 abbrev pub Hears : Listening → List ℕ → Status → List ℕ → Type 0
 Hears asked bytes ended text = HearsOpen asked bytes ended text ⊎ ((ended ≡ status.ReadFault) × (text ≡ read_fault_line))
+
+-- ---- a talker that keeps the rules
+
+-- the last line of a capture that was read to its end
+abbrev pub last_line : Counts → Option Refusal → List ℕ
+last_line counts None = end_listen_line counts
+last_line counts (Some refusal) = capture_refused_line refusal
+
+-- The text is the capture's name, the lines of what is shown of the bytes, which keeps the headline, and the last line.
+pub record PrintsHeadline (asked : Listening) (shift : ℤ) (p : PacketJournal) (bytes text : List ℕ) : Type 0 where
+  pub shown : List Shown
+  pub keeps : KeepsHeadline no_clock shift p (plan_of asked) bytes shown
+  pub printed : text ≡ capture_line asked.file ++ (list_lines shown ++ last_line (heard asked bytes).counts (first_refusal bytes))

@@ -9,11 +9,8 @@ use Rattle.iec61883_format.specs.Iec.{iec_subtype, iec_refusal, iec_of}
 use Rattle.aaf_format.specs.Aaf.{aaf_subtype, aaf_refusal, aaf_of}
 use Rattle.cvf_format.specs.Cvf.{cvf_subtype, cvf_refusal, cvf_of}
 use Rattle.crf_format.specs.Crf.{crf_subtype, crf_refusal, crf_of}
+use Rattle.packet_journal.specs.Deliveries.{avtp_ethertype}
 use Rattle.avtp_text.specs.Show.{refused_content, ethertype_content, other_content, iec_content, aaf_content, h264_content, crf_content}
-
--- the EtherType of AVTP (IEEE 1722-2016, 4.2)
-abbrev pub avtp_ethertype : ℕ
-avtp_ethertype = 0x22F0
 
 -- the refusal, where there is one, and else what was read
 abbrev pub refused_or : Option Refusal → List ℕ → List ℕ

@@ -2,6 +2,7 @@
 #![tactic(auto)]
 
 mod capture;
+mod capture_file;
 mod command;
 mod contents;
 mod listen;
@@ -9,6 +10,7 @@ mod record;
 mod report;
 mod show;
 mod status;
+mod talk;
 
 pub use command::run;
 pub use status::Status;

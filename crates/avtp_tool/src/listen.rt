@@ -27,9 +27,6 @@ use std::alloc::Global;
 /// The most bytes of a capture that are read: 16 MiB. A longer capture is not listened to.
 const LIMIT: u64 = 16_777_216;
 
-/// How long before its instant a packet is expected: 2 ms.
-const LEAD: u32 = 2_000_000;
-
 /// A listener without a clock, which judges each packet as it comes.
 fn plan(asked: &Listen<'_>) -> ListenPlan
     ensures { result ≡ plan_of (listening_of asked.now) }
@@ -40,7 +37,7 @@ fn plan(asked: &Listen<'_>) -> ListenPlan
         buffer: asked.buffer,
         room: asked.room,
         look: 0,
-        lead: LEAD,
+        lead: asked.lead,
         shift: 0,
     }
 }

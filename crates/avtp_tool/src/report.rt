@@ -1,21 +1,20 @@
-//! What a command prints of the capture that it reads.
+//! What a command prints of the file that it reads.
 
 ghost use Rattle.std.specs.Prelude.{◌≡◌, ◌≢◌, ◌≤◌, ◌<◌, ◌⊎◌, ℕ, List, Ok, Some, None, length, IsSome, IfOk, OnErr};
 ghost use Rattle.std.specs.Io.KnownBytes.{Appends, Keeps};
 ghost use Rattle.avtp_base.specs.Faults.{IsCounted, Rose};
-ghost use Rattle.avtp_base.specs.Files.{Files, left_in, IsMissing, KeepsFiles, KeepsOthers, KeepsSlots};
-ghost use Rattle.avtp_words.specs.Grammar.{file_of, request_of};
+ghost use Rattle.avtp_base.specs.Files.{Files, left_in, IsMissing, KeepsFiles};
+ghost use Rattle.avtp_words.specs.Grammar.{file_of, output_of, request_of};
 ghost use Rattle.avtp_text.specs.Notices.{read_fault_line};
 ghost use Rattle.avtp_text.specs.Written.{written, Grows};
 ghost use Rattle.avtp_tool.specs.Front.{ShowsFront};
-ghost use Rattle.avtp_tool.specs.Report.{status_of};
-ghost use Rattle.avtp_tool.specs.Reports.{IsRequest, Reports};
-ghost use Rattle.avtp_tool.specs.declared.capture.End as ends;
-ghost use Rattle.avtp_tool.specs.declared.capture.End.TheVariants as end;
+ghost use Rattle.avtp_tool.specs.Made.{IsWriteCounted, KeepsFilesBut, KeepsOthersFor, KeepsSlotsFor};
+ghost use Rattle.avtp_tool.specs.Reports.{IsRequest, Makes, MakesPart, Reports};
 
 use crate::listen::listen;
 use crate::show::show;
 use crate::status::Status;
+use crate::talk::talk;
 use avtp_base::{Failed, OpenFault, Shelf, Sink, Slot};
 use avtp_text::Text;
 use avtp_words::Command;
@@ -24,7 +23,7 @@ use std::alloc::Global;
 /// The length of the buffer for each read of a capture.
 const PIECE: usize = 65_536;
 
-/// Opens the capture that a command reads, and prints what the command says of it.
+/// Opens the file that a command reads, and does what the command asks for with it.
 #[tactic(auto, using(avtp_text::proofs::Growth::grows_none))]
 pub fn report<F: Shelf, S: Sink>(
     alloc: Global,
@@ -34,7 +33,7 @@ pub fn report<F: Shelf, S: Sink>(
     out: &mut S,
 ) -> Result<Status, Failed>
     requires request { IsRequest (request_of command.now) }
-    ensures shown { IfOk result (λ ended. ended ≢ Status.Memory → (files : Files) (bytes : List ℕ) →
+    ensures shown { IfOk result (λ ended. ended ≢ Status.Memory → ended ≢ Status.WriteFault → (files : Files) (bytes : List ℕ) →
         F.files shelf.old ≡ Some files → files (file_of (request_of command.now)) ≡ Some bytes →
         (printed : List ℕ) × Reports (request_of command.now) bytes ended printed
         × Appends (written (S.held out.old) text.old) (written (S.held out.new) text.new) printed) }
@@ -44,13 +43,21 @@ pub fn report<F: Shelf, S: Sink>(
         ShowsFront (Reports (request_of command.now) bytes) (written (S.held out.old) text.old) (written (S.held out.new) text.new) (F.reading_faults shelf.old) (F.reading_faults shelf.new)) }
     ensures part_missing { OnErr result (IsMissing (F.files shelf.old) (file_of (request_of command.now)) → Keeps (written (S.held out.old) text.old) (written (S.held out.new) text.new)) }
     ensures memory { result ≡ Ok Status.Memory → Keeps (written (S.held out.old) text.old) (written (S.held out.new) text.new) }
-    ensures ends { IfOk result (λ ended. (ended ≡ Status.Memory) ⊎ ((how : ends.End) × (ended ≡ status_of how))) }
+    ensures unwritten { result ≡ Ok Status.WriteFault → Keeps (written (S.held out.old) text.old) (written (S.held out.new) text.new) }
+    ensures no_words { IfOk result (λ ended. ended ≢ Status.Words) }
     ensures read_fault { result ≡ Ok Status.ReadFault →
         Rose (F.reading_faults shelf.old) (F.reading_faults shelf.new) ⊎ IsMissing (F.files shelf.old) (file_of (request_of command.now)) }
-    ensures slots { KeepsSlots (F.slots shelf.old) (F.slots shelf.new) }
-    ensures files { KeepsFiles (F.files shelf.old) (F.files shelf.new) }
+    ensures slots { KeepsSlotsFor (output_of (request_of command.now)) (F.files shelf.old) (F.slots shelf.old) (F.slots shelf.new) }
+    ensures made { result ≡ Ok Status.Done → (files : Files) (bytes : List ℕ) → F.files shelf.old ≡ Some files → files (file_of (request_of command.now)) ≡ Some bytes →
+        Makes (request_of command.now) bytes (F.files shelf.old) (F.files shelf.new) }
+    ensures part_made { (files : Files) (bytes : List ℕ) → F.files shelf.old ≡ Some files → files (file_of (request_of command.now)) ≡ Some bytes →
+        MakesPart (request_of command.now) bytes (F.files shelf.old) (F.files shelf.new) }
+    ensures not_made { IsMissing (F.files shelf.old) (file_of (request_of command.now)) → KeepsFiles (F.files shelf.old) (F.files shelf.new) }
+    ensures untouched { IfOk result (λ ended. ended ≢ Status.Done → ended ≢ Status.WriteFault → ended ≢ Status.Memory → KeepsFiles (F.files shelf.old) (F.files shelf.new)) }
+    ensures files { KeepsFilesBut (output_of (request_of command.now)) (F.files shelf.old) (F.files shelf.new) }
     ensures never_falls { F.reading_faults shelf.old ≤ F.reading_faults shelf.new }
-    ensures writing { F.writing_faults shelf.new ≡ F.writing_faults shelf.old }
+    ensures writing { IsWriteCounted (F.writing_faults shelf.old) (F.writing_faults shelf.new) result }
+    ensures only_output { result ≡ Ok Status.WriteFault → IsSome (output_of (request_of command.now)) }
     ensures grows { Grows (S.held out.old) (S.held out.new) }
     ensures counted { IsCounted (S.faults out.old) (S.faults out.new) result }
 {
@@ -71,7 +78,7 @@ fn report_file<F: Shelf, S: Sink>(
 ) -> Result<Status, Failed>
     requires room { 0 < length buffer.old }
     requires request { IsRequest (request_of command.now) }
-    ensures shown { IfOk result (λ ended. ended ≢ Status.Memory → (files : Files) (bytes : List ℕ) →
+    ensures shown { IfOk result (λ ended. ended ≢ Status.Memory → ended ≢ Status.WriteFault → (files : Files) (bytes : List ℕ) →
         F.files shelf.old ≡ Some files → files (file_of (request_of command.now)) ≡ Some bytes →
         (printed : List ℕ) × Reports (request_of command.now) bytes ended printed
         × Appends (written (S.held out.old) text.old) (written (S.held out.new) text.new) printed) }
@@ -81,13 +88,21 @@ fn report_file<F: Shelf, S: Sink>(
         ShowsFront (Reports (request_of command.now) bytes) (written (S.held out.old) text.old) (written (S.held out.new) text.new) (F.reading_faults shelf.old) (F.reading_faults shelf.new)) }
     ensures part_missing { OnErr result (IsMissing (F.files shelf.old) (file_of (request_of command.now)) → Keeps (written (S.held out.old) text.old) (written (S.held out.new) text.new)) }
     ensures memory { result ≡ Ok Status.Memory → Keeps (written (S.held out.old) text.old) (written (S.held out.new) text.new) }
-    ensures ends { IfOk result (λ ended. (ended ≡ Status.Memory) ⊎ ((how : ends.End) × (ended ≡ status_of how))) }
+    ensures unwritten { result ≡ Ok Status.WriteFault → Keeps (written (S.held out.old) text.old) (written (S.held out.new) text.new) }
+    ensures no_words { IfOk result (λ ended. ended ≢ Status.Words) }
     ensures read_fault { result ≡ Ok Status.ReadFault →
         Rose (F.reading_faults shelf.old) (F.reading_faults shelf.new) ⊎ IsMissing (F.files shelf.old) (file_of (request_of command.now)) }
-    ensures slots { KeepsSlots (F.slots shelf.old) (F.slots shelf.new) }
-    ensures files { KeepsFiles (F.files shelf.old) (F.files shelf.new) }
+    ensures slots { KeepsSlotsFor (output_of (request_of command.now)) (F.files shelf.old) (F.slots shelf.old) (F.slots shelf.new) }
+    ensures made { result ≡ Ok Status.Done → (files : Files) (bytes : List ℕ) → F.files shelf.old ≡ Some files → files (file_of (request_of command.now)) ≡ Some bytes →
+        Makes (request_of command.now) bytes (F.files shelf.old) (F.files shelf.new) }
+    ensures part_made { (files : Files) (bytes : List ℕ) → F.files shelf.old ≡ Some files → files (file_of (request_of command.now)) ≡ Some bytes →
+        MakesPart (request_of command.now) bytes (F.files shelf.old) (F.files shelf.new) }
+    ensures not_made { IsMissing (F.files shelf.old) (file_of (request_of command.now)) → KeepsFiles (F.files shelf.old) (F.files shelf.new) }
+    ensures untouched { IfOk result (λ ended. ended ≢ Status.Done → ended ≢ Status.WriteFault → ended ≢ Status.Memory → KeepsFiles (F.files shelf.old) (F.files shelf.new)) }
+    ensures files { KeepsFilesBut (output_of (request_of command.now)) (F.files shelf.old) (F.files shelf.new) }
     ensures never_falls { F.reading_faults shelf.old ≤ F.reading_faults shelf.new }
-    ensures writing { F.writing_faults shelf.new ≡ F.writing_faults shelf.old }
+    ensures writing { IsWriteCounted (F.writing_faults shelf.old) (F.writing_faults shelf.new) result }
+    ensures only_output { result ≡ Ok Status.WriteFault → IsSome (output_of (request_of command.now)) }
     ensures grows { Grows (S.held out.old) (S.held out.new) }
     ensures counted { IsCounted (S.faults out.old) (S.faults out.new) result }
 {
@@ -99,7 +114,7 @@ fn report_file<F: Shelf, S: Sink>(
     }
 }
 
-/// Prints what a command says of an open capture, and closes it.
+/// Does what a command asks for with an open file, and closes it.
 fn report_open<F: Shelf, S: Sink>(
     alloc: Global,
     command: &Command<'_>,
@@ -112,30 +127,38 @@ fn report_open<F: Shelf, S: Sink>(
     requires live { IsSome (F.slots shelf.old slot.0) }
     requires room { 0 < length buffer.old }
     requires request { IsRequest (request_of command.now) }
-    ensures shown { IfOk result (λ ended. ended ≢ Status.Memory → (bytes : List ℕ) → left_in (F.slots shelf.old) slot.0 ≡ Some bytes →
+    ensures shown { IfOk result (λ ended. ended ≢ Status.Memory → ended ≢ Status.WriteFault → (bytes : List ℕ) → left_in (F.slots shelf.old) slot.0 ≡ Some bytes →
         (printed : List ℕ) × Reports (request_of command.now) bytes ended printed
         × Appends (written (S.held out.old) text.old) (written (S.held out.new) text.new) printed) }
     ensures part { OnErr result ((bytes : List ℕ) → left_in (F.slots shelf.old) slot.0 ≡ Some bytes →
         ShowsFront (Reports (request_of command.now) bytes) (written (S.held out.old) text.old) (written (S.held out.new) text.new) (F.reading_faults shelf.old) (F.reading_faults shelf.new)) }
     ensures memory { result ≡ Ok Status.Memory → Keeps (written (S.held out.old) text.old) (written (S.held out.new) text.new) }
-    ensures ends { IfOk result (λ ended. (ended ≡ Status.Memory) ⊎ ((how : ends.End) × (ended ≡ status_of how))) }
+    ensures unwritten { result ≡ Ok Status.WriteFault → Keeps (written (S.held out.old) text.old) (written (S.held out.new) text.new) }
+    ensures no_words { IfOk result (λ ended. ended ≢ Status.Words) }
     ensures read_fault { result ≡ Ok Status.ReadFault → Rose (F.reading_faults shelf.old) (F.reading_faults shelf.new) }
     ensures closed { F.slots shelf.new slot.0 ≡ None }
-    ensures others { KeepsOthers (F.slots shelf.old) (F.slots shelf.new) slot.0 }
-    ensures files { KeepsFiles (F.files shelf.old) (F.files shelf.new) }
+    ensures others { KeepsOthersFor (output_of (request_of command.now)) (F.files shelf.old) (F.slots shelf.old) (F.slots shelf.new) slot.0 }
+    ensures made { result ≡ Ok Status.Done → (bytes : List ℕ) → left_in (F.slots shelf.old) slot.0 ≡ Some bytes →
+        Makes (request_of command.now) bytes (F.files shelf.old) (F.files shelf.new) }
+    ensures part_made { (bytes : List ℕ) → left_in (F.slots shelf.old) slot.0 ≡ Some bytes →
+        MakesPart (request_of command.now) bytes (F.files shelf.old) (F.files shelf.new) }
+    ensures untouched { IfOk result (λ ended. ended ≢ Status.Done → ended ≢ Status.WriteFault → ended ≢ Status.Memory → KeepsFiles (F.files shelf.old) (F.files shelf.new)) }
+    ensures files { KeepsFilesBut (output_of (request_of command.now)) (F.files shelf.old) (F.files shelf.new) }
     ensures never_falls { F.reading_faults shelf.old ≤ F.reading_faults shelf.new }
-    ensures writing { F.writing_faults shelf.new ≡ F.writing_faults shelf.old }
+    ensures writing { IsWriteCounted (F.writing_faults shelf.old) (F.writing_faults shelf.new) result }
+    ensures only_output { result ≡ Ok Status.WriteFault → IsSome (output_of (request_of command.now)) }
     ensures grows { Grows (S.held out.old) (S.held out.new) }
     ensures counted { IsCounted (S.faults out.old) (S.faults out.new) result }
 {
     match command {
         Command::Show { limit, file: _ } => show(alloc, *limit, shelf, slot, buffer, text, out),
         Command::Listen(asked) => listen(alloc, asked, shelf, slot, buffer, text, out),
+        Command::Talk(asked) => talk(alloc, asked, shelf, slot, buffer, text, out),
     }
 }
 
-/// Says that a capture could not be opened.
-fn print_fault<S: Sink>(text: &mut Text, out: &mut S) -> Result<Status, Failed>
+/// Says that a file could not be read.
+pub fn print_fault<S: Sink>(text: &mut Text, out: &mut S) -> Result<Status, Failed>
     ensures status { IfOk result (λ ended. ended ≡ Status.ReadFault) }
     ensures printed { IfOk result (λ ended. Appends (written (S.held out.old) text.old) (written (S.held out.new) text.new) read_fault_line) }
     ensures part { OnErr result (Keeps (written (S.held out.old) text.old) (written (S.held out.new) text.new)) }

@@ -1,9 +1,7 @@
-use Rattle.std.proofs.Common.{◌≡◌, ℕ, ◌≤◌, List, ◌++◌, length, take, arith, ap, subst, sym, ◌∙◌, length-append}
+use Rattle.std.proofs.Common.{◌≡◌, ℕ, ◌++◌, length, take, arith, ap, sym, ◌∙◌, length-append}
 use Rattle.std.proofs.lemmas.List.{length-take-le}
 use Rattle.avtp_tool.proofs.Contained.{has_as, more_read, all_read, limit_read, limit_as}
 use Rattle.avtp_tool.proofs.Ending.{files_kept_twice, still_live}
-use Rattle.avtp_tool.specs.Contents.{IsContents}
-use Rattle.avtp_tool.specs.declared.contents.Stop.TheVariants as stop
 use Rattle.avtp_tool.proofs.contents.read_contents.Goals as goal
 
 pub returns-in-Ok-eq0-clause-read : goal.returns-in-Ok-eq0-clause-read

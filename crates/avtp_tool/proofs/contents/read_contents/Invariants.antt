@@ -1,4 +1,4 @@
-use Rattle.std.proofs.Common.{◌≡◌, ℕ, ◌+◌, ◌≤◌, List, ◌++◌, length, Option, Some, None}
+use Rattle.std.proofs.Common.{◌≡◌, ℕ, ◌+◌, List, length, Some}
 use Rattle.std.specs.Prelude.{IsSome}
 use Rattle.avtp_base.specs.Files.{left_in, KeepsFiles, KeepsOthers}
 use Rattle.avtp_tool.proofs.Contained.{HasContents}
