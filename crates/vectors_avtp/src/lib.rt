@@ -4,9 +4,13 @@
 #[cfg(test)]
 mod listen;
 #[cfg(test)]
+mod losses;
+#[cfg(test)]
 mod runs;
 #[cfg(test)]
 mod show;
+#[cfg(test)]
+mod talk;
 mod vectors;
 
 pub use vectors::vector;

@@ -19,17 +19,61 @@ pub fn run_over(
     shelf_fails: &[u64],
     sink_fails: &[u64],
 ) -> Result<Ran, NoMemory> {
+    let mut shelf = shelf_of(alloc, "c.pcap", capture, shelf_fails)?;
+    run_on(alloc, line, &mut shelf, sink_fails)
+}
+
+/// Runs the words over a shelf that holds the samples under `a.raw`, and answers what it holds then under `c.pcap`, too.
+pub fn talk_over(
+    alloc: Global,
+    line: &[&str],
+    samples: Vec<u8>,
+    shelf_fails: &[u64],
+    sink_fails: &[u64],
+) -> Result<(Ran, Option<Vec<u8>>), NoMemory> {
+    let mut shelf = shelf_of(alloc, "a.raw", samples, shelf_fails)?;
+    let ran = run_on(alloc, line, &mut shelf, sink_fails)?;
+    match shelf.file("c.pcap") {
+        Some(bytes) => Ok((ran, Some(Vec::from_slice(alloc, bytes)?))),
+        None => Ok((ran, None)),
+    }
+}
+
+/// A shelf of one file, whose numbered calls fail.
+fn shelf_of(
+    alloc: Global,
+    name: &str,
+    bytes: Vec<u8>,
+    fails: &[u64],
+) -> Result<MemoryShelf, NoMemory> {
+    let mut files = Vec::new(alloc);
+    files.push((String::from_str(alloc, name)?, bytes))?;
+    Ok(MemoryShelf::over(alloc, files, Vec::from_slice(alloc, fails)?))
+}
+
+fn run_on(
+    alloc: Global,
+    line: &[&str],
+    shelf: &mut MemoryShelf,
+    sink_fails: &[u64],
+) -> Result<Ran, NoMemory> {
     let mut words = Vec::new(alloc);
     for word in line {
         words.push(String::from_str(alloc, word)?)?;
     }
-    let mut files = Vec::new(alloc);
-    files.push((String::from_str(alloc, "c.pcap")?, capture))?;
-    let mut shelf = MemoryShelf::over(alloc, files, Vec::from_slice(alloc, shelf_fails)?);
     let mut sink = MemorySink::over(alloc, Vec::from_slice(alloc, sink_fails)?);
-    let status = run(alloc, &words, &mut shelf, &mut sink);
+    let status = run(alloc, &words, shelf, &mut sink);
     let text = Vec::from_slice(alloc, sink.bytes())?;
     Ok(Ran { status, text })
+}
+
+/// So many bytes. No two packets beside each other have the same samples.
+pub fn noise(alloc: Global, len: usize) -> Result<Vec<u8>, NoMemory> {
+    let mut bytes = Vec::new(alloc);
+    for n in 0..len {
+        bytes.push((n % 251) as u8)?;
+    }
+    Ok(bytes)
 }
 
 /// A vector with some bytes changed, cut to a length, and with zero bytes behind it.

@@ -1,0 +1,154 @@
+//! Captures of a sparse talker that lose, repeat and reorder its packets: what is presented stands at the talker's instants.
+
+use crate::runs::{noise, run_over, talk_over};
+use avtp_base::NoMemory;
+use avtp_tool::Status;
+use std::alloc::Global;
+use std::test::Fail;
+
+const STREAM: &str = "0200000000010001";
+
+/// The file header of a capture, and each record of a packet of six stereo sample frames of 16 bits.
+const HEADER: usize = 24;
+
+const RECORD: usize = 82;
+
+/// The capture of a sparse talker.
+fn talked(alloc: Global, options: &[&str], packets: usize) -> Result<Vec<u8>, Fail> {
+    let mut line = Vec::new(alloc);
+    line.extend_from_slice(&["talk", "--sparse"])?;
+    line.extend_from_slice(options)?;
+    line.extend_from_slice(&["a.raw", "c.pcap"])?;
+    let samples = noise(alloc, packets.saturating_mul(24))?;
+    let (_, made) = talk_over(alloc, &line, samples, &[], &[])?;
+    Ok(made.ok_or("no capture")?)
+}
+
+/// The records of these packets, in this order.
+fn records_of(alloc: Global, capture: &[u8], packets: &[u16]) -> Result<Vec<u8>, NoMemory> {
+    let mut picked = Vec::new(alloc);
+    picked.extend_from_slice(capture.get(..HEADER).unwrap_or(&[]))?;
+    for n in packets {
+        let at = HEADER + usize::from(*n) * RECORD;
+        picked.extend_from_slice(capture.get(at..at + RECORD).unwrap_or(&[]))?;
+    }
+    Ok(picked)
+}
+
+/// What `listen` prints of a capture.
+fn heard(alloc: Global, capture: Vec<u8>) -> Result<String, Fail> {
+    let ran = run_over(alloc, &["listen", STREAM, "c.pcap"], capture, &[], &[])?;
+    if ran.status != Status::Done {
+        return Err(Fail::new("not heard whole"));
+    }
+    match String::from_utf8(ran.text) {
+        Ok(text) => Ok(text),
+        Err(_) => Err(Fail::new("no text")),
+    }
+}
+
+/// Without its first packet, which is stamped, a sparse stream is known from the next stamped one on.
+#[test]
+fn first_stamp_lost(rt: HostRuntime) -> Result<(), Fail> {
+    let capture = talked(rt.alloc(), &[], 16)?;
+    let rest = [1, 2, 3, 4, 5, 6, 7, 8, 9, 10, 11, 12, 13, 14, 15];
+    let text = heard(rt.alloc(), records_of(rt.alloc(), &capture, &rest)?)?;
+    let flags = "\
+capture c.pcap
+flag frame 1 seq 1 untimed
+flag frame 2 seq 2 untimed
+flag frame 3 seq 3 untimed
+flag frame 4 seq 4 untimed
+flag frame 5 seq 5 untimed
+flag frame 6 seq 6 untimed
+flag frame 7 seq 7 untimed
+at 1003000000 frame 8 seq 8 sample 0 ";
+    assert!(rt; text.starts_with(flags));
+    assert!(rt; text.contains("\nat 1003125000 frame 9 seq 9 sample 0 "));
+    assert!(rt; text.ends_with("\nend frames 15 packets 15 presented 8 flagged 7\n"));
+    Ok(())
+}
+
+/// A packet is not counted from a stamp whose sequence number fits and that is 256 packets too old.
+#[test]
+fn stamp_of_another_round(rt: HostRuntime) -> Result<(), Fail> {
+    let capture = talked(rt.alloc(), &[], 258)?;
+    let text = heard(rt.alloc(), records_of(rt.alloc(), &capture, &[0, 257])?)?;
+    assert!(rt; text.starts_with("capture c.pcap\nat 1002000000 frame 1 seq 0 sample 0 "));
+    assert!(rt;
+        text.ends_with(
+            "\nflag frame 2 seq 1 untimed\nend frames 2 packets 2 presented 1 flagged 1\n"
+        )
+    );
+    Ok(())
+}
+
+/// After a restart a sparse stream is known from the next stamped packet on.
+#[test]
+fn restart(rt: HostRuntime) -> Result<(), Fail> {
+    let capture = talked(rt.alloc(), &["--restart", "10"], 20)?;
+    let text = heard(rt.alloc(), capture)?;
+    for flag in [
+        "\nflag frame 11 seq 10 untimed\n",
+        "\nflag frame 16 seq 15 untimed\n",
+        "\nat 1005000000 frame 17 seq 16 sample 0 ",
+    ] {
+        assert!(rt; text.contains(flag));
+    }
+    assert!(rt; text.ends_with("\nend frames 20 packets 20 presented 14 flagged 6\n"));
+    Ok(())
+}
+
+/// Packets of a talker that restarts after each twelve, and how many of what came is presented. Packets 12 to 15 stand behind
+/// a restart and before the next stamp.
+const CASES: [(&[u16], &str); 6] = [
+    // The first 28, as they were sent.
+    (
+        &[
+            0, 1, 2, 3, 4, 5, 6, 7, 8, 9, 10, 11, 12, 13, 14, 15, 16, 17, 18, 19, 20, 21, 22, 23,
+            24, 25, 26, 27,
+        ],
+        " presented 24 flagged 4\n",
+    ),
+    // Some are lost.
+    (
+        &[0, 2, 5, 11, 12, 16, 17, 23, 24, 31],
+        " presented 8 flagged 2\n",
+    ),
+    // Stamps are lost: those of packets 8 and 24.
+    (
+        &[0, 7, 9, 10, 16, 23, 25, 31, 32, 33],
+        " presented 6 flagged 4\n",
+    ),
+    // Each comes twice.
+    (&[0, 0, 1, 1, 8, 8, 9, 9], " presented 4 flagged 4\n"),
+    // A stamp comes behind the packet that is counted from it.
+    (&[1, 0, 2, 9, 8, 10, 17, 16, 18], " presented 6 flagged 3\n"),
+    // A packet behind a restart overtakes others in front of it, and one of these comes late.
+    (&[0, 8, 16, 11, 10, 19, 9, 24], " presented 7 flagged 1\n"),
+];
+
+/// Whatever is lost, comes again or comes in another order: each sample that is presented is one of the untouched capture's,
+/// at the same instant.
+#[test]
+fn losses(rt: HostRuntime) -> Result<(), Fail> {
+    let capture = talked(rt.alloc(), &["--restart", "12"], 40)?;
+    let whole = heard(rt.alloc(), Vec::from_slice(rt.alloc(), &capture)?)?;
+    for (packets, counts) in CASES {
+        let text = heard(rt.alloc(), records_of(rt.alloc(), &capture, packets)?)?;
+        assert!(rt; text.ends_with(counts));
+        for line in text.lines() {
+            if let Some((instant, rest)) = line.split_once(" frame ")
+                && let Some((frame, sample)) = rest.split_once(" seq ")
+                && instant.starts_with("at ")
+            {
+                let place = frame.parse::<usize>().unwrap_or(0);
+                let packet = packets.get(place.saturating_sub(1)).ok_or("no such frame")?;
+                let number = u32::from(*packet) + 1;
+                let same = format!(in rt.alloc(); "\n{instant} frame {number} seq {sample}\n")?;
+                assert!(rt; whole.contains(same.as_str()), "{line}");
+            }
+        }
+    }
+    Ok(())
+}

@@ -1,0 +1,161 @@
+//! The command `talk`, from its words and samples to its capture, text and status.
+
+use crate::runs::{noise, run_over, talk_over};
+use crate::vector;
+use avtp_base::NoMemory;
+use avtp_tool::Status;
+use std::alloc::Global;
+use std::test::Fail;
+
+/// The last bytes of the first vector: of these the last 24 are its samples.
+fn tail(alloc: Global, len: usize) -> Result<Vec<u8>, NoMemory> {
+    let vector = vector(alloc, 1)?;
+    let from = vector.len().saturating_sub(len);
+    Ok(Vec::from_slice(alloc, vector.get(from..).unwrap_or(&[]))?)
+}
+
+/// The samples of the first vector make that vector, and no samples make its file header.
+#[test]
+fn makes_the_vector(rt: HostRuntime) -> Result<(), Fail> {
+    let cases: [(usize, usize, &str); 2] = [
+        (24, 106, "talk packets 1 clock 0\n"),
+        (0, 24, "talk packets 0 clock 0\n"),
+    ];
+    for (len, size, text) in cases {
+        let samples = tail(rt.alloc(), len)?;
+        let (ran, made) = talk_over(rt.alloc(), &["talk", "a.raw", "c.pcap"], samples, &[], &[])?;
+        assert_eq!(rt; ran.status, Status::Done);
+        assert_eq!(rt; ran.text.as_slice(), text.as_bytes());
+        assert!(rt; made.as_deref() == vector(rt.alloc(), 1)?.get(..size));
+    }
+    Ok(())
+}
+
+/// Words and inputs that make no capture leave none behind.
+#[test]
+fn refuses(rt: HostRuntime) -> Result<(), Fail> {
+    let frames = "talk input: frames\n";
+    let cases: [(&[&str], Status, &str); 5] = [
+        (&["talk", "a.raw", "c.pcap"], Status::TalkInput, frames),
+        (
+            &["talk", "--format", "int24", "a.raw", "c.pcap"],
+            Status::TalkInput,
+            frames,
+        ),
+        (
+            &["talk", "--channels", "500", "a.raw", "c.pcap"],
+            Status::Words,
+            "words: 1\n",
+        ),
+        (&["talk", "a.raw", "a.raw"], Status::Words, "words: 1\n"),
+        (
+            &["talk", "b.raw", "c.pcap"],
+            Status::ReadFault,
+            "read fault\n",
+        ),
+    ];
+    for (line, status, text) in cases {
+        let (ran, made) = talk_over(rt.alloc(), line, tail(rt.alloc(), 3)?, &[], &[])?;
+        assert_eq!(rt; ran.status, status);
+        assert_eq!(rt; ran.text.as_slice(), text.as_bytes());
+        assert!(rt; made.is_none());
+    }
+    Ok(())
+}
+
+/// Each call of the shelf and of the sink fails in turn: what the text is then, and how many bytes of the capture stand.
+#[test]
+fn failing_calls(rt: HostRuntime) -> Result<(), Fail> {
+    let line = ["talk", "a.raw", "c.pcap"];
+    let cases: [(&[u64], &[u64], &str, Option<usize>); 6] = [
+        (&[1], &[], "read fault\n", None),
+        (&[2], &[], "read fault\n", None),
+        (&[3], &[], "read fault\n", None),
+        (&[4], &[], "", None),
+        (&[5], &[], "", Some(0)),
+        (&[], &[1], "", Some(106)),
+    ];
+    for (shelf_fails, sink_fails, text, size) in cases {
+        let samples = tail(rt.alloc(), 24)?;
+        let (ran, made) = talk_over(rt.alloc(), &line, samples, shelf_fails, sink_fails)?;
+        let status = if text.is_empty() {
+            Status::WriteFault
+        } else {
+            Status::ReadFault
+        };
+        assert_eq!(rt; ran.status, status);
+        assert_eq!(rt; ran.text.as_slice(), text.as_bytes());
+        assert_eq!(rt; made.as_ref().map(|bytes| bytes.len()), size);
+    }
+    Ok(())
+}
+
+/// Where a later write of the capture fails, what stands is the beginning of the capture.
+#[test]
+fn fails_within_the_capture(rt: HostRuntime) -> Result<(), Fail> {
+    let line = ["talk", "a.raw", "c.pcap"];
+    let (_, whole) = talk_over(rt.alloc(), &line, noise(rt.alloc(), 24_000)?, &[], &[])?;
+    let (ran, made) = talk_over(rt.alloc(), &line, noise(rt.alloc(), 24_000)?, &[6], &[])?;
+    let whole = whole.ok_or("no capture")?;
+    let made = made.ok_or("no capture")?;
+    assert_eq!(rt; ran.status, Status::WriteFault);
+    assert_eq!(rt; ran.text.len(), 0);
+    assert!(rt; made.len() > 60_000);
+    assert!(rt; made.len() < whole.len());
+    assert!(rt; whole.starts_with(&made));
+    Ok(())
+}
+
+/// A thousand packets are heard as they were made, each at its instant.
+#[test]
+fn is_heard_whole(rt: HostRuntime) -> Result<(), Fail> {
+    let samples = noise(rt.alloc(), 24_000)?;
+    let (ran, made) = talk_over(rt.alloc(), &["talk", "a.raw", "c.pcap"], samples, &[], &[])?;
+    assert_eq!(rt;
+        ran.text.as_slice(),
+        "talk packets 1000 clock 0\n".as_bytes()
+    );
+    let made = made.ok_or("no capture")?;
+    let line = ["listen", "0200000000010001", "c.pcap"];
+    let heard = run_over(rt.alloc(), &line, made, &[], &[])?;
+    assert_eq!(rt; heard.status, Status::Done);
+    let end = "end frames 1000 packets 1000 presented 1000 flagged 0\n";
+    assert!(rt; heard.text.ends_with(end.as_bytes()));
+    // Sample 5 of packet 999 is 5,999 samples behind 1.002 s.
+    let last = "\nat 1126979166 frame 1000 seq 231 sample 5 ";
+    assert!(rt; String::from_utf8(heard.text).is_ok_and(|text| text.contains(last)));
+    Ok(())
+}
+
+const RATES: [&str; 10] = [
+    "8000", "16000", "24000", "32000", "44100", "48000", "88200", "96000", "176400", "192000",
+];
+
+/// Formats, their depth in bits, and the bytes of six stereo sample frames.
+const FORMATS: [(&str, usize, usize); 4] = [
+    ("int16", 16, 24),
+    ("int24", 24, 36),
+    ("int32", 32, 48),
+    ("float32", 32, 48),
+];
+
+/// What is made in each format and at each rate is shown as it was asked for.
+#[test]
+fn shows_what_was_asked_for(rt: HostRuntime) -> Result<(), Fail> {
+    for (format, depth, size) in FORMATS {
+        for rate in RATES {
+            let line = [
+                "talk", "--rate", rate, "--format", format, "a.raw", "c.pcap",
+            ];
+            let samples = noise(rt.alloc(), size)?;
+            let (_, made) = talk_over(rt.alloc(), &line, samples, &[], &[])?;
+            let made = made.ok_or("no capture")?;
+            let shown = run_over(rt.alloc(), &["show", "c.pcap"], made, &[], &[])?;
+            let text = format!(in rt.alloc();
+                "frame 1 at 1000000000 aaf id 0200000000010001 seq 0 ts 1002000000 tv 1 tu 0 mr 0 sp 0 evt 0 format {format} rate {rate} channels 2 depth {depth} count 6 bytes {size}\nend frames 1\n"
+            )?;
+            assert_eq!(rt; shown.text.as_slice(), text.as_bytes());
+        }
+    }
+    Ok(())
+}
