@@ -2,12 +2,13 @@
 //! to nothing and to a file that each of them leaves in TEXT, and tshark once where TSHARK is not empty. Prints, for the
 //! best run of each, packets a second, megabytes of text a second and the largest resident memory, and the ratios.
 
+mod runner;
+
+use runner::{Runner, best_of};
 use std::env;
-use std::fs::{self, File};
+use std::fs;
 use std::io::{self, Error};
-use std::process::{Command, Stdio};
 use std::thread::available_parallelism;
-use std::time::Instant;
 
 const USAGE: &str = "measure AVTP YARDSTICK PACKETS TEXT TSHARK COMMAND [STREAM] CAPTURE";
 
@@ -31,89 +32,20 @@ const TSHARK_FIELDS: [&str; 14] = [
     "aaf.stream_data_len",
 ];
 
-/// `struct rusage` of Linux on a machine of 64 bits.
-#[repr(C)]
-#[derive(Default)]
-struct Usage {
-    user: [i64; 2],
-    system: [i64; 2],
-    /// In KiB, and never less than what the program held that started it: some 2 MiB here.
-    largest_resident: i64,
-    rest: [i64; 13],
-}
-
-unsafe extern "C" {
-    fn wait4(pid: i32, status: *mut i32, options: i32, usage: *mut Usage) -> i32;
-}
-
-/// A program with its words, and the best of its runs.
-struct Runner {
-    name: String,
-    program: String,
-    words: Vec<String>,
-    output: Option<String>,
-    seconds: f64,
-    kib: i64,
-}
-
-impl Runner {
-    fn new(name: &str, program: &str, words: &[&str], output: Option<&str>) -> Self {
-        let words = words.iter().map(|word| word.to_string()).collect();
-        Runner {
-            name: name.to_string(),
-            program: program.to_string(),
-            words,
-            output: output.map(str::to_string),
-            seconds: f64::INFINITY,
-            kib: 0,
-        }
-    }
-
-    fn run(&mut self) -> io::Result<()> {
-        let output = match &self.output {
-            Some(path) => Stdio::from(File::create(path)?),
-            None => Stdio::null(),
-        };
-        let mut command = Command::new(&self.program);
-        command.args(&self.words).stdout(output).stderr(Stdio::null());
-        let start = Instant::now();
-        let child = command.spawn()?;
-        let mut status = 0;
-        let mut usage = Usage::default();
-        // Sound, as the child is ours and is waited for nowhere else.
-        let waited = unsafe { wait4(child.id() as i32, &mut status, 0, &mut usage) };
-        let seconds = start.elapsed().as_secs_f64();
-        if waited < 0 || status != 0 {
-            return Err(Error::other(format!("{} failed", self.name)));
-        }
-        self.seconds = self.seconds.min(seconds);
-        self.kib = self.kib.max(usage.largest_resident);
-        Ok(())
-    }
-
-    fn print(&self, packets: f64, text_len: f64) {
-        let megabytes = if text_len > 0.0 {
-            format!("{:.0}", text_len / self.seconds / 1e6)
-        } else {
-            "-".to_string()
-        };
-        println!(
-            "| {} | {:.3} | {:.0} | {megabytes} | {} |",
-            self.name,
-            self.seconds,
-            packets / self.seconds,
-            self.kib
-        );
-    }
-}
-
-fn best_of(rounds: usize, runners: &mut [Runner]) -> io::Result<()> {
-    for _ in 0..rounds {
-        for runner in runners.iter_mut() {
-            runner.run()?;
-        }
-    }
-    Ok(())
+/// A row of the table.
+fn print(runner: &Runner, packets: f64, text_len: f64) {
+    let megabytes = if text_len > 0.0 {
+        format!("{:.0}", text_len / runner.seconds / 1e6)
+    } else {
+        "-".to_string()
+    };
+    println!(
+        "| {} | {:.3} | {:.0} | {megabytes} | {} |",
+        runner.name,
+        runner.seconds,
+        packets / runner.seconds,
+        runner.kib
+    );
 }
 
 /// Runs tshark once over the capture, for the fields that `avtp show` prints.
@@ -157,7 +89,7 @@ fn main() -> io::Result<()> {
     println!("| | seconds | packets a second | MB of text a second | largest resident memory, KiB |");
     println!("|---|---|---|---|---|");
     for runner in &runners {
-        runner.print(packets, text_len);
+        print(runner, packets, text_len);
     }
     let [nothing, nothing_peer, file, file_peer] = &runners;
     let mut ratios = vec![
@@ -172,7 +104,7 @@ fn main() -> io::Result<()> {
     ];
     if !tshark.is_empty() {
         let tshark = run_tshark(tshark, capture)?;
-        tshark.print(packets, 0.0);
+        print(&tshark, packets, 0.0);
         ratios.push((
             tshark.seconds / nothing.seconds,
             "times tshark's throughput; at least 20 is aimed at",
