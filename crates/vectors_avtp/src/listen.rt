@@ -1,13 +1,11 @@
 //! The command `listen`, from its words and the capture's bytes to its text and status.
 
-use crate::runs::{Ran, changed, run_over};
+use crate::runs::{Ran, STREAM, changed, run_over};
 use crate::vector;
 use avtp_base::NoMemory;
 use avtp_tool::Status;
 use std::alloc::{AllocError, Global};
 use std::test::Fail;
-
-const STREAM: &str = "0200000000010001";
 
 /// The sample frames of the first vector, and their instants behind the first at 48 kHz.
 const SAMPLES: [(u64, &str); 6] = [

@@ -1,12 +1,10 @@
 //! Captures of a sparse talker that lose, repeat and reorder its packets: what is presented stands at the talker's instants.
 
-use crate::runs::{noise, run_over, talk_over};
+use crate::runs::{STREAM, noise, run_over, talk_over};
 use avtp_base::NoMemory;
 use avtp_tool::Status;
 use std::alloc::Global;
 use std::test::Fail;
-
-const STREAM: &str = "0200000000010001";
 
 /// The file header of a capture, and each record of a packet of six stereo sample frames of 16 bits.
 const HEADER: usize = 24;

@@ -4,6 +4,9 @@ use avtp_base::{MemoryShelf, MemorySink, NoMemory};
 use avtp_tool::{Status, run};
 use std::alloc::Global;
 
+/// The id of the stream in the first vector, and of a talker that is asked for no other.
+pub const STREAM: &str = "0200000000010001";
+
 /// What a run wrote, and how it ended.
 #[derive(Drop)]
 pub struct Ran {

@@ -1,6 +1,6 @@
 //! The command `talk`, from its words and samples to its capture, text and status.
 
-use crate::runs::{noise, run_over, talk_over};
+use crate::runs::{STREAM, noise, run_over, talk_over};
 use crate::vector;
 use avtp_base::NoMemory;
 use avtp_tool::Status;
@@ -116,7 +116,7 @@ fn is_heard_whole(rt: HostRuntime) -> Result<(), Fail> {
         "talk packets 1000 clock 0\n".as_bytes()
     );
     let made = made.ok_or("no capture")?;
-    let line = ["listen", "0200000000010001", "c.pcap"];
+    let line = ["listen", STREAM, "c.pcap"];
     let heard = run_over(rt.alloc(), &line, made, &[], &[])?;
     assert_eq!(rt; heard.status, Status::Done);
     let end = "end frames 1000 packets 1000 presented 1000 flagged 0\n";
