@@ -59,7 +59,7 @@ pub bit_of_flag : (n : ℕ) (b : Bool) → n ≡ flag b → eqb n 1 ≡ b
 bit_of_flag n true e = rw e refl
 bit_of_flag n false e = rw e refl
 
-pub flag_of_bit : (n : ℕ) → n < 2 → n ≡ flag (eqb n 1)
+flag_of_bit : (n : ℕ) → n < 2 → n ≡ flag (eqb n 1)
 flag_of_bit zero below = refl
 flag_of_bit (suc zero) below = refl
 flag_of_bit (suc (suc n)) below = absurd (omega arith)

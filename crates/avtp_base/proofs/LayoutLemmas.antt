@@ -180,7 +180,7 @@ unset_bits (b ∷ bs) v at first bytes h =
     unset_more b.free at first b.width (value_of b.shown v) (free_ranges at (first + b.width) bs) bytes h.0
     (unset_bits bs v at (first + b.width) bytes h.1)
 
-unset-first : (zero_there rest : Bool) → cond zero_there rest true ≡ false → (zero_there ≡ true) × (rest ≡ false)
+pub unset-first : (zero_there rest : Bool) → cond zero_there rest true ≡ false → (zero_there ≡ true) × (rest ≡ false)
 unset-first true rest e = (refl, e)
 unset-first false rest e = absurd cc
 

@@ -3,3 +3,6 @@ pub mod BitLemmas
 pub mod RowLemmas
 pub mod LayoutLemmas
 pub mod OnlySpelling
+pub mod Told
+pub mod Files
+pub mod HoldLemmas

@@ -1,6 +1,6 @@
 -- Names in a list of files: what a change of the first entry with a name does to every look-up.
 use Rattle.std.proofs.Common.{◌≡◌, ◌≢◌, ℕ, ◌<◌, ◌≤◌, inl, inr, Bool, true, false, cond, ltb, List, [], ◌∷◌, ◌++◌, length, get_or, set, Option, Some, None, Result, Ok, Err, refl, sym, ap, subst, ◌∙◌, arith}
-use Rattle.std.specs.Prelude.{OnErr, find, position, option_map, bytes_eq, string_bytes, String}
+use Rattle.std.specs.Prelude.{OnErr, find, position, option_map, unwrap_or, bytes_eq, string_bytes, String, vec_capacity}
 use Rattle.std.specs.List.{position_or_len, slice_get}
 use Rattle.std.specs.Option.{option_or}
 use Rattle.std.specs.Global.{Vec, Global}
@@ -8,7 +8,7 @@ use Rattle.std.proofs.lemmas.List.Folds.{find_at, find-set, find_past, find-appe
 use Rattle.std.proofs.lemmas.Bool.{ltb-true, ltb-false}
 use Rattle.std.proofs.lemmas.Option.{slice_get-get_or, slice_get_cases}
 use Rattle.std.proofs.lemmas.Slice.Eq.{bytes_eq-Decides}
-use Rattle.avtp_base.specs.NamedFiles.{has_name, bytes_under, SetsFile, KeepsNamed}
+use Rattle.avtp_base.specs.NamedFiles.{has_name, bytes_under, capacity_under, SetsFile, KeepsNamed, KeepsCapacity}
 
 -- a choice that gave a value was true
 chosen : {X : Type 0} (b : Bool) (x y : X) → cond b (Some x) None ≡ Some y → (b ≡ true) × (x ≡ y)
@@ -30,7 +30,7 @@ pub record IsFound {X : Type 0} (p : X → Bool) (xs : List X) (i : ℕ) (x : X)
   pub found : find p xs ≡ Some x
   pub passes : p x ≡ true
 
-pub is_found : {X : Type 0} (p : X → Bool) (xs : List X) (i : ℕ) (x : X) → position p xs ≡ Some i → x ≡ get_or xs i x → IsFound p xs i x
+is_found : {X : Type 0} (p : X → Bool) (xs : List X) (i : ℕ) (x : X) → position p xs ≡ Some i → x ≡ get_or xs i x → IsFound p xs i x
 is_found p xs i x e there =
     let two = chosen (ltb (position_or_len p xs) (length xs)) (position_or_len p xs) i e in
     let first : i ≡ position_or_len p xs = sym two.1 in
@@ -53,18 +53,72 @@ pub bytes_before : (entries : List (String Global × Vec ℕ)) (i : ℕ) (name :
 bytes_before entries i name old e there =
     ap (λ f. option_map (λ (entry : String Global × Vec ℕ). entry.1.items) f) (is_found (has_name name) entries i old e there).found
 
-pub set_file : (entries : List (String Global × Vec ℕ)) (i : ℕ) (name : List ℕ) (old : String Global × Vec ℕ) (v : Vec ℕ) (bytes : List ℕ)
-    → position (has_name name) entries ≡ Some i → old ≡ get_or entries i old → v.items ≡ bytes → SetsFile entries (set entries i (old.0, v)) name bytes
-set_file entries i name old v bytes e there is =
+-- the first entry with the name is this one now, and what is found under every other name stays
+pub record SetsNamed (old new : List (String Global × Vec ℕ)) (name : List ℕ) (entry : String Global × Vec ℕ) : Type 0 where
+  pub here : find (has_name name) new ≡ Some entry
+  pub others : (other : List ℕ) → other ≢ name → find (has_name other) new ≡ find (has_name other) old
+
+set_named : (entries : List (String Global × Vec ℕ)) (i : ℕ) (name : List ℕ) (old : String Global × Vec ℕ) (v : Vec ℕ)
+    → position (has_name name) entries ≡ Some i → old ≡ get_or entries i old → SetsNamed entries (set entries i (old.0, v)) name (old.0, v)
+set_named entries i name old v e there =
     let f = is_found (has_name name) entries i old e there in
     let entry : String Global × Vec ℕ = (old.0, v) in
-    let content = λ (x : Option (String Global × Vec ℕ)). option_map (λ (y : String Global × Vec ℕ). y.1.items) x in
     record {
-      set = ap content (find-set (has_name name) entries i entry f.first f.inside f.passes) ∙ ap (λ b. Some b) is;
+      here = find-set (has_name name) entries i entry f.first f.inside f.passes;
       others = λ other differ.
           let here : has_name other old ≡ false = other_name other name old differ f.passes in
           let at : has_name other (get_or entries i old) ≡ false = subst (λ (y : String Global × Vec ℕ). has_name other y ≡ false) there here in
-          ap content (find_past (has_name other) entries i entry old at here);
+          find_past (has_name other) entries i entry old at here;
+    }
+
+-- ---- what is said of the files by their names
+
+pub sets_file : (old new : List (String Global × Vec ℕ)) (name : List ℕ) (entry : String Global × Vec ℕ) (bytes : List ℕ) → SetsNamed old new name entry → entry.1.items ≡ bytes → SetsFile old new name bytes
+sets_file old new name entry bytes sets is =
+    let content = λ (x : Option (String Global × Vec ℕ)). option_map (λ (y : String Global × Vec ℕ). y.1.items) x in
+    record { set = ap content sets.here ∙ ap (λ b. Some b) is; others = λ other differ. ap content (sets.others other differ) }
+
+size_of_found : Option (String Global × Vec ℕ) → ℕ
+size_of_found x = unwrap_or (option_map (λ (y : String Global × Vec ℕ). vec_capacity y.1) x) 0
+
+pub capacity_before : (entries : List (String Global × Vec ℕ)) (i : ℕ) (name : List ℕ) (old : String Global × Vec ℕ)
+    → position (has_name name) entries ≡ Some i → old ≡ get_or entries i old → capacity_under entries name ≡ vec_capacity old.1
+unfolding size_of_found
+capacity_before entries i name old e there = ap size_of_found (is_found (has_name name) entries i old e there).found
+
+pub capacity_set : (old new : List (String Global × Vec ℕ)) (name : List ℕ) (entry : String Global × Vec ℕ) → SetsNamed old new name entry → capacity_under new name ≡ vec_capacity entry.1
+unfolding size_of_found
+capacity_set old new name entry sets = ap size_of_found sets.here
+
+pub keeps_capacity : (old new : List (String Global × Vec ℕ)) (name : List ℕ) (entry : String Global × Vec ℕ) → SetsNamed old new name entry → capacity_under old name ≤ vec_capacity entry.1 → KeepsCapacity old new
+unfolding size_of_found
+keeps_capacity old new name entry sets more other =
+    let told = bytes_eq-Decides other name in
+    let here = capacity_set old new name entry sets in
+    elim (bytes_eq other name) as (λ b. bytes_eq other name ≡ b → capacity_under old other ≤ capacity_under new other) [
+      | true ↦ λ t. subst (λ n. capacity_under old n ≤ capacity_under new n) (sym (told.0 t)) (omega arith)
+      | false ↦ λ f. let same : capacity_under new other ≡ capacity_under old other = ap size_of_found (sets.others other (λ same. let t = told.1 same in cc)) in omega arith
+    ] refl
+
+-- the first file with the name has other bytes now
+pub record Replaces (old new : List (String Global × Vec ℕ)) (name : List ℕ) (before after : Vec ℕ) : Type 0 where
+  pub had : bytes_under old name ≡ Some before.items
+  pub capacity : capacity_under old name ≡ vec_capacity before
+  pub sets : (bytes : List ℕ) → after.items ≡ bytes → SetsFile old new name bytes
+  pub room : capacity_under new name ≡ vec_capacity after
+  pub keeps : vec_capacity before ≤ vec_capacity after → KeepsCapacity old new
+
+pub replaced : (entries : List (String Global × Vec ℕ)) (i : ℕ) (name : List ℕ) (old : String Global × Vec ℕ) (v : Vec ℕ)
+    → position (has_name name) entries ≡ Some i → old ≡ get_or entries i old → Replaces entries (set entries i (old.0, v)) name old.1 v
+replaced entries i name old v e there =
+    let sets = set_named entries i name old v e there in
+    let was = capacity_before entries i name old e there in
+    record {
+      had = bytes_before entries i name old e there;
+      capacity = was;
+      sets = λ bytes is. sets_file _ _ name (old.0, v) bytes sets is;
+      room = capacity_set _ _ name (old.0, v) sets;
+      keeps = λ more. keeps_capacity _ _ name (old.0, v) sets (omega arith);
     }
 
 -- a file that is set to the bytes that it has stays, and so does every other
@@ -93,17 +147,24 @@ or_none None = refl
 or_none (Some x) = refl
 
 -- an entry at the end, under a name that no entry had
-pub add_file : (entries : List (String Global × Vec ℕ)) (name : List ℕ) (entry : String Global × Vec ℕ) (bytes : List ℕ)
-    → position (has_name name) entries ≡ None → string_bytes entry.0 ≡ name → entry.1.items ≡ bytes → SetsFile entries (entries ++ entry ∷ []) name bytes
-add_file entries name entry bytes e named is =
-    let content = λ (x : Option (String Global × Vec ℕ)). option_map (λ (y : String Global × Vec ℕ). y.1.items) x in
+pub add_named : (entries : List (String Global × Vec ℕ)) (name : List ℕ) (entry : String Global × Vec ℕ)
+    → position (has_name name) entries ≡ None → string_bytes entry.0 ≡ name → SetsNamed entries (entries ++ entry ∷ []) name entry
+add_named entries name entry e named =
     let mine : has_name name entry ≡ true = (bytes_eq-Decides (string_bytes entry.0) name).1 named in
     record {
-      set = ap content (find-append (has_name name) entries (entry ∷ [])) ∙ rw (find_none (has_name name) entries e, mine) (ap (λ b. Some b) is);
+      here = find-append (has_name name) entries (entry ∷ []) ∙ rw (find_none (has_name name) entries e, mine) refl;
       others = λ other differ.
           let here : has_name other entry ≡ false = other_name other name entry differ mine in
-          ap content (find-append (has_name other) entries (entry ∷ []) ∙ rw here (or_none (find (has_name other) entries)));
+          find-append (has_name other) entries (entry ∷ []) ∙ rw here (or_none (find (has_name other) entries));
     }
+
+-- no entry had the name
+pub no_bytes : (entries : List (String Global × Vec ℕ)) (name : List ℕ) → position (has_name name) entries ≡ None → bytes_under entries name ≡ None
+no_bytes entries name e = ap (λ f. option_map (λ (entry : String Global × Vec ℕ). entry.1.items) f) (find_none (has_name name) entries e)
+
+pub capacity_none : (entries : List (String Global × Vec ℕ)) (name : List ℕ) → position (has_name name) entries ≡ None → capacity_under entries name ≡ 0
+unfolding size_of_found
+capacity_none entries name e = ap size_of_found (find_none (has_name name) entries e)
 
 -- what holds, holds at an error
 pub on_err : {T E : Type 0} (r : Result T E) (P : Type 0) → P → OnErr r P

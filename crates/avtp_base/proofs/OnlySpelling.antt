@@ -1,15 +1,15 @@
 -- Bytes that hold what a writer puts there are those that it writes.
-use Rattle.std.proofs.Common.{◌≡◌, ℕ, zero, suc, ◌+◌, ◌-◌, ◌*◌, ◌/◌, ◌%◌, ◌^◌, ◌<◌, ◌≤◌, Bool, true, false, cond, eqb, List, [], ◌∷◌, ◌++◌, length, take, drop, get_or, refl, sym, ap, subst, ◌∙◌, append_assoc, inl, inr, arith}
+use Rattle.std.proofs.Common.{◌≡◌, ℕ, zero, suc, ◌+◌, ◌-◌, ◌*◌, ◌/◌, ◌%◌, ◌^◌, ◌<◌, ◌≤◌, List, [], ◌∷◌, ◌++◌, length, take, drop, get_or, refl, sym, ap, subst, ◌∙◌, append_assoc, inl, inr, arith}
 use Rattle.std.specs.Int.{bytes_high_first}
 use Rattle.std.proofs.Math.Nat.{div-eq_of_lt, div-one}
-use Rattle.std.proofs.lemmas.Bool.{cases_lt, eqb-true}
+use Rattle.std.proofs.lemmas.Bool.{cases_lt}
 use Rattle.std.proofs.lemmas.Grind.{same_number_lists}
 use Rattle.std.proofs.lemmas.List.{get_or-append_right, get_or-drop, get_or-take, get_or_append_left, length-append, length-take, take-append-drop}
 use Rattle.std.proofs.lemmas.Nat.{same_from_place, shr-shr, shr_split}
 use Rattle.byteorder.specs.Endian.{big_from, big_bytes}
 use Rattle.byteorder.specs.Numbers.{length-bytes_high_first}
 use Rattle.byteorder.proofs.Bytes.{pow256}
-use Rattle.avtp_base.specs.Octets.{AreBytes, Range, any_set, bits}
+use Rattle.avtp_base.specs.Octets.{AreBytes, bits}
 use Rattle.avtp_base.specs.Layout.{Bits, Layout, FitsBits, Fits, total_width, size_of, written, packed_behind, packed, spelling}
 use Rattle.avtp_base.proofs.BitLemmas.{bits-below}
 use Rattle.avtp_base.proofs.LayoutLemmas.{AreBytesAt, Holds, HoldsBits, IsLaid, bits-wide, bytes-below, holds_spelled, number-below, packed_is}
@@ -139,19 +139,3 @@ only_spelling layout v bytes size laid len fits long h =
     ∙ same_parts layout v 0 bytes whole laid fits bytes_fit h written k (omega arith) (omega arith)
     ∙ get_or_append_left spelled rest 0 k (omega arith)) in
     sym (take-append-drop size bytes) ∙ ap (λ (xs : List ℕ). xs ++ rest) front
-
--- ---- no reserved bit is set
-
-abbrev pub AllUnset : List Range → List ℕ → Type 0
-AllUnset [] bytes = Unit {0}
-AllUnset (r ∷ ranges) bytes = (bits r.at r.first r.width bytes ≡ 0) × AllUnset ranges bytes
-
-unset-first : (zero_there rest : Bool) → cond zero_there rest true ≡ false → (zero_there ≡ true) × (rest ≡ false)
-unset-first true rest e = (refl, e)
-unset-first false rest e = absurd cc
-
-pub unset_so : (ranges : List Range) (bytes : List ℕ) → any_set ranges bytes ≡ false → AllUnset ranges bytes
-unset_so [] bytes e = tt
-unset_so (r ∷ ranges) bytes e =
-    let parts = unset-first (eqb (bits r.at r.first r.width bytes) 0) (any_set ranges bytes) e in
-    (eqb-true (bits r.at r.first r.width bytes) 0 parts.0, unset_so ranges bytes parts.1)

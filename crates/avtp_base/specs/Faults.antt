@@ -17,7 +17,7 @@ Rose before after = min (before + 1) last_count ≤ after
 abbrev pub IsQuiet : ℕ → ℕ → Type 0
 IsQuiet before after = after < min (before + 1) last_count
 
--- A call of the outside answered this: its count never falls, it stays at Ok, and a failure has risen it.
+-- A call of the outside answered this: its count never falls, it stays at Ok, and a failure raised it.
 pub record IsCounted {T : Type 0} (before after : ℕ) (result : Result T Failed) : Type 0 where
   pub never_falls : before ≤ after
   pub ok : OnOk result (after ≡ before)

@@ -1,4 +1,5 @@
--- What the calls of a shelf do to its files and to its open files, where the shelf tells them. A name is its
+-- What the calls of a shelf do to its files and to its open files, where the shelf tells them. It may stop telling its
+-- files, and then never tells them again; what is said of them is said where they are told before and after. A name is its
 -- bytes.
 use Rattle.std.specs.Prelude.{◌≡◌, ◌≢◌, ℕ, Bool, true, false, List, ◌++◌, Option, Some, None, option_map, option_and_then, IsSome, IsSomeAnd, ⊤}
 
@@ -34,14 +35,16 @@ IsMissing (Some files) name = files name ≡ None
 
 -- all files that are told stay as they were
 abbrev pub KeepsFiles : Option Files → Option Files → Type 0
-KeepsFiles None new = ⊤
-KeepsFiles (Some old) None = ⊥
+KeepsFiles None None = ⊤
+KeepsFiles None (Some new) = ⊥
+KeepsFiles (Some old) None = ⊤
 KeepsFiles (Some old) (Some new) = (name : List ℕ) → new name ≡ old name
 
 -- the file has these bytes now, and all other files that are told stay as they were
 abbrev pub PutsFile : Option Files → Option Files → List ℕ → List ℕ → Type 0
-PutsFile None new name bytes = ⊤
-PutsFile (Some old) None name bytes = ⊥
+PutsFile None None name bytes = ⊤
+PutsFile None (Some new) name bytes = ⊥
+PutsFile (Some old) None name bytes = ⊤
 PutsFile (Some old) (Some new) name bytes =
     (new name ≡ Some bytes) × ((other : List ℕ) → other ≢ name → new other ≡ old other)
 
@@ -75,7 +78,9 @@ pub record KeepsOthersFiles (old new : Slots) (k : ℕ) (name : List ℕ) : Type
 
 -- the named file gained these bytes at its end, and all other files that are told stay as they were
 abbrev pub AppendsTo : Option Files → Option Files → Option (List ℕ) → List ℕ → Type 0
-AppendsTo None new name bytes = ⊤
-AppendsTo (Some old) new None bytes = ⊥
-AppendsTo (Some old) new (Some name) bytes =
-    (before : List ℕ) × (old name ≡ Some before) × PutsFile (Some old) new name (before ++ bytes)
+AppendsTo None None name bytes = ⊤
+AppendsTo None (Some new) name bytes = ⊥
+AppendsTo (Some old) None name bytes = ⊤
+AppendsTo (Some old) (Some new) None bytes = ⊥
+AppendsTo (Some old) (Some new) (Some name) bytes =
+    (before : List ℕ) × (old name ≡ Some before) × PutsFile (Some old) (Some new) name (before ++ bytes)

@@ -99,7 +99,7 @@ abbrev pub Fits : {V : Type 0} → Layout V → V → Type 0
 Fits [] v = ⊤
 Fits (p ∷ parts) v = FitsBits p.bits v × Fits parts v
 
--- the number that bits spell beside each other, behind bits that spell n
+-- the number that bits spell beside each other, after bits that spell n
 abbrev pub packed_behind : {V : Type 0} → ℕ → List (Bits V) → V → ℕ
 packed_behind n [] v = n
 packed_behind n (b ∷ bs) v = packed_behind (n * 2 ^ b.width + written b v) bs v

@@ -4,10 +4,16 @@ pub mod Faults
 pub mod Field
 pub mod FileShelf
 pub mod Files
+pub mod MemoryFiles
 pub mod MemoryShelf
 pub mod MemorySink
 pub mod NamedFiles
 pub mod OpenFile
 pub mod Octets
 pub mod Rows
+pub mod Told
+pub mod Asked
 pub mod Layout
+pub mod Room
+pub mod QuietShelf
+pub mod QuietSink

@@ -1,6 +1,7 @@
 -- Files in memory, as a list of names with their bytes.
-use Rattle.std.specs.Prelude.{◌≡◌, ◌≢◌, ℕ, Bool, List, ◌++◌, Option, Some, option_map, find, bytes_eq, string_bytes, String}
+use Rattle.std.specs.Prelude.{◌≡◌, ◌≢◌, ◌↔◌, ◌≤◌, ℕ, Bool, IsTrue, List, ◌++◌, Option, Some, option_map, unwrap_or, find, bytes_eq, string_bytes, String, vec_capacity}
 use Rattle.std.specs.Global.{Vec, Global}
+use Rattle.avtp_base.specs.Room.{kept_within, FitsRoom}
 
 -- the entry has this name
 abbrev pub has_name : List ℕ → String Global × Vec ℕ → Bool
@@ -23,3 +24,18 @@ GrowsFile old new name piece =
 -- every file is as it was
 abbrev pub KeepsNamed : List (String Global × Vec ℕ) → List (String Global × Vec ℕ) → Type 0
 KeepsNamed old new = (name : List ℕ) → bytes_under new name ≡ bytes_under old name
+
+-- the bytes that the first entry with the name has memory for
+abbrev pub capacity_under : List (String Global × Vec ℕ) → List ℕ → ℕ
+capacity_under entries name = unwrap_or (option_map (λ entry. vec_capacity entry.1) (find (has_name name) entries)) 0
+
+-- no file has less memory than it had
+abbrev pub KeepsCapacity : List (String Global × Vec ℕ) → List (String Global × Vec ℕ) → Type 0
+KeepsCapacity old new = (name : List ℕ) → capacity_under old name ≤ capacity_under new name
+
+-- the file keeps what fits its room of a piece, which is said to be all of it or not, and every other file is as it was
+pub record KeepsWithin (old new : List (String Global × Vec ℕ)) (name : List ℕ) (room : ℕ) (piece : List ℕ) (fits : Bool) : Type 0 where
+  pub before : List ℕ
+  pub was : bytes_under old name ≡ Some before
+  pub keeps : SetsFile old new name (kept_within room before piece)
+  pub fitting : IsTrue fits ↔ FitsRoom room before piece

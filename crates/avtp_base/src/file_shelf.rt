@@ -1,6 +1,6 @@
 //! Real files.
 
-ghost use Rattle.std.specs.Prelude.{◌≡◌, ◌<◌, ◌≤◌, ℕ, None, length, IsSome, IfSome};
+ghost use Rattle.std.specs.Prelude.{◌≡◌, ◌<◌, ◌≤◌, ℕ, ⊤, None, length, IsSome, IfSome};
 ghost use Rattle.std.proofs.Common.{rules};
 ghost use Rattle.avtp_base.specs.Entries.{entry_at};
 ghost use Rattle.avtp_base.specs.FileShelf.{real_slots};
@@ -49,6 +49,8 @@ where
     R::File: Send,
 {
     ghost files = { λ shelf. None };
+
+    ghost asked = { λ shelf names. ⊤ };
 
     ghost slots = { λ shelf. real_slots shelf.live };
 

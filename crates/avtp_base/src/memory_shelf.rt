@@ -1,41 +1,38 @@
 //! A shelf in memory, which fails where it is told to.
 
 ghost use Rattle.std.specs.Prelude.{◌<◌};
-ghost use Rattle.avtp_base.specs.OpenFile.{AreNamed};
 
+use crate::asked_names::AskedNames;
 use crate::calls::Calls;
 use crate::failed::{Failed, NoMemory, OpenFault};
-use crate::named_files::NamedFiles;
-use crate::open_file::{OpenFile, advance, copy_from};
+use crate::memory_files::MemoryFiles;
 use crate::shelf::{Shelf, Slot};
-use crate::slots::Slots;
 use std::alloc::Global;
 
 /// Keeps files by name. Its calls, but those of `close_file`, are numbered from 1, and those whose numbers it was
 /// given fail.
 #[derive(Debug, Drop)]
 pub struct MemoryShelf {
-    alloc: Global,
-    files: NamedFiles,
-    live: Slots<OpenFile>,
+    held: MemoryFiles,
+    asked: AskedNames,
     calls: Calls,
     most: usize,
     reading_faults: u64,
     writing_faults: u64,
     ghost some: { 0 < most },
-    ghost named: { AreNamed files.entries.items live.entries.items },
 }
 
 impl MemoryShelf {
-    ghost use Rattle.std.specs.Prelude.{◌≡◌, ◌^◌, ◌-◌, None, ℕ, option_copied};
+    ghost use Rattle.std.specs.Prelude.{◌≡◌, ◌^◌, ◌-◌, [], None, ℕ, option_copied};
     ghost use Rattle.avtp_base.specs.NamedFiles.{bytes_under};
-    ghost use Rattle.avtp_base.specs.MemoryShelf.{files_of, slots_of, calls, failing_calls, most, reading_count, writing_count};
+    ghost use Rattle.avtp_base.specs.MemoryShelf.{files_of, slots_of, asked_of, calls, failing_calls, most, reading_count, writing_count};
 
     /// A shelf of these files, each under its name, whose calls with these numbers fail. Of two files of one name
     /// the first counts.
     pub fn over(alloc: Global, files: Vec<(String, Vec<u8>)>, fails: Vec<u64>) -> Self
         ensures files { files_of result ≡ bytes_under files.items }
         ensures closed { (k : ℕ) → slots_of result k ≡ None }
+        ensures asked { asked_of result [] }
         ensures fails { failing_calls result ≡ fails.items }
         ensures calls { calls result ≡ 0 }
         ensures most { most result ≡ 2 ^ 64 - 1 }
@@ -43,9 +40,8 @@ impl MemoryShelf {
         ensures writing { writing_count result ≡ 0 }
     {
         MemoryShelf {
-            alloc,
-            files: NamedFiles { entries: files },
-            live: Slots::new(alloc),
+            held: MemoryFiles::over(alloc, files, 0),
+            asked: AskedNames::new(alloc),
             calls: Calls::over(fails),
             most: usize::MAX,
             reading_faults: 0,
@@ -58,6 +54,7 @@ impl MemoryShelf {
         requires { 0 < n }
         ensures files { files_of result ≡ files_of self }
         ensures slots { (k : ℕ) → slots_of result k ≡ slots_of self k }
+        ensures asked { result.asked ≡ self.asked }
         ensures fails { failing_calls result ≡ failing_calls self }
         ensures calls { calls result ≡ calls self }
         ensures most { most result ≡ n }
@@ -65,18 +62,16 @@ impl MemoryShelf {
         ensures writing { writing_count result ≡ writing_count self }
     {
         let MemoryShelf {
-            alloc,
-            files,
-            live,
+            held,
+            asked,
             calls,
             most: _,
             reading_faults,
             writing_faults,
         } = self;
         MemoryShelf {
-            alloc,
-            files,
-            live,
+            held,
+            asked,
             calls,
             most: n,
             reading_faults,
@@ -88,18 +83,29 @@ impl MemoryShelf {
     pub fn file(&self, name: &str) -> Option<&[u8]>
         ensures { option_copied result ≡ files_of self.now name.now }
     {
-        self.files.bytes(name)
+        self.held.file(name)
+    }
+
+    /// The names that `open_file` and `create_file` were called with, in order, up to the first for which no memory was
+    /// found.
+    pub fn asked(&self) -> &[String]
+        ensures { result.now ≡ self.now.asked.names.items }
+    {
+        self.asked.names.as_slice()
     }
 }
 
 impl Shelf for MemoryShelf {
-    ghost use Rattle.std.specs.Prelude.{◌≡◌, ◌≤◌, ◌<◌, ◌↔◌, true, [], None, Some, min, take, length, option_map, IsSome, IfSome, IfOk, OnOk, OnErr, IsErr, IsErrOf};
+    ghost use Rattle.std.specs.Prelude.{◌≡◌, ◌≤◌, ◌<◌, ◌↔◌, ◌++◌, ◌∷◌, ℕ, List, true, [], None, Some, min, take, length, option_map, IsSome, IfSome, IfOk, OnOk, OnErr, IsErr, IsErrOf};
     ghost use Rattle.std.specs.Io.KnownBytes.{ReadConsumes};
     ghost use Rattle.avtp_base.specs.Faults.{IsCounted, IsOpenCounted};
     ghost use Rattle.avtp_base.specs.Files.{file_of, left_in, name_in, IsMissing, KeepsFiles, KeepsOthers, KeepsSlots, KeepsOtherFiles, KeepsOthersFiles, PutsFile, IsOpened, IsMade, AppendsTo};
-    ghost use Rattle.avtp_base.specs.MemoryShelf.{files_of, slots_of, calls, most, reading_count, writing_count, told_in_memory, IsToFail, CountsCall};
+    ghost use Rattle.avtp_base.specs.MemoryFiles.{told_of_live};
+    ghost use Rattle.avtp_base.specs.MemoryShelf.{files_of, slots_of, asked_of, calls, most, reading_count, writing_count, IsToFail, CountsCall};
 
     ghost files = { λ shelf. Some (files_of shelf) };
+
+    ghost asked = { asked_of };
 
     ghost slots = { slots_of };
 
@@ -107,7 +113,7 @@ impl Shelf for MemoryShelf {
 
     ghost writing_faults = { writing_count };
 
-    ghost told = { told_in_memory };
+    ghost told = { λ shelf k told live. told_of_live shelf.held k live };
 
     /// Fails exactly where its number is among those that fail.
     fn open_file(&mut self, name: &str) -> Result<Slot, OpenFault>
@@ -119,24 +125,16 @@ impl Shelf for MemoryShelf {
         ensures files { KeepsFiles (Some (files_of self.old)) (Some (files_of self.new)) }
         ensures reading { IsOpenCounted (reading_count self.old) (reading_count self.new) result }
         ensures writing { writing_count self.new ≡ writing_count self.old }
+        ensures asked { (names : List (List ℕ)) → asked_of self.old names → asked_of self.new (names ++ name.now ∷ []) }
         ensures failed { IsErrOf result OpenFault.Failed ↔ IsToFail self.old }
         ensures call { CountsCall self.old self.new }
     {
+        self.asked.note(name);
         if self.calls.next_fails() {
             self.reading_faults = self.reading_faults.saturating_add(1);
             return Err(OpenFault::Failed);
         }
-        if self.files.bytes(name).is_none() {
-            return Err(OpenFault::Missing);
-        }
-        let Ok(file) = OpenFile::start(self.alloc, name, false) else {
-            return Err(OpenFault::Memory);
-        };
-        let Ok(slot) = self.live.free_slot() else {
-            return Err(OpenFault::Memory);
-        };
-        self.live.set(slot, Some(file));
-        Ok(slot)
+        self.held.open(name)
     }
 
     /// Fails exactly where its number is among those that fail.
@@ -150,23 +148,18 @@ impl Shelf for MemoryShelf {
         ensures not_missing { IsErrOf result OpenFault.Missing → ⊥ }
         ensures writing { IsOpenCounted (writing_count self.old) (writing_count self.new) result }
         ensures reading { reading_count self.new ≡ reading_count self.old }
+        ensures asked { (names : List (List ℕ)) → asked_of self.old names → asked_of self.new (names ++ name.now ∷ []) }
         ensures failed { IsErrOf result OpenFault.Failed ↔ IsToFail self.old }
         ensures call { CountsCall self.old self.new }
     {
+        self.asked.note(name);
         if self.calls.next_fails() {
             self.writing_faults = self.writing_faults.saturating_add(1);
             return Err(OpenFault::Failed);
         }
-        let Ok(file) = OpenFile::start(self.alloc, name, true) else {
+        let Ok(slot) = self.held.create(name) else {
             return Err(OpenFault::Memory);
         };
-        let Ok(slot) = self.live.free_slot() else {
-            return Err(OpenFault::Memory);
-        };
-        let Ok(()) = self.files.empty(self.alloc, name) else {
-            return Err(OpenFault::Memory);
-        };
-        self.live.set(slot, Some(file));
         Ok(slot)
     }
 
@@ -182,6 +175,7 @@ impl Shelf for MemoryShelf {
         ensures files { KeepsFiles (Some (files_of self.old)) (Some (files_of self.new)) }
         ensures reading { IsCounted (reading_count self.old) (reading_count self.new) result }
         ensures writing { writing_count self.new ≡ writing_count self.old }
+        ensures asked { (names : List (List ℕ)) → asked_of self.old names → asked_of self.new names }
         ensures failed { IsErr result ↔ IsToFail self.old }
         ensures call { CountsCall self.old self.new }
     {
@@ -189,13 +183,7 @@ impl Shelf for MemoryShelf {
             self.reading_faults = self.reading_faults.saturating_add(1);
             return Err(Failed);
         }
-        let Some(file) = self.live.get(slot) else {
-            unreachable!()
-        };
-        let bytes = self.files.bytes_of(file.name.as_str());
-        let moved = copy_from(bytes, file.place, self.most, buf);
-        advance(&mut self.live, slot, moved);
-        Ok(moved)
+        Ok(self.held.read(slot, self.most, buf))
     }
 
     /// Fails where its number is among those that fail, and where no memory is found to keep the piece. It takes
@@ -213,6 +201,7 @@ impl Shelf for MemoryShelf {
         ensures files { OnErr result (KeepsFiles (Some (files_of self.old)) (Some (files_of self.new))) }
         ensures writing { IsCounted (writing_count self.old) (writing_count self.new) result }
         ensures reading { reading_count self.new ≡ reading_count self.old }
+        ensures asked { (names : List (List ℕ)) → asked_of self.old names → asked_of self.new names }
         ensures failed { IsToFail self.old → IsErr result }
         ensures call { CountsCall self.old self.new }
     {
@@ -220,11 +209,8 @@ impl Shelf for MemoryShelf {
             self.writing_faults = self.writing_faults.saturating_add(1);
             return Err(Failed);
         }
-        let Some(file) = self.live.get(slot) else {
-            unreachable!()
-        };
         let taken = piece.len().min(self.most);
-        match self.files.append(file.name.as_str(), &piece[..taken]) {
+        match self.held.append(slot, &piece[..taken]) {
             Ok(()) => Ok(taken),
             Err(NoMemory) => {
                 self.writing_faults = self.writing_faults.saturating_add(1);
@@ -241,9 +227,10 @@ impl Shelf for MemoryShelf {
         ensures files { KeepsFiles (Some (files_of self.old)) (Some (files_of self.new)) }
         ensures reading { reading_count self.new ≡ reading_count self.old }
         ensures writing { writing_count self.new ≡ writing_count self.old }
+        ensures asked { (names : List (List ℕ)) → asked_of self.old names → asked_of self.new names }
         ensures calls { calls self.new ≡ calls self.old }
         ensures most { most self.new ≡ most self.old }
     {
-        self.live.set(slot, None);
+        self.held.close(slot);
     }
 }

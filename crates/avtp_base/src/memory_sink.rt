@@ -70,10 +70,10 @@ impl MemorySink {
 
 impl Sink for MemorySink {
     ghost use Rattle.std.specs.Prelude.{◌≡◌, ◌≤◌, ◌<◌, Some, min, length, Contains, IfOk, IsErr};
-    ghost use Rattle.std.specs.Io.KnownBytes.{WriteAppends};
     ghost use Rattle.avtp_base.specs.Calls.{next_number};
     ghost use Rattle.avtp_base.specs.Faults.{IsCounted};
     ghost use Rattle.avtp_base.specs.MemorySink.{kept, calls, failing_calls, most, fault_count};
+    ghost use Rattle.avtp_base.specs.Told.{WriteAppends};
 
     ghost held = { λ sink. Some (kept sink) };
 

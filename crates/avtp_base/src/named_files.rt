@@ -1,9 +1,10 @@
 //! Files in memory, by name.
 
-ghost use Rattle.std.specs.Prelude.{◌≡◌, [], Some, OnOk, OnErr, IsSome, option_copied, position};
-ghost use Rattle.avtp_base.specs.NamedFiles.{bytes_under, has_name, SetsFile, GrowsFile, KeepsNamed};
+ghost use Rattle.std.specs.Prelude.{◌≡◌, ◌≤◌, [], Some, OnOk, OnErr, IsSome, option_copied, position};
+ghost use Rattle.avtp_base.specs.NamedFiles.{bytes_under, capacity_under, has_name, SetsFile, GrowsFile, KeepsNamed, KeepsCapacity, KeepsWithin};
 
 use crate::failed::NoMemory;
+use crate::room::{empty_with_room, keep_within};
 use std::alloc::Global;
 
 /// Names with their bytes. Of two entries of one name the first counts.
@@ -39,6 +40,7 @@ impl NamedFiles {
         requires { IsSome (bytes_under self.old.entries.items name.now) }
         ensures ok { OnOk result (GrowsFile self.old.entries.items self.new.entries.items name.now piece.now) }
         ensures err { OnErr result (KeepsNamed self.old.entries.items self.new.entries.items) }
+        ensures capacity { KeepsCapacity self.old.entries.items self.new.entries.items }
     {
         let Some(place) = place_of(&self.entries, name) else {
             return Err(NoMemory);
@@ -48,20 +50,37 @@ impl NamedFiles {
         Ok(())
     }
 
-    /// Empties the file with the name, or adds an empty one.
-    pub fn empty(&mut self, alloc: Global, name: &str) -> Result<(), NoMemory>
+    /// Appends what fits the room of a piece to the file with the name, and says whether all of it did.
+    pub fn keep(&mut self, name: &str, room: usize, piece: &[u8]) -> bool
+        requires named { IsSome (bytes_under self.old.entries.items name.now) }
+        requires roomy { room ≤ capacity_under self.old.entries.items name.now }
+        ensures kept { KeepsWithin self.old.entries.items self.new.entries.items name.now room piece.now result }
+        ensures capacity { KeepsCapacity self.old.entries.items self.new.entries.items }
+    {
+        let Some(place) = place_of(&self.entries, name) else {
+            return false;
+        };
+        let file = &mut self.entries[place];
+        keep_within(&mut file.1, room, piece)
+    }
+
+    /// Empties the file with the name, or adds an empty one, with memory for so many bytes.
+    pub fn empty(&mut self, alloc: Global, name: &str, room: usize) -> Result<(), NoMemory>
         ensures ok { OnOk result (SetsFile self.old.entries.items self.new.entries.items name.now []) }
+        ensures roomy { OnOk result (room ≤ capacity_under self.new.entries.items name.now) }
         ensures err { OnErr result (KeepsNamed self.old.entries.items self.new.entries.items) }
+        ensures capacity { KeepsCapacity self.old.entries.items self.new.entries.items }
     {
         match place_of(&self.entries, name) {
             Some(place) => {
                 let file = &mut self.entries[place];
-                file.1.clear();
+                empty_with_room(&mut file.1, room)?;
                 Ok(())
             }
             None => {
                 let name = String::from_str(alloc, name)?;
-                self.entries.push((name, Vec::new(alloc)))?;
+                let file = Vec::with_capacity(alloc, room)?;
+                self.entries.push((name, file))?;
                 Ok(())
             }
         }

@@ -1,6 +1,6 @@
 //! Files by name.
 
-ghost use Rattle.std.specs.Prelude.{◌≡◌, ◌≤◌, ◌<◌, true, [], None, Some, take, length, option_map, IsSome, IfOk, OnOk, OnErr, IsErrOf};
+ghost use Rattle.std.specs.Prelude.{◌≡◌, ◌≤◌, ◌<◌, ◌++◌, ◌∷◌, ℕ, List, true, [], None, Some, take, length, option_map, IsSome, IfOk, OnOk, OnErr, IsErrOf};
 ghost use Rattle.std.specs.Io.KnownBytes.{ReadConsumes};
 ghost use Rattle.avtp_base.specs.Faults.{IsCounted, IsOpenCounted};
 ghost use Rattle.avtp_base.specs.Files.{file_of, left_in, name_in, IsMissing, KeepsFiles, KeepsOthers, KeepsSlots, KeepsOtherFiles, PutsFile, IsOpened, IsMade, KeepsOthersFiles, AppendsTo};
@@ -14,11 +14,16 @@ pub struct Slot(pub u32);
 /// Files by name, read and written in pieces through slots. A shelf counts the faults of reading (`open_file` and
 /// `read`) and of writing (`create_file` and `write`) apart; a call raises no count but its own.
 pub trait Shelf: Send {
-    ghost use Rattle.std.specs.Prelude.{ℕ, Option, IsTrue, Some};
+    ghost use Rattle.std.specs.Prelude.{ℕ, List, Option, IsTrue, Some};
     ghost use Rattle.avtp_base.specs.Files.{Files, Slots};
 
-    /// The files, where the shelf tells them: a shelf in memory does, real files do not.
+    /// The files, where the shelf tells them: a shelf in memory does, real files do not. A shelf may stop telling
+    /// them, and then never tells them again.
     ghost files: { Self → Option Files };
+
+    /// These names were asked for so far, by `open_file` and `create_file`, in this order. A shelf that keeps no account
+    /// of them stands for any.
+    ghost asked: { Self → List (List ℕ) → Type 0 };
 
     /// The live slots, and what is open there.
     ghost slots: { Self → Slots };
@@ -41,7 +46,8 @@ pub trait Shelf: Send {
         ensures missing { IsErrOf result OpenFault.Missing → IsMissing (files self.old) name.now }
         ensures files { KeepsFiles (files self.old) (files self.new) }
         ensures reading { IsOpenCounted (reading_faults self.old) (reading_faults self.new) result }
-        ensures writing { writing_faults self.new ≡ writing_faults self.old };
+        ensures writing { writing_faults self.new ≡ writing_faults self.old }
+        ensures asked { (names : List (List ℕ)) → asked self.old names → asked self.new (names ++ name.now ∷ []) };
 
     /// Makes a file or empties it, for writing in a slot that was not live.
     ///
@@ -55,7 +61,8 @@ pub trait Shelf: Send {
         ensures files { OnErr result (KeepsFiles (files self.old) (files self.new)) }
         ensures not_missing { IsErrOf result OpenFault.Missing → ⊥ }
         ensures writing { IsOpenCounted (writing_faults self.old) (writing_faults self.new) result }
-        ensures reading { reading_faults self.new ≡ reading_faults self.old };
+        ensures reading { reading_faults self.new ≡ reading_faults self.old }
+        ensures asked { (names : List (List ℕ)) → asked self.old names → asked self.new (names ++ name.now ∷ []) };
 
     /// Moves bytes from the front of what is left into the buffer, at least one, and answers their number; 0 means
     /// that nothing is left.
@@ -70,7 +77,8 @@ pub trait Shelf: Send {
         ensures others { KeepsOthers (slots self.old) (slots self.new) slot.0 }
         ensures files { KeepsFiles (files self.old) (files self.new) }
         ensures reading { IsCounted (reading_faults self.old) (reading_faults self.new) result }
-        ensures writing { writing_faults self.new ≡ writing_faults self.old };
+        ensures writing { writing_faults self.new ≡ writing_faults self.old }
+        ensures asked { (names : List (List ℕ)) → asked self.old names → asked self.new names };
 
     /// Appends a prefix of the piece, of at least one byte, to the file of the slot, and answers its length.
     ///
@@ -86,7 +94,8 @@ pub trait Shelf: Send {
         ensures refused { OnErr result (KeepsSlots (slots self.old) (slots self.new)) }
         ensures files { OnErr result (KeepsFiles (files self.old) (files self.new)) }
         ensures writing { IsCounted (writing_faults self.old) (writing_faults self.new) result }
-        ensures reading { reading_faults self.new ≡ reading_faults self.old };
+        ensures reading { reading_faults self.new ≡ reading_faults self.old }
+        ensures asked { (names : List (List ℕ)) → asked self.old names → asked self.new names };
 
     /// Ends the slot.
     fn close_file(&mut self, slot: Slot)
@@ -95,7 +104,8 @@ pub trait Shelf: Send {
         ensures others { KeepsOthers (slots self.old) (slots self.new) slot.0 }
         ensures files { KeepsFiles (files self.old) (files self.new) }
         ensures reading { reading_faults self.new ≡ reading_faults self.old }
-        ensures writing { writing_faults self.new ≡ writing_faults self.old };
+        ensures writing { writing_faults self.new ≡ writing_faults self.old }
+        ensures asked { (names : List (List ℕ)) → asked self.old names → asked self.new names };
 
     /// Where files are told, so are the name of each live slot and what is left there.
     ghost told: { (shelf : Self) (k : ℕ) → IsSome (files shelf) → IsSome (slots shelf k) → IsSome (name_in (slots shelf) k) × IsSome (left_in (slots shelf) k) };

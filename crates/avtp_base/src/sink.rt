@@ -1,8 +1,8 @@
 //! Where text goes.
 
 ghost use Rattle.std.specs.Prelude.{◌≤◌, ◌<◌, length, IfOk};
-ghost use Rattle.std.specs.Io.KnownBytes.{WriteAppends};
 ghost use Rattle.avtp_base.specs.Faults.{IsCounted};
+ghost use Rattle.avtp_base.specs.Told.{WriteAppends};
 
 use crate::failed::Failed;
 
@@ -10,7 +10,7 @@ use crate::failed::Failed;
 pub trait Sink: Send {
     ghost use Rattle.std.specs.Prelude.{List, ℕ, Option};
 
-    /// The bytes that the sink holds, where it tells them.
+    /// The bytes that the sink holds, where it tells them. A sink may stop telling them, and then never tells them again.
     ghost held: { Self → Option (List ℕ) };
 
     /// The number of faults so far, which stands still at the last value of a 64-bit number.

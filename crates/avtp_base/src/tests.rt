@@ -1,4 +1,7 @@
-use crate::{Failed, Field, FileShelf, MemoryShelf, MemorySink, OpenFault, Shelf, Sink, StdSink};
+use crate::{
+    Failed, Field, FileShelf, FileSink, MemoryShelf, MemorySink, OpenFault, QuietShelf, QuietSink,
+    Shelf, Sink, StdSink,
+};
 use std::alloc::{AllocError, Global};
 use std::test::Fail;
 use std::{env, fs};
@@ -65,6 +68,78 @@ fn shelf_in_memory(rt: HostRuntime) -> Result<(), Fail> {
     assert_eq!(rt; shelf.file("b"), Some(b"xyz".as_slice()));
     assert_eq!(rt; shelf.file("a"), Some(b"12345".as_slice()));
     assert_eq!(rt; shelf.file("c"), None);
+    let mut asked = Vec::new(alloc);
+    for name in shelf.asked() {
+        asked.push(name.as_str())?;
+    }
+    assert_eq!(rt; asked.as_slice(), ["c", "a", "b"].as_slice());
+    Ok(())
+}
+
+/// What fits the room of a written file is kept, and the rest is taken all the same; once something was not kept, no
+/// name is said to be missing.
+#[test]
+fn quiet_shelf(rt: HostRuntime) -> Result<(), Fail> {
+    let alloc = rt.alloc();
+    let mut shelf = QuietShelf::over(alloc, files_of(alloc, &[("a", b"12345")])?, 4);
+    let Ok(slot) = shelf.open_file("a") else {
+        return Err(Fail::from("a is there"));
+    };
+    let mut buf = [0u8; 8];
+    assert_eq!(rt; shelf.read(slot, &mut buf), Ok(5));
+    shelf.close_file(slot);
+    assert_eq!(rt; shelf.open_file("c"), Err(OpenFault::Missing));
+    let Ok(slot) = shelf.create_file("b") else {
+        return Err(Fail::from("b can be made"));
+    };
+    assert_eq!(rt; shelf.write(slot, b"xyz"), Ok(3));
+    assert_eq!(rt; shelf.write(slot, b"uv"), Ok(2));
+    shelf.close_file(slot);
+    assert_eq!(rt; shelf.file("b"), Some(b"xyzu".as_slice()));
+    assert_eq!(rt; shelf.open_file("c"), Err(OpenFault::Memory));
+    Ok(())
+}
+
+/// A sink takes whole pieces and keeps what fits its room.
+#[test]
+fn quiet_sink(rt: HostRuntime) -> Result<(), Fail> {
+    let Ok(mut sink) = QuietSink::over(rt.alloc(), 5) else {
+        return Err(Fail::from("there is memory"));
+    };
+    for (piece, kept) in [("abc", "abc"), ("defg", "abcde"), ("h", "abcde")] {
+        assert_eq!(rt; sink.write(piece.as_bytes()), Ok(piece.len()));
+        assert_eq!(rt; sink.bytes(), kept.as_bytes());
+    }
+    Ok(())
+}
+
+/// A named file is made, and emptied, by the first write, and not before; one that cannot be made is a fault.
+#[test]
+fn real_file_sink(rt: HostRuntime) -> Result<(), Fail> {
+    let folder = env::temp_dir(&rt)?;
+    let path = folder.join(rt.alloc(), "avtp_base_real_file_sink")?;
+    let path = path.to_str().ok_or("a path of text")?;
+    let mut shelf = FileShelf::new(rt.alloc(), &rt);
+    for pieces in [["abc", "de"], ["f", "ghi"]] {
+        let mut sink = FileSink::named(&rt, String::from_str(rt.alloc(), path)?);
+        for piece in pieces {
+            assert_eq!(rt; sink.write(piece.as_bytes()), Ok(piece.len()));
+        }
+    }
+    let Ok(slot) = shelf.open_file(path) else {
+        return Err(Fail::from("the file is there"));
+    };
+    let mut buf = [0u8; 4];
+    assert_eq!(rt; shelf.read(slot, &mut buf), Ok(4));
+    assert_eq!(rt; &buf, b"fghi");
+    assert_eq!(rt; shelf.read(slot, &mut buf), Ok(0));
+    shelf.close_file(slot);
+    fs::remove_file(&rt, path)?;
+    let sink = FileSink::named(&rt, String::from_str(rt.alloc(), path)?);
+    drop(sink);
+    assert_eq!(rt; shelf.open_file(path), Err(OpenFault::Failed));
+    let mut sink = FileSink::named(&rt, String::from_str(rt.alloc(), "/")?);
+    assert_eq!(rt; sink.write(b"a"), Err(Failed));
     Ok(())
 }
 
