@@ -7,10 +7,11 @@ use Rattle.std.proofs.lemmas.List.{length-append, length-drop, take_all, take_at
 use Rattle.std.proofs.lemmas.Nat.{div-add-mod'}
 use Rattle.avtp_base.specs.Octets.{AreBytes, bits, flag, is_set}
 use Rattle.avtp_base.specs.Rows.{first_row, or_else}
-use Rattle.avtp_base.specs.Layout.{reserved_ranges, Spells, Fits, spelling, first_short}
+use Rattle.avtp_base.specs.Layout.{Spells, Fits, spelling, first_short}
 use Rattle.avtp_base.proofs.BitLemmas.{bit_of_flag, bit_shown, flag-below}
 use Rattle.avtp_base.proofs.RowLemmas.{or_else-none, rows_passed, passed_rows, not_other, or_else-accepted, same_not_other, unequal}
-use Rattle.avtp_base.proofs.OnlySpelling.{only_spelling, unset_so}
+use Rattle.avtp_base.proofs.HoldLemmas.{held_spells, spelled_holds}
+use Rattle.avtp_base.proofs.OnlySpelling.{only_spelling}
 use Rattle.avtp_base.proofs.LayoutLemmas.{Holds, IsLaid, holds_spelled, unset_spelled}
 use Rattle.avtp_header.specs.declared.header.StreamHeader.{StreamHeader}
 use Rattle.avtp_header.specs.Header.{SpellsHeader, filled_layout, header_layout, header_of, header_refusal, kind_refusal, subtype_row, version_row}
@@ -21,7 +22,7 @@ use Rattle.aaf_format.specs.Aaf.{Aaf, SpellsAaf, IsWritableAaf, aaf_layout, aaf_
 
 -- ---- formats
 
-pub named-code : (f : AafFormat) → named_format (code_of f) ≡ Some f
+named-code : (f : AafFormat) → named_format (code_of f) ≡ Some f
 named-code Float32 = refl
 named-code Int32 = refl
 named-code Int24 = refl
@@ -146,28 +147,35 @@ same_packet : (a a' : StreamHeader) (b b' : AafFormat) (c c' d d' e e' : ℕ) (f
     → packet a b c d e f g h i j ≡ packet a' b' c' d' e' f' g' h' i' j'
 same_packet a a' b b' c c' d d' e e' f f' g g' h h' i i' j j' p q r s t u v w x y = rw (p, q, r, s, t, u, v, w, x, y) refl
 
+-- what the bits of bytes say of a packet that they spell
+record Fields (bytes : List ℕ) (v : Aaf) : Type 0 where
+  subtype : bits 0 0 8 bytes ≡ v.header.subtype
+  version : bits 1 1 3 bytes ≡ 0
+  format : bits 16 0 8 bytes ≡ code_of v.format
+  nsr : bits 17 0 4 bytes ≡ v.nsr
+  channels : bits 17 6 10 bytes ≡ v.channels
+  depth : bits 19 0 8 bytes ≡ v.depth
+  length : bits 20 0 16 bytes ≡ v.header.data_length
+  sparse : bits 22 3 1 bytes ≡ flag v.sparse
+  evt : bits 22 4 4 bytes ≡ v.evt
+
+fields_of : (bytes : List ℕ) (v : Aaf) → Spells aaf_layout v bytes → Fields bytes v
+fields_of bytes v ((subtype, _), ((_, (version, _)), (_, (_, (_, (_, ((format, _), ((nsr, (_, (channels, _))), ((depth, _), ((stated, _), ((_, (sparse, (evt, _))), _))))))))))) = record {
+  subtype = subtype;
+  version = version;
+  format = format;
+  nsr = nsr;
+  channels = channels;
+  depth = depth;
+  length = stated;
+  sparse = sparse;
+  evt = evt;
+}
+
 header_within : (bytes : List ℕ) (v : Aaf) → header_refusal bytes ≡ None → Spells aaf_layout v bytes → SpellsHeader bytes v.header
-header_within bytes v accepted f = record {
+header_within bytes v accepted (subtype, (second, (seq, (tu, (id, (timestamp, (_, (_, (_, (stated, _)))))))))) = record {
   accepted = accepted;
-  fields = (
-    f.0,
-    (
-      f.1.0,
-      (
-        f.1.1.0,
-        (
-          f.1.1.1.0,
-          (
-            f.1.1.1.1.0,
-            (
-              f.1.1.1.1.1.0,
-              ((tt, tt), (f.1.1.1.1.1.1.1.1.1.0, ((tt, tt), tt))),
-            ),
-          ),
-        ),
-      ),
-    ),
-  );
+  fields = (subtype, (second, (seq, (tu, (id, (timestamp, ((tt, tt), (stated, ((tt, tt), tt)))))))));
 }
 
 counted : (count frame stated : ℕ) → 0 < frame → count * frame ≡ stated → count ≡ stated / frame
@@ -176,22 +184,19 @@ counted count frame stated some e = rw (← e) (sym (mul-div_cancel count some))
 pub one_packet : (bytes : List ℕ) (v : Aaf) → SpellsAaf bytes v → v ≡ aaf_of bytes
 one_packet bytes v s =
     let known = accepted_so bytes s.accepted in
-    let f = s.fields in
-    let header : v.header ≡ header_of bytes = one_header bytes v.header (header_within bytes v known.header f) in
-    let format : v.format ≡ format_of bytes = format_shown bytes v.format f.1.1.1.1.1.1.0.0 in
-    let nsr : v.nsr ≡ bits 17 0 4 bytes = sym f.1.1.1.1.1.1.1.0.0 in
-    let channels : v.channels ≡ bits 17 6 10 bytes = sym f.1.1.1.1.1.1.1.0.1.1.0 in
-    let depth : v.depth ≡ bits 19 0 8 bytes = sym f.1.1.1.1.1.1.1.1.0.0 in
+    let f = fields_of bytes v s.fields in
+    let header : v.header ≡ header_of bytes = one_header bytes v.header (header_within bytes v known.header s.fields) in
+    let format : v.format ≡ format_of bytes = format_shown bytes v.format f.format in
+    let channels : v.channels ≡ bits 17 6 10 bytes = sym f.channels in
     let length : v.header.data_length ≡ bits 20 0 16 bytes = ap (λ (h : StreamHeader). h.data_length) header in
-    let sparse : v.sparse ≡ is_set 22 3 bytes = sym (bit_of_flag (bits 22 3 1 bytes) v.sparse f.1.1.1.1.1.1.1.1.1.1.0.1.0) in
-    let evt : v.evt ≡ bits 22 4 4 bytes = sym f.1.1.1.1.1.1.1.1.1.1.0.1.1.0 in
+    let sparse : v.sparse ≡ is_set 22 3 bytes = sym (bit_of_flag (bits 22 3 1 bytes) v.sparse f.sparse) in
     let some : 0 < frame_size (bits 17 6 10 bytes) (format_of bytes) =
     mul-pos (some_channels (bits 17 6 10 bytes) known.channels) (width-some (format_of bytes)) in
     let same_frame : frame_size v.channels v.format ≡ frame_size (bits 17 6 10 bytes) (format_of bytes) = rw (channels, format) refl in
     let whole : v.count * frame_size (bits 17 6 10 bytes) (format_of bytes) ≡ bits 20 0 16 bytes = rw (← same_frame, ← length) s.count in
     let count : v.count ≡ bits 20 0 16 bytes / frame_size (bits 17 6 10 bytes) (format_of bytes) = counted v.count _ (bits 20 0 16 bytes) some whole in
     let payload : v.payload ≡ take (bits 20 0 16 bytes) (drop 24 bytes) = s.payload ∙ ap (λ (n : ℕ). take n (drop 24 bytes)) length in
-    same_packet _ _ _ _ _ _ _ _ _ _ _ _ _ _ _ _ _ _ _ _ header format nsr channels depth sparse evt count payload s.reserved
+    same_packet _ _ _ _ _ _ _ _ _ _ _ _ _ _ _ _ _ _ _ _ header format (sym f.nsr) channels (sym f.depth) sparse (sym f.evt) count payload s.reserved
 
 aaf_laid : IsLaid 0 aaf_layout
 aaf_laid = (refl, refl, (refl, refl, (refl, refl, (refl, refl, (refl, refl, (refl, refl, (refl, refl, (refl, refl, (refl, refl, (refl, refl, (refl, refl, (refl, refl, tt))))))))))))
@@ -210,19 +215,8 @@ some_not_zero n some = unequal n 0 (λ e. omega arith)
 whole_frames : (count frame stated : ℕ) → count * frame ≡ stated → stated % frame ≡ 0
 whole_frames count frame stated e = rw (← e) (mul-mod_left count frame)
 
--- the fields that the rows judge, as bytes hold them of a packet
-record Judged (bytes : List ℕ) (v : Aaf) : Type 0 where
-  long : 24 + v.header.data_length ≤ length bytes
-  subtype : bits 0 0 8 bytes ≡ v.header.subtype
-  version : bits 1 1 3 bytes ≡ 0
-  format : bits 16 0 8 bytes ≡ code_of v.format
-  nsr : bits 17 0 4 bytes ≡ v.nsr
-  channels : bits 17 6 10 bytes ≡ v.channels
-  depth : bits 19 0 8 bytes ≡ v.depth
-  length : bits 20 0 16 bytes ≡ v.header.data_length
-
-accepted_again : (bytes : List ℕ) (v : Aaf) → IsWritableAaf v → Judged bytes v → aaf_refusal bytes ≡ None
-accepted_again bytes v whole j =
+accepted_again : (bytes : List ℕ) (v : Aaf) → IsWritableAaf v → Fields bytes (plain_aaf v) → 24 + v.header.data_length ≤ length bytes → aaf_refusal bytes ≡ None
+accepted_again bytes v whole j long =
     let named : format_of bytes ≡ v.format = sym (format_shown bytes v.format j.format) in
     let start = header_whole (length bytes) (omega arith) in
     let shared : first_row (subtype_row aaf_subtype bytes ∷ version_row bytes ∷ []) ≡ None =
@@ -242,7 +236,7 @@ accepted_again bytes v whole j =
     whole_frames v.count (frame_size v.channels v.format) v.header.data_length (whole.count ∙ sym whole.data_length) in
     let lengths : first_row (length_rows bytes) ≡ None =
     passed_rows (length_rows bytes) (
-      rw (j.length) (le-ltb (length bytes) (24 + v.header.data_length) j.long),
+      rw (j.length) (le-ltb (length bytes) (24 + v.header.data_length) long),
       (rw (j.length, j.channels, named) (same_not_other (v.header.data_length % frame_size v.channels v.format) 0 multiple), tt),
     ) in
     or_else-accepted _ _ (or_else-accepted _ _ start shared) (or_else-accepted _ _ samples lengths)
@@ -250,52 +244,15 @@ accepted_again bytes v whole j =
 -- bytes that hold what a writer puts there, and then the payload
 held : (bytes : List ℕ) (v : Aaf) → IsWritableAaf v → Holds aaf_layout v bytes → 24 + v.header.data_length ≤ length bytes
     → v.payload ≡ take v.header.data_length (drop 24 bytes) → SpellsAaf bytes (plain_aaf v)
-held bytes v whole f long payload = record {
-  accepted = accepted_again bytes v whole (record {
-    long = long;
-    subtype = f.0.0;
-    version = f.1.0.1.0;
-    format = f.1.1.1.1.1.1.0.0;
-    nsr = f.1.1.1.1.1.1.1.0.0;
-    channels = f.1.1.1.1.1.1.1.0.1.1.0;
-    depth = f.1.1.1.1.1.1.1.1.0.0;
-    length = f.1.1.1.1.1.1.1.1.1.0.0;
-  });
-  fields = (
-    f.0,
-    (
-      f.1.0,
-      (
-        f.1.1.0,
-        (
-          (tt, f.1.1.1.0.1),
-          (
-            f.1.1.1.1.0,
-            (
-              f.1.1.1.1.1.0,
-              (
-                f.1.1.1.1.1.1.0,
-                (
-                  (f.1.1.1.1.1.1.1.0.0, (tt, f.1.1.1.1.1.1.1.0.1.1)),
-                  (
-                    f.1.1.1.1.1.1.1.1.0,
-                    (
-                      f.1.1.1.1.1.1.1.1.1.0,
-                      ((tt, f.1.1.1.1.1.1.1.1.1.1.0.1), ((tt, tt), tt)),
-                    ),
-                  ),
-                ),
-              ),
-            ),
-          ),
-        ),
-      ),
-    ),
-  );
-  count = whole.count ∙ sym whole.data_length;
-  payload = payload;
-  reserved = sym (unset_spelled aaf_layout v bytes f);
-}
+held bytes v whole f long payload =
+    let spells : Spells aaf_layout (plain_aaf v) bytes = held_spells aaf_layout (plain_aaf v) bytes refl f in
+    record {
+      accepted = accepted_again bytes v whole (fields_of bytes (plain_aaf v) spells) long;
+      fields = spells;
+      count = whole.count ∙ sym whole.data_length;
+      payload = payload;
+      reserved = sym (unset_spelled aaf_layout v bytes f);
+    }
 
 pub aaf_again : (v : Aaf) (rest : List ℕ) → IsWritableAaf v → Fits aaf_layout v → SpellsAaf (aaf_spelling v ++ rest) (plain_aaf v)
 aaf_again v rest whole fits =
@@ -313,14 +270,21 @@ code-below Int32 = omega arith
 code-below Int24 = omega arith
 code-below Int16 = omega arith
 
+-- the numbers of a packet whose fields fit their bits
+record Bounds (v : Aaf) : Type 0 where
+  nsr : v.nsr < 16
+  channels : v.channels < 1024
+  depth : v.depth < 256
+  evt : v.evt < 16
+
+bounds_of : (v : Aaf) → Fits aaf_layout v → Bounds v
+bounds_of v (_, (_, (_, (_, (_, (_, (_, ((nsr, (_, (channels, _))), ((depth, _), (_, ((_, (_, (evt, _))), _))))))))))) = record { nsr = nsr; channels = channels; depth = depth; evt = evt }
+
 pub same_spelling : (v : Aaf) (samples flags : ℕ) → Fits aaf_layout v
     → samples ≡ code_of v.format * 2 ^ 24 + v.nsr * 2 ^ 20 + v.channels * 2 ^ 8 + v.depth → flags ≡ flag v.sparse * 2 ^ 12 + v.evt * 2 ^ 8
     → spelling (filled_layout 0 samples flags) v.header ≡ spelling aaf_layout v
 same_spelling v samples flags fits samples_is flags_is =
-    let nsr : v.nsr < 16 = fits.1.1.1.1.1.1.1.0.0 in
-    let channels : v.channels < 1024 = fits.1.1.1.1.1.1.1.0.1.1.0 in
-    let depth : v.depth < 256 = fits.1.1.1.1.1.1.1.1.0.0 in
-    let evt : v.evt < 16 = fits.1.1.1.1.1.1.1.1.1.1.0.1.1.0 in
+    let small = bounds_of v fits in
     let code = code-below v.format in
     let sparse = flag-below v.sparse in
     let a : samples / 16777216 % 256 ≡ code_of v.format % 256 = omega arith in
@@ -338,34 +302,25 @@ width-few Int24 = omega arith
 width-few Int16 = omega arith
 
 pub fits_whole : (v : Aaf) (samples flags : ℕ) → IsWritableAaf v → Fits (filled_layout 0 samples flags) v.header → Fits aaf_layout v
-fits_whole v samples flags whole h =
+fits_whole v samples flags whole (subtype, (second, (seq, (tu, (id, (timestamp, (_, (stated, _)))))))) =
     let depth : v.depth < 256 = omega (arith, whole.depth, width-few v.format) in
     let code = code-below v.format in (
-      h.0,
+      subtype,
       (
-        h.1.0,
+        second,
         (
-          h.1.1.0,
+          seq,
           (
-            h.1.1.1.0,
+            tu,
             (
-              h.1.1.1.1.0,
+              id,
               (
-                h.1.1.1.1.1.0,
+                timestamp,
                 (
                   (omega arith, tt),
                   (
                     (omega (arith, whole.nsr), (omega arith, (whole.channels, tt))),
-                    (
-                      (depth, tt),
-                      (
-                        h.1.1.1.1.1.1.1.0,
-                        (
-                          (omega arith, (flag-below v.sparse, (whole.evt, tt))),
-                          ((omega arith, tt), tt),
-                        ),
-                      ),
-                    ),
+                    ((depth, tt), (stated, ((omega arith, (flag-below v.sparse, (whole.evt, tt))), ((omega arith, tt), tt)))),
                   ),
                 ),
               ),
@@ -380,39 +335,7 @@ fits_whole v samples flags whole h =
 pub aaf_only : (bytes : List ℕ) (v : Aaf) → AreBytes bytes → SpellsAaf bytes v → v.reserved ≡ false → length bytes ≡ 24 + v.header.data_length
     → bytes ≡ aaf_spelling v
 aaf_only bytes v fits s plain len =
-    let f = s.fields in
-    let u = unset_so (reserved_ranges aaf_layout) bytes (sym s.reserved ∙ plain) in
-    let h : Holds aaf_layout v bytes = (
-      f.0,
-      (
-        (f.1.0.0, (f.1.0.1.0, (f.1.0.1.1.0, (u.0, f.1.0.1.1.1.1)))),
-        (
-          f.1.1.0,
-          (
-            (u.1.0, f.1.1.1.0.1),
-            (
-              f.1.1.1.1.0,
-              (
-                f.1.1.1.1.1.0,
-                (
-                  f.1.1.1.1.1.1.0,
-                  (
-                    (f.1.1.1.1.1.1.1.0.0, (u.1.1.0, f.1.1.1.1.1.1.1.0.1.1)),
-                    (
-                      f.1.1.1.1.1.1.1.1.0,
-                      (
-                        f.1.1.1.1.1.1.1.1.1.0,
-                        ((u.1.1.1.0, f.1.1.1.1.1.1.1.1.1.1.0.1), ((u.1.1.1.1.0, tt), tt)),
-                      ),
-                    ),
-                  ),
-                ),
-              ),
-            ),
-          ),
-        ),
-      ),
-    ) in
+    let h : Holds aaf_layout v bytes = spelled_holds aaf_layout v bytes refl s.fields (sym s.reserved ∙ plain) in
     let rest : v.payload ≡ drop 24 bytes =
     s.payload ∙ take_all v.header.data_length (drop 24 bytes) (omega (arith, length-drop 24 bytes)) in
     only_spelling aaf_layout v bytes 24 aaf_laid refl fits (omega arith) h ∙ ap (λ (xs : List ℕ). spelling aaf_layout v ++ xs) (sym rest)

@@ -7,6 +7,7 @@ use Rattle.avtp_base.specs.Layout.{Layout, part, holds, reserved, reserved_shown
 use Rattle.avtp_base.specs.Rows.{Row, row, first_row, or_else}
 use Rattle.avtp_header.specs.declared.header.StreamHeader.{StreamHeader}
 use Rattle.avtp_header.specs.Header.{stream_layout, header_of, kind_refusal, exceeds}
+pub use Rattle.avtp_header.specs.Numbers.{aaf_subtype}
 use Rattle.aaf_format.specs.declared.aaf.AafFormat.{AafFormat}
 use Rattle.aaf_format.specs.declared.aaf.AafFormat.TheVariants.{Float32, Int32, Int24, Int16}
 use Rattle.aaf_format.specs.declared.aaf.AafView.{AafView}
@@ -37,10 +38,6 @@ aaf_shape v = record {
   payload = v.payload.now;
   reserved = v.reserved;
 }
-
--- the subtype of AAF
-abbrev pub aaf_subtype : ℕ
-aaf_subtype = 2
 
 -- the byte that names a format
 abbrev pub code_of : AafFormat → ℕ
@@ -98,7 +95,7 @@ aaf_layout = stream_layout (λ v. v.header)
 abbrev pub sets_reserved : List ℕ → Bool
 sets_reserved bytes = any_set (reserved_ranges aaf_layout) bytes
 
--- The rows that refuse a packet behind those that all formats share, in this order.
+-- The rows that refuse a packet after those that all formats share, in this order.
 abbrev pub sample_rows : List ℕ → List Row
 sample_rows bytes =
     row Format 16 (is_none (named_format (bits 16 0 8 bytes))) ∷
@@ -156,6 +153,6 @@ pub record IsWritableAaf (v : Aaf) : Type 0 where
 abbrev pub plain_aaf : Aaf → Aaf
 plain_aaf v = record v { header = record v.header { format_bits = 0 }; reserved = false }
 
--- the bytes of a packet, with every reserved bit 0 and nothing behind the stated length
+-- the bytes of a packet, with every reserved bit 0 and nothing after the stated length
 abbrev pub aaf_spelling : Aaf → List ℕ
 aaf_spelling v = spelling aaf_layout v ++ v.payload

@@ -16,7 +16,7 @@ pub fn packet_again()
     ensures { (v : Aaf) (trail : List ℕ) → IsWritableAaf v → Fits aaf_layout v → SpellsAaf (aaf_spelling v ++ trail) (plain_aaf v) }
 {}
 
-/// Bytes that spell a packet with no reserved bit set, and nothing behind it, are its spelling.
+/// Bytes that spell a packet with no reserved bit set, and nothing after it, are its spelling.
 pub fn one_spelling()
     ensures { (bytes : List ℕ) (v : Aaf) → AreBytes bytes → SpellsAaf bytes v → v.reserved ≡ false
         → length bytes ≡ 24 + v.header.data_length → bytes ≡ aaf_spelling v }

@@ -10,7 +10,7 @@ use crate::aaf::{AafFormat, AafView};
 use avtp_base::octets::{bit_at, bits_at, low_bits_at, u16_at};
 use avtp_base::rows::refused;
 use avtp_base::{Field, Refusal};
-use avtp_header::{StreamHeader, exceeds, read_header_of};
+use avtp_header::{StreamHeader, exceeds, read_header_of, subtype};
 
 /// The sample rate in Hz that the code of a nominal sample rate names. `None` comes for 0, a rate that the user knows,
 /// and for codes above 10, which are reserved.
@@ -103,7 +103,7 @@ fn sets_reserved(pdu: &[u8]) -> bool
 fn read_packet(pdu: &[u8]) -> Result<AafView<'_>, Refusal>
     ensures { Reads aaf_shape (aaf_refusal pdu.now) (aaf_of pdu.now) result }
 {
-    let header = read_header_of(2, pdu)?;
+    let header = read_header_of(subtype::AAF, pdu)?;
     let format = sample_format(pdu)?;
     let channels = low_bits_at(pdu, 17, 10);
     let frame = u32::from(channels) * width_of(format);

@@ -133,7 +133,7 @@ fn edges_of_packets(rt: HostRuntime) -> Result<(), Refusal> {
     Ok(())
 }
 
-/// Each reserved bit alone is free and shown, and bytes behind the stated length are no samples.
+/// Each reserved bit alone is free and shown, and bytes after the stated length are no samples.
 #[test]
 fn reserved_bits_and_trail(rt: HostRuntime) -> Result<(), Refusal> {
     let reserved = [(1, 0x06), (3, 0xfe), (17, 0x0c), (22, 0xe0), (23, 0xff)];

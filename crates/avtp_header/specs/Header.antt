@@ -59,7 +59,7 @@ kind_refusal subtype bytes =
     or_else (first_short header_layout (length bytes))
     (first_row (subtype_row subtype bytes ∷ version_row bytes ∷ []))
 
--- a stated length is more than what stands in n bytes behind the first `header` ones
+-- a stated length is more than what n bytes hold after the first `header` ones
 abbrev pub exceeds : ℕ → ℕ → ℕ → Bool
 exceeds header stated n = nat_lt n (header + stated)
 

@@ -1,5 +1,8 @@
 //! The 24 bytes that IEC 61883, AAF and CVF packets begin with.
 
+/// The EtherType of AVTP (IEEE 1722-2016, 4.2).
+pub const ETHERTYPE: u16 = 0x22F0;
+
 /// The first fields of any AVTP packet of a stream.
 #[derive(Clone, Copy, Debug, PartialEq, Eq)]
 pub struct Peeked {

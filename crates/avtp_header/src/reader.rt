@@ -60,7 +60,7 @@ fn fields(pdu: &[u8]) -> StreamHeader
     }
 }
 
-/// A stated length is more than what stands in a packet of `len` bytes behind its header.
+/// A stated length is more than what a packet of `len` bytes holds after its header.
 pub fn exceeds(header: usize, stated: u16, len: usize) -> bool
     requires { header ≤ len }
     ensures { result ≡ is_exceeded header stated len }

@@ -3,12 +3,13 @@ use Rattle.std.proofs.Common.{◌≡◌, ℕ, zero, suc, ◌+◌, ◌%◌, ◌<�
 use Rattle.std.specs.Prelude.{◌||◌}
 use Rattle.std.proofs.lemmas.Bool.{cases_lt, le-ltb, lt-ltb}
 use Rattle.std.proofs.lemmas.List.{length-append, length-drop, length-take, take_all, take_at}
-use Rattle.avtp_base.specs.Octets.{AreBytes, bits}
+use Rattle.avtp_base.specs.Octets.{AreBytes, bits, flag}
 use Rattle.avtp_base.specs.Rows.{first_row, or_else}
-use Rattle.avtp_base.specs.Layout.{reserved_ranges, Fits, spelling, first_short}
+use Rattle.avtp_base.specs.Layout.{Fits, Spells, spelling, first_short}
 use Rattle.avtp_base.proofs.BitLemmas.{bit_of_flag, bit_shown, bits-below}
 use Rattle.avtp_base.proofs.RowLemmas.{or_else-none, rows_passed, passed_rows, not_other, or_else-accepted, same_not_other, unequal}
-use Rattle.avtp_base.proofs.OnlySpelling.{only_spelling, unset_so}
+use Rattle.avtp_base.proofs.HoldLemmas.{held_spells, spelled_holds}
+use Rattle.avtp_base.proofs.OnlySpelling.{only_spelling}
 use Rattle.avtp_base.proofs.LayoutLemmas.{Holds, IsLaid, holds_spelled, unset_spelled}
 use Rattle.crf_format.specs.Crf.{Crf, IsWritableCrf, SpellsCrf, clock_rows, crf_layout, crf_of, crf_refusal, crf_spelling, crf_subtype, last_pull, misses_timestamps, plain_crf, shared_rows}
 
@@ -89,20 +90,51 @@ crf_spelled bytes e =
       reserved = refl;
     }
 
+-- what the bits of bytes say of a packet that they spell
+record Fields (bytes : List ℕ) (v : Crf) : Type 0 where
+  subtype : bits 0 0 8 bytes ≡ crf_subtype
+  sv : bits 1 0 1 bytes ≡ flag v.sv
+  version : bits 1 1 3 bytes ≡ 0
+  mr : bits 1 4 1 bytes ≡ flag v.mr
+  fs : bits 1 6 1 bytes ≡ flag v.fs
+  tu : bits 1 7 1 bytes ≡ flag v.tu
+  seq : bits 2 0 8 bytes ≡ v.seq
+  kind : bits 3 0 8 bytes ≡ v.kind
+  stream_id : bits 4 0 64 bytes ≡ v.stream_id
+  pull : bits 12 0 3 bytes ≡ v.pull
+  base_frequency : bits 12 3 29 bytes ≡ v.base_frequency
+  stated : bits 16 0 16 bytes ≡ length v.payload
+  interval : bits 18 0 16 bytes ≡ v.interval
+
+fields_of : (bytes : List ℕ) (v : Crf) → Spells crf_layout v bytes → Fields bytes v
+fields_of bytes v ((subtype, _), ((sv, (version, (mr, (_, (fs, (tu, _)))))), ((seq, _), ((kind, _), ((stream_id, _), ((pull, (base_frequency, _)), ((stated, _), ((interval, _), _)))))))) = record {
+  subtype = subtype;
+  sv = sv;
+  version = version;
+  mr = mr;
+  fs = fs;
+  tu = tu;
+  seq = seq;
+  kind = kind;
+  stream_id = stream_id;
+  pull = pull;
+  base_frequency = base_frequency;
+  stated = stated;
+  interval = interval;
+}
+
 pub crf_writable : (bytes : List ℕ) (v : Crf) → SpellsCrf bytes v → IsWritableCrf v
 crf_writable bytes v s =
     let known = accepted_so bytes s.accepted in
-    let f = s.fields in
-    let clock = f.1.1.1.1.1 in
-    let stated : bits 16 0 16 bytes ≡ length v.payload = clock.1.0.0 in
+    let f = fields_of bytes v s.fields in
     record {
-      pull = rw (← clock.0.0) known.pull;
-      some_frequency = rw (← clock.0.1.0) known.frequency;
-      base_frequency = rw (← clock.0.1.0) (bits-below 12 3 29 bytes);
-      some_interval = rw (← clock.1.1.0.0) known.interval;
-      some_points = rw (← stated) known.some;
-      whole_points = rw (← stated) known.whole;
-      data_length = rw (← stated) (bits-below 16 0 16 bytes);
+      pull = rw (← f.pull) known.pull;
+      some_frequency = rw (← f.base_frequency) known.frequency;
+      base_frequency = rw (← f.base_frequency) (bits-below 12 3 29 bytes);
+      some_interval = rw (← f.interval) known.interval;
+      some_points = rw (← f.stated) known.some;
+      whole_points = rw (← f.stated) known.whole;
+      data_length = rw (← f.stated) (bits-below 16 0 16 bytes);
     }
 
 -- ---- two packets with equal fields
@@ -131,18 +163,18 @@ same_packet a a' b b' c c' d d' e e' f f' g g' h h' i i' j j' k k' l l' m n o p 
 
 pub one_packet : (bytes : List ℕ) (v : Crf) → SpellsCrf bytes v → v ≡ crf_of bytes
 one_packet bytes v s =
-    let f = s.fields in
+    let f = fields_of bytes v s.fields in
     same_packet _ _ _ _ _ _ _ _ _ _ _ _ _ _ _ _ _ _ _ _ _ _ _ _
-    (sym (bit_of_flag (bits 1 0 1 bytes) v.sv f.1.0.0))
-    (sym (bit_of_flag (bits 1 4 1 bytes) v.mr f.1.0.1.1.0))
-    (sym (bit_of_flag (bits 1 6 1 bytes) v.fs f.1.0.1.1.1.1.0))
-    (sym (bit_of_flag (bits 1 7 1 bytes) v.tu f.1.0.1.1.1.1.1.0))
-    (sym f.1.1.0.0)
-    (sym f.1.1.1.0.0)
-    (sym f.1.1.1.1.0.0)
-    (sym f.1.1.1.1.1.0.0)
-    (sym f.1.1.1.1.1.0.1.0)
-    (sym f.1.1.1.1.1.1.1.0.0)
+    (sym (bit_of_flag (bits 1 0 1 bytes) v.sv f.sv))
+    (sym (bit_of_flag (bits 1 4 1 bytes) v.mr f.mr))
+    (sym (bit_of_flag (bits 1 6 1 bytes) v.fs f.fs))
+    (sym (bit_of_flag (bits 1 7 1 bytes) v.tu f.tu))
+    (sym f.seq)
+    (sym f.kind)
+    (sym f.stream_id)
+    (sym f.pull)
+    (sym f.base_frequency)
+    (sym f.interval)
     s.payload
     s.reserved
 
@@ -171,19 +203,9 @@ timestamps_there : (stated n : ℕ) → 0 < stated → stated % 8 ≡ 0 → 20 +
 timestamps_there stated n some whole long =
     rw (some_not_zero stated some, same_not_other (stated % 8) 0 whole, le-ltb n (20 + stated) long) refl
 
--- the fields that the rows judge, as bytes hold them of a packet
-record Judged (bytes : List ℕ) (v : Crf) : Type 0 where
-  long : 20 + length v.payload ≤ length bytes
-  subtype : bits 0 0 8 bytes ≡ crf_subtype
-  version : bits 1 1 3 bytes ≡ 0
-  pull : bits 12 0 3 bytes ≡ v.pull
-  base_frequency : bits 12 3 29 bytes ≡ v.base_frequency
-  stated : bits 16 0 16 bytes ≡ length v.payload
-  interval : bits 18 0 16 bytes ≡ v.interval
-
-accepted_again : (bytes : List ℕ) (v : Crf) → IsWritableCrf v → Judged bytes v → crf_refusal bytes ≡ None
-accepted_again bytes v whole j =
-    let start = header_whole (length bytes) (omega (arith, j.long)) in
+accepted_again : (bytes : List ℕ) (v : Crf) → IsWritableCrf v → Fields bytes (plain_crf v) → 20 + length v.payload ≤ length bytes → crf_refusal bytes ≡ None
+accepted_again bytes v whole j long =
+    let start = header_whole (length bytes) (omega arith) in
     let shared : first_row (shared_rows bytes) ≡ None =
     passed_rows (shared_rows bytes) (same_not_other (bits 0 0 8 bytes) crf_subtype j.subtype, (same_not_other (bits 1 1 3 bytes) 0 j.version, tt)) in
     let clock : first_row (clock_rows bytes) ≡ None =
@@ -192,7 +214,7 @@ accepted_again bytes v whole j =
       (
         rw (j.base_frequency) (some_not_zero v.base_frequency whole.some_frequency),
         (
-          rw (j.stated) (timestamps_there (length v.payload) (length bytes) whole.some_points whole.whole_points j.long),
+          rw (j.stated) (timestamps_there (length v.payload) (length bytes) whole.some_points whole.whole_points long),
           (rw (j.interval) (some_not_zero v.interval whole.some_interval), tt),
         ),
       ),
@@ -203,20 +225,12 @@ accepted_again bytes v whole j =
 held : (bytes : List ℕ) (v : Crf) → IsWritableCrf v → Holds crf_layout v bytes → 20 + length v.payload ≤ length bytes
     → v.payload ≡ take (length v.payload) (drop 20 bytes) → SpellsCrf bytes (plain_crf v)
 held bytes v whole f long payload =
-    let second = f.1.0 in
-    let stated : bits 16 0 16 bytes ≡ length v.payload = f.1.1.1.1.1.1.0.0 in
+    let spells : Spells crf_layout (plain_crf v) bytes = held_spells crf_layout (plain_crf v) bytes refl f in
+    let fields = fields_of bytes (plain_crf v) spells in
     record {
-      accepted = accepted_again bytes v whole (record {
-        long = long;
-        subtype = f.0.0;
-        version = second.1.0;
-        pull = f.1.1.1.1.1.0.0;
-        base_frequency = f.1.1.1.1.1.0.1.0;
-        stated = stated;
-        interval = f.1.1.1.1.1.1.1.0.0;
-      });
-      fields = (f.0, ((second.0, (second.1.0, (second.1.1.0, (tt, second.1.1.1.1)))), f.1.1));
-      payload = payload ∙ ap (λ (n : ℕ). take n (drop 20 bytes)) (sym stated);
+      accepted = accepted_again bytes v whole fields long;
+      fields = spells;
+      payload = payload ∙ ap (λ (n : ℕ). take n (drop 20 bytes)) (sym fields.stated);
       reserved = sym (unset_spelled crf_layout v bytes f);
     }
 
@@ -233,11 +247,8 @@ crf_again v rest whole fits =
 pub crf_only : (bytes : List ℕ) (v : Crf) → AreBytes bytes → SpellsCrf bytes v → v.reserved ≡ false → length bytes ≡ 20 + length v.payload
     → bytes ≡ crf_spelling v
 crf_only bytes v fits s plain len =
-    let f = s.fields in
-    let second = f.1.0 in
-    let u = unset_so (reserved_ranges crf_layout) bytes (sym s.reserved ∙ plain) in
-    let h : Holds crf_layout v bytes = (f.0, ((second.0, (second.1.0, (second.1.1.0, (u.0, second.1.1.1.1)))), f.1.1)) in
-    let stated : bits 16 0 16 bytes ≡ length v.payload = f.1.1.1.1.1.1.0.0 in
+    let h : Holds crf_layout v bytes = spelled_holds crf_layout v bytes refl s.fields (sym s.reserved ∙ plain) in
+    let stated : bits 16 0 16 bytes ≡ length v.payload = (fields_of bytes v s.fields).stated in
     let rest : v.payload ≡ drop 20 bytes =
     s.payload ∙ take_all (bits 16 0 16 bytes) (drop 20 bytes) (omega (arith, length-drop 20 bytes, stated, len)) in
     only_spelling crf_layout v bytes 20 crf_laid refl fits (omega arith) h ∙ ap (λ (xs : List ℕ). spelling crf_layout v ++ xs) (sym rest)

@@ -6,6 +6,7 @@ use Rattle.avtp_base.specs.Octets.{bits, is_set, flag, any_set}
 use Rattle.avtp_base.specs.Layout.{Layout, part, holds, reserved, Spells, first_short, reserved_ranges, spelling}
 use Rattle.avtp_base.specs.Rows.{Row, row, first_row, or_else}
 use Rattle.avtp_header.specs.Header.{exceeds, subtype_row, version_row}
+pub use Rattle.avtp_header.specs.Numbers.{crf_subtype}
 use Rattle.crf_format.specs.declared.crf.CrfView.{CrfView}
 
 -- a packet, apart from where its timestamps lie in memory
@@ -39,10 +40,6 @@ crf_shape v = record {
   reserved = v.reserved;
 }
 
--- the subtype of CRF
-abbrev pub crf_subtype : ℕ
-crf_subtype = 4
-
 -- the table of the format
 abbrev pub crf_layout : Layout Crf
 crf_layout =
@@ -64,7 +61,7 @@ crf_layout =
 abbrev pub sets_reserved : List ℕ → Bool
 sets_reserved bytes = any_set (reserved_ranges crf_layout) bytes
 
--- the timestamp that is behind i others
+-- the timestamp that is after i others
 abbrev pub point_at : ℕ → List ℕ → ℕ
 point_at i payload = bits (8 * i) 0 64 payload
 
@@ -74,7 +71,7 @@ point_at i payload = bits (8 * i) 0 64 payload
 abbrev pub last_pull : ℕ
 last_pull = 5
 
--- a stated length that is not one or more timestamps, or is more than what stands in n bytes behind the header
+-- a stated length that is not one or more timestamps, or is more than what n bytes hold after the header
 abbrev pub misses_timestamps : ℕ → ℕ → Bool
 misses_timestamps stated n = stated == 0 || not (stated % 8 == 0) || exceeds 20 stated n
 
@@ -82,7 +79,7 @@ misses_timestamps stated n = stated == 0 || not (stated % 8 == 0) || exceeds 20 
 abbrev pub shared_rows : List ℕ → List Row
 shared_rows bytes = subtype_row crf_subtype bytes ∷ version_row bytes ∷ []
 
--- the rows behind those, in this order
+-- the rows after those, in this order
 abbrev pub clock_rows : List ℕ → List Row
 clock_rows bytes =
     row Pull 12 (nat_lt last_pull (bits 12 0 3 bytes)) ∷
@@ -136,6 +133,6 @@ pub record IsWritableCrf (v : Crf) : Type 0 where
 abbrev pub plain_crf : Crf → Crf
 plain_crf v = record v { reserved = false }
 
--- the bytes of a packet, with every reserved bit 0 and nothing behind the stated length
+-- the bytes of a packet, with every reserved bit 0 and nothing after the stated length
 abbrev pub crf_spelling : Crf → List ℕ
 crf_spelling v = spelling crf_layout v ++ v.payload

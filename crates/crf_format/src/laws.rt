@@ -16,7 +16,7 @@ pub fn packet_again()
     ensures { (v : Crf) (trail : List ℕ) → IsWritableCrf v → Fits crf_layout v → SpellsCrf (crf_spelling v ++ trail) (plain_crf v) }
 {}
 
-/// Bytes that spell a packet with no reserved bit set, and nothing behind it, are its spelling.
+/// Bytes that spell a packet with no reserved bit set, and nothing after it, are its spelling.
 pub fn one_spelling()
     ensures { (bytes : List ℕ) (v : Crf) → AreBytes bytes → SpellsCrf bytes v → v.reserved ≡ false
         → length bytes ≡ 20 + length v.payload → bytes ≡ crf_spelling v }

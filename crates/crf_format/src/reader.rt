@@ -10,7 +10,7 @@ use crate::crf::CrfView;
 use avtp_base::octets::{bit_at, bits_at, u16_at, u32_at, u64_at};
 use avtp_base::rows::{cut_off, refused};
 use avtp_base::{Field, Refusal};
-use avtp_header::exceeds;
+use avtp_header::{exceeds, subtype};
 
 /// The refusal of a packet of `len` bytes by the header's first field that does not lie wholly in it.
 fn short_field(len: usize) -> Option<Refusal>
@@ -35,7 +35,7 @@ fn refused_by_kind(pdu: &[u8]) -> Option<Refusal>
     requires { 20 ≤ length pdu.now }
     ensures { result ≡ first_row (shared_rows pdu.now) }
 {
-    if bits_at(pdu, 0, 0, 8) != 4 {
+    if bits_at(pdu, 0, 0, 8) != subtype::CRF {
         return Some(refused(Field::Subtype, 0));
     }
     if bits_at(pdu, 1, 1, 3) != 0 {
@@ -44,7 +44,7 @@ fn refused_by_kind(pdu: &[u8]) -> Option<Refusal>
     None
 }
 
-/// The number behind the three bits of the pull.
+/// The number that follows the three bits of the pull.
 #[tactic(auto, unfolding(avtp_base::specs::Octets::bits))]
 fn base_frequency(pdu: &[u8]) -> u32
     requires { 20 ≤ length pdu.now }
@@ -53,7 +53,7 @@ fn base_frequency(pdu: &[u8]) -> u32
     u32_at(pdu, 12) % (1 << 29)
 }
 
-/// A stated length is not one or more timestamps, or is more than what stands in `len` bytes behind the header.
+/// A stated length is not one or more timestamps, or is more than what `len` bytes hold after the header.
 fn misses_timestamps(stated: u16, len: usize) -> bool
     requires { 20 ≤ len }
     ensures { result ≡ is_missed stated len }
@@ -132,7 +132,7 @@ pub fn read_crf(pdu: &[u8]) -> Result<CrfView<'_>, Refusal>
     read_packet(pdu)
 }
 
-/// The timestamp that is behind `i` others, in nanoseconds of gPTP.
+/// The timestamp that is after `i` others, in nanoseconds of gPTP.
 pub fn point(view: &CrfView<'_>, i: usize) -> u64
     requires { 8 * i + 8 ≤ length view.now.payload.now }
     ensures { result ≡ point_at i view.now.payload.now }

@@ -72,7 +72,7 @@ fn refused_packets(rt: HostRuntime) {
     }
 }
 
-/// All rows behind the version hold at first. One byte after the other is mended, and the next row refuses.
+/// All rows after the version hold at first. One byte after the other is mended, and the next row refuses.
 #[test]
 fn rows_in_their_order(rt: HostRuntime) {
     let mut bytes = BYTES;
@@ -169,7 +169,7 @@ fn the_longest_packet(rt: HostRuntime) -> Result<(), Fail> {
     Ok(())
 }
 
-/// Each bit of the second byte, of which one is reserved and free, and bytes behind the stated length, which are no
+/// Each bit of the second byte, of which one is reserved and free, and bytes after the stated length, which are no
 /// timestamps.
 #[test]
 fn flags_and_trail(rt: HostRuntime) -> Result<(), Refusal> {

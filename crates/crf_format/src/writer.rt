@@ -8,6 +8,7 @@ ghost use Rattle.crf_format.specs.Crf.{IsWritableCrf, SpellsCrf, crf_layout, crf
 use crate::crf::CrfView;
 use avtp_base::Room;
 use avtp_base::octets::write_front;
+use avtp_header::subtype;
 
 /// All that stands before the timestamps.
 fn header_bytes(view: &CrfView<'_>) -> [u8; 20]
@@ -24,7 +25,7 @@ fn header_bytes(view: &CrfView<'_>) -> [u8; 20]
         + 2 * u8::from(view.fs)
         + u8::from(view.tu);
     [
-        4,
+        subtype::CRF,
         second,
         view.seq,
         view.kind,

@@ -33,7 +33,7 @@ nowhere_before : (hay needle : List ℕ) (from found : ℕ) → Nowhere (OccursA
     → Nowhere (OccursAt hay needle) from (from + found)
 nowhere_before hay needle from found none k low high o = none (k - from) (omega arith) (omega arith) (occurs_here hay needle from k low o)
 
-pub first_there : (hay needle : List ℕ) (from : ℕ) → from ≤ length hay → (r : Option ℕ) → FindsNeedle (drop from hay) needle 0 r
+first_there : (hay needle : List ℕ) (from : ℕ) → from ≤ length hay → (r : Option ℕ) → FindsNeedle (drop from hay) needle 0 r
     → IsFirst (OccursAt hay needle) from (length hay + 1) (option_map (λ k. from + k) r)
 first_there hay needle from within None none =
     let places : length hay + 1 ≡ from + (length (drop from hay) + 1) = omega (arith, length-drop from hay) in
@@ -56,7 +56,7 @@ found_there hay needle from within r s e found =
 
 -- ---- three bytes
 
-pub not_true : (b : Bool) → (b ≡ true → ⊥) → b ≡ false
+not_true : (b : Bool) → (b ≡ true → ⊥) → b ≡ false
 not_true true never = absurd (never refl)
 not_true false never = refl
 
@@ -113,7 +113,7 @@ two_of_three bytes at c o = record {
     two_read bytes at p q (suc (suc j)) lt = absurd (omega arith)
 
 -- a unit ends where a third byte of at most 1 follows two zeros
-pub third_ends : (bytes : List ℕ) (at : ℕ) → OccursAt bytes (0 ∷ 0 ∷ []) at → at + 2 < length bytes → get_or bytes (at + 2) 0 ≤ 1 → is_end bytes at ≡ true
+third_ends : (bytes : List ℕ) (at : ℕ) → OccursAt bytes (0 ∷ 0 ∷ []) at → at + 2 < length bytes → get_or bytes (at + 2) 0 ≤ 1 → is_end bytes at ≡ true
 third_ends bytes at two more few = ends_by (get_or bytes (at + 2) 0) refl few
   where
     ends_by : (c : ℕ) → get_or bytes (at + 2) 0 ≡ c → c ≤ 1 → is_end bytes at ≡ true
@@ -123,7 +123,7 @@ third_ends bytes at two more few = ends_by (get_or bytes (at + 2) 0) refl few
         or_left (occurs_at bytes start_code at) (occurs_at bytes three_zeros at) (occurs_at-true bytes start_code at (three_stand bytes at 1 two more e))
     ends_by (suc (suc c)) e few = absurd (omega arith)
 
-pub third_passes : (bytes : List ℕ) (at : ℕ) → OccursAt bytes (0 ∷ 0 ∷ []) at → (at + 2 < length bytes → 1 < get_or bytes (at + 2) 0) → is_end bytes at ≡ false
+third_passes : (bytes : List ℕ) (at : ℕ) → OccursAt bytes (0 ∷ 0 ∷ []) at → (at + 2 < length bytes → 1 < get_or bytes (at + 2) 0) → is_end bytes at ≡ false
 third_passes bytes at two many =
     or_neither (occurs_at bytes start_code at) (occurs_at bytes three_zeros at)
     (not_true (occurs_at bytes start_code at) (λ t. not_there 1 (omega arith) (OccursAt-true bytes start_code at t)))
@@ -175,7 +175,7 @@ third_tells bytes at two more =
 pub end_first : (bytes : List ℕ) (from : ℕ) → from ≤ length bytes → FirstPlace (is_end bytes) from (length bytes) (end_behind bytes from)
 end_first bytes from within = first_place (is_end bytes) (length bytes - from) from (length bytes) (omega arith)
 
-pub units_skipped : (bytes : List ℕ) (low high : ℕ) → low ≤ high → high ≤ length bytes → NonePasses (is_start_code bytes) low high
+units_skipped : (bytes : List ℕ) (low high : ℕ) → low ≤ high → high ≤ length bytes → NonePasses (is_start_code bytes) low high
     → units_from bytes low ≡ units_from bytes high
 unfolding units_from
 units_skipped bytes low high order within none =
@@ -184,7 +184,7 @@ units_skipped bytes low high order within none =
     ap (λ (xs : List ℕ). filter_map (unit_behind bytes) xs)
     (ap (λ (n : ℕ). filter (is_start_code bytes) (range_with_len low n)) count ∙ filter_skip (is_start_code bytes) (high - low) (length bytes - high) low high place none)
 
-pub units_none : (bytes : List ℕ) (at : ℕ) → at ≤ length bytes → NonePasses (is_start_code bytes) at (length bytes) → units_from bytes at ≡ []
+units_none : (bytes : List ℕ) (at : ℕ) → at ≤ length bytes → NonePasses (is_start_code bytes) at (length bytes) → units_from bytes at ≡ []
 unfolding units_from
 units_none bytes at within none =
     ap (λ (xs : List ℕ). filter_map (unit_behind bytes) xs)
@@ -209,7 +209,7 @@ not_code bytes k at j code e few = not_true (is_start_code bytes k) (λ t.
     zero_there (suc zero) few here e one = let z = here.reads 1 (omega arith) in let same : get_or bytes (at + 2) 0 ≡ 0 = rw (← e) z in absurd (omega arith)
     zero_there (suc (suc j)) few here e one = absurd (omega arith)
 
--- no start code stands between a start code and the end of what is behind it
+-- no start code stands between a start code and the end of what is after it
 pub code_apart : (bytes : List ℕ) (code : ℕ) → OccursAt bytes start_code code → NonePasses (is_start_code bytes) (code + 1) (end_behind bytes (code + 3))
 code_apart bytes code there k from below =
     let ends = end_first bytes (code + 3) (omega (arith, there.fits)) in
@@ -224,7 +224,7 @@ none_codes bytes low high none k from below = not_true (is_start_code bytes k) (
 pub codes_none : (bytes : List ℕ) (at : ℕ) → at ≤ length bytes → Nowhere (OccursAt bytes start_code) at (length bytes + 1) → units_from bytes at ≡ []
 codes_none bytes at within none = units_none bytes at within (none_codes bytes at (length bytes) (λ k low high. none k low (omega arith)))
 
--- the units from a place on are the one behind the first start code there, if it is one, and those behind it
+-- the units from a place on are the one after the first start code there, if it is one, and those after it
 pub code_found : (bytes : List ℕ) (at code : ℕ) → NoneBefore (OccursAt bytes start_code) at (length bytes + 1) code → OccursAt bytes start_code code
     → units_from bytes at ≡ cons_option (unit_behind bytes code) (units_from bytes (code + 1))
 code_found bytes at code first there =
@@ -237,7 +237,7 @@ unit_passed bytes code k there behind before =
     let ends = end_first bytes (code + 3) (omega (arith, there.fits)) in
     units_skipped bytes (code + 1) k behind (omega (arith, ends.within)) (λ i low high. code_apart bytes code there i low (omega arith))
 
--- what the code found behind a start code is the unit there
+-- what the code found after a start code is the unit there
 pub unit_is : (bytes : List ℕ) (code end : ℕ) (r s : Option (ℕ × ℕ)) → end ≡ end_behind bytes (code + 3)
     → r ≡ option_map (λ (last : ℕ). (code + 3, last + 1)) (last_or None (places (is_other_byte bytes) (code + 3) end)) → r ≡ s → unit_behind bytes code ≡ s
 unit_is bytes code end r s ends value is =

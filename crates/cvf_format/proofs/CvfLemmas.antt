@@ -6,14 +6,15 @@ use Rattle.std.proofs.lemmas.Bool.Decides.{nat_tests}
 use Rattle.std.proofs.lemmas.List.{drop_at, length-append, length-drop, take_all, take_at}
 use Rattle.avtp_base.specs.Octets.{AreBytes, bits, flag, is_set}
 use Rattle.avtp_base.specs.Rows.{first_row, or_else}
-use Rattle.avtp_base.specs.Layout.{Layout, reserved_ranges, Spells, Fits, spelling, first_short}
+use Rattle.avtp_base.specs.Layout.{Layout, Spells, Fits, spelling, first_short}
 use Rattle.avtp_base.proofs.BitLemmas.{bit_of_flag, bit_shown, bits-below}
 use Rattle.avtp_base.proofs.RowLemmas.{or_else-none, rows_passed, passed_rows, not_other, or_else-accepted, same_not_other, unequal}
-use Rattle.avtp_base.proofs.OnlySpelling.{AllUnset, layout_size, only_spelling, unset_so}
+use Rattle.avtp_base.proofs.HoldLemmas.{held_spells, is_told, spelled_holds}
+use Rattle.avtp_base.proofs.OnlySpelling.{layout_size, only_spelling}
 use Rattle.avtp_base.proofs.LayoutLemmas.{Holds, IsLaid, holds_spelled, unset_spelled}
 use Rattle.avtp_header.specs.declared.header.StreamHeader.{StreamHeader}
 use Rattle.avtp_header.specs.Header.{SpellsHeader, header_layout, header_of, header_refusal, kind_refusal, subtype_row, version_row}
-use Rattle.avtp_header.proofs.HeaderLemmas.{header_spelled, header_whole, one_header}
+use Rattle.avtp_header.proofs.HeaderLemmas.{header_spelled, header_version, header_whole, one_header}
 use Rattle.cvf_format.specs.declared.cvf.NalPart.{NalPart}
 use Rattle.cvf_format.specs.declared.cvf.NalPart.TheVariants.{Single, First, Middle, Last}
 use Rattle.cvf_format.specs.Cvf.{Cvf, SpellsCvf, IsWritableCvf, body_of, cvf_layout, cvf_of, cvf_refusal, cvf_spelling, cvf_subtype, ends, format_rows, fragment_headers, fragment_of, fu_a, header_size, headers_of, is_fragment, is_single_type, layout_of, nal_of, nal_rows, part_of, plain_cvf, reference_of, sets_reserved, single_headers, starts, type_of}
@@ -22,6 +23,9 @@ use Rattle.cvf_format.specs.Cvf.{Cvf, SpellsCvf, IsWritableCvf, body_of, cvf_lay
 
 record Shared (v : Cvf) (bytes : List ℕ) : Type 0 where
   header : Spells header_layout v.header bytes
+  subtype : bits 0 0 8 bytes ≡ v.header.subtype
+  version : bits 1 1 3 bytes ≡ 0
+  stated : bits 20 0 16 bytes ≡ v.header.data_length
   format : bits 16 0 8 bytes ≡ 2
   format_subtype : bits 17 0 8 bytes ≡ 1
   ptv : bits 22 2 1 bytes ≡ flag v.ptv
@@ -29,72 +33,41 @@ record Shared (v : Cvf) (bytes : List ℕ) : Type 0 where
   evt : bits 22 4 4 bytes ≡ v.evt
   h264_timestamp : bits 24 0 32 bytes ≡ v.h264_timestamp
 
+spells_from : (nal_headers : Layout Cvf) (v : Cvf) (bytes : List ℕ) → Shared v bytes → Spells header_layout v.header bytes → Spells nal_headers v bytes → Spells (cvf_layout nal_headers) v bytes
+spells_from nal_headers v bytes s (subtype, (second, (seq, (tu, (id, (timestamp, (_, (stated, _)))))))) rest =
+    (subtype, (second, (seq, (tu, (id, (timestamp, ((s.format, tt), ((s.format_subtype, tt), ((tt, tt), (stated, ((tt, (s.ptv, (s.marker, (s.evt, tt)))), ((tt, tt), ((s.h264_timestamp, tt), rest)))))))))))))
+
 spells_shared : (nal_headers : Layout Cvf) (v : Cvf) (bytes : List ℕ) → Shared v bytes → Spells nal_headers v bytes → Spells (cvf_layout nal_headers) v bytes
-spells_shared nal_headers v bytes s rest =
-    let h = s.header in (
-      h.0,
-      (
-        h.1.0,
-        (
-          h.1.1.0,
-          (
-            h.1.1.1.0,
-            (
-              h.1.1.1.1.0,
-              (
-                h.1.1.1.1.1.0,
-                (
-                  (s.format, tt),
-                  (
-                    (s.format_subtype, tt),
-                    (
-                      (tt, tt),
-                      (
-                        h.1.1.1.1.1.1.1.0,
-                        (
-                          (tt, (s.ptv, (s.marker, (s.evt, tt)))),
-                          ((tt, tt), ((s.h264_timestamp, tt), rest)),
-                        ),
-                      ),
-                    ),
-                  ),
-                ),
-              ),
-            ),
-          ),
-        ),
-      ),
-    )
+spells_shared nal_headers v bytes s rest = spells_from nal_headers v bytes s s.header rest
 
 shared_so : (nal_headers : Layout Cvf) (v : Cvf) (bytes : List ℕ) → Spells (cvf_layout nal_headers) v bytes → Shared v bytes
-shared_so nal_headers v bytes f = record {
-  header = (f.0, (f.1.0, (f.1.1.0, (f.1.1.1.0, (f.1.1.1.1.0, (f.1.1.1.1.1.0, ((tt, tt), (f.1.1.1.1.1.1.1.1.1.0, ((tt, tt), tt)))))))));
-  format = f.1.1.1.1.1.1.0.0;
-  format_subtype = f.1.1.1.1.1.1.1.0.0;
-  ptv = f.1.1.1.1.1.1.1.1.1.1.0.1.0;
-  marker = f.1.1.1.1.1.1.1.1.1.1.0.1.1.0;
-  evt = f.1.1.1.1.1.1.1.1.1.1.0.1.1.1.0;
-  h264_timestamp = f.1.1.1.1.1.1.1.1.1.1.1.1.0.0;
+shared_so nal_headers v bytes ((subtype, _), ((sv, (version, shown)), (seq, (tu, (id, (timestamp, ((format, _), ((format_subtype, _), (_, ((stated, _), ((_, (ptv, (marker, (evt, _)))), (_, ((h264_timestamp, _), _))))))))))))) = record {
+  header = ((subtype, tt), ((sv, (version, shown)), (seq, (tu, (id, (timestamp, ((tt, tt), ((stated, tt), ((tt, tt), tt)))))))));
+  subtype = subtype;
+  version = version;
+  stated = stated;
+  format = format;
+  format_subtype = format_subtype;
+  ptv = ptv;
+  marker = marker;
+  evt = evt;
+  h264_timestamp = h264_timestamp;
 }
 
--- what stands behind the shared part
+-- what follows the shared part
 rest_so : (nal_headers : Layout Cvf) (v : Cvf) (bytes : List ℕ) → Spells (cvf_layout nal_headers) v bytes → Spells nal_headers v bytes
-rest_so nal_headers v bytes f = f.1.1.1.1.1.1.1.1.1.1.1.1.1
+rest_so nal_headers v bytes (_, (_, (_, (_, (_, (_, (_, (_, (_, (_, (_, (_, (_, rest))))))))))))) = rest
 
--- the same of what a writer puts there, in which the format bits are 0
-shared_held : (nal_headers : Layout Cvf) (v : Cvf) (bytes : List ℕ) → Holds (cvf_layout nal_headers) v bytes → Shared (plain_cvf v) bytes
-shared_held nal_headers v bytes f = record {
-  header = (f.0, (f.1.0, (f.1.1.0, ((tt, f.1.1.1.0.1), (f.1.1.1.1.0, (f.1.1.1.1.1.0, ((tt, tt), (f.1.1.1.1.1.1.1.1.1.0, ((tt, tt), tt)))))))));
-  format = f.1.1.1.1.1.1.0.0;
-  format_subtype = f.1.1.1.1.1.1.1.0.0;
-  ptv = f.1.1.1.1.1.1.1.1.1.1.0.1.0;
-  marker = f.1.1.1.1.1.1.1.1.1.1.0.1.1.0;
-  evt = f.1.1.1.1.1.1.1.1.1.1.0.1.1.1.0;
-  h264_timestamp = f.1.1.1.1.1.1.1.1.1.1.1.1.0.0;
-}
+-- the headers of a fragment (RFC 6184, 5.8)
+record Fragment (v : Cvf) (bytes : List ℕ) : Type 0 where
+  reference : bits 28 0 3 bytes ≡ reference_of v.nal
+  kind : bits 28 3 5 bytes ≡ fu_a
+  start : bits 29 0 1 bytes ≡ flag (starts v.part)
+  end : bits 29 1 1 bytes ≡ flag (ends v.part)
+  type : bits 29 3 5 bytes ≡ type_of v.nal
 
-rest_held : (nal_headers : Layout Cvf) (v : Cvf) (bytes : List ℕ) → Holds (cvf_layout nal_headers) v bytes → Holds nal_headers v bytes
-rest_held nal_headers v bytes f = f.1.1.1.1.1.1.1.1.1.1.1.1.1
+fragment_so : (v : Cvf) (bytes : List ℕ) → Spells fragment_headers v bytes → Fragment v bytes
+fragment_so v bytes ((reference, (kind, _)), ((start, (end, (_, (type, _)))), _)) = record { reference = reference; kind = kind; start = start; end = end; type = type }
 
 -- ---- what the rows say
 
@@ -254,8 +227,12 @@ type_accepted false bytes known is =
 pub cvf_spelled : (bytes : List ℕ) → cvf_refusal bytes ≡ None → SpellsCvf bytes (cvf_of bytes)
 cvf_spelled bytes e =
     let known = accepted_so bytes e in
+    let header = header_spelled bytes known.header in
     let shared : Shared (cvf_of bytes) bytes = record {
-      header = (header_spelled bytes known.header).fields;
+      header = header.fields;
+      subtype = refl;
+      version = header_version bytes known.header;
+      stated = refl;
       format = known.format;
       format_subtype = known.format_subtype;
       ptv = bit_shown 22 2 bytes;
@@ -301,13 +278,13 @@ bit_there at bit bytes b e = bit_of_flag (bits at bit 1 bytes) b e
 fragment_named : (part : NalPart) (v : Cvf) (bytes : List ℕ) → v.part ≡ part → Spells (cvf_layout fragment_headers) v bytes
     → part ≡ fragment_of (starts part) (ends part) → Named part v.nal bytes
 fragment_named part v bytes is f fragment =
-    let rest = rest_so fragment_headers v bytes f in
-    let kind : is_fragment bytes ≡ true = rw (rest.0.1.0) refl in
-    let s : is_set 29 0 bytes ≡ starts part = bit_there 29 0 bytes (starts part) (rest.1.0.0 ∙ ap (λ (p : NalPart). flag (starts p)) is) in
-    let e : is_set 29 1 bytes ≡ ends part = bit_there 29 1 bytes (ends part) (rest.1.0.1.0 ∙ ap (λ (p : NalPart). flag (ends p)) is) in
+    let h = fragment_so v bytes (rest_so fragment_headers v bytes f) in
+    let kind : is_fragment bytes ≡ true = rw (h.kind) refl in
+    let s : is_set 29 0 bytes ≡ starts part = bit_there 29 0 bytes (starts part) (h.start ∙ ap (λ (p : NalPart). flag (starts p)) is) in
+    let e : is_set 29 1 bytes ≡ ends part = bit_there 29 1 bytes (ends part) (h.end ∙ ap (λ (p : NalPart). flag (ends p)) is) in
     record {
       part_is = rw (kind, s, e) fragment;
-      nal_is = nal_whole v.nal (bits 28 0 3 bytes) (bits 29 3 5 bytes) rest.0.0 rest.1.0.1.1.1.0 ∙ sym (nal_fragment bytes kind);
+      nal_is = nal_whole v.nal (bits 28 0 3 bytes) (bits 29 3 5 bytes) h.reference h.type ∙ sym (nal_fragment bytes kind);
     }
 
 named : (part : NalPart) (v : Cvf) (bytes : List ℕ) → v.part ≡ part → Spells (layout_of part) v bytes
@@ -362,23 +339,24 @@ length_of_headers First v = refl
 length_of_headers Middle v = refl
 length_of_headers Last v = refl
 
--- the headers of a unit that a writer put there are those of the packet
-headers_again : (part : NalPart) (v : Cvf) (bytes : List ℕ) → Holds (headers_of part) v bytes → Spells (headers_of part) (plain_cvf v) bytes
-headers_again Single v bytes h = ((h.0.0, (h.0.1.0, tt)), tt)
-headers_again First v bytes h = ((h.0.0, (h.0.1.0, tt)), ((h.1.0.0, (h.1.0.1.0, (tt, (h.1.0.1.1.1.0, tt)))), tt))
-headers_again Middle v bytes h = ((h.0.0, (h.0.1.0, tt)), ((h.1.0.0, (h.1.0.1.0, (tt, (h.1.0.1.1.1.0, tt)))), tt))
-headers_again Last v bytes h = ((h.0.0, (h.0.1.0, tt)), ((h.1.0.0, (h.1.0.1.0, (tt, (h.1.0.1.1.1.0, tt)))), tt))
+-- what a writer put there spells the packet
+held_plain : (part : NalPart) (v : Cvf) (bytes : List ℕ) → Holds (layout_of part) v bytes → Spells (layout_of part) (plain_cvf v) bytes
+held_plain Single v bytes h = held_spells (layout_of Single) (plain_cvf v) bytes refl h
+held_plain First v bytes h = held_spells (layout_of First) (plain_cvf v) bytes refl h
+held_plain Middle v bytes h = held_spells (layout_of Middle) (plain_cvf v) bytes refl h
+held_plain Last v bytes h = held_spells (layout_of Last) (plain_cvf v) bytes refl h
 
 -- and no row refuses them
 fragment_accepted : (part : NalPart) (v : Cvf) (bytes : List ℕ) → v.part ≡ part → (starts part && ends part) ≡ false
-    → is_single_type (type_of v.nal) ≡ true → 6 ≤ bits 20 0 16 bytes → Holds fragment_headers v bytes → first_row (nal_rows bytes) ≡ None
-fragment_accepted part v bytes is apart single long h =
-    let kind : is_fragment bytes ≡ true = rw (h.0.1.0) refl in
-    let s : is_set 29 0 bytes ≡ starts part = bit_there 29 0 bytes (starts part) (h.1.0.0 ∙ ap (λ (p : NalPart). flag (starts p)) is) in
-    let e : is_set 29 1 bytes ≡ ends part = bit_there 29 1 bytes (ends part) (h.1.0.1.0 ∙ ap (λ (p : NalPart). flag (ends p)) is) in
-    let type : is_single_type (bits 29 3 5 bytes) ≡ true = rw (h.1.0.1.1.1.0) single in
+    → is_single_type (type_of v.nal) ≡ true → 6 ≤ bits 20 0 16 bytes → Spells fragment_headers (plain_cvf v) bytes → first_row (nal_rows bytes) ≡ None
+fragment_accepted part v bytes is apart single long spells =
+    let h = fragment_so (plain_cvf v) bytes spells in
+    let kind : is_fragment bytes ≡ true = rw (h.kind) refl in
+    let s : is_set 29 0 bytes ≡ starts part = bit_there 29 0 bytes (starts part) (h.start ∙ ap (λ (p : NalPart). flag (starts p)) is) in
+    let e : is_set 29 1 bytes ≡ ends part = bit_there 29 1 bytes (ends part) (h.end ∙ ap (λ (p : NalPart). flag (ends p)) is) in
+    let type : is_single_type (bits 29 3 5 bytes) ≡ true = rw (h.type) single in
     passed_rows (nal_rows bytes) (
-      rw (h.0.1.0) refl,
+      rw (h.kind) refl,
       (
         rw (kind, unequal (bits 20 0 16 bytes) 5 (λ q. omega arith)) refl,
         (
@@ -389,7 +367,7 @@ fragment_accepted part v bytes is apart single long h =
     )
 
 headers_accepted : (part : NalPart) (v : Cvf) (bytes : List ℕ) → v.part ≡ part → is_single_type (type_of v.nal) ≡ true
-    → header_size part ≤ 24 + bits 20 0 16 bytes → Holds (headers_of part) v bytes → first_row (nal_rows bytes) ≡ None
+    → header_size part ≤ 24 + bits 20 0 16 bytes → Spells (headers_of part) (plain_cvf v) bytes → first_row (nal_rows bytes) ≡ None
 headers_accepted Single v bytes is single long h =
     let kind : is_fragment bytes ≡ false = rw (h.0.1.0) (not_fu_a (type_of v.nal) single) in
     let type : is_single_type (bits 28 3 5 bytes) ≡ true = rw (h.0.1.0) single in
@@ -404,15 +382,15 @@ headers_some First = omega arith
 headers_some Middle = omega arith
 headers_some Last = omega arith
 
-accepted_again : (bytes : List ℕ) (v : Cvf) → IsWritableCvf v → Shared (plain_cvf v) bytes → Holds (headers_of v.part) v bytes
+accepted_again : (bytes : List ℕ) (v : Cvf) → IsWritableCvf v → Shared (plain_cvf v) bytes → Spells (headers_of v.part) (plain_cvf v) bytes
     → 24 + v.header.data_length ≤ length bytes → cvf_refusal bytes ≡ None
 accepted_again bytes v whole s h long =
-    let stated : bits 20 0 16 bytes ≡ v.header.data_length = s.header.1.1.1.1.1.1.1.0.0 in
+    let stated : bits 20 0 16 bytes ≡ v.header.data_length = s.stated in
     let some = headers_some v.part in
     let start = header_whole (length bytes) (omega arith) in
     let shared : first_row (subtype_row cvf_subtype bytes ∷ version_row bytes ∷ []) ≡ None =
     passed_rows (subtype_row cvf_subtype bytes ∷ version_row bytes ∷ [])
-    (same_not_other (bits 0 0 8 bytes) cvf_subtype (s.header.0.0 ∙ whole.subtype), (same_not_other (bits 1 1 3 bytes) 0 s.header.1.0.1.0, tt)) in
+    (same_not_other (bits 0 0 8 bytes) cvf_subtype (s.subtype ∙ whole.subtype), (same_not_other (bits 1 1 3 bytes) 0 s.version, tt)) in
     let format : first_row (format_rows bytes) ≡ None =
     passed_rows (format_rows bytes) (
       same_not_other (bits 16 0 8 bytes) 2 s.format,
@@ -431,11 +409,10 @@ accepted_again bytes v whole s h long =
 held : (bytes : List ℕ) (v : Cvf) → IsWritableCvf v → Holds (layout_of v.part) v bytes → 24 + v.header.data_length ≤ length bytes
     → v.body ≡ body_of v.part v.header.data_length bytes → SpellsCvf bytes (plain_cvf v)
 held bytes v whole f long body =
-    let s = shared_held (headers_of v.part) v bytes f in
-    let h = rest_held (headers_of v.part) v bytes f in
+    let spells = held_plain v.part v bytes f in
     record {
-      accepted = accepted_again bytes v whole s h long;
-      fields = spells_shared (headers_of v.part) (plain_cvf v) bytes s (headers_again v.part v bytes h);
+      accepted = accepted_again bytes v whole (shared_so (headers_of v.part) (plain_cvf v) bytes spells) (rest_so (headers_of v.part) (plain_cvf v) bytes spells) long;
+      fields = spells;
       type = whole.type;
       body = body;
       reserved = sym (unset_spelled (layout_of v.part) v bytes f);
@@ -456,49 +433,11 @@ cvf_again v rest whole fits =
 
 -- ---- bytes without a reserved bit and without trail are the spelling
 
-shared_hold : (nal_headers : Layout Cvf) (v : Cvf) (bytes : List ℕ) → Spells (cvf_layout nal_headers) v bytes
-    → AllUnset (reserved_ranges (cvf_layout nal_headers)) bytes → Holds nal_headers v bytes → Holds (cvf_layout nal_headers) v bytes
-shared_hold nal_headers v bytes f u rest = (
-  f.0,
-  (
-    (f.1.0.0, (f.1.0.1.0, (f.1.0.1.1.0, (u.0, f.1.0.1.1.1.1)))),
-    (
-      f.1.1.0,
-      (
-        (u.1.0, f.1.1.1.0.1),
-        (
-          f.1.1.1.1.0,
-          (
-            f.1.1.1.1.1.0,
-            (
-              f.1.1.1.1.1.1.0,
-              (
-                f.1.1.1.1.1.1.1.0,
-                (
-                  (u.1.1.0, tt),
-                  (
-                    f.1.1.1.1.1.1.1.1.1.0,
-                    (
-                      (u.1.1.1.0, f.1.1.1.1.1.1.1.1.1.1.0.1),
-                      ((u.1.1.1.1.0, tt), (f.1.1.1.1.1.1.1.1.1.1.1.1.0, rest)),
-                    ),
-                  ),
-                ),
-              ),
-            ),
-          ),
-        ),
-      ),
-    ),
-  ),
-)
-
-headers_hold : (part : NalPart) (v : Cvf) (bytes : List ℕ) → Spells (headers_of part) v bytes
-    → AllUnset (reserved_ranges (headers_of part)) bytes → Holds (headers_of part) v bytes
-headers_hold Single v bytes f u = f
-headers_hold First v bytes f u = (f.0, ((f.1.0.0, (f.1.0.1.0, (u.0, f.1.0.1.1.1))), tt))
-headers_hold Middle v bytes f u = (f.0, ((f.1.0.0, (f.1.0.1.0, (u.0, f.1.0.1.1.1))), tt))
-headers_hold Last v bytes f u = (f.0, ((f.1.0.0, (f.1.0.1.0, (u.0, f.1.0.1.1.1))), tt))
+all_told : (part : NalPart) → is_told (layout_of part) ≡ true
+all_told Single = refl
+all_told First = refl
+all_told Middle = refl
+all_told Last = refl
 
 size_of_headers : (part : NalPart) → layout_size (layout_of part) ≡ header_size part
 size_of_headers Single = refl
@@ -510,11 +449,9 @@ pub cvf_only : (bytes : List ℕ) (v : Cvf) → AreBytes bytes → SpellsCvf byt
     → bytes ≡ cvf_spelling v
 cvf_only bytes v fits s plain len =
     let size : ℕ = header_size v.part in
-    let u = unset_so (reserved_ranges (layout_of v.part)) bytes (sym s.reserved ∙ plain) in
-    let rest = headers_hold v.part v bytes (rest_so (headers_of v.part) v bytes s.fields) u.1.1.1.1.1 in
-    let h = shared_hold (headers_of v.part) v bytes s.fields u rest in
+    let h = spelled_holds (layout_of v.part) v bytes (all_told v.part) s.fields (sym s.reserved ∙ plain) in
     let known = accepted_so bytes s.accepted in
-    let same : v.header.data_length ≡ bits 20 0 16 bytes = sym (shared_so (headers_of v.part) v bytes s.fields).header.1.1.1.1.1.1.1.0.0 in
+    let same : v.header.data_length ≡ bits 20 0 16 bytes = sym (shared_so (headers_of v.part) v bytes s.fields).stated in
     let part = (named v.part v bytes refl s.fields s.type).part_is in
     let within : size ≤ 24 + v.header.data_length = rw (part, same) (known.within) in
     let body : v.body ≡ drop size bytes = s.body ∙ take_all (24 + v.header.data_length - size) (drop size bytes) (omega (arith, length-drop size bytes)) in

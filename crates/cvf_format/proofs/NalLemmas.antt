@@ -1,4 +1,4 @@
--- The first byte of a NAL unit from its parts, and the reserved bit of a fragment behind the others.
+-- The first byte of a NAL unit from its parts, and the reserved bit of a fragment after the others.
 use Rattle.std.proofs.Common.{◌≡◌, ℕ, ◌+◌, ◌*◌, ◌%◌, ◌^◌, ◌<◌, Bool, true, false, cond, not, eqb, ◌⊎◌, inl, inr, List, [], ◌∷◌, ◌++◌, bit_or, refl, ◌∙◌, arith}
 use Rattle.std.proofs.lemmas.Nat.{or_shifted}
 use Rattle.avtp_base.specs.Octets.{Range, range, any_set, bits}

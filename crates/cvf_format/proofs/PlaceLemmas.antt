@@ -53,7 +53,7 @@ either : (b : Bool) (x : ℕ) (xs : List ℕ) (r : Option ℕ) → ((o : Option 
 either true x xs r same o = same (Some x)
 either false x xs r same o = same o
 
-pub last_there : (test : ℕ → Bool) (m n a k : ℕ) → a + m ≡ k → test k ≡ true → NonePasses test (k + 1) (k + 1 + n)
+last_there : (test : ℕ → Bool) (m n a k : ℕ) → a + m ≡ k → test k ≡ true → NonePasses test (k + 1) (k + 1 + n)
     → (o : Option ℕ) → last_or o (filter test (range_with_len a (m + suc n))) ≡ Some k
 last_there test zero n a k e passes none o =
     let count : 0 + suc n ≡ suc n = omega arith in
@@ -71,7 +71,7 @@ none_more test low high none here k from below =
       | inr at ↦ let e : k ≡ high = omega arith in rw e here
     ]
 
-pub none_before : (test : ℕ → Bool) (low high : ℕ) → NonePasses test (low + 1) high → test low ≡ false → NonePasses test low high
+none_before : (test : ℕ → Bool) (low high : ℕ) → NonePasses test (low + 1) high → test low ≡ false → NonePasses test low high
 none_before test low high none here k from below =
     elim (cases_lt low k) [
       | inl behind ↦ none k (omega arith) below

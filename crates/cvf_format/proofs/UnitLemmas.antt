@@ -103,7 +103,7 @@ comes_in_order {X} R test gives high apart (suc n) low e =
       | false ↦ λ f. rest
     ] refl
 
--- ---- the unit behind a start code
+-- ---- the unit after a start code
 
 -- where a unit ends, by the test and by the relation
 ends_so : (bytes : List ℕ) (at : ℕ) → (is_end bytes at ≡ true) ⊎ (at ≡ length bytes) → IsEnd bytes at

@@ -1,5 +1,5 @@
 -- NAL units in a byte stream (ITU-T H.264, annex B). A range of bytes is the place of its first byte and the place
--- behind its last.
+-- after its last.
 use Rattle.std.specs.Prelude.{◌≡◌, ◌≢◌, ◌↔◌, ℕ, ◌+◌, ◌-◌, ◌<◌, ◌≤◌, ◌==◌, Bool, not, ◌||◌, ◌⊎◌, List, [], ◌∷◌, length, slice_index, filter, find, Contains, AllPairs, Option, None, unwrap_or}
 use Rattle.std.specs.List.{range_with_len, filter_map, last_or}
 use Rattle.std.specs.Option.{option_map}
@@ -15,7 +15,7 @@ three_zeros = 0 ∷ 0 ∷ 0 ∷ []
 abbrev pub IsEnd : List ℕ → ℕ → Type 0
 IsEnd bytes at = OccursAt bytes start_code at ⊎ OccursAt bytes three_zeros at ⊎ (at ≡ length bytes)
 
--- The bytes from `from` up to `to` are a NAL unit: it begins behind a start code, reaches to the first place from there
+-- The bytes from `from` up to `to` are a NAL unit: it begins after a start code, reaches to the first place from there
 -- on where a unit ends, and is without the zero bytes before that place. It has at least one byte.
 pub record IsUnit (bytes : List ℕ) (from to end : ℕ) : Type 0 where
   pub behind : 3 ≤ from
@@ -51,13 +51,13 @@ end_behind bytes from = unwrap_or (find (is_end bytes) (range_with_len from (len
 abbrev pub is_other_byte : List ℕ → ℕ → Bool
 is_other_byte bytes at = not (slice_index bytes at == 0)
 
--- The unit behind a start code goes to its last byte that is not zero. Without such a byte there is none.
+-- The unit after a start code goes to its last byte that is not zero. Without such a byte there is none.
 abbrev pub unit_behind : List ℕ → ℕ → Option (ℕ × ℕ)
 unit_behind bytes code =
     option_map (λ last. (code + 3, last + 1))
     (last_or None (places (is_other_byte bytes) (code + 3) (end_behind bytes (code + 3))))
 
--- the units behind the start codes from place `at` on, in order
+-- the units after the start codes from place `at` on, in order
 unfoldable pub units_from : List ℕ → ℕ → List (ℕ × ℕ)
 units_from bytes at = filter_map (unit_behind bytes) (places (is_start_code bytes) at (length bytes))
 

@@ -8,6 +8,7 @@ use Rattle.avtp_base.specs.Layout.{Layout, part, holds, reserved, reserved_shown
 use Rattle.avtp_base.specs.Rows.{Row, row, first_row, or_else}
 use Rattle.avtp_header.specs.declared.header.StreamHeader.{StreamHeader}
 use Rattle.avtp_header.specs.Header.{stream_layout, header_of, kind_refusal, exceeds}
+pub use Rattle.avtp_header.specs.Numbers.{cvf_subtype}
 use Rattle.cvf_format.specs.declared.cvf.NalPart.{NalPart}
 use Rattle.cvf_format.specs.declared.cvf.NalPart.TheVariants.{Single, First, Middle, Last}
 use Rattle.cvf_format.specs.declared.cvf.CvfView.{CvfView}
@@ -36,10 +37,6 @@ cvf_shape v = record {
   body = v.body.now;
   reserved = v.reserved;
 }
-
--- the subtype of CVF
-abbrev pub cvf_subtype : ℕ
-cvf_subtype = 3
 
 -- the format that is laid out by an RFC, and among these the subtype of H.264
 abbrev pub rfc_format : ℕ
@@ -79,7 +76,7 @@ ends Single = false
 ends First = false
 ends Middle = false
 
--- The table of the format, with what stands behind the H.264 timestamp. The two format bits of the stream header are
+-- The table of the format, with what follows the H.264 timestamp. The two format bits of the stream header are
 -- reserved, and a view shows them. The stated length counts from the H.264 timestamp on.
 abbrev pub cvf_layout : Layout Cvf → Layout Cvf
 cvf_layout nal_headers = stream_layout (λ v. v.header)
@@ -125,7 +122,7 @@ header_size Last = 30
 
 -- ---- the rows
 
--- The rows that refuse a packet behind those that all formats share, in this order. The stated length counts the H.264
+-- The rows that refuse a packet after those that all formats share, in this order. The stated length counts the H.264
 -- timestamp and the byte of the NAL type.
 abbrev pub format_rows : List ℕ → List Row
 format_rows bytes =
@@ -159,7 +156,7 @@ cvf_refusal bytes =
 abbrev pub sets_reserved : NalPart → List ℕ → Bool
 sets_reserved part bytes = any_set (reserved_ranges (layout_of part)) bytes
 
--- the bytes behind the headers, to the end of the stated length
+-- the bytes after the headers, to the end of the stated length
 abbrev pub body_of : NalPart → ℕ → List ℕ → List ℕ
 body_of part stated bytes = take (24 + stated - header_size part) (drop (header_size part) bytes)
 
@@ -209,6 +206,6 @@ pub record IsWritableCvf (v : Cvf) : Type 0 where
 abbrev pub plain_cvf : Cvf → Cvf
 plain_cvf v = record v { header = record v.header { format_bits = 0 }; reserved = false }
 
--- the bytes of a packet, with every reserved bit 0 and nothing behind the stated length
+-- the bytes of a packet, with every reserved bit 0 and nothing after the stated length
 abbrev pub cvf_spelling : Cvf → List ℕ
 cvf_spelling v = spelling (layout_of v.part) v ++ v.body

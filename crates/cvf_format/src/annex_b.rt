@@ -65,7 +65,7 @@ fn without_zeros(bytes: &[u8], from: usize, end: usize) -> Option<(usize, usize)
     None
 }
 
-/// The first NAL unit whose start code stands at `from` or behind: the place of its first byte, and the place behind its
+/// The first NAL unit whose start code stands at `from` or after it: the place of its first byte, and the place after its
 /// last. `None` comes where there is none. So all units come, in order, from 0 and then from the end of the one before.
 pub fn next_unit(bytes: &[u8], from: usize) -> Option<(usize, usize)>
     requires { from ≤ length bytes.now }
@@ -85,11 +85,11 @@ pub fn next_unit(bytes: &[u8], from: usize) -> Option<(usize, usize)>
     None
 }
 
-/// The NAL units of a byte stream, in order: of each the place of its first byte, and the place behind its last.
+/// The NAL units of a byte stream, in order: of each the place of its first byte, and the place after its last.
 ///
-/// A start code is 00 00 01. A unit begins behind a start code and ends before the next 00 00 01 or 00 00 00, or where the
+/// A start code is 00 00 01. A unit begins after a start code and ends before the next 00 00 01 or 00 00 00, or where the
 /// bytes end. Zero bytes at its end belong to none, and a unit without a byte is left out. Bytes before the first start
-/// code belong to none, nor do those behind 00 00 00, up to the next start code. `NoMemory` comes where no memory is found
+/// code belong to none, nor do those after 00 00 00, up to the next start code. `NoMemory` comes where no memory is found
 /// for the list, and nothing else is allocated.
 pub fn split_annex_b(alloc: Global, bytes: &[u8]) -> Result<Vec<(usize, usize)>, NoMemory>
     ensures units { IfOk result (λ units. AreUnits bytes.now units.items) }

@@ -37,7 +37,7 @@ pub struct CvfView<'a> {
     /// their two headers, all of them the same.
     pub nal: u8,
     pub part: NalPart,
-    /// The bytes of the NAL unit behind its first that this packet carries.
+    /// The bytes of the NAL unit after its first that this packet carries.
     pub body: &'a [u8],
     /// A reserved bit is set.
     pub reserved: bool,

@@ -16,7 +16,7 @@ pub fn packet_again()
     ensures { (v : Cvf) (trail : List ℕ) → IsWritableCvf v → Fits (layout_of v.part) v → SpellsCvf (cvf_spelling v ++ trail) (plain_cvf v) }
 {}
 
-/// Bytes that spell a packet with no reserved bit set, and nothing behind it, are its spelling.
+/// Bytes that spell a packet with no reserved bit set, and nothing after it, are its spelling.
 pub fn one_spelling()
     ensures { (bytes : List ℕ) (v : Cvf) → AreBytes bytes → SpellsCvf bytes v → v.reserved ≡ false
         → length bytes ≡ 24 + v.header.data_length → bytes ≡ cvf_spelling v }

@@ -10,10 +10,7 @@ use crate::cvf::{CvfView, FU_A, NalPart, header_size};
 use avtp_base::octets::{bit_at, bits_at, u16_at, u32_at};
 use avtp_base::rows::{cut_off, refused};
 use avtp_base::{Field, Refusal};
-use avtp_header::{exceeds, read_header_of};
-
-/// The subtype of CVF.
-const SUBTYPE: u8 = 3;
+use avtp_header::{exceeds, read_header_of, subtype};
 
 fn is_single_type(kind: u8) -> bool
     ensures { result ≡ is_single kind }
@@ -127,7 +124,7 @@ fn sets_reserved(pdu: &[u8], part: NalPart) -> bool
 fn read_packet(pdu: &[u8]) -> Result<CvfView<'_>, Refusal>
     ensures { Reads cvf_shape (cvf_refusal pdu.now) (cvf_of pdu.now) result }
 {
-    let header = read_header_of(SUBTYPE, pdu)?;
+    let header = read_header_of(subtype::CVF, pdu)?;
     if let Some(refusal) = refused_by_format(pdu, header.data_length) {
         return Err(refusal);
     }

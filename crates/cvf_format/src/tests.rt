@@ -237,7 +237,7 @@ fn reserved_bits(rt: HostRuntime) -> Result<(), Refusal> {
     Ok(())
 }
 
-/// Bodies may be empty, and bytes behind the stated length belong to none.
+/// Bodies may be empty, and bytes after the stated length belong to none.
 #[test]
 fn empty_bodies_and_trail(rt: HostRuntime) -> Result<(), Refusal> {
     let mut bytes = [0xffu8; 40];
@@ -332,7 +332,7 @@ fn splits_into(alloc: Global, bytes: &[u8], want: &[(usize, usize)]) -> Result<b
     Ok(units.as_slice() == want)
 }
 
-/// The NAL units of byte streams, by the places of their first bytes and those behind their last.
+/// The NAL units of byte streams, by the places of their first bytes and those after their last.
 #[test]
 fn units_of_byte_streams(rt: HostRuntime) -> Result<(), NoMemory> {
     let alloc = rt.alloc();
@@ -373,7 +373,7 @@ fn units_of_byte_streams(rt: HostRuntime) -> Result<(), NoMemory> {
     Ok(())
 }
 
-/// The units come one by one, each looked for behind the one before.
+/// The units come one by one, each looked for after the one before.
 #[test]
 fn units_one_by_one(rt: HostRuntime) {
     let bytes = [0, 0, 1, 0x67, 0, 0, 1, 0, 0, 0, 1, 0x68, 0x69];

@@ -8,10 +8,11 @@ use Rattle.std.proofs.lemmas.List.{length-append, length-drop, length-take, take
 use Rattle.std.proofs.lemmas.Nat.{div-add-mod'}
 use Rattle.avtp_base.specs.Octets.{AreBytes, bits, flag}
 use Rattle.avtp_base.specs.Rows.{first_row, or_else}
-use Rattle.avtp_base.specs.Layout.{reserved_ranges, Spells, Fits, spelling, first_short}
+use Rattle.avtp_base.specs.Layout.{Spells, Fits, spelling, first_short}
 use Rattle.avtp_base.proofs.BitLemmas.{bit_shown, bits-below, flag-below}
 use Rattle.avtp_base.proofs.RowLemmas.{or_else-none, rows_passed, passed_rows, not_other, or_else-accepted, same_not_other, unequal}
-use Rattle.avtp_base.proofs.OnlySpelling.{only_spelling, unset_so}
+use Rattle.avtp_base.proofs.HoldLemmas.{held_spells, is_plain, spelled_holds}
+use Rattle.avtp_base.proofs.OnlySpelling.{only_spelling}
 use Rattle.avtp_base.proofs.LayoutLemmas.{Holds, IsLaid, holds_spelled, unset_spelled}
 use Rattle.avtp_header.specs.declared.header.StreamHeader.{StreamHeader}
 use Rattle.avtp_header.specs.Header.{SpellsHeader, filled_layout, header_layout, header_of, header_refusal, kind_refusal, subtype_row, version_row}
@@ -228,31 +229,56 @@ same_packet : (a a' : StreamHeader) (b b' c c' d d' e e' : ℕ) (f f' : Cip) (g 
     → packet a b c d e f g h i ≡ packet a' b' c' d' e' f' g' h' i'
 same_packet a a' b b' c c' d d' e e' f f' g g' h h' i i' p q r s t u v w x = rw (p, q, r, s, t, u, v, w, x) refl
 
+-- what the bits of bytes say of a packet that they spell
+record Fields (bytes : List ℕ) (v : Iec) : Type 0 where
+  subtype : bits 0 0 8 bytes ≡ v.header.subtype
+  version : bits 1 1 3 bytes ≡ 0
+  gateway_info : bits 16 0 32 bytes ≡ v.gateway_info
+  length : bits 20 0 16 bytes ≡ v.header.data_length
+  tag : bits 22 0 2 bytes ≡ cip_tag
+  channel : bits 22 2 6 bytes ≡ v.channel
+  tcode : bits 23 0 4 bytes ≡ v.tcode
+  sy : bits 23 4 4 bytes ≡ v.sy
+  qi_1 : bits 24 0 2 bytes ≡ 0
+  sid : bits 24 2 6 bytes ≡ v.cip.sid
+  dbs : bits 25 0 8 bytes ≡ dbs_byte v.cip.dbs
+  fraction : bits 26 0 2 bytes ≡ 0
+  padding : bits 26 2 3 bytes ≡ 0
+  stamped : bits 26 5 1 bytes ≡ 0
+  dbc : bits 27 0 8 bytes ≡ v.cip.dbc
+  qi_2 : bits 28 0 2 bytes ≡ second_mark
+  format : bits 28 2 6 bytes ≡ audio_format
+  fdf : bits 29 0 8 bytes ≡ v.cip.fdf
+  syt : bits 30 0 16 bytes ≡ v.cip.syt
+
+fields_of : (bytes : List ℕ) (v : Iec) → Spells iec_layout v bytes → Fields bytes v
+fields_of bytes v ((subtype, _), ((_, (version, _)), (_, (_, (_, (_, ((gateway_info, _), ((stated, _), ((tag, (channel, _)), ((tcode, (sy, _)), ((qi_1, (sid, _)), ((dbs, _), ((fraction, (padding, (stamped, _))), ((dbc, _), ((qi_2, (format, _)), ((fdf, _), ((syt, _), _))))))))))))))))) = record {
+  subtype = subtype;
+  version = version;
+  gateway_info = gateway_info;
+  length = stated;
+  tag = tag;
+  channel = channel;
+  tcode = tcode;
+  sy = sy;
+  qi_1 = qi_1;
+  sid = sid;
+  dbs = dbs;
+  fraction = fraction;
+  padding = padding;
+  stamped = stamped;
+  dbc = dbc;
+  qi_2 = qi_2;
+  format = format;
+  fdf = fdf;
+  syt = syt;
+}
+
 header_within : (bytes : List ℕ) (v : Iec) → header_refusal bytes ≡ None → Spells iec_layout v bytes → SpellsHeader bytes v.header
-header_within bytes v accepted f =
-    let second = f.1.0 in
-    record {
-      accepted = accepted;
-      fields = (
-        f.0,
-        (
-          (second.0, (second.1.0, (second.1.1.0, (format_bits_shown bytes v.header.format_bits second.1.1.1.0 second.1.1.1.1.0, second.1.1.1.1.1)))),
-          (
-            f.1.1.0,
-            (
-              f.1.1.1.0,
-              (
-                f.1.1.1.1.0,
-                (
-                  f.1.1.1.1.1.0,
-                  ((tt, tt), (f.1.1.1.1.1.1.1.0, ((tt, tt), tt))),
-                ),
-              ),
-            ),
-          ),
-        ),
-      );
-    }
+header_within bytes v accepted (subtype, ((sv, (version, (mr, (high, (low, tv))))), (seq, (tu, (id, (timestamp, (_, (stated, _)))))))) = record {
+  accepted = accepted;
+  fields = (subtype, ((sv, (version, (mr, (format_bits_shown bytes v.header.format_bits high low, tv)))), (seq, (tu, (id, (timestamp, ((tt, tt), (stated, ((tt, tt), tt)))))))));
+}
 
 counted : (count block size : ℕ) → 0 < block → count * block ≡ size → count ≡ size / block
 counted count block size some e = rw (← e) (sym (mul-div_cancel count some))
@@ -260,24 +286,18 @@ counted count block size some e = rw (← e) (sym (mul-div_cancel count some))
 pub one_packet : (bytes : List ℕ) (v : Iec) → SpellsIec bytes v → v ≡ iec_of bytes
 one_packet bytes v s =
     let known = accepted_so bytes s.accepted in
-    let f = s.fields in
-    let own = f.1.1.1.1.1.1 in
-    let c = own.1.1.1.1 in
-    let header : v.header ≡ header_of bytes = one_header bytes v.header (header_within bytes v known.header f) in
-    let gateway_info : v.gateway_info ≡ bits 16 0 32 bytes = sym own.0.0 in
-    let channel : v.channel ≡ bits 22 2 6 bytes = sym own.1.1.0.1.0 in
-    let tcode : v.tcode ≡ bits 23 0 4 bytes = sym own.1.1.1.0.0 in
-    let sy : v.sy ≡ bits 23 4 4 bytes = sym own.1.1.1.0.1.0 in
+    let f = fields_of bytes v s.fields in
+    let header : v.header ≡ header_of bytes = one_header bytes v.header (header_within bytes v known.header s.fields) in
     let length : v.header.data_length ≡ bits 20 0 16 bytes = ap (λ (h : StreamHeader). h.data_length) header in
-    let dbs : v.cip.dbs ≡ dbs_of (bits 25 0 8 bytes) = quadlets_told (bits 25 0 8 bytes) v.cip.dbs c.1.0.0 s.some_quadlets in
-    let fdf : v.cip.fdf ≡ bits 29 0 8 bytes = sym c.1.1.1.1.1.0.0 in
-    let cip : v.cip ≡ cip_of bytes = same_cip _ _ _ _ _ _ _ _ _ _ (sym c.0.1.0) dbs (sym c.1.1.1.0.0) fdf (sym c.1.1.1.1.1.1.0.0) in
+    let dbs : v.cip.dbs ≡ dbs_of (bits 25 0 8 bytes) = quadlets_told (bits 25 0 8 bytes) v.cip.dbs f.dbs s.some_quadlets in
+    let fdf : v.cip.fdf ≡ bits 29 0 8 bytes = sym f.fdf in
+    let cip : v.cip ≡ cip_of bytes = same_cip _ _ _ _ _ _ _ _ _ _ (sym f.sid) dbs (sym f.dbc) fdf (sym f.syt) in
     let block : block_size v.cip.dbs ≡ stated_block bytes = ap block_size dbs in
     let data_bytes : data_size v.cip.fdf (v.header.data_length - 8) ≡ stated_data bytes = rw (fdf, length) refl in
     let whole : v.count * stated_block bytes ≡ stated_data bytes = rw (← block, ← data_bytes) s.count in
     let count : v.count ≡ stated_data bytes / stated_block bytes = counted v.count _ (stated_data bytes) (some_block (bits 25 0 8 bytes)) whole in
     let payload : v.payload ≡ take (bits 20 0 16 bytes - 8) (drop 32 bytes) = s.payload ∙ ap (λ (n : ℕ). take (n - 8) (drop 32 bytes)) length in
-    same_packet _ _ _ _ _ _ _ _ _ _ _ _ _ _ _ _ _ _ header gateway_info channel tcode sy cip count payload s.reserved
+    same_packet _ _ _ _ _ _ _ _ _ _ _ _ _ _ _ _ _ _ header (sym f.gateway_info) (sym f.channel) (sym f.tcode) (sym f.sy) cip count payload s.reserved
 
 cip_laid : IsLaid 24 (cip_layout (λ (v : Iec). v.cip))
 cip_laid = (refl, refl, (refl, refl, (refl, refl, (refl, refl, (refl, refl, (refl, refl, (refl, refl, tt)))))))
@@ -285,21 +305,20 @@ cip_laid = (refl, refl, (refl, refl, (refl, refl, (refl, refl, (refl, refl, (ref
 pub iec_writable : (bytes : List ℕ) (v : Iec) → SpellsIec bytes v → IsWritableIec v
 iec_writable bytes v s =
     let known = accepted_so bytes s.accepted in
-    let own = s.fields.1.1.1.1.1.1 in
-    let c = own.1.1.1.1 in
-    let stated : bits 20 0 16 bytes ≡ v.header.data_length = own.1.0.0 in
+    let f = fields_of bytes v s.fields in
+    let stated : bits 20 0 16 bytes ≡ v.header.data_length = f.length in
     let size : length v.payload ≡ v.header.data_length - 8 =
     rw (s.payload) (omega (arith, length-take (v.header.data_length - 8) (drop 32 bytes), length-drop 32 bytes, known.long, known.header_there, stated)) in
-    let dbs : v.cip.dbs ≡ dbs_of (bits 25 0 8 bytes) = quadlets_told (bits 25 0 8 bytes) v.cip.dbs c.1.0.0 s.some_quadlets in
+    let dbs : v.cip.dbs ≡ dbs_of (bits 25 0 8 bytes) = quadlets_told (bits 25 0 8 bytes) v.cip.dbs f.dbs s.some_quadlets in
     record {
-      subtype = sym s.fields.0.0 ∙ known.subtype;
-      channel = rw (← own.1.1.0.1.0) (bits-below 22 2 6 bytes);
-      tcode = rw (← own.1.1.1.0.0) (bits-below 23 0 4 bytes);
-      sy = rw (← own.1.1.1.0.1.0) (bits-below 23 4 4 bytes);
-      sid = rw (← c.0.1.0) (bits-below 24 2 6 bytes);
+      subtype = sym f.subtype ∙ known.subtype;
+      channel = rw (← f.channel) (bits-below 22 2 6 bytes);
+      tcode = rw (← f.tcode) (bits-below 23 0 4 bytes);
+      sy = rw (← f.sy) (bits-below 23 4 4 bytes);
+      sid = rw (← f.sid) (bits-below 24 2 6 bytes);
       some_quadlets = s.some_quadlets;
       quadlets = rw dbs (few_quadlets (bits 25 0 8 bytes) (bits-below 25 0 8 bytes));
-      fdf = rw (← c.1.1.1.1.1.0.0) known.fdf;
+      fdf = rw (← f.fdf) known.fdf;
       data_length = omega (arith, size, known.header_there, stated);
       count = rw size s.count;
     }
@@ -317,24 +336,8 @@ fdf_accepted : (fdf : ℕ) → IsFdf fdf → (ltb 6 fdf && not (eqb fdf no_data)
 fdf_accepted fdf (inl rate) = rw (le-ltb 6 fdf rate) refl
 fdf_accepted fdf (inr none) = rw none refl
 
--- the fields that the rows judge, as bytes hold them of a packet
-record Judged (bytes : List ℕ) (v : Iec) : Type 0 where
-  long : 24 + v.header.data_length ≤ length bytes
-  subtype : bits 0 0 8 bytes ≡ v.header.subtype
-  version : bits 1 1 3 bytes ≡ 0
-  length : bits 20 0 16 bytes ≡ v.header.data_length
-  tag : bits 22 0 2 bytes ≡ cip_tag
-  qi_1 : bits 24 0 2 bytes ≡ 0
-  dbs : bits 25 0 8 bytes ≡ dbs_byte v.cip.dbs
-  fraction : bits 26 0 2 bytes ≡ 0
-  padding : bits 26 2 3 bytes ≡ 0
-  stamped : bits 26 5 1 bytes ≡ 0
-  qi_2 : bits 28 0 2 bytes ≡ second_mark
-  format : bits 28 2 6 bytes ≡ audio_format
-  fdf : bits 29 0 8 bytes ≡ v.cip.fdf
-
-accepted_again : (bytes : List ℕ) (v : Iec) → IsWritableIec v → Judged bytes v → iec_refusal bytes ≡ None
-accepted_again bytes v whole j =
+accepted_again : (bytes : List ℕ) (v : Iec) → IsWritableIec v → Fields bytes (plain_iec v) → 24 + v.header.data_length ≤ length bytes → iec_refusal bytes ≡ None
+accepted_again bytes v whole j long =
     let start = header_whole (length bytes) (omega arith) in
     let shared : first_row (subtype_row iec_subtype bytes ∷ version_row bytes ∷ []) ≡ None =
     passed_rows (subtype_row iec_subtype bytes ∷ version_row bytes ∷ []) (same_not_other (bits 0 0 8 bytes) iec_subtype (j.subtype ∙ whole.subtype), (same_not_other (bits 1 1 3 bytes) 0 j.version, tt)) in
@@ -346,7 +349,7 @@ accepted_again bytes v whole j =
         rw (
           stated,
           le-ltb (8 + length v.payload) 8 (omega arith),
-          le-ltb (length bytes) (24 + (8 + length v.payload)) (omega (arith, j.long, whole.data_length)),
+          le-ltb (length bytes) (24 + (8 + length v.payload)) (omega (arith, long, whole.data_length)),
         ) refl,
         tt,
       ),
@@ -383,68 +386,15 @@ accepted_again bytes v whole j =
 held : (bytes : List ℕ) (v : Iec) → IsWritableIec v → Holds iec_layout v bytes → 24 + v.header.data_length ≤ length bytes
     → v.payload ≡ take (v.header.data_length - 8) (drop 32 bytes) → SpellsIec bytes (plain_iec v)
 held bytes v whole f long payload =
-    let second = f.1.0 in
-    let own = f.1.1.1.1.1.1 in
-    let c = own.1.1.1.1 in
     let size : v.header.data_length - 8 ≡ length v.payload = omega (arith, whole.data_length) in
-    let high : bits 1 5 1 bytes ≡ v.header.format_bits % 2 / 2 = second.1.1.1.0 ∙ omega arith in
-    let low : bits 1 6 1 bytes ≡ v.header.format_bits % 2 % 2 = second.1.1.1.1.0 ∙ omega arith in
+    let high : v.header.format_bits % 2 / 2 ≡ 0 = omega arith in
+    let low : v.header.format_bits % 2 % 2 ≡ v.header.format_bits % 2 = omega arith in
+    let plain : is_plain iec_layout (plain_iec v) ≡ true = rw high refl in
+    let holds : Holds iec_layout (plain_iec v) bytes = rw low f in
+    let spells = held_spells iec_layout (plain_iec v) bytes plain holds in
     record {
-      accepted = accepted_again bytes v whole (record {
-        long = long;
-        subtype = f.0.0;
-        version = second.1.0;
-        length = own.1.0.0;
-        tag = own.1.1.0.0;
-        qi_1 = c.0.0;
-        dbs = c.1.0.0;
-        fraction = c.1.1.0.0;
-        padding = c.1.1.0.1.0;
-        stamped = c.1.1.0.1.1.0;
-        qi_2 = c.1.1.1.1.0.0;
-        format = c.1.1.1.1.0.1.0;
-        fdf = c.1.1.1.1.1.0.0;
-      });
-      fields = (
-        f.0,
-        (
-          (second.0, (second.1.0, (second.1.1.0, (high, (low, second.1.1.1.1.1))))),
-          (
-            f.1.1.0,
-            (
-              (tt, f.1.1.1.0.1),
-              (
-                f.1.1.1.1.0,
-                (
-                  f.1.1.1.1.1.0,
-                  (
-                    own.0,
-                    (
-                      own.1.0,
-                      (
-                        own.1.1.0,
-                        (
-                          own.1.1.1.0,
-                          (
-                            c.0,
-                            (
-                              c.1.0,
-                              (
-                                (c.1.1.0.0, (c.1.1.0.1.0, (c.1.1.0.1.1.0, (tt, tt)))),
-                                c.1.1.1,
-                              ),
-                            ),
-                          ),
-                        ),
-                      ),
-                    ),
-                  ),
-                ),
-              ),
-            ),
-          ),
-        ),
-      );
+      accepted = accepted_again bytes v whole (fields_of bytes (plain_iec v) spells) long;
+      fields = spells;
       some_quadlets = whole.some_quadlets;
       count = rw size whole.count;
       payload = payload;
@@ -486,32 +436,11 @@ cip_fits c sid dbs dbc fdf syt = (
 
 pub fits_whole : (v : Iec) (gv info flags : ℕ) → IsWritableIec v → info ≡ v.gateway_info
     → Fits (filled_layout gv info flags) v.header → Fits (cip_layout (λ (c : Cip). c)) v.cip → Fits iec_layout v
-fits_whole v gv info flags whole e h c = (
-  h.0,
+fits_whole v gv info flags whole e (subtype, ((sv, (version, (mr, (_, tv)))), (seq, (tu, (id, (timestamp, ((gateway, _), (stated, _)))))))) c = (
+  subtype,
   (
-    (h.1.0.0, (h.1.0.1.0, (h.1.0.1.1.0, (omega arith, (omega arith, h.1.0.1.1.1.1))))),
-    (
-      h.1.1.0,
-      (
-        h.1.1.1.0,
-        (
-          h.1.1.1.1.0,
-          (
-            h.1.1.1.1.1.0,
-            (
-              (rw (← e) h.1.1.1.1.1.1.0.0, tt),
-              (
-                h.1.1.1.1.1.1.1.0,
-                (
-                  (omega arith, (whole.channel, tt)),
-                  ((whole.tcode, (whole.sy, tt)), c),
-                ),
-              ),
-            ),
-          ),
-        ),
-      ),
-    ),
+    (sv, (version, (mr, (omega arith, (omega arith, tv))))),
+    (seq, (tu, (id, (timestamp, ((rw (← e) gateway, tt), (stated, ((omega arith, (whole.channel, tt)), ((whole.tcode, (whole.sy, tt)), c)))))))),
   ),
 )
 
@@ -534,51 +463,8 @@ pub iec_only : (bytes : List ℕ) (v : Iec) → AreBytes bytes → SpellsIec byt
     → bytes ≡ iec_spelling v
 iec_only bytes v fits s plain len =
     let known = accepted_so bytes s.accepted in
-    let f = s.fields in
-    let own = f.1.1.1.1.1.1 in
-    let c = own.1.1.1.1 in
-    let u = unset_so (reserved_ranges iec_layout) bytes (sym s.reserved ∙ plain) in
-    let h : Holds iec_layout v bytes = (
-      f.0,
-      (
-        (f.1.0.0, (f.1.0.1.0, (f.1.0.1.1.0, (u.0, f.1.0.1.1.1.1)))),
-        (
-          f.1.1.0,
-          (
-            (u.1.0, f.1.1.1.0.1),
-            (
-              f.1.1.1.1.0,
-              (
-                f.1.1.1.1.1.0,
-                (
-                  own.0,
-                  (
-                    own.1.0,
-                    (
-                      own.1.1.0,
-                      (
-                        own.1.1.1.0,
-                        (
-                          c.0,
-                          (
-                            c.1.0,
-                            (
-                              (c.1.1.0.0, (c.1.1.0.1.0, (c.1.1.0.1.1.0, (u.1.1.0, tt)))),
-                              c.1.1.1,
-                            ),
-                          ),
-                        ),
-                      ),
-                    ),
-                  ),
-                ),
-              ),
-            ),
-          ),
-        ),
-      ),
-    ) in
-    let stated : bits 20 0 16 bytes ≡ v.header.data_length = own.1.0.0 in
+    let h : Holds iec_layout v bytes = spelled_holds iec_layout v bytes refl s.fields (sym s.reserved ∙ plain) in
+    let stated : bits 20 0 16 bytes ≡ v.header.data_length = (fields_of bytes v s.fields).length in
     let header : 8 ≤ v.header.data_length = rw (← stated) known.header_there in
     let rest : v.payload ≡ drop 32 bytes =
     s.payload ∙ take_all (v.header.data_length - 8) (drop 32 bytes) (omega (arith, length-drop 32 bytes)) in

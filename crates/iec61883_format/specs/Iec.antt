@@ -1,7 +1,9 @@
 -- IEC 61883-6 packets in AVTP: the encapsulation of IEEE 1722-2016, 5, and the CIP header of IEC 61883-1, two quadlets
--- behind the stream header. Which packets are accepted is this project's profile: audio blocks with nothing split or
+-- after the stream header. Which packets are accepted is this project's profile: audio blocks with nothing split or
 -- packed, and packets of no data.
 use Rattle.std.specs.Prelude.{◌≡◌, ◌⊎◌, ℕ, ◌+◌, ◌-◌, ◌*◌, ◌/◌, ◌%◌, ◌==◌, ◌^◌, ◌<◌, ◌≤◌, Bool, false, not, ◌&&◌, ◌||◌, nat_lt, if◌then◌else◌, List, [], ◌∷◌, ◌++◌, length, take, drop, Option, Some, None}
+use Rattle.time_unfold.specs.declared.head_rule.HeadRule.TheVariants.{Blocks}
+use Rattle.time_unfold.specs.Heads.{stamped_index}
 use Rattle.avtp_base.specs.declared.field.Field.TheVariants.{FormatData, FormatFlags, StreamDataLength, Tag, Qi1, FnBits, Qpc, Sph, Qi2, Fmt, Fdf}
 use Rattle.avtp_base.specs.declared.refusal.Refusal.{Refusal}
 use Rattle.avtp_base.specs.Octets.{bits, any_set}
@@ -9,6 +11,7 @@ use Rattle.avtp_base.specs.Layout.{Layout, part, holds, reserved, reserved_shown
 use Rattle.avtp_base.specs.Rows.{Row, row, first_row, or_else}
 use Rattle.avtp_header.specs.declared.header.StreamHeader.{StreamHeader}
 use Rattle.avtp_header.specs.Header.{stream_layout, header_of, kind_refusal, exceeds}
+pub use Rattle.avtp_header.specs.Numbers.{iec_subtype}
 use Rattle.iec61883_format.specs.declared.iec.Cip.{Cip}
 use Rattle.iec61883_format.specs.declared.iec.IecView.{IecView}
 
@@ -38,10 +41,6 @@ iec_shape v = record {
 }
 
 -- ---- numbers
-
--- the subtype of IEC 61883
-abbrev pub iec_subtype : ℕ
-iec_subtype = 0
 
 -- the tag of a packet that has a CIP header
 abbrev pub cip_tag : ℕ
@@ -95,13 +94,13 @@ IsSytInterval interval = (interval ≡ 8) ⊎ (interval ≡ 16) ⊎ (interval �
 -- The first data block, of a packet whose first has this block count, whose block count is a multiple of the interval:
 -- the one that the packet's timestamp belongs to. Blocks are counted from 0.
 abbrev pub anchor_index : ℕ → ℕ → ℕ
-anchor_index dbc interval = (interval - dbc % interval) % interval
+anchor_index dbc interval = stamped_index (Blocks dbc interval)
 
 -- the bytes of a data block of so many quadlets
 abbrev pub block_size : ℕ → ℕ
 block_size dbs = 4 * dbs
 
--- how many of the bytes behind the CIP header are data blocks: all, and none in a packet of no data
+-- how many of the bytes after the CIP header are data blocks: all, and none in a packet of no data
 abbrev pub data_size : ℕ → ℕ → ℕ
 data_size fdf size = if fdf == no_data then 0 else size
 
@@ -135,7 +134,7 @@ sets_reserved bytes = any_set (reserved_ranges iec_layout) bytes
 
 -- ---- the rows
 
--- The rows that refuse a packet behind those that all formats share, in this order: those of the encapsulation, of each
+-- The rows that refuse a packet after those that all formats share, in this order: those of the encapsulation, of each
 -- quadlet of the CIP header, and of the data blocks.
 abbrev pub carrier_rows : List ℕ → List Row
 carrier_rows bytes =
@@ -231,6 +230,6 @@ pub record IsWritableIec (v : Iec) : Type 0 where
 abbrev pub plain_iec : Iec → Iec
 plain_iec v = record v { header = record v.header { format_bits = v.header.format_bits % 2 }; reserved = false }
 
--- the bytes of a packet, with every reserved bit 0 and nothing behind the stated length
+-- the bytes of a packet, with every reserved bit 0 and nothing after the stated length
 abbrev pub iec_spelling : Iec → List ℕ
 iec_spelling v = spelling iec_layout v ++ v.payload

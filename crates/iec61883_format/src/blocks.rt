@@ -3,6 +3,8 @@
 ghost use Rattle.std.specs.Prelude.{◌≡◌, ◌+◌, ◌%◌, ◌<◌, ◌↔◌, IfSome, IsNone};
 ghost use Rattle.iec61883_format.specs.Iec.{IsSytInterval, anchor_index as index_of_anchor, rate_of_fdf as rate_of, syt_interval as interval_of};
 
+use time_unfold::HeadRule;
+
 /// The sample rate in Hz that the code FDF names (IEC 61883-6). `None` comes for codes above 6, 255 among them, which a
 /// packet of no data has.
 pub fn rate_of_fdf(fdf: u8) -> Option<u32>
@@ -44,5 +46,5 @@ pub fn anchor_index(dbc: u8, interval: u32) -> u32
     ensures within { result < interval }
     ensures multiple { (dbc + result) % interval ≡ 0 }
 {
-    (interval - u32::from(dbc) % interval) % interval
+    HeadRule::Blocks { dbc, interval }.stamped_index()
 }

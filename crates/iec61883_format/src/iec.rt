@@ -31,7 +31,7 @@ pub struct IecView<'a> {
     /// The synchronization code of the upper layer, 0 to 15.
     pub sy: u8,
     pub cip: Cip,
-    /// The number of data blocks; 0 in a packet of no data, whatever stands behind its CIP header.
+    /// The number of data blocks; 0 in a packet of no data, whatever follows its CIP header.
     pub count: u32,
     /// What follows the CIP header: the data blocks one after the other, each of `cip.dbs` quadlets of a label byte and
     /// 24 bits.

@@ -9,7 +9,7 @@ use crate::iec::{Cip, IecView};
 use avtp_base::octets::{bits_at, u16_at, u32_at};
 use avtp_base::rows::refused;
 use avtp_base::{Field, Refusal};
-use avtp_header::{exceeds, read_header_of};
+use avtp_header::{exceeds, read_header_of, subtype};
 
 /// The FDF of a packet of no data.
 const NO_DATA: u8 = 255;
@@ -23,7 +23,7 @@ fn dbs_of(byte: u8) -> u16
     if byte == 0 { 256 } else { u16::from(byte) }
 }
 
-/// How many of the bytes behind the CIP header are data blocks.
+/// How many of the bytes after the CIP header are data blocks.
 fn data_size(fdf: u8, size: u32) -> u32
     ensures { result ≡ data_size_of fdf size }
 {
@@ -138,7 +138,7 @@ fn sets_reserved(pdu: &[u8]) -> bool
 fn read_packet(pdu: &[u8]) -> Result<IecView<'_>, Refusal>
     ensures { Reads iec_shape (iec_refusal pdu.now) (iec_of pdu.now) result }
 {
-    let header = read_header_of(0, pdu)?;
+    let header = read_header_of(subtype::IEC_61883, pdu)?;
     if let Some(refusal) = refused_by_carrier(pdu, header.data_length) {
         return Err(refusal);
     }
@@ -167,7 +167,7 @@ fn read_packet(pdu: &[u8]) -> Result<IecView<'_>, Refusal>
 /// Refused is the first of these, in this order: a field of the stream header that does not lie wholly in the slice; a
 /// subtype other than IEC 61883; a version other than 0; a tag other than 1; a stated length of less than a CIP header,
 /// or of more than what stands there; of the CIP header `qi_1` other than 0, `fn`, `qpc` or `sph` other than 0, `qi_2`
-/// other than 2, another format than audio, an FDF that names neither a rate nor no data; a stated length behind the CIP
+/// other than 2, another format than audio, an FDF that names neither a rate nor no data; a stated length after the CIP
 /// header that is no multiple of a data block, unless there is no data. Reserved bits may be set, and what follows the
 /// stated length is ignored.
 pub fn read_iec(pdu: &[u8]) -> Result<IecView<'_>, Refusal>

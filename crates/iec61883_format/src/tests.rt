@@ -151,7 +151,7 @@ fn refused_packets(rt: HostRuntime) {
     }
 }
 
-/// All rows behind the version hold at first. One byte after the other is mended, and the next row refuses.
+/// All rows after the version hold at first. One byte after the other is mended, and the next row refuses.
 #[test]
 fn rows_in_their_order(rt: HostRuntime) {
     let mut bytes = BYTES;
@@ -220,7 +220,7 @@ fn short_packets(rt: HostRuntime) {
     }
 }
 
-/// DBS of 0 tells 256 quadlets, and a packet of no data has no blocks, whatever stands behind its CIP header.
+/// DBS of 0 tells 256 quadlets, and a packet of no data has no blocks, whatever follows its CIP header.
 #[test]
 fn edges_of_packets(rt: HostRuntime) -> Result<(), Refusal> {
     let mut long = [0u8; 24 + 1032];
@@ -248,7 +248,7 @@ fn edges_of_packets(rt: HostRuntime) -> Result<(), Refusal> {
     Ok(())
 }
 
-/// Each reserved bit alone is free and shown, the gateway's bit is none of them, and bytes behind the stated length are
+/// Each reserved bit alone is free and shown, the gateway's bit is none of them, and bytes after the stated length are
 /// no data.
 #[test]
 fn reserved_bits_and_trail(rt: HostRuntime) -> Result<(), Refusal> {

@@ -27,7 +27,7 @@ is_short None = false
 is_short (Some refusal) = refusal.short
 
 -- what a table says, unless it is for want of bytes
-pub table_stays : (order : Order) (start : ℕ) (rows : List Row) (bytes more : List ℕ) (x : Option Refusal) → first_refused order start rows bytes ≡ x → is_short x ≡ false → first_refused order start rows (bytes ++ more) ≡ x
+table_stays : (order : Order) (start : ℕ) (rows : List Row) (bytes more : List ℕ) (x : Option Refusal) → first_refused order start rows bytes ≡ x → is_short x ≡ false → first_refused order start rows (bytes ++ more) ≡ x
 table_stays order start [] bytes more x e h = e
 table_stays order start (r ∷ rows) bytes more x e h =
     grind (arith, nat_tests, number_stays order r.offset r.size bytes more, length-append bytes more, table_stays order start rows bytes more x)

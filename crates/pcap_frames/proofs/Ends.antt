@@ -18,7 +18,7 @@ spells_more style [] r bytes last all one = (last, [], rw all (sym (append-nil l
 spells_more style (x ∷ records) r bytes last all one =
     (all.0, all.1 ++ last, ap (λ (b : List ℕ). b ++ last) all.2 ∙ append_assoc all.0 all.1 last, all.3, spells_more style records r all.1 last all.4 one)
 
-pub capture_more : (style : Style) (records : List Record) (r : Record) (bytes last : List ℕ) → IsCapture style records bytes → Spells style r last → IsCapture style (records ++ r ∷ []) (bytes ++ last)
+capture_more : (style : Style) (records : List Record) (r : Record) (bytes last : List ℕ) → IsCapture style records bytes → Spells style r last → IsCapture style (records ++ r ∷ []) (bytes ++ last)
 capture_more style records r bytes last c one = record {
   header = c.header;
   body = c.body ++ last;
@@ -32,7 +32,7 @@ unfolding record_refusal
 record_limited order start bytes h = grind (arith, nat_tests)
 
 -- a whole part is a spelling
-pub spells_part : (style : Style) (start : ℕ) (part : List ℕ) → IsPart style.order start part → record_refusal style.order start part ≡ None → Spells style (record_of style part) part
+spells_part : (style : Style) (start : ℕ) (part : List ℕ) → IsPart style.order start part → record_refusal style.order start part ≡ None → Spells style (record_of style part) part
 spells_part style start part p none =
     let whole = record_whole style.order start part none in
     let limit = record_limited style.order start part none in

@@ -22,8 +22,8 @@ pub record_limit : (order : Order) (start : ℕ) (bytes : List ℕ) → 12 ≤ l
 unfolding record_refusal
 record_limit order start bytes long h = grind (arith, nat_tests)
 
--- behind an accepted header nothing is refused
-pub record_accepted : (order : Order) (start : ℕ) (bytes : List ℕ) → 16 ≤ length bytes → number_at order 8 4 bytes ≤ 262144 → certain (record_refusal order start bytes) ≡ None
+-- after an accepted header nothing is refused
+record_accepted : (order : Order) (start : ℕ) (bytes : List ℕ) → 16 ≤ length bytes → number_at order 8 4 bytes ≤ 262144 → certain (record_refusal order start bytes) ≡ None
 unfolding record_refusal
 record_accepted order start bytes long h = grind (arith, nat_tests)
 
@@ -92,7 +92,7 @@ still_in_header None None start part r s h = h
 pub short_only : (x : Option Refusal) (refusal : Refusal) → x ≡ Some refusal → refusal.short ≡ true → certain x ≡ None
 short_only x refusal e h = rw (e, h) refl
 
--- the invariant of a reader behind the file header
+-- the invariant of a reader after the file header
 pub in_record : (refusal : Option Refusal) (style : Option Style) (s : Style) (start : ℕ) (part : List ℕ) → refusal ≡ None → style ≡ Some s → IsReading refusal style start part → IsPart s.order start part
 in_record (Some refusal) style s start part r e h = absurd (cc)
 in_record None None s start part r e h = absurd (cc)

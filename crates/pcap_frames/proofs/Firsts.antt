@@ -4,7 +4,7 @@ use Rattle.std.proofs.lemmas.List.{append-nil, take_at, drop_at}
 use Rattle.avtp_base.specs.declared.refusal.Refusal.{Refusal}
 use Rattle.pcap_frames.specs.declared.style.Style.{Style}
 use Rattle.pcap_frames.specs.Layout.{record_refusal}
-use Rattle.pcap_frames.specs.Capture.{Record, Spells, SpellsAll, Holds, record_of, record_size, records_from, records_behind, style_of, whole_records}
+use Rattle.pcap_frames.specs.Capture.{Record, SpellsAll, Holds, record_of, record_size, records_from, records_behind, style_of, whole_records}
 use Rattle.pcap_frames.specs.Reading.{Reading, HasRead, Follows, StandsFor, IsReading}
 use Rattle.pcap_frames.proofs.Held.{refused_stays}
 use Rattle.pcap_frames.proofs.One.{holds_one, spells_accepted, spells_one, spells_size}

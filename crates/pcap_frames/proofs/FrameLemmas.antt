@@ -3,8 +3,8 @@ use Rattle.std.proofs.Common.{◌≡◌, ℕ, ◌≤◌, Bool, true, false, List
 use Rattle.std.specs.Prelude.{is_some}
 use Rattle.std.proofs.lemmas.Bool.{eqb-true, le-ltb, ltb-false}
 use Rattle.std.proofs.lemmas.List.{length-append}
-use Rattle.avtp_base.specs.Octets.{AreBytes, bits, is_set}
-use Rattle.avtp_base.specs.Layout.{Fits, first_short, spelling, short_row}
+use Rattle.avtp_base.specs.Octets.{AreBytes, bits, flag, is_set}
+use Rattle.avtp_base.specs.Layout.{Fits, Spells, first_short, spelling, short_row}
 use Rattle.avtp_base.proofs.BitLemmas.{bit_of_flag, bit_shown, flag-below}
 use Rattle.avtp_base.proofs.RowLemmas.{rows_passed, unequal}
 use Rattle.avtp_base.proofs.OnlySpelling.{only_spelling}
@@ -48,6 +48,20 @@ same_frame a a' b b' c c' d d' e e' f f' p q r s t u = rw (p, q, r, s, t, u) ref
 same_tag : (t : Tag) (a : ℕ) (b : Bool) (c : ℕ) → t.pcp ≡ a → t.dei ≡ b → t.vid ≡ c → t ≡ record { pcp = a; dei = b; vid = c }
 same_tag t a b c p q r = rw (← p, ← q, ← r) refl
 
+-- what the bits of a tagged frame say
+record Tagged (bytes : List ℕ) (v : Frame) (t : Tag) : Type 0 where
+  dst : bits 0 0 48 bytes ≡ v.dst
+  src : bits 6 0 48 bytes ≡ v.src
+  pcp : bits 14 0 3 bytes ≡ t.pcp
+  dei : bits 14 3 1 bytes ≡ flag t.dei
+  vid : bits 14 4 12 bytes ≡ t.vid
+  ethertype : bits 16 0 16 bytes ≡ v.ethertype
+
+tagged_so : (bytes : List ℕ) (dst src : ℕ) (t : Tag) (ethertype start : ℕ) (payload : List ℕ)
+    → Spells (frame_layout true) (frame dst src (Some t) ethertype start payload) bytes → Tagged bytes (frame dst src (Some t) ethertype start payload) t
+tagged_so bytes dst src t ethertype start payload ((to, _), ((from, _), (_, ((pcp, (dei, (vid, _))), ((kind, _), _))))) =
+    record { dst = to; src = from; pcp = pcp; dei = dei; vid = vid; ethertype = kind }
+
 one_by : (bytes : List ℕ) (dst src : ℕ) (tag : Option Tag) (ethertype start : ℕ) (payload : List ℕ)
     → SpellsFrame bytes (frame dst src tag ethertype start payload) → frame dst src tag ethertype start payload ≡ frame_of bytes
 one_by bytes dst src None ethertype start payload s =
@@ -58,13 +72,13 @@ one_by bytes dst src None ethertype start payload s =
     same_frame _ _ _ _ _ _ _ _ _ _ _ _ (sym f.0.0) (sym f.1.0.0) refl (sym f.1.1.0.0) s.start rest ∙ sym whole
 one_by bytes dst src (Some t) ethertype start payload s =
     let e : is_tagged bytes ≡ true = sym s.tagged in
-    let f = s.fields in
+    let f = tagged_so bytes dst src t ethertype start payload s.fields in
     let whole : frame_of bytes ≡ frame (bits 0 0 48 bytes) (bits 6 0 48 bytes) (Some (tag_in bytes)) (bits 16 0 16 bytes) 18 (drop 18 bytes) = rw e refl in
     let rest : payload ≡ drop 18 bytes = s.payload ∙ ap (λ (n : ℕ). drop n bytes) s.start in
     let tag : t ≡ tag_in bytes =
     same_tag t (bits 14 0 3 bytes) (is_set 14 3 bytes) (bits 14 4 12 bytes)
-    (sym f.1.1.1.0.0) (sym (bit_of_flag (bits 14 3 1 bytes) t.dei f.1.1.1.0.1.0)) (sym f.1.1.1.0.1.1.0) in
-    same_frame _ _ _ _ _ _ _ _ _ _ _ _ (sym f.0.0) (sym f.1.0.0) (ap (λ (x : Tag). Some x) tag) (sym f.1.1.1.1.0.0) s.start rest ∙ sym whole
+    (sym f.pcp) (sym (bit_of_flag (bits 14 3 1 bytes) t.dei f.dei)) (sym f.vid) in
+    same_frame _ _ _ _ _ _ _ _ _ _ _ _ (sym f.dst) (sym f.src) (ap (λ (x : Tag). Some x) tag) (sym f.ethertype) s.start rest ∙ sym whole
 
 pub one_frame : (bytes : List ℕ) (v : Frame) → SpellsFrame bytes v → v ≡ frame_of bytes
 one_frame bytes v s = one_by bytes v.dst v.src v.tag v.ethertype v.start v.payload s
@@ -94,7 +108,7 @@ held_by bytes dst src (Some t) ethertype start payload whole f long rest =
     let e : is_tagged bytes ≡ true = eq-eqb (bits 12 0 16 bytes) tag_ethertype f.1.1.0.0 in
     record { accepted = accepted_by true bytes e long; tagged = sym e; fields = f; start = refl; payload = rest }
 
-pub fits_by : (dst src : ℕ) (tag : Option Tag) (ethertype start : ℕ) (payload : List ℕ)
+fits_by : (dst src : ℕ) (tag : Option Tag) (ethertype start : ℕ) (payload : List ℕ)
     → IsWritableFrame (frame dst src tag ethertype start payload) → Fits (frame_layout (is_some tag)) (frame dst src tag ethertype start payload)
 fits_by dst src None ethertype start payload whole = ((whole.dst, tt), ((whole.src, tt), ((whole.ethertype, tt), tt)))
 fits_by dst src (Some t) ethertype start payload whole = (

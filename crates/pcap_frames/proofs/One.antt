@@ -47,7 +47,7 @@ spells_one style r first s =
     ∙ (ap (λ (n : ℕ). make (record_of style first).arrival n r.bytes) (sym s.orig_len)
     ∙ ap (λ (b : List ℕ). make (record_of style first).arrival (record_of style first).orig_len b) (sym s.packet_bytes))
 
--- what stands behind whole records: nothing, or the part of a record in which this is refused
+-- what follows whole records: nothing, or the part of a record in which this is refused
 abbrev pub Ends : Style → ℕ → List ℕ → Option Refusal → Type 0
 Ends style start rest x =
     ((rest ≡ []) × (x ≡ None))
@@ -119,7 +119,7 @@ split_one bytes records others x y p q =
     subst (λ (n : ℕ). Ends p.style n p.rest y) (sym fronts) (subst (λ (z : List ℕ). Ends p.style (length q.front) z y) (sym lists.1) ends) in
     (lists.0, ends_one p.style (length p.front) p.rest x y p.ends moved, style)
 
--- a capture ends behind its records
+-- a capture ends after its records
 split_capture : (style : Style) (records : List Record) (bytes : List ℕ) → IsCapture style records bytes → Split bytes records None
 split_capture style records bytes c = record {
   style = style;

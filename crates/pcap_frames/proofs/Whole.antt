@@ -28,7 +28,7 @@ empty_refused : (order : Order) (start : ℕ) → is_none (record_refusal order 
 unfolding record_refusal
 empty_refused order start = refl
 
--- the front of bytes in which nothing is refused spells a record
+-- the prefix of bytes in which nothing is refused spells a record
 spells_front : (style : Style) (start : ℕ) (bytes : List ℕ) → record_refusal style.order start bytes ≡ None → Spells style (record_of style (take (record_size style bytes) bytes)) (take (record_size style bytes) bytes)
 spells_front style start bytes e =
     let z : ℕ = record_size style bytes in
@@ -48,7 +48,7 @@ spells_front style start bytes e =
       packet_bytes = refl;
     }
 
--- bytes behind the file header, cut into records and what stands behind them
+-- bytes after the file header, cut into records and what follows them
 abbrev Cut : Style → ℕ → List ℕ → List Record → Option Refusal → Type 0
 Cut style start bytes records x =
     (front : List ℕ) × (rest : List ℕ) × (bytes ≡ front ++ rest) × SpellsAll style records front × Ends style (start + length front) rest x

@@ -52,7 +52,7 @@ fraction_below : (unit : units.Unit) (n : ℕ) → n % 1000000000 / scale unit <
 fraction_below Micro n = omega arith
 fraction_below Nano n = omega arith
 
-pub record_is : (style : Style) (r : Record) → HasSpelling style r → Spells style r (record_spelling style r)
+record_is : (style : Style) (r : Record) → HasSpelling style r → Spells style r (record_spelling style r)
 record_is style r h =
     let o : Order = style.order in
     let n : ℕ = nat_abs r.arrival in

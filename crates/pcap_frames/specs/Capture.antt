@@ -86,7 +86,7 @@ records_from (suc n) style bytes =
     then record_of style (take (record_size style bytes) bytes) ∷ records_from n style (drop (record_size style bytes) bytes)
     else []
 
--- the first refusal behind n records at most; the bytes begin at `start`
+-- the first refusal after n records at most; the bytes begin at `start`
 abbrev pub refusal_from : ℕ → Style → ℕ → List ℕ → Option Refusal
 refusal_from zero style start bytes = None
 refusal_from (suc n) style start [] = None

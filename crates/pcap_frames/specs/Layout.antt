@@ -1,6 +1,6 @@
 -- The layout of a capture: the fields of its file header and of a record, where they stand, and which values are
 -- refused (draft-ietf-opsawg-pcap, "PCAP Capture File Format", sections 4 and 5).
-use Rattle.std.specs.Prelude.{ℕ, ◌+◌, ◌*◌, ◌%◌, Bool, true, false, cond, not, nat_lt, nat_eq, if◌then◌else◌, List, [], ◌∷◌, length, drop, Option, Some, None, is_none}
+use Rattle.std.specs.Prelude.{ℕ, ◌+◌, ◌*◌, ◌%◌, ◌^◌, ℤ, pos, ◌≤ℤ◌, Bool, true, false, cond, not, nat_lt, nat_eq, if◌then◌else◌, List, [], ◌∷◌, length, drop, Option, Some, None, is_none}
 use Rattle.std.specs.Option.{option_or}
 use Rattle.byteorder.specs.Endian.{big_number, little_number, big_bytes, little_bytes}
 use Rattle.avtp_base.specs.declared.field.Field.{Field}
@@ -118,3 +118,7 @@ scale Nano = 1
 -- the instant of a record, in nanoseconds: a fraction of a second or more is added as it stands
 abbrev pub instant : units.Unit → ℕ → ℕ → ℕ
 instant unit seconds fraction = seconds * 1000000000 + fraction * scale unit
+
+-- the times that a record can have
+abbrev pub IsRecordTime : ℤ → Type 0
+IsRecordTime t = (pos 0 ≤ℤ t) × (t ≤ℤ pos (2 ^ 62))

@@ -29,7 +29,7 @@ pub struct FrameView<'a> {
     /// The source address, 48 bits.
     pub src: u64,
     pub tag: Option<Tag>,
-    /// The EtherType: behind the tag where there is one.
+    /// The EtherType: after the tag where there is one.
     pub ethertype: u16,
     /// The payload's offset in the frame, 14 or 18.
     pub start: usize,

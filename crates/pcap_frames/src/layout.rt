@@ -4,7 +4,7 @@
 ghost use Rattle.std.specs.Prelude.{◌≡◌, ◌+◌, ◌<◌, ◌≤◌, ◌^◌, length, pos, true, false, Some};
 ghost use Rattle.pcap_frames.specs.Capture.{record_of};
 ghost use Rattle.pcap_frames.specs.Reading.{shown};
-ghost use Rattle.pcap_frames.specs.Layout.{number_at, style_at as style_of_bytes, file_header, first_refused, certain as certain_of, file_refusal as refusal_of_file, record_refusal as refusal_of_record, instant};
+ghost use Rattle.pcap_frames.specs.Layout.{number_at, style_at as style_of_bytes, file_header, first_refused, certain as certain_of, file_refusal as refusal_of_file, record_refusal as refusal_of_record, instant, IsRecordTime};
 
 use crate::style::{Order, RecordView, Style, Unit};
 use avtp_base::{Field, Refusal};
@@ -106,7 +106,7 @@ pub fn file_refusal(header: &[u8]) -> Option<Refusal>
     }
 }
 
-/// The same for the fields behind the magic number.
+/// The same for the fields after the magic number.
 fn rest_refusal(order: Order, header: &[u8]) -> Option<Refusal>
     ensures { result ≡ first_refused order 0 file_header header.now }
 {
@@ -174,7 +174,8 @@ pub fn certain(refusal: Option<Refusal>) -> Option<Refusal>
 
 /// The instant of a record, in nanoseconds: the seconds and the fraction as they stand.
 pub fn arrival_of(unit: Unit, seconds: u32, fraction: u32) -> i64
-    ensures { result ≡ pos (instant unit seconds fraction) }
+    ensures instant { result ≡ pos (instant unit seconds fraction) }
+    ensures time { IsRecordTime result }
 {
     let scale = match unit {
         Unit::Micro => 1000,
@@ -187,7 +188,8 @@ pub fn arrival_of(unit: Unit, seconds: u32, fraction: u32) -> i64
 /// The record that its bytes spell, header and all.
 pub fn view(style: Style, bytes: &[u8]) -> RecordView<'_>
     requires { 16 ≤ length bytes.now }
-    ensures { shown result ≡ record_of style bytes.now }
+    ensures exact { shown result ≡ record_of style bytes.now }
+    ensures time { IsRecordTime result.arrival }
 {
     let seconds = u32_at(style.order, bytes, 0);
     let fraction = u32_at(style.order, bytes, 4);

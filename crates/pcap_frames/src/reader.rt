@@ -1,7 +1,7 @@
 //! Records from the bytes of a capture, in pieces of any length.
 
 ghost use Rattle.std.specs.Option.{option_map, option_to_list};
-ghost use Rattle.pcap_frames.specs.Layout.{certain};
+ghost use Rattle.pcap_frames.specs.Layout.{certain, IsRecordTime};
 ghost use Rattle.pcap_frames.specs.Capture.{Record, Holds, first_refusal, style_of, whole_records};
 ghost use Rattle.std.specs.Result.{result_err};
 ghost use Rattle.pcap_frames.specs.Reading.{Feeds, GoesOn, HasRead, ending, held, nothing_read, shown, taken};
@@ -198,7 +198,8 @@ impl Reader {
     /// The record that was taken last, where it is whole and was not released.
     #[tactic(auto, using(crate::proofs::Fields::record_whole))]
     pub fn held(&self) -> Option<RecordView<'_>>
-        ensures { option_map shown result ≡ held self.now }
+        ensures exact { option_map shown result ≡ held self.now }
+        ensures time { IfSome result (λ r. IsRecordTime r.arrival) }
     {
         if self.refusal.is_some() {
             return None;

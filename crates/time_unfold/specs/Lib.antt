@@ -1,4 +1,5 @@
 pub mod Time
 pub mod Lines
+pub mod Heads
 pub mod Stamps
 pub mod Limits

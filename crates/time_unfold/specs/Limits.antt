@@ -1,5 +1,8 @@
--- What a search for a stamp is asked for.
-use Rattle.std.specs.Prelude.{◌≤◌, ◌*◌, ◌^◌, ◌+◌, pos, neg_ℤ, ◌≤ℤ◌, ◌<ℤ◌}
+-- What is asked of a packet's rule, and of a search for a stamp.
+use Rattle.std.specs.Prelude.{◌≡◌, ◌≤◌, ◌*◌, ◌^◌, ◌+◌, ◌⊎◌, ⊤, ℕ, pos, neg_ℤ, ◌≤ℤ◌, ◌<ℤ◌}
+use Rattle.time_unfold.specs.declared.head_rule.Distance.{Distance}
+use Rattle.time_unfold.specs.declared.head_rule.HeadRule.{HeadRule}
+use Rattle.time_unfold.specs.declared.head_rule.HeadRule.TheVariants.{Own, Eight, Blocks}
 use Rattle.time_unfold.specs.declared.stamp.Stamp.{Stamp}
 use Rattle.time_unfold.specs.declared.stamp.Want.{Want}
 use Rattle.time_unfold.specs.Time.{IsArrival}
@@ -15,3 +18,14 @@ pub record IsWant (want : Want) : Type 0 where
   pub rate : 1 ≤ want.rate
   pub count : want.count ≤ 65535
   pub back : want.back ≤ 7 * want.count
+
+-- the interval is one of the standard's (SYT_INTERVAL of IEC 61883-6)
+abbrev pub IsRule : HeadRule → Type 0
+IsRule Own = ⊤
+IsRule Eight = ⊤
+IsRule (Blocks dbc interval) = (interval ≡ 8) ⊎ ((interval ≡ 16) ⊎ (interval ≡ 32))
+
+-- at most 7 packets back, of so many samples each
+pub record IsBehind (count : ℕ) (far : Distance) : Type 0 where
+  pub packets : far.packets ≤ 7
+  pub samples : far.samples ≤ 7 * count

@@ -2,11 +2,13 @@
 #![tactic(auto)]
 
 mod head;
+mod head_rule;
 mod line;
 mod stamp;
 mod timestamp;
 
 pub use head::head_among;
+pub use head_rule::{Distance, Head, HeadRule};
 pub use line::Line;
 pub use stamp::{Stamp, Want};
 pub use timestamp::unfold;

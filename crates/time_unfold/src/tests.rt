@@ -1,6 +1,6 @@
 //! Instants that were worked out by hand.
 
-use super::{Line, Stamp, Want, head_among, unfold};
+use super::{Distance, HeadRule, Line, Stamp, Want, head_among, unfold};
 
 /// Each timestamp, arrival and instant: the last nanosecond before the half circle's end and the first behind it, both
 /// ends around a wrap, and times before 0.
@@ -81,5 +81,25 @@ fn packets_find_the_last_stamp_that_fits(rt: HostRuntime) {
             count: 6,
         };
         assert_eq!(rt; head_among(&[first, second], room, &want), found);
+    }
+}
+
+/// Each rule, sequence number, number of samples, and how far back the stamped sample lies: at most 7 packets.
+#[test]
+fn packets_lie_behind_their_stamp(rt: HostRuntime) {
+    let blocks = |dbc, interval| HeadRule::Blocks { dbc, interval };
+    let rows: [(HeadRule, u8, u32, Option<(u32, u32)>); 8] = [
+        (HeadRule::Own, 3, 6, None),
+        (HeadRule::Eight, 8, 6, None),
+        (HeadRule::Eight, 13, 6, Some((5, 30))),
+        (blocks(16, 8), 0, 6, None),
+        (blocks(13, 8), 0, 6, Some((1, 5))),
+        (blocks(15, 8), 0, 6, Some((2, 7))),
+        (blocks(31, 32), 0, 5, Some((7, 31))),
+        (blocks(31, 32), 0, 4, None),
+    ];
+    for (rule, seq, count, behind) in rows {
+        let far = behind.map(|(packets, samples)| Distance { packets, samples });
+        assert_eq!(rt; rule.distance(seq, count), far);
     }
 }

@@ -1,0 +1,38 @@
+-- Which sample of an audio packet its timestamp belongs to, and from which packet one without a timestamp is counted.
+-- Packets are told by a number: of a talker's stream, or modulo 256.
+use Rattle.std.specs.Prelude.{ℕ, ◌+◌, ◌-◌, ◌*◌, ◌%◌, ◌==◌, nat_lt, if◌then◌else◌, Option, Some, None}
+use Rattle.std.specs.Int.{div_ceil}
+use Rattle.time_unfold.specs.declared.head_rule.Distance.{Distance}
+use Rattle.time_unfold.specs.declared.head_rule.HeadRule.{HeadRule}
+use Rattle.time_unfold.specs.declared.head_rule.HeadRule.TheVariants.{Own, Eight, Blocks}
+
+-- The sample that a packet's timestamp belongs to: the first one in AAF (IEEE 1722-2016, 7), and in IEC 61883-6 the
+-- first block whose block count is a multiple of the interval.
+abbrev pub stamped_index : HeadRule → ℕ
+stamped_index Own = 0
+stamped_index Eight = 0
+stamped_index (Blocks dbc interval) = (interval - dbc % interval) % interval
+
+-- the block count of that block, modulo 256
+abbrev pub stamped_block : HeadRule → Option ℕ
+stamped_block Own = None
+stamped_block Eight = None
+stamped_block (Blocks dbc interval) = Some ((dbc + stamped_index (Blocks dbc interval)) % 256)
+
+-- How far back the sample lies from which packet n of so many samples is counted, where it has no timestamp. In sparse
+-- AAF it is the first of the last packet before it whose number is a multiple of 8. In IEC 61883-6 it is the last block
+-- before the packet whose block count is a multiple of the interval, at most 7 packets back.
+abbrev pub distance : HeadRule → ℕ → ℕ → Option Distance
+distance Own n count = None
+distance Eight n count =
+    if n % 8 == 0 then None else Some (record { packets = n % 8; samples = n % 8 * count })
+distance (Blocks dbc interval) n count =
+    if dbc % interval == 0 then None else
+    if nat_lt 7 (div_ceil (dbc % interval) count) then None else
+    Some (record { packets = div_ceil (dbc % interval) count; samples = dbc % interval })
+
+-- the block count, modulo 256, of the block from which a packet without a timestamp is counted
+abbrev pub counted_block : HeadRule → Option ℕ
+counted_block Own = None
+counted_block Eight = None
+counted_block (Blocks dbc interval) = Some ((dbc + 256 - dbc % interval) % 256)

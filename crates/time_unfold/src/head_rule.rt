@@ -1,0 +1,138 @@
+//! Which sample of a packet its timestamp belongs to, and how far back the one lies from which a packet without a
+//! timestamp is counted.
+
+ghost use Rattle.std.specs.Prelude.{◌≡◌, ◌≤◌, ◌<◌, ℕ, IfSome};
+ghost use Rattle.time_unfold.specs.Heads.{counted_block as counted_block_of, distance as distance_of, stamped_block as stamped_block_of, stamped_index as stamped_index_of};
+ghost use Rattle.time_unfold.specs.Limits.{IsBehind, IsRule};
+
+/// Each eighth packet of a sparse stream is stamped (IEEE 1722-2016, 7).
+const SPARSE: u32 = 8;
+
+/// How many packets back a stamped sample is looked for at most.
+const FARTHEST: u32 = 7;
+
+/// Which sample of a packet its timestamp belongs to, and how a packet without one is counted from another.
+#[derive(Clone, Copy, Debug, PartialEq, Eq)]
+pub enum HeadRule {
+    /// AAF: each packet stamps its first sample (IEEE 1722-2016, 7).
+    Own,
+    /// AAF in sparse mode: the packets whose sequence number is a multiple of 8 stamp their first sample (IEEE 1722-2016,
+    /// 7).
+    Eight,
+    /// IEC 61883-6: the timestamp belongs to the data block whose block count is a multiple of `interval`. The first
+    /// block of the packet has the count `dbc`, modulo 256.
+    Blocks { dbc: u8, interval: u32 },
+}
+
+/// The stamped sample from which a packet is counted.
+#[derive(Clone, Copy, Debug, PartialEq, Eq)]
+pub struct Head {
+    /// Its instant, in nanoseconds of gPTP.
+    pub instant: i64,
+    /// The number of the packet's first sample, counted from it.
+    pub first: i64,
+}
+
+/// How far back the stamped sample lies from which a packet is counted.
+#[derive(Clone, Copy, Debug, PartialEq, Eq)]
+pub struct Distance {
+    /// The number of packets.
+    pub packets: u32,
+    /// The number of samples from the stamped one to the packet's first.
+    pub samples: u32,
+}
+
+fn sparse_distance(seq: u8, count: u32) -> Option<Distance>
+    requires count { count ≤ 65535 }
+    ensures value { result ≡ distance_of HeadRule.Eight seq count }
+    ensures behind { IfSome result (IsBehind count) }
+{
+    let packets = u32::from(seq) % SPARSE;
+    if packets == 0 {
+        return None;
+    }
+    Some(Distance {
+        packets,
+        samples: packets * count,
+    })
+}
+
+fn block_distance(dbc: u8, interval: u32, count: u32) -> Option<Distance>
+    requires rule { IsRule (HeadRule.Blocks dbc interval) }
+    requires some { 1 ≤ count }
+    ensures value { (seq : ℕ) → result ≡ distance_of (HeadRule.Blocks dbc interval) seq count }
+    ensures behind { IfSome result (IsBehind count) }
+{
+    let samples = u32::from(dbc) % interval;
+    if samples == 0 {
+        return None;
+    }
+    let packets = samples.div_ceil(count);
+    if packets > FARTHEST {
+        return None;
+    }
+    Some(Distance { packets, samples })
+}
+
+impl HeadRule {
+    /// The sample, counted from 0, that the timestamp of a packet belongs to: the first in AAF (IEEE 1722-2016, 7), and in
+    /// IEC 61883-6 the first block whose block count is a multiple of the interval, which is 8, 16 or 32. The packet may
+    /// have fewer samples than that.
+    pub fn stamped_index(self) -> u32
+        requires { IsRule self }
+        ensures value { result ≡ stamped_index_of self }
+        ensures few { result < 32 }
+    {
+        match self {
+            HeadRule::Own | HeadRule::Eight => 0,
+            HeadRule::Blocks { dbc, interval } => (interval - u32::from(dbc) % interval) % interval,
+        }
+    }
+
+    /// The block count, modulo 256, of the block that the timestamp of a packet belongs to (IEC 61883-6); none for AAF.
+    /// The interval is 8, 16 or 32.
+    pub fn stamped_block(self) -> Option<u8>
+        requires { IsRule self }
+        ensures { result ≡ stamped_block_of self }
+    {
+        match self {
+            HeadRule::Own | HeadRule::Eight => None,
+            HeadRule::Blocks { dbc, interval: _ } => Some(dbc.wrapping_add(
+                self.stamped_index() as u8,
+            )),
+        }
+    }
+
+    /// The block count of the block from which a packet without a timestamp is counted (IEC 61883-6); none for AAF. The
+    /// interval is 8, 16 or 32.
+    pub fn counted_block(self) -> Option<u8>
+        requires { IsRule self }
+        ensures { result ≡ counted_block_of self }
+    {
+        match self {
+            HeadRule::Own | HeadRule::Eight => None,
+            HeadRule::Blocks { dbc, interval } => Some(
+                (u32::from(dbc) - u32::from(dbc) % interval) as u8,
+            ),
+        }
+    }
+
+    /// How far back the sample lies from which a packet without a timestamp is counted. In sparse AAF it is the first of
+    /// the last packet before it whose sequence number is a multiple of 8; in IEC 61883-6 it is the last block before the
+    /// packet whose block count is a multiple of the interval. None comes for AAF that isn't sparse, where the packet
+    /// itself has the stamped sample, and where it lies more than 7 packets back. The packet has 1 to 65,535 samples, and
+    /// the interval is 8, 16 or 32.
+    pub fn distance(self, seq: u8, count: u32) -> Option<Distance>
+        requires rule { IsRule self }
+        requires some { 1 ≤ count }
+        requires count { count ≤ 65535 }
+        ensures value { result ≡ distance_of self seq count }
+        ensures behind { IfSome result (IsBehind count) }
+    {
+        match self {
+            HeadRule::Own => None,
+            HeadRule::Eight => sparse_distance(seq, count),
+            HeadRule::Blocks { dbc, interval } => block_distance(dbc, interval, count),
+        }
+    }
+}
