@@ -1,10 +1,10 @@
-//! What is kept of a clock packet.
+//! The packets of a clock.
 
 use avtp_base::Bytes;
 
-/// A clock packet, as far as it gives points of the clock (IEEE 1722-2016, 10).
-#[derive(Debug, Drop)]
-pub struct ClockRow {
+/// A clock packet, as far as it gives points of the clock (IEEE 1722-2016, 10), with its timestamps lent.
+#[derive(Clone, Copy, Debug)]
+pub struct Points<'a> {
     /// The packet gives points: it is well formed, of the type for audio samples, and its timestamps are certain.
     pub usable: bool,
     /// The sequence number, modulo 256.
@@ -18,5 +18,37 @@ pub struct ClockRow {
     /// The number of events from one timestamp to the next.
     pub interval: u16,
     /// The timestamps, 8 bytes each, in nanoseconds of gPTP, highest byte first.
+    pub payload: &'a [u8],
+}
+
+/// What is kept of a clock packet: its points, with timestamps of its own.
+#[derive(Debug, Drop)]
+pub struct ClockRow {
+    pub usable: bool,
+    pub seq: u8,
+    pub mr: bool,
+    pub base_frequency: u32,
+    pub pull: u8,
+    pub interval: u16,
     pub payload: Bytes,
+}
+
+impl ClockRow {
+    ghost use Rattle.std.specs.Prelude.{◌≡◌};
+    ghost use Rattle.clock_track.specs.Views.{row_of};
+
+    /// The same with its timestamps lent.
+    pub fn points(&self) -> Points<'_>
+        ensures { row_of result ≡ self.now }
+    {
+        Points {
+            usable: self.usable,
+            seq: self.seq,
+            mr: self.mr,
+            base_frequency: self.base_frequency,
+            pull: self.pull,
+            interval: self.interval,
+            payload: self.payload.as_slice(),
+        }
+    }
 }

@@ -1,6 +1,19 @@
 //! The media clock of a stream: packets of reference timestamps (IEEE 1722-2016, 10).
 #![tactic(auto)]
 
+mod answer;
+mod clock;
 mod clock_row;
+pub mod laws;
+mod over;
+mod pair;
+mod search;
 
-pub use clock_row::ClockRow;
+pub use answer::ClockAnswer;
+pub use clock::Clock;
+pub use clock_row::{ClockRow, Points};
+pub use over::line_over;
+pub use pair::Pair;
+
+#[cfg(test)]
+mod tests;

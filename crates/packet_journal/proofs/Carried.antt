@@ -110,14 +110,14 @@ belongs_so subtype stream bytes payload known f is =
     let g : (bits 4 0 64 (packet_in bytes) == stream) ≡ true = rw (f.payload_is, is.id) (eq-eqb stream stream refl) in
     rw (a, b, c, d, e, g) refl
 
-carried_belongs : CvfAgain → (shift : ℤ) (p : PacketJournal) (lead n : ℕ) (r : Record) → IsConforming shift p → IsReadKind p.times.kind → Carries p lead n r → belongs stream_kinds p.stream r.bytes ≡ true
+pub carried_belongs : CvfAgain → (shift : ℤ) (p : PacketJournal) (lead n : ℕ) (r : Record) → IsConforming shift p → IsReadKind p.times.kind → Carries p lead n r → belongs stream_kinds p.stream r.bytes ≡ true
 carried_belongs again shift p lead n r is known c =
     let packet = is.packets n c.delivered.known in
     let read = packet_read again p.times.kind p.times p.stream n (p.packet n) c.frame.payload packet c.packet in
     belongs_so (subtype_of p.times.kind) p.stream r.bytes c.frame.payload known (frame_is p lead n r c)
     (packet_of_stream p.times.kind p.times p.stream n (p.packet n) c.frame.payload packet read)
 
-copy_of : (p : PacketJournal) (lead n i : ℕ) (r : Record) → Carries p lead n r → IsCopyOf p lead n (delivery i r)
+pub copy_of : (p : PacketJournal) (lead n i : ℕ) (r : Record) → Carries p lead n r → IsCopyOf p lead n (delivery i r)
 copy_of p lead n i r c = record {
   arrival = c.arrival;
   arrived = c.arrived;

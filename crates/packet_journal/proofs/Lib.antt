@@ -1,3 +1,4 @@
 pub mod Copies
 pub mod Carried
 pub mod Silent
+pub mod Blocks

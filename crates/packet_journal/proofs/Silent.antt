@@ -116,7 +116,7 @@ silent_fits n = (
   ),
 )
 
-stamped_packet : (n : ℕ) → IsAafPacket clocked false 0x0200000000010001 n (silent n)
+stamped_packet : (n : ℕ) → IsAafPacket (clocked 48000) false 0x0200000000010001 n (silent n)
 stamped_packet n = record {
   writable = record { subtype = refl; nsr = omega arith; some_channels = omega arith; channels = omega arith; depth = omega arith; evt = omega arith; data_length = refl; count = refl };
   fits = silent_fits n;
@@ -154,7 +154,7 @@ clock_fits m = (
 )
 
 abbrev IsPointOf : ℕ → ℕ → Type 0
-IsPointOf m i = pos (get_or (clocked.clock.points m) i 0) ≡ pos (point_at i (clock_data m).payload) +ℤ pos 1000
+IsPointOf m i = pos (get_or ((clocked 48000).clock.points m) i 0) ≡ pos (point_at i (clock_data m).payload) +ℤ pos 1000
 
 abbrev ArePoints : ℕ → Type 0
 ArePoints m = IsPointOf m 0 × IsPointOf m 1
@@ -166,7 +166,7 @@ each_point = ((tt, (refl, refl)), (refl, refl))
 point_of : (m : ℕ) → ArePoints m → (i : ℕ) → i < 2 → IsPointOf m i
 point_of m are i h = each_below (IsPointOf m) 2 ((tt, are.0), are.1) i h
 
-clock_packet_is : (m : ℕ) → m < 2 → IsClockPacket clocked.clock (pos 1000) 0x0200000000010002 m (clock_data m)
+clock_packet_is : (m : ℕ) → m < 2 → IsClockPacket (clocked 48000).clock (pos 1000) 0x0200000000010002 m (clock_data m)
 clock_packet_is m h = record {
   writable = record { pull = omega arith; some_frequency = omega arith; base_frequency = omega arith; some_interval = omega arith; some_points = omega arith; whole_points = refl; data_length = omega arith };
   fits = clock_fits m;
@@ -183,7 +183,7 @@ clock_packet_is m h = record {
   points = point_of m (each_below ArePoints 2 each_point m h);
 }
 
-pub clocked_conform : Conforms clocked → IsConforming (pos 1000) clocked_packets
+pub clocked_conform : Conforms (clocked 48000) → IsConforming (pos 1000) clocked_packets
 clocked_conform times = record {
   times = times;
   packets = λ n h. stamped_packet n;

@@ -5,16 +5,15 @@ use Rattle.pcap_frames.specs.Capture.{Record}
 use Rattle.pcap_frames.specs.Frame.{frame_of, frame_refusal}
 use Rattle.avtp_header.specs.declared.header.Peeked.{Peeked}
 use Rattle.avtp_header.specs.Header.{peeked_of}
-
--- the EtherType of AVTP (IEEE 1722-2016, 4.2)
-abbrev pub avtp_ethertype : ℕ
-avtp_ethertype = 0x22F0
+use Rattle.avtp_header.specs.Numbers.{aaf_subtype, iec_subtype}
+pub use Rattle.avtp_header.specs.Numbers.{avtp_ethertype}
 
 -- The kinds of packets of a stream that are read, by their subtypes (IEEE 1722-2016, table 6). A stream may also consist
--- of packets of IEC 61883 (0x00) and of CVF (0x03); they are passed until their formats are read.
+-- of packets of CVF (0x03); they are passed so far.
 abbrev pub stream_kinds : List ℕ
 stream_kinds =
-    0x02 ∷  -- AAF
+    iec_subtype ∷
+    aaf_subtype ∷
     []
 
 -- the kinds of packets of a media clock that are read: none so far, so CRF (0x04) is passed
@@ -47,11 +46,12 @@ belongs_to_clock (Some id) bytes = belongs clock_kinds id bytes
 abbrev pub is_delivered : ℕ → Option ℕ → List ℕ → Bool
 is_delivered stream clock bytes = belongs stream_kinds stream bytes || belongs_to_clock clock bytes
 
--- A delivery: the number of its record in the capture, counted from 1; when it was captured; and its packet, with the
--- sequence number.
+-- A delivery: the number of its record in the capture, counted from 1; when it was captured; and its packet, with its
+-- subtype and its sequence number.
 pub record Delivery : Type 0 where
   pub frame : ℕ
   pub arrival : ℤ
+  pub subtype : ℕ
   pub seq : ℕ
   pub packet : List ℕ
 
@@ -59,6 +59,7 @@ abbrev pub delivery : ℕ → Record → Delivery
 delivery frame r = record {
   frame = frame;
   arrival = r.arrival;
+  subtype = (peeked_of (packet_in r.bytes)).subtype;
   seq = (peeked_of (packet_in r.bytes)).seq;
   packet = packet_in r.bytes;
 }

@@ -1,13 +1,14 @@
 -- Small journals with their packets.
-use Rattle.std.specs.Prelude.{ℕ, ◌+◌, ◌*◌, ◌%◌, ◌^◌, false, true, is_some, unwrap_or, [], ◌++◌, replicate}
+use Rattle.std.specs.Prelude.{ℕ, ◌+◌, ◌*◌, ◌%◌, ◌^◌, false, true, is_some, unwrap_or, [], ◌++◌, flat_map, replicate}
 use Rattle.byteorder.specs.Endian.{big_bytes}
 use Rattle.avtp_header.specs.declared.header.StreamHeader.{StreamHeader}
 use Rattle.aaf_format.specs.declared.aaf.AafFormat.TheVariants.{Int16}
 use Rattle.aaf_format.specs.Aaf.{Aaf}
+use Rattle.iec61883_format.specs.Iec.{Iec}
 use Rattle.crf_format.specs.Crf.{Crf}
 use Rattle.stream_journal.specs.Journal.{Journal}
-use Rattle.stream_journal.specs.Examples.{clocked, restarted}
-use Rattle.packet_journal.specs.Packets.{PacketJournal, Pcm}
+use Rattle.stream_journal.specs.Examples.{clocked, each_eighth, restarted}
+use Rattle.packet_journal.specs.Packets.{Am824Data, PacketJournal, Pcm}
 
 -- packet n of a stereo stream of 16 bits at 48 kHz, 6 silent sample frames, in sparse mode or not
 abbrev pub silent_header : Journal → ℕ → StreamHeader
@@ -65,9 +66,33 @@ restarted_packets = record {
   clock_packet = λ m. no_packet;
 }
 
--- the same packets, all of them stamped
+-- packet n of a stereo stream of AM824 at 48 kHz, 6 silent data blocks
+abbrev pub silent_blocks : ℕ → Iec
+silent_blocks n = record {
+  header = record (silent_header each_eighth n) { subtype = 0; data_length = 56 };
+  gateway_info = 0;
+  channel = 31;
+  tcode = 0xA;
+  sy = 0;
+  cip = record { sid = 63; dbs = 2; dbc = n * 6 % 256; fdf = 2; syt = 0xFFFF };
+  count = 6;
+  payload = flat_map (big_bytes 4) (replicate 12 0x40000000);
+  reserved = false;
+}
+
+-- the talker of AM824 that stamps each eighth block, with its packets
+abbrev pub block_packets : PacketJournal
+block_packets = record {
+  times = each_eighth;
+  stream = 0x0200000000010001;
+  packet = λ n. Am824Data (silent_blocks n);
+  clock = 0;
+  clock_packet = λ m. no_packet;
+}
+
+-- the packets of the sparse talker, all of them stamped
 abbrev pub silent : ℕ → Aaf
-silent n = record (silent_sparse n) { header = silent_header clocked n; sparse = false }
+silent n = record (silent_sparse n) { header = silent_header (clocked 48000) n; sparse = false }
 
 -- packet m of the clock of the clocked talker, for listeners that add a microsecond to its timestamps
 abbrev pub clock_data : ℕ → Crf
@@ -89,7 +114,7 @@ clock_data m = record {
 -- the clocked talker, with its packets and those of its clock
 abbrev pub clocked_packets : PacketJournal
 clocked_packets = record {
-  times = clocked;
+  times = clocked 48000;
   stream = 0x0200000000010001;
   packet = λ n. Pcm (silent n);
   clock = 0x0200000000010002;

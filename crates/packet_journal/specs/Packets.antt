@@ -8,7 +8,7 @@ use Rattle.cvf_format.specs.declared.cvf.NalPart.{NalPart}
 use Rattle.cvf_format.specs.declared.cvf.NalPart.TheVariants.{Single as SingleNal, First as FirstNal, Middle as MiddleNal, Last as LastNal}
 use Rattle.cvf_format.specs.Cvf.{Cvf, IsWritableCvf, cvf_spelling, layout_of}
 use Rattle.crf_format.specs.Crf.{Crf, IsWritableCrf, crf_layout, point_at}
-use Rattle.stream_journal.specs.Clocks.{Clock}
+use Rattle.stream_journal.specs.Clocks.{ClockJournal}
 use Rattle.stream_journal.specs.Conforming.{Conforms}
 use Rattle.stream_journal.specs.Journal.{Journal, Kind, DenseAaf, SparseAaf, Am824, H264, Part, Single, First, Middle, Last}
 
@@ -93,7 +93,7 @@ audio_sample_type = 1
 
 -- Packet m of a clock (IEEE 1722-2016, 10): of the type for audio samples, with certain times, the clock's base frequency,
 -- pull and interval, and the packet's restart bit. What listeners add to its timestamps makes them its points.
-pub record IsClockPacket (c : Clock) (shift : ℤ) (id m : ℕ) (v : Crf) : Type 0 where
+pub record IsClockPacket (c : ClockJournal) (shift : ℤ) (id m : ℕ) (v : Crf) : Type 0 where
   pub writable : IsWritableCrf v
   pub fits : Fits crf_layout v
   pub valid_id : v.sv ≡ true

@@ -1,12 +1,12 @@
 //! Laws of packets and their copies. Each call is its contract, and does nothing.
 
-ghost use Rattle.std.specs.Prelude.{ℕ, ℤ, List, Option};
+ghost use Rattle.std.specs.Prelude.{◌≡◌, ℕ, ℤ, true, List, Option};
 ghost use Rattle.pcap_frames.specs.Capture.{Record};
 ghost use Rattle.stream_journal.specs.Delivered.{AreNear};
-ghost use Rattle.packet_journal.specs.Deliveries.{Delivery};
+ghost use Rattle.packet_journal.specs.Deliveries.{Delivery, belongs, delivery, stream_kinds};
 ghost use Rattle.packet_journal.specs.Packets.{IsConforming, PacketJournal};
 ghost use Rattle.packet_journal.specs.Delivered.{Delivers, IsClockCopyOf, IsCopyOf};
-ghost use Rattle.packet_journal.specs.Carried.{AllCarry, IsReadKind};
+ghost use Rattle.packet_journal.specs.Carried.{AllCarry, Carries, IsReadKind};
 ghost use Rattle.packet_journal.specs.Laws.{IsClockReadAs, IsReadAs};
 
 /// What a listener reads of a copy of a packet is the packet that was sent, whatever trail the copy has.
@@ -17,9 +17,17 @@ pub fn copies_are_read()
     cvf_format::laws::packet_again();
 }
 
+/// A record that carries a packet of a conforming talker belongs to the talker's stream, where the kind is one of those that
+/// belong to a stream, and its delivery is a copy of the packet.
+pub fn carried_packet_is_delivered()
+    ensures belongs { (shift : ℤ) (p : PacketJournal) (lead n : ℕ) (r : Record) → IsConforming shift p → IsReadKind p.times.kind → Carries p lead n r → belongs stream_kinds p.stream r.bytes ≡ true }
+    ensures copy { (p : PacketJournal) (lead n frame : ℕ) (r : Record) → Carries p lead n r → IsCopyOf p lead n (delivery frame r) }
+{
+    cvf_format::laws::packet_again();
+}
+
 /// Records whose frames carry packets of a conforming talker, captured in time, deliver its journal, whichever packets they
-/// are, where the kind is
-/// one of those that belong to a stream.
+/// are, where the kind is one of those that belong to a stream.
 pub fn carried_packets_are_delivered()
     ensures { (shift : ℤ) (p : PacketJournal) (clock : Option ℕ) (lead : ℕ) (numbers : List ℕ) (records : List Record) → IsConforming shift p → IsReadKind p.times.kind → AllCarry p lead numbers records → AreNear p.times numbers → Delivers p clock lead records }
 {

@@ -7,7 +7,10 @@ use Rattle.std.proofs.lemmas.Bool.{cases_lt}
 use Rattle.std.proofs.lemmas.Bool.Decides.{nat_tests}
 use Rattle.std.proofs.lemmas.Grind.{div_ceil_times}
 use Rattle.std.proofs.lemmas.Nat.{div-add-mod', mod_below}
-use Rattle.stream_journal.specs.Rules.{Rule, Own, Eight, Blocks, Distance, distance, stamped_index}
+use Rattle.time_unfold.specs.declared.head_rule.Distance.{Distance}
+use Rattle.time_unfold.specs.declared.head_rule.HeadRule.{HeadRule}
+use Rattle.time_unfold.specs.declared.head_rule.HeadRule.TheVariants.{Own, Eight, Blocks}
+use Rattle.time_unfold.specs.Heads.{distance, stamped_index}
 use Rattle.stream_journal.specs.Journal.{Journal, head_of, rule_of}
 use Rattle.stream_journal.specs.Conforming.{IsAudio, is_stamped}
 use Rattle.stream_journal.specs.Heads.{AreApart, behind}
@@ -46,7 +49,7 @@ blocks_back r count far false false e g some f =
     let to : div_ceil r count * count < r + count = times.1 in
     rw (← same) (record { some = some_of (div_ceil r count) count r least from; few = most; from = omega arith; to = from })
 
-pub back_of : (rule : Rule) (n count : ℕ) (far : Distance) → 1 ≤ count → distance rule n count ≡ Some far → IsBack count far.packets far.samples
+pub back_of : (rule : HeadRule) (n count : ℕ) (far : Distance) → 1 ≤ count → distance rule n count ≡ Some far → IsBack count far.packets far.samples
 back_of Own n count far some e = absurd cc
 back_of Eight n count far some e = eight_back n count far (n % 8 == 0) refl some e
 back_of (Blocks dbc interval) n count far some e =
@@ -75,7 +78,7 @@ behind_it dn dk p q r count index back d m slow apart before within div is far =
 
 -- ---- a packet's own stamp
 
-index_within : (rule : Rule) (k count : ℕ) → 1 ≤ count → is_stamped rule k count ≡ true → stamped_index rule < count
+index_within : (rule : HeadRule) (k count : ℕ) → 1 ≤ count → is_stamped rule k count ≡ true → stamped_index rule < count
 index_within Own k count some e = omega arith
 index_within Eight k count some e = omega arith
 index_within (Blocks dbc interval) k count some e = grind (arith, nat_tests)
@@ -85,14 +88,14 @@ stamped_within j is k instant known e =
     let stamped : is_some (j.stamp k) ≡ true = rw e refl in
     index_within (rule_of j.kind k) k j.count is.some (sym (is.stamps k known) ∙ stamped)
 
-head_by : (j : Journal) (k instant : ℕ) → j.stamp k ≡ Some instant → head_of j k ≡ Some (record { instant = instant; first = neg_ℤ (pos (stamped_index (rule_of j.kind k))) })
+head_by : (j : Journal) (k instant : ℕ) → j.stamp k ≡ Some instant → head_of j k ≡ Some (record { instant = pos instant; first = neg_ℤ (pos (stamped_index (rule_of j.kind k))) })
 head_by j k instant e = rw e refl
 
 -- a stamped packet is due before its stamp
 pub due_before : (j : Journal) → IsAudio j → (k instant : ℕ) → k < j.packets → j.stamp k ≡ Some instant → IsBefore j.rate (j.due k) instant (stamped_index (rule_of j.kind k))
 due_before j is k instant known e =
     before_stamp (j.due k) instant (stamped_index (rule_of j.kind k)) j.rate (let some = is.rate_from in omega arith)
-    (is.first_instants k (record { instant = instant; first = neg_ℤ (pos (stamped_index (rule_of j.kind k))) }) known (head_by j k instant e))
+    (is.first_instants k (record { instant = pos instant; first = neg_ℤ (pos (stamped_index (rule_of j.kind k))) }) known (head_by j k instant e))
 
 -- ---- law 2
 

@@ -9,3 +9,8 @@ pub mod Restarted
 pub mod Video
 pub mod TrueClock
 pub mod RestartedCopies
+pub mod Clocked
+pub mod TrueLines
+pub mod ByClock
+pub mod Limits
+pub mod Blocks

@@ -3,25 +3,30 @@ use Rattle.std.proofs.Common.{◌≡◌, ◌≢◌, ◌⊎◌, inl, inr, ℕ, ze
 use Rattle.std.specs.Prelude.{nat_le, if◌then◌else◌, option_map, option_and_then}
 use Rattle.std.specs.Option.{option_or}
 use Rattle.time_unfold.specs.Stamps.{same_flag}
-use Rattle.stream_journal.specs.Clocks.{Covers, Place, pair_at}
-use Rattle.stream_journal.specs.Rules.{Distance, distance}
-use Rattle.stream_journal.specs.Journal.{Head, IsAt, IsAtBy, IsAtByClock, IsAtNominal, Journal, Kind, DenseAaf, SparseAaf, Am824, H264, head_from, head_of, instant_by, nominal_instant, own_head, rule_of}
+use Rattle.clock_track.specs.Pairs.{Covers}
+use Rattle.stream_journal.specs.Clocks.{Place, pair_at}
+use Rattle.time_unfold.specs.declared.head_rule.Distance.{Distance}
+use Rattle.time_unfold.specs.Heads.{distance}
+use Rattle.time_unfold.specs.declared.head_rule.Head.{Head}
+use Rattle.stream_journal.specs.Journal.{IsAt, IsAtBy, IsAtByClock, IsAtNominal, Journal, Kind, DenseAaf, SparseAaf, Am824, H264, head_from, head_of, instant_by, nominal_instant, own_head, rule_of}
 use Rattle.stream_journal.specs.Conforming.{AgreesWithClock, Conforms, HoldsEight, IsOfKind}
 
 -- a head is a timestamp of the journal
-record IsStamped (j : Journal) (instant : ℕ) : Type 0 where
-  number : ℕ
-  known : number < j.packets
-  stamped : j.stamp number ≡ Some instant
+pub record IsStamped (j : Journal) (head : ℤ) : Type 0 where
+  pub number : ℕ
+  pub instant : ℕ
+  pub known : number < j.packets
+  pub stamped : j.stamp number ≡ Some instant
+  pub same : head ≡ pos instant
 
-own_stamped : (j : Journal) (n : ℕ) (head : Head) (r : Option ℕ) (first : ℤ) → n < j.packets → j.stamp n ≡ r → option_map (λ (i : ℕ). record { instant = i; first = first }) r ≡ Some head → IsStamped j head.instant
+own_stamped : (j : Journal) (n : ℕ) (head : Head) (r : Option ℕ) (first : ℤ) → n < j.packets → j.stamp n ≡ r → option_map (λ (i : ℕ). record { instant = pos i; first = first }) r ≡ Some head → IsStamped j head.instant
 own_stamped j n head None first known e f = absurd cc
 own_stamped j n head (Some i) first known e f =
-    let same : record { instant = i; first = first } ≡ head = cc in
-    rw (← same) (record { number = n; known = known; stamped = e })
+    let same : record { instant = pos i; first = first } ≡ head = cc in
+    rw (← same) (record { number = n; instant = i; known = known; stamped = e; same = refl })
 
 from_stamped : (j : Journal) (n : ℕ) (far : Distance) (head : Head) (a b : Bool) → n < j.packets
-    → (if a then if b then option_map (λ (i : ℕ). record { instant = i; first = pos far.samples }) (j.stamp (n - far.packets)) else None else None) ≡ Some head → IsStamped j head.instant
+    → (if a then if b then option_map (λ (i : ℕ). record { instant = pos i; first = pos far.samples }) (j.stamp (n - far.packets)) else None else None) ≡ Some head → IsStamped j head.instant
 from_stamped j n far head true true known e = own_stamped j (n - far.packets) head (j.stamp (n - far.packets)) (pos far.samples) (omega arith) refl e
 from_stamped j n far head true false known e = absurd cc
 from_stamped j n far head false b known e = absurd cc
@@ -34,7 +39,7 @@ either_stamped : (j : Journal) (n : ℕ) (head : Head) (own back : Option Head) 
 either_stamped j n head None back f g e = g e
 either_stamped j n head (Some h) back f g e = f e
 
-head_stamped : (j : Journal) (n : ℕ) (head : Head) → n < j.packets → head_of j n ≡ Some head → IsStamped j head.instant
+pub head_stamped : (j : Journal) (n : ℕ) (head : Head) → n < j.packets → head_of j n ≡ Some head → IsStamped j head.instant
 head_stamped j n head known e =
     either_stamped j n head (own_head j n) (option_and_then (head_from j n) (distance (rule_of j.kind n) n j.count))
     (λ f. own_stamped j n head (j.stamp n) _ known refl f)
@@ -53,9 +58,9 @@ clock_once j agrees n k x y known a b =
     let same : a.head ≡ b.head = let p = a.is_head in let q = b.is_head in cc in
     let s = head_stamped j n a.head known a.is_head in
     let covers : Covers (pair_at j.clock b.earlier b.later) j.rate a.head.instant = rw same b.covers in
-    let one = agrees.one s.number a.head.instant a.earlier a.later b.earlier b.later
-    (record { known = s.known; stamped = s.stamped; joined = a.joined; covers = a.covers })
-    (record { known = s.known; stamped = s.stamped; joined = b.joined; covers = covers }) in
+    let one = agrees.one s.number s.instant a.earlier a.later b.earlier b.later
+    (record { known = s.known; stamped = s.stamped; joined = a.joined; covers = rw (← s.same) a.covers })
+    (record { known = s.known; stamped = s.stamped; joined = b.joined; covers = rw (← s.same) covers }) in
     a.at ∙ same_instant j k a.head b.head a.earlier a.later b.earlier b.later same one.0 one.1 ∙ sym b.at
 
 at_once : (kind : Kind) (by_clock : Bool) (j : Journal) → IsOfKind kind j → (n k : ℕ) (x y : ℤ) → n < j.packets → IsAtBy kind by_clock j n k x → IsAtBy kind by_clock j n k y → x ≡ y

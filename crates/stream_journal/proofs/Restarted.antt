@@ -3,7 +3,8 @@ use Rattle.std.proofs.Common.{◌≡◌, inl, inr, ℕ, zero, suc, ◌+◌, ◌-
 use Rattle.std.specs.Prelude.{IfSome, ◌==◌, if◌then◌else◌}
 use Rattle.std.proofs.lemmas.Bool.{cases_lt}
 use Rattle.std.proofs.lemmas.Bool.Decides.{nat_tests}
-use Rattle.stream_journal.specs.Journal.{Head, head_of, nominal_instant}
+use Rattle.time_unfold.specs.declared.head_rule.Head.{Head}
+use Rattle.stream_journal.specs.Journal.{head_of, nominal_instant}
 use Rattle.stream_journal.specs.Conforming.{Conforms, HoldsEight, IsApart, IsAudio}
 use Rattle.stream_journal.specs.Examples.{restarted, restarted_due}
 use Rattle.stream_journal.proofs.Worked.{no_clock-is, no_clock-agrees}

@@ -3,19 +3,24 @@ use Rattle.std.proofs.Common.{◌≡◌, inl, inr, ℕ, zero, suc, ◌+◌, ◌-
 use Rattle.std.proofs.Math.Nat.{mul-le-mul_left}
 use Rattle.std.proofs.lemmas.Bool.{cases_lt, cases_eq}
 use Rattle.std.proofs.lemmas.Bool.Decides.{nat_tests}
-use Rattle.stream_journal.specs.Clocks.{Clock, Follows, IsJoined, IsJoinedAt, IsNext, Place, SeemNext, SeemsJoined, pair_at, point, pull_down, pull_up}
+use Rattle.clock_track.specs.Pairs.{IsJoined, period, pull_down, pull_up}
+use Rattle.clock_track.proofs.Pairs.{period-natural}
+use Rattle.stream_journal.specs.Clocks.{ClockJournal, Follows, IsJoinedAt, IsNext, Place, SeemNext, SeemsJoined, pair_at, point}
 use Rattle.stream_journal.specs.Conforming.{IsClock}
 
 -- ---- a point and the next one
 
+pub period_at : (c : ClockJournal) (p q : Place) → period (pair_at c p q) ≡ point c q - point c p
+period_at c p q = period-natural (point c p) (point c q)
+
 -- the nominal time of the interval and the frequency, above the line
-abbrev time_of : Clock → ℕ
+abbrev time_of : ClockJournal → ℕ
 time_of c = c.interval * 1000000000 * pull_down c.pull
 
-abbrev up_of : Clock → ℕ
+abbrev up_of : ClockJournal → ℕ
 up_of c = c.base * pull_up c.pull
 
-some_down : (pull : ℕ) → 1 ≤ pull_down pull
+pub some_down : (pull : ℕ) → 1 ≤ pull_down pull
 some_down pull = grind (arith, nat_tests)
 
 product : (a b : ℕ) → 1 ≤ a → 1 ≤ b → 1 ≤ a * b
@@ -23,7 +28,7 @@ product (suc a) (suc b) p q = omega arith
 product zero b p q = absurd (omega arith)
 product (suc a) zero p q = absurd (omega arith)
 
-some_time : (c : Clock) → IsClock c → 1 ≤ time_of c
+some_time : (c : ClockJournal) → IsClock c → 1 ≤ time_of c
 some_time c is =
     let interval = is.interval in
     product (c.interval * 1000000000) (pull_down c.pull) (omega arith) (some_down c.pull)
@@ -48,18 +53,18 @@ ordered_by p q up h = elim (cases_lt q p) [
   | inr above ↦ above
 ]
 
-rises : (c : Clock) → IsClock c → (p q : Place) → Follows c p q → 4 * (point c p * up_of c) + 3 * time_of c ≤ 4 * (point c q * up_of c)
-rises c is p q f = rises_by (point c p) (point c q) (up_of c) (time_of c) (some_time c is) (is.spaced p q f)
+rises : (c : ClockJournal) → IsClock c → (p q : Place) → Follows c p q → 4 * (point c p * up_of c) + 3 * time_of c ≤ 4 * (point c q * up_of c)
+rises c is p q f = rises_by (point c p) (point c q) (up_of c) (time_of c) (some_time c is) (rw (period_at c p q) at (is.spaced p q f))
 
-goes_on : (c : Clock) → IsClock c → (p q : Place) → Follows c p q → point c p ≤ point c q
+goes_on : (c : ClockJournal) → IsClock c → (p q : Place) → Follows c p q → point c p ≤ point c q
 goes_on c is p q f = let h = rises c is p q f in let some = some_time c is in ordered_by (point c p) (point c q) (up_of c) (omega arith)
 
 -- ---- points further on
 
-abbrev at_place : ℕ → ℕ → Place
+abbrev pub at_place : ℕ → ℕ → Place
 at_place m i = record { packet = m; at = i }
 
-inside : (c : Clock) → IsClock c → (m i k : ℕ) → m < c.packets → i + k < length (c.points m) → point c (at_place m i) ≤ point c (at_place m (i + k))
+inside : (c : ClockJournal) → IsClock c → (m i k : ℕ) → m < c.packets → i + k < length (c.points m) → point c (at_place m i) ≤ point c (at_place m (i + k))
 inside c is m i zero known within = let e : i + 0 ≡ i = omega arith in rw e (omega arith)
 inside c is m i (suc k) known within =
     let e : i + suc k ≡ suc (i + k) = omega arith in
@@ -72,12 +77,12 @@ inside c is m i (suc k) known within =
     rw e (omega arith)
 
 -- from a point of a packet to its last one, or from its first one
-to_last : (c : Clock) → IsClock c → (m i l : ℕ) → m < c.packets → i ≤ l → l < length (c.points m) → point c (at_place m i) ≤ point c (at_place m l)
+to_last : (c : ClockJournal) → IsClock c → (m i l : ℕ) → m < c.packets → i ≤ l → l < length (c.points m) → point c (at_place m i) ≤ point c (at_place m l)
 to_last c is m i l known from within =
     let e : i + (l - i) ≡ l = omega arith in
     subst (λ (x : ℕ). point c (at_place m i) ≤ point c (at_place m x)) e (inside c is m i (l - i) known (omega arith))
 
-across : (c : Clock) → IsClock c → (m l : ℕ) → suc m < c.packets → suc l ≡ length (c.points m) → Follows c (at_place m l) (at_place (suc m) 0)
+across : (c : ClockJournal) → IsClock c → (m l : ℕ) → suc m < c.packets → suc l ≡ length (c.points m) → Follows c (at_place m l) (at_place (suc m) 0)
 across c is m l known last = record {
   first = record { packet = omega arith; at = omega arith };
   second = is.some (suc m) known;
@@ -87,7 +92,7 @@ across c is m l known last = record {
 add_up : (p r s q up time k : ℕ) → 4 * (p * up) + 3 * suc k * time ≤ 4 * (r * up) → r ≤ s → 4 * (s * up) + 3 * time ≤ 4 * (q * up) → 4 * (p * up) + 3 * suc (suc k) * time ≤ 4 * (q * up)
 add_up p r s q up time k a b h = let times : up * r ≤ up * s = mul-le-mul_left up b in omega arith
 
-span : (c : Clock) → IsClock c → (m l k : ℕ) → suc m + k < c.packets → suc l ≡ length (c.points m)
+span : (c : ClockJournal) → IsClock c → (m l k : ℕ) → suc m + k < c.packets → suc l ≡ length (c.points m)
     → 4 * (point c (at_place m l) * up_of c) + 3 * suc k * time_of c ≤ 4 * (point c (at_place (suc m + k) 0) * up_of c)
 span c is m l zero known last =
     let e : suc m + 0 ≡ suc m = omega arith in
@@ -125,7 +130,7 @@ not_joined_far p q up time k some more far most = elim (cases_lt p q) [
         let least : time * 2 ≤ time * suc k = mul-le-mul_left time (omega arith) in
         omega arith
 
-back : (c : Clock) → IsClock c → (m l n : ℕ) → m < c.packets → suc l ≡ length (c.points m) → n ≤ m → point c (at_place n 0) ≤ point c (at_place m l)
+back : (c : ClockJournal) → IsClock c → (m l n : ℕ) → m < c.packets → suc l ≡ length (c.points m) → n ≤ m → point c (at_place n 0) ≤ point c (at_place m l)
 back c is m l n known last from = elim (cases_lt n m) [
   | inl below ↦
       let k : ℕ = m - suc n in
@@ -142,31 +147,31 @@ back c is m l n known last from = elim (cases_lt n m) [
   | inr above ↦ let same : m ≡ n = omega arith in subst (λ (x : ℕ). point c (at_place x 0) ≤ point c (at_place m l)) same (to_last c is m 0 l known (omega arith) (omega arith))
 ]
 
-neighbours : (c : Clock) → IsClock c → (m l n : ℕ) → m < c.packets → n < c.packets → suc l ≡ length (c.points m) → IsJoined (pair_at c (at_place m l) (at_place n 0)) → n ≡ suc m
+neighbours : (c : ClockJournal) → IsClock c → (m l n : ℕ) → m < c.packets → n < c.packets → suc l ≡ length (c.points m) → IsJoined (pair_at c (at_place m l) (at_place n 0)) → n ≡ suc m
 neighbours c is m l n known there last joined =
     let some = some_time c is in
     elim (cases_eq n (suc m)) [
       | inl e ↦ e
       | inr other ↦ elim (cases_lt n (suc m)) [
-        | inl below ↦ absurd (not_joined_back (point c (at_place m l)) (point c (at_place n 0)) (up_of c) (time_of c) some (back c is m l n known last (omega arith)) joined.least)
+        | inl below ↦ absurd (not_joined_back (point c (at_place m l)) (point c (at_place n 0)) (up_of c) (time_of c) some (back c is m l n known last (omega arith)) (rw (period_at c (at_place m l) (at_place n 0)) at joined.least))
         | inr above ↦
             let k : ℕ = n - suc m in
             let e : suc m + k ≡ n = omega arith in
             let far = subst (λ (x : ℕ). 4 * (point c (at_place m l) * up_of c) + 3 * suc k * time_of c ≤ 4 * (point c (at_place x 0) * up_of c)) e (span c is m l k (omega arith) last) in
-            absurd (not_joined_far (point c (at_place m l)) (point c (at_place n 0)) (up_of c) (time_of c) k some (omega arith) far joined.most)
+            absurd (not_joined_far (point c (at_place m l)) (point c (at_place n 0)) (up_of c) (time_of c) k some (omega arith) far (rw (period_at c (at_place m l) (at_place n 0)) at joined.most))
       ]
     ]
 
 first_at : (q : Place) → q.at ≡ 0 → q ≡ at_place q.packet 0
 first_at q e = ap (λ (i : ℕ). at_place q.packet i) e
 
-really_next : (c : Clock) → IsClock c → (p q : Place) → SeemsJoined c p q → SeemNext c p q → IsNext c p q
+really_next : (c : ClockJournal) → IsClock c → (p q : Place) → SeemsJoined c p q → SeemNext c p q → IsNext c p q
 really_next c is p q s (inl same) = inl same
 really_next c is p q s (inr over) =
     let joined : IsJoined (pair_at c (at_place p.packet p.at) (at_place q.packet 0)) = subst (λ (x : Place). IsJoined (pair_at c p x)) (first_at q over.1) s.joined in
     inr (neighbours c is p.packet p.at q.packet s.first.packet s.second.packet over.2 joined, over.1, over.2)
 
-pub true_pairs : (c : Clock) → IsClock c → (p q : Place) → SeemsJoined c p q → IsJoinedAt c p q
+pub true_pairs : (c : ClockJournal) → IsClock c → (p q : Place) → SeemsJoined c p q → IsJoinedAt c p q
 true_pairs c is p q s = record {
   follows = record { first = s.first; second = s.second; next = really_next c is p q s s.next };
   one_run = s.one_run;

@@ -9,7 +9,8 @@ use Rattle.time_unfold.specs.declared.stamp.Stamp.{Stamp}
 use Rattle.time_unfold.specs.declared.stamp.Want.{Want}
 use Rattle.time_unfold.specs.Stamps.{IsFound, candidate, fits, found, is_near, last_of, same_block, same_flag}
 use Rattle.time_unfold.proofs.Found.{find_last-found, found_is}
-use Rattle.stream_journal.specs.Rules.{Distance, distance}
+use Rattle.time_unfold.specs.declared.head_rule.Distance.{Distance}
+use Rattle.time_unfold.specs.Heads.{distance}
 use Rattle.stream_journal.specs.Journal.{Journal, Kind, DenseAaf, SparseAaf, Am824, H264, head_of, rule_of}
 use Rattle.stream_journal.specs.Conforming.{IsAudio}
 use Rattle.stream_journal.specs.Delivered.{Copy, IsAudioKind}
@@ -132,11 +133,9 @@ le_true : (a b : ℕ) → a ≤ b → nat_le a b ≡ true
 le_true a b h = grind (arith, nat_tests)
 
 head_back : (j : Journal) (n : ℕ) (far : Distance) (stamp : Stamp) → j.stamp n ≡ None → distance (rule_of j.kind n) n j.count ≡ Some far → IsHeadOf j n far stamp → IsCountedFrom j n far stamp
-head_back j n far stamp none back is = record {
-  instant = is.is.instant;
-  same = ap (λ (s : Stamp). s.instant) is.is.same;
-  head = rw (none, back, le_true far.packets n is.back, flag_of (j.mr (n - far.packets)) (j.mr n) is.one_run, is.is.stamped) refl;
-}
+head_back j n far stamp none back is =
+    let instant : stamp.instant ≡ pos is.is.instant = ap (λ (s : Stamp). s.instant) is.is.same in
+    rw (instant, none, back, le_true far.packets n is.back, flag_of (j.mr (n - far.packets)) (j.mr n) is.one_run, is.is.stamped) refl
 
 counted_by : (j : Journal) (n : ℕ) (far : Distance) (r : Option Stamp) → j.stamp n ≡ None → distance (rule_of j.kind n) n j.count ≡ Some far → IfSome r (IsHeadOf j n far) → IfSome r (IsCountedFrom j n far)
 counted_by j n far None none back h = tt
@@ -149,7 +148,7 @@ true_counts j is lead room c far stamps un all =
 
 none_by : (j : Journal) (n : ℕ) (far : Distance) (r : Option Stamp) → head_of j n ≡ None → IfSome r (IsCountedFrom j n far) → r ≡ None
 none_by j n far None e h = refl
-none_by j n far (Some stamp) e h = let head = h.head in absurd cc
+none_by j n far (Some stamp) e h = absurd cc
 
 pub none_found : (j : Journal) → IsAudio j → (lead room : ℕ) (c : Copy) (far : Distance) (stamps : List Stamp) → IsUnstamped j lead c far → All (IsTrue j) stamps
     → head_of j c.number ≡ None → found room (wanted j lead c far) stamps ≡ None

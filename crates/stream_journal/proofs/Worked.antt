@@ -3,7 +3,8 @@ use Rattle.std.proofs.Common.{◌≡◌, ◌↔◌, ℕ, ◌+◌, ◌*◌, ◌^�
 use Rattle.std.proofs.Math.Nat.{mul-le-mul_left}
 use Rattle.std.proofs.lemmas.Int.{ints}
 use Rattle.stream_journal.specs.Clocks.{no_clock}
-use Rattle.stream_journal.specs.Journal.{Head, Journal, head_of, nominal_instant}
+use Rattle.time_unfold.specs.declared.head_rule.Head.{Head}
+use Rattle.stream_journal.specs.Journal.{Journal, head_of, nominal_instant}
 use Rattle.stream_journal.specs.Conforming.{AgreesWithClock, Conforms, IsAudio, IsClock}
 use Rattle.stream_journal.specs.Examples.{three_packets}
 
@@ -31,7 +32,7 @@ no_clock-agrees j none = record {
 
 first_of : (spacing n : ℕ) (head : Head) → head_of (three_packets spacing) n ≡ Some head → pos (1002000000 + n * spacing) ≡ nominal_instant (three_packets spacing) head 0
 first_of spacing n head e =
-    let same : record { instant = 1002000000 + n * spacing; first = pos 0 } ≡ head = cc in
+    let same : record { instant = pos (1002000000 + n * spacing); first = pos 0 } ≡ head = cc in
     rw (← same) (omega (arith, ints))
 
 three_audio : (spacing : ℕ) → 93750 ≤ spacing → IsAudio (three_packets spacing)

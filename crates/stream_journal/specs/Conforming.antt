@@ -1,10 +1,15 @@
 -- The rules that a talker keeps. Whatever is counted from its timestamps rests on them alone. They are this project's own
 -- where no standard is named.
 use Rattle.std.specs.Prelude.{◌≡◌, ◌≢◌, ◌⊎◌, ◌↔◌, ℕ, suc, ◌+◌, ◌*◌, ◌%◌, ◌^◌, ◌==◌, ◌<◌, ◌≤◌, nat_lt, Bool, true, ⊤, pos, Some, is_some}
+use Rattle.time_unfold.specs.declared.head_rule.Head.{Head}
+use Rattle.time_unfold.specs.declared.head_rule.HeadRule.{HeadRule}
+use Rattle.time_unfold.specs.declared.head_rule.HeadRule.TheVariants.{Own, Eight, Blocks}
+use Rattle.time_unfold.specs.Heads.{stamped_index}
 use Rattle.time_unfold.specs.Lines.{instant_at}
-use Rattle.stream_journal.specs.Rules.{Rule, Own, Eight, Blocks, stamped_index}
-use Rattle.stream_journal.specs.Clocks.{Clock, Covers, Follows, InOneRun, IsJoined, IsJoinedAt, IsOfRate, IsPlace, IsSpaced, Pair, Place, pair_at, period, point, spot_by}
-use Rattle.stream_journal.specs.Journal.{Head, Journal, Kind, DenseAaf, SparseAaf, Am824, H264, Part, Single, First, Last, head_of, nominal_instant, rule_of}
+use Rattle.clock_track.specs.declared.pair.Pair.{Pair}
+use Rattle.clock_track.specs.Pairs.{Covers, IsJoined, IsOfRate, IsSpaced, period, spot_by}
+use Rattle.stream_journal.specs.Clocks.{ClockJournal, Follows, InOneRun, IsJoinedAt, IsPlace, Place, pair_at, point}
+use Rattle.stream_journal.specs.Journal.{Journal, Kind, DenseAaf, SparseAaf, Am824, H264, Part, Single, First, Last, head_of, nominal_instant, rule_of}
 
 -- ---- rules for every stream
 
@@ -21,7 +26,7 @@ pub record AreInstants (j : Journal) : Type 0 where
 -- ---- audio
 
 -- Which packets are stamped: all, each eighth, or those that have the block whose count is a multiple of the interval.
-abbrev pub is_stamped : Rule → ℕ → ℕ → Bool
+abbrev pub is_stamped : HeadRule → ℕ → ℕ → Bool
 is_stamped Own n count = true
 is_stamped Eight n count = n % 8 == 0
 is_stamped (Blocks dbc interval) n count = nat_lt (stamped_index (Blocks dbc interval)) count
@@ -95,7 +100,7 @@ pub record IsSteady (first second : Pair) : Type 0 where
 
 -- A clock keeps these rules. Points beside each other in one run stand in one packet or in packets beside each other with
 -- equal `mr`, and a new run begins with a new packet and the other `mr`, since runs are told by it.
-pub record IsClock (c : Clock) : Type 0 where
+pub record IsClock (c : ClockJournal) : Type 0 where
   pub base : 1 ≤ c.base
   pub pull : c.pull ≤ 5
   pub interval : 1 ≤ c.interval
@@ -121,14 +126,14 @@ pub record IsCovered (j : Journal) (n instant : ℕ) (p q : Place) : Type 0 wher
   pub known : n < j.packets
   pub stamped : j.stamp n ≡ Some instant
   pub joined : IsJoinedAt j.clock p q
-  pub covers : Covers (pair_at j.clock p q) j.rate instant
+  pub covers : Covers (pair_at j.clock p q) j.rate (pos instant)
 
 pub record AgreesWithClock (j : Journal) : Type 0 where
   -- at most one joined pair of the whole list of points covers a timestamp
   pub one : (n instant : ℕ) (p q r s : Place) → IsCovered j n instant p q → IsCovered j n instant r s → (p ≡ r) × (q ≡ s)
   -- where the clock's frequency is the stream's rate, the timestamp is the instant of an event
   pub exact : (n instant : ℕ) (p q : Place) → IsCovered j n instant p q → IsOfRate (pair_at j.clock p q) j.rate
-      → instant_at (spot_by (pair_at j.clock p q) j.rate instant).line (spot_by (pair_at j.clock p q) j.rate instant).from ≡ pos instant
+      → instant_at (spot_by (pair_at j.clock p q) j.rate (pos instant)).line (spot_by (pair_at j.clock p q) j.rate (pos instant)).from ≡ pos instant
 
 -- ---- all of it
 

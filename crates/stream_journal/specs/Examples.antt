@@ -1,8 +1,8 @@
 -- Small journals, which show what the rules of a talker ask.
-use Rattle.std.specs.Prelude.{ℕ, zero, suc, ◌+◌, ◌-◌, ◌*◌, ◌%◌, ◌==◌, nat_lt, nat_le, if◌then◌else◌, List, [], ◌∷◌, false, Some, None}
-use Rattle.stream_journal.specs.Clocks.{no_clock}
+use Rattle.std.specs.Prelude.{ℕ, zero, suc, ◌+◌, ◌-◌, ◌*◌, ◌%◌, ◌==◌, nat_lt, nat_le, if◌then◌else◌, List, [], ◌∷◌, get_or, false, Option, Some, None}
+use Rattle.stream_journal.specs.Clocks.{ClockJournal, no_clock}
 use Rattle.stream_journal.specs.Delivered.{Copy}
-use Rattle.stream_journal.specs.Journal.{Journal, DenseAaf, SparseAaf, H264, Part, Single, First, Middle, Last}
+use Rattle.stream_journal.specs.Journal.{Journal, DenseAaf, SparseAaf, Am824, H264, Part, Single, First, Middle, Last}
 
 -- Three packets of 6 sample frames at 48 kHz, `spacing` nanoseconds apart, each of them stamped.
 abbrev pub three_packets : ℕ → Journal
@@ -62,10 +62,48 @@ restarted_copies =
     came 19 1003375000 ∷
     []
 
--- Thirty-two packets of 6 sample frames at 48 kHz, each of them stamped, beside a clock of 48 kHz whose two packets have
--- two points each, 96 events or 2 ms apart.
-abbrev pub clocked : Journal
-clocked = record {
+-- Eight packets of 6 data blocks of AM824, which count their blocks from 0, and are due and stamped as these lists say.
+abbrev pub blocks_of_six : ℕ → ℕ → List ℕ → List (Option ℕ) → Journal
+blocks_of_six rate interval dues stamps = record {
+  kind = Am824 interval (λ n. n * 6 % 256);
+  rate = rate;
+  count = 6;
+  packets = 8;
+  due = λ n. get_or dues n 0;
+  stamp = λ n. get_or stamps n None;
+  mr = λ n. false;
+  clock = no_clock;
+}
+
+-- At 48 kHz each eighth block is stamped: blocks 0, 2 and 4 of three packets, and no block of the fourth.
+abbrev pub each_eighth : Journal
+each_eighth = blocks_of_six 48000 8
+    (1002000000 ∷ 1002124999 ∷ 1002249999 ∷ 1002374999 ∷ 1002500000 ∷ 1002624999 ∷ 1002749999 ∷ 1002874999 ∷ [])
+    (Some 1002000000 ∷ Some 1002166666 ∷ Some 1002333333 ∷ None ∷ Some 1002500000 ∷ Some 1002666666 ∷ Some 1002833333 ∷ None ∷ [])
+
+-- At 96 kHz each sixteenth block is: block 0 of packet 0, block 4 of packet 2 and block 2 of packet 5.
+abbrev pub each_sixteenth : Journal
+each_sixteenth = blocks_of_six 96000 16
+    (1002000000 ∷ 1002062500 ∷ 1002124999 ∷ 1002187499 ∷ 1002249999 ∷ 1002312499 ∷ 1002374999 ∷ 1002437499 ∷ [])
+    (Some 1002000000 ∷ None ∷ Some 1002166666 ∷ None ∷ None ∷ Some 1002333333 ∷ None ∷ None ∷ [])
+
+-- What reached a listener of the latter: packet 2 was lost, and with it the timestamp from which packets 3 and 4 are
+-- counted.
+abbrev pub sixteenth_copies : List Copy
+sixteenth_copies =
+    came 0 1000000000 ∷
+    came 1 1000062500 ∷
+    came 3 1000187500 ∷
+    came 4 1000250000 ∷
+    came 5 1000312500 ∷
+    came 6 1000375000 ∷
+    came 7 1000437500 ∷
+    []
+
+-- Sixty-four packets of 6 sample frames at 48 kHz, each of them stamped, beside a clock of some base frequency whose two
+-- packets have two points each, 96 events or 2 ms apart.
+abbrev pub clocked : ℕ → Journal
+clocked base = record {
   kind = DenseAaf;
   rate = 48000;
   count = 6;
@@ -74,7 +112,7 @@ clocked = record {
   stamp = λ n. Some (1002000000 + n * 125000);
   mr = λ n. false;
   clock = record {
-    base = 48000;
+    base = base;
     pull = 0;
     interval = 96;
     packets = 2;
@@ -99,6 +137,70 @@ video = record {
   packets = 4;
   due = λ n. if n == 0 then 1002000000 else 1035333333;
   stamp = λ n. if n == 0 then Some 1002000000 else if n == 3 then Some 1035333333 else None;
+  mr = λ n. false;
+  clock = no_clock;
+}
+
+-- ---- at the limits of the rules
+
+-- a talker of nothing, beside a clock
+abbrev pub beside : ClockJournal → Journal
+beside clock = record {
+  kind = DenseAaf;
+  rate = 48000;
+  count = 6;
+  packets = 0;
+  due = λ n. 0;
+  stamp = λ n. None;
+  mr = λ n. false;
+  clock = clock;
+}
+
+-- no packets, with some code of pull
+abbrev pub pulled : ℕ → ClockJournal
+pulled pull = record no_clock { pull = pull }
+
+-- three points of 48 kHz, 96 events apart, of which the last comes so many nanoseconds late
+abbrev pub unsteady : ℕ → ClockJournal
+unsteady late = record {
+  base = 48000;
+  pull = 0;
+  interval = 96;
+  packets = 1;
+  points = λ m. 1002000000 ∷ 1004000000 ∷ (1006000000 + late) ∷ [];
+  mr = λ m. false;
+}
+
+-- Three points of 44.1 kHz of which the last comes 4,000 ns early, so that the first two cover what the last two do too; and
+-- a packet at such an instant.
+abbrev pub overlapped : Journal
+overlapped = record {
+  kind = DenseAaf;
+  rate = 48000;
+  count = 6;
+  packets = 1;
+  due = λ n. 1005988000;
+  stamp = λ n. Some 1005988000;
+  mr = λ n. false;
+  clock = record {
+    base = 44100;
+    pull = 0;
+    interval = 96;
+    packets = 1;
+    points = λ m. 1002000000 ∷ 1004000000 ∷ 1005996000 ∷ [];
+    mr = λ m. false;
+  };
+}
+
+-- so many whole units in one access unit
+abbrev pub one_access_unit : ℕ → Journal
+one_access_unit packets = record {
+  kind = H264 (λ n. Single);
+  rate = 30;
+  count = 1;
+  packets = packets;
+  due = λ n. 1002000000;
+  stamp = λ n. Some 1002000000;
   mr = λ n. false;
   clock = no_clock;
 }

@@ -1,8 +1,9 @@
 -- What a listener notes of the copies that it has, and what it looks for among them.
 use Rattle.std.specs.Prelude.{◌≡◌, ◌≢◌, ℕ, ◌+◌, ◌-◌, ◌*◌, ◌/◌, ◌%◌, ◌<◌, ◌≤◌, ◌⊎◌, pos, Some, None}
+use Rattle.time_unfold.specs.declared.head_rule.Distance.{Distance}
 use Rattle.time_unfold.specs.declared.stamp.Stamp.{Stamp}
 use Rattle.time_unfold.specs.declared.stamp.Want.{Want}
-use Rattle.stream_journal.specs.Rules.{Distance, counted_block, distance, stamped_block}
+use Rattle.time_unfold.specs.Heads.{counted_block, distance, stamped_block}
 use Rattle.stream_journal.specs.Journal.{Journal, head_of, rule_of}
 use Rattle.stream_journal.specs.Conforming.{IsApart}
 use Rattle.stream_journal.specs.Delivered.{Copy, IsDelivered}
@@ -69,7 +70,5 @@ abbrev pub AreApart : Journal → ℕ → ℕ → ℕ → Type 0
 AreApart j times x y = IsApart j (4 * times) x y ⊎ IsApart j (4 * times) y x
 
 -- The head of packet n is this stamp, so far back.
-pub record IsCountedFrom (j : Journal) (n : ℕ) (far : Distance) (stamp : Stamp) : Type 0 where
-  pub instant : ℕ
-  pub same : stamp.instant ≡ pos instant
-  pub head : head_of j n ≡ Some (record { instant = instant; first = pos far.samples })
+abbrev pub IsCountedFrom : Journal → ℕ → Distance → Stamp → Type 0
+IsCountedFrom j n far stamp = head_of j n ≡ Some (record { instant = stamp.instant; first = pos far.samples })

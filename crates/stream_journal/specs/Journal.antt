@@ -2,10 +2,16 @@
 -- modulo 256, and instants are whole nanoseconds of gPTP and not modulo 2^32.
 use Rattle.std.specs.Prelude.{◌≡◌, ℕ, ◌-◌, nat_le, if◌then◌else◌, Bool, true, false, ℤ, pos, neg_ℤ, ◌+ℤ◌, Option, Some, None, option_map, option_and_then}
 use Rattle.std.specs.Option.{option_or}
+use Rattle.time_unfold.specs.declared.head_rule.Distance.{Distance}
+use Rattle.time_unfold.specs.declared.head_rule.Head.{Head}
+use Rattle.time_unfold.specs.declared.head_rule.HeadRule.{HeadRule}
+use Rattle.time_unfold.specs.declared.head_rule.HeadRule.TheVariants.{Own, Eight, Blocks}
+use Rattle.time_unfold.specs.Heads.{distance, stamped_index}
 use Rattle.time_unfold.specs.Lines.{instant_at, nominal_line}
 use Rattle.time_unfold.specs.Stamps.{same_flag}
-use Rattle.stream_journal.specs.Rules.{Rule, Own, Eight, Blocks, Distance, distance, stamped_index}
-use Rattle.stream_journal.specs.Clocks.{Clock, Covers, IsJoinedAt, Pair, Place, pair_at, spot_by}
+use Rattle.clock_track.specs.declared.pair.Pair.{Pair}
+use Rattle.clock_track.specs.Pairs.{Covers, spot_by}
+use Rattle.stream_journal.specs.Clocks.{ClockJournal, IsJoinedAt, Place, pair_at}
 
 -- what a packet of H.264 carries: a whole unit, or its first, a middle or its last fragment (RFC 6184)
 pub data Part : Type 0 where
@@ -37,10 +43,10 @@ pub record Journal : Type 0 where
   pub stamp : ℕ → Option ℕ
   -- the media clock restart bit of each packet
   pub mr : ℕ → Bool
-  pub clock : Clock
+  pub clock : ClockJournal
 
 -- how packet n is stamped; a packet of H.264 has its own timestamp or none
-abbrev pub rule_of : Kind → ℕ → Rule
+abbrev pub rule_of : Kind → ℕ → HeadRule
 rule_of DenseAaf n = Own
 rule_of SparseAaf n = Eight
 rule_of (Am824 interval dbc) n = Blocks (dbc n) interval
@@ -48,23 +54,17 @@ rule_of (H264 part) n = Own
 
 -- ---- the instants of a packet's samples
 
--- The stamped sample from which a packet is counted: its instant, and the number of the packet's first sample, counted
--- from it.
-pub record Head : Type 0 where
-  pub instant : ℕ
-  pub first : ℤ
-
 -- packet n by its own timestamp
 abbrev pub own_head : Journal → ℕ → Option Head
 own_head j n =
-    option_map (λ instant. record { instant = instant; first = neg_ℤ (pos (stamped_index (rule_of j.kind n))) }) (j.stamp n)
+    option_map (λ instant. record { instant = pos instant; first = neg_ℤ (pos (stamped_index (rule_of j.kind n))) }) (j.stamp n)
 
 -- packet n by the timestamp of packet n - d, where no restart lies between them
 abbrev pub head_from : Journal → ℕ → Distance → Option Head
 head_from j n far =
     if nat_le far.packets n then
     if same_flag (j.mr (n - far.packets)) (j.mr n) then
-    option_map (λ instant. record { instant = instant; first = pos far.samples }) (j.stamp (n - far.packets))
+    option_map (λ instant. record { instant = pos instant; first = pos far.samples }) (j.stamp (n - far.packets))
     else None else None
 
 -- The head of packet n: its own timestamp, or that of the packet from which it is counted, where there is one.
@@ -73,7 +73,7 @@ head_of j n = option_or (own_head j n) (option_and_then (head_from j n) (distanc
 
 -- sample k of a packet with this head, at the nominal rate
 abbrev pub nominal_instant : Journal → Head → ℕ → ℤ
-nominal_instant j head k = instant_at (nominal_line (pos head.instant) j.rate) (head.first +ℤ pos k)
+nominal_instant j head k = instant_at (nominal_line head.instant j.rate) (head.first +ℤ pos k)
 
 -- sample k of a packet with this head, by a pair of the clock's points
 abbrev pub instant_by : Pair → Journal → Head → ℕ → ℤ

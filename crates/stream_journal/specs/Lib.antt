@@ -1,7 +1,7 @@
-pub mod Rules
 pub mod Clocks
 pub mod Journal
 pub mod Conforming
 pub mod Delivered
 pub mod Examples
 pub mod Heads
+pub mod ClockRows

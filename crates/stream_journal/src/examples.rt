@@ -1,9 +1,11 @@
 //! Small journals, and whether they keep the rules. Each call is its contract, and does nothing.
 
-ghost use Rattle.std.specs.Prelude.{◌≡◌, ◌↔◌, true, ◌≤◌, ℕ, pos, Some, None};
-ghost use Rattle.stream_journal.specs.Conforming.{Conforms};
+ghost use Rattle.std.specs.Prelude.{◌≡◌, ◌↔◌, true, ◌≤◌, ℕ, neg_ℤ, pos, [], ◌∷◌, Some, None};
+ghost use Rattle.time_unfold.specs.Stamps.{found};
+ghost use Rattle.stream_journal.specs.Conforming.{AgreesWithClock, Conforms};
 ghost use Rattle.stream_journal.specs.Delivered.{AreDelivered};
-ghost use Rattle.stream_journal.specs.Examples.{clocked, restarted, restarted_copies, three_packets, video};
+ghost use Rattle.stream_journal.specs.Examples.{beside, came, clocked, each_eighth, each_sixteenth, one_access_unit, overlapped, pulled, restarted, restarted_copies, sixteenth_copies, three_packets, unsteady, video};
+ghost use Rattle.stream_journal.specs.Heads.{stamp_at, wanted};
 ghost use Rattle.stream_journal.specs.Journal.{IsAt, head_of};
 
 /// Three packets of 6 samples at 48 kHz take 125,000 ns each. They keep the rules exactly where they are due at least 3/4
@@ -22,16 +24,53 @@ pub fn restarted_copies_are_delivered()
 /// no head, since the restart lies between them and packet 8; packet 17 is counted from packet 16.
 pub fn restarted_talker_conforms()
     ensures conforms { Conforms restarted }
-    ensures before { head_of restarted 9 ≡ Some (record { instant = 1003000000; first = pos 6 }) }
+    ensures before { head_of restarted 9 ≡ Some (record { instant = pos 1003000000; first = pos 6 }) }
     ensures between { (n : ℕ) → 10 ≤ n → n ≤ 15 → head_of restarted n ≡ None }
-    ensures behind { head_of restarted 17 ≡ Some (record { instant = 1005000000; first = pos 6 }) }
+    ensures behind { head_of restarted 17 ≡ Some (record { instant = pos 1005000000; first = pos 6 }) }
 {}
 
-/// A talker that sends a clock of its stream's own rate keeps the rules. A packet whose timestamp the second and third
-/// points cover has its samples on their line.
-pub fn clocked_talker_conforms()
-    ensures conforms { Conforms clocked }
-    ensures sample { IsAt true clocked 33 1 (pos 1006145833) }
+/// Talkers of AM824 with 6 blocks in a packet keep the rules. At 48 kHz packet 2 is counted from its block 4, and packet 3,
+/// which stamps none, from that block too: 2 blocks back. At 96 kHz packet 4 is counted from a block two packets back.
+pub fn block_talkers_conform()
+    ensures eighth { Conforms each_eighth }
+    ensures sixteenth { Conforms each_sixteenth }
+    ensures own { head_of each_eighth 2 ≡ Some (record { instant = pos 1002333333; first = neg_ℤ (pos 4) }) }
+    ensures before { head_of each_eighth 3 ≡ Some (record { instant = pos 1002333333; first = pos 2 }) }
+    ensures two_before { head_of each_sixteenth 4 ≡ Some (record { instant = pos 1002166666; first = pos 8 }) }
+{}
+
+/// Copies of its packets at 96 kHz, of which packet 2 was lost, are delivered to a listener that expects packets 2 ms before
+/// their first instant. For packet 4 it finds the stamp of packet 2 where it has that, and none where it has not.
+pub fn block_copies_are_delivered()
+    ensures delivered { AreDelivered each_sixteenth 2000000 sixteenth_copies }
+    ensures known { found 16 (wanted each_sixteenth 2000000 (came 4 1000250000) (record { packets = 2; samples = 8 })) (stamp_at each_sixteenth 0 1002000000 ∷ stamp_at each_sixteenth 2 1002166666 ∷ [])
+        ≡ Some (stamp_at each_sixteenth 2 1002166666) }
+    ensures lost { found 16 (wanted each_sixteenth 2000000 (came 4 1000250000) (record { packets = 2; samples = 8 })) (stamp_at each_sixteenth 0 1002000000 ∷ stamp_at each_sixteenth 5 1002333333 ∷ []) ≡ None }
+{}
+
+/// A talker that sends a clock beside a stream of 48 kHz, with 96 events in 2 ms, keeps the rules exactly where these 2 ms
+/// are within 1/8 of the nominal time of 96 events.
+pub fn clocked_talkers_conform()
+    ensures { (base : ℕ) → Conforms (clocked base) ↔ (42000 ≤ base) × (base ≤ 54000) }
+{}
+
+/// A packet whose timestamp the second and third points cover has its samples by them: with a clock of the stream's own
+/// rate on the line of the clock's events, and with one of 44.1 kHz in its spacing, from the timestamp on.
+pub fn samples_are_clocked()
+    ensures own { IsAt true (clocked 48000) 33 1 (pos 1006145833) }
+    ensures other { IsAt true (clocked 44100) 33 1 (pos 1006144140) }
+    ensures first { IsAt true (clocked 44100) 16 5 (pos 1004095703) }
+    ensures next { IsAt true (clocked 44100) 17 5 (pos 1004220703) }
+{}
+
+/// The rules at their limits: codes of pull are 0 to 5; periods beside each other differ by at most a quarter of the 20,833
+/// ns between two events of 48 kHz; a timestamp that two joined pairs cover is none of a stream that agrees with its clock;
+/// an access unit has at most 255 packets.
+pub fn rules_have_limits()
+    ensures pull { (pull : ℕ) → Conforms (beside (pulled pull)) ↔ pull ≤ 5 }
+    ensures steady { (late : ℕ) → Conforms (beside (unsteady late)) ↔ late ≤ 5208 }
+    ensures one { ¬ AgreesWithClock overlapped }
+    ensures few { (packets : ℕ) → Conforms (one_access_unit packets) ↔ packets ≤ 255 }
 {}
 
 /// A talker of H.264 that stamps the last fragment of each unit keeps the rules.

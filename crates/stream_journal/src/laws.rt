@@ -1,14 +1,21 @@
 //! Laws of journals. Each call is its contract, and does nothing.
 
-ghost use Rattle.std.specs.Prelude.{◌≡◌, ◌⊎◌, ◌+◌, ◌*◌, ◌%◌, ◌^◌, ◌<◌, ◌≤◌, ◌-◌, ℤ, Bool, All, IfSome, List, ℕ, None, Some, false, pos};
+ghost use Rattle.std.specs.Prelude.{Some, true, ◌+ℤ◌, ◌≡◌, ◌⊎◌, ◌+◌, ◌*◌, ◌%◌, ◌^◌, ◌<◌, ◌≤◌, ◌-◌, ℤ, Bool, All, IfSome, List, ℕ, None, false, pos};
+ghost use Rattle.time_unfold.specs.declared.head_rule.Distance.{Distance};
+ghost use Rattle.time_unfold.specs.declared.head_rule.Head.{Head};
 ghost use Rattle.time_unfold.specs.declared.stamp.Stamp.{Stamp};
+ghost use Rattle.time_unfold.specs.Lines.{instant_at};
+ghost use Rattle.clock_track.specs.declared.clock_row.ClockRow.{ClockRow};
+ghost use Rattle.clock_track.specs.Pairs.{Spot};
+ghost use Rattle.clock_track.specs.Rows.{clock_spot, joined_pairs, window};
+ghost use Rattle.stream_journal.specs.ClockRows.{IsSpotAt, IsTruePair, IsTrueRow};
+ghost use Rattle.time_unfold.specs.Heads.{distance};
 ghost use Rattle.time_unfold.specs.Stamps.{candidate, found, is_near};
 ghost use Rattle.time_unfold.specs.Time.{unfolded};
-ghost use Rattle.stream_journal.specs.Rules.{Distance, distance};
-ghost use Rattle.stream_journal.specs.Clocks.{Clock, IsJoinedAt, Place, SeemsJoined};
-ghost use Rattle.stream_journal.specs.Journal.{IsAt, Journal, head_of, rule_of};
-ghost use Rattle.stream_journal.specs.Conforming.{Conforms, HoldsEight, IsApart, IsAudio, IsClock};
-ghost use Rattle.stream_journal.specs.Delivered.{Copy, IsDelivered};
+ghost use Rattle.stream_journal.specs.Clocks.{ClockJournal, IsJoinedAt, Place, SeemsJoined};
+ghost use Rattle.stream_journal.specs.Journal.{IsAt, IsAtByClock, Journal, head_of, rule_of};
+ghost use Rattle.stream_journal.specs.Conforming.{AgreesWithClock, Conforms, HoldsEight, IsApart, IsAudio, IsClock};
+ghost use Rattle.stream_journal.specs.Delivered.{Copy, IsAudioKind, IsDelivered};
 ghost use Rattle.stream_journal.specs.Heads.{AreApart, IsCountedFrom, IsHeadOf, IsOther, IsStampOf, IsTrue, IsUnstamped, behind, wanted};
 
 /// True time: the timestamp of a copy means the instant that the talker stamped.
@@ -60,5 +67,21 @@ pub fn no_restart_lies_between()
 /// True clock: a pair of points that a listener joins over copies of the clock's packets is a joined pair of the whole list
 /// of points. Sequence numbers alone would not tell packets that are 256 apart; the time between their points does.
 pub fn joined_pairs_are_true()
-    ensures { (c : Clock) (p q : Place) → IsClock c → SeemsJoined c p q → IsJoinedAt c p q }
+    ensures { (c : ClockJournal) (p q : Place) → IsClock c → SeemsJoined c p q → IsJoinedAt c p q }
+{}
+
+/// So whatever copies of a clock's packets a listener has, each pair that it joins is a joined pair of the list of all
+/// points, and each line that it finds is that of a joined pair of this list which covers the instant. Where the stream
+/// agrees with the clock, a packet's head has one such line at most, and the samples on it are at the journal's instants.
+pub fn clock_lines_are_true()
+    ensures pairs { (c : ClockJournal) (shift : ℤ) (rows : List ClockRow) → IsClock c → All (IsTrueRow c shift) rows → All (IsTruePair c) (joined_pairs shift (window rows)) }
+    ensures spot { (j : Journal) (shift instant : ℤ) (rows : List ClockRow) → IsClock j.clock → All (IsTrueRow j.clock shift) rows → IfSome (clock_spot rows shift instant j.rate) (IsSpotAt j instant) }
+    ensures one { (j : Journal) (n : ℕ) (head : Head) (x y : Spot) → AgreesWithClock j → n < j.packets → head_of j n ≡ Some head → IsSpotAt j head.instant x → IsSpotAt j head.instant y → x ≡ y }
+    ensures sample { (j : Journal) (n k : ℕ) (head : Head) (spot : Spot) → head_of j n ≡ Some head → IsSpotAt j head.instant spot → IsAtByClock j n k (instant_at spot.line ((spot.from +ℤ head.first) +ℤ pos k)) }
+{}
+
+/// By the clock, packets of audio whose sequence numbers and first instants are equal are one packet: 256 packets take far
+/// longer than what the clock can add to where a packet is due.
+pub fn packets_by_clock_are_told_apart()
+    ensures { (j : Journal) (n m : ℕ) (x : ℤ) → Conforms j → IsAudioKind j.kind → n < j.packets → m < j.packets → n % 256 ≡ m % 256 → IsAt true j n 0 x → IsAt true j m 0 x → n ≡ m }
 {}

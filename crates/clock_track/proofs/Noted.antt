@@ -1,0 +1,50 @@
+-- What a clock keeps after one more packet.
+use Rattle.std.proofs.Common.{◌≡◌, ℕ, ◌+◌, ◌-◌, true, List, [], ◌∷◌, ◌++◌, All, length, drop, map, vec_len, sym, ap, ◌∙◌, subst, arith}
+use Rattle.std.specs.Global.{Vec}
+use Rattle.std.proofs.lemmas.List.{drop-map, length-append, length-map, map-append}
+use Rattle.std.proofs.lemmas.List.Elements.{All-append, All-cons, All-drop, All-nil}
+use Rattle.circular_buffer.specs.Buffer.{Buffer, buffer, keep_last}
+use Rattle.clock_track.specs.declared.clock.Kept.{Kept}
+use Rattle.clock_track.specs.declared.clock_row.ClockRow.{ClockRow}
+use Rattle.clock_track.specs.Limits.{IsNotable}
+use Rattle.clock_track.specs.Rows.{window}
+use Rattle.clock_track.specs.Window.{HasRoom, IsRoom, IsWindow, kept_row}
+use Rattle.clock_track.proofs.Windows.{window-more}
+
+rows-noted : (xs : List Kept) (kept : Kept) → map kept_row (keep_last 63 xs ++ kept ∷ []) ≡ drop (length (map kept_row xs) - 63) (map kept_row xs) ++ kept_row kept ∷ []
+rows-noted xs kept =
+    let n = length-map xs kept_row in
+    map-append kept_row (keep_last 63 xs) (kept ∷ [])
+    ∙ ap (λ (l : List ClockRow). l ++ kept_row kept ∷ []) (sym (drop-map kept_row (length xs - 63) xs) ∙ ap (λ (k : ℕ). drop (k - 63) (map kept_row xs)) (sym n))
+
+all-one : {X : Type 0} (P : X → Type 0) (xs : List X) (x : X) → All P xs → P x → All P (xs ++ x ∷ [])
+all-one P xs x all is = All-append P xs (x ∷ []) all (All-cons P x [] is (All-nil P))
+
+-- the packets that are kept, but for the oldest of 64, and one more
+abbrev pub IsNoted : Buffer Kept → Buffer Kept → Kept → Type 0
+IsNoted old new kept = new ≡ buffer (keep_last 63 old.items ++ kept ∷ []) 64
+
+pub window-noted : (old new : Buffer Kept) (kept : Kept) (spare left : Vec (Vec ℕ)) → IsWindow old spare → IsNoted old new kept → HasRoom kept → IsNotable (kept_row kept)
+    → All IsRoom left.items → length (keep_last 63 old.items) + vec_len left ≡ 63 → IsWindow new left
+window-noted old new kept spare left is e room notable left_room count =
+    let items : new.items ≡ keep_last 63 old.items ++ kept ∷ [] = ap (λ (b : Buffer Kept). b.items) e in
+    let rows : map kept_row new.items ≡ drop (length (map kept_row old.items) - 63) (map kept_row old.items) ++ kept_row kept ∷ [] = ap (λ (l : List Kept). map kept_row l) items ∙ rows-noted old.items kept in
+    let sum = length-append (keep_last 63 old.items) (kept ∷ []) in
+    let size : length new.items ≡ length (keep_last 63 old.items ++ kept ∷ []) = ap (λ (l : List Kept). length l) items in
+    record {
+      capacity = ap (λ (b : Buffer Kept). b.capacity) e;
+      count = omega arith;
+      room = subst (λ (l : List Kept). All HasRoom l) (sym items) (all-one HasRoom (keep_last 63 old.items) kept (All-drop HasRoom (length old.items - 63) old.items is.room) room);
+      spare_room = left_room;
+      notable = subst (λ (l : List ClockRow). All IsNotable l) (sym rows)
+          (all-one IsNotable (drop (length (map kept_row old.items) - 63) (map kept_row old.items)) (kept_row kept) (All-drop IsNotable (length (map kept_row old.items) - 63) (map kept_row old.items) is.notable) notable);
+    }
+
+-- it stands for the packets so far and this one
+pub stands-noted : (old new : Buffer Kept) (kept : Kept) (rows : List ClockRow) (row : ClockRow) → IsNoted old new kept → kept_row kept ≡ row → row.usable ≡ true → map kept_row old.items ≡ window rows
+    → map kept_row new.items ≡ window (rows ++ row ∷ [])
+stands-noted old new kept rows row e same usable stands =
+    let items : new.items ≡ keep_last 63 old.items ++ kept ∷ [] = ap (λ (b : Buffer Kept). b.items) e in
+    ap (λ (l : List Kept). map kept_row l) items ∙ rows-noted old.items kept
+    ∙ ap (λ (r : ClockRow). drop (length (map kept_row old.items) - 63) (map kept_row old.items) ++ r ∷ []) same
+    ∙ window-more (map kept_row old.items) rows row stands usable

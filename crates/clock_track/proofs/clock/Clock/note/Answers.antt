@@ -1,0 +1,24 @@
+-- The packet is put behind those that are kept, in the room of the oldest of 64.
+use Rattle.std.proofs.Common.{[], ◌∷◌, ◌+◌, ◌++◌, ap, sym, ◌∙◌, subst, length, vec_len}
+use Rattle.circular_buffer.specs.Buffer.{Buffer, buffer}
+use Rattle.clock_track.specs.declared.clock.Kept.{Kept}
+use Rattle.clock_track.specs.Limits.{IsNotable}
+use Rattle.clock_track.specs.Views.{row_of}
+use Rattle.clock_track.specs.Window.{ClockState}
+use Rattle.clock_track.proofs.Noted.{stands-noted, window-noted}
+use Rattle.clock_track.proofs.clock.Clock.note.Goals as goal
+
+pub invariant_of-self : goal.invariant_of-self
+invariant_of-self c = (
+  window-noted c.self.inside.rows c.put_behind.new.rows c.in_room.result c.self.inside.spare c.take_room-room.new.spare c.self.invariant.0
+      (c.put_behind.ensures ∙ ap (λ (b : Buffer Kept). buffer (b.items ++ c.in_room.result ∷ []) 64) c.take_room-room.ensures.rows)
+      c.in_room.ensures.room (subst IsNotable (sym c.in_room.ensures.row) c.requires) c.take_room-room.ensures.spare
+      (ap (λ (b : Buffer Kept). length b.items + vec_len c.take_room-room.new.spare) (sym c.take_room-room.ensures.rows) ∙ c.take_room-room.ensures.count),
+  c.self.invariant.1,
+)
+
+pub returns-then-points-clause-noted : goal.returns-then-points-clause-noted
+returns-then-points-clause-noted c rows stands =
+    stands-noted c.self.inside.rows c.put_behind.new.rows c.in_room.result rows (row_of c.args.points.now)
+    (c.put_behind.ensures ∙ ap (λ (b : Buffer Kept). buffer (b.items ++ c.in_room.result ∷ []) 64) c.take_room-room.ensures.rows)
+    c.in_room.ensures.row c.if-points.true (ap (λ (s : ClockState). s.rows) c.self.view_is ∙ stands)

@@ -1,0 +1,14 @@
+use Rattle.std.proofs.Common.{◌≡◌, ◌≤◌, length, drop}
+use Rattle.clock_track.specs.Rows.{used}
+use Rattle.clock_track.proofs.over.recent.Given as goal
+
+-- so many of the last rows give points
+abbrev pub invariant-loop-start : goal.invariant-loop-start
+invariant-loop-start l = record {
+  within : l.start ≤ length l.rows;
+  found : length (used (drop l.start l.rows)) ≡ l.found;
+  few : l.found ≤ 64;
+}
+
+abbrev pub decreases-loop-start : goal.decreases-loop-start
+decreases-loop-start l = l.start

@@ -1,0 +1,30 @@
+-- The last of what is left decides, or is left out of the search.
+use Rattle.std.proofs.Common.{ap, sym, ◌∙◌, List, arith}
+use Rattle.std.specs.List.{flat_map}
+use Rattle.time_unfold.specs.Stamps.{find_last}
+use Rattle.clock_track.specs.declared.clock_row.ClockRow.{ClockRow}
+use Rattle.clock_track.specs.Rows.{pairs_at, used}
+use Rattle.clock_track.specs.Search.{test_of}
+use Rattle.clock_track.proofs.Lists.{all-taken, go_on, pairs-found, stop}
+use Rattle.clock_track.proofs.search.latest.Goals as goal
+
+pub loop-left-init : goal.loop-left-init
+loop-left-init g c = record {
+  within = omega arith;
+  same = ap (λ (l : List ClockRow). find_last (test_of c.args.query.now) (flat_map (pairs_at c.args.query.now.shift (used (g.R.Rows.rows c.args.rows.now))) (used l)))
+      (all-taken (g.R.Rows.rows c.args.rows.now) c.count-left.result c.count-left.ensures);
+}
+
+pub returns-then-is_some-clause-value : goal.returns-then-is_some-clause-value
+returns-then-is_some-clause-value g c =
+    stop c.latest_at-pair.result _ _ (sym c.is_some.ensures ∙ c.if-is_some.true)
+    (pairs-found (pairs_at c.args.query.now.shift (used (g.R.Rows.rows c.args.rows.now))) (test_of c.args.query.now) (g.R.Rows.rows c.args.rows.now) c.loop-left.left
+    c.latest_at-pair.result _ (omega arith) c.loop-left.invariant.within c.latest_at-pair.ensures.value c.loop-left.invariant.same)
+
+pub loop-left-preserved : goal.loop-left-preserved
+loop-left-preserved g c = record {
+  within = let h = c.loop-left.invariant.within in omega arith;
+  same = go_on c.latest_at-pair.result _ _ (sym c.is_some.ensures ∙ c.if-is_some.false)
+      (pairs-found (pairs_at c.args.query.now.shift (used (g.R.Rows.rows c.args.rows.now))) (test_of c.args.query.now) (g.R.Rows.rows c.args.rows.now) c.loop-left.left
+      c.latest_at-pair.result _ (omega arith) c.loop-left.invariant.within c.latest_at-pair.ensures.value c.loop-left.invariant.same);
+}

@@ -1,0 +1,17 @@
+use Rattle.std.proofs.Common.{◌≡◌, ◌≤◌, length, take}
+use Rattle.std.specs.List.{flat_map}
+use Rattle.time_unfold.specs.Stamps.{find_last}
+use Rattle.clock_track.specs.Rows.{pairs_at, used}
+use Rattle.clock_track.specs.Search.{test_of}
+use Rattle.clock_track.proofs.search.latest.Given as goal
+
+-- what is left holds the pair that is looked for
+abbrev pub invariant-loop-left : goal.invariant-loop-left
+invariant-loop-left g l = record {
+  within : l.left ≤ length (g.R.Rows.rows l.rows);
+  same : find_last (test_of l.query) (flat_map (pairs_at l.query.shift (used (g.R.Rows.rows l.rows))) (used (take l.left (g.R.Rows.rows l.rows))))
+      ≡ find_last (test_of l.query) (flat_map (pairs_at l.query.shift (used (g.R.Rows.rows l.rows))) (used (g.R.Rows.rows l.rows)));
+}
+
+abbrev pub decreases-loop-left : goal.decreases-loop-left
+decreases-loop-left g l = l.left

@@ -1,0 +1,7 @@
+pub mod Pairs
+pub mod Rows
+pub mod Limits
+pub mod Search
+pub mod Views
+pub mod Window
+pub mod Examples

@@ -1,0 +1,101 @@
+-- Two points of a media clock: reference timestamps of every so many events of a nominal frequency (IEEE 1722-2016, 10),
+-- and the line of events behind them. What is said of whole numbers here is said of fractions, multiplied out.
+use Rattle.std.specs.Prelude.{◌≡◌, ℕ, ◌*◌, ◌==◌, ◌≤◌, nat_le, if◌then◌else◌, Bool, false, ℤ, pos, negsuc, ◌+ℤ◌, ◌-ℤ◌, ◌*ℤ◌, ◌≤ℤ◌, ◌<ℤ◌, int_le, int_lt}
+use Rattle.clock_track.specs.declared.pair.Pair.{Pair}
+use Rattle.time_unfold.specs.declared.line.Line.{Line}
+use Rattle.time_unfold.specs.Lines.{floor_of}
+
+-- ---- the frequency
+
+-- The multiplier of the base frequency that a code of pull stands for, above and below the line.
+abbrev pub pull_up : ℕ → ℕ
+pull_up pull =
+    if pull == 1 then 1000 else
+    if pull == 2 then 1001 else
+    if pull == 3 then 24 else
+    if pull == 4 then 25 else 1
+
+abbrev pub pull_down : ℕ → ℕ
+pull_down pull =
+    if pull == 1 then 1001 else
+    if pull == 2 then 1000 else
+    if pull == 3 then 25 else
+    if pull == 4 then 24 else
+    if pull == 5 then 8 else 1
+
+-- ---- two points
+
+-- a number that is not below 0, and 0 for any other
+abbrev pub at_least_0 : ℤ → ℕ
+at_least_0 (pos n) = n
+at_least_0 (negsuc n) = 0
+
+-- the time from one point to the other; 0 where the other isn't later
+abbrev pub period : Pair → ℕ
+period p = at_least_0 (p.later -ℤ p.earlier)
+
+-- The nominal time of the interval is nominal p / up nanoseconds.
+abbrev pub nominal : Pair → ℕ
+nominal p = p.interval * 1000000000 * p.down
+
+-- the points are within 1/8 of the nominal time of the interval apart
+pub record IsJoined (p : Pair) : Type 0 where
+  pub least : 7 * nominal p ≤ 8 * (period p * p.up)
+  pub most : 8 * (period p * p.up) ≤ 9 * nominal p
+
+-- the points are at least 3/4 of the nominal time of the interval apart
+abbrev pub IsSpaced : Pair → Type 0
+IsSpaced p = 3 * nominal p ≤ 4 * (period p * p.up)
+
+-- ---- the samples of a stream by a pair
+
+-- A sample each step_num p / step_den p rate nanoseconds.
+abbrev pub step_num : Pair → ℕ
+step_num p = period p * p.up
+
+abbrev pub step_den : Pair → ℕ → ℕ
+step_den p rate = p.interval * rate * p.down
+
+-- How far an instant lies behind half a sample before the later point, in nanoseconds, times 2 * step_den p rate.
+abbrev pub reach : Pair → ℕ → ℤ → ℤ
+reach p rate instant = (instant -ℤ p.later) *ℤ pos (2 * step_den p rate) +ℤ pos (step_num p)
+
+-- A pair covers the instants from half a sample before its later point to half a sample before one more period.
+pub record Covers (p : Pair) (rate : ℕ) (instant : ℤ) : Type 0 where
+  pub from : pos 0 ≤ℤ reach p rate instant
+  pub to : reach p rate instant <ℤ pos (2 * (period p * step_den p rate))
+
+-- the clock's frequency is the stream's rate
+abbrev pub IsOfRate : Pair → ℕ → Type 0
+IsOfRate p rate = p.up ≡ rate * p.down
+
+-- a sample's line, and its number on it
+pub record Spot : Type 0 where
+  pub line : Line
+  pub from : ℤ
+
+-- the line of the clock's events, from the later point on
+abbrev pub event_line : Pair → Line
+event_line p = record { base = p.later; num = period p; den = p.interval }
+
+-- the number of the event of that line that is nearest to an instant
+abbrev pub nearest_event : Pair → ℤ → ℤ
+nearest_event p instant = floor_of ((instant -ℤ p.later) *ℤ pos (2 * p.interval) +ℤ pos (period p)) (2 * period p)
+
+-- Where a sample that is stamped with an instant stands by a pair: where the clock's frequency is the stream's rate it is
+-- the nearest event; else samples are counted from the instant, in the pair's spacing.
+abbrev pub spot_by : Pair → ℕ → ℤ → Spot
+spot_by p rate instant =
+    if p.up == rate * p.down
+    then record { line = event_line p; from = nearest_event p instant }
+    else record { line = record { base = instant; num = step_num p; den = step_den p rate }; from = pos 0 }
+
+-- ---- the same as tests
+
+abbrev pub is_joined : Pair → Bool
+is_joined p =
+    if nat_le (7 * nominal p) (8 * step_num p) then nat_le (8 * step_num p) (9 * nominal p) else false
+
+abbrev pub covers : Pair → ℕ → ℤ → Bool
+covers p rate instant =
+    if int_le (pos 0) (reach p rate instant) then int_lt (reach p rate instant) (pos (2 * (period p * step_den p rate))) else false

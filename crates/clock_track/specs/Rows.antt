@@ -1,0 +1,95 @@
+-- The packets of a media clock, and the pairs of their timestamps that are joined (IEEE 1722-2016, 10).
+use Rattle.std.specs.Prelude.{◌≡◌, ◌∷◌, All, ℕ, ◌+◌, ◌-◌, ◌*◌, ◌/◌, ◌%◌, ◌^◌, ◌==◌, nat_lt, if◌then◌else◌, Bool, false, ℤ, pos, ◌+ℤ◌, List, ◌++◌, length, filter, Option, Some, None, option_map}
+use Rattle.std.specs.List.{filter_map, flat_map, range_with_len}
+use Rattle.avtp_base.specs.Octets.{bits}
+use Rattle.time_unfold.specs.Stamps.{find_last, last_of, same_flag}
+use Rattle.clock_track.specs.declared.clock_row.ClockRow.{ClockRow}
+use Rattle.clock_track.specs.declared.pair.Pair.{Pair}
+use Rattle.clock_track.specs.Pairs.{Covers, Spot, covers, is_joined, pull_down, pull_up, spot_by}
+
+-- ---- the timestamps of a packet
+
+-- how many there are
+abbrev pub timestamps : ClockRow → ℕ
+timestamps row = length row.payload / 8
+
+abbrev pub timestamp : ClockRow → ℕ → ℕ
+timestamp row i = bits (8 * i) 0 64 row.payload
+
+-- ---- two timestamps beside each other
+
+-- a packet's clock, with two of its timestamps, to which a listener adds what it is told to
+abbrev pub pair_of : ℤ → ClockRow → ℕ → ℕ → Pair
+pair_of shift row first second = record {
+  earlier = pos first +ℤ shift;
+  later = pos second +ℤ shift;
+  interval = row.interval;
+  up = row.base_frequency * pull_up row.pull;
+  down = pull_down row.pull;
+}
+
+-- They are points where they are below 2^62, and a pair where they are joined.
+abbrev pub joined_by : ℤ → ClockRow → ℕ → ℕ → Option Pair
+joined_by shift row first second =
+    if nat_lt first (2 ^ 62) then
+    if nat_lt second (2 ^ 62) then
+    if is_joined (pair_of shift row first second) then Some (pair_of shift row first second) else None else None else None
+
+-- in one packet, behind i others
+abbrev pub inside : ℤ → ClockRow → ℕ → Option Pair
+inside shift row i = joined_by shift row (timestamp row i) (timestamp row (i + 1))
+
+-- a packet has the next number, and the clock neither restarted nor changed
+abbrev pub seems_next : ClockRow → ClockRow → Bool
+seems_next row before =
+    if row.seq == (before.seq + 1) % 256 then
+    if same_flag row.mr before.mr then
+    if row.base_frequency == before.base_frequency then
+    if row.pull == before.pull then row.interval == before.interval else false else false else false else false
+
+-- the last of a packet and the first of the next
+abbrev pub across : ℤ → ClockRow → ClockRow → Option Pair
+across shift row before =
+    if seems_next row before then
+    if nat_lt 0 (timestamps before) then
+    if nat_lt 0 (timestamps row) then joined_by shift row (timestamp before (timestamps before - 1)) (timestamp row 0)
+    else None else None else None
+
+-- ---- all pairs
+
+-- those whose later point a packet has, in the order of the later points, and for one in the order of the earlier
+abbrev pub pairs_at : ℤ → List ClockRow → ClockRow → List Pair
+pairs_at shift rows row =
+    filter_map (across shift row) rows ++ filter_map (inside shift row) (range_with_len 0 (timestamps row - 1))
+
+abbrev pub joined_pairs : ℤ → List ClockRow → List Pair
+joined_pairs shift rows = flat_map (pairs_at shift rows) rows
+
+-- ---- the line of an instant
+
+abbrev pub used : List ClockRow → List ClockRow
+used rows = filter (λ row. row.usable) rows
+
+-- the last 64 packets that give points
+abbrev pub window : List ClockRow → List ClockRow
+window rows = last_of 64 (used rows)
+
+-- the last joined pair that covers an instant
+abbrev pub latest : ℤ → ℤ → ℕ → List ClockRow → Option Pair
+latest shift instant rate rows = find_last (λ pair. covers pair rate instant) (joined_pairs shift rows)
+
+-- The same without a search: a pair of a list that covers the instant, and behind it none does; or none does at all.
+pub record IsLastCovering (rate : ℕ) (instant : ℤ) (pairs : List Pair) (pair : Pair) : Type 0 where
+  pub before : List Pair
+  pub behind : List Pair
+  pub place : pairs ≡ before ++ pair ∷ behind
+  pub covers : Covers pair rate instant
+  pub none_behind : All (λ other. ¬ Covers other rate instant) behind
+
+abbrev pub IsLatest : ℕ → ℤ → List Pair → Option Pair → Type 0
+IsLatest rate instant pairs None = All (λ pair. ¬ Covers pair rate instant) pairs
+IsLatest rate instant pairs (Some pair) = IsLastCovering rate instant pairs pair
+
+-- Where a sample that is stamped with an instant stands by a clock's packets so far; none where no pair covers it.
+abbrev pub clock_spot : List ClockRow → ℤ → ℤ → ℕ → Option Spot
+clock_spot rows shift instant rate = option_map (λ pair. spot_by pair rate instant) (latest shift instant rate (window rows))

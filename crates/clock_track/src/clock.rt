@@ -1,0 +1,193 @@
+//! A media clock that keeps its last packets.
+
+ghost use Rattle.std.specs.Prelude.{◌≡◌, ◌<◌, ◌≤◌, ◌+◌, ◌++◌, ◌∷◌, [], All, IfOk, IfSome, List, length, map, vec_capacity, vec_len};
+ghost use Rattle.circular_buffer.specs.Buffer.{buffer, keep_last};
+ghost use Rattle.clock_track.specs.declared.clock_row.ClockRow.{ClockRow as ClockRowValue};
+ghost use Rattle.clock_track.specs.Limits.{IsClockLine, IsNotable, IsShift};
+ghost use Rattle.clock_track.specs.Rows.{clock_spot};
+ghost use Rattle.clock_track.specs.Views.{answered, row_of};
+ghost use Rattle.clock_track.specs.Window.{HasRoom, IsRoom, StandsFor, kept_row};
+
+use crate::answer::ClockAnswer;
+use crate::clock_row::Points;
+use crate::over::{WINDOW, line_among};
+use crate::search::{Query, Rows};
+use avtp_base::NoMemory;
+use circular_buffer::HeapCircularBuffer;
+use std::alloc::Global;
+use std::marker::Model;
+
+/// The bytes of the most timestamps that a packet has.
+const ROOM: usize = 65_528;
+
+/// What is kept of a packet, in memory that is used again.
+#[derive(Drop)]
+struct Kept {
+    usable: bool,
+    seq: u8,
+    mr: bool,
+    base_frequency: u32,
+    pull: u8,
+    interval: u16,
+    payload: Vec<u8>,
+}
+
+impl Kept {
+    /// The packet, with its timestamps in the room that is given. Takes no memory.
+    fn in_room(mut room: Vec<u8>, points: &Points<'_>) -> Self
+        requires room { 65528 ≤ vec_capacity room }
+        requires size { length points.now.payload.now ≤ 65528 }
+        ensures row { kept_row result ≡ row_of points.now }
+        ensures room { HasRoom result }
+    {
+        room.clear();
+        let Ok(()) = room.extend_from_slice(points.payload) else {
+            unreachable!()
+        };
+        Kept {
+            usable: points.usable,
+            seq: points.seq,
+            mr: points.mr,
+            base_frequency: points.base_frequency,
+            pull: points.pull,
+            interval: points.interval,
+            payload: room,
+        }
+    }
+
+    fn points(&self) -> Points<'_>
+        ensures { row_of result ≡ kept_row self.now }
+    {
+        Points {
+            usable: self.usable,
+            seq: self.seq,
+            mr: self.mr,
+            base_frequency: self.base_frequency,
+            pull: self.pull,
+            interval: self.interval,
+            payload: self.payload.as_slice(),
+        }
+    }
+}
+
+/// The packets in a ring.
+#[derive(Clone, Copy)]
+struct Ring<'a> {
+    rows: &'a HeapCircularBuffer<Kept>,
+}
+
+impl Rows for Ring<'_> {
+    ghost rows = { λ ring. map kept_row ring.rows.now.items };
+
+    fn count(&self) -> usize {
+        self.rows.len()
+    }
+
+    fn row(&self, place: usize) -> Points<'_> {
+        match self.rows.get(place) {
+            Some(kept) => kept.points(),
+            None => unreachable!(),
+        }
+    }
+}
+
+/// Room for the timestamps of one more packet: some that was never used, or that of the oldest packet, which is dropped.
+fn take_room(rows: &mut HeapCircularBuffer<Kept>, spare: &mut Vec<Vec<u8>>) -> Vec<u8>
+    requires room { All HasRoom rows.old.items }
+    requires spare { All IsRoom spare.old.items }
+    requires count { length rows.old.items + vec_len spare.old ≡ 64 }
+    ensures result { IsRoom result }
+    ensures rows { rows.new ≡ buffer (keep_last 63 rows.old.items) rows.old.capacity }
+    ensures spare { All IsRoom spare.new.items }
+    ensures count { length rows.new.items + vec_len spare.new ≡ 63 }
+{
+    if let Some(room) = spare.pop() {
+        return room;
+    }
+    match rows.pop_front() {
+        Some(oldest) => oldest.payload,
+        None => unreachable!(),
+    }
+}
+
+/// Puts a packet behind those that are kept, of which there are fewer than 64.
+fn put_behind(rows: &mut HeapCircularBuffer<Kept>, kept: Kept)
+    requires capacity { rows.old.capacity ≡ 64 }
+    requires room { length rows.old.items < 64 }
+    ensures { rows.new ≡ buffer (rows.old.items ++ kept ∷ []) 64 }
+{
+    let Ok(()) = rows.try_push_back(kept) else {
+        unreachable!()
+    };
+}
+
+/// A media clock (IEEE 1722-2016, 10), which keeps the last 64 of its packets that give points.
+#[derive(Drop)]
+pub struct Clock {
+    shift: i64,
+    rows: HeapCircularBuffer<Kept>,
+    /// Room for as many packets as are missing.
+    spare: Vec<Vec<u8>>,
+}
+
+impl Model for Clock {
+    ghost use Rattle.std.specs.Prelude.{map};
+    ghost use Rattle.clock_track.specs.Limits.{IsShift};
+    ghost use Rattle.clock_track.specs.Window.{ClockState, IsWindow, kept_row};
+
+    ghost Value = { ClockState };
+
+    ghost view = { λ clock. record { shift = clock.shift; rows = map kept_row clock.rows.items } };
+
+    ghost invariant = { λ clock. IsWindow clock.rows clock.spare × IsShift clock.shift };
+}
+
+impl Clock {
+    /// A clock of no packets. `shift` nanoseconds, at most a second either way, are added to each of its timestamps.
+    pub fn new(alloc: Global, shift: i64) -> Result<Self, NoMemory>
+        requires { IsShift shift }
+        ensures empty { IfOk result (λ clock. StandsFor clock []) }
+        ensures shift { IfOk result (λ clock. clock.shift ≡ shift) }
+    {
+        let rows = HeapCircularBuffer::with_capacity(alloc, WINDOW)?;
+        let mut spare = Vec::with_capacity(alloc, WINDOW)?;
+        for _ in 0..WINDOW {
+            let room = Vec::with_capacity(alloc, ROOM)?;
+            spare.push(room)?;
+        }
+        Ok(Clock { shift, rows, spare })
+    }
+
+    /// Notes a packet of the clock, and drops the oldest of 64. One that gives no points leaves the clock as it is. Of any
+    /// other the timestamps are whole and at most 8,191, the pull is at most 5, the base frequency 1 to 2^29 - 1, and the
+    /// interval at least 1. Takes no memory.
+    pub fn note(&mut self, points: &Points<'_>)
+        requires { IsNotable (row_of points.now) }
+        ensures noted { (rows : List ClockRowValue) → StandsFor self.old rows → StandsFor self.new (rows ++ row_of points.now ∷ []) }
+        ensures shift { self.new.shift ≡ self.old.shift }
+    {
+        if points.usable {
+            let room = take_room(&mut self.rows, &mut self.spare);
+            put_behind(&mut self.rows, Kept::in_room(room, points));
+        }
+    }
+
+    /// Where a sample that is stamped with an instant, in nanoseconds of gPTP, stands by the clock, for a stream of a rate in
+    /// Hz: what `line_over` answers for all packets that were noted. `NoClock` comes exactly where no pair covers the
+    /// instant. The rate is at least 1. Takes no memory.
+    pub fn line_for(&self, instant: i64, rate: u32) -> ClockAnswer
+        requires { 1 ≤ rate }
+        ensures value { (rows : List ClockRowValue) → StandsFor self.now rows → answered result ≡ clock_spot rows self.now.shift instant rate }
+        ensures line { IfSome (answered result) (IsClockLine rate instant) }
+    {
+        let ring = Ring { rows: &self.rows };
+        line_among(
+            &ring,
+            &Query {
+                shift: self.shift,
+                instant,
+                rate,
+            },
+        )
+    }
+}

@@ -1,0 +1,96 @@
+//! The line of an instant, from a list of clock packets.
+
+ghost use Rattle.std.specs.Prelude.{◌≡◌, ◌≤◌, All, IfSome, option_map};
+ghost use Rattle.clock_track.specs.Limits.{IsClockLine, IsNotable, IsShift};
+ghost use Rattle.clock_track.specs.Pairs.{spot_by};
+ghost use Rattle.clock_track.specs.Rows.{clock_spot, latest as latest_of, used, window};
+ghost use Rattle.clock_track.specs.Views.{answered};
+
+use crate::answer::ClockAnswer;
+use crate::clock_row::{ClockRow, Points};
+use crate::search::{Query, Rows, latest};
+
+/// How many packets that give points are looked at.
+pub const WINDOW: usize = 64;
+
+/// The packets of a slice.
+#[derive(Clone, Copy)]
+struct Listed<'a> {
+    rows: &'a [ClockRow],
+}
+
+impl Rows for Listed<'_> {
+    ghost rows = { λ listed. listed.rows.now };
+
+    fn count(&self) -> usize {
+        self.rows.len()
+    }
+
+    fn row(&self, place: usize) -> Points<'_> {
+        self.rows[place].points()
+    }
+}
+
+/// The rows from the first of the last 64 that give points on.
+fn recent(rows: &[ClockRow]) -> &[ClockRow]
+    requires { All IsNotable rows.now }
+    ensures window { used result.now ≡ window rows.now }
+    ensures notable { All IsNotable result.now }
+{
+    let mut start = rows.len();
+    let mut found = 0;
+    while start > 0 && found < WINDOW {
+        start -= 1;
+        if rows[start].usable {
+            found += 1;
+        }
+    }
+    &rows[start..]
+}
+
+/// The line of an instant by the packets that are kept, whatever keeps them.
+pub fn line_among<R: Rows>(rows: &R, query: &Query) -> ClockAnswer
+    requires rows { All IsNotable (R.rows rows.now) }
+    requires shift { IsShift query.now.shift }
+    requires rate { 1 ≤ query.now.rate }
+    ensures value { answered result ≡ option_map (λ pair. spot_by pair query.now.rate query.now.instant) (latest_of query.now.shift query.now.instant query.now.rate (used (R.rows rows.now))) }
+    ensures line { IfSome (answered result) (IsClockLine query.now.rate query.now.instant) }
+{
+    match latest(rows, query) {
+        Some(pair) => pair.answer(query.rate, query.instant),
+        None => ClockAnswer::NoClock,
+    }
+}
+
+/// Where a sample that is stamped with an instant, in nanoseconds of gPTP, stands by a media clock, for a stream of a rate
+/// in Hz (IEEE 1722-2016, 10). The clock is that of the last 64 rows that give points; `shift` nanoseconds, at most a
+/// second either way, are added to each of its timestamps.
+///
+/// Two timestamps below 2^62 are a pair where they are beside each other in a packet, or are the last of one packet and the
+/// first of another that has the next number with the same restart bit, frequency and interval; and where they are within
+/// 1/8 of the nominal time of the interval apart. A pair covers the instants from half a sample before its later point to
+/// half a sample before one more period. The last pair that covers the instant counts: the one whose later point stands
+/// last, and for one such point the one whose earlier stands last. `NoClock` comes exactly where there is none.
+///
+/// Where the clock's frequency is the rate, the sample is the nearest event of the clock, on the line of its events; else
+/// samples are counted from the instant, in the pair's spacing.
+///
+/// A row that gives points has whole timestamps, at most 8,191 of them, a pull of at most 5, a base frequency of 1 to
+/// 2^29 - 1 and an interval of at least 1. The rate is at least 1.
+pub fn line_over(rows: &[ClockRow], shift: i64, instant: i64, rate: u32) -> ClockAnswer
+    requires rows { All IsNotable rows.now }
+    requires shift { IsShift shift }
+    requires rate { 1 ≤ rate }
+    ensures value { answered result ≡ clock_spot rows.now shift instant rate }
+    ensures line { IfSome (answered result) (IsClockLine rate instant) }
+{
+    let listed = Listed { rows: recent(rows) };
+    line_among(
+        &listed,
+        &Query {
+            shift,
+            instant,
+            rate,
+        },
+    )
+}

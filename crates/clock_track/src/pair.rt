@@ -1,0 +1,157 @@
+//! Two points of a clock, and the line behind them.
+
+ghost use Rattle.std.specs.Prelude.{Some, ◌≡◌, ◌≤◌, ◌<◌, ◌*◌, ◌^◌, pos, ◌-ℤ◌, ◌*ℤ◌, ◌+ℤ◌, IsTrue};
+ghost use Rattle.clock_track.specs.Limits.{IsSmall};
+ghost use Rattle.clock_track.specs.Pairs.{Covers, IsJoined, covers as covers_of, is_joined as is_joined_of, nominal as nominal_of, period as period_of, nearest_event as nearest_event_of, spot_by, step_den, step_num as step_num_of};
+ghost use Rattle.clock_track.specs.Search.{IsAfter, IsCovering};
+ghost use Rattle.clock_track.specs.Views.{answered};
+
+use crate::answer::ClockAnswer;
+use time_unfold::Line;
+
+const NANOSECONDS: u64 = 1_000_000_000;
+
+/// Two timestamps beside each other, in nanoseconds of gPTP, `interval` events apart, of a clock of `up / down` events a
+/// second (IEEE 1722-2016, 10).
+#[derive(Clone, Copy, Debug, PartialEq, Eq)]
+pub struct Pair {
+    pub earlier: i64,
+    pub later: i64,
+    pub interval: u16,
+    pub up: u64,
+    pub down: u64,
+}
+
+/// `(instant - later) * 2 * den + num`.
+fn scaled(instant: i64, later: i64, num: u64, den: u64) -> i128
+    requires num { num < 2 ^ 60 }
+    requires den { den < 2 ^ 60 }
+    ensures { result ≡ (instant -ℤ later) *ℤ pos (2 * den) +ℤ pos num }
+{
+    (i128::from(instant) - i128::from(later)) * i128::from(2 * den) + i128::from(num)
+}
+
+/// `2 * period * den`.
+fn doubled(period: u64, den: u64) -> i128
+    requires period { period < 2 ^ 60 }
+    requires den { den < 2 ^ 60 }
+    ensures { result ≡ pos (2 * (period * den)) }
+{
+    2 * i128::from(period) * i128::from(den)
+}
+
+impl Pair {
+    /// The time from one point to the other; 0 where the second isn't later.
+    fn period(&self) -> u64
+        requires { IsSmall self.now }
+        ensures { result ≡ period_of self.now }
+    {
+        if self.later > self.earlier {
+            (self.later - self.earlier) as u64
+        } else {
+            0
+        }
+    }
+
+    /// The nominal time of the interval, times `up`.
+    fn nominal(&self) -> u64
+        requires { IsSmall self.now }
+        ensures value { result ≡ nominal_of self.now }
+        ensures within { result < 2 ^ 56 }
+    {
+        u64::from(self.interval) * NANOSECONDS * self.down
+    }
+
+    /// Whether the points are within 1/8 of the nominal time of the interval apart.
+    #[tactic(auto, using(crate::proofs::Pairs::joins))]
+    pub fn is_joined(&self) -> bool
+        requires { IsSmall self.now }
+        ensures value { result ≡ is_joined_of self.now }
+        ensures joined { IsTrue result → IsJoined self.now }
+    {
+        let spacing = 8 * u128::from(self.period()) * u128::from(self.up);
+        let nominal = u128::from(self.nominal());
+        7 * nominal <= spacing && spacing <= 9 * nominal
+    }
+
+    fn step_num(&self) -> u64
+        requires small { IsSmall self.now }
+        requires joined { IsJoined self.now }
+        ensures value { result ≡ step_num_of self.now }
+        ensures within { result < 2 ^ 57 }
+    {
+        self.period() * self.up
+    }
+
+    fn step_den(&self, rate: u32) -> u64
+        requires { IsSmall self.now }
+        ensures value { result ≡ step_den self.now rate }
+        ensures within { result < 2 ^ 58 }
+    {
+        u64::from(self.interval) * u64::from(rate) * self.down
+    }
+
+    /// Whether the pair covers an instant, for a stream of this rate: from half a sample before its later point to half a
+    /// sample before one more period.
+    #[tactic(auto, using(crate::proofs::Pairs::covers_so))]
+    pub fn covers(&self, rate: u32, instant: i64) -> bool
+        requires small { IsSmall self.now }
+        requires joined { IsJoined self.now }
+        ensures value { result ≡ covers_of self.now rate instant }
+        ensures covers { IsTrue result → Covers self.now rate instant }
+    {
+        let den = self.step_den(rate);
+        let reach = scaled(instant, self.later, self.step_num(), den);
+        0 <= reach && reach < doubled(self.period(), den)
+    }
+
+    /// Whether an instant lies before all that the later point covers in a stream of this rate, whatever the earlier point.
+    pub fn is_after(&self, rate: u32, instant: i64) -> bool
+        requires { IsSmall self.now }
+        ensures { IsTrue result → IsAfter self.now rate instant }
+    {
+        scaled(instant, self.later, 2 * self.nominal(), self.step_den(rate)) < 0
+    }
+
+    /// The number of the event nearest to an instant, from the later point on, where the clock's frequency is the stream's
+    /// rate.
+    fn nearest_event(&self, rate: u32, instant: i64) -> u64
+        requires rate { 1 ≤ rate }
+        requires covering { IsCovering rate instant self.now }
+        requires own { self.now.up ≡ rate * self.now.down }
+        ensures { pos result ≡ nearest_event_of self.now instant }
+    {
+        let period = self.period();
+        let behind = scaled(instant, self.later, period, u64::from(self.interval));
+        behind.div_euclid(i128::from(2 * period)) as u64
+    }
+
+    /// Where a sample stands that is stamped with an instant which the pair covers, in a stream of this rate. Where the
+    /// clock's frequency is the rate, it is the nearest event; else samples are counted from the instant, in the pair's
+    /// spacing.
+    pub fn answer(&self, rate: u32, instant: i64) -> ClockAnswer
+        requires rate { 1 ≤ rate }
+        requires covering { IsCovering rate instant self.now }
+        ensures { answered result ≡ Some (spot_by self.now rate instant) }
+    {
+        if self.up == u64::from(rate) * self.down {
+            ClockAnswer::OnLine {
+                line: Line {
+                    base: self.later,
+                    num: self.period(),
+                    den: u64::from(self.interval),
+                },
+                offset: self.nearest_event(rate, instant),
+            }
+        } else {
+            ClockAnswer::OnLine {
+                line: Line {
+                    base: instant,
+                    num: self.step_num(),
+                    den: self.step_den(rate),
+                },
+                offset: 0,
+            }
+        }
+    }
+}

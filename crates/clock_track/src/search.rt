@@ -1,0 +1,254 @@
+//! The search for the pair of points that covers an instant.
+
+ghost use Rattle.std.specs.Prelude.{IsTrue, None, if◌then◌else◌, ◌≡◌, ◌<◌, ◌≤◌, ◌+◌, ◌-◌, ◌*◌, ◌/◌, ◌^◌, ℕ, All, IfSome, List, Some, filter, length, slice_get, true};
+ghost use Rattle.std.specs.List.{filter_map, range_with_len};
+ghost use Rattle.time_unfold.specs.Stamps.{find_last};
+ghost use Rattle.clock_track.specs.declared.clock_row.ClockRow.{ClockRow as ClockRowValue};
+ghost use Rattle.clock_track.specs.Limits.{IsNotable, IsRow, IsShift, IsSmall};
+ghost use Rattle.clock_track.specs.Pairs.{IsJoined, pull_down as pull_down_of, pull_up as pull_up_of};
+ghost use Rattle.clock_track.specs.Rows.{across as across_rows, inside as inside_row, joined_by, latest as latest_of, pair_of as pair_of_rows, pairs_at, seems_next as seems_next_of, timestamp as timestamp_of, timestamps as timestamps_of, used};
+ghost use Rattle.clock_track.specs.Search.{IsCovering, kept, test_of};
+ghost use Rattle.clock_track.specs.Views.{row_of};
+
+use crate::clock_row::Points;
+use crate::pair::Pair;
+use avtp_base::octets::u64_at;
+
+/// Timestamps from here on are no points.
+const POINTS_END: u64 = 1 << 62;
+
+/// What a pair is looked for: the instant that it covers, for a stream of this rate in Hz; and what is added to the
+/// clock's timestamps.
+#[derive(Clone, Copy)]
+pub struct Query {
+    pub shift: i64,
+    pub instant: i64,
+    pub rate: u32,
+}
+
+/// The packets of a clock by their places, the oldest first.
+pub trait Rows {
+    ghost rows: { Self → List ClockRowValue };
+
+    fn count(&self) -> usize
+        ensures { result ≡ length (rows self.now) };
+
+    fn row(&self, place: usize) -> Points<'_>
+        requires { place < length (rows self.now) }
+        ensures { slice_get (rows self.now) place ≡ Some (row_of result) };
+}
+
+fn pull_up(pull: u8) -> u64
+    ensures value { result ≡ pull_up_of pull }
+    ensures some { 1 ≤ result }
+    ensures most { result ≤ 1001 }
+{
+    match pull {
+        1 => 1000,
+        2 => 1001,
+        3 => 24,
+        4 => 25,
+        _ => 1,
+    }
+}
+
+fn pull_down(pull: u8) -> u64
+    ensures value { result ≡ pull_down_of pull }
+    ensures some { 1 ≤ result }
+    ensures most { result ≤ 1001 }
+{
+    match pull {
+        1 => 1001,
+        2 => 1000,
+        3 => 25,
+        4 => 24,
+        5 => 8,
+        _ => 1,
+    }
+}
+
+fn timestamps(row: &Points<'_>) -> usize
+    ensures { result ≡ timestamps_of (row_of row.now) }
+{
+    row.payload.len() / 8
+}
+
+fn timestamp(row: &Points<'_>, i: usize) -> u64
+    requires { i < timestamps_of (row_of row.now) }
+    ensures { result ≡ timestamp_of (row_of row.now) i }
+{
+    u64_at(row.payload, 8 * i)
+}
+
+fn pair_of(row: &Points<'_>, shift: i64, first: u64, second: u64) -> Pair
+    requires row { IsRow (row_of row.now) }
+    requires shift { IsShift shift }
+    requires first { first < 2 ^ 62 }
+    requires second { second < 2 ^ 62 }
+    ensures value { result ≡ pair_of_rows shift (row_of row.now) first second }
+    ensures small { IsSmall result }
+{
+    Pair {
+        earlier: first as i64 + shift,
+        later: second as i64 + shift,
+        interval: row.interval,
+        up: u64::from(row.base_frequency) * pull_up(row.pull),
+        down: pull_down(row.pull),
+    }
+}
+
+/// The pair of two timestamps, where both are points, they are joined, and they cover the instant.
+fn covering(row: &Points<'_>, query: &Query, first: u64, second: u64) -> Option<Pair>
+    requires row { IsRow (row_of row.now) }
+    requires shift { IsShift query.now.shift }
+    ensures value { result ≡ kept (test_of query.now) (joined_by query.now.shift (row_of row.now) first second) }
+    ensures covering { IfSome result (IsCovering query.now.rate query.now.instant) }
+{
+    if first >= POINTS_END || second >= POINTS_END {
+        return None;
+    }
+    let pair = pair_of(row, query.shift, first, second);
+    if !pair.is_joined() {
+        return None;
+    }
+    if pair.covers(query.rate, query.instant) {
+        Some(pair)
+    } else {
+        None
+    }
+}
+
+/// The last pair inside a packet that covers the instant.
+fn latest_inside(row: &Points<'_>, query: &Query) -> Option<Pair>
+    requires row { IsRow (row_of row.now) }
+    requires shift { IsShift query.now.shift }
+    ensures value { result ≡ find_last (test_of query.now) (filter_map (inside_row query.now.shift (row_of row.now)) (range_with_len 0 (timestamps_of (row_of row.now) - 1))) }
+    ensures covering { IfSome result (IsCovering query.now.rate query.now.instant) }
+{
+    let mut left = timestamps(row);
+    while left > 1 {
+        left -= 1;
+        let pair = covering(row, query, timestamp(row, left - 1), timestamp(row, left));
+        if pair.is_some() {
+            return pair;
+        }
+    }
+    None
+}
+
+/// Whether a packet has the number after another's, and the clock neither restarted nor changed.
+fn seems_next(row: &Points<'_>, before: &Points<'_>) -> bool
+    ensures { result ≡ seems_next_of (row_of row.now) (row_of before.now) }
+{
+    row.seq == before.seq.wrapping_add(1)
+        && row.mr == before.mr
+        && row.base_frequency == before.base_frequency
+        && row.pull == before.pull
+        && row.interval == before.interval
+}
+
+/// The pair of the last timestamp of a packet and the first of the next, where it covers the instant.
+fn covering_across(row: &Points<'_>, before: &Points<'_>, query: &Query) -> Option<Pair>
+    requires row { IsRow (row_of row.now) }
+    requires shift { IsShift query.now.shift }
+    ensures value { result ≡ kept (test_of query.now) (across_rows query.now.shift (row_of row.now) (row_of before.now)) }
+    ensures covering { IfSome result (IsCovering query.now.rate query.now.instant) }
+{
+    if !seems_next(row, before) {
+        return None;
+    }
+    let count = timestamps(before);
+    if count == 0 || timestamps(row) == 0 {
+        return None;
+    }
+    covering(row, query, timestamp(before, count - 1), timestamp(row, 0))
+}
+
+/// The same for a packet at a place, where it gives points.
+fn covering_from<R: Rows>(rows: &R, place: usize, row: &Points<'_>, query: &Query) -> Option<Pair>
+    requires place { place < length (R.rows rows.now) }
+    requires row { IsRow (row_of row.now) }
+    requires shift { IsShift query.now.shift }
+    ensures value { (before : ClockRowValue) → slice_get (R.rows rows.now) place ≡ Some before → result ≡ (if before.usable then kept (test_of query.now) (across_rows query.now.shift (row_of row.now) before) else None) }
+    ensures covering { IfSome result (IsCovering query.now.rate query.now.instant) }
+{
+    let before = rows.row(place);
+    if before.usable {
+        covering_across(row, &before, query)
+    } else {
+        None
+    }
+}
+
+/// Whether no pair that ends at the first timestamp of a packet can cover the instant: there is none, it is no point, or
+/// it is too late, whatever the other point.
+fn is_too_late(row: &Points<'_>, query: &Query) -> bool
+    requires row { IsRow (row_of row.now) }
+    requires shift { IsShift query.now.shift }
+    ensures { IsTrue result → (before : ClockRowValue) → kept (test_of query.now) (across_rows query.now.shift (row_of row.now) before) ≡ None }
+{
+    if timestamps(row) == 0 {
+        return true;
+    }
+    let first = timestamp(row, 0);
+    first >= POINTS_END
+        || pair_of(row, query.shift, first, first).is_after(query.rate, query.instant)
+}
+
+/// The last pair that ends at the first timestamp of a packet and covers the instant.
+fn latest_across<R: Rows>(rows: &R, row: &Points<'_>, query: &Query) -> Option<Pair>
+    requires row { IsRow (row_of row.now) }
+    requires shift { IsShift query.now.shift }
+    ensures value { result ≡ find_last (test_of query.now) (filter_map (across_rows query.now.shift (row_of row.now)) (used (R.rows rows.now))) }
+    ensures covering { IfSome result (IsCovering query.now.rate query.now.instant) }
+{
+    if is_too_late(row, query) {
+        return None;
+    }
+    let mut left = rows.count();
+    while left > 0 {
+        left -= 1;
+        let pair = covering_from(rows, left, row, query);
+        if pair.is_some() {
+            return pair;
+        }
+    }
+    None
+}
+
+/// The last pair that covers the instant, of those whose later point the packet at a place has, where it gives points.
+fn latest_at<R: Rows>(rows: &R, place: usize, query: &Query) -> Option<Pair>
+    requires rows { All IsNotable (R.rows rows.now) }
+    requires place { place < length (R.rows rows.now) }
+    requires shift { IsShift query.now.shift }
+    ensures value { (row : ClockRowValue) → slice_get (R.rows rows.now) place ≡ Some row → result ≡ (if row.usable then find_last (test_of query.now) (pairs_at query.now.shift (used (R.rows rows.now)) row) else None) }
+    ensures covering { IfSome result (IsCovering query.now.rate query.now.instant) }
+{
+    let row = rows.row(place);
+    if !row.usable {
+        return None;
+    }
+    let pair = latest_inside(&row, query);
+    if pair.is_some() {
+        return pair;
+    }
+    latest_across(rows, &row, query)
+}
+
+/// The last joined pair of a clock's packets that covers the instant.
+pub fn latest<R: Rows>(rows: &R, query: &Query) -> Option<Pair>
+    requires rows { All IsNotable (R.rows rows.now) }
+    requires shift { IsShift query.now.shift }
+    ensures value { result ≡ latest_of query.now.shift query.now.instant query.now.rate (used (R.rows rows.now)) }
+    ensures covering { IfSome result (IsCovering query.now.rate query.now.instant) }
+{
+    let mut left = rows.count();
+    while left > 0 {
+        left -= 1;
+        let pair = latest_at(rows, left, query);
+        if pair.is_some() {
+            return pair;
+        }
+    }
+    None
+}
