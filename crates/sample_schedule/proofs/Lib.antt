@@ -6,3 +6,4 @@ pub mod StageLemmas
 pub mod LawLemmas
 pub mod Judged
 pub mod StampLemmas
+pub mod CallLemmas

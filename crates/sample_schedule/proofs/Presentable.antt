@@ -2,12 +2,12 @@
 use Rattle.std.proofs.Common.{◌≡◌, ℕ, ◌+◌, ◌*◌, ◌^◌, ◌≤◌, ℤ, pos, neg_ℤ, ◌+ℤ◌, ◌*ℤ◌, ◌≤ℤ◌, ◌<ℤ◌, arith}
 use Rattle.std.proofs.Math.Nat.{mul-le-mul_left}
 use Rattle.std.proofs.lemmas.Int.{ints, by_lt_z}
+use Rattle.time_unfold.specs.declared.head_rule.Head.{Head}
 use Rattle.time_unfold.specs.Time.{IsInstant}
 use Rattle.time_unfold.specs.Lines.{floor_of, instant_at, nominal_line}
 use Rattle.time_unfold.proofs.Floors.{floor_below, floor_above, times_more}
 use Rattle.sample_schedule.specs.declared.item.Packet.{Packet}
 use Rattle.sample_schedule.specs.Batches.{IsPresentable}
-use Rattle.sample_schedule.specs.Heads.{Head}
 use Rattle.sample_schedule.specs.Limits.{IsPacket}
 use Rattle.sample_schedule.specs.Reach.{IsCountable}
 use Rattle.sample_schedule.specs.Verdicts.{nominal_spot, samples_at}

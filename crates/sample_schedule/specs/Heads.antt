@@ -1,34 +1,21 @@
 -- The head of a packet: the stamped sample from which its instants are counted.
-use Rattle.std.specs.Prelude.{ℕ, ◌+◌, ◌-◌, ◌*◌, ◌%◌, ◌==◌, nat_lt, if◌then◌else◌, ℤ, pos, neg_ℤ, List, Option, Some, None, option_map, option_and_then}
-use Rattle.std.specs.Int.{div_ceil}
+use Rattle.std.specs.Prelude.{ℕ, ◌+◌, ◌-◌, ◌%◌, ◌==◌, nat_lt, if◌then◌else◌, pos, neg_ℤ, List, Option, None, option_map, option_and_then}
 use Rattle.std.specs.List.{filter_map}
 use Rattle.std.specs.Option.{option_or}
+use Rattle.time_unfold.specs.declared.head_rule.Distance.{Distance}
+use Rattle.time_unfold.specs.declared.head_rule.Head.{Head}
 use Rattle.time_unfold.specs.declared.stamp.Stamp.{Stamp}
 use Rattle.time_unfold.specs.declared.stamp.Want.{Want}
+use Rattle.time_unfold.specs.Heads.{counted_block, distance, stamped_block, stamped_index}
 use Rattle.time_unfold.specs.Time.{unfolded}
 use Rattle.time_unfold.specs.Stamps.{found}
 use Rattle.sample_schedule.specs.declared.entry.Entry.{Entry}
 use Rattle.sample_schedule.specs.declared.entry.Entry.TheVariants.{Item as OfItem, Clock as OfClock}
-use Rattle.sample_schedule.specs.declared.item.HeadRule.{HeadRule}
-use Rattle.sample_schedule.specs.declared.item.HeadRule.TheVariants.{Own, Eight, Blocks}
 use Rattle.sample_schedule.specs.declared.item.Item.TheVariants.{Packet as OfPacket, Unit as OfUnit, Bad as OfBad}
 use Rattle.sample_schedule.specs.declared.item.Packet.{Packet}
 use Rattle.sample_schedule.specs.declared.plan.SchedulePlan.{SchedulePlan}
 
 -- ---- the stamp of a packet
-
--- The sample that a packet's timestamp belongs to: the first one in AAF (IEEE 1722-2016, 7), and in IEC 61883-6 the
--- first block whose block count is a multiple of the interval.
-abbrev pub stamped_index : HeadRule → ℕ
-stamped_index Own = 0
-stamped_index Eight = 0
-stamped_index (Blocks dbc interval) = (interval - dbc % interval) % interval
-
--- the block count of that block, modulo 256
-abbrev pub stamped_block : HeadRule → Option ℕ
-stamped_block Own = None
-stamped_block Eight = None
-stamped_block (Blocks dbc interval) = Some ((dbc + stamped_index (Blocks dbc interval)) % 256)
 
 -- The timestamp of a packet, where samples can be counted from it: it is there and certain, the rate is known, and the
 -- packet has the sample that it belongs to.
@@ -54,36 +41,14 @@ stamps_of entries = filter_map stamp_of entries
 
 -- ---- how far back the head of a packet without a usable stamp lies
 
--- so many packets, and so many samples from the stamped one to the packet's first
-pub record Distance : Type 0 where
-  pub packets : ℕ
-  pub samples : ℕ
-
--- In sparse AAF the packets whose sequence number is a multiple of 8 are stamped. In IEC 61883-6 the stamped block is
--- the last one before the packet whose count is a multiple of the interval, at most 7 packets back.
-abbrev pub distance_by : HeadRule → ℕ → ℕ → Option Distance
-distance_by Own seq count = None
-distance_by Eight seq count =
-    if seq % 8 == 0 then None else Some (record { packets = seq % 8; samples = seq % 8 * count })
-distance_by (Blocks dbc interval) seq count =
-    if dbc % interval == 0 then None else
-    if nat_lt 7 (div_ceil (dbc % interval) count) then None else
-    Some (record { packets = div_ceil (dbc % interval) count; samples = dbc % interval })
-
-abbrev pub distance : Packet → Option Distance
-distance p = distance_by p.rule p.seq p.count
-
--- the block count that the stamped block has
-abbrev pub wanted_block : HeadRule → Option ℕ
-wanted_block Own = None
-wanted_block Eight = None
-wanted_block (Blocks dbc interval) = Some ((dbc + 256 - dbc % interval) % 256)
+abbrev pub distance_back : Packet → Option Distance
+distance_back p = distance p.rule p.seq p.count
 
 abbrev pub want_of : SchedulePlan → Packet → Distance → Want
 want_of plan p far = record {
   seq = (p.seq + 256 - far.packets) % 256;
   mr = p.mr;
-  block = wanted_block p.rule;
+  block = counted_block p.rule;
   rate = p.rate;
   arrival = p.arrival;
   lead = plan.lead;
@@ -92,11 +57,6 @@ want_of plan p far = record {
 }
 
 -- ---- the head
-
--- the instant of the stamped sample, and the number of the packet's first sample, counted from it
-pub record Head : Type 0 where
-  pub instant : ℤ
-  pub first : ℤ
 
 -- the packet's own timestamp
 abbrev pub head_at : Packet → ℕ → Head
@@ -110,7 +70,7 @@ abbrev pub head_back : SchedulePlan → List Entry → Packet → Option Head
 head_back plan prefix p =
     option_and_then (λ (far : Distance).
     option_map (λ (stamp : Stamp). record { instant = stamp.instant; first = pos far.samples })
-    (found (plan.look + 16) (want_of plan p far) (stamps_of prefix))) (distance p)
+    (found (plan.look + 16) (want_of plan p far) (stamps_of prefix))) (distance_back p)
 
 -- a packet with a usable stamp is counted from it, and any other from the one that it finds
 abbrev pub head_of : SchedulePlan → List Entry → Packet → Option Head

@@ -7,3 +7,5 @@ pub mod Limits
 pub mod Reach
 pub mod Stage
 pub mod Laws
+pub mod Devices
+pub mod MemoryDevice

@@ -1,10 +1,9 @@
 -- What a schedule is asked for: a plan within its limits, and entries as the formats give them.
-use Rattle.std.specs.Prelude.{◌≡◌, ◌+◌, ◌%◌, ◌^◌, ◌≤◌, ◌⊎◌, ⊤, pos, neg_ℤ, ◌≤ℤ◌, ◌<ℤ◌, length}
+use Rattle.std.specs.Prelude.{◌≡◌, ◌+◌, ◌%◌, ◌^◌, ◌≤◌, pos, neg_ℤ, ◌≤ℤ◌, ◌<ℤ◌, length}
+use Rattle.time_unfold.specs.Limits.{IsRule}
 use Rattle.time_unfold.specs.Time.{IsArrival}
 use Rattle.sample_schedule.specs.declared.entry.Entry.{Entry}
 use Rattle.sample_schedule.specs.declared.entry.Entry.TheVariants.{Item as OfItem, Clock as OfClock}
-use Rattle.sample_schedule.specs.declared.item.HeadRule.{HeadRule}
-use Rattle.sample_schedule.specs.declared.item.HeadRule.TheVariants.{Own, Eight, Blocks}
 use Rattle.sample_schedule.specs.declared.item.Item.{Item}
 use Rattle.sample_schedule.specs.declared.item.Item.TheVariants.{Packet as OfPacket, Unit as OfUnit, Bad as OfBad}
 use Rattle.sample_schedule.specs.declared.item.Packet.{Packet}
@@ -20,11 +19,6 @@ pub record IsPlan (plan : SchedulePlan) : Type 0 where
   pub lead : plan.lead ≤ 1000000000
   pub shift_from : neg_ℤ (pos 1000000000) ≤ℤ plan.shift
   pub shift_to : plan.shift ≤ℤ pos 1000000000
-
-abbrev pub IsRule : HeadRule → Type 0
-IsRule Own = ⊤
-IsRule Eight = ⊤
-IsRule (Blocks dbc interval) = (interval ≡ 8) ⊎ ((interval ≡ 16) ⊎ (interval ≡ 32))
 
 pub record IsPacket (p : Packet) : Type 0 where
   pub arrival : IsArrival p.arrival

@@ -1,11 +1,6 @@
 -- How far the head of a packet can lie, which bounds the instants that are counted from it.
-use Rattle.std.specs.Prelude.{ℕ, ◌+◌, ◌*◌, ◌^◌, ◌≤◌, pos, neg_ℤ, ◌≤ℤ◌, ◌<ℤ◌}
-use Rattle.sample_schedule.specs.Heads.{Distance, Head}
-
--- at most 7 packets back, of so many samples each
-pub record IsBehind (count : ℕ) (far : Distance) : Type 0 where
-  pub packets : far.packets ≤ 7
-  pub samples : far.samples ≤ 7 * count
+use Rattle.std.specs.Prelude.{◌+◌, ◌*◌, ◌^◌, pos, neg_ℤ, ◌≤ℤ◌, ◌<ℤ◌}
+use Rattle.time_unfold.specs.declared.head_rule.Head.{Head}
 
 -- The stamped sample is one of the packet itself, whose instant is at most 2^31 ns before an arrival, or it lies at
 -- most 7 packets back.

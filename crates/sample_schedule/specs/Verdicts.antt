@@ -2,7 +2,8 @@
 use Rattle.std.specs.Prelude.{ℕ, ◌+◌, ◌==◌, nat_lt, nat_le, Bool, true, false, if◌then◌else◌, ℤ, pos, ◌+ℤ◌, int_lt, int_le, List, length, sum_by, Option, Some, None, option_map, Result, Ok, Err}
 use Rattle.std.specs.List.{filter_map, list_any}
 use Rattle.clock_track.specs.declared.clock_row.ClockRow.{ClockRow}
-use Rattle.time_unfold.specs.declared.line.Line.{Line}
+use Rattle.clock_track.specs.Pairs.{Spot}
+use Rattle.time_unfold.specs.declared.head_rule.Head.{Head}
 use Rattle.time_unfold.specs.Lines.{nominal_line}
 use Rattle.sample_schedule.specs.declared.accepted.Accepted.{Accepted}
 use Rattle.sample_schedule.specs.declared.entry.Entry.{Entry}
@@ -16,14 +17,9 @@ use Rattle.sample_schedule.specs.declared.shown.Reason.{Reason}
 use Rattle.sample_schedule.specs.declared.shown.Reason.TheVariants.{Uncertain, Empty, NoRate, Untimed, NoClock, Late, Repeat, Full}
 use Rattle.sample_schedule.specs.Batches.{Presented, sample_instant}
 use Rattle.sample_schedule.specs.Order.{standing}
-use Rattle.sample_schedule.specs.Heads.{Head, head_of}
+use Rattle.sample_schedule.specs.Heads.{head_of}
 
 -- ---- where the samples of an item stand
-
--- a sample's line, and its number on it
-pub record Spot : Type 0 where
-  pub line : Line
-  pub from : ℤ
 
 -- What a media clock answers: where on its lines an instant stands, by the clock's packets so far, what is added to
 -- their timestamps, and the rate of the stream. None where no line covers the instant.

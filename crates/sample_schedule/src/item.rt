@@ -2,19 +2,7 @@
 
 use crate::shown::Reason;
 use avtp_base::Bytes;
-
-/// Which sample of a packet its timestamp belongs to, and how a packet without one is counted from another.
-#[derive(Clone, Copy, Debug, PartialEq, Eq)]
-pub enum HeadRule {
-    /// AAF: each packet stamps its first sample (IEEE 1722-2016, 7).
-    Own,
-    /// AAF in sparse mode: the packets whose sequence number is a multiple of 8 stamp their first sample (IEEE 1722-2016,
-    /// 7).
-    Eight,
-    /// IEC 61883-6: the timestamp belongs to the data block whose block count is a multiple of `interval`. The first
-    /// block of the packet has the count `dbc`, modulo 256.
-    Blocks { dbc: u8, interval: u32 },
-}
+use time_unfold::HeadRule;
 
 /// A well formed packet of audio samples.
 #[derive(Debug, Drop)]

@@ -3,10 +3,12 @@
 
 mod accepted;
 mod batch;
+mod device;
 mod entry;
 mod head;
 mod item;
 pub mod laws;
+mod memory_device;
 mod plan;
 mod shown;
 mod stage;
@@ -16,11 +18,14 @@ mod verdicts;
 mod waiting;
 
 pub use batch::Batch;
+pub use device::Device;
 pub use entry::Entry;
-pub use item::{Bad, HeadRule, Item, Packet, Unit};
+pub use item::{Bad, Item, Packet, Unit};
+pub use memory_device::MemoryDevice;
 pub use plan::SchedulePlan;
 pub use shown::{Reason, Shown};
 pub use stage::schedule;
+pub use time_unfold::HeadRule;
 
 #[cfg(test)]
 mod tests;

@@ -2,7 +2,8 @@
 
 ghost use Rattle.std.specs.Prelude.{◌≡◌, ◌≤◌, false, All, IfOk};
 ghost use Rattle.time_unfold.specs.Time.{IsArrival};
-ghost use Rattle.sample_schedule.specs.Limits.{IsEntry, IsPlan, IsRule};
+ghost use Rattle.sample_schedule.specs.Limits.{IsEntry, IsPlan};
+ghost use Rattle.time_unfold.specs.Limits.{IsRule};
 
 use super::{Batch, Entry, HeadRule, Item, Packet, Reason, SchedulePlan, Shown, schedule};
 use avtp_base::{Bytes, NoMemory};

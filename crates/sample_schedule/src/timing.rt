@@ -9,11 +9,11 @@ ghost use Rattle.sample_schedule.specs.Reach.{IsCountable};
 ghost use Rattle.sample_schedule.specs.Verdicts.{Clock, nominal_spot, samples_at, timed as timed_of, unit_at_once};
 
 use crate::batch::Batch;
-use crate::head::{Head, head_of};
+use crate::head::head_of;
 use crate::item::{Item, Packet, Unit};
 use crate::plan::SchedulePlan;
 use crate::shown::Reason;
-use time_unfold::{Line, Stamp};
+use time_unfold::{Head, Line, Stamp};
 
 const NANOSECONDS: u64 = 1_000_000_000;
 

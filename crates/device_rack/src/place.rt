@@ -1,0 +1,40 @@
+//! A place of a rack.
+
+ghost use Rattle.std.specs.Prelude.{◌+◌, ◌<◌, ◌^◌, length, ◌≡◌, false, not, ◌&&◌};
+ghost use Rattle.std.specs.List.{AllZip};
+ghost use Rattle.device_rack.specs.Racks.{IsHanded, failed_count};
+
+use sample_schedule::{Device, Shown};
+
+/// A device, and whether it is live. A place that is not live has failed.
+#[derive(Drop)]
+pub struct Place {
+    pub device: Box<dyn Device + Send>,
+    pub live: bool,
+}
+
+/// Hands an item to the place, if it is live, and says whether it turned failed.
+fn hand(place: &mut Place, shown: &Shown) -> bool
+    ensures handed { IsHanded (λ device. took device) (λ device. faults device) (λ device. failing device) shown.now place.old place.new }
+    ensures stays { place.old.live ≡ false → place.new.live ≡ false }
+    ensures turned { result ≡ (place.old.live && not place.new.live) }
+{
+    if !place.live {
+        return false;
+    }
+    place.live = place.device.take(shown).is_ok();
+    !place.live
+}
+
+/// Hands an item to each live place, in their order, and answers how many turned failed.
+pub fn hand_each(places: &mut [Place], shown: &Shown) -> u32
+    requires { length places.old < 2 ^ 32 }
+    ensures places { AllZip (IsHanded (λ device. took device) (λ device. faults device) (λ device. failing device) shown.now) places.old places.new }
+    ensures failures { failed_count places.new ≡ failed_count places.old + result }
+{
+    let mut failures = 0;
+    for place in places.iter_mut() {
+        failures += u32::from(hand(place, shown));
+    }
+    failures
+}

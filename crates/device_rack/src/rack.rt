@@ -1,0 +1,57 @@
+//! The rack.
+
+ghost use Rattle.std.specs.Prelude.{◌<◌, ◌^◌, length};
+
+use crate::place::{Place, hand_each};
+use sample_schedule::Shown;
+
+/// Places side by side.
+#[derive(Drop)]
+pub struct Rack {
+    places: Vec<Place>,
+    ghost fit: { length places.items < 2 ^ 32 },
+}
+
+impl Rack {
+    ghost use Rattle.std.specs.Prelude.{◌≡◌, ◌+◌, ◌<◌, ◌^◌, true, length, All};
+    ghost use Rattle.std.specs.List.{AllZip};
+    ghost use Rattle.device_rack.specs.Racks.{IsHanded, places_of, live_count, failed_count};
+
+    /// A rack of these places. Takes no memory.
+    pub fn over(places: Vec<Place>) -> Self
+        requires fit { length places.items < 2 ^ 32 }
+        requires live { All (λ place. place.live ≡ true) places.items }
+        ensures { places_of result ≡ places.items }
+    {
+        Rack { places }
+    }
+
+    /// The number of live places.
+    pub fn live(&self) -> u32
+        ensures { result ≡ live_count (places_of self.now) }
+    {
+        let mut live = 0;
+        for place in &self.places {
+            if place.live {
+                live += 1;
+            }
+        }
+        live
+    }
+
+    /// The number of failed places.
+    pub fn failed(&self) -> u32
+        ensures { result ≡ failed_count (places_of self.now) }
+    {
+        self.places.len() as u32 - self.live()
+    }
+
+    /// Hands an item to each live device, in the order of the places, and answers how many places turned failed. A place
+    /// turns failed where its device answers `Failed`, and is handed nothing from then on.
+    pub fn hand(&mut self, shown: &Shown) -> u32
+        ensures places { AllZip (IsHanded (λ device. took device) (λ device. faults device) (λ device. failing device) shown.now) (places_of self.old) (places_of self.new) }
+        ensures failures { failed_count (places_of self.new) ≡ failed_count (places_of self.old) + result }
+    {
+        hand_each(self.places.as_mut_slice(), shown)
+    }
+}

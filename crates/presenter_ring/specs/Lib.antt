@@ -1,0 +1,4 @@
+pub mod Pulls
+pub mod Fronts
+pub mod Backs
+pub mod Pipes

@@ -1,0 +1,93 @@
+-- A ring between two threads with the item in hand before it, and what a round does.
+use Rattle.std.specs.Prelude.{◌≡◌, ℕ, ◌+◌, ◌*◌, ◌<◌, ◌≤◌, ◌++◌, List, [], length, Option, None, IsSome}
+use Rattle.rtrb.specs.Ring.{sent, received, known_free, known_items}
+use Rattle.sample_schedule.specs.declared.shown.Shown.{Shown}
+use Rattle.presenter_ring.specs.declared.pipe.Pipe.{Pipe}
+use Rattle.presenter_ring.specs.declared.receiver.Pull.{Pull}
+use Rattle.presenter_ring.specs.Fronts.{hand_of, ended_of, IsStuck}
+
+-- the items in the ring
+abbrev pub ring_of : Pipe → List Shown
+ring_of pipe = known_items pipe.back.consumer
+
+-- the items that the presenter will be handed next: those in the ring and then the one in hand
+abbrev pub waiting_in : Pipe → List Shown
+waiting_in pipe = ring_of pipe ++ hand_of pipe.front
+
+-- the answer with which the receiver ended, once it has
+abbrev pub ended_with : Pipe → Option Pull
+ended_with pipe = ended_of pipe.front
+
+-- how many items the pipe was given
+abbrev pub given_to : Pipe → ℕ
+given_to pipe = pipe.front.given
+
+-- the most items in the ring
+abbrev pub capacity_of : Pipe → ℕ
+capacity_of pipe = pipe.capacity
+
+-- how many slots of the ring its producer knows to be free
+abbrev pub known_free_of : Pipe → ℕ
+known_free_of pipe = known_free pipe.front.producer
+
+-- the items that the ring's producer has pushed, and those that its consumer has popped
+abbrev pub pushed_by : Pipe → List Shown
+pushed_by pipe = sent pipe.front.producer
+
+abbrev pub popped_by : Pipe → List Shown
+popped_by pipe = received pipe.back.consumer
+
+-- the receiver has ended, and nothing waits
+pub record IsDrained (pipe : Pipe) : Type 0 where
+  pub ended : IsSome (ended_with pipe)
+  pub empty : waiting_in pipe ≡ []
+
+-- what is still to be done for items of which the receiver can give so many: to push those that are not in the ring yet,
+-- and to present each
+abbrev pub work : ℕ → Pipe → ℕ
+work left pipe = 2 * (left + length (hand_of pipe.front)) + length (ring_of pipe)
+
+-- What rounds did. The meanings of a receiver are the items that it gave and the most items that it can still give, and that
+-- of a presenter is the items that it was handed. What waited and then what was given are, in this order, what was presented
+-- and then what waits.
+pub record HasMoved {R P : Type 0} (gave : R → List Shown → Type 0) (left : R → ℕ) (handed : P → List Shown → Type 0) (receiver receiver' : R) (presenter presenter' : P) (before after : Pipe) : Type 0 where
+  pub given : List Shown
+  pub presented : List Shown
+  pub gives : (items : List Shown) → gave receiver items → gave receiver' (items ++ given)
+  pub hands : (items : List Shown) → handed presenter items → handed presenter' (items ++ presented)
+  pub in_order : waiting_in before ++ given ≡ presented ++ waiting_in after
+  pub counted : given_to after ≡ given_to before + length given
+  pub leaves : left receiver' + length given ≤ left receiver
+  pub works : work (left receiver') after + (length (pushed_by after) + length presented) ≤ work (left receiver) before + length (pushed_by before)
+
+-- What one round did. Where its producer knew a free slot as it began, all that was presented came through the ring. Where
+-- something is still to be done, at least one item was pushed or presented.
+pub record IsRound {R P : Type 0} (gave : R → List Shown → Type 0) (left : R → ℕ) (handed : P → List Shown → Type 0) (receiver receiver' : R) (presenter presenter' : P) (before after : Pipe) : Type 0 where
+  pub moved : HasMoved gave left handed receiver receiver' presenter presenter' before after
+  pub through_ring : 0 < known_free_of before → popped_by after ≡ popped_by before ++ moved.presented
+  pub steps : (IsDrained after → ⊥) → length (pushed_by before) < length (pushed_by after) + length moved.presented
+
+-- nothing was pushed or popped: the ring is empty, and nothing could be pushed
+pub record IsStill (before after : Pipe) : Type 0 where
+  pub none_pushed : pushed_by after ≡ pushed_by before
+  pub none_popped : popped_by after ≡ popped_by before
+  pub empty : ring_of after ≡ []
+  pub stuck : IsStuck before.front after.front
+
+-- an item was pushed or popped
+abbrev pub HasStepped : Pipe → Pipe → Type 0
+HasStepped before after = length (pushed_by before) + length (popped_by before) < length (pushed_by after) + length (popped_by after)
+
+-- nothing changed but the hand
+pub record KeepsRing (before after : Pipe) : Type 0 where
+  pub producer : after.front.producer ≡ before.front.producer
+  pub back : after.back ≡ before.back
+  pub ended : after.front.ended ≡ before.front.ended
+  pub given : after.front.given ≡ before.front.given
+  pub capacity : after.capacity ≡ before.capacity
+
+-- A pipe whose receiver had not ended has the answer with which it ended now, if it did. Once it has ended, it is not called
+-- again.
+pub record EndsWith {R : Type 0} (ended : R → Option Pull) (receiver receiver' : R) (before after : Pipe) : Type 0 where
+  pub ends : ended_with before ≡ None → ended_with after ≡ ended receiver'
+  pub stays : IsSome (ended_with before) → (ended_with after ≡ ended_with before) × (receiver' ≡ receiver)

@@ -1,0 +1,26 @@
+-- What an answer of a receiver says.
+use Rattle.std.specs.Prelude.{List, [], ◌∷◌, Option, Some, None}
+use Rattle.sample_schedule.specs.declared.shown.Shown.{Shown}
+use Rattle.presenter_ring.specs.declared.ending.Ending.{Ending}
+use Rattle.presenter_ring.specs.declared.ending.Ending.TheVariants as ending
+use Rattle.presenter_ring.specs.declared.receiver.Pull.{Pull}
+use Rattle.presenter_ring.specs.declared.receiver.Pull.TheVariants as pull
+use Rattle.presenter_ring.specs.declared.receiver.Pull.TheVariants.{Item}
+
+-- the item of the answer, where it has one
+abbrev pub items_of : Pull → List Shown
+items_of (Item shown) = shown ∷ []
+items_of _ = []
+
+-- the answer, where it says that no item will come
+abbrev pub ending_of : Pull → Option Pull
+ending_of (Item shown) = None
+ending_of pull = Some pull
+
+-- the answer of the receiver that an ending stands for
+abbrev pub pull_of : Ending → Pull
+pull_of ending.Done = pull.Done
+pull_of (ending.Refused refusal) = pull.Refused refusal
+pull_of ending.ReadFault = pull.ReadFault
+pull_of ending.Limit = pull.Limit
+pull_of ending.Memory = pull.Memory

@@ -1,0 +1,71 @@
+//! The presenter's side of a ring.
+
+ghost use Rattle.std.specs.Prelude.{◌≡◌, length};
+ghost use Rattle.rtrb.specs.Ring.{received};
+
+use crate::gate::{Gate, Side};
+use crate::presenter::Presenter;
+use avtp_base::Failed;
+use rtrb::Consumer;
+use sample_schedule::Shown;
+
+/// The end of the ring that is popped from.
+#[derive(Drop)]
+pub struct Back {
+    pub consumer: Consumer<Shown>,
+    /// How many items were popped.
+    pub pops: u64,
+    ghost counted: { pops ≡ length (received consumer) },
+}
+
+impl Back {
+    ghost use Rattle.std.specs.Prelude.{◌≡◌, ◌+◌, ◌<◌, ◌^◌, [], length, MatchBool, IfOk, OnErr};
+    ghost use Rattle.avtp_base.specs.Faults.{IsCounted};
+    ghost use Rattle.rtrb.specs.Ring.{received, known_items};
+    ghost use Rattle.presenter_ring.specs.Backs.{HasPresented, IsOneMore, IsIdle};
+
+    /// Pops one item and presents it. Says whether there was one.
+    fn present_next<P: Presenter, G: Gate>(
+        &mut self,
+        presenter: &mut P,
+        gate: &G,
+    ) -> Result<bool, Failed>
+        requires { length (received self.old.consumer) + 1 < 2 ^ 64 }
+        ensures presented { HasPresented P.handed presenter.old presenter.new self.old self.new }
+        ensures more { IfOk result (λ more. MatchBool more (IsOneMore self.old self.new) (IsIdle self.old self.new)) }
+        ensures failed { OnErr result (IsOneMore self.old self.new) }
+        ensures counted { IsCounted (P.faults presenter.old) (P.faults presenter.new) result }
+    {
+        match self.consumer.pop() {
+            Ok(shown) => {
+                self.pops += 1;
+                gate.step(Side::Pop, self.pops);
+                presenter.present(shown)?;
+                Ok(true)
+            }
+            Err(_) => Ok(false),
+        }
+    }
+
+    /// The presenter's turn of a round: pops and presents what is found, at most so many items, until one fails.
+    pub fn take_turn<P: Presenter, G: Gate>(
+        &mut self,
+        presenter: &mut P,
+        gate: &G,
+        most: usize,
+    ) -> Result<(), Failed>
+        requires some { 0 < most }
+        requires room { length (received self.old.consumer) + most < 2 ^ 64 }
+        ensures presented { HasPresented P.handed presenter.old presenter.new self.old self.new }
+        ensures idle { length (received self.new.consumer) ≡ length (received self.old.consumer) → IsIdle self.old self.new }
+        ensures failed { OnErr result (length (received self.old.consumer) < length (received self.new.consumer)) }
+        ensures counted { IsCounted (P.faults presenter.old) (P.faults presenter.new) result }
+    {
+        for _ in 0..most {
+            if !self.present_next(presenter, gate)? {
+                return Ok(());
+            }
+        }
+        Ok(())
+    }
+}

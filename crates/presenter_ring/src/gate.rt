@@ -1,0 +1,23 @@
+//! What sees each step of a ring.
+
+/// The side of a ring on which a step is made.
+#[derive(Clone, Copy, Debug, PartialEq, Eq)]
+pub enum Side {
+    /// An item was put into the ring.
+    Push,
+    /// An item was taken out of it.
+    Pop,
+}
+
+/// Something that is called after each push and each pop. The steps of each side are numbered from 1.
+pub trait Gate: Sync {
+    fn step(&self, side: Side, number: u64);
+}
+
+/// A gate that does nothing.
+#[derive(Clone, Copy, Debug)]
+pub struct NoGate;
+
+impl Gate for NoGate {
+    fn step(&self, _side: Side, _number: u64) {}
+}

@@ -1,0 +1,210 @@
+//! The ring, and its rounds.
+
+ghost use Rattle.std.specs.Prelude.{◌≡◌, ◌++◌, ◌≤◌};
+ghost use Rattle.rtrb.specs.Ring.{sent, received, known_items, consumer_capacity, IsPair};
+
+use crate::back::Back;
+use crate::front::Front;
+use crate::gate::Gate;
+use crate::presenter::Presenter;
+use crate::receiver::{Pull, Receiver};
+use crate::turns::{both_turns, see_all};
+use avtp_base::{Failed, NoMemory};
+use rtrb::RingBuffer;
+use std::alloc::Global;
+use std::thread::Threads;
+
+/// How a round ended.
+#[derive(Clone, Copy, Debug, PartialEq, Eq)]
+pub enum Round {
+    /// More is to come.
+    More,
+    /// The receiver has ended, and the presenter was handed all that it gave.
+    Drained,
+    /// The presenter failed.
+    PresentFault,
+}
+
+/// A ring between a receiver and a presenter, with the item that was pulled and found no free slot. It goes on in rounds, in
+/// each of which both take their turns, side by side in two threads.
+#[derive(Drop)]
+pub struct Pipe {
+    front: Front,
+    back: Back,
+    capacity: u32,
+    ghost some: { 1 ≤ capacity },
+    ghost most: { capacity ≤ 256 },
+    ghost pair: { IsPair front.producer back.consumer },
+    ghost fifo: { received back.consumer ++ known_items back.consumer ≡ sent front.producer },
+    ghost rings: { consumer_capacity back.consumer ≡ capacity },
+}
+
+impl Pipe {
+    ghost use Rattle.std.specs.Prelude.{◌≡◌, ◌+◌, ◌*◌, ◌<◌, ◌≤◌, ◌^◌, ◌++◌, [], ◌↔◌, List, None, length, IsTrue, IsSome, IfSome, IfOk, OnErr, MatchBool};
+    ghost use Rattle.avtp_base.specs.Faults.{IsCounted, Rose};
+    ghost use Rattle.sample_schedule.specs.declared.shown.Shown.{Shown as ShownValue};
+    ghost use Rattle.presenter_ring.specs.Backs.{HasPresented};
+    ghost use Rattle.presenter_ring.specs.Fronts.{HasFed, hand_of};
+    ghost use Rattle.presenter_ring.specs.Pipes.{ring_of, waiting_in, ended_with, given_to, capacity_of, known_free_of, pushed_by, popped_by, work, IsRound, IsDrained, IsStill, HasStepped, KeepsRing, EndsWith};
+    ghost use Rattle.presenter_ring.specs.Pulls.{items_of};
+
+    /// An empty pipe whose ring has room for 1 to 256 items. `NoMemory` comes where no memory is found for it.
+    pub fn begin(alloc: Global, capacity: u32) -> Result<Self, NoMemory>
+        requires some { 1 ≤ capacity }
+        requires most { capacity ≤ 256 }
+        ensures empty { IfOk result (λ pipe. waiting_in pipe ≡ []) }
+        ensures live { IfOk result (λ pipe. ended_with pipe ≡ None) }
+        ensures given { IfOk result (λ pipe. given_to pipe ≡ 0) }
+        ensures capacity { IfOk result (λ pipe. capacity_of pipe ≡ capacity) }
+        ensures free { IfOk result (λ pipe. known_free_of pipe ≡ capacity) }
+    {
+        let (producer, consumer) = RingBuffer::new(alloc, capacity as usize)?;
+        Ok(Pipe {
+            front: Front {
+                producer,
+                hand: None,
+                ended: None,
+                given: 0,
+                pushes: 0,
+            },
+            back: Back { consumer, pops: 0 },
+            capacity,
+        })
+    }
+
+    /// The answer with which the receiver ended, once it has. It never is an item.
+    pub fn ended(&self) -> Option<Pull>
+        ensures answer { result ≡ ended_with self.now }
+        ensures no_item { IfSome result (λ pull. items_of pull ≡ []) }
+    {
+        match self.front.ended {
+            Some(ending) => Some(Pull::from(ending)),
+            None => None,
+        }
+    }
+
+    /// Both sides take their turns. Says whether an item was pushed or popped.
+    fn take_turns<T: Threads + Sync, R: Receiver, P: Presenter, G: Gate>(
+        &mut self,
+        rt: &T,
+        receiver: &mut R,
+        presenter: &mut P,
+        gate: &G,
+    ) -> Result<bool, Failed>
+        requires live { ended_with self.old ≡ None → R.ended receiver.old ≡ None }
+        requires room { given_to self.old + R.left receiver.old ≤ 2 ^ 62 }
+        ensures fed { HasFed R.gave R.left R.ended receiver.old receiver.new self.old.front self.new.front }
+        ensures presented { HasPresented P.handed presenter.old presenter.new self.old.back self.new.back }
+        ensures stepped { IfOk result (λ stepped. MatchBool stepped (HasStepped self.old self.new) (IsStill self.old self.new)) }
+        ensures failed { OnErr result (HasStepped self.old self.new) }
+        ensures counted { IsCounted (P.faults presenter.old) (P.faults presenter.new) result }
+        ensures capacity { self.new.capacity ≡ self.old.capacity }
+    {
+        let pushes = self.front.pushes;
+        let pops = self.back.pops;
+        let most = self.capacity as usize;
+        let presented = both_turns(
+            rt,
+            &mut self.front,
+            receiver,
+            &mut self.back,
+            presenter,
+            gate,
+            most,
+        );
+        see_all(&mut self.front, &mut self.back);
+        presented?;
+        Ok(self.front.pushes != pushes || self.back.pops != pops)
+    }
+
+    /// Hands the item in hand to the presenter, past the ring.
+    fn present_hand<P: Presenter>(&mut self, presenter: &mut P) -> Result<(), Failed>
+        requires { ring_of self.old ≡ [] }
+        ensures hands { (items : List ShownValue) → P.handed presenter.old items → P.handed presenter.new (items ++ hand_of self.old.front) }
+        ensures failed { OnErr result (length (hand_of self.old.front) ≡ 1) }
+        ensures counted { IsCounted (P.faults presenter.old) (P.faults presenter.new) result }
+        ensures emptied { hand_of self.new.front ≡ [] }
+        ensures kept { KeepsRing self.old self.new }
+    {
+        match self.front.hand.take() {
+            Some(shown) => {
+                presenter.present(shown)?;
+                Ok(())
+            }
+            None => Ok(()),
+        }
+    }
+
+    /// Both sides take their turns. Where nothing was pushed or popped, though an item is in hand, the ring is empty and its
+    /// producer knew no free slot, so the item is presented past the ring.
+    fn advance<T: Threads + Sync, R: Receiver, P: Presenter, G: Gate>(
+        &mut self,
+        rt: &T,
+        receiver: &mut R,
+        presenter: &mut P,
+        gate: &G,
+    ) -> Result<(), Failed>
+        requires live { ended_with self.old ≡ None → R.ended receiver.old ≡ None }
+        requires room { given_to self.old + R.left receiver.old ≤ 2 ^ 62 }
+        ensures moved { IsRound R.gave R.left P.handed receiver.old receiver.new presenter.old presenter.new self.old self.new }
+        ensures ends { EndsWith R.ended receiver.old receiver.new self.old self.new }
+        ensures counted { IsCounted (P.faults presenter.old) (P.faults presenter.new) result }
+        ensures failed { OnErr result (work (R.left receiver.new) self.new < work (R.left receiver.old) self.old) }
+        ensures goes_on { (IsDrained self.new → ⊥) → work (R.left receiver.new) self.new < work (R.left receiver.old) self.old }
+        ensures capacity { capacity_of self.new ≡ capacity_of self.old }
+    {
+        if self.take_turns(rt, receiver, presenter, gate)? {
+            return Ok(());
+        }
+        self.present_hand(presenter)?;
+        Ok(())
+    }
+
+    /// Whether the receiver has ended and nothing waits.
+    fn is_drained(&self) -> bool
+        ensures { IsTrue result ↔ IsDrained self.now }
+    {
+        self.front.ended.is_some()
+            && self.front.hand.is_none()
+            && self.back.consumer.cached_slots() == 0
+    }
+
+    /// Goes on by one round: the receiver's side pulls items and pushes them while it finds a free slot, at most as many as
+    /// the ring has room for, and keeps one in hand where it finds none; the presenter's side pops and presents as many at
+    /// most, until one fails. Each takes its turn in a thread of its own. The gate is called after each push and each pop.
+    ///
+    /// Needs a receiver that has not ended where `ended` is `None`, and at most 2^62 items in all.
+    pub fn round<T: Threads + Sync, R: Receiver, P: Presenter, G: Gate>(
+        &mut self,
+        rt: &T,
+        receiver: &mut R,
+        presenter: &mut P,
+        gate: &G,
+    ) -> Round
+        requires live { ended_with self.old ≡ None → R.ended receiver.old ≡ None }
+        requires room { given_to self.old + R.left receiver.old ≤ 2 ^ 62 }
+        ensures moved { IsRound R.gave R.left P.handed receiver.old receiver.new presenter.old presenter.new self.old self.new }
+        ensures ends { EndsWith R.ended receiver.old receiver.new self.old self.new }
+        ensures live { ended_with self.new ≡ None → R.ended receiver.new ≡ None }
+
+        ensures drained { result ≡ Round.Drained → IsDrained self.new }
+        ensures more { result ≡ Round.More → IsDrained self.new → ⊥ }
+        ensures fault { result ≡ Round.PresentFault → Rose (P.faults presenter.old) (P.faults presenter.new) }
+        ensures quiet { (result ≡ Round.PresentFault → ⊥) → P.faults presenter.new ≡ P.faults presenter.old }
+
+        ensures shrinks { (result ≡ Round.Drained → ⊥) → work (R.left receiver.new) self.new < work (R.left receiver.old) self.old }
+        ensures bounded { length (ring_of self.new) ≤ capacity_of self.new }
+        ensures capacity { capacity_of self.new ≡ capacity_of self.old }
+    {
+        match self.advance(rt, receiver, presenter, gate) {
+            Err(Failed) => Round::PresentFault,
+            Ok(()) => {
+                if self.is_drained() {
+                    Round::Drained
+                } else {
+                    Round::More
+                }
+            }
+        }
+    }
+}

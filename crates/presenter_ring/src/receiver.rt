@@ -1,0 +1,47 @@
+//! Where the items come from.
+
+ghost use Rattle.std.specs.Prelude.{◌≡◌, ◌+◌, ◌++◌, ◌≤◌, None, length};
+ghost use Rattle.presenter_ring.specs.Pulls.{items_of, ending_of};
+
+use avtp_base::Refusal;
+use sample_schedule::Shown;
+
+/// What a receiver answers: the next item, or why none will come.
+#[derive(Debug, Drop)]
+pub enum Pull {
+    /// The next item.
+    Item(Shown),
+    /// The capture has ended.
+    Done,
+    /// The capture was refused.
+    Refused(Refusal),
+    /// The capture could not be read.
+    ReadFault,
+    /// The capture has more bytes than may be read.
+    Limit,
+    /// No memory was found.
+    Memory,
+}
+
+/// Something that gives items, one after the other, until it ends.
+pub trait Receiver: Send {
+    ghost use Rattle.std.specs.Prelude.{List, ℕ, Option};
+    ghost use Rattle.sample_schedule.specs.declared.shown.Shown.{Shown as ShownValue};
+    ghost use Rattle.presenter_ring.specs.declared.receiver.Pull.{Pull as PullValue};
+
+    /// The receiver has given these items, in this order. A new one has given none.
+    ghost gave: { Self → List ShownValue → Type 0 };
+
+    /// The most items that it can still give.
+    ghost left: { Self → ℕ };
+
+    /// The answer with which it ended, once it has.
+    ghost ended: { Self → Option PullValue };
+
+    /// Gives the next item. Needs that the receiver has not ended, which any other answer says it has.
+    fn next(&mut self) -> Pull
+        requires { ended self.old ≡ None }
+        ensures gave { (items : List ShownValue) → gave self.old items → gave self.new (items ++ items_of result) }
+        ensures left { left self.new + length (items_of result) ≤ left self.old }
+        ensures ended { ended self.new ≡ ending_of result };
+}
