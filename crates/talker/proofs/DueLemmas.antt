@@ -1,111 +1,314 @@
--- When packets are due.
-use Rattle.std.proofs.Common.{◌≡◌, ℕ, ◌+◌, ◌-◌, ◌*◌, ◌/◌, ◌%◌, ◌<◌, ◌≤◌, Bool, true, false, List, pos, ◌+ℤ◌, Some, None, refl, sym, ap, arith}
-use Rattle.std.specs.Prelude.{◌==◌, nat_le}
-use Rattle.std.proofs.lemmas.Bool.{le-leb}
+-- When the packets of a kind are due.
+use Rattle.std.proofs.Common.{◌%◌, ◌≡◌, ℕ, ◌+◌, ◌-◌, ◌*◌, ◌<◌, ◌≤◌, Bool, true, false, ℤ, pos, neg_ℤ, nat_abs, ◌+ℤ◌, ◌-ℤ◌, ◌*ℤ◌, Option, Some, None, inl, inr, refl, sym, ap, ◌∙◌, arith}
+use Rattle.std.specs.Prelude.{IsSome, ◌==◌, if◌then◌else◌, nat_le, option_map}
+use Rattle.std.specs.Int.{div_ceil}
+use Rattle.std.proofs.Math.Nat.{mul-le-mul_right}
+use Rattle.std.proofs.lemmas.Bool.{cases_lt}
 use Rattle.std.proofs.lemmas.Bool.Decides.{nat_tests}
+use Rattle.std.proofs.lemmas.Grind.{div_ceil_times}
 use Rattle.std.proofs.lemmas.Int.{ints}
-use Rattle.std.proofs.Math.Nat.{add-zero, zero-div, zero-mul}
+use borrow.Author.Differences.{up, down}
+use Rattle.time_unfold.specs.declared.line.Line.{Line}
+use Rattle.time_unfold.specs.Lines.{IsAt, instant_at, nominal_line}
 use Rattle.time_unfold.specs.Stamps.{same_flag}
-use Rattle.time_unfold.specs.Lines.{instant_at, nominal_line}
-use Rattle.stream_journal.specs.Journal.{Head, head_of, nominal_instant as journal_instant}
-use Rattle.aaf_format.specs.declared.aaf.AafFormat.{AafFormat}
+use Rattle.time_unfold.proofs.OnLine.{instant_at-at, one_at}
+use Rattle.time_unfold.specs.declared.head_rule.Distance.{Distance}
+use Rattle.time_unfold.specs.declared.head_rule.Head.{Head}
+use Rattle.time_unfold.specs.Heads.{distance, stamped_index}
+use Rattle.stream_journal.specs.Journal.{Journal, Kind, head_of, nominal_instant as journal_instant, rule_of}
+use Rattle.stream_journal.specs.Conforming.{AgreesWithClock, HasBlocks, IsAudio, IsOfKind, is_stamped}
+use Rattle.stream_journal.specs.Delivered.{IsFragment}
+use Rattle.stream_journal.proofs.Spacing.{IsBefore}
 use Rattle.talker.specs.declared.plan.TalkPlan.{TalkPlan}
 use Rattle.talker.specs.Plan.{IsPlan}
-use Rattle.talker.specs.Frames.{is_stamped}
-use Rattle.talker.specs.Journal.{due_of, pcm_times}
-use Rattle.talker.specs.Timing.{event_of, first_instant, first_packet, mr_of, nominal_instant, nominal_offset, run_of, run_start, seq_of}
-use Rattle.talker.proofs.RunLemmas.{in_run, one_run, whole}
-use Rattle.talker.proofs.TimingLemmas.{IsSum, sum_of}
+use Rattle.talker.specs.Journal.{due_by, due_in, nominal_times}
+use Rattle.talker.specs.Packets.{stamp_of}
+use Rattle.talker.specs.Timing.{event_of, first_instant, first_packet, mr_of, nominal_instant, nominal_offset, run_of, run_start}
+use Rattle.talker.proofs.RateLemmas.{rate_from}
+use Rattle.talker.proofs.RunLemmas.{in_run, no_later_run, one_run, whole}
+use Rattle.talker.proofs.TimingLemmas.{is_offset, sum_of}
 
--- ---- a packet is due at its nominal first instant, or a nanosecond before
+-- ---- what kinds of audio keep
 
-pub record IsDueNear (sparse : Bool) (plan : TalkPlan) (n : ℕ) : Type 0 where
-  pub from : due_of sparse plan n ≤ first_instant plan n
-  pub to : first_instant plan n ≤ due_of sparse plan n + 1
+-- an unstamped packet is counted from a sample of a packet at most 7 before it, and the numbers of events agree
+pub record IsCountedBack (kind : Kind) (count n : ℕ) (far : Distance) : Type 0 where
+  pub few : far.packets ≤ 7
+  pub place : stamped_index (rule_of kind (n - far.packets)) + far.samples ≡ far.packets * count
+
+-- and that packet is stamped
+pub record IsFound (kind : Kind) (count n : ℕ) : Type 0 where
+  pub far : Distance
+  pub is_far : distance (rule_of kind n) n count ≡ Some far
+  pub few : far.packets ≤ 7
+  pub stamped : is_stamped (rule_of kind (n - far.packets)) (n - far.packets) count ≡ true
+
+pub record IsKindOf (plan : TalkPlan) (kind : Kind) : Type 0 where
+  pub within : (n : ℕ) → is_stamped (rule_of kind n) n plan.count ≡ true → stamped_index (rule_of kind n) < plan.count
+  pub back : (n : ℕ) (far : Distance) → is_stamped (rule_of kind n) n plan.count ≡ false → far.packets ≤ n
+      → distance (rule_of kind n) n plan.count ≡ Some far → IsCountedBack kind plan.count n far
+  pub found : (n : ℕ) → 7 ≤ n → is_stamped (rule_of kind n) n plan.count ≡ false → IsFound kind plan.count n
+  pub blocks : (packets : ℕ) → HasBlocks kind plan.count packets
+  pub of_kind : (j : Journal) → IsAudio j → AgreesWithClock j → IsOfKind kind j
+  pub whole : (n : ℕ) → ¬ IsFragment kind n
+
+-- ---- the head of a packet
+
+-- it is the instant of an event of the packet's run
+pub record IsCounted (plan : TalkPlan) (n : ℕ) (head : Head) : Type 0 where
+  pub event : ℕ
+  pub instant : head.instant ≡ pos (run_start plan (run_of plan n) + nominal_offset plan.rate event)
+  pub first : head.first ≡ pos (event_of plan n 0) -ℤ pos event
 
 one_flag : (a b : Bool) → same_flag a b ≡ true → a ≡ b
 one_flag true b h = sym h
 one_flag false true h = absurd cc
 one_flag false false h = refl
 
--- counted from packet m of the same run, d packets before
-counted : (plan : TalkPlan) (m d n : ℕ) → IsPlan plan → 0 < plan.rate → m + d ≡ n → run_of plan m ≡ run_of plan n
-    → IsSum (first_instant plan m) (nominal_offset plan.rate (d * plan.count)) (first_instant plan n)
+before : (a b : ℕ) → nat_le a b ≡ true → a ≤ b
+before a b e = grind (arith, nat_tests)
+
+pub stamp_is : (b : Bool) (first instant : ℕ) → (if b then Some first else None) ≡ Some instant → first ≡ instant
+stamp_is true first instant e = cc
+stamp_is false first instant e = absurd cc
+
+own_counted : (kind : Kind) (plan : TalkPlan) (packets n : ℕ) (head : Head) → is_stamped (rule_of kind n) n plan.count ≡ true
+    → head_of (nominal_times kind plan packets) n ≡ Some head → IsCounted plan n head
 unfolding nominal_instant
-counted plan m d n p some place same =
+own_counted kind plan packets n head e h =
+    let i : ℕ = stamped_index (rule_of kind n) in
+    let own : head_of (nominal_times kind plan packets) n ≡ Some (record { instant = pos (nominal_instant plan n i); first = neg_ℤ (pos i) }) = rw e refl in
+    let same : record { instant = pos (nominal_instant plan n i); first = neg_ℤ (pos i) } ≡ head = cc in
+    rw (← same) (record { event = event_of plan n i; instant = refl; first = omega (arith, ints) })
+
+record IsFrom (kind : Kind) (plan : TalkPlan) (n : ℕ) (far : Distance) (head : Head) : Type 0 where
+  back : far.packets ≤ n
+  one_run : mr_of plan (n - far.packets) ≡ mr_of plan n
+  instant : head.instant ≡ pos (nominal_instant plan (n - far.packets) (stamped_index (rule_of kind (n - far.packets))))
+  first : head.first ≡ pos far.samples
+
+from_by : (kind : Kind) (plan : TalkPlan) (n : ℕ) (far : Distance) (head : Head) (a b : Bool) → nat_le far.packets n ≡ a → same_flag (mr_of plan (n - far.packets)) (mr_of plan n) ≡ b
+    → (if a then if b then option_map (λ instant. record { instant = pos instant; first = pos far.samples }) (stamp_of kind plan (n - far.packets)) else None else None) ≡ Some head
+    → IsFrom kind plan n far head
+from_by kind plan n far head false b e f h = absurd cc
+from_by kind plan n far head true false e f h = absurd cc
+from_by kind plan n far head true true e f h = stamped_by (is_stamped (rule_of kind (n - far.packets)) (n - far.packets) plan.count) h
+  where
+    stamped_by : (t : Bool) → option_map (λ instant. record { instant = pos instant; first = pos far.samples })
+        (if t then Some (nominal_instant plan (n - far.packets) (stamped_index (rule_of kind (n - far.packets)))) else None) ≡ Some head → IsFrom kind plan n far head
+    stamped_by false h = absurd cc
+    stamped_by true h =
+        let same : record { instant = pos (nominal_instant plan (n - far.packets) (stamped_index (rule_of kind (n - far.packets)))); first = pos far.samples } ≡ head = cc in
+        rw (← same) (record { back = before far.packets n e; one_run = one_flag (mr_of plan (n - far.packets)) (mr_of plan n) f; instant = refl; first = refl })
+
+-- d packets on in one run
+same_run : (plan : TalkPlan) (m d n i samples : ℕ) → IsPlan plan → m + d ≡ n → run_of plan m ≡ run_of plan n → i + samples ≡ d * plan.count
+    → event_of plan m i + samples ≡ event_of plan n 0
+same_run plan m d n i samples p place same sum =
     let here = in_run plan.restart plan.jump plan.count m p.restart in
-    let starts : run_start plan (run_of plan m) ≡ run_start plan (run_of plan n) = ap (λ (g : ℕ). run_start plan g) same in
-    let first : first_packet plan (run_of plan m) ≡ first_packet plan (run_of plan n) = ap (λ (g : ℕ). first_packet plan g) same in
     let begun = here.begun in
+    let first : first_packet plan (run_of plan m) ≡ first_packet plan (run_of plan n) = ap (λ (g : ℕ). first_packet plan g) same in
     let events = whole (m - first_packet plan (run_of plan m)) d (n - first_packet plan (run_of plan n)) plan.count (omega arith) in
-    let sum = sum_of plan.rate (event_of plan m 0) (d * plan.count) (event_of plan n 0) some (omega arith) in
-    record { from = omega (arith, sum.from); to = omega (arith, sum.to) }
+    omega arith
 
-near_by : (plan : TalkPlan) (n : ℕ) (b : Bool) → same_flag (mr_of plan (n - n % 8)) (mr_of plan n) ≡ b → IsPlan plan → 0 < plan.rate → IsDueNear true plan n
-near_by plan n true e p some =
-    let place : (n - n % 8) + n % 8 ≡ n = omega arith in
-    let same = one_run plan.restart plan.jump (n - n % 8) (n % 8) n p.restart (omega arith) place (one_flag (mr_of plan (n - n % 8)) (mr_of plan n) e) in
-    let sum = counted plan (n - n % 8) (n % 8) n p some place same in
-    record { from = rw e sum.from; to = rw e sum.to }
-near_by plan n false e p some = record { from = rw e (omega arith); to = rw e (omega arith) }
+back_counted : (kind : Kind) (plan : TalkPlan) (n : ℕ) (far : Distance) (head : Head) → IsPlan plan → IsCountedBack kind plan.count n far → IsFrom kind plan n far head → IsCounted plan n head
+unfolding nominal_instant
+back_counted kind plan n far head p counted from =
+    let m : ℕ = n - far.packets in
+    let back = from.back in
+    let few = counted.few in
+    let place : m + far.packets ≡ n = omega arith in
+    let same : run_of plan m ≡ run_of plan n = one_run plan.restart plan.jump m far.packets n p.restart few place from.one_run in
+    let i : ℕ = stamped_index (rule_of kind m) in
+    let events = same_run plan m far.packets n i far.samples p place same counted.place in
+    let starts : run_start plan (run_of plan m) ≡ run_start plan (run_of plan n) = ap (λ (g : ℕ). run_start plan g) same in
+    record {
+      event = event_of plan m i;
+      instant = from.instant ∙ ap (λ (s : ℕ). pos (s + nominal_offset plan.rate (event_of plan m i))) starts;
+      first = from.first ∙ (omega (arith, ints));
+    }
 
-pub due_near : (sparse : Bool) (plan : TalkPlan) (n : ℕ) → IsPlan plan → 0 < plan.rate → IsDueNear sparse plan n
-due_near false plan n p some = record { from = omega arith; to = omega arith }
-due_near true plan n p some = near_by plan n (same_flag (mr_of plan (n - n % 8)) (mr_of plan n)) refl p some
-
--- ---- a packet that has a head is due at its first sample
-
--- k sample frames behind an instant
-at_frame : (instant k rate : ℕ) → pos (instant + k * 1000000000 / rate) ≡ instant_at (nominal_line (pos instant) rate) (pos k +ℤ pos 0)
-at_frame instant k rate = let none : k + 0 ≡ k = omega arith in rw none refl
-
-at_once : (instant rate : ℕ) → pos instant ≡ instant_at (nominal_line (pos instant) rate) (pos 0)
-at_once instant rate = rw (zero-div rate) (omega (arith, ints))
-
-dense_due : (format : AafFormat) (plan : TalkPlan) (input : List ℕ) (n : ℕ) (head : Head) → head_of (pcm_times format false plan input) n ≡ Some head
-    → pos (due_of false plan n) ≡ journal_instant (pcm_times format false plan input) head 0
-dense_due format plan input n head e =
-    let same : record { instant = first_instant plan n; first = pos 0 } ≡ head = cc in
-    rw (← same) (at_once (first_instant plan n) plan.rate)
-
-eighth : (n : ℕ) (b : Bool) → (n % 8 == 0) ≡ b → is_stamped true n ≡ b
-eighth n b e = let seq : seq_of n % 8 ≡ n % 8 = omega arith in rw seq e
-
-is_eighth : (n : ℕ) → (n % 8 == 0) ≡ true → n % 8 ≡ 0
-is_eighth n e = grind (arith, nat_tests)
-
-back_stamped : (n : ℕ) → is_stamped true (n - n % 8) ≡ true
-back_stamped n = let none : (n - n % 8) % 256 % 8 ≡ 0 = omega arith in rw none refl
-
-not_before : (n : ℕ) → nat_le (n % 8) n ≡ true
-not_before n = le-leb (n % 8) n (omega arith)
-
--- a stamped packet is due at its stamp
-due_stamped : (plan : TalkPlan) (n : ℕ) (b : Bool) → same_flag (mr_of plan (n - n % 8)) (mr_of plan n) ≡ b → n % 8 ≡ 0 → due_of true plan n ≡ first_instant plan n
-due_stamped plan n true f e =
-    let place : n - n % 8 ≡ n = omega arith in
-    let none : nominal_offset plan.rate (n % 8 * plan.count) ≡ 0 = rw (e, zero-mul plan.count) (zero-div plan.rate) in
-    rw (f, place, none) (add-zero (first_instant plan n))
-due_stamped plan n false f e = rw f refl
-
-sparse_by : (format : AafFormat) (plan : TalkPlan) (input : List ℕ) (n : ℕ) (head : Head) (b f : Bool) → (n % 8 == 0) ≡ b
-    → same_flag (mr_of plan (n - n % 8)) (mr_of plan n) ≡ f → head_of (pcm_times format true plan input) n ≡ Some head
-    → pos (due_of true plan n) ≡ journal_instant (pcm_times format true plan input) head 0
-sparse_by format plan input n head true f e g h =
-    let own : head_of (pcm_times format true plan input) n ≡ Some (record { instant = first_instant plan n; first = pos 0 }) = rw (eighth n true e) refl in
-    let same : record { instant = first_instant plan n; first = pos 0 } ≡ head = cc in
-    rw (due_stamped plan n f g (is_eighth n e), ← same) (at_once (first_instant plan n) plan.rate)
-sparse_by format plan input n head false true e g h =
-    let back : ℕ = n % 8 * plan.count in
-    let from : head_of (pcm_times format true plan input) n ≡ Some (record { instant = first_instant plan (n - n % 8); first = pos back }) =
-    rw (eighth n false e, e, not_before n, g, back_stamped n) refl in
-    let same : record { instant = first_instant plan (n - n % 8); first = pos back } ≡ head = cc in
-    rw (g, ← same) (at_frame (first_instant plan (n - n % 8)) back plan.rate)
-sparse_by format plan input n head false false e g h =
-    let none : head_of (pcm_times format true plan input) n ≡ None = rw (eighth n false e, e, not_before n, g) refl in
+distant_by : (kind : Kind) (plan : TalkPlan) (packets n : ℕ) (head : Head) (far : Option Distance) → IsPlan plan → IsKindOf plan kind → is_stamped (rule_of kind n) n plan.count ≡ false
+    → distance (rule_of kind n) n plan.count ≡ far → head_of (nominal_times kind plan packets) n ≡ Some head → IsCounted plan n head
+distant_by kind plan packets n head None p k e f h =
+    let none : head_of (nominal_times kind plan packets) n ≡ None = rw (e, f) refl in
     absurd cc
+distant_by kind plan packets n head (Some far) p k e f h =
+    let same = rw (e, f) at h in
+    let from = from_by kind plan n far head (nat_le far.packets n) (same_flag (mr_of plan (n - far.packets)) (mr_of plan n)) refl refl same in
+    back_counted kind plan n far head p (k.back n far e from.back f) from
 
-pub head_due : (format : AafFormat) (sparse : Bool) (plan : TalkPlan) (input : List ℕ) (n : ℕ) (head : Head) → head_of (pcm_times format sparse plan input) n ≡ Some head
-    → pos (due_of sparse plan n) ≡ journal_instant (pcm_times format sparse plan input) head 0
-head_due format false plan input n head e = dense_due format plan input n head e
-head_due format true plan input n head e = sparse_by format plan input n head (n % 8 == 0) (same_flag (mr_of plan (n - n % 8)) (mr_of plan n)) refl refl e
+counted_by : (kind : Kind) (plan : TalkPlan) (packets n : ℕ) (head : Head) (b : Bool) → IsPlan plan → IsKindOf plan kind → is_stamped (rule_of kind n) n plan.count ≡ b
+    → head_of (nominal_times kind plan packets) n ≡ Some head → IsCounted plan n head
+counted_by kind plan packets n head true p k e h = own_counted kind plan packets n head e h
+counted_by kind plan packets n head false p k e h = distant_by kind plan packets n head (distance (rule_of kind n) n plan.count) p k e refl h
+
+-- ---- a first sample is at the nominal first instant, or a nanosecond before
+
+record IsNearby (x : ℤ) (first : ℕ) : Type 0 where
+  due : ℕ
+  same : x ≡ pos due
+  from : due ≤ first
+  to : first ≤ due + 1
+
+scaled : (z : ℤ) (due stamp rate : ℕ) → z ≡ pos due -ℤ pos stamp → up z * rate + stamp * rate ≡ down z * rate + due * rate
+scaled z due stamp rate e =
+    let h : up z + stamp ≡ down z + due = omega (arith, ints) in
+    let f : rate * (up z + stamp) ≡ rate * (down z + due) = ap (λ (x : ℕ). rate * x) h in
+    omega arith
+
+one_more : (q : ℤ) (d : ℕ) → (q +ℤ pos 1) *ℤ pos d ≡ q *ℤ pos d +ℤ pos d
+one_more q d =
+    let e : up (q +ℤ pos 1) + down q ≡ down (q +ℤ pos 1) + up q + 1 = omega (arith, ints) in
+    let f : d * (up (q +ℤ pos 1) + down q) ≡ d * (down (q +ℤ pos 1) + up q + 1) = ap (λ (n : ℕ). d * n) e in
+    omega (arith, ints)
+
+-- so many samples before a stamp
+at_before : (due stamp index rate : ℕ) → IsBefore rate due stamp index → IsAt (nominal_line (pos stamp) rate) (neg_ℤ (pos index) +ℤ pos 0) (pos due)
+at_before due stamp index rate is =
+    let z : ℤ = pos due -ℤ pos stamp in
+    let m = one_more z rate in
+    let s = scaled z due stamp rate refl in
+    let from = is.from in
+    let to = is.to in
+    record { not_after = omega (arith, ints); last = omega (arith, ints) }
+
+-- c nanoseconds before the stamp of event e, which are `rate * c`, rounded up
+before_event : (start q f c e e0 i rate : ℕ) → 1 ≤ start → e0 + i ≡ e → 0 < rate → q * rate ≤ e * 1000000000 → e * 1000000000 < q * rate + rate
+    → f * rate ≤ e0 * 1000000000 → e0 * 1000000000 < f * rate + rate → i * 1000000000 ≤ c * rate → c * rate < i * 1000000000 + rate
+    → (c ≤ start + q) × (start + q ≤ start + f + c) × (start + f + c ≤ start + q + 1)
+before_event start q f c e e0 i rate some sum some_rate under over least most from to =
+    (most_by, least_by, last_by)
+  where
+    most_by : c ≤ start + q
+    most_by = elim (cases_lt (q + 1) c) [
+      | inl h ↦ let times : (q + 2) * rate ≤ c * rate = mul-le-mul_right rate (omega arith) in absurd (omega arith)
+      | inr h ↦ omega arith
+    ]
+
+    least_by : start + q ≤ start + f + c
+    least_by = elim (cases_lt (f + c) q) [
+      | inl h ↦ let times : (f + c + 1) * rate ≤ q * rate = mul-le-mul_right rate (omega arith) in absurd (omega arith)
+      | inr h ↦ omega arith
+    ]
+
+    last_by : start + f + c ≤ start + q + 1
+    last_by = elim (cases_lt (q + 1) (f + c)) [
+      | inl h ↦ let times : (q + 2) * rate ≤ (f + c) * rate = mul-le-mul_right rate (omega arith) in absurd (omega arith)
+      | inr h ↦ omega arith
+    ]
+
+-- the same instant, and one that is b events later
+forward : (start e b e0 rate : ℕ) → 0 < rate → e + b ≡ e0
+    → IsNearby (instant_at (nominal_line (pos (start + nominal_offset rate e)) rate) (pos b +ℤ pos 0)) (start + nominal_offset rate e0)
+forward start e b e0 rate some sum =
+    let is = sum_of rate e b e0 some sum in
+    let none : b + 0 ≡ b = omega arith in
+    record { due = start + nominal_offset rate e + nominal_offset rate b; same = rw none refl; from = omega (arith, is.from); to = omega (arith, is.to) }
+
+-- one that is i events earlier
+backward : (start e i e0 rate : ℕ) → 1 ≤ start → 0 < rate → e0 + i ≡ e
+    → IsNearby (instant_at (nominal_line (pos (start + nominal_offset rate e)) rate) (neg_ℤ (pos i) +ℤ pos 0)) (start + nominal_offset rate e0)
+backward start e i e0 rate some some_rate sum =
+    let stamp : ℕ = start + nominal_offset rate e in
+    let line = nominal_line (pos stamp) rate in
+    let c : ℕ = div_ceil (i * 1000000000) rate in
+    let times = div_ceil_times (i * 1000000000) rate some_rate in
+    let q = is_offset rate e some_rate in
+    let f = is_offset rate e0 some_rate in
+    let known = before_event start (nominal_offset rate e) (nominal_offset rate e0) c e e0 i rate some sum some_rate q.under q.over f.under f.over times.0 times.1 in
+    let due : ℕ = stamp - c in
+    let place : due + c ≡ stamp = omega (arith, known.0) in
+    let parts : due * rate + c * rate ≡ stamp * rate = whole due c stamp rate place in
+    let is : IsBefore rate due stamp i = record { from = omega (arith, times.0, parts); to = omega (arith, times.1, parts) } in
+    let k : ℤ = neg_ℤ (pos i) +ℤ pos 0 in
+    record {
+      due = due;
+      same = one_at line k (instant_at line k) (pos due) (instant_at-at line k some_rate) (at_before due stamp i rate is);
+      from = omega (arith, known.1);
+      to = omega (arith, known.2);
+    }
+
+moved : (line : Line) (x y : ℤ) → x ≡ y → instant_at line (x +ℤ pos 0) ≡ instant_at line (y +ℤ pos 0)
+moved line x y e = ap (λ (k : ℤ). instant_at line (k +ℤ pos 0)) e
+
+nearby : (start e e0 rate : ℕ) (first : ℤ) → 1 ≤ start → 0 < rate → first ≡ pos e0 -ℤ pos e
+    → IsNearby (instant_at (nominal_line (pos (start + nominal_offset rate e)) rate) (first +ℤ pos 0)) (start + nominal_offset rate e0)
+nearby start e e0 rate first some some_rate at = elim (cases_lt e0 e) [
+  | inl h ↦
+      let back : first ≡ neg_ℤ (pos (e - e0)) = omega (arith, ints) in
+      rw back (backward start e (e - e0) e0 rate some some_rate (omega arith))
+  | inr h ↦
+      let ahead : first ≡ pos (e0 - e) = omega (arith, ints) in
+      rw ahead (forward start e (e0 - e) e0 rate some_rate (omega arith))
+]
+
+head_nearby : (kind : Kind) (plan : TalkPlan) (packets n : ℕ) (head : Head) → IsPlan plan → IsCounted plan n head
+    → IsNearby (journal_instant (nominal_times kind plan packets) head 0) (first_instant plan n)
+unfolding nominal_instant
+head_nearby kind plan packets n head p counted =
+    let some : 0 < plan.rate = omega (arith, rate_from plan p) in
+    let start : ℕ = run_start plan (run_of plan n) in
+    let lead = p.some_lead in
+    rw counted.instant (nearby start counted.event (event_of plan n 0) plan.rate head.first (omega arith) some counted.first)
+
+-- ---- so a packet is due near it, and at its head's first sample
+
+pub record IsDueNear (kind : Kind) (plan : TalkPlan) (packets n : ℕ) : Type 0 where
+  pub from : due_in (nominal_times kind plan packets) n ≤ first_instant plan n
+  pub to : first_instant plan n ≤ due_in (nominal_times kind plan packets) n + 1
+
+near_by : (kind : Kind) (plan : TalkPlan) (packets n : ℕ) (head : Option Head) → IsPlan plan → IsKindOf plan kind → head_of (nominal_times kind plan packets) n ≡ head
+    → (due_by (nominal_times kind plan packets) n head ≤ first_instant plan n) × (first_instant plan n ≤ due_by (nominal_times kind plan packets) n head + 1)
+near_by kind plan packets n None p k e = (omega arith, omega arith)
+near_by kind plan packets n (Some head) p k e =
+    let counted = counted_by kind plan packets n head (is_stamped (rule_of kind n) n plan.count) p k refl e in
+    let is = head_nearby kind plan packets n head p counted in
+    rw is.same (is.from, is.to)
+
+pub due_near : (kind : Kind) (plan : TalkPlan) (packets n : ℕ) → IsPlan plan → IsKindOf plan kind → IsDueNear kind plan packets n
+due_near kind plan packets n p k =
+    let near = near_by kind plan packets n (head_of (nominal_times kind plan packets) n) p k refl in
+    record { from = near.0; to = near.1 }
+
+pub head_due : (kind : Kind) (plan : TalkPlan) (packets n : ℕ) (head : Head) → IsPlan plan → IsKindOf plan kind → head_of (nominal_times kind plan packets) n ≡ Some head
+    → pos (due_in (nominal_times kind plan packets) n) ≡ journal_instant (nominal_times kind plan packets) head 0
+head_due kind plan packets n head p k e =
+    let counted = counted_by kind plan packets n head (is_stamped (rule_of kind n) n plan.count) p k refl e in
+    let is = head_nearby kind plan packets n head p counted in
+    let due : due_in (nominal_times kind plan packets) n ≡ nat_abs (journal_instant (nominal_times kind plan packets) head 0) = ap (due_by (nominal_times kind plan packets) n) e in
+    rw (due, is.same) refl
+
+-- ---- a packet has a head, unless a restart lies shortly before it
+
+no_later : (a b : ℕ) → a ≤ b → nat_le a b ≡ true
+no_later a b h = grind (arith, nat_tests)
+
+flags : (a b : Bool) → a ≡ b → same_flag a b ≡ true
+flags true true e = refl
+flags true false e = absurd cc
+flags false true e = absurd cc
+flags false false e = refl
+
+some_of : (h : Option Head) (head : Head) → h ≡ Some head → IsSome h
+some_of h head e = rw e refl
+
+has_by : (kind : Kind) (plan : TalkPlan) (packets n : ℕ) (b : Bool) → IsPlan plan → IsKindOf plan kind → is_stamped (rule_of kind n) n plan.count ≡ b → 7 ≤ n
+    → run_of plan (n - 7) ≡ run_of plan n → IsSome (head_of (nominal_times kind plan packets) n)
+has_by kind plan packets n true p k e behind same =
+    some_of (head_of (nominal_times kind plan packets) n) (record { instant = pos (nominal_instant plan n (stamped_index (rule_of kind n))); first = neg_ℤ (pos (stamped_index (rule_of kind n))) }) (rw e refl)
+has_by kind plan packets n false p k e behind same =
+    let is = k.found n behind e in
+    let d : ℕ = is.far.packets in
+    let few = is.few in
+    let after = no_later_run plan.restart plan.jump (n - 7) (n - d) p.restart (omega arith) in
+    let before = no_later_run plan.restart plan.jump (n - d) n p.restart (omega arith) in
+    let runs : run_of plan (n - d) ≡ run_of plan n = omega arith in
+    let bits : mr_of plan (n - d) ≡ mr_of plan n = ap (λ (g : ℕ). g % 2 == 1) runs in
+    let near : nat_le d n ≡ true = no_later d n (omega arith) in
+    some_of (head_of (nominal_times kind plan packets) n)
+    (record { instant = pos (nominal_instant plan (n - d) (stamped_index (rule_of kind (n - d)))); first = pos is.far.samples })
+    (rw (e, is.is_far, near, flags (mr_of plan (n - d)) (mr_of plan n) bits, is.stamped) refl)
+
+pub has_head : (kind : Kind) (plan : TalkPlan) (packets n : ℕ) → IsPlan plan → IsKindOf plan kind → 7 ≤ n → run_of plan (n - 7) ≡ run_of plan n
+    → IsSome (head_of (nominal_times kind plan packets) n)
+has_head kind plan packets n p k behind same = has_by kind plan packets n (is_stamped (rule_of kind n) n plan.count) p k refl behind same

@@ -1,26 +1,52 @@
 -- What the laws of plans rest on.
-use Rattle.std.proofs.Common.{◌≡◌, ℕ, zero, suc, ◌+◌, ◌*◌, ◌/◌, ◌<◌, ◌≤◌, Bool, true, false, List, [], ◌∷◌, map, length, Some, None, nat_abs, ◌≤ℤ◌, refl, ap, subst, sym, ◌-◌, ◌%◌, ◌∙◌, arith}
+use Rattle.std.proofs.Common.{◌≡◌, ℕ, ◌+◌, ◌*◌, ◌/◌, ◌^◌, ◌<◌, ◌≤◌, Bool, true, false, List, [], ◌∷◌, map, length, Option, Some, None, nat_abs, ◌≤ℤ◌, refl, ap, subst, sym, ◌-◌, ◌%◌, ◌∙◌, arith}
 use Rattle.std.proofs.Math.Nat.{mod-eq-sub-div-mul, sub-zero, zero-div}
-use Rattle.std.specs.Prelude.{if◌then◌else◌, int_le, slice_get, Option, IsSome, IfSome}
-use Rattle.std.specs.List.{AllByRecursion, cons_option, filter_map}
+use Rattle.std.specs.Prelude.{if◌then◌else◌, int_le, pos, slice_get, IsSome, IsSomeAnd}
+use Rattle.std.specs.List.{AllByRecursion, filter_map, range_with_len}
 use Rattle.std.proofs.lemmas.Bool.Decides.{nat_tests}
 use Rattle.std.proofs.lemmas.Int.{ints}
 use Rattle.aaf_format.specs.declared.aaf.AafFormat.{AafFormat}
-use Rattle.aaf_format.specs.Aaf.{rate_of}
+use Rattle.aaf_format.specs.Aaf.{SpellsAaf, aaf_spelling, frame_size, rate_of}
+use Rattle.iec61883_format.specs.Iec.{SpellsIec, block_size, iec_spelling, rate_of_fdf, syt_interval}
 use Rattle.pcap_frames.specs.Capture.{HasSpelling}
-use Rattle.talker.specs.declared.pcm.PcmStream.{PcmStream}
+use Rattle.packet_journal.specs.Carried.{AllCarry}
 use Rattle.talker.specs.declared.plan.TalkKind.{TalkKind}
-use Rattle.talker.specs.declared.plan.TalkKind.TheVariants.{Aaf, Am824, H264}
+use Rattle.talker.specs.declared.plan.TalkKind.TheVariants.{Aaf, Am824}
 use Rattle.talker.specs.declared.plan.TalkPlan.{TalkPlan}
-use Rattle.talker.specs.Frames.{RiseByArrival, SentFrame, aaf_frame, by_arrival, capture_style, frames, frames_at, put_in, record_of, records, stream_frames}
-use Rattle.talker.specs.Plan.{IsPlan, IsTalked, rate_code}
-use Rattle.talker.specs.Talking.{IsPcm, most_input, packets_of}
+use Rattle.talker.specs.Frames.{RiseByArrival, SentFrame, by_arrival, capture_style, frames, frames_at, numbered_frames, put_in, record_of, records}
+use Rattle.talker.specs.Journal.{journal, stream_of}
+use Rattle.talker.specs.Packets.{aaf_packet, iec_packet}
+use Rattle.talker.specs.Plan.{Expects, FitsBlocks, HasRate, IsPlan, fdf_of, interval_of, rate_code}
+use Rattle.talker.specs.Talking.{most_input}
 use Rattle.talker.specs.Timing.{arrival_of, event_of, first_packet, nominal_instant, nominal_offset, run_of}
-use Rattle.talker.proofs.FrameLemmas.{each}
-use Rattle.talker.proofs.StreamLemmas.{all_are, frames_are, has_spelling}
+use Rattle.talker.proofs.Am824Lemmas.{blocks_again, some_interval}
+use Rattle.talker.proofs.PcmLemmas.{packet_again}
+use Rattle.talker.proofs.RateLemmas.{known_fdf}
+use Rattle.talker.proofs.StreamLemmas.{AreCarried, all_carried, all_frames, at_number, frames_in, some_carried, spelled}
+use Rattle.talker.proofs.TalkLemmas.{frames_are, plan_keeps}
 
 pub named_rate : (rate code : ℕ) → rate_of code ≡ Some rate → rate_code rate ≡ Some code
 named_rate rate code h = grind (arith, nat_tests)
+
+pub named_fdf : (rate fdf : ℕ) → rate_of_fdf fdf ≡ Some rate → fdf_of rate ≡ Some fdf
+named_fdf rate fdf h = grind (arith, nat_tests)
+
+pub named_interval : (rate fdf interval : ℕ) → fdf_of rate ≡ Some fdf → syt_interval fdf ≡ Some interval → interval_of rate ≡ interval
+named_interval rate fdf interval e f = rw (e, f) refl
+
+stated_by : (rate fdf : ℕ) (interval : Option ℕ) → fdf_of rate ≡ Some fdf → syt_interval fdf ≡ interval → IsSome interval → syt_interval fdf ≡ Some (interval_of rate)
+stated_by rate fdf None e f some = absurd cc
+stated_by rate fdf (Some interval) e f some = f ∙ ap (λ (i : ℕ). Some i) (sym (named_interval rate fdf interval e f))
+
+pub stated_interval : (rate fdf : ℕ) → fdf_of rate ≡ Some fdf → syt_interval fdf ≡ Some (interval_of rate)
+stated_interval rate fdf e = stated_by rate fdf (syt_interval fdf) e refl (some_interval fdf (known_fdf rate fdf e).few)
+
+-- what a packet of AM824 holds, by the code of its rate
+pub named_blocks : (plan : TalkPlan) (fdf interval : ℕ) → rate_of_fdf fdf ≡ Some plan.rate → syt_interval fdf ≡ Some interval → plan.channels ≤ 256 → interval ≤ 8 * plan.count
+    → plan.count * block_size plan.channels ≤ 1468 → FitsBlocks plan
+named_blocks plan fdf interval named stated quadlets some size =
+    let same = named_interval plan.rate fdf interval (named_fdf plan.rate fdf named) stated in
+    record { quadlets = quadlets; some = omega (arith, same); size = size }
 
 paced_by : (plan : TalkPlan) (n : ℕ)
     → arrival_of plan n ≡ nat_abs plan.start + run_of plan n * plan.jump + nominal_offset plan.rate (first_packet plan (run_of plan n) * plan.count) + nominal_offset plan.rate (event_of plan n 0)
@@ -80,96 +106,62 @@ pub all_rise : (frames : List SentFrame) → RiseByArrival (by_arrival frames)
 all_rise [] = tt
 all_rise (f ∷ frames) = put_rises f (by_arrival frames) (all_rise frames)
 
--- ---- plans
-
--- a plan of a format, sparse or not, taken apart
-pub record IsPcmOf (plan : TalkPlan) (format : AafFormat) (sparse : Bool) (s : PcmStream) : Type 0 where
-  pub pcm : IsPcm s
-  pub plan_is : s.plan ≡ plan
-  pub format_is : s.format ≡ format
-  pub sparse_is : s.sparse ≡ sparse
-
-with_code : (plan : TalkPlan) (format : AafFormat) (sparse : Bool) (code : Option ℕ) → IsPlan plan → plan.kind ≡ Aaf format sparse → rate_code plan.rate ≡ code
-    → IsSome code → (s : PcmStream) × IsPcmOf plan format sparse s
-with_code plan format sparse (Some code) p e r some = (
-  record { plan = plan; format = format; sparse = sparse; code = code },
-  record { pcm = record { plan = p; kind = e; code = r }; plan_is = refl; format_is = refl; sparse_is = refl },
-)
-with_code plan format sparse None p e r some = absurd cc
-
-pub pcm_with : (plan : TalkPlan) (format : AafFormat) (sparse : Bool) → IsPlan plan → plan.kind ≡ Aaf format sparse
-    → (s : PcmStream) × IsPcmOf plan format sparse s
-pcm_with plan format sparse p e = with_code plan format sparse (rate_code plan.rate) p e refl p.rate
-
-pub record IsPcmPlan (plan : TalkPlan) (s : PcmStream) : Type 0 where
-  pub pcm : IsPcm s
-  pub plan_is : s.plan ≡ plan
-
-pcm_by : (plan : TalkPlan) (kind : TalkKind) → plan.kind ≡ kind → IsTalked kind → IsPlan plan → (s : PcmStream) × IsPcmPlan plan s
-pcm_by plan (Aaf format sparse) e talked p =
-    let found = pcm_with plan format sparse p e in
-    (found.0, record { pcm = found.1.pcm; plan_is = found.1.plan_is })
-pcm_by plan Am824 e talked p = absurd talked
-pcm_by plan (H264 last_stamp) e talked p = absurd talked
-
--- a plan is one of PCM
-pub pcm_of : (plan : TalkPlan) → IsPlan plan → (s : PcmStream) × IsPcmPlan plan s
-pcm_of plan p = pcm_by plan plan.kind refl p.kind p
-
--- without a media clock all frames are those of the stream
-pub frames_are_streams : (plan : TalkPlan) (input : List ℕ) → IsPlan plan → frames plan input ≡ stream_frames plan input
-frames_are_streams plan input p =
-    let found = pcm_of plan p in
-    subst (λ (plan : TalkPlan). frames plan input ≡ stream_frames plan input) found.1.plan_is (all_are found.0 input found.1.pcm)
-
 -- ---- captures
 
--- a frame is that of some packet
-pub record IsFrameOf (s : PcmStream) (input : List ℕ) (f : SentFrame) : Type 0 where
-  pub number : ℕ
-  pub known : number < packets_of s input
-  pub same : f ≡ aaf_frame s.format s.sparse s.plan input number
-
-all_frames : (s : PcmStream) (input : List ℕ) → IsPcm s → AllByRecursion (IsFrameOf s input) (frames s.plan input)
-all_frames s input p =
-    rw (frames_are s input p)
-    (each (aaf_frame s.format s.sparse s.plan input) (IsFrameOf s input) 0 (packets_of s input)
-    (λ k h. record { number = k; known = omega arith; same = refl }))
-
-at_place : {X : Type 0} (P : X → Type 0) (xs : List X) (k : ℕ) → AllByRecursion P xs → IfSome (slice_get xs k) P
-at_place P [] k all = tt
-at_place P (x ∷ xs) zero all = all.0
-at_place P (x ∷ xs) (suc k) all = at_place P xs k all.1
-
--- and so are those in some places
-kept : {X Y : Type 0} (P : Y → Type 0) (h : X → Option Y) (xs : List X) → ((x : X) → IfSome (h x) P) → AllByRecursion P (filter_map h xs)
-kept P h [] each = tt
-kept P h (x ∷ xs) each = kept_by P (h x) (filter_map h xs) (each x) (kept P h xs each)
-  where
-    kept_by : {Y : Type 0} (P : Y → Type 0) (r : Option Y) (ys : List Y) → IfSome r P → AllByRecursion P ys → AllByRecursion P (cons_option r ys)
-    kept_by P None ys here rest = rest
-    kept_by P (Some y) ys here rest = (here, rest)
-
-pub frames_of : (s : PcmStream) (input places : List ℕ) → IsPcm s → AllByRecursion (IsFrameOf s input) (frames_at s.plan input places)
-frames_of s input places p = kept (IsFrameOf s input) (slice_get (frames s.plan input)) places (λ k. at_place (IsFrameOf s input) (frames s.plan input) k (all_frames s input p))
-
-recorded : (s : PcmStream) (input : List ℕ) (given : List SentFrame) → IsPcm s → length input ≤ most_input → AllByRecursion (IsFrameOf s input) given
-    → AllByRecursion (HasSpelling capture_style) (map record_of given)
-recorded s input [] p limit all = tt
-recorded s input (f ∷ given) p limit all =
-    let P : SentFrame → Type 0 = λ f. HasSpelling capture_style (record_of f) in
-    (subst P (sym all.0.same) (has_spelling s input all.0.number p limit all.0.known), recorded s input given p limit all.1)
-
+-- what is captured of the frames, and of some of them, can be spelled
 pub records_spelled : (plan : TalkPlan) (input : List ℕ) → IsPlan plan → length input ≤ most_input → AllByRecursion (HasSpelling capture_style) (records plan input)
 records_spelled plan input p limit =
-    let found = pcm_of plan p in
-    let P : TalkPlan → Type 0 = λ plan. AllByRecursion (HasSpelling capture_style) (records plan input) in
-    subst P found.1.plan_is (recorded found.0 input (frames found.0.plan input) found.1.pcm limit (all_frames found.0 input found.1.pcm))
+    let s = stream_of plan input in
+    rw (frames_are plan input p limit) (spelled plan s (numbered_frames s) (plan_keeps plan input p limit) (all_frames s))
 
--- what is captured of some of the frames can be spelled
 pub kept_spelled : (plan : TalkPlan) (input places : List ℕ) → IsPlan plan → length input ≤ most_input
     → AllByRecursion (HasSpelling capture_style) (map record_of (frames_at plan input places))
 kept_spelled plan input places p limit =
-    let found = pcm_of plan p in
-    let P : TalkPlan → Type 0 = λ plan. AllByRecursion (HasSpelling capture_style) (map record_of (frames_at plan input places)) in
-    subst P found.1.plan_is (recorded found.0 input (frames_at found.0.plan input places) found.1.pcm limit (frames_of found.0 input places found.1.pcm))
+    let s = stream_of plan input in
+    rw (frames_are plan input p limit) (spelled plan s (filter_map (slice_get (numbered_frames s)) places) (plan_keeps plan input p limit) (frames_in s places))
+
+-- they carry the packets of the journal
+pub all_carry : (plan : TalkPlan) (input : List ℕ) (lead : ℕ) → IsPlan plan → length input ≤ most_input → Expects plan lead
+    → AllCarry (journal plan input) lead (range_with_len 0 (journal plan input).times.packets) (records plan input)
+all_carry plan input lead p limit expects =
+    rw (frames_are plan input p limit) (all_carried plan (stream_of plan input) lead (plan_keeps plan input p limit) expects)
+
+pub kept_carried : (plan : TalkPlan) (input places : List ℕ) (lead : ℕ) → IsPlan plan → length input ≤ most_input → Expects plan lead
+    → AreCarried (journal plan input) lead (map record_of (frames_at plan input places))
+kept_carried plan input places lead p limit expects =
+    let s = stream_of plan input in
+    rw (frames_are plan input p limit)
+    (some_carried plan s lead (filter_map (slice_get (numbered_frames s)) places) (plan_keeps plan input p limit) expects (frames_in s places))
+
+-- each packet is sent before it is due
+pub sent_in_time : (plan : TalkPlan) (input : List ℕ) (n : ℕ) → IsPlan plan → length input ≤ most_input → n < (journal plan input).times.packets
+    → IsSomeAnd (slice_get (frames plan input) n) (λ f. f.arrival ≤ℤ pos ((journal plan input).times.due n))
+sent_in_time plan input n p limit h =
+    let s = stream_of plan input in
+    let soon = (plan_keeps plan input p limit).early n h in
+    rw (frames_are plan input p limit, at_number s n h) (omega (arith, ints, soon))
+
+-- ---- packets
+
+read_by : (plan : TalkPlan) (format : AafFormat) (sparse : Bool) (n : ℕ) (samples : List ℕ) (code : Option ℕ) → IsPlan plan → plan.kind ≡ Aaf format sparse → rate_code plan.rate ≡ code → IsSome code
+    → plan.id < 2 ^ 64 → length samples ≡ plan.count * frame_size plan.channels format
+    → SpellsAaf (aaf_spelling (aaf_packet format sparse plan n samples)) (aaf_packet format sparse plan n samples)
+read_by plan format sparse n samples None p kind e some id size = absurd cc
+read_by plan format sparse n samples (Some code) p kind e some id size =
+    packet_again (record { format = format; sparse = sparse; code = code }) plan n samples p (record { kind = kind; code = e }) id size
+
+pub packet_read : (plan : TalkPlan) (format : AafFormat) (sparse : Bool) (n : ℕ) (samples : List ℕ) → IsPlan plan → plan.kind ≡ Aaf format sparse → plan.id < 2 ^ 64
+    → length samples ≡ plan.count * frame_size plan.channels format
+    → SpellsAaf (aaf_spelling (aaf_packet format sparse plan n samples)) (aaf_packet format sparse plan n samples)
+packet_read plan format sparse n samples p kind id size = read_by plan format sparse n samples (rate_code plan.rate) p kind refl (rw kind at p.rate) id size
+
+blocks_by : (plan : TalkPlan) (n : ℕ) (blocks : List ℕ) (fdf : Option ℕ) → IsPlan plan → plan.kind ≡ Am824 → fdf_of plan.rate ≡ fdf → IsSome fdf → plan.id < 2 ^ 64
+    → length blocks ≡ plan.count * block_size plan.channels → SpellsIec (iec_spelling (iec_packet plan n blocks)) (iec_packet plan n blocks)
+blocks_by plan n blocks None p kind e some id size = absurd cc
+blocks_by plan n blocks (Some fdf) p kind e some id size =
+    blocks_again (record { fdf = fdf; interval = interval_of plan.rate }) plan n blocks p (record { kind = kind; code = e; interval = stated_interval plan.rate fdf e }) id size
+
+pub blocks_read : (plan : TalkPlan) (n : ℕ) (blocks : List ℕ) → IsPlan plan → plan.kind ≡ Am824 → plan.id < 2 ^ 64 → length blocks ≡ plan.count * block_size plan.channels
+    → SpellsIec (iec_spelling (iec_packet plan n blocks)) (iec_packet plan n blocks)
+blocks_read plan n blocks p kind id size =
+    blocks_by plan n blocks (fdf_of plan.rate) p kind refl (subst (λ (kind : TalkKind). HasRate kind plan.rate) kind p.rate) id size

@@ -5,8 +5,10 @@ pub mod SampleLemmas
 pub mod SizeLemmas
 pub mod FrameLemmas
 pub mod StreamLemmas
-pub mod LawLemmas
-pub mod PacketLemmas
 pub mod DueLemmas
-pub mod ConformLemmas
-pub mod LossLemmas
+pub mod AudioLemmas
+pub mod HeaderLemmas
+pub mod PcmLemmas
+pub mod Am824Lemmas
+pub mod TalkLemmas
+pub mod LawLemmas

@@ -1,8 +1,13 @@
--- The sample rates of AAF.
-use Rattle.std.proofs.Common.{◌≡◌, ℕ, ◌≤◌, Some, arith}
+-- The sample rates of plans.
+use Rattle.std.proofs.Common.{◌≡◌, ℕ, ◌≤◌, Option, Some, None, refl, arith}
+use Rattle.std.specs.Prelude.{IsSome}
 use Rattle.std.proofs.lemmas.Bool.Decides.{nat_tests}
 use Rattle.aaf_format.specs.Aaf.{rate_of}
-use Rattle.talker.specs.Plan.{rate_code}
+use Rattle.iec61883_format.specs.Iec.{rate_of_fdf}
+use Rattle.talker.specs.declared.plan.TalkKind.{TalkKind}
+use Rattle.talker.specs.declared.plan.TalkKind.TheVariants.{Aaf, Am824, H264}
+use Rattle.talker.specs.declared.plan.TalkPlan.{TalkPlan}
+use Rattle.talker.specs.Plan.{HasRate, IsPlan, fdf_of, rate_code}
 
 pub record IsRate (rate code : ℕ) : Type 0 where
   pub named : rate_of code ≡ Some rate
@@ -12,3 +17,36 @@ pub record IsRate (rate code : ℕ) : Type 0 where
 
 pub known_rate : (rate code : ℕ) → rate_code rate ≡ Some code → IsRate rate code
 known_rate rate code h = grind (arith, nat_tests)
+
+pub record IsFdfRate (rate fdf : ℕ) : Type 0 where
+  pub named : rate_of_fdf fdf ≡ Some rate
+  pub least : 32000 ≤ rate
+  pub most : rate ≤ 192000
+  pub few : fdf ≤ 6
+
+pub known_fdf : (rate fdf : ℕ) → fdf_of rate ≡ Some fdf → IsFdfRate rate fdf
+known_fdf rate fdf h = grind (arith, nat_tests)
+
+-- all rates lie between these
+pub record IsInRange (rate : ℕ) : Type 0 where
+  pub least : 8000 ≤ rate
+  pub most : rate ≤ 192000
+
+pcm_range : (rate : ℕ) (code : Option ℕ) → rate_code rate ≡ code → IsSome code → IsInRange rate
+pcm_range rate None e some = absurd cc
+pcm_range rate (Some code) e some = let is = known_rate rate code e in record { least = is.least; most = is.most }
+
+am824_range : (rate : ℕ) (fdf : Option ℕ) → fdf_of rate ≡ fdf → IsSome fdf → IsInRange rate
+am824_range rate None e some = absurd cc
+am824_range rate (Some fdf) e some = let is = known_fdf rate fdf e in record { least = omega (arith, is.least); most = is.most }
+
+range_by : (kind : TalkKind) (rate : ℕ) → HasRate kind rate → IsInRange rate
+range_by (Aaf format sparse) rate has = pcm_range rate (rate_code rate) refl has
+range_by Am824 rate has = am824_range rate (fdf_of rate) refl has
+range_by (H264 last_stamp) rate has = absurd has
+
+pub rate_range : (plan : TalkPlan) → IsPlan plan → IsInRange plan.rate
+rate_range plan p = range_by plan.kind plan.rate p.rate
+
+pub rate_from : (plan : TalkPlan) → IsPlan plan → 8000 ≤ plan.rate
+rate_from plan p = (rate_range plan p).least

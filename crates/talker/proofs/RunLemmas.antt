@@ -1,7 +1,7 @@
 -- Runs of packets.
 use Rattle.std.proofs.Common.{◌≡◌, ◌≢◌, ◌⊎◌, inl, inr, ℕ, suc, ◌+◌, ◌-◌, ◌*◌, ◌/◌, ◌%◌, ◌<◌, ◌≤◌, Some, None, refl, subst, sym, arith}
 use Rattle.std.specs.Prelude.{Option, ◌==◌}
-use Rattle.std.proofs.Math.Nat.{div-eq_of_lt-le, div-mul-le_self, lt-div-mul-add, mul-le-mul_left}
+use Rattle.std.proofs.Math.Nat.{div-eq_of_lt-le, div-mul-le_self, lt-div-mul-add, mul-le-mul_left, mul-le-mul_right}
 use Rattle.std.proofs.lemmas.Bool.{cases_lt}
 use Rattle.std.proofs.lemmas.Bool.Decides.{nat_tests}
 use Rattle.talker.specs.Plan.{Restarts}
@@ -87,3 +87,15 @@ new_bit r jump n ok other = elim (next_run r jump n ok) [
   | inl e ↦ absurd (other (rw e refl))
   | inr e ↦ e
 ]
+
+-- no packet is of a run before that of an earlier one
+pub no_later_run : (r : Option ℕ) (jump m n : ℕ) → Restarts r jump → m ≤ n → run_by r m ≤ run_by r n
+no_later_run None jump m n ok h = omega arith
+no_later_run (Some packets) jump m n ok h =
+    let some = ok.some in
+    let under : m / packets * packets ≤ m = div-mul-le_self m packets in
+    let over : n < n / packets * packets + packets = lt-div-mul-add (omega arith) in
+    elim (cases_lt (n / packets) (m / packets)) [
+      | inl less ↦ let times : (n / packets + 1) * packets ≤ m / packets * packets = mul-le-mul_right packets (omega arith) in absurd (omega arith)
+      | inr not ↦ not
+    ]

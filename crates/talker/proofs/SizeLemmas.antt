@@ -1,14 +1,14 @@
 -- How long a frame is.
-use Rattle.std.proofs.Common.{◌≡◌, ℕ, ◌+◌, Bool, true, List, [], ◌∷◌, length, refl, ◌∙◌, arith}
+use Rattle.std.proofs.Common.{◌≡◌, ℕ, ◌+◌, true, List, [], ◌∷◌, length, refl, ◌∙◌, arith}
 use Rattle.std.proofs.lemmas.List.{length-append}
 use Rattle.std.specs.Int.{bytes_high_first}
 use Rattle.byteorder.specs.Numbers.{length-bytes_high_first}
 use Rattle.avtp_base.specs.Layout.{Layout, packed, size_of, spelling}
 use Rattle.pcap_frames.specs.Frame.{frame_layout}
-use Rattle.aaf_format.specs.declared.aaf.AafFormat.{AafFormat}
-use Rattle.aaf_format.specs.Aaf.{aaf_layout, aaf_spelling}
-use Rattle.talker.specs.declared.plan.TalkPlan.{TalkPlan}
-use Rattle.talker.specs.Frames.{aaf_bytes, aaf_packet, ethernet}
+use Rattle.aaf_format.specs.Aaf.{Aaf, aaf_layout}
+use Rattle.iec61883_format.specs.Iec.{Iec, iec_layout}
+use Rattle.packet_journal.specs.Packets.{PacketView, Pcm, Am824Data, spelling_of}
+use Rattle.talker.specs.Frames.{ethernet, packet_bytes}
 
 abbrev layout_size : {V : Type 0} → Layout V → ℕ
 layout_size [] = 0
@@ -20,11 +20,20 @@ length-spelling (p ∷ parts) v =
     let here : List ℕ = bytes_high_first (size_of p) (packed p.bits v) in
     omega (arith, length-append here (spelling parts v), length-bytes_high_first (size_of p) (packed p.bits v), length-spelling parts v)
 
-pub aaf_size : (format : AafFormat) (sparse : Bool) (plan : TalkPlan) (n : ℕ) (samples : List ℕ) → length (aaf_bytes format sparse plan n samples) ≡ 42 + length samples
-unfolding aaf_bytes
-aaf_size format sparse plan n samples =
-    let packet = aaf_packet format sparse plan n samples in
-    let header = length-spelling aaf_layout packet in
-    let whole = length-append (spelling aaf_layout packet) samples in
-    let outer = length-spelling (frame_layout true) (ethernet (aaf_spelling packet)) in
-    length-append (spelling (frame_layout true) (ethernet (aaf_spelling packet))) (aaf_spelling packet) ∙ omega arith
+pub bytes_size : (packet : PacketView) → length (packet_bytes packet) ≡ 18 + length (spelling_of packet)
+unfolding packet_bytes
+bytes_size packet =
+    let outer = length-spelling (frame_layout true) (ethernet (spelling_of packet)) in
+    length-append (spelling (frame_layout true) (ethernet (spelling_of packet))) (spelling_of packet) ∙ omega arith
+
+pub aaf_size : (v : Aaf) → length (packet_bytes (Pcm v)) ≡ 42 + length v.payload
+aaf_size v =
+    let header = length-spelling aaf_layout v in
+    let whole = length-append (spelling aaf_layout v) v.payload in
+    omega (arith, bytes_size (Pcm v))
+
+pub iec_size : (v : Iec) → length (packet_bytes (Am824Data v)) ≡ 50 + length v.payload
+iec_size v =
+    let header = length-spelling iec_layout v in
+    let whole = length-append (spelling iec_layout v) v.payload in
+    omega (arith, bytes_size (Am824Data v))

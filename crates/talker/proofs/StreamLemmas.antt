@@ -1,108 +1,161 @@
--- The frames of a stream of PCM.
-use Rattle.std.proofs.Common.{◌≡◌, ℕ, ◌+◌, ◌*◌, ◌^◌, ◌<◌, ◌≤◌, true, false, List, [], length, Some, pos, ℤ, refl, sym, ap, min, ◌∙◌, arith}
-use Rattle.std.specs.Prelude.{int_le, slice_get}
-use Rattle.std.proofs.Math.Nat.{le-mul_of_pos_right, mod-one, mul-pos, mul_assoc}
+-- What every stream keeps, and what follows of its frames and their captures.
+use Rattle.std.proofs.Common.{◌≡◌, ℕ, zero, suc, ◌+◌, ◌*◌, ◌^◌, ◌<◌, ◌≤◌, true, false, List, [], ◌∷◌, map, length, Option, Some, None, pos, refl, sym, subst, arith}
+use Rattle.std.specs.Prelude.{int_le, slice_get, IfSome}
+use Rattle.std.specs.List.{AllByRecursion, cons_option, filter_map, list_any, range_with_len}
+use Rattle.std.proofs.Math.Nat.{mod-one}
 use Rattle.std.proofs.lemmas.Bool.{le-leb, lt-leb}
 use Rattle.std.proofs.lemmas.Int.{ints}
+use Rattle.std.proofs.lemmas.List.{append-nil}
 use Rattle.std.proofs.lemmas.List.FromFn.{length-map-range_with_len}
-use Rattle.pcap_frames.specs.Capture.{HasSpelling}
-use Rattle.aaf_format.specs.Aaf.{frame_size, width_of}
-use Rattle.aaf_format.specs.declared.aaf.AafFormat.{AafFormat}
-use Rattle.aaf_format.specs.declared.aaf.AafFormat.TheVariants.{Float32, Int32, Int24, Int16}
-use Rattle.talker.specs.declared.pcm.PcmStream.{PcmStream}
-use Rattle.talker.specs.Faults.{arrives_too_late}
-use Rattle.talker.specs.Frames.{SentFrame, aaf_bytes, aaf_frame, aaf_frames, capture_style, clock_frames, frames, record_of, stream_frames}
-use Rattle.talker.specs.Samples.{samples_of}
-use Rattle.talker.specs.Talking.{IsPcm, Talking, gone_on, most_input, packets_of}
-use Rattle.talker.specs.Timing.{arrival_of}
-use Rattle.talker.proofs.FrameLemmas.{in_order, none, numbered}
-use Rattle.talker.proofs.RateLemmas.{known_rate}
-use Rattle.talker.proofs.SampleLemmas.{begun_within, samples_whole}
-use Rattle.talker.proofs.SizeLemmas.{aaf_size}
-use Rattle.talker.proofs.TimingLemmas.{in_time, rising}
+use Rattle.pcap_frames.specs.Capture.{HasSpelling, Record}
+use Rattle.pcap_frames.specs.Frame.{IsWritableFrame, SpellsFrame}
+use Rattle.pcap_frames.proofs.FrameLemmas.{frame_again}
+use Rattle.stream_journal.specs.Delivered.{AreNear, IsDelivered}
+use Rattle.packet_journal.specs.Carried.{AllCarry, Carries, IsReadKind}
+use Rattle.packet_journal.specs.Packets.{IsConforming, PacketJournal, PacketView, spelling_of}
+use Rattle.talker.specs.declared.plan.TalkPlan.{TalkPlan}
+use Rattle.talker.specs.Frames.{SentFrame, by_arrival, capture_style, ethernet, frame_of, numbered_frames, packet_bytes, record_of}
+use Rattle.talker.specs.Journal.{Stream}
+use Rattle.talker.specs.Plan.{Expects}
+use Rattle.talker.proofs.FrameLemmas.{each, in_order, none, numbered}
 
-width-some : (f : AafFormat) → 0 < width_of f
-width-some Float32 = omega arith
-width-some Int32 = omega arith
-width-some Int24 = omega arith
-width-some Int16 = omega arith
+abbrev pub packets_in : Stream → ℕ
+packets_in s = s.journal.times.packets
 
-pub stream_is : (s : PcmStream) (input : List ℕ) → IsPcm s → stream_frames s.plan input ≡ aaf_frames s.format s.sparse s.plan input
-stream_is s input p = rw (p.kind, p.plan.crf) refl
+-- The stream of a plan.
+pub record IsStream (plan : TalkPlan) (s : Stream) : Type 0 where
+  -- no packet is sent before the one in front of it, and each before the end of what captures can say
+  pub rising : (n : ℕ) → s.arrival n ≤ s.arrival (n + 1)
+  pub sent : (n : ℕ) → n < packets_in s → s.arrival n < 2 ^ 32 * 1000000000
+  -- and before it is due
+  pub early : (n : ℕ) → n < packets_in s → s.arrival n ≤ s.journal.times.due n
+  -- its frame fits Ethernet
+  pub size : (n : ℕ) → n < packets_in s → length (packet_bytes (s.journal.packet n)) ≤ 1518
+  -- the talker keeps the rules
+  pub conforms : plan.id < 2 ^ 64 → IsConforming (pos 0) s.journal
+  -- a capture delivers each packet
+  pub read : IsReadKind s.journal.times.kind
+  pub on_time : (lead n : ℕ) → Expects plan lead → n < packets_in s → IsDelivered s.journal.times lead (record { number = n; arrival = s.arrival n })
+  pub near : (numbers : List ℕ) → AreNear s.journal.times numbers
 
-pub no_clock : (s : PcmStream) (input : List ℕ) → IsPcm s → clock_frames s.plan input ≡ []
-no_clock s input p = rw (p.plan.crf) refl
+-- ---- its frames
 
-pub frames_are : (s : PcmStream) (input : List ℕ) → IsPcm s → frames s.plan input ≡ aaf_frames s.format s.sparse s.plan input
-frames_are s input p =
-    let rises : (k : ℕ) → int_le (pos (arrival_of s.plan k)) (pos (arrival_of s.plan (k + 1))) ≡ true =
-    λ k. le-leb _ _ (let rate = known_rate s.plan.rate s.code p.code in rising s.plan k p.plan rate.least rate.most) in
-    rw (no_clock s input p, stream_is s input p) (in_order (aaf_frame s.format s.sparse s.plan input) rises 0 (packets_of s input))
+pub in_turn : (plan : TalkPlan) (s : Stream) → IsStream plan s → by_arrival (numbered_frames s) ≡ numbered_frames s
+in_turn plan s is =
+    let rises : (k : ℕ) → int_le (pos (s.arrival k)) (pos (s.arrival (k + 1))) ≡ true = λ k. le-leb _ _ (is.rising k) in
+    in_order (frame_of s) rises 0 (packets_in s)
 
-pub packets_are : (s : PcmStream) (input : List ℕ) → IsPcm s → length (stream_frames s.plan input) ≡ packets_of s input
-packets_are s input p = rw (stream_is s input p) (length-map-range_with_len (aaf_frame s.format s.sparse s.plan input) 0 (packets_of s input))
+pub never_late : (plan : TalkPlan) (s : Stream) → IsStream plan s → list_any (λ f. int_le (pos (2 ^ 32 * 1000000000)) f.arrival) (numbered_frames s) ≡ false
+never_late plan s is =
+    none (frame_of s) (λ f. int_le (pos (2 ^ 32 * 1000000000)) f.arrival) 0 (packets_in s)
+    (λ k h. let known : k < packets_in s = omega arith in lt-leb (2 ^ 32 * 1000000000) (s.arrival k) (is.sent k known))
 
--- ---- packet n of an input that is not too long
+pub count_of : (s : Stream) → length (numbered_frames s) ≡ packets_in s
+count_of s = length-map-range_with_len (frame_of s) 0 (packets_in s)
 
--- its events can be counted, and it is sent before the end of what captures can say
-pub record IsTimely (s : PcmStream) (n : ℕ) : Type 0 where
-  pub events : n * s.plan.count ≤ 268435456
-  pub sent : arrival_of s.plan n < 2 ^ 32 * 1000000000
+pub at_number : (s : Stream) (n : ℕ) → n < packets_in s → slice_get (numbered_frames s) n ≡ Some (frame_of s n)
+at_number s n h = numbered (frame_of s) 0 (packets_in s) n n h (omega arith)
 
-pub timely : (s : PcmStream) (input : List ℕ) (n : ℕ) → IsPcm s → length input ≤ most_input → n < packets_of s input → IsTimely s n
-timely s input n p limit h =
-    let frame : ℕ = frame_size s.plan.channels s.format in
-    let some : 0 < frame = mul-pos p.plan.some_channels (width-some s.format) in
-    let begins : n * (s.plan.count * frame) < length input = begun_within frame s.plan.count n input some p.plan.some_count h in
-    let fewer : n * s.plan.count ≤ n * s.plan.count * frame = le-mul_of_pos_right (n * s.plan.count) some in
-    let events : n * s.plan.count ≤ 268435456 = omega (arith, mul_assoc n s.plan.count frame) in
-    let rate = known_rate s.plan.rate s.code p.code in
-    let instant = in_time s.plan n p.plan rate.least events in
-    record { events = events; sent = omega arith }
+pub writable_frame : (packet : List ℕ) → IsWritableFrame (ethernet packet)
+writable_frame packet = record {
+  dst = omega arith;
+  src = omega arith;
+  ethertype = omega arith;
+  tag = (omega arith, omega arith);
+  untagged = tt;
+}
 
-pub never_late : (s : PcmStream) (input : List ℕ) → IsPcm s → length input ≤ most_input → arrives_too_late s.plan input ≡ false
-never_late s input p limit =
-    rw (frames_are s input p)
-    (none (aaf_frame s.format s.sparse s.plan input) (λ f. int_le (pos (2 ^ 32 * 1000000000)) f.arrival) 0 (packets_of s input)
-    (λ k h. let known : k < packets_of s input = omega arith in lt-leb (2 ^ 32 * 1000000000) (arrival_of s.plan k) (timely s input k p limit known).sent))
+pub frame_spells : (packet : PacketView) → SpellsFrame (packet_bytes packet) (ethernet (spelling_of packet))
+unfolding packet_bytes
+frame_spells packet = frame_again (ethernet (spelling_of packet)) (writable_frame (spelling_of packet))
 
-pub has_spelling : (s : PcmStream) (input : List ℕ) (n : ℕ) → IsPcm s → length input ≤ most_input → n < packets_of s input
-    → HasSpelling capture_style (record_of (aaf_frame s.format s.sparse s.plan input n))
-has_spelling s input n p limit h =
-    let frame : ℕ = frame_size s.plan.channels s.format in
-    let fits : s.plan.count * frame ≤ 1476 = rw p.kind at p.plan.fits in
-    let size = aaf_size s.format s.sparse s.plan n (samples_of frame s.plan.count input n) in
-    let samples = samples_whole frame s.plan.count n input in
-    let sent = (timely s input n p limit h).sent in
+pub has_spelling : (plan : TalkPlan) (s : Stream) (n : ℕ) → IsStream plan s → n < packets_in s → HasSpelling capture_style (record_of (frame_of s n))
+has_spelling plan s n is h =
+    let sent = is.sent n h in
+    let size = is.size n h in
     record {
       begun = omega (arith, ints);
       ended = omega (arith, ints);
-      whole = mod-one (arrival_of s.plan n);
+      whole = mod-one (s.arrival n);
       orig_len = omega arith;
       limit = omega arith;
     }
 
--- packet n as it is sent, and its place among the others
-pub frame_sent : (s : PcmStream) (input : List ℕ) (n : ℕ) (arrival : ℤ) (bytes : List ℕ) → arrival ≡ pos (arrival_of s.plan n)
-    → bytes ≡ aaf_bytes s.format s.sparse s.plan n (samples_of (frame_size s.plan.channels s.format) s.plan.count input n)
-    → record { arrival = arrival; number = n; clock = false; bytes = bytes } ≡ aaf_frame s.format s.sparse s.plan input n
-frame_sent s input n arrival bytes at made = rw (at, made) refl
+-- ---- some of its frames
 
-pub stream_at : (s : PcmStream) (input : List ℕ) (n : ℕ) (f : SentFrame) → IsPcm s → n < packets_of s input
-    → f ≡ aaf_frame s.format s.sparse s.plan input n → slice_get (stream_frames s.plan input) n ≡ Some f
-stream_at s input n f p h e = rw (stream_is s input p, e) (numbered (aaf_frame s.format s.sparse s.plan input) 0 (packets_of s input) n n h (omega arith))
+-- a frame is that of some packet
+pub record IsFrameOf (s : Stream) (f : SentFrame) : Type 0 where
+  pub number : ℕ
+  pub known : number < packets_in s
+  pub same : f ≡ frame_of s number
 
--- ---- all frames
+pub all_frames : (s : Stream) → AllByRecursion (IsFrameOf s) (numbered_frames s)
+all_frames s = each (frame_of s) (IsFrameOf s) 0 (packets_in s) (λ k h. record { number = k; known = omega arith; same = refl })
 
--- without a media clock they are those of the stream
-pub all_are : (s : PcmStream) (input : List ℕ) → IsPcm s → frames s.plan input ≡ stream_frames s.plan input
-all_are s input p = frames_are s input p ∙ sym (stream_is s input p)
+at_place : {X : Type 0} (P : X → Type 0) (xs : List X) (k : ℕ) → AllByRecursion P xs → IfSome (slice_get xs k) P
+at_place P [] k all = tt
+at_place P (x ∷ xs) zero all = all.0
+at_place P (x ∷ xs) (suc k) all = at_place P xs k all.1
 
-pub count_is : (s : PcmStream) (input : List ℕ) → IsPcm s → length (frames s.plan input) ≡ packets_of s input
-count_is s input p = ap length (all_are s input p) ∙ packets_are s input p
+kept : {X Y : Type 0} (P : Y → Type 0) (h : X → Option Y) (xs : List X) → ((x : X) → IfSome (h x) P) → AllByRecursion P (filter_map h xs)
+kept P h [] each = tt
+kept P h (x ∷ xs) each = kept_by P (h x) (filter_map h xs) (each x) (kept P h xs each)
+  where
+    kept_by : {Y : Type 0} (P : Y → Type 0) (r : Option Y) (ys : List Y) → IfSome r P → AllByRecursion P ys → AllByRecursion P (cons_option r ys)
+    kept_by P None ys here rest = rest
+    kept_by P (Some y) ys here rest = (here, rest)
 
-pub went_on : (t : Talking) → t.given < length (frames t.plan t.input) → record t { given = t.given + 1 } ≡ gone_on t
-went_on t h = let one : t.given + 1 ≡ min (t.given + 1) (length (frames t.plan t.input)) = omega arith in ap (λ (k : ℕ). record t { given = k }) one
+-- and so are those in some places
+pub frames_in : (s : Stream) (places : List ℕ) → AllByRecursion (IsFrameOf s) (filter_map (slice_get (numbered_frames s)) places)
+frames_in s places = kept (IsFrameOf s) (slice_get (numbered_frames s)) places (λ k. at_place (IsFrameOf s) (numbered_frames s) k (all_frames s))
 
-pub stopped : (t : Talking) → t.given ≡ length (frames t.plan t.input) → t ≡ gone_on t
-stopped t h = let same : t.given ≡ min (t.given + 1) (length (frames t.plan t.input)) = omega arith in ap (λ (k : ℕ). record t { given = k }) same
+-- their records can be spelled
+pub spelled : (plan : TalkPlan) (s : Stream) (given : List SentFrame) → IsStream plan s → AllByRecursion (IsFrameOf s) given
+    → AllByRecursion (HasSpelling capture_style) (map record_of given)
+spelled plan s [] is all = tt
+spelled plan s (f ∷ given) is all =
+    let P : SentFrame → Type 0 = λ f. HasSpelling capture_style (record_of f) in
+    (subst P (sym all.0.same) (has_spelling plan s all.0.number is all.0.known), spelled plan s given is all.1)
+
+-- ---- its captures
+
+carried : (plan : TalkPlan) (s : Stream) (lead n : ℕ) → IsStream plan s → Expects plan lead → n < packets_in s → Carries s.journal lead n (record_of (frame_of s n))
+unfolding packet_bytes
+carried plan s lead n is expects h =
+    let packet : List ℕ = spelling_of (s.journal.packet n) in
+    record {
+      frame = ethernet packet;
+      writable = writable_frame packet;
+      bytes = refl;
+      avtp = refl;
+      packet = record { trail = []; whole = sym (append-nil packet) };
+      arrival = s.arrival n;
+      arrived = refl;
+      delivered = is.on_time lead n expects h;
+    }
+
+all_by : (j : PacketJournal) (lead : ℕ) (f : ℕ → SentFrame) (a k : ℕ) → ((n : ℕ) → n < a + k → Carries j lead n (record_of (f n)))
+    → AllCarry j lead (range_with_len a k) (map record_of (map f (range_with_len a k)))
+all_by j lead f a zero each = tt
+all_by j lead f a (suc k) each = (each a (omega arith), all_by j lead f (a + 1) k (λ n h. each n (omega arith)))
+
+pub all_carried : (plan : TalkPlan) (s : Stream) (lead : ℕ) → IsStream plan s → Expects plan lead
+    → AllCarry s.journal lead (range_with_len 0 (packets_in s)) (map record_of (numbered_frames s))
+all_carried plan s lead is expects =
+    all_by s.journal lead (frame_of s) 0 (packets_in s) (λ n h. let known : n < packets_in s = omega arith in carried plan s lead n is expects known)
+
+-- records carry the packets of these numbers
+pub record AreCarried (j : PacketJournal) (lead : ℕ) (rs : List Record) : Type 0 where
+  pub numbers : List ℕ
+  pub carry : AllCarry j lead numbers rs
+
+pub some_carried : (plan : TalkPlan) (s : Stream) (lead : ℕ) (given : List SentFrame) → IsStream plan s → Expects plan lead → AllByRecursion (IsFrameOf s) given
+    → AreCarried s.journal lead (map record_of given)
+some_carried plan s lead [] is expects all = record { numbers = []; carry = tt }
+some_carried plan s lead (f ∷ given) is expects all =
+    let rest = some_carried plan s lead given is expects all.1 in
+    let P : SentFrame → Type 0 = λ f. Carries s.journal lead all.0.number (record_of f) in
+    record {
+      numbers = all.0.number ∷ rest.numbers;
+      carry = (subst P (sym all.0.same) (carried plan s lead all.0.number is expects all.0.known), rest.carry);
+    }

@@ -6,6 +6,7 @@ use Rattle.std.proofs.lemmas.Int.{ints}
 use Rattle.talker.specs.declared.plan.TalkPlan.{TalkPlan}
 use Rattle.talker.specs.Plan.{IsPlan}
 use Rattle.talker.specs.Timing.{arrival_of, event_of, first_instant, first_packet, nominal_instant, nominal_offset, run_of}
+use Rattle.talker.proofs.RateLemmas.{rate_from, rate_range}
 use Rattle.talker.proofs.RunLemmas.{in_run, later_run}
 
 -- ---- offsets
@@ -60,17 +61,18 @@ few_jumps plan n p events =
     omega (arith, in_its.jumps)
 
 -- no instant of it passes what captures can say
-pub in_time : (plan : TalkPlan) (n : ℕ) → IsPlan plan → 8000 ≤ plan.rate → n * plan.count ≤ 268435456
-    → nominal_instant plan n 0 < plan.lead + 2 ^ 32 * 1000000000
+pub in_time : (plan : TalkPlan) (n i : ℕ) → IsPlan plan → n * plan.count ≤ 268435456 → i < plan.count
+    → nominal_instant plan n i < plan.lead + 2 ^ 32 * 1000000000
 unfolding nominal_instant
-in_time plan n p least events =
+in_time plan n i p events within =
+    let least = rate_from plan p in
     let in_its = in_run plan.restart plan.jump plan.count n p.restart in
     let first : ℕ = first_packet plan (run_of plan n) in
     let before = short_offset plan.rate (first * plan.count) least in
-    let inside = short_offset plan.rate (event_of plan n 0) least in
+    let inside = short_offset plan.rate (event_of plan n i) least in
     let jumps = few_jumps plan n p events in
     let start : nat_abs plan.start ≤ 4000000000000000000 = omega (arith, ints) in
-    omega (arith, in_its.parts)
+    omega (arith, in_its.parts, p.count)
 
 -- ---- the next packet
 
@@ -81,10 +83,13 @@ apart_by : (s j x y k z w a b c d n count rate : ℕ) → a + b ≡ n → c + d 
 apart_by s j x y k z w a b c d n count rate e f jumps wide under also over and = omega arith
 
 -- two first instants are 3/4 of a packet's time apart, and a nanosecond
-pub apart : (plan : TalkPlan) (n : ℕ) → IsPlan plan → 8000 ≤ plan.rate → plan.rate ≤ 192000
+pub apart : (plan : TalkPlan) (n : ℕ) → IsPlan plan
     → 4 * (first_instant plan n * plan.rate) + 3 * (plan.count * 1000000000) + 4 * plan.rate ≤ 4 * (first_instant plan (suc n) * plan.rate)
 unfolding nominal_instant
-apart plan n p least most =
+apart plan n p =
+    let range = rate_range plan p in
+    let least = range.least in
+    let most = range.most in
     let here = in_run plan.restart plan.jump plan.count n p.restart in
     let next = in_run plan.restart plan.jump plan.count (suc n) p.restart in
     let a : ℕ = first_packet plan (run_of plan n) * plan.count in
@@ -108,9 +113,10 @@ not_before x y rate time some h = elim (cases_lt y x) [
 ]
 
 -- no packet is sent before the one in front of it
-pub rising : (plan : TalkPlan) (n : ℕ) → IsPlan plan → 8000 ≤ plan.rate → plan.rate ≤ 192000 → arrival_of plan n ≤ arrival_of plan (n + 1)
-rising plan n p least most =
+pub rising : (plan : TalkPlan) (n : ℕ) → IsPlan plan → arrival_of plan n ≤ arrival_of plan (n + 1)
+rising plan n p =
+    let least = rate_from plan p in
     let next : n + 1 ≡ suc n = omega arith in
     let h = not_before (first_instant plan n) (first_instant plan (suc n)) plan.rate (3 * (plan.count * 1000000000) + 4 * plan.rate) (omega arith)
-    (let far = apart plan n p least most in omega arith) in
+    (let far = apart plan n p in omega arith) in
     rw next (omega arith)

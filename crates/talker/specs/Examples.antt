@@ -1,8 +1,8 @@
--- A plan whose times are worked out by hand.
+-- Plans whose times are worked out by hand.
 use Rattle.std.specs.Prelude.{◌≡◌, ℕ, true, pos, Some, None}
 use Rattle.aaf_format.specs.declared.aaf.AafFormat.TheVariants.{Int16}
-use Rattle.stream_journal.specs.Journal.{Journal}
-use Rattle.talker.specs.declared.plan.TalkKind.TheVariants.{Aaf}
+use Rattle.stream_journal.specs.Journal.{Journal, rule_of}
+use Rattle.talker.specs.declared.plan.TalkKind.TheVariants.{Aaf, Am824}
 use Rattle.talker.specs.declared.plan.TalkPlan.{TalkPlan}
 
 -- Packets of 6 stereo sample frames of 16 bits at 48 kHz, in sparse mode, with a restart after each ten packets.
@@ -20,8 +20,13 @@ restarting = record {
   crf = None;
 }
 
--- packet n has the same times in two journals
+-- Packets of 6 stereo data blocks of AM824 at some rate.
+abbrev pub six_blocks : ℕ → TalkPlan
+six_blocks rate = record restarting { kind = Am824; rate = rate; restart = None }
+
+-- packet n has the same times in two journals, and stamps the same sample
 pub record HasSameTimes (a b : Journal) (n : ℕ) : Type 0 where
   pub due : a.due n ≡ b.due n
   pub stamp : a.stamp n ≡ b.stamp n
   pub mr : a.mr n ≡ b.mr n
+  pub rule : rule_of a.kind n ≡ rule_of b.kind n

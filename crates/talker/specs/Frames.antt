@@ -1,21 +1,19 @@
 -- The frames of a plan, and the capture that they make.
-use Rattle.std.specs.Prelude.{ℕ, ◌*◌, ◌%◌, ◌==◌, Bool, true, false, if◌then◌else◌, ℤ, pos, int_le, ◌≤ℤ◌, List, [], ◌∷◌, ◌++◌, length, map, slice_get, Option, Some, None, unwrap_or, ⊤}
+use Rattle.std.specs.Prelude.{ℕ, Bool, false, if◌then◌else◌, ℤ, pos, int_le, ◌≤ℤ◌, List, [], ◌∷◌, ◌++◌, length, map, slice_get, Option, Some, None, ⊤}
 use Rattle.std.specs.List.{filter_map, range_with_len}
 use Rattle.pcap_frames.specs.declared.style.Order.TheVariants.{Little}
 use Rattle.pcap_frames.specs.declared.style.Style.{Style}
 use Rattle.pcap_frames.specs.declared.style.Unit.TheVariants.{Nano}
 use Rattle.pcap_frames.specs.Capture.{Record, capture_spelling}
 use Rattle.pcap_frames.specs.Frame.{Frame, frame_spelling}
+use Rattle.avtp_header.specs.Numbers.{avtp_ethertype}
 use Rattle.aaf_format.specs.declared.aaf.AafFormat.{AafFormat}
-use Rattle.aaf_format.specs.Aaf.{Aaf as Packet, aaf_spelling, aaf_subtype, frame_size, width_of}
+use Rattle.packet_journal.specs.Packets.{PacketView, Pcm, spelling_of}
 use Rattle.talker.specs.declared.plan.CrfPlan.{CrfPlan}
-use Rattle.talker.specs.declared.plan.TalkKind.{TalkKind}
-use Rattle.talker.specs.declared.plan.TalkKind.TheVariants.{Aaf}
 use Rattle.talker.specs.declared.plan.TalkPlan.{TalkPlan}
 use Rattle.talker.specs.declared.sent.Sent.{Sent}
-use Rattle.talker.specs.Plan.{rate_code}
-use Rattle.talker.specs.Timing.{arrival_of, first_instant, mr_of, seq_of, timestamp_of}
-use Rattle.talker.specs.Samples.{packets_for, samples_of}
+use Rattle.talker.specs.Journal.{Stream, stream_of}
+use Rattle.talker.specs.Packets.{aaf_packet}
 
 -- A frame as it is sent: when, the number of its packet in the stream or in the clock, which of these it is, and its bytes.
 pub record SentFrame : Type 0 where
@@ -35,75 +33,42 @@ ethernet packet = record {
   dst = 0x91E0F000FE00;
   src = 0x020000000001;
   tag = Some (record { pcp = 3; dei = false; vid = 2 });
-  ethertype = 0x22F0;
+  ethertype = avtp_ethertype;
   start = 18;
   payload = packet;
 }
 
--- ---- PCM (IEEE 1722-2016, 7)
+-- ---- the packets of the stream
 
--- A packet is stamped with the instant of its first sample frame. In sparse mode only one in eight is.
-abbrev pub is_stamped : Bool → ℕ → Bool
-is_stamped sparse n = if sparse then seq_of n % 8 == 0 else true
+-- the bytes of a packet's frame
+unfoldable pub packet_bytes : PacketView → List ℕ
+packet_bytes packet = frame_spelling (ethernet (spelling_of packet))
 
--- packet n, with these samples, of a plan without a media clock
-abbrev pub aaf_packet : AafFormat → Bool → TalkPlan → ℕ → List ℕ → Packet
-aaf_packet format sparse plan n samples =
-    let stamped = is_stamped sparse n in
-    record {
-      header = record {
-        subtype = aaf_subtype;
-        sv = true;
-        mr = mr_of plan n;
-        format_bits = 0;
-        tv = stamped;
-        seq = seq_of n;
-        tu = false;
-        stream_id = plan.id;
-        timestamp = if stamped then timestamp_of (first_instant plan n) else 0;
-        data_length = plan.count * frame_size plan.channels format;
-      };
-      format = format;
-      nsr = unwrap_or (rate_code plan.rate) 0;
-      channels = plan.channels;
-      depth = 8 * width_of format;
-      sparse = sparse;
-      evt = 0;
-      count = plan.count;
-      payload = samples;
-      reserved = false;
-    }
+-- and of a packet of PCM
+abbrev pub aaf_bytes : AafFormat → Bool → TalkPlan → ℕ → List ℕ → List ℕ
+aaf_bytes format sparse plan n samples = packet_bytes (Pcm (aaf_packet format sparse plan n samples))
 
--- the bytes of its frame
-unfoldable pub aaf_bytes : AafFormat → Bool → TalkPlan → ℕ → List ℕ → List ℕ
-aaf_bytes format sparse plan n samples = frame_spelling (ethernet (aaf_spelling (aaf_packet format sparse plan n samples)))
-
-abbrev pub aaf_frame : AafFormat → Bool → TalkPlan → List ℕ → ℕ → SentFrame
-aaf_frame format sparse plan input n = record {
-  arrival = pos (arrival_of plan n);
+-- the frame of packet n of a stream
+abbrev pub frame_of : Stream → ℕ → SentFrame
+frame_of stream n = record {
+  arrival = pos (stream.arrival n);
   number = n;
   clock = false;
-  bytes = aaf_bytes format sparse plan n (samples_of (frame_size plan.channels format) plan.count input n);
+  bytes = packet_bytes (stream.journal.packet n);
 }
 
-abbrev pub aaf_frames : AafFormat → Bool → TalkPlan → List ℕ → List SentFrame
-aaf_frames format sparse plan input =
-    map (aaf_frame format sparse plan input)
-    (range_with_len 0 (packets_for (frame_size plan.channels format) plan.count input))
+-- the frames of a stream, by the numbers of their packets
+abbrev pub numbered_frames : Stream → List SentFrame
+numbered_frames stream = map (frame_of stream) (range_with_len 0 stream.journal.times.packets)
+
+abbrev pub stream_frames : TalkPlan → List ℕ → List SentFrame
+stream_frames plan input = numbered_frames (stream_of plan input)
 
 -- ---- all frames
 
--- what is not talked so far: no plan asks for it
+-- no clock is talked so far: no plan asks for one
 abbrev pub not_talked : List SentFrame
 not_talked = []
-
-abbrev pub stream_by : TalkKind → Option CrfPlan → TalkPlan → List ℕ → List SentFrame
-stream_by (Aaf format sparse) None plan input = aaf_frames format sparse plan input
-stream_by kind crf plan input = not_talked
-
--- the packets of the stream, by number
-abbrev pub stream_frames : TalkPlan → List ℕ → List SentFrame
-stream_frames plan input = stream_by plan.kind plan.crf plan input
 
 abbrev pub clock_by : Option CrfPlan → TalkPlan → List ℕ → List SentFrame
 clock_by None plan input = []

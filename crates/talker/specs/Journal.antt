@@ -1,88 +1,95 @@
 -- The journal of a plan: its packets in true numbers and at true instants.
-use Rattle.std.specs.Prelude.{ℕ, ◌+◌, ◌-◌, ◌*◌, ◌%◌, Bool, true, false, if◌then◌else◌, List, [], Option, Some, None}
-use Rattle.aaf_format.specs.declared.aaf.AafFormat.{AafFormat}
+use Rattle.std.specs.Prelude.{ℕ, nat_abs, false, List, [], Option, Some, None}
 use Rattle.aaf_format.specs.declared.aaf.AafFormat.TheVariants.{Int16}
-use Rattle.aaf_format.specs.Aaf.{frame_size}
 use Rattle.crf_format.specs.Crf.{Crf, crf_of}
-use Rattle.time_unfold.specs.Stamps.{same_flag}
 use Rattle.stream_journal.specs.Clocks.{no_clock}
-use Rattle.stream_journal.specs.Journal.{Journal, Kind, DenseAaf, SparseAaf}
+use Rattle.time_unfold.specs.declared.head_rule.Head.{Head}
+use Rattle.stream_journal.specs.Journal.{Journal, Kind, DenseAaf, head_of, nominal_instant}
 use Rattle.packet_journal.specs.Packets.{PacketJournal, Pcm}
 use Rattle.talker.specs.declared.plan.CrfPlan.{CrfPlan}
-use Rattle.talker.specs.declared.plan.TalkKind.{TalkKind}
-use Rattle.talker.specs.declared.plan.TalkKind.TheVariants.{Aaf}
 use Rattle.talker.specs.declared.plan.TalkPlan.{TalkPlan}
-use Rattle.talker.specs.Frames.{aaf_packet, is_stamped}
+use Rattle.talker.specs.Audio.{Audio, audio_by}
+use Rattle.talker.specs.Packets.{aaf_packet, stamp_of}
 use Rattle.talker.specs.Samples.{packets_for, samples_of}
-use Rattle.talker.specs.Timing.{first_instant, mr_of, nominal_offset}
+use Rattle.talker.specs.Timing.{arrival_of, first_instant, mr_of}
 
--- the kind of a stream of PCM, by whether it is sparse
-abbrev pub kind_of : Bool → Kind
-kind_of false = DenseAaf
-kind_of true = SparseAaf
+-- ---- audio, without a media clock
 
--- When packet n is due. A sparse packet is counted from the last packet whose number is a multiple of 8, if their restart
--- bits agree: it is due at that packet's timestamp and the time of the sample frames from there on, each rounded down. A
--- packet that has nothing to be counted from is due at its nominal first instant.
-abbrev pub due_of : Bool → TalkPlan → ℕ → ℕ
-due_of false plan n = first_instant plan n
-due_of true plan n =
-    if same_flag (mr_of plan (n - n % 8)) (mr_of plan n)
-    then first_instant plan (n - n % 8) + nominal_offset plan.rate (n % 8 * plan.count)
-    else first_instant plan n
-
--- the instant with which packet n is stamped
-abbrev pub stamp_of : Bool → TalkPlan → ℕ → Option ℕ
-stamp_of sparse plan n = if is_stamped sparse n then Some (first_instant plan n) else None
-
--- the times of PCM, without a media clock
-abbrev pub pcm_times : AafFormat → Bool → TalkPlan → List ℕ → Journal
-pcm_times format sparse plan input = record {
-  kind = kind_of sparse;
+-- the times of so many packets of a kind, as if each were due at its nominal first instant
+abbrev pub nominal_times : Kind → TalkPlan → ℕ → Journal
+nominal_times kind plan packets = record {
+  kind = kind;
   rate = plan.rate;
   count = plan.count;
-  packets = packets_for (frame_size plan.channels format) plan.count input;
-  due = λ n. due_of sparse plan n;
-  stamp = λ n. stamp_of sparse plan n;
+  packets = packets;
+  due = λ n. first_instant plan n;
+  stamp = λ n. stamp_of kind plan n;
   mr = λ n. mr_of plan n;
   clock = no_clock;
 }
+
+-- When packet n is due: at its first sample, counted from its head. A packet without a head is due at its nominal first
+-- instant.
+abbrev pub due_by : Journal → ℕ → Option Head → ℕ
+due_by j n None = j.due n
+due_by j n (Some head) = nat_abs (nominal_instant j head 0)
+
+abbrev pub due_in : Journal → ℕ → ℕ
+due_in j n = due_by j n (head_of j n)
+
+-- the times of so many packets
+abbrev pub audio_times : Kind → TalkPlan → ℕ → Journal
+audio_times kind plan packets = record (nominal_times kind plan packets) { due = λ n. due_in (nominal_times kind plan packets) n }
+
+-- how many packets of a format hold the input, and the samples of one
+abbrev pub packets_of : Audio → TalkPlan → List ℕ → ℕ
+packets_of audio plan input = packets_for audio.frame plan.count input
+
+abbrev pub samples_in : Audio → TalkPlan → List ℕ → ℕ → List ℕ
+samples_in audio plan input n = samples_of audio.silence audio.frame plan.count input n
 
 -- no clock packet is sent; this stands where one would
 abbrev pub no_packet : Crf
 no_packet = crf_of []
 
-abbrev pub pcm_journal : AafFormat → Bool → TalkPlan → List ℕ → PacketJournal
-pcm_journal format sparse plan input = record {
-  times = pcm_times format sparse plan input;
+abbrev pub audio_journal : Audio → TalkPlan → List ℕ → PacketJournal
+audio_journal audio plan input = record {
+  times = audio_times audio.kind plan (packets_of audio plan input);
   stream = plan.id;
-  packet = λ n. Pcm (aaf_packet format sparse plan n (samples_of (frame_size plan.channels format) plan.count input n));
+  packet = λ n. audio.packet n (samples_in audio plan input n);
   clock = 0;
   clock_packet = λ m. no_packet;
 }
 
--- a journal without packets, for what is not talked so far
-abbrev pub silent : TalkPlan → PacketJournal
+-- ---- all streams
+
+-- A stream as it is sent: its packets with their times, and when each is sent.
+pub record Stream : Type 0 where
+  pub journal : PacketJournal
+  pub arrival : ℕ → ℕ
+
+-- a stream without packets, for what is not talked so far
+abbrev pub silent : TalkPlan → Stream
 silent plan = record {
-  times = record {
-    kind = DenseAaf;
-    rate = plan.rate;
-    count = plan.count;
-    packets = 0;
-    due = λ n. 0;
-    stamp = λ n. None;
-    mr = λ n. false;
-    clock = no_clock;
+  journal = record {
+    times = nominal_times DenseAaf plan 0;
+    stream = plan.id;
+    packet = λ n. Pcm (aaf_packet Int16 false plan n []);
+    clock = 0;
+    clock_packet = λ m. no_packet;
   };
-  stream = plan.id;
-  packet = λ n. Pcm (aaf_packet Int16 false plan n []);
-  clock = 0;
-  clock_packet = λ m. no_packet;
+  arrival = λ n. 0;
 }
 
-abbrev pub journal_by : TalkKind → Option CrfPlan → TalkPlan → List ℕ → PacketJournal
-journal_by (Aaf format sparse) None plan input = pcm_journal format sparse plan input
-journal_by kind crf plan input = silent plan
+abbrev pub stream_by : Option Audio → Option CrfPlan → TalkPlan → List ℕ → Stream
+stream_by (Some audio) None plan input = record {
+  journal = audio_journal audio plan input;
+  arrival = λ n. arrival_of plan n;
+}
+stream_by audio crf plan input = silent plan
+
+abbrev pub stream_of : TalkPlan → List ℕ → Stream
+stream_of plan input = stream_by (audio_by plan.kind plan) plan.crf plan input
 
 abbrev pub journal : TalkPlan → List ℕ → PacketJournal
-journal plan input = journal_by plan.kind plan.crf plan input
+journal plan input = (stream_of plan input).journal

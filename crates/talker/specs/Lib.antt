@@ -1,9 +1,11 @@
 pub mod Plan
 pub mod Timing
 pub mod Samples
+pub mod Packets
+pub mod Audio
+pub mod Journal
 pub mod Frames
 pub mod Faults
-pub mod Journal
 pub mod Talking
 pub mod Kept
 pub mod Lending

@@ -1,6 +1,7 @@
 -- Which plans are talked.
-use Rattle.std.specs.Prelude.{◌≡◌, ℕ, ◌+◌, ◌*◌, ◌^◌, ◌<◌, ◌≤◌, ◌==◌, true, false, pos, ◌≤ℤ◌, if◌then◌else◌, Option, Some, None, IsSome, ⊤}
+use Rattle.std.specs.Prelude.{◌≡◌, ℕ, ◌+◌, ◌*◌, ◌^◌, ◌<◌, ◌≤◌, ◌==◌, true, false, pos, ◌≤ℤ◌, if◌then◌else◌, Option, Some, None, IsSome, option_and_then, unwrap_or, ⊤}
 use Rattle.aaf_format.specs.Aaf.{frame_size}
+use Rattle.iec61883_format.specs.Iec.{block_size, syt_interval}
 use Rattle.talker.specs.declared.plan.TalkKind.{TalkKind}
 use Rattle.talker.specs.declared.plan.TalkKind.TheVariants.{Aaf, Am824, H264}
 use Rattle.talker.specs.declared.plan.TalkPlan.{TalkPlan}
@@ -19,20 +20,52 @@ rate_code rate =
     if rate == 192000 then Some 9 else
     if rate == 24000 then Some 10 else None
 
--- the most bytes of samples that a packet of AAF holds in an Ethernet frame
+-- the code of a sample rate (FDF) in IEC 61883-6, for each rate that it has
+abbrev pub fdf_of : ℕ → Option ℕ
+fdf_of rate =
+    if rate == 32000 then Some 0 else
+    if rate == 44100 then Some 1 else
+    if rate == 48000 then Some 2 else
+    if rate == 88200 then Some 3 else
+    if rate == 96000 then Some 4 else
+    if rate == 176400 then Some 5 else
+    if rate == 192000 then Some 6 else None
+
+-- SYT_INTERVAL at a sample rate: of so many data blocks one is stamped (IEC 61883-6)
+abbrev pub interval_of : ℕ → ℕ
+interval_of rate = unwrap_or (option_and_then syt_interval (fdf_of rate)) 8
+
+-- the most bytes of samples that a packet of AAF holds in an Ethernet frame, and of data blocks one of IEC 61883
 abbrev pub most_samples : ℕ
 most_samples = 1476
 
--- PCM. (So far no other kind is talked.)
+abbrev pub most_blocks : ℕ
+most_blocks = 1468
+
+-- PCM and AM824. (So far no other kind is talked.)
 abbrev pub IsTalked : TalkKind → Type 0
 IsTalked (Aaf format sparse) = ⊤
-IsTalked Am824 = ⊥
+IsTalked Am824 = ⊤
 IsTalked (H264 last_stamp) = ⊥
 
-abbrev pub FitsPacket : TalkKind → ℕ → ℕ → Type 0
-FitsPacket (Aaf format sparse) channels count = count * frame_size channels format ≤ most_samples
-FitsPacket Am824 channels count = ⊥
-FitsPacket (H264 last_stamp) channels count = ⊥
+-- the rate is one that the format names
+abbrev pub HasRate : TalkKind → ℕ → Type 0
+HasRate (Aaf format sparse) rate = IsSome (rate_code rate)
+HasRate Am824 rate = IsSome (fdf_of rate)
+HasRate (H264 last_stamp) rate = ⊥
+
+-- A packet of AM824 has data blocks of at most 256 quadlets, which fit an Ethernet frame, and at least an eighth of the
+-- interval of them: then in 8 packets beside each other a block is stamped.
+pub record FitsBlocks (plan : TalkPlan) : Type 0 where
+  pub quadlets : plan.channels ≤ 256
+  pub some : interval_of plan.rate ≤ 8 * plan.count
+  pub size : plan.count * block_size plan.channels ≤ most_blocks
+
+-- a packet of so many sample frames fits an Ethernet frame
+abbrev pub FitsPacket : TalkKind → TalkPlan → Type 0
+FitsPacket (Aaf format sparse) plan = plan.count * frame_size plan.channels format ≤ most_samples
+FitsPacket Am824 plan = FitsBlocks plan
+FitsPacket (H264 last_stamp) plan = ⊥
 
 -- A restart after so many packets, which sets presentation times so many nanoseconds forward. Listeners rely on a restart
 -- bit that stands for 8 packets at least.
@@ -46,15 +79,16 @@ abbrev pub Restarts : Option ℕ → ℕ → Type 0
 Restarts None jump = ⊤
 Restarts (Some packets) jump = IsRestart packets jump
 
--- A plan that is talked: PCM in the AVTP audio format, sparse or not, with restarts or without, and without a media clock.
+-- A plan that is talked: PCM in the AVTP audio format, sparse or not, or AM824, with restarts or without, and without a
+-- media clock.
 pub record IsPlan (plan : TalkPlan) : Type 0 where
   pub kind : IsTalked plan.kind
-  pub rate : IsSome (rate_code plan.rate)
+  pub rate : HasRate plan.kind plan.rate
   pub some_channels : 1 ≤ plan.channels
   pub channels : plan.channels ≤ 1023
   pub some_count : 1 ≤ plan.count
   pub count : plan.count ≤ 1476
-  pub fits : FitsPacket plan.kind plan.channels plan.count
+  pub fits : FitsPacket plan.kind plan
   pub started : pos 0 ≤ℤ plan.start
   pub start : plan.start ≤ℤ pos (4 * 10 ^ 18)
   pub some_lead : 1 ≤ plan.lead
@@ -72,10 +106,11 @@ pub record IsNearLead (plan : TalkPlan) (lead : ℕ) : Type 0 where
 abbrev pub ExpectsBy : TalkKind → TalkPlan → ℕ → Type 0
 ExpectsBy (Aaf format false) plan lead = ⊤
 ExpectsBy (Aaf format true) plan lead = IsNearLead plan lead
-ExpectsBy Am824 plan lead = ⊤
+ExpectsBy Am824 plan lead = plan.count < interval_of plan.rate → IsNearLead plan lead
 ExpectsBy (H264 last_stamp) plan lead = ⊤
 
 -- A listener that tells packets without a timestamp apart by when they come has to expect them when the plan sends them.
--- Where each packet is stamped, any lead will do.
+-- Where each packet is stamped, any lead will do: in PCM that is not sparse, and in AM824 where a packet has at least as
+-- many data blocks as the interval.
 abbrev pub Expects : TalkPlan → ℕ → Type 0
 Expects plan lead = ExpectsBy plan.kind plan lead

@@ -1,5 +1,5 @@
 -- The samples of a plan's packets: the input is sample frames, one after another.
-use Rattle.std.specs.Prelude.{ℕ, ◌-◌, ◌*◌, ◌/◌, ◌%◌, ◌==◌, Bool, List, ◌++◌, length, take, drop, replicate}
+use Rattle.std.specs.Prelude.{ℕ, ◌*◌, ◌/◌, ◌%◌, ◌==◌, Bool, List, ◌++◌, length, take, drop}
 use Rattle.std.specs.Int.{div_ceil}
 
 -- the input is whole sample frames of so many bytes
@@ -14,10 +14,10 @@ packets_for frame count input = div_ceil (length input / frame) count
 abbrev pub sample_frames : ℕ → ℕ → ℕ → List ℕ → List ℕ
 sample_frames frame first count input = take (count * frame) (drop (first * frame) input)
 
--- filled up with zero bytes
-abbrev pub filled_up : ℕ → List ℕ → List ℕ
-filled_up size bytes = bytes ++ replicate (size - length bytes) 0
+-- samples laid over those of a packet of silence
+abbrev pub filled_up : List ℕ → List ℕ → List ℕ
+filled_up silence samples = samples ++ drop (length samples) silence
 
 -- the samples of packet n
-unfoldable pub samples_of : ℕ → ℕ → List ℕ → ℕ → List ℕ
-samples_of frame count input n = filled_up (count * frame) (sample_frames frame (n * count) count input)
+unfoldable pub samples_of : List ℕ → ℕ → ℕ → List ℕ → ℕ → List ℕ
+samples_of silence frame count input n = filled_up silence (sample_frames frame (n * count) count input)

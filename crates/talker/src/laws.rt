@@ -1,27 +1,32 @@
 //! Laws of plans and their frames. Each call is its contract, and does nothing.
 
-ghost use Rattle.std.specs.Prelude.{◌≡◌, ◌↔◌, ◌<◌, ◌≤◌, ◌+◌, ◌*◌, ◌/◌, ◌%◌, ◌^◌, Bool, length, map, nat_abs, pos, List, ℕ, Option, Some, None};
+ghost use Rattle.std.specs.Prelude.{◌≡◌, ◌↔◌, ◌<◌, ◌≤◌, ◌≤ℤ◌, ◌+◌, ◌-◌, ◌*◌, ◌/◌, ◌%◌, ◌^◌, Bool, length, map, nat_abs, pos, slice_get, List, ℕ, Option, Some, None, IsSome, IsSomeAnd};
 ghost use Rattle.aaf_format.specs.declared.aaf.AafFormat.{AafFormat};
 ghost use Rattle.aaf_format.specs.Aaf.{SpellsAaf, aaf_spelling, frame_size, rate_of};
+ghost use Rattle.iec61883_format.specs.Iec.{SpellsIec, block_size, iec_spelling, rate_of_fdf, syt_interval};
 ghost use Rattle.std.specs.List.{range_with_len};
 ghost use Rattle.packet_journal.specs.Carried.{AllCarry};
 ghost use Rattle.packet_journal.specs.Delivered.{Delivers};
-ghost use Rattle.packet_journal.specs.Packets.{IsConforming};
+ghost use Rattle.packet_journal.specs.Packets.{Am824Data, IsConforming};
 ghost use Rattle.pcap_frames.specs.Capture.{IsCapture, first_refusal, whole_records};
 ghost use Rattle.pcap_frames.specs.Frame.{SpellsFrame};
-ghost use Rattle.talker.specs.declared.plan.TalkKind.TheVariants.{Aaf};
+ghost use Rattle.stream_journal.specs.Journal.{head_of};
+ghost use Rattle.talker.specs.declared.plan.TalkKind.TheVariants.{Aaf, Am824};
 ghost use Rattle.talker.specs.declared.plan.TalkPlan.{TalkPlan};
-ghost use Rattle.talker.specs.Frames.{RiseByArrival, aaf_bytes, aaf_packet, capture, capture_of, capture_style, ethernet, frames, frames_at, record_of, records};
+ghost use Rattle.talker.specs.Frames.{RiseByArrival, aaf_bytes, capture, capture_of, capture_style, ethernet, frames, frames_at, packet_bytes, record_of, records};
 ghost use Rattle.talker.specs.Journal.{journal};
-ghost use Rattle.talker.specs.Plan.{Expects, IsPlan, rate_code};
+ghost use Rattle.talker.specs.Packets.{aaf_packet, iec_packet};
+ghost use Rattle.talker.specs.Plan.{Expects, IsPlan, fdf_of, interval_of, rate_code};
 ghost use Rattle.talker.specs.Talking.{most_input};
-ghost use Rattle.talker.specs.Timing.{arrival_of};
+ghost use Rattle.talker.specs.Timing.{arrival_of, run_of};
 
 use packet_journal::laws::carried_packets_are_delivered;
 
-/// The rates of plans are those that AAF names, each by its code.
+/// The rates of plans are those that AAF, or IEC 61883-6, names, each by its code; the latter with its interval.
 pub fn rates_are_named()
-    ensures { (rate code : ℕ) → rate_code rate ≡ Some code ↔ rate_of code ≡ Some rate }
+    ensures aaf { (rate code : ℕ) → rate_code rate ≡ Some code ↔ rate_of code ≡ Some rate }
+    ensures iec { (rate fdf : ℕ) → fdf_of rate ≡ Some fdf ↔ rate_of_fdf fdf ≡ Some rate }
+    ensures interval { (rate fdf : ℕ) → fdf_of rate ≡ Some fdf → syt_interval fdf ≡ Some (interval_of rate) }
 {}
 
 /// Packet `n` is sent at the plan's start and the time of the sample frames before its own, rounded down. With restarts
@@ -31,16 +36,30 @@ pub fn packets_are_paced()
     ensures restarting { (plan : TalkPlan) (packets n : ℕ) → plan.restart ≡ Some packets → arrival_of plan n ≡ nat_abs plan.start + n / packets * plan.jump + n / packets * packets * plan.count * 1000000000 / plan.rate + n % packets * plan.count * 1000000000 / plan.rate }
 {}
 
-/// No frame arrives before the one in front of it.
+/// No frame arrives before the one that it follows.
 pub fn frames_rise()
     ensures { (plan : TalkPlan) (input : List ℕ) → RiseByArrival (frames plan input) }
 {}
 
-/// The bytes of a packet's frame spell the frame, and its payload the packet.
+/// Each packet is sent before it is due.
+pub fn packets_are_sent_in_time()
+    ensures { (plan : TalkPlan) (input : List ℕ) (n : ℕ) → IsPlan plan → length input ≤ most_input → n < (journal plan input).times.packets → IsSomeAnd (slice_get (frames plan input) n) (λ f. f.arrival ≤ℤ pos ((journal plan input).times.due n)) }
+{}
+
+/// Where no restart lies between a packet and the seventh before it, one of these eight is stamped, and the packet is
+/// counted from that: it has a head in the plan's journal.
+pub fn packets_have_heads()
+    ensures { (plan : TalkPlan) (input : List ℕ) (n : ℕ) → IsPlan plan → 7 ≤ n → run_of plan (n - 7) ≡ run_of plan n → IsSome (head_of (journal plan input).times n) }
+{}
+
+/// The bytes of a packet's frame spell the frame, and its payload the packet, of PCM or of AM824.
 pub fn packets_read_back()
     ensures frame { (plan : TalkPlan) (format : AafFormat) (sparse : Bool) (n : ℕ) (samples : List ℕ) → SpellsFrame (aaf_bytes format sparse plan n samples) (ethernet (aaf_spelling (aaf_packet format sparse plan n samples))) }
     ensures packet { (plan : TalkPlan) (format : AafFormat) (sparse : Bool) (n : ℕ) (samples : List ℕ) → IsPlan plan → plan.kind ≡ Aaf format sparse → plan.id < 2 ^ 64
         → length samples ≡ plan.count * frame_size plan.channels format → SpellsAaf (aaf_spelling (aaf_packet format sparse plan n samples)) (aaf_packet format sparse plan n samples) }
+    ensures blocks_frame { (plan : TalkPlan) (n : ℕ) (blocks : List ℕ) → SpellsFrame (packet_bytes (Am824Data (iec_packet plan n blocks))) (ethernet (iec_spelling (iec_packet plan n blocks))) }
+    ensures blocks { (plan : TalkPlan) (n : ℕ) (blocks : List ℕ) → IsPlan plan → plan.kind ≡ Am824 → plan.id < 2 ^ 64
+        → length blocks ≡ plan.count * block_size plan.channels → SpellsIec (iec_spelling (iec_packet plan n blocks)) (iec_packet plan n blocks) }
 {}
 
 /// The capture of a plan is a capture of just the records of its frames, so it reads back.
@@ -56,8 +75,8 @@ pub fn journal_conforms()
 {}
 
 /// The capture of a plan delivers its journal: its records carry the packets, each once and in order. It does so to every
-/// listener where each packet is stamped, and of a sparse stream to every listener that expects packets by about the plan's
-/// lead before their first instants.
+/// listener where each packet is stamped. Of a sparse stream, or one of AM824 with fewer data blocks in a packet than its
+/// interval, it does so to every listener that expects packets by about the plan's lead before their first instants.
 pub fn capture_delivers()
     ensures carries { (plan : TalkPlan) (input : List ℕ) (lead : ℕ) → IsPlan plan → length input ≤ most_input → Expects plan lead → AllCarry (journal plan input) lead (range_with_len 0 (journal plan input).times.packets) (records plan input) }
     ensures delivers { (plan : TalkPlan) (input : List ℕ) (clock : Option ℕ) (lead : ℕ) → IsPlan plan → plan.id < 2 ^ 64 → length input ≤ most_input → Expects plan lead → Delivers (journal plan input) clock lead (records plan input) }

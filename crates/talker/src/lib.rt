@@ -1,6 +1,8 @@
 //! A talker: the packets of a stream, made from raw samples.
 #![tactic(auto)]
 
+mod am824;
+mod audio;
 pub mod examples;
 mod fault;
 pub mod laws;
@@ -8,6 +10,7 @@ mod pcm;
 mod plan;
 mod sent;
 mod talker;
+mod timing;
 
 pub use fault::TalkFault;
 pub use plan::{CrfPlan, TalkKind, TalkPlan};

@@ -9,8 +9,8 @@ ghost use Rattle.talker.specs.Frames.{capture_style, clock_frames, frames, recor
 ghost use Rattle.talker.specs.Plan.{IsPlan};
 ghost use Rattle.talker.specs.Talking.{most_input, gone_on};
 
+use crate::audio::AudioStream;
 use crate::fault::TalkFault;
-use crate::pcm::PcmStream;
 use crate::plan::TalkPlan;
 use crate::sent::Sent;
 use std::alloc::Global;
@@ -20,7 +20,7 @@ use std::marker::Model;
 /// the beginning, and no more later: a frame is lent until the next is made.
 #[derive(Debug, Drop)]
 pub struct Talker<'a> {
-    stream: PcmStream,
+    stream: AudioStream,
     input: &'a [u8],
     packets: u64,
     /// How many frames `next` gave.
@@ -45,13 +45,14 @@ impl<'a> Talker<'a> {
     ghost use Rattle.std.specs.Borrow.{sem};
     ghost use Rattle.talker.specs.Lending.{EndsAs};
 
-    /// A talker of the plan and the input, which is sample frames, one after another: the channels of each in order, each
-    /// sample with its highest byte first.
+    /// A talker of the plan and the input, which is sample frames, one after another: the channels of each in order. A
+    /// sample of PCM has its highest byte first; one of AM824 is a quadlet as it is sent, a label and 24 bits (IEC 61883-6).
     ///
-    /// The plan is one that is talked so far: PCM, sparse or not, at one of AAF's rates, with 1 to 1023 channels, 1 to 1476
-    /// sample frames in a packet that have at most 1476 bytes, a start of 0 to 4 * 10^18, a lead of 1 to 10^9, no restart or
-    /// one after each 8 to 10^9 packets with a jump of 4 to 10^9, and no media clock. The input has at most 268,435,456
-    /// bytes.
+    /// The plan is one that is talked so far, with a start of 0 to 4 * 10^18, a lead of 1 to 10^9, no restart or one after
+    /// each 8 to 10^9 packets with a jump of 4 to 10^9, and no media clock. PCM, sparse or not, has one of AAF's rates, 1 to
+    /// 1023 channels, and 1 to 1476 sample frames in a packet that have at most 1476 bytes. AM824 has one of the rates of IEC
+    /// 61883-6, 1 to 256 channels, and data blocks in a packet that have at most 1468 bytes and are at least an eighth of
+    /// SYT_INTERVAL. The input has at most 268,435,456 bytes.
     ///
     /// `Frames` comes exactly where the input is not whole sample frames, and `Arrival` exactly where a packet would
     /// arrive 2^32 seconds after 0 or later, which no such plan does. `Memory` comes where no memory is found.
@@ -63,7 +64,7 @@ impl<'a> Talker<'a> {
         ensures fault { IfSome (fault_of plan input.now) (λ fault. result ≡ Err fault) }
         ensures only { IfErr result (λ fault. (fault_of plan input.now ≡ Some fault) ⊎ (fault ≡ Memory)) }
     {
-        let stream = PcmStream::of(plan);
+        let stream = AudioStream::of(plan);
         if let Some(fault) = stream.fault(input) {
             return Err(fault);
         }

@@ -12,6 +12,7 @@ ghost use Rattle.talker.specs.Talking.{most_input};
 use super::{Sent, TalkFault, TalkKind, TalkPlan, Talker, laws};
 use aaf_format::{AafFormat, rate_of, read_aaf};
 use avtp_header::StreamHeader;
+use iec61883_format::{rate_of_fdf, read_iec, syt_interval};
 use pcap_frames::{Order, Style, Tag, Unit, read_frame, write_header, write_record};
 use std::process::Abort;
 use std::test::Fail;
@@ -69,6 +70,26 @@ const RESTARTING: TalkPlan = TalkPlan {
     restart: Some(10),
     ..SPARSE
 };
+
+/// AM824 of the same rate, channels and count.
+const BLOCKS: TalkPlan = TalkPlan {
+    kind: TalkKind::Am824,
+    ..PLAN
+};
+
+/// A packet of AM824 of twelve quadlets of silence.
+const QUIET: [u8; 80] = [
+    0x00, 0x81, 0x00, 0x00, 0x02, 0x00, 0x00, 0x00, 0x00, 0x01, 0x00, 0x01, 0x3b, 0xb9, 0x4e, 0x80,
+    0x00, 0x00, 0x00, 0x00, 0x00, 0x38, 0x5f, 0xa0, 0x3f, 0x02, 0x00, 0x00, 0x90, 0x02, 0xff, 0xff,
+    0x40, 0x00, 0x00, 0x00, 0x40, 0x00, 0x00, 0x00, 0x40, 0x00, 0x00, 0x00, 0x40, 0x00, 0x00, 0x00,
+    0x40, 0x00, 0x00, 0x00, 0x40, 0x00, 0x00, 0x00, 0x40, 0x00, 0x00, 0x00, 0x40, 0x00, 0x00, 0x00,
+    0x40, 0x00, 0x00, 0x00, 0x40, 0x00, 0x00, 0x00, 0x40, 0x00, 0x00, 0x00, 0x40, 0x00, 0x00, 0x00,
+];
+
+/// Where the packet of a frame begins, and where the data blocks of a packet begin.
+const PACKET: usize = 18;
+
+const DATA: usize = 32;
 
 /// The samples of 258 packets.
 const SILENCE: [u8; 6192] = [0; 6192];
@@ -145,8 +166,8 @@ fn heard(rt: &HostRuntime, plan: TalkPlan, input: &[u8], numbers: &[u64]) -> Res
     Ok(bytes.len())
 }
 
-/// A sparse stream without its first record, one of which packets 0 and 257 alone came, and one that restarts have what a
-/// listener relies on.
+/// A sparse stream without its first record, one of which packets 0 and 257 alone came, one that restarts, and AM824 without
+/// its first packets have what a listener relies on.
 #[test]
 fn captures_with_losses_are_heard(rt: HostRuntime) -> Result<(), Fail> {
     assert_eq!(rt;
@@ -157,6 +178,10 @@ fn captures_with_losses_are_heard(rt: HostRuntime) -> Result<(), Fail> {
     assert_eq!(rt;
         heard(&rt, RESTARTING, &SILENCE[..480], &NUMBERS)?,
         24 + 20 * 82
+    );
+    assert_eq!(rt;
+        heard(&rt, BLOCKS, &SILENCE[..960], &NUMBERS[3..])?,
+        24 + 17 * 114
     );
     Ok(())
 }
@@ -395,6 +420,126 @@ fn reads_back_as_planned(rt: HostRuntime) -> Result<(), Fail> {
             }
             assert_eq!(rt; talker.packets(), 258);
         }
+    }
+    Ok(())
+}
+
+/// Twelve quadlets of silence make the packet that is written out above.
+#[test]
+fn makes_blocks(rt: HostRuntime) -> Result<(), Fail> {
+    let mut talker = Talker::begin(rt.alloc(), BLOCKS, &QUIET[DATA..])?;
+    assert_eq!(rt; talker.packets(), 1);
+    if talker.packets() > 0 {
+        let sent = talker.packet(0);
+        assert_eq!(rt;
+            (sent.arrival, sent.number, sent.clock),
+            (1_000_000_000, 0, false)
+        );
+        assert!(rt; sent.bytes.get(PACKET..) == Some(&QUIET[..]));
+    }
+    Ok(())
+}
+
+/// One data block more than a packet has makes a second, which is filled up with quadlets of silence.
+#[test]
+fn fills_up_the_last_blocks(rt: HostRuntime) -> Result<(), Fail> {
+    let mut talker = Talker::begin(rt.alloc(), BLOCKS, &[0x5a; 56])?;
+    assert_eq!(rt; talker.packets(), 2);
+    if talker.packets() > 1 {
+        let last = talker.packet(1);
+        let blocks = last.bytes.get(PACKET + DATA..).ok_or("no blocks")?;
+        assert!(rt; blocks.get(..8) == Some(&[0x5a; 8][..]));
+        assert!(rt; blocks.get(8..) == Some(&QUIET[DATA + 8..]));
+    }
+    Ok(())
+}
+
+/// An input that ends within a data block makes no stream.
+#[test]
+fn refuses_parts_of_blocks(rt: HostRuntime) -> Result<(), Fail> {
+    for len in [0usize, 4, 8, 12, 15, 16] {
+        let fault = Talker::begin(rt.alloc(), BLOCKS, &QUIET[..len]).err();
+        let want = if len % 8 == 0 {
+            None
+        } else {
+            Some(TalkFault::Frames)
+        };
+        assert_eq!(rt; fault, want, "{len} bytes");
+    }
+    Ok(())
+}
+
+/// The plan of AM824 at the rate with this code, and with so many blocks in a packet, where there is one.
+#[tactic(auto, using(crate::proofs::LawLemmas::named_blocks, crate::proofs::LawLemmas::named_fdf))]
+fn blocks_at(fdf: u8, count: u32) -> Option<TalkPlan>
+    ensures { IfSome result (λ plan. IsPlan plan) }
+{
+    let rate = rate_of_fdf(fdf)?;
+    let interval = syt_interval(fdf)?;
+    if count == 0 || count > 183 || interval > 8 * count {
+        return None;
+    }
+    Some(TalkPlan {
+        rate,
+        count,
+        ..BLOCKS
+    })
+}
+
+/// Of rate codes and counts: a packet, and how many nanoseconds behind the stream's start its stamp is, where it has one.
+const STAMPS: [(u8, u32, u64, Option<u32>); 22] = [
+    (1, 1, 1, None),
+    (1, 1, 264, Some(5_986_394)),
+    (1, 5, 257, Some(29_206_349)),
+    (1, 6, 1, Some(181_405)),
+    (1, 6, 257, Some(35_011_337)),
+    (1, 7, 257, Some(40_816_326)),
+    (1, 32, 257, Some(186_485_260)),
+    (2, 1, 1, None),
+    (2, 1, 264, Some(5_500_000)),
+    (2, 5, 257, Some(26_833_333)),
+    (2, 6, 1, Some(166_666)),
+    (2, 6, 257, Some(32_166_666)),
+    (2, 7, 257, Some(37_500_000)),
+    (2, 32, 257, Some(171_333_333)),
+    (6, 5, 1, None),
+    (6, 5, 262, Some(6_833_333)),
+    (6, 6, 1, None),
+    (6, 6, 261, Some(8_166_666)),
+    (6, 7, 1, None),
+    (6, 7, 260, Some(9_500_000)),
+    (6, 32, 1, Some(166_666)),
+    (6, 32, 257, Some(42_833_333)),
+];
+
+/// The data blocks of 300 packets.
+const DATA_BLOCKS: [u8; 76_800] = [0x40; 76_800];
+
+/// A packet counts its blocks and is stamped so many nanoseconds behind the stream's start, or not.
+fn check_stamp(
+    rt: &impl Abort,
+    sent: Sent<'_>,
+    count: u32,
+    stamp: Option<u32>,
+) -> Result<(), Fail> {
+    let frame = read_frame(sent.bytes)?;
+    let packet = read_iec(frame.payload)?;
+    let timestamp = stamp.map(|offset| offset.wrapping_add(1_002_000_000));
+    assert_eq!(rt; packet.header.tv, stamp.is_some());
+    assert_eq!(rt; packet.header.timestamp, timestamp.unwrap_or(0));
+    assert_eq!(rt; packet.count, count);
+    let blocks = sent.number % 256 * u64::from(count % 256);
+    assert_eq!(rt; u64::from(packet.cip.dbc), blocks % 256);
+    Ok(())
+}
+
+#[test]
+fn stamps_blocks(rt: HostRuntime) -> Result<(), Fail> {
+    for (fdf, count, n, stamp) in STAMPS {
+        let plan = blocks_at(fdf, count).ok_or("no such plan")?;
+        let mut talker = Talker::begin(rt.alloc(), plan, &DATA_BLOCKS)?;
+        assert!(rt; n < talker.packets());
+        check_stamp(&rt, talker.packet(n), count, stamp)?;
     }
     Ok(())
 }

@@ -11,7 +11,7 @@ IsSame input n = HasSameTimes (journal restarting input).times restarted n
 
 each : (input : List ℕ) → Each (IsSame input) 20
 unfolding nominal_instant
-each input = ((((((((((((((((((((tt, record { due = refl; stamp = refl; mr = refl }), record { due = refl; stamp = refl; mr = refl }), record { due = refl; stamp = refl; mr = refl }), record { due = refl; stamp = refl; mr = refl }), record { due = refl; stamp = refl; mr = refl }), record { due = refl; stamp = refl; mr = refl }), record { due = refl; stamp = refl; mr = refl }), record { due = refl; stamp = refl; mr = refl }), record { due = refl; stamp = refl; mr = refl }), record { due = refl; stamp = refl; mr = refl }), record { due = refl; stamp = refl; mr = refl }), record { due = refl; stamp = refl; mr = refl }), record { due = refl; stamp = refl; mr = refl }), record { due = refl; stamp = refl; mr = refl }), record { due = refl; stamp = refl; mr = refl }), record { due = refl; stamp = refl; mr = refl }), record { due = refl; stamp = refl; mr = refl }), record { due = refl; stamp = refl; mr = refl }), record { due = refl; stamp = refl; mr = refl }), record { due = refl; stamp = refl; mr = refl })
+each input = ((((((((((((((((((((tt, record { due = refl; stamp = refl; mr = refl; rule = refl }), record { due = refl; stamp = refl; mr = refl; rule = refl }), record { due = refl; stamp = refl; mr = refl; rule = refl }), record { due = refl; stamp = refl; mr = refl; rule = refl }), record { due = refl; stamp = refl; mr = refl; rule = refl }), record { due = refl; stamp = refl; mr = refl; rule = refl }), record { due = refl; stamp = refl; mr = refl; rule = refl }), record { due = refl; stamp = refl; mr = refl; rule = refl }), record { due = refl; stamp = refl; mr = refl; rule = refl }), record { due = refl; stamp = refl; mr = refl; rule = refl }), record { due = refl; stamp = refl; mr = refl; rule = refl }), record { due = refl; stamp = refl; mr = refl; rule = refl }), record { due = refl; stamp = refl; mr = refl; rule = refl }), record { due = refl; stamp = refl; mr = refl; rule = refl }), record { due = refl; stamp = refl; mr = refl; rule = refl }), record { due = refl; stamp = refl; mr = refl; rule = refl }), record { due = refl; stamp = refl; mr = refl; rule = refl }), record { due = refl; stamp = refl; mr = refl; rule = refl }), record { due = refl; stamp = refl; mr = refl; rule = refl }), record { due = refl; stamp = refl; mr = refl; rule = refl })
 
 pub returns : goal.returns
 returns c = λ input n h. each_below (IsSame input) 20 (each input) n h

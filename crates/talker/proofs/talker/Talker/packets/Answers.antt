@@ -1,5 +1,5 @@
 use Rattle.std.proofs.Common.{sym, ◌∙◌}
-use Rattle.talker.proofs.StreamLemmas.{packets_are}
+use Rattle.talker.proofs.TalkLemmas.{packets_are}
 use Rattle.talker.proofs.talker.Talker.packets.Goals as goal
 
 pub returns : goal.returns

@@ -1,0 +1,238 @@
+//! The packets of an audio stream.
+
+ghost use Rattle.std.specs.Prelude.{◌≡◌, ◌+◌, ◌*◌, ◌≤◌, ◌<◌, ◌^◌, ℕ, List, drop, length, pos, take, [], true, IfOk, IfErr};
+ghost use Rattle.avtp_base.specs.Layout.{spelling};
+ghost use Rattle.packet_journal.specs.Packets.{spelling_of};
+ghost use Rattle.pcap_frames.specs.Frame.{frame_layout};
+ghost use Rattle.talker.specs.declared.fault.TalkFault.TheVariants.{Memory};
+ghost use Rattle.talker.specs.Faults.{fault_of};
+ghost use Rattle.talker.specs.Frames.{ethernet, packet_bytes};
+ghost use Rattle.talker.specs.Journal.{samples_in};
+ghost use Rattle.talker.specs.Plan.{IsPlan};
+ghost use Rattle.talker.specs.Samples.{filled_up};
+ghost use Rattle.talker.specs.Talking.{IsAudio, audio_of, headers_of, most_input, packets_of, samples_size};
+ghost use Rattle.talker.specs.Timing.{arrival_of};
+
+use crate::am824::{Am824Format, BLOCKS_HEADER, block_size, silent_quadlets};
+use crate::fault::TalkFault;
+use crate::pcm::{PCM_HEADER, PcmFormat};
+use crate::plan::{TalkKind, TalkPlan};
+use avtp_header::ETHERTYPE;
+use pcap_frames::{FrameView, Tag, write_frame};
+use std::alloc::Global;
+
+/// The format of an audio stream.
+#[derive(Clone, Copy, Debug)]
+pub(crate) enum Format {
+    Pcm(PcmFormat),
+    Am824(Am824Format),
+}
+
+/// A plan of an audio stream, with its format.
+#[derive(Clone, Copy, Debug)]
+pub(crate) struct AudioStream {
+    pub plan: TalkPlan,
+    pub format: Format,
+}
+
+/// The length of the Ethernet header, with its tag.
+const HEADER: usize = 18;
+
+/// The most bytes of samples in a packet.
+pub(crate) const SAMPLES_LIMIT: usize = 1476;
+
+impl AudioStream {
+    pub fn of(plan: TalkPlan) -> Self
+        requires { IsPlan plan }
+        ensures plan { result.plan ≡ plan }
+        ensures whole { IsAudio result }
+    {
+        let format = match plan.kind {
+            TalkKind::Aaf { format, sparse } => Format::Pcm(PcmFormat::of(&plan, format, sparse)),
+            TalkKind::Am824 => Format::Am824(Am824Format::of(&plan)),
+            TalkKind::H264 { .. } => unreachable!(),
+        };
+        AudioStream { plan, format }
+    }
+
+    /// The bytes of a sample frame.
+    fn frame_size(&self) -> usize
+        requires { IsAudio self.now }
+        ensures value { result ≡ (audio_of self.now).frame }
+        ensures some { 0 < result }
+        ensures bound { self.now.plan.count * result ≤ 1476 }
+    {
+        match self.format {
+            Format::Pcm(pcm) => pcm.frame_size(self.plan.channels),
+            Format::Am824(_) => block_size(self.plan.channels),
+        }
+    }
+
+    /// The bytes of a packet's samples.
+    fn samples_size(&self) -> usize
+        requires { IsAudio self.now }
+        ensures value { result ≡ samples_size self.now }
+        ensures bound { result ≤ 1476 }
+    {
+        self.plan.count as usize * self.frame_size()
+    }
+
+    /// The bytes of a frame's headers.
+    fn headers(&self) -> usize
+        ensures value { result ≡ headers_of self.now }
+        ensures least { 18 ≤ result }
+        ensures most { result ≤ 50 }
+    {
+        match self.format {
+            Format::Pcm(_) => HEADER + PCM_HEADER,
+            Format::Am824(_) => HEADER + BLOCKS_HEADER,
+        }
+    }
+
+    /// The number of packets that hold the input.
+    pub fn packets(&self, input: &[u8]) -> u64
+        requires { IsAudio self.now }
+        ensures { result ≡ packets_of self.now input.now }
+    {
+        let frames = input.len() / self.frame_size();
+        frames.div_ceil(self.plan.count as usize) as u64
+    }
+
+    /// Why the input makes no stream. No packet arrives too late for a capture, since a plan ends well before.
+    #[tactic(auto, using(crate::proofs::TalkLemmas::audio_found, crate::proofs::TalkLemmas::none_late), unfolding(crate::specs::Faults::fault_of))]
+    pub fn fault(&self, input: &[u8]) -> Option<TalkFault>
+        requires stream { IsAudio self.now }
+        requires limit { length input.now ≤ most_input }
+        ensures { result ≡ fault_of self.now.plan input.now }
+    {
+        if input.len() % self.frame_size() == 0 {
+            None
+        } else {
+            Some(TalkFault::Frames)
+        }
+    }
+
+    /// Memory for one frame.
+    pub fn room(&self, alloc: Global) -> Result<Vec<u8>, TalkFault>
+        requires { IsAudio self.now }
+        ensures room { IfOk result (λ frame. length frame.items ≡ headers_of self.now + samples_size self.now) }
+        ensures only { IfErr result (λ fault. fault ≡ Memory) }
+    {
+        match vec![in alloc; 0; self.headers() + self.samples_size()] {
+            Ok(frame) => Ok(frame),
+            Err(_) => Err(TalkFault::Memory),
+        }
+    }
+
+    /// When packet `n` is sent, in nanoseconds of gPTP.
+    pub fn arrival(&self, n: u64) -> i64
+        requires stream { IsAudio self.now }
+        requires frames { n * self.now.plan.count ≤ 2 ^ 28 }
+        ensures { result ≡ pos (arrival_of self.now.plan n) }
+    {
+        self.plan.arrival(n)
+    }
+
+    /// The samples of a packet of silence, and more of it.
+    #[tactic(auto, using(crate::proofs::Am824Lemmas::packet_of_silence, crate::proofs::PcmLemmas::zeros))]
+    fn silence(&self) -> [u8; SAMPLES_LIMIT]
+        requires { IsAudio self.now }
+        ensures { take (samples_size self.now) result ≡ (audio_of self.now).silence }
+    {
+        match self.format {
+            Format::Pcm(_) => [0; SAMPLES_LIMIT],
+            Format::Am824(_) => silent_quadlets(),
+        }
+    }
+
+    /// Writes packet `n`, with these samples.
+    fn write_packet(&self, out: &mut [u8], n: u64, samples: &[u8])
+        requires stream { IsAudio self.now }
+        requires frames { n * self.now.plan.count ≤ 2 ^ 28 }
+        requires whole { length samples.now ≡ samples_size self.now }
+        requires room { length out.old + 18 ≡ headers_of self.now + samples_size self.now }
+        ensures { out.new ≡ spelling_of ((audio_of self.now).packet n samples.now) }
+    {
+        match self.format {
+            Format::Pcm(pcm) => pcm.write(&self.plan, out, n, samples),
+            Format::Am824(am824) => am824.write(&self.plan, out, n, samples),
+        }
+    }
+
+    /// Writes the frame of packet `n`, with these samples.
+    #[tactic(auto, unfolding(crate::specs::Frames::packet_bytes))]
+    fn write_samples(&self, out: &mut [u8], n: u64, samples: &[u8])
+        requires stream { IsAudio self.now }
+        requires frames { n * self.now.plan.count ≤ 2 ^ 28 }
+        requires whole { length samples.now ≡ samples_size self.now }
+        requires room { length out.old ≡ headers_of self.now + samples_size self.now }
+        ensures { out.new ≡ packet_bytes ((audio_of self.now).packet n samples.now) }
+    {
+        write_ethernet(&mut out[..HEADER]);
+        self.write_packet(&mut out[HEADER..], n, samples);
+    }
+
+    /// Writes the frame of the packet whose samples end the input, filled up with silence.
+    fn write_last(&self, out: &mut [u8], n: u64, rest: &[u8])
+        requires stream { IsAudio self.now }
+        requires frames { n * self.now.plan.count ≤ 2 ^ 28 }
+        requires part { length rest.now ≤ samples_size self.now }
+        requires room { length out.old ≡ headers_of self.now + samples_size self.now }
+        ensures { out.new ≡ packet_bytes ((audio_of self.now).packet n (filled_up (audio_of self.now).silence rest.now)) }
+    {
+        let mut filled = self.silence();
+        filled[..rest.len()].copy_from_slice(rest);
+        self.write_samples(out, n, &filled[..self.samples_size()]);
+    }
+
+    /// The input from the samples of packet `n` on.
+    #[tactic(auto, using(crate::proofs::SampleLemmas::begun_within))]
+    fn samples_from<'a>(&self, input: &'a [u8], n: u64) -> &'a [u8]
+        requires stream { IsAudio self.now }
+        requires limit { length input.now ≤ most_input }
+        requires number { n < packets_of self.now input.now }
+        ensures { result.now ≡ drop (n * samples_size self.now) input.now }
+    {
+        &input[n as usize * self.samples_size()..]
+    }
+
+    /// Writes the frame of packet `n` of the input.
+    #[tactic(auto, using(crate::proofs::SampleLemmas::last_samples, crate::proofs::TalkLemmas::whole_of))]
+    pub fn write(&self, out: &mut [u8], input: &[u8], n: u64)
+        requires stream { IsAudio self.now }
+        requires limit { length input.now ≤ most_input }
+        requires number { n < packets_of self.now input.now }
+        requires room { length out.old ≡ headers_of self.now + samples_size self.now }
+        ensures { out.new ≡ packet_bytes ((audio_of self.now).packet n (samples_in (audio_of self.now) self.now.plan input.now n)) }
+    {
+        let size = self.samples_size();
+        let rest = self.samples_from(input, n);
+        if rest.len() < size {
+            self.write_last(out, n, rest);
+        } else {
+            self.write_samples(out, n, &rest[..size]);
+        }
+    }
+}
+
+/// Writes the Ethernet header of every frame.
+fn write_ethernet(out: &mut [u8])
+    requires { length out.old ≡ 18 }
+    ensures { out.new ≡ spelling (frame_layout true) (ethernet []) }
+{
+    let header = FrameView {
+        dst: 0x91e0_f000_fe00,
+        src: 0x0200_0000_0001,
+        tag: Some(Tag {
+            pcp: 3,
+            dei: false,
+            vid: 2,
+        }),
+        ethertype: ETHERTYPE,
+        start: HEADER,
+        payload: &[],
+    };
+    let Ok(_) = write_frame(out, &header) else {
+        unreachable!()
+    };
+}

@@ -1,0 +1,113 @@
+//! When the packets of a plan are sent, and with which timestamps.
+
+ghost use Rattle.std.specs.Prelude.{◌≡◌, ◌+◌, ◌*◌, ◌≤◌, ◌<◌, ◌^◌, pos, Option, Some, None};
+ghost use Rattle.talker.specs.Packets.{header_of};
+ghost use Rattle.talker.specs.Plan.{IsPlan};
+ghost use Rattle.talker.specs.Timing.{arrival_of, first_packet as first_packet_of, nominal_instant, nominal_offset as nominal_offset_of, run_of};
+
+use crate::plan::TalkPlan;
+use avtp_header::StreamHeader;
+
+const NANOSECONDS: u64 = 1_000_000_000;
+
+impl TalkPlan {
+    /// The run of packet `n`: one begins with the stream, and one with each restart.
+    #[tactic(auto, using(crate::proofs::RunLemmas::some_packets))]
+    fn run(&self, n: u64) -> u64
+        requires { IsPlan self.now }
+        ensures { result ≡ run_of self.now n }
+    {
+        match self.restart {
+            None => 0,
+            Some(packets) => n / u64::from(packets),
+        }
+    }
+
+    /// The first packet of that run.
+    #[tactic(auto, using(crate::proofs::RunLemmas::some_packets, crate::proofs::RunLemmas::begun))]
+    fn first_packet(&self, n: u64) -> u64
+        requires { IsPlan self.now }
+        ensures value { result ≡ first_packet_of self.now (run_of self.now n) }
+        ensures bound { result ≤ n }
+    {
+        match self.restart {
+            None => 0,
+            Some(packets) => self.run(n) * u64::from(packets),
+        }
+    }
+
+    /// How far the restarts before packet `n` set presentation times forward, in nanoseconds.
+    #[tactic(auto, using(crate::proofs::TimingLemmas::few_jumps))]
+    fn jumps(&self, n: u64) -> u64
+        requires plan { IsPlan self.now }
+        requires frames { n * self.now.count ≤ 2 ^ 28 }
+        ensures value { result ≡ run_of self.now n * self.now.jump }
+        ensures bound { result ≤ 2 ^ 25 * 1000000000 }
+    {
+        self.run(n) * u64::from(self.jump)
+    }
+
+    /// How long so many sample frames take, in nanoseconds.
+    #[tactic(auto, using(crate::proofs::RateLemmas::rate_from, crate::proofs::TimingLemmas::short_offset))]
+    fn offset(&self, frames: u64) -> u64
+        requires plan { IsPlan self.now }
+        requires frames { frames ≤ 2 ^ 29 }
+        ensures value { result ≡ nominal_offset_of self.now.rate frames }
+        ensures bound { result ≤ frames * 125000 }
+    {
+        frames * NANOSECONDS / u64::from(self.rate)
+    }
+
+    /// The instant of sample frame `i` of packet `n`, in nanoseconds of gPTP.
+    #[tactic(auto, using(crate::proofs::RunLemmas::in_run), unfolding(crate::specs::Timing::nominal_instant))]
+    pub(crate) fn instant(&self, n: u64, i: u32) -> u64
+        requires plan { IsPlan self.now }
+        requires frames { n * self.now.count ≤ 2 ^ 28 }
+        requires within { i < self.now.count }
+        ensures value { result ≡ nominal_instant self.now n i }
+        ensures lead { self.now.lead ≤ result }
+        ensures bound { result < self.now.lead + 2 ^ 32 * 1000000000 }
+    {
+        let count = u64::from(self.count);
+        let first = self.first_packet(n);
+        self.start as u64
+            + u64::from(self.lead)
+            + self.jumps(n)
+            + self.offset(first * count)
+            + self.offset((n - first) * count + u64::from(i))
+    }
+
+    /// When packet `n` is sent, in nanoseconds of gPTP.
+    pub(crate) fn arrival(&self, n: u64) -> i64
+        requires plan { IsPlan self.now }
+        requires frames { n * self.now.count ≤ 2 ^ 28 }
+        ensures { result ≡ pos (arrival_of self.now n) }
+    {
+        (self.instant(n, 0) - u64::from(self.lead)) as i64
+    }
+
+    /// The stream header of packet `n` (IEEE 1722-2016, 4.4.4), which is stamped with an instant or not, before so many bytes.
+    pub(crate) fn header(
+        &self,
+        subtype: u8,
+        stamp: Option<u64>,
+        n: u64,
+        length: u16,
+    ) -> StreamHeader
+        requires { IsPlan self.now }
+        ensures { result ≡ header_of subtype stamp self.now n length }
+    {
+        StreamHeader {
+            subtype,
+            sv: true,
+            mr: self.run(n) % 2 == 1,
+            format_bits: 0,
+            tv: stamp.is_some(),
+            seq: (n % 256) as u8,
+            tu: false,
+            stream_id: self.id,
+            timestamp: stamp.map_or(0, |instant| (instant % (1 << 32)) as u32),
+            data_length: length,
+        }
+    }
+}
