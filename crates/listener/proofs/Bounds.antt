@@ -3,9 +3,9 @@ use Rattle.std.proofs.Common.{◌≡◌, ℕ, zero, suc, ◌+◌, ◌*◌, ◌/�
 use Rattle.std.proofs.lemmas.Int.{ints}
 use Rattle.std.proofs.Math.Nat.{div-le_self}
 use Rattle.std.proofs.lemmas.Bool.{cases_lt, ltb-false}
-use Rattle.std.specs.Prelude.{is_none, unwrap_or, if◌then◌else◌}
+use Rattle.std.specs.Prelude.{◌==◌, is_none, unwrap_or, if◌then◌else◌, IfSome}
 use Rattle.std.specs.List.{enumerate_from}
-use Rattle.std.proofs.Math.Nat.{mul-mod_left}
+use Rattle.std.proofs.Math.Nat.{le-mul_of_pos_right, mul-mod_left, mul-pos}
 use Rattle.std.proofs.lemmas.Bool.Decides.{nat_tests}
 use Rattle.std.proofs.lemmas.List.{length-take, length-drop, get_or-drop, get_or-take, get_or_past}
 use Rattle.std.proofs.lemmas.List.Elements.{All-cons, All-filter, All-head, All-map, All-nil, All-tail, All-weaker}
@@ -17,6 +17,8 @@ use Rattle.avtp_base.proofs.RowLemmas.{or_else-none, rows_passed}
 use Rattle.avtp_header.specs.Header.{kind_refusal}
 use Rattle.aaf_format.specs.Aaf.{Aaf, aaf_of, aaf_refusal, aaf_subtype, frame_size, length_rows, rate_of, sample_rows}
 use Rattle.aaf_format.proofs.AafLemmas.{aaf_spelled}
+use Rattle.iec61883_format.specs.Iec.{Iec, IsSytInterval, block_size, data_size, iec_of, iec_refusal, no_data, rate_of_fdf, syt_interval}
+use Rattle.iec61883_format.proofs.IecLemmas.{iec_spelled, iec_writable}
 use Rattle.pcap_frames.specs.declared.style.Order.{Order}
 use Rattle.pcap_frames.specs.declared.style.Order.TheVariants.{Little, Big}
 use Rattle.pcap_frames.specs.declared.style.Unit as units
@@ -25,11 +27,11 @@ use Rattle.pcap_frames.specs.declared.style.Style.{Style}
 use Rattle.pcap_frames.specs.Layout.{instant, number_at, record_refusal}
 use Rattle.pcap_frames.specs.Capture.{Record, record_of, record_size, records_behind, records_from, style_of, whole_records}
 use Rattle.time_unfold.specs.Time.{IsArrival}
-use Rattle.sample_schedule.specs.declared.entry.Entry.TheVariants.{Item as OfItem}
-use Rattle.sample_schedule.specs.declared.item.HeadRule.TheVariants.{Own, Eight}
-use Rattle.sample_schedule.specs.Limits.{IsEntry, IsItem, IsRule}
+use Rattle.time_unfold.specs.declared.head_rule.HeadRule.TheVariants.{Own, Eight}
+use Rattle.time_unfold.specs.Limits.{IsRule}
+use Rattle.sample_schedule.specs.Limits.{IsEntry, IsItem}
 use Rattle.packet_journal.specs.Deliveries.{Delivery, deliveries, delivery, is_delivered}
-use Rattle.listener.specs.Items.{entries, item_of, refused_or, samples_of}
+use Rattle.listener.specs.Items.{MadeItem, aaf_item, block_rule, blocks_of, entries, iec_item, item_of, items_of, made_of_one, refused_or, samples_of}
 
 -- ---- arrivals
 
@@ -124,17 +126,73 @@ samples_fit d arrives accepted =
       rule = rule_fits v.sparse;
     }
 
-item_fits_by : (d : Delivery) (refusal : Option Refusal) → aaf_refusal d.packet ≡ refusal → IsArrival d.arrival → IsItem (refused_or d refusal (samples_of d (aaf_of d.packet)))
-item_fits_by d None e arrives = samples_fit d arrives e
-item_fits_by d (Some refusal) e arrives = arrives
+-- ---- data blocks
 
-item_fits : (d : Delivery) → IsArrival d.arrival → IsItem (item_of d)
-item_fits d arrives = item_fits_by d (aaf_refusal d.packet) refl arrives
+no_block_rate : (fdf : ℕ) → (1 ≤ unwrap_or (rate_of_fdf fdf) 0 → 8000 ≤ unwrap_or (rate_of_fdf fdf) 0) × (unwrap_or (rate_of_fdf fdf) 0 ≤ 192000)
+no_block_rate fdf = (λ some. grind (arith, nat_tests), grind (arith, nat_tests))
+
+rule_by : (dbc : ℕ) (o : Option ℕ) → IfSome o IsSytInterval → IsRule (block_rule dbc o)
+rule_by dbc None is = tt
+rule_by dbc (Some interval) is = is
+
+interval_known : (fdf : ℕ) → IfSome (syt_interval fdf) IsSytInterval
+interval_known fdf = grind (arith, nat_tests)
+
+no_more : (fdf size : ℕ) → data_size fdf size ≤ size
+no_more fdf size = by (fdf == no_data)
+  where
+    by : (b : Bool) → (if b then 0 else size) ≤ size
+    by true = omega arith
+    by false = omega arith
+
+few_blocks : (count block fdf size : ℕ) → count * block ≡ data_size fdf size → 1 ≤ block → size < 2 ^ 16 → count ≤ 65535
+few_blocks count block fdf size e some below = let least = le-mul_of_pos_right count some in let most = no_more fdf size in omega arith
+
+-- where there are blocks they are all that follows the CIP header
+whole_blocks : (fdf count block size : ℕ) → count * block ≡ data_size fdf size → 1 ≤ block → 1 ≤ count → size % count ≡ 0
+whole_blocks fdf count block size e some there = by (fdf == no_data) e
+  where
+    by : (b : Bool) → count * block ≡ (if b then 0 else size) → size % count ≡ 0
+    by true none = absurd (let least = mul-pos there some in omega arith)
+    by false whole = whole_frames size count block whole
+
+blocks_fit : (d : Delivery) → IsArrival d.arrival → iec_refusal d.packet ≡ None → IsItem (blocks_of d (iec_of d.packet))
+blocks_fit d arrives accepted =
+    let v : Iec = iec_of d.packet in
+    let w = iec_writable d.packet v (iec_spelled d.packet accepted) in
+    let stated : bits 20 0 16 d.packet ≡ 8 + length v.payload = w.data_length in
+    let block : 1 ≤ block_size v.cip.dbs = omega (arith, w.some_quadlets) in
+    record {
+      arrival = arrives;
+      count = few_blocks v.count (block_size v.cip.dbs) v.cip.fdf (length v.payload) w.count block (omega (arith, stated, bits-below 20 0 16 d.packet));
+      frames = whole_blocks v.cip.fdf v.count (block_size v.cip.dbs) (length v.payload) w.count block;
+      rate_from = (no_block_rate v.cip.fdf).0;
+      rate_to = (no_block_rate v.cip.fdf).1;
+      rule = rule_by v.cip.dbc (syt_interval v.cip.fdf) (interval_known v.cip.fdf);
+    }
+
+-- ---- items
+
+aaf_fits_by : (d : Delivery) (refusal : Option Refusal) → aaf_refusal d.packet ≡ refusal → IsArrival d.arrival → IsItem (refused_or d refusal (samples_of d (aaf_of d.packet)))
+aaf_fits_by d None e arrives = samples_fit d arrives e
+aaf_fits_by d (Some refusal) e arrives = arrives
+
+iec_fits_by : (d : Delivery) (refusal : Option Refusal) → iec_refusal d.packet ≡ refusal → IsArrival d.arrival → IsItem (refused_or d refusal (blocks_of d (iec_of d.packet)))
+iec_fits_by d None e arrives = blocks_fit d arrives e
+iec_fits_by d (Some refusal) e arrives = arrives
+
+kind_fits : (b : Bool) (d : Delivery) → IsArrival d.arrival → IsItem (if b then aaf_item d else iec_item d)
+kind_fits true d arrives = aaf_fits_by d (aaf_refusal d.packet) refl arrives
+kind_fits false d arrives = iec_fits_by d (iec_refusal d.packet) refl arrives
+
+pub item_fits : (d : Delivery) → IsArrival d.arrival → IsItem (item_of d)
+item_fits d arrives = kind_fits (d.subtype == aaf_subtype) d arrives
 
 -- the entries of a capture's records are as a schedule takes them
 pub entries_fit : (stream : ℕ) (bytes : List ℕ) → AreBytes bytes → All IsEntry (entries (deliveries stream None (whole_records bytes)))
 entries_fit stream bytes are =
     let picked = All-filter (λ (p : ℕ × Record). is_delivered stream None p.1.bytes) (λ (p : ℕ × Record). Arrives p.1) (enumerate_from 1 (whole_records bytes)) (numbered_arrive 1 (whole_records bytes) (records_arrive bytes are)) in
-    All-map IsEntry (λ (d : Delivery). OfItem (item_of d)) (deliveries stream None (whole_records bytes))
+    All-map IsEntry (λ (made : MadeItem). made.entry) (items_of (deliveries stream None (whole_records bytes)))
+    (All-map (λ (made : MadeItem). IsEntry made.entry) made_of_one (deliveries stream None (whole_records bytes))
     (All-map (λ (d : Delivery). IsItem (item_of d)) (λ (p : ℕ × Record). delivery p.0 p.1) _
-    (All-weaker (λ (p : ℕ × Record). Arrives p.1) (λ (p : ℕ × Record). IsItem (item_of (delivery p.0 p.1))) (λ p arrives. item_fits (delivery p.0 p.1) arrives) _ picked))
+    (All-weaker (λ (p : ℕ × Record). Arrives p.1) (λ (p : ℕ × Record). IsItem (item_of (delivery p.0 p.1))) (λ p arrives. item_fits (delivery p.0 p.1) arrives) _ picked)))

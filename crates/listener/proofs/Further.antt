@@ -1,6 +1,6 @@
 -- What one more record adds.
 use Rattle.std.proofs.Common.{◌≡◌, ℕ, ◌+◌, suc, Bool, true, false, List, [], ◌∷◌, ◌++◌, length, map, Some, None, refl, sym, ap, ◌∙◌, arith, length-append, append-nil, if◌then◌else◌}
-use Rattle.std.specs.Prelude.{filter, Result, Ok, Err, OnOk}
+use Rattle.std.specs.Prelude.{IfOk, filter, Result, Ok, Err, OnOk}
 use Rattle.std.specs.List.{enumerate_from}
 use Rattle.std.proofs.lemmas.List.{map-append}
 use Rattle.std.proofs.lemmas.List.Elements.{filter-append}
@@ -10,7 +10,7 @@ use Rattle.sample_schedule.specs.declared.entry.Entry.TheVariants.{Item as OfIte
 use Rattle.listener.specs.declared.collected.Collected.{Collected}
 use Rattle.listener.specs.Collected.{StandsFor}
 use Rattle.packet_journal.specs.Deliveries.{Delivery, belongs, deliveries, delivery, is_delivered, stream_kinds}
-use Rattle.listener.specs.Items.{entries, item_of}
+use Rattle.listener.specs.Items.{MadeItem, entries, item_of, made_of_one}
 
 numbered : {X : Type 0} (n : ℕ) (xs : List X) (x : X) → enumerate_from n (xs ++ x ∷ []) ≡ enumerate_from n xs ++ (n + length xs, x) ∷ []
 numbered {X} n [] x = let e : n ≡ n + 0 = omega arith in ap {B = List (ℕ × X)} (λ k. (k, x) ∷ []) e
@@ -42,6 +42,11 @@ none_more stream records r out = deliveries_further stream records r ∙ rw out 
 abbrev entry : Delivery → Entry
 entry d = OfItem (item_of d)
 
+entries_further : (ds : List Delivery) (d : Delivery) → entries (ds ++ d ∷ []) ≡ entries ds ++ entry d ∷ []
+entries_further ds d =
+    ap (map (λ (made : MadeItem). made.entry)) (map-append made_of_one ds (d ∷ []))
+    ∙ map-append (λ (made : MadeItem). made.entry) (map made_of_one ds) (made_of_one d ∷ [])
+
 pub stands_with : (stream : ℕ) (records : List Record) (r : Record) (old new : Collected) → belongs stream_kinds stream r.bytes ≡ true → StandsFor stream records old
     → new.frames ≡ old.frames + 1 → new.packets ≡ old.packets + 1 → new.entries.items ≡ old.entries.items ++ OfItem (item_of (delivery (old.frames + 1) r)) ∷ []
     → StandsFor stream (records ++ r ∷ []) new
@@ -53,7 +58,7 @@ stands_with stream records r old new in_it stands frames packets made =
       packets = omega (arith, packets, stands.packets, ap length more, length-append (deliveries stream None records) (delivery (1 + length records) r ∷ []));
       made = made ∙ (ap (λ (l : List Entry). l ++ entry (delivery (old.frames + 1) r) ∷ []) stands.made
           ∙ (ap (λ (n : ℕ). entries (deliveries stream None records) ++ entry (delivery n r) ∷ []) number
-          ∙ sym (ap entries more ∙ map-append entry (deliveries stream None records) (delivery (1 + length records) r ∷ []))));
+          ∙ sym (ap entries more ∙ entries_further (deliveries stream None records) (delivery (1 + length records) r))));
     }
 
 pub stands_without : (stream : ℕ) (records : List Record) (r : Record) (old new : Collected) → belongs stream_kinds stream r.bytes ≡ false → StandsFor stream records old
@@ -75,6 +80,10 @@ chosen false x y e = absurd (cc)
 pub not_chosen : {X : Type 0} (b : Bool) (y : X) → None ≡ (if b then Some y else None) → b ≡ false
 not_chosen true y e = absurd (cc)
 not_chosen false y e = refl
+
+pub if_ok : {X E : Type 0} (r : Result X E) (P Q : X → Type 0) → IfOk r P → ((x : X) → P x → Q x) → IfOk r Q
+if_ok (Ok x) P Q p make = make x p
+if_ok (Err e) P Q p make = tt
 
 pub on_ok : {X E P Q : Type 0} (r : Result X E) → (P → Q) → OnOk r P → OnOk r Q
 on_ok (Ok x) f p = f p

@@ -8,4 +8,5 @@ pub mod TrueOnce
 pub mod TrueTimely
 pub mod TrueOrder
 pub mod Shown
+pub mod Welcome
 pub mod TrueHeadline

@@ -22,7 +22,7 @@ use Rattle.packet_journal.specs.Packets.{PacketJournal}
 use Rattle.listener.specs.declared.plan.ListenPlan.{ListenPlan}
 use Rattle.listener.specs.Heard.{heard_of, schedule_plan}
 use Rattle.listener.specs.Items.{entries}
-use Rattle.listener.specs.Laws.{Agree, AreOther, AreSame, Hears, IsAaf, IsOfPacket, presented_of}
+use Rattle.listener.specs.Laws.{Agree, AreOther, AreSame, HearsTalker, IsAudioStream, IsOfPacket, presented_of}
 use Rattle.listener.proofs.TrueList.{IsTrueAccepted, audio, batches_are, given_true}
 
 -- ---- the same packet, the same samples
@@ -39,26 +39,26 @@ same_samples p n a b is x y = record {
 has_first : (p : PacketJournal) (n : ℕ) (a : Presented) → IsAudio p.times → IsOfPacket p n a → 0 < a.count
 has_first p n a is x = rw x.count (let some = is.some in omega arith)
 
-differ : (p : PacketJournal) (a b : Accepted) → IsAaf p.times.kind → Conforms p.times → IsTrueAccepted p a → IsTrueAccepted p b → IsNoCopy a b → AreOther p a.batch b.batch
-differ p a b aaf is s t other n x y =
-    let same = (same_samples p n a.batch b.batch is x y).instants 0 (has_first p n a.batch (audio p aaf is) x) in
+differ : (p : PacketJournal) (a b : Accepted) → IsAudioStream p.times.kind → Conforms p.times → IsTrueAccepted p a → IsTrueAccepted p b → IsNoCopy a b → AreOther p a.batch b.batch
+differ p a b heard is s t other n x y =
+    let same = (same_samples p n a.batch b.batch is x y).instants 0 (has_first p n a.batch (audio p heard is) x) in
     other (s.instant ∙ (same ∙ sym t.instant)) (x.seq ∙ sym y.seq)
 
-differ_all : (p : PacketJournal) (a : Accepted) (rest : List Accepted) → IsAaf p.times.kind → Conforms p.times → IsTrueAccepted p a → All (IsTrueAccepted p) rest → AllByRecursion (IsNoCopy a) rest
+differ_all : (p : PacketJournal) (a : Accepted) (rest : List Accepted) → IsAudioStream p.times.kind → Conforms p.times → IsTrueAccepted p a → All (IsTrueAccepted p) rest → AllByRecursion (IsNoCopy a) rest
     → All (AreOther p a.batch) (map (λ (b : Accepted). b.batch) rest)
-differ_all p a [] aaf is s all others = All-nil (AreOther p a.batch)
-differ_all p a (b ∷ rest) aaf is s all others =
-    All-cons (AreOther p a.batch) b.batch (map (λ (b : Accepted). b.batch) rest) (differ p a b aaf is s (All-head (IsTrueAccepted p) b rest all) others.0)
-    (differ_all p a rest aaf is s (All-tail (IsTrueAccepted p) b rest all) others.1)
+differ_all p a [] heard is s all others = All-nil (AreOther p a.batch)
+differ_all p a (b ∷ rest) heard is s all others =
+    All-cons (AreOther p a.batch) b.batch (map (λ (b : Accepted). b.batch) rest) (differ p a b heard is s (All-head (IsTrueAccepted p) b rest all) others.0)
+    (differ_all p a rest heard is s (All-tail (IsTrueAccepted p) b rest all) others.1)
 
-each_once : (p : PacketJournal) (xs : List Accepted) → IsAaf p.times.kind → Conforms p.times → All (IsTrueAccepted p) xs → Pairwise IsNoCopy xs → AllPairs (AreOther p) (map (λ (a : Accepted). a.batch) xs)
-each_once p [] aaf is all others = λ i j d lt within. absurd (omega arith)
-each_once p (a ∷ rest) aaf is all others =
+each_once : (p : PacketJournal) (xs : List Accepted) → IsAudioStream p.times.kind → Conforms p.times → All (IsTrueAccepted p) xs → Pairwise IsNoCopy xs → AllPairs (AreOther p) (map (λ (a : Accepted). a.batch) xs)
+each_once p [] heard is all others = λ i j d lt within. absurd (omega arith)
+each_once p (a ∷ rest) heard is all others =
     AllPairs-cons (AreOther p) a.batch (map (λ (b : Accepted). b.batch) rest)
-    (differ_all p a rest aaf is (All-head (IsTrueAccepted p) a rest all) (All-tail (IsTrueAccepted p) a rest all) others.0)
-    (each_once p rest aaf is (All-tail (IsTrueAccepted p) a rest all) others.1)
+    (differ_all p a rest heard is (All-head (IsTrueAccepted p) a rest all) (All-tail (IsTrueAccepted p) a rest all) others.0)
+    (each_once p rest heard is (All-tail (IsTrueAccepted p) a rest all) others.1)
 
-pub presented_once : (clock : Clock) (shift : ℤ) (p : PacketJournal) (plan : ListenPlan) (bytes : List ℕ) → Hears shift p plan bytes
+pub presented_once : (clock : Clock) (shift : ℤ) (p : PacketJournal) (plan : ListenPlan) (bytes : List ℕ) → HearsTalker shift p plan bytes
     → AllPairs (AreOther p) (presented_of (heard_of clock plan bytes).shown)
 presented_once clock shift p plan bytes h =
     let es = entries (deliveries plan.stream plan.clock (whole_records bytes)) in
@@ -68,15 +68,15 @@ presented_once clock shift p plan bytes h =
 
 -- ---- one number
 
-at_nominal : (kind : Kind) (j : Journal) (n k : ℕ) (instant : ℤ) → IsAaf kind → IsAtBy kind false j n k instant → IsAtNominal j n k instant
-at_nominal DenseAaf j n k instant aaf at = at
-at_nominal SparseAaf j n k instant aaf at = at
-at_nominal (Am824 interval dbc) j n k instant aaf at = absurd aaf
-at_nominal (H264 part) j n k instant aaf at = absurd aaf
+at_nominal : (kind : Kind) (j : Journal) (n k : ℕ) (instant : ℤ) → IsAudioStream kind → IsAtBy kind false j n k instant → IsAtNominal j n k instant
+at_nominal DenseAaf j n k instant heard at = at
+at_nominal SparseAaf j n k instant heard at = at
+at_nominal (Am824 interval dbc) j n k instant heard at = at
+at_nominal (H264 part) j n k instant heard at = absurd heard
 
-pub first_due : (p : PacketJournal) (n : ℕ) (a : Presented) → IsAaf p.times.kind → IsAudio p.times → IsOfPacket p n a → sample_instant a 0 ≡ pos (p.times.due n)
-first_due p n a aaf is x =
-    let at = at_nominal p.times.kind p.times n 0 (sample_instant a 0) aaf (x.instants 0 (has_first p n a is x)) in
+pub first_due : (p : PacketJournal) (n : ℕ) (a : Presented) → IsAudioStream p.times.kind → IsAudio p.times → IsOfPacket p n a → sample_instant a 0 ≡ pos (p.times.due n)
+first_due p n a heard is x =
+    let at = at_nominal p.times.kind p.times n 0 (sample_instant a 0) heard (x.instants 0 (has_first p n a is x)) in
     at.at ∙ sym (is.first_instants n at.head x.known at.is_head)
 
 pub one_due : (a b : ℕ) (z : ℤ) → z ≡ pos a → z ≡ pos b → a ≡ b
@@ -92,11 +92,11 @@ due_once j n m is here there same = elim (cases_lt n m) [
   ]
 ]
 
-pub one_number : (p : PacketJournal) (n m : ℕ) (a : Presented) → IsAaf p.times.kind → Conforms p.times → IsOfPacket p n a → IsOfPacket p m a → n ≡ m
-one_number p n m a aaf is x y =
-    let sound = audio p aaf is in
+pub one_number : (p : PacketJournal) (n m : ℕ) (a : Presented) → IsAudioStream p.times.kind → Conforms p.times → IsOfPacket p n a → IsOfPacket p m a → n ≡ m
+one_number p n m a heard is x y =
+    let sound = audio p heard is in
     due_once p.times n m sound x.known y.known
-    (one_due (p.times.due n) (p.times.due m) (sample_instant a 0) (first_due p n a aaf sound x) (first_due p m a aaf sound y))
+    (one_due (p.times.due n) (p.times.due m) (sample_instant a 0) (first_due p n a heard sound x) (first_due p m a heard sound y))
 
 -- ---- two listeners
 

@@ -1,4 +1,4 @@
--- A copy against which nothing speaks is presented, and a further one is flagged as such.
+-- A copy that must be presented is, and a further one is flagged as such.
 use Rattle.std.proofs.Common.{◌≡◌, inl, inr, ℕ, zero, suc, ◌+◌, Bool, true, false, ℤ, pos, ◌≤ℤ◌, List, [], ◌∷◌, All, length, Option, Some, None, Ok, is_some, refl, sym, ap, ◌∙◌, subst, eq-eqb, arith}
 use Rattle.std.specs.Prelude.{◌==◌, if◌then◌else◌, IfOk, Result, Err, Any, map, slice_get}
 use Rattle.std.specs.List.{list_any}
@@ -25,8 +25,8 @@ use Rattle.packet_journal.specs.Deliveries.{Delivery, deliveries}
 use Rattle.packet_journal.specs.Packets.{PacketJournal, carried}
 use Rattle.listener.specs.declared.plan.ListenPlan.{ListenPlan}
 use Rattle.listener.specs.Heard.{heard_of, schedule_plan}
-use Rattle.listener.specs.Items.{entries, item_of}
-use Rattle.listener.specs.Laws.{Hears, IsAaf, IsFurther, IsOfPacket, IsPresentedOf, IsTimely, IsWelcome, verdict_of, accepted_before, deliveries_of, entries_in, has_head, presented_of, time_of}
+use Rattle.listener.specs.Items.{MadeItem, entries, item_of, items_of, made_of_one}
+use Rattle.listener.specs.Laws.{HearsTalker, IsAudioStream, IsFurther, IsOfPacket, IsPresentedOf, IsTimely, IsWelcome, verdict_of, accepted_before, deliveries_of, entries_in, has_head, items_in, presented_of, time_of}
 use Rattle.listener.proofs.TrueItems.{Shows, all_shown, copy_item, sent}
 use Rattle.listener.proofs.TrueHeard.{IsBatchOf, timed_ok, timed_true}
 use Rattle.listener.proofs.TrueList.{IsTrueAccepted, IsTrueEntry, accepted_true, audio, batches_are, entries_true, stamps_true}
@@ -42,7 +42,7 @@ any_batch P (y ∷ xs) x (inr h) holds =
     let rest = any_batch P xs x h holds in
     (suc rest.0, rest.1, let within = rest.2 in omega arith, rest.3, rest.4)
 
-at_place : {X : Type 0} (P : X → Type 0) (xs : List X) (n : ℕ) (x : X) → All P xs → slice_get xs n ≡ Some x → P x
+pub at_place : {X : Type 0} (P : X → Type 0) (xs : List X) (n : ℕ) (x : X) → All P xs → slice_get xs n ≡ Some x → P x
 at_place {X} P [] n x all e = absurd cc
 at_place {X} P (y ∷ xs) zero x all e = let same : y ≡ x = cc in subst P same (All-head P y xs all)
 at_place {X} P (y ∷ xs) (suc n) x all e = at_place P xs n x (All-tail P y xs all) e
@@ -51,6 +51,17 @@ pub entry_there : (ds : List Delivery) (n : ℕ) (d : Delivery) → slice_get ds
 entry_there [] n d e = absurd cc
 entry_there (x ∷ ds) zero d e = let same : x ≡ d = cc in ap (λ (y : Delivery). Some (OfItem (item_of y))) same
 entry_there (x ∷ ds) (suc n) d e = entry_there ds n d e
+
+-- the delivery of an item
+pub record IsOfOne (ds : List Delivery) (n : ℕ) (made : MadeItem) : Type 0 where
+  pub delivery : Delivery
+  pub there : slice_get ds n ≡ Some delivery
+  pub same : made_of_one delivery ≡ made
+
+pub of_one : (ds : List Delivery) (n : ℕ) (made : MadeItem) → slice_get (items_of ds) n ≡ Some made → IsOfOne ds n made
+of_one [] n made e = absurd cc
+of_one (d ∷ ds) zero made e = record { delivery = d; there = refl; same = cc }
+of_one (d ∷ ds) (suc n) made e = let m = of_one ds n made e in record { delivery = m.delivery; there = m.there; same = m.same }
 
 -- ---- no copy was accepted
 
@@ -67,39 +78,39 @@ is_copy_so instant seq a e = by (same_instant a.instant instant) refl e
 one_due_of : (z w : ℤ) (a b : ℕ) → z ≡ w → z ≡ pos a → w ≡ pos b → a ≡ b
 one_due_of z w a b e f g = omega (arith, ints)
 
-not_copied : (p : PacketJournal) (n : ℕ) (batch : Presented) (a : Accepted) (b : Bool) → IsAudio p.times → IsAaf p.times.kind → IsOfPacket p n batch → IsTrueAccepted p a → ¬ IsOfPacket p n a.batch
+not_copied : (p : PacketJournal) (n : ℕ) (batch : Presented) (a : Accepted) (b : Bool) → IsAudio p.times → IsAudioStream p.times.kind → IsOfPacket p n batch → IsTrueAccepted p a → ¬ IsOfPacket p n a.batch
     → is_copy (first_instant batch) batch.seq a ≡ b → b ≡ false
-not_copied p n batch a true is aaf x t other e =
+not_copied p n batch a true is heard x t other e =
     let m = t.is.number in
     let instant : first_instant a.batch ≡ first_instant batch = sym t.instant ∙ is_copy_so (first_instant batch) batch.seq a e in
-    let due = one_due_of (first_instant a.batch) (first_instant batch) (p.times.due m) (p.times.due n) instant (first_due p m a.batch aaf is t.is.is) (first_due p n batch aaf is x) in
+    let due = one_due_of (first_instant a.batch) (first_instant batch) (p.times.due m) (p.times.due n) instant (first_due p m a.batch heard is t.is.is) (first_due p n batch heard is x) in
     let same : m ≡ n = due_once p.times m n is t.is.is.known x.known due in
     absurd (other (subst (λ (k : ℕ). IsOfPacket p k a.batch) same t.is.is))
-not_copied p n batch a false is aaf x t other e = refl
+not_copied p n batch a false is heard x t other e = refl
 
-none_copied : (p : PacketJournal) (n : ℕ) (batch : Presented) (earlier : List Accepted) → IsAudio p.times → IsAaf p.times.kind → IsOfPacket p n batch → All (IsTrueAccepted p) earlier
+none_copied : (p : PacketJournal) (n : ℕ) (batch : Presented) (earlier : List Accepted) → IsAudio p.times → IsAudioStream p.times.kind → IsOfPacket p n batch → All (IsTrueAccepted p) earlier
     → All (λ a. ¬ IsOfPacket p n a.batch) earlier → list_any (is_copy (first_instant batch) batch.seq) earlier ≡ false
-none_copied p n batch [] is aaf x true_ones others = refl
-none_copied p n batch (a ∷ rest) is aaf x true_ones others =
-    rw (not_copied p n batch a (is_copy (first_instant batch) batch.seq a) is aaf x (All-head (IsTrueAccepted p) a rest true_ones) (All-head (λ a. ¬ IsOfPacket p n a.batch) a rest others) refl)
-    (none_copied p n batch rest is aaf x (All-tail (IsTrueAccepted p) a rest true_ones) (All-tail (λ a. ¬ IsOfPacket p n a.batch) a rest others))
+none_copied p n batch [] is heard x true_ones others = refl
+none_copied p n batch (a ∷ rest) is heard x true_ones others =
+    rw (not_copied p n batch a (is_copy (first_instant batch) batch.seq a) is heard x (All-head (IsTrueAccepted p) a rest true_ones) (All-head (λ a. ¬ IsOfPacket p n a.batch) a rest others) refl)
+    (none_copied p n batch rest is heard x (All-tail (IsTrueAccepted p) a rest true_ones) (All-tail (λ a. ¬ IsOfPacket p n a.batch) a rest others))
 
 -- ---- a copy was accepted
 
 same_copy : (instant : ℤ) (seq : ℕ) (a : Accepted) → a.instant ≡ instant → a.batch.seq ≡ seq → is_copy instant seq a ≡ true
 same_copy instant seq a e f = rw (e, le_true instant instant (omega (arith, ints))) (eq-eqb a.batch.seq seq f)
 
-is_copied : (p : PacketJournal) (n : ℕ) (batch : Presented) (earlier : List Accepted) → IsAudio p.times → IsAaf p.times.kind → IsOfPacket p n batch → All (IsTrueAccepted p) earlier
+is_copied : (p : PacketJournal) (n : ℕ) (batch : Presented) (earlier : List Accepted) → IsAudio p.times → IsAudioStream p.times.kind → IsOfPacket p n batch → All (IsTrueAccepted p) earlier
     → Any (λ a. IsOfPacket p n a.batch) earlier → list_any (is_copy (first_instant batch) batch.seq) earlier ≡ true
-is_copied p n batch earlier is aaf x true_ones (k, a, within, there, y) =
+is_copied p n batch earlier is heard x true_ones (k, a, within, there, y) =
     let t : IsTrueAccepted p a = subst (IsTrueAccepted p) there (true_ones k a within) in
-    let instant : a.instant ≡ first_instant batch = t.instant ∙ (first_due p n a.batch aaf is y ∙ sym (first_due p n batch aaf is x)) in
+    let instant : a.instant ≡ first_instant batch = t.instant ∙ (first_due p n a.batch heard is y ∙ sym (first_due p n batch heard is x)) in
     let copy = same_copy (first_instant batch) batch.seq a instant (y.seq ∙ sym x.seq) in
     list_any_at (is_copy (first_instant batch) batch.seq) earlier k a within (subst (λ (b : Accepted). is_copy (first_instant batch) batch.seq b ≡ true) (sym there) copy)
 
 -- ---- the verdict
 
-abbrev taken : ℕ → Presented → Accepted
+abbrev pub taken : ℕ → Presented → Accepted
 taken place batch = record { place = place; instant = first_instant batch; batch = batch }
 
 verdict_is : (plan : SchedulePlan) (now : ℤ) (earlier : List Accepted) (place : ℕ) (r : Result Presented Reason) (batch : Presented) → r ≡ Ok batch → now ≤ℤ first_instant batch
@@ -119,59 +130,82 @@ record IsTimed (clock : Clock) (p : PacketJournal) (plan : ListenPlan) (bytes : 
   timed_is : timed clock (schedule_plan plan) (prefix_of (schedule_plan plan) (entries_in plan bytes) place) (item_of d) ≡ Ok batch
   is : IsBatchOf p n d.frame batch
 
-timely : (clock : Clock) (shift : ℤ) (p : PacketJournal) (plan : ListenPlan) (bytes : List ℕ) (place n : ℕ) (d : Delivery) → Hears shift p plan bytes → IsTimely p plan bytes place n d → IsTimed clock p plan bytes place n d
-timely clock shift p plan bytes place n d h w =
+timely : (clock : Clock) (shift : ℤ) (p : PacketJournal) (plan : ListenPlan) (bytes : List ℕ) (place n : ℕ) (d : Delivery) → HearsTalker shift p plan bytes → slice_get (deliveries_of plan bytes) place ≡ Some d → IsTimely p plan bytes place n (made_of_one d) → IsTimed clock p plan bytes place n d
+timely clock shift p plan bytes place n d h at w =
     let sp = schedule_plan plan in
     let records = whole_records bytes in
     let es = entries_in plan bytes in
     let prefix = prefix_of sp es place in
     let is = audio p h.kind h.conforming.times in
     let off : is_some plan.clock ≡ false = rw h.clock refl in
-    let there : slice_get (deliveries plan.stream None records) place ≡ Some d = subst (λ (c : Option ℕ). slice_get (deliveries plan.stream c records) place ≡ Some d) h.clock w.there in
+    let there : slice_get (deliveries plan.stream None records) place ≡ Some d = subst (λ (c : Option ℕ). slice_get (deliveries plan.stream c records) place ≡ Some d) h.clock at in
     let shows = at_place Shows (deliveries plan.stream None records) place d (all_shown plan.stream 1 records) there in
-    let same : item_of d ≡ OfPacket (sent p.times p.times.kind n d.frame w.copy.arrival (carried (p.packet n))) = copy_item shift p plan.lead n d h.conforming h.kind w.copy shows.seq in
-    let known = subst (λ (i : Item). has_head sp prefix i ≡ true) same w.known in
-    let stamps = stamps_true (deliveries_of plan bytes) p plan.lead prefix is h.kind (All-take (IsTrueEntry (deliveries_of plan bytes) p plan.lead) (place + plan.look + 1) es (entries_true shift p plan bytes h)) in
-    let ok = timed_ok p clock sp n d.frame w.copy.arrival prefix off is known in
-    let so = timed_true p clock sp n d.frame w.copy.arrival prefix off is h.kind w.copy.delivered stamps in
+    let same : item_of d ≡ OfPacket (sent p.times n d.frame w.copy.last.arrival (carried (p.packet n))) = copy_item shift p plan.lead n d h.conforming h.kind w.copy.last shows in
+    let known = subst (λ (i : Item). has_head sp prefix (OfItem i) ≡ true) same w.known in
+    let stamps = stamps_true (items_in plan bytes) p plan.lead prefix is h.kind (All-take (IsTrueEntry (items_in plan bytes) p plan.lead) (place + plan.look + 1) es (entries_true shift p plan bytes h)) in
+    let ok = timed_ok p clock sp n d.frame w.copy.last.arrival prefix off is known in
+    let so = timed_true p clock sp n d.frame w.copy.last.arrival prefix off is h.kind w.copy.last.delivered stamps in
     record {
       batch = ok.batch;
       timed_is = ap (timed clock sp prefix) same ∙ ok.same;
       is = subst (λ (r : Result Presented Reason). IfOk r (IsBatchOf p n d.frame)) ok.same so;
     }
 
-in_time : (clock : Clock) (p : PacketJournal) (plan : ListenPlan) (bytes : List ℕ) (place n : ℕ) (d : Delivery) → IsAaf p.times.kind → IsAudio p.times → IsTimely p plan bytes place n d → (t : IsTimed clock p plan bytes place n d)
+in_time : (clock : Clock) (p : PacketJournal) (plan : ListenPlan) (bytes : List ℕ) (place n : ℕ) (d : Delivery) → IsAudioStream p.times.kind → IsAudio p.times → IsTimely p plan bytes place n (made_of_one d) → (t : IsTimed clock p plan bytes place n d)
     → time_of plan bytes place ≤ℤ first_instant t.batch
-in_time clock p plan bytes place n d aaf is w t = subst (λ (z : ℤ). time_of plan bytes place ≤ℤ z) (sym (first_due p n t.batch aaf is t.is.is)) w.in_time
+in_time clock p plan bytes place n d heard is w t = subst (λ (z : ℤ). time_of plan bytes place ≤ℤ z) (sym (first_due p n t.batch heard is t.is.is)) w.in_time
 
-earlier_true : (clock : Clock) (shift : ℤ) (p : PacketJournal) (plan : ListenPlan) (bytes : List ℕ) (place : ℕ) → Hears shift p plan bytes → All (IsTrueAccepted p) (accepted_before clock plan bytes place)
+earlier_true : (clock : Clock) (shift : ℤ) (p : PacketJournal) (plan : ListenPlan) (bytes : List ℕ) (place : ℕ) → HearsTalker shift p plan bytes → All (IsTrueAccepted p) (accepted_before clock plan bytes place)
 earlier_true clock shift p plan bytes place h =
     let off : is_some plan.clock ≡ false = rw h.clock refl in
-    accepted_true (deliveries_of plan bytes) p clock (schedule_plan plan) (entries_in plan bytes) place off (audio p h.kind h.conforming.times) h.kind (entries_true shift p plan bytes h)
+    accepted_true (items_in plan bytes) p clock (schedule_plan plan) (entries_in plan bytes) place off (audio p h.kind h.conforming.times) h.kind (entries_true shift p plan bytes h)
 
-pub welcome_shown : (clock : Clock) (shift : ℤ) (p : PacketJournal) (plan : ListenPlan) (bytes : List ℕ) (place n : ℕ) (d : Delivery) → Hears shift p plan bytes → IsWelcome clock p plan bytes place n d
-    → Any (IsPresentedOf p n d) (presented_of (heard_of clock plan bytes).shown)
-welcome_shown clock shift p plan bytes place n d h w =
+-- a copy that must be presented is accepted
+pub record IsAcceptedAs (clock : Clock) (p : PacketJournal) (plan : ListenPlan) (bytes : List ℕ) (place n : ℕ) (d : Delivery) : Type 0 where
+  pub batch : Presented
+  pub verdict_is_ok : verdict_of clock plan bytes place (item_of d) ≡ Ok (taken place batch)
+  pub is : IsBatchOf p n d.frame batch
+
+pub welcome_judged : (clock : Clock) (shift : ℤ) (p : PacketJournal) (plan : ListenPlan) (bytes : List ℕ) (place n : ℕ) (d : Delivery) → HearsTalker shift p plan bytes → slice_get (deliveries_of plan bytes) place ≡ Some d
+    → IsWelcome clock p plan bytes place n (made_of_one d) → IsAcceptedAs clock p plan bytes place n d
+welcome_judged clock shift p plan bytes place n d h at w =
     let sp = schedule_plan plan in
-    let es = entries_in plan bytes in
     let earlier = accepted_before clock plan bytes place in
     let is = audio p h.kind h.conforming.times in
-    let t = timely clock shift p plan bytes place n d h w.timely in
+    let t = timely clock shift p plan bytes place n d h at w.timely in
     let fresh = none_copied p n t.batch earlier is h.kind t.is.is (earlier_true clock shift p plan bytes place h) w.first in
     let room : is_full sp (standing (time_of plan bytes place) earlier) (length t.batch.bytes) ≡ false =
     subst (λ (l : List ℕ). is_full sp (standing (time_of plan bytes place) earlier) (length l) ≡ false) (sym t.is.is.bytes) w.room in
-    let there = entry_there (deliveries_of plan bytes) place d w.timely.there in
-    let verdict_so = verdict_is sp (time_of plan bytes place) earlier place _ t.batch t.timed_is (in_time clock p plan bytes place n d h.kind is w.timely t) fresh room in
-    let shown = ok-presented clock sp es place (item_of d) (taken place t.batch) there verdict_so in
-    let gs = given clock sp es in
-    subst (λ (l : List Presented). Any (IsPresentedOf p n d) l) (sym (batches_are gs))
-    (any_batch (IsPresentedOf p n d) (presented gs) (taken place t.batch) shown (record { frame = t.is.frame_is; is = t.is.is }))
+    record {
+      batch = t.batch;
+      verdict_is_ok = verdict_is sp (time_of plan bytes place) earlier place _ t.batch t.timed_is (in_time clock p plan bytes place n d h.kind is w.timely t) fresh room;
+      is = t.is;
+    }
 
-pub further_judged : (clock : Clock) (shift : ℤ) (p : PacketJournal) (plan : ListenPlan) (bytes : List ℕ) (place n : ℕ) (d : Delivery) → Hears shift p plan bytes → IsFurther clock p plan bytes place n d
-    → verdict_of clock plan bytes place d ≡ Err Repeat
-further_judged clock shift p plan bytes place n d h w =
+welcome_one : (clock : Clock) (shift : ℤ) (p : PacketJournal) (plan : ListenPlan) (bytes : List ℕ) (place n : ℕ) (d : Delivery) → HearsTalker shift p plan bytes → slice_get (deliveries_of plan bytes) place ≡ Some d
+    → IsWelcome clock p plan bytes place n (made_of_one d) → Any (IsPresentedOf p n (made_of_one d)) (presented_of (heard_of clock plan bytes).shown)
+welcome_one clock shift p plan bytes place n d h at w =
+    let sp = schedule_plan plan in
+    let es = entries_in plan bytes in
+    let t = welcome_judged clock shift p plan bytes place n d h at w in
+    let there = entry_there (deliveries_of plan bytes) place d at in
+    let shown = ok-presented clock sp es place (item_of d) (taken place t.batch) there t.verdict_is_ok in
+    let gs = given clock sp es in
+    subst (λ (l : List Presented). Any (IsPresentedOf p n (made_of_one d)) l) (sym (batches_are gs))
+    (any_batch (IsPresentedOf p n (made_of_one d)) (presented gs) (taken place t.batch) shown (record { frame = t.is.frame_is; is = t.is.is }))
+
+pub welcome_shown : (clock : Clock) (shift : ℤ) (p : PacketJournal) (plan : ListenPlan) (bytes : List ℕ) (place n : ℕ) (made : MadeItem) → HearsTalker shift p plan bytes → IsWelcome clock p plan bytes place n made
+    → Any (IsPresentedOf p n made) (presented_of (heard_of clock plan bytes).shown)
+welcome_shown clock shift p plan bytes place n made h w =
+    let one = of_one (deliveries_of plan bytes) place made w.timely.there in
+    subst (λ (m : MadeItem). Any (IsPresentedOf p n m) (presented_of (heard_of clock plan bytes).shown)) one.same
+    (welcome_one clock shift p plan bytes place n one.delivery h one.there (subst (λ (m : MadeItem). IsWelcome clock p plan bytes place n m) (sym one.same) w))
+
+pub further_judged : (clock : Clock) (shift : ℤ) (p : PacketJournal) (plan : ListenPlan) (bytes : List ℕ) (place n : ℕ) (d : Delivery) → HearsTalker shift p plan bytes → slice_get (deliveries_of plan bytes) place ≡ Some d
+    → IsFurther clock p plan bytes place n (made_of_one d) → verdict_of clock plan bytes place (item_of d) ≡ Err Repeat
+further_judged clock shift p plan bytes place n d h at w =
     let earlier = accepted_before clock plan bytes place in
     let is = audio p h.kind h.conforming.times in
-    let t = timely clock shift p plan bytes place n d h w.timely in
+    let t = timely clock shift p plan bytes place n d h at w.timely in
     verdict_repeats (schedule_plan plan) (time_of plan bytes place) earlier place _ t.batch t.timed_is (in_time clock p plan bytes place n d h.kind is w.timely t)
     (is_copied p n t.batch earlier is h.kind t.is.is (earlier_true clock shift p plan bytes place h) w.before)

@@ -6,14 +6,8 @@ ghost use Rattle.pcap_frames.specs.Reading.{shown};
 ghost use Rattle.packet_journal.specs.Deliveries.{belongs, delivery, is_wanted as is_wanted_of, stream_kinds};
 ghost use Rattle.listener.specs.Views.{delivery_shape};
 
-use avtp_header::{Peeked, peek};
+use avtp_header::{ETHERTYPE, Peeked, peek, subtype};
 use pcap_frames::{RecordView, read_frame};
-
-/// The EtherType of AVTP (IEEE 1722-2016, 4.2).
-const AVTP: u16 = 0x22F0;
-
-/// The subtype of the AVTP audio format (IEEE 1722-2016, table 6).
-const AAF: u8 = 0x02;
 
 /// A record that belongs to a stream.
 #[derive(Clone, Copy)]
@@ -22,6 +16,8 @@ pub struct DeliveryView<'a> {
     pub frame: u64,
     /// When it was captured, in nanoseconds of gPTP.
     pub arrival: i64,
+    /// The subtype of its packet.
+    pub subtype: u8,
     /// The sequence number.
     pub seq: u8,
     /// The AVTP packet.
@@ -32,7 +28,7 @@ pub struct DeliveryView<'a> {
 fn is_read(subtype: u8) -> bool
     ensures { result ≡ list_any (λ kind. subtype == kind) stream_kinds }
 {
-    matches!(subtype, AAF)
+    matches!(subtype, subtype::IEC_61883 | subtype::AAF)
 }
 
 fn is_wanted(stream: u64, peeked: Peeked) -> bool
@@ -49,7 +45,7 @@ pub fn delivery_of<'a>(stream: u64, frame: u64, held: &RecordView<'a>) -> Option
     let Ok(ethernet) = read_frame(held.bytes) else {
         return None;
     };
-    if ethernet.ethertype != AVTP {
+    if ethernet.ethertype != ETHERTYPE {
         return None;
     }
     let peeked = peek(ethernet.payload)?;
@@ -59,6 +55,7 @@ pub fn delivery_of<'a>(stream: u64, frame: u64, held: &RecordView<'a>) -> Option
     Some(DeliveryView {
         frame,
         arrival: held.arrival,
+        subtype: peeked.subtype,
         seq: peeked.seq,
         packet: ethernet.payload,
     })

@@ -35,14 +35,6 @@ impl ShownList {
     {
         self.items.as_slice()
     }
-
-    /// The vector itself. Takes no memory.
-    pub fn into_vec(self) -> Vec<Shown>
-        ensures { result.items ≡ self }
-    {
-        let ShownList { items } = self;
-        items
-    }
 }
 
 /// How much of a capture a listener saw.

@@ -1,13 +1,16 @@
-//! What a delivery is made into.
+//! What a delivery is made into, and the samples of AAF.
 
 ghost use Rattle.std.specs.Prelude.{◌≡◌, IfOk};
 ghost use Rattle.aaf_format.specs.Aaf.{aaf_shape};
 ghost use Rattle.listener.specs.Views.{delivery_shape};
-ghost use Rattle.listener.specs.Items.{item_of as item_of_delivery, malformed as malformed_of, samples_of as samples_of_packet};
+ghost use Rattle.listener.specs.Items.{aaf_item as aaf_item_of, iec_item as iec_item_of, item_of as item_of_delivery, malformed as malformed_of, samples_of as samples_of_packet};
 
+use crate::blocks::blocks_of;
 use crate::delivery::DeliveryView;
 use aaf_format::{AafView, rate_of, read_aaf};
 use avtp_base::{Bytes, NoMemory, Refusal};
+use avtp_header::subtype;
+use iec61883_format::read_iec;
 use sample_schedule::{Bad, HeadRule, Item, Packet, Reason};
 use std::alloc::Global;
 
@@ -49,12 +52,31 @@ fn samples_of(
     }))
 }
 
-/// The item that a delivery is: its samples, or the field by which its packet is refused.
-pub fn item_of(alloc: Global, delivery: &DeliveryView<'_>) -> Result<Item, NoMemory>
-    ensures { IfOk result (λ item. item ≡ item_of_delivery (delivery_shape delivery.now)) }
+fn aaf_item(alloc: Global, delivery: &DeliveryView<'_>) -> Result<Item, NoMemory>
+    ensures { IfOk result (λ item. item ≡ aaf_item_of (delivery_shape delivery.now)) }
 {
     match read_aaf(delivery.packet) {
         Ok(view) => samples_of(alloc, delivery, &view),
         Err(refusal) => Ok(malformed(delivery, refusal)),
+    }
+}
+
+fn iec_item(alloc: Global, delivery: &DeliveryView<'_>) -> Result<Item, NoMemory>
+    ensures { IfOk result (λ item. item ≡ iec_item_of (delivery_shape delivery.now)) }
+{
+    match read_iec(delivery.packet) {
+        Ok(view) => blocks_of(alloc, delivery, &view),
+        Err(refusal) => Ok(malformed(delivery, refusal)),
+    }
+}
+
+/// The item that a delivery is: its samples, or the field by which its packet is refused.
+pub fn item_of(alloc: Global, delivery: &DeliveryView<'_>) -> Result<Item, NoMemory>
+    ensures { IfOk result (λ item. item ≡ item_of_delivery (delivery_shape delivery.now)) }
+{
+    if delivery.subtype == subtype::AAF {
+        aaf_item(alloc, delivery)
+    } else {
+        iec_item(alloc, delivery)
     }
 }

@@ -1,4 +1,4 @@
-//! What a listener is told.
+//! The configuration of a listener.
 
 ghost use Rattle.std.specs.Prelude.{◌≡◌};
 ghost use Rattle.listener.specs.Heard.{schedule_plan as schedule_plan_of};
@@ -12,13 +12,13 @@ pub struct ListenPlan {
     pub stream: u64,
     /// The id of the stream's media clock, where its samples are counted on the clock's lines.
     pub clock: Option<u64>,
-    /// The most batches that wait for their instant, 1 to 65,536.
+    /// The most batches that wait for their presentation time, 1 to 65,536.
     pub buffer: u32,
     /// The most bytes that they have together, 1 to 1,073,741,824.
     pub room: u32,
     /// How many further items an item waits for before it is judged, 0 to 64.
     pub look: u32,
-    /// How long before its instant a packet is expected, at most 1,000,000,000 ns.
+    /// How long before its presentation time a packet is expected (the max transit time), at most 1,000,000,000 ns.
     pub lead: u32,
     /// What is added to each timestamp of the clock, from -1,000,000,000 to 1,000,000,000 ns.
     pub shift: i64,

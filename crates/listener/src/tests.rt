@@ -12,6 +12,8 @@ use pcap_frames::{FrameView, Order, Style, Tag, Unit, write_frame, write_header,
 use sample_schedule::{Batch, Reason, Shown};
 use std::test::Fail;
 
+mod blocks;
+
 /// A capture of one AAF packet of six sample frames, due at 1.002 s.
 const ONE: [u8; 106] = [
     0x4d, 0x3c, 0xb2, 0xa1, 0x02, 0x00, 0x04, 0x00, 0x00, 0x00, 0x00, 0x00, 0x00, 0x00, 0x00, 0x00,
@@ -46,7 +48,7 @@ const STYLE: Style = Style {
     unit: Unit::Nano,
 };
 
-/// A packet of the samples above, as it is captured. Behind it stand 12 bytes that are no samples.
+/// A packet of the samples above, as it is captured. After it stand 12 bytes that are no samples.
 #[derive(Clone, Copy)]
 struct Sent {
     arrival: i64,
@@ -276,7 +278,7 @@ const WHOLE: Seen = Seen::At {
     ],
 };
 
-/// The capture of one packet: for its stream, for another, with a packet that does not fit, and cut off behind it.
+/// The capture of one packet: for its stream, for another, with a packet that does not fit, and cut off after it.
 #[test]
 fn hears_one_packet(rt: HostRuntime) -> Result<(), Fail> {
     let bytes = capture(&rt, &[SENT])?;
@@ -285,8 +287,6 @@ fn hears_one_packet(rt: HostRuntime) -> Result<(), Fail> {
         heard(&rt, &PLAN, &ONE, &[WHOLE])?,
         (true, counts(1, 1, 1, 0), None)
     );
-    let list = whole(rt.alloc(), &PLAN, &ONE)?.shown.into_vec();
-    assert_eq!(rt; list.len(), 1);
     let other = ListenPlan {
         stream: STREAM + 1,
         ..PLAN
@@ -319,7 +319,7 @@ fn hears_one_packet(rt: HostRuntime) -> Result<(), Fail> {
 }
 
 /// One packet: both ends of the half circle, across the wrap of the timestamp, at 44.1 kHz, with reserved bits and with
-/// bytes behind its samples; and what cannot be presented.
+/// bytes after its samples; and what cannot be presented.
 #[test]
 fn hears_packets_as_they_are(rt: HostRuntime) -> Result<(), Fail> {
     let cd = Seen::At {
@@ -456,7 +456,7 @@ fn hears_packets_in_order(rt: HostRuntime) -> Result<(), Fail> {
 }
 
 /// Packets 1 to 15 of a talker in sparse mode, of which packet 8 alone is stamped: the stamp of those before it is lost,
-/// and those behind it are counted from it.
+/// and those after it are counted from it.
 #[test]
 fn hears_sparse_packets_from_their_stamp(rt: HostRuntime) -> Result<(), Fail> {
     let mut rows = [SENT; 15];
@@ -488,6 +488,7 @@ fn hears_sparse_packets_from_their_stamp(rt: HostRuntime) -> Result<(), Fail> {
 #[test]
 fn flags_packets_that_are_refused(rt: HostRuntime) -> Result<(), Fail> {
     let rows = [
+        (Some((0, 0x00)), 66, Field::Tag),
         (Some((1, 0x91)), 66, Field::Version),
         (Some((16, 5)), 66, Field::Format),
         (Some((17, 0xb0)), 66, Field::Nsr),
@@ -527,7 +528,6 @@ fn passes_other_records(rt: HostRuntime) -> Result<(), Fail> {
     let rows = [
         (Some((1, 0x01)), 66),
         (Some((11, 0x02)), 66),
-        (Some((0, 0x00)), 66),
         (Some((0, 0x03)), 66),
         (Some((0, 0x04)), 66),
         (None, PACKET + 11),
@@ -563,7 +563,7 @@ fn record_of(rt: &HostRuntime, frame: &[u8]) -> Result<Vec<u8>, Fail> {
     Ok(bytes)
 }
 
-/// Frames that are no packets: one without a byte behind its EtherType, one of another EtherType, and the longest record
+/// Frames that are no packets: one without a byte after its EtherType, one of another EtherType, and the longest record
 /// that there may be.
 #[test]
 fn passes_other_frames(rt: HostRuntime) -> Result<(), Fail> {

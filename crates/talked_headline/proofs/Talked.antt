@@ -1,0 +1,85 @@
+-- What is talked and captured.
+use Rattle.std.proofs.Common.{◌≡◌, ℕ, zero, suc, ◌+◌, ◌<◌, true, false, List, [], ◌∷◌, map, Option, Some, None, pos, ◌≤ℤ◌, refl, subst, arith}
+use Rattle.std.specs.Prelude.{IsSomeAnd, slice_get}
+use Rattle.std.specs.List.{range_with_len}
+use Rattle.pcap_frames.specs.Capture.{Record, whole_records}
+use Rattle.packet_journal.specs.Carried.{AllCarry, Carries, IsReadKind}
+use Rattle.packet_journal.specs.Deliveries.{belongs, deliveries, delivery, stream_kinds}
+use Rattle.packet_journal.specs.Packets.{PacketJournal}
+use Rattle.listener.specs.Laws.{IsAudioStream}
+use Rattle.talker.specs.declared.plan.CrfPlan.{CrfPlan}
+use Rattle.talker.specs.declared.plan.TalkKind.{TalkKind}
+use Rattle.talker.specs.declared.plan.TalkKind.TheVariants.{Aaf, Am824, H264}
+use Rattle.talker.specs.declared.plan.TalkPlan.{TalkPlan}
+use Rattle.talker.specs.Audio.{Audio, audio_by}
+use Rattle.talker.specs.Frames.{SentFrame, frames, frames_at, record_of}
+use Rattle.talker.specs.Journal.{journal, stream_by}
+
+-- ---- the journal of a plan
+
+heard_by : (kind : TalkKind) (crf : Option CrfPlan) (plan : TalkPlan) (input : List ℕ) → IsAudioStream (stream_by (audio_by kind plan) crf plan input).journal.times.kind
+heard_by (Aaf format false) None plan input = tt
+heard_by (Aaf format true) None plan input = tt
+heard_by (Aaf format sparse) (Some crf) plan input = tt
+heard_by Am824 None plan input = tt
+heard_by Am824 (Some crf) plan input = tt
+heard_by (H264 last_stamp) crf plan input = tt
+
+-- its kind is one for which the headline is said
+pub kind_heard : (plan : TalkPlan) (input : List ℕ) → IsAudioStream (journal plan input).times.kind
+kind_heard plan input = heard_by plan.kind plan.crf plan input
+
+read_by : (kind : TalkKind) (crf : Option CrfPlan) (plan : TalkPlan) (input : List ℕ) → IsReadKind (stream_by (audio_by kind plan) crf plan input).journal.times.kind
+read_by (Aaf format false) None plan input = refl
+read_by (Aaf format true) None plan input = refl
+read_by (Aaf format sparse) (Some crf) plan input = refl
+read_by Am824 None plan input = refl
+read_by Am824 (Some crf) plan input = refl
+read_by (H264 last_stamp) crf plan input = refl
+
+pub kind_read : (plan : TalkPlan) (input : List ℕ) → IsReadKind (journal plan input).times.kind
+kind_read plan input = read_by plan.kind plan.crf plan input
+
+id_by : (audio : Option Audio) (crf : Option CrfPlan) (plan : TalkPlan) (input : List ℕ) → plan.id ≡ (stream_by audio crf plan input).journal.stream
+id_by (Some audio) None plan input = refl
+id_by (Some audio) (Some crf) plan input = refl
+id_by None crf plan input = refl
+
+pub stream_is : (plan : TalkPlan) (input : List ℕ) → plan.id ≡ (journal plan input).stream
+stream_is plan input = id_by (audio_by plan.kind plan) plan.crf plan input
+
+-- ---- the first frame of a capture
+
+-- a frame that came before it was due
+pub record IsEarly (plan : TalkPlan) (input : List ℕ) (n : ℕ) (f : SentFrame) : Type 0 where
+  pub there : slice_get (frames plan input) n ≡ Some f
+  pub early : f.arrival ≤ℤ pos ((journal plan input).times.due n)
+
+early_by : (plan : TalkPlan) (input : List ℕ) (n : ℕ) (r : Option SentFrame) → slice_get (frames plan input) n ≡ r → IsSomeAnd r (λ f. f.arrival ≤ℤ pos ((journal plan input).times.due n)) → (f : SentFrame) × IsEarly plan input n f
+early_by plan input n None e h = absurd h
+early_by plan input n (Some f) e h = (f, record { there = e; early = h })
+
+pub early_frame : (plan : TalkPlan) (input : List ℕ) (n : ℕ) → IsSomeAnd (slice_get (frames plan input) n) (λ f. f.arrival ≤ℤ pos ((journal plan input).times.due n)) → (f : SentFrame) × IsEarly plan input n f
+early_frame plan input n h = early_by plan input n (slice_get (frames plan input) n) refl h
+
+pub carries_at : (p : PacketJournal) (lead a k i j : ℕ) (fs : List SentFrame) (f : SentFrame) → a + i ≡ j → AllCarry p lead (range_with_len a k) (map record_of fs) → i < k → slice_get fs i ≡ Some f → Carries p lead j (record_of f)
+carries_at p lead a zero i j fs f number all within at = absurd (omega arith)
+carries_at p lead a (suc k) i j [] f number all within at = absurd cc
+carries_at p lead a (suc k) zero j (g ∷ fs) f number all within at =
+    let same : g ≡ f = cc in
+    let here : a ≡ j = omega arith in
+    subst (λ (m : ℕ). Carries p lead m (record_of f)) here (subst (λ (h : SentFrame). Carries p lead a (record_of h)) same all.0)
+carries_at p lead a (suc k) (suc i) j (g ∷ fs) f number all within at = carries_at p lead (a + 1) k i j fs f (omega arith) all.1 (omega arith) at
+
+pub first_kept : (plan : TalkPlan) (input places : List ℕ) (n : ℕ) (f : SentFrame) → slice_get (frames plan input) n ≡ Some f → frames_at plan input (n ∷ places) ≡ f ∷ frames_at plan input places
+first_kept plan input places n f at = rw at refl
+
+-- a first record of the stream is the first delivery
+pub first_delivery : (stream id : ℕ) (clock : Option ℕ) (bytes : List ℕ) (r : Record) (records : List Record) → stream ≡ id → whole_records bytes ≡ r ∷ records → belongs stream_kinds id r.bytes ≡ true
+    → slice_get (deliveries stream clock (whole_records bytes)) 0 ≡ Some (delivery 1 r)
+first_delivery stream id clock bytes r records same read in_it = rw (same, read, in_it) refl
+
+-- and a second one is the second
+pub second_delivery : (stream id : ℕ) (clock : Option ℕ) (bytes : List ℕ) (r s : Record) (records : List Record) → stream ≡ id → whole_records bytes ≡ r ∷ s ∷ records → belongs stream_kinds id r.bytes ≡ true → belongs stream_kinds id s.bytes ≡ true
+    → slice_get (deliveries stream clock (whole_records bytes)) 1 ≡ Some (delivery 2 s)
+second_delivery stream id clock bytes r s records same read first second = rw (same, read, first, second) refl
