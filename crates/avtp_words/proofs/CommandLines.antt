@@ -1,5 +1,5 @@
 -- Command lines of every command, and where words stop being one.
-use Rattle.std.proofs.Common.{◌≡◌, ℕ, suc, ◌+◌, ◌-◌, ◌<◌, ◌^◌, inl, inr, true, false, List, [], ◌∷◌, ◌++◌, flat_map, length, take, drop, Option, Some, None, slice_get, IsSomeAnd, IfSome, MatchOption, option_to_list, get_or, ◌==◌, if◌then◌else◌, arith, sym, subst, ap, ◌∙◌, refl, append_assoc, length-append, All, string_bytes, String}
+use Rattle.std.proofs.Common.{◌≡◌, ℕ, suc, ◌+◌, ◌-◌, ◌<◌, ◌≤◌, ◌^◌, inl, inr, true, false, List, [], ◌∷◌, ◌++◌, flat_map, length, take, drop, Option, Some, None, slice_get, IsSomeAnd, IfSome, MatchOption, option_to_list, get_or, ◌==◌, if◌then◌else◌, arith, sym, subst, ap, ◌∙◌, refl, append_assoc, length-append, All, string_bytes, String}
 use Rattle.std.specs.Str.{bytes_eq}
 use Rattle.std.specs.declared.alloc.Global.{Global}
 use Rattle.std.proofs.lemmas.Bool.{cases_Bool}
@@ -14,8 +14,9 @@ use Rattle.avtp_words.specs.declared.operand.Operand.{Operand}
 use Rattle.avtp_words.specs.declared.option.Takes.TheVariants as takes
 use Rattle.avtp_words.specs.declared.option.Takes.TheVariants.{Number}
 use Rattle.avtp_words.specs.Number.{IsNumber}
+use Rattle.avtp_words.specs.Limits.{NumberOption}
 use Rattle.avtp_words.specs.Operands.{IsId, AreOperands}
-use Rattle.avtp_words.specs.Reading.{are_sound, word_behind, IsTail, IsRest, IsRestTo, AreOptionsTo, EndsOptions, StopsOptions, IsRead, IsReadId, IsReadIf, IsReadFormat}
+use Rattle.avtp_words.specs.Reading.{are_sound, value_after, IsTail, IsRest, IsRestTo, AreOptionsTo, EndsOptions, StopsOptions, IsRead, IsReadId, IsReadIf, IsReadFormat}
 use Rattle.avtp_words.specs.Word.{texts, BeginsWithDash, IsName}
 use Rattle.avtp_words.specs.Options.{Row, row_named, Setting, words_of, IsValue, IsTaken, stands_alone, format_name, IsSetting, value_in}
 use Rattle.avtp_words.specs.Grammar.{Form, IsOf, IsGiven, IsGivenId, IsGivenIf, IsGivenFormat, Stops, StopsAt}
@@ -36,21 +37,21 @@ value_is rows name row (g ∷ gs) is_row each =
       valued None taken = tt
       valued (Some word) taken = taken
 
--- the word behind the name of an option that takes a value is its value
-pub value-behind : (rows : List Row) (gs : List Setting) (name : List ℕ) (row : Row) → are_sound rows ≡ true → All (IsSetting rows) gs → BeginsWithDash name → row_named rows name ≡ Some row → stands_alone row.takes ≡ false → word_behind name (flat_map words_of gs) ≡ value_in name gs
-value-behind rows [] name row sound each dash is_row wanted = refl
-value-behind rows (g ∷ gs) name row sound each dash is_row wanted =
+-- the word after the name of an option that takes a value is its value
+pub value-after : (rows : List Row) (gs : List Setting) (name : List ℕ) (row : Row) → are_sound rows ≡ true → All (IsSetting rows) gs → BeginsWithDash name → row_named rows name ≡ Some row → stands_alone row.takes ≡ false → value_after name (flat_map words_of gs) ≡ value_in name gs
+value-after rows [] name row sound each dash is_row wanted = refl
+value-after rows (g ∷ gs) name row sound each dash is_row wanted =
     elim (cases_Bool (bytes_eq g.name name)) [
       | inl same ↦ (
           let takes : row_named rows g.name ≡ Some row = ap (row_named rows) (same-true g.name name same) ∙ is_row in
           rw same (valued g.value (subst (λ found. IsSomeAnd found (λ row. IsTaken row.takes g.value)) takes (All-head (IsSetting rows) g gs each).value)))
-      | inr other ↦ rw other (skipped g.value refl (value-behind rows gs name row sound (All-tail (IsSetting rows) g gs each) dash is_row wanted))
+      | inr other ↦ rw other (skipped g.value refl (value-after rows gs name row sound (All-tail (IsSetting rows) g gs each) dash is_row wanted))
     ] where
       valued : (value : Option (List ℕ)) → IsTaken row.takes value → slice_get (option_to_list value ++ flat_map words_of gs) 0 ≡ value
       valued None taken = absurd (let no : true ≡ false = sym taken ∙ wanted in cc)
       valued (Some word) taken = refl
 
-      skipped : (value : Option (List ℕ)) → g.value ≡ value → word_behind name (flat_map words_of gs) ≡ value_in name gs → word_behind name (option_to_list value ++ flat_map words_of gs) ≡ value_in name gs
+      skipped : (value : Option (List ℕ)) → g.value ≡ value → value_after name (flat_map words_of gs) ≡ value_in name gs → value_after name (option_to_list value ++ flat_map words_of gs) ≡ value_in name gs
       skipped None e later = later
       skipped (Some word) e later = elim (cases_Bool (bytes_eq word name)) [
         | inl same ↦ absurd (setting-value rows g word sound (All-head (IsSetting rows) g gs each) e (subst BeginsWithDash (sym (same-true word name same)) dash))
@@ -70,13 +71,13 @@ same_settings rows (g ∷ gs) (h ∷ hs) rest names gs_each hs_each named ends e
     let more = same_settings rows gs hs rest names (All-tail (IsSetting rows) g gs gs_each) (All-tail (IsSetting rows) h hs hs_each) named ends same.1 in
     (ap (λ (s : Setting). s ∷ gs) same.0 ∙ ap (λ (ss : List Setting). h ∷ ss) more.0, more.1)
 
-pub beyond : (front rest : List (List ℕ)) (k : ℕ) → slice_get (front ++ rest) (length front + k) ≡ slice_get rest k
+pub beyond : (before rest : List (List ℕ)) (k : ℕ) → slice_get (before ++ rest) (length before + k) ≡ slice_get rest k
 beyond [] rest k = let none : length {A = List ℕ} [] + k ≡ k = omega arith in ap (slice_get rest) none
-beyond (x ∷ front) rest k = let more : length (x ∷ front) + k ≡ suc (length front + k) = omega arith in ap (slice_get (x ∷ front ++ rest)) more ∙ beyond front rest k
+beyond (x ∷ before) rest k = let more : length (x ∷ before) + k ≡ suc (length before + k) = omega arith in ap (slice_get (x ∷ before ++ rest)) more ∙ beyond before rest k
 
-start : (front rest : List (List ℕ)) → slice_get (front ++ rest) (length front) ≡ slice_get rest 0
+start : (before rest : List (List ℕ)) → slice_get (before ++ rest) (length before) ≡ slice_get rest 0
 start [] rest = refl
-start (x ∷ front) rest = start front rest
+start (x ∷ before) rest = start before rest
 
 -- ---- options, then operands
 
@@ -115,24 +116,24 @@ stops_of_options rows operands words place s = record {
 at_end : (rows : List Row) (words : List (List ℕ)) (place : ℕ) (o : AreOptionsTo rows words place) → slice_get words place ≡ slice_get o.rest 0
 at_end rows words place o = ap (slice_get words) o.here ∙ ap (λ ws. slice_get ws (length (flat_map words_of o.settings))) o.split ∙ start (flat_map words_of o.settings) o.rest
 
-behind_front : (front rest : List (List ℕ)) → drop (length front) (front ++ rest) ≡ rest
-behind_front [] rest = refl
-behind_front (x ∷ front) rest = behind_front front rest
+drop_before : (before rest : List (List ℕ)) → drop (length before) (before ++ rest) ≡ rest
+drop_before [] rest = refl
+drop_before (x ∷ before) rest = drop_before before rest
 
--- what is left behind the options
+-- what is left after the options
 left_is : (rows : List Row) (words : List (List ℕ)) (place : ℕ) (o : AreOptionsTo rows words place) → drop place words ≡ o.rest
-left_is rows words place o = ap (λ n. drop n words) o.here ∙ ap (drop (length (flat_map words_of o.settings))) o.split ∙ behind_front (flat_map words_of o.settings) o.rest
+left_is rows words place o = ap (λ n. drop n words) o.here ∙ ap (drop (length (flat_map words_of o.settings))) o.split ∙ drop_before (flat_map words_of o.settings) o.rest
 
--- the first of a list is the first of its front and of what goes on from there
-first_of : (front more : List (List ℕ)) (word : List ℕ) (rest other : List (List ℕ)) → slice_get (front ++ word ∷ rest) 0 ≡ slice_get (front ++ word ∷ other) 0
+-- the first of a list is the first of its prefix and of what goes on from there
+first_of : (before more : List (List ℕ)) (word : List ℕ) (rest other : List (List ℕ)) → slice_get (before ++ word ∷ rest) 0 ≡ slice_get (before ++ word ∷ other) 0
 first_of [] more word rest other = refl
-first_of (x ∷ front) more word rest other = refl
+first_of (x ∷ before) more word rest other = refl
 
-first_of_all : (front rest : List (List ℕ)) (P : List ℕ → Type 0) → IfSome (slice_get (front ++ rest) 0) P → IfSome (slice_get front 0) P
+first_of_all : (before rest : List (List ℕ)) (P : List ℕ → Type 0) → IfSome (slice_get (before ++ rest) 0) P → IfSome (slice_get before 0) P
 first_of_all [] rest P has = tt
-first_of_all (x ∷ front) rest P has = has
+first_of_all (x ∷ before) rest P has = has
 
--- where the words behind the options stop being the operands
+-- where the words after the options stop being the operands
 pub stops_of_operands : (rows : List Row) (operands : List Operand) (words : List (List ℕ)) (place wrong : ℕ) → EndsOptions rows words place → StopsAt (AreOperands operands) (drop place words) wrong → StopsAt (IsRest rows operands) words (place + wrong)
 stops_of_operands rows operands words place wrong e s = record {
   before = flat_map words_of o.settings ++ s.before;
@@ -165,7 +166,7 @@ stops_of_operands rows operands words place wrong e s = record {
         (subst (IsRest rows operands) (append_assoc (flat_map words_of o.settings ++ s.before) (word ∷ []) b.more ∙ append_assoc (flat_map words_of o.settings) s.before (word ∷ b.more)) b.whole));
   })
 
--- the words behind the options are the operands
+-- the words after the options are the operands
 pub rest_to : (rows : List Row) (operands : List Operand) (words : List (List ℕ)) (place : ℕ) → EndsOptions rows words place → AreOperands operands (drop place words) → IsRestTo rows operands words place
 rest_to rows operands words place e are = record {
   rest = record { settings = e.options.settings; names = e.options.rest; spelled = e.options.split; options = e.options.options; named = subst (AreOperands operands) (left_is rows words place e.options) are };
@@ -176,18 +177,12 @@ abbrev pub options_to : (rows : List Row) (operands : List Operand) (words : Lis
 options_to rows operands words place r = record { settings = r.rest.settings; rest = r.rest.names; split = r.rest.spelled; here = r.here; options = r.rest.options }
 
 -- the words from a place on, as a slice has them
-pub behind_words : (words : List (String Global)) (place : ℕ) → texts (take (length words - place) (drop place words)) ≡ drop place (texts words)
-behind_words words place = ap texts (take_all (length words - place) (drop place words) (omega (arith, length-drop place words))) ∙ sym (drop-map {X = String Global} {Y = List ℕ} string_bytes place words)
+pub words_after : (words : List (String Global)) (place : ℕ) → texts (take (length words - place) (drop place words)) ≡ drop place (texts words)
+words_after words place = ap texts (take_all (length words - place) (drop place words) (omega (arith, length-drop place words))) ∙ sym (drop-map {X = String Global} {Y = List ℕ} string_bytes place words)
 
-pub operands_length : (operands : List Operand) (ns : List (List ℕ)) → AreOperands operands ns → length ns ≡ length operands
-operands_length [] [] are = refl
-operands_length [] (n ∷ ns) are = absurd are
-operands_length (o ∷ operands) [] are = absurd are
-operands_length (o ∷ operands) (n ∷ ns) are = ap suc (operands_length operands ns are.1)
-
--- they are the last of the words
-pub rest_length : (rows : List Row) (operands : List Operand) (words : List (String Global)) (place : ℕ) → IsRestTo rows operands (texts words) place → place + length operands ≡ length words
-rest_length rows operands words place r = omega (arith, r.here, ap length r.rest.spelled, length-append (flat_map words_of r.rest.settings) r.rest.names, operands_length operands r.rest.names r.rest.named, length-map {A = String Global} {B = List ℕ} words string_bytes)
+-- they stand among the words
+pub rest_within : (rows : List Row) (operands : List Operand) (words : List (String Global)) (place : ℕ) → IsRestTo rows operands (texts words) place → place ≤ length words
+rest_within rows operands words place r = omega (arith, r.here, ap length r.rest.spelled, length-append (flat_map words_of r.rest.settings) r.rest.names, length-map {A = String Global} {B = List ℕ} words string_bytes)
 
 -- a line of a form falls into options and operands in one way
 pub same_line : (form : Form) (words : List (List ℕ)) (gs hs : List Setting) (ns ms : List (List ℕ)) → IsOf form words gs ns → IsOf form words hs ms → (gs ≡ hs) × (ns ≡ ms)
@@ -198,11 +193,11 @@ same_line form words gs hs ns ms p q =
 -- ---- what options give
 
 -- a number is the one that the value of its option spells
-pub number_given : (low high default bound n : ℕ) (v : Option (List ℕ)) → high < bound → IfSome v (IsValue (Number low high)) → IsRead bound default v n → MatchOption v (n ≡ default) (λ word. IsNumber low high word n)
-number_given low high default bound n None small is reads = reads.absent
-number_given low high default bound n (Some word) small (m, is) reads =
+pub number_given : (option : NumberOption) (default bound n : ℕ) (v : Option (List ℕ)) → option.default ≡ Some default → option.high < bound → IfSome v (IsValue (Number option.low option.high)) → IsRead bound default v n → MatchOption v (IsSomeAnd option.default (λ default. n ≡ default)) (λ word. IsNumber option.low option.high word n)
+number_given option default bound n None has small is reads = subst (λ d. IsSomeAnd d (λ default. n ≡ default)) (sym has) reads.absent
+number_given option default bound n (Some word) has small (m, is) reads =
     let same : n ≡ m = reads.read m (omega (arith, is.most, small)) is.spelled in
-    subst (IsNumber low high word) (sym same) is
+    subst (IsNumber option.low option.high word) (sym same) is
 
 pub number_given_if : (low high bound : ℕ) (given : Option ℕ) (v : Option (List ℕ)) → high < bound → IfSome v (IsValue (Number low high)) → IsReadIf bound v given → MatchOption v (given ≡ None) (λ word. (n : ℕ) × (given ≡ Some n) × IsNumber low high word n)
 number_given_if low high bound given None small is reads = reads.absent
@@ -216,16 +211,27 @@ pub format_given : (default format : AafFormat) (v : Option (List ℕ)) → IfSo
 format_given default format None is reads = reads.absent
 format_given default format (Some word) (named, is) reads = is ∙ ap format_name (sym (reads.read named is))
 
+-- what an option gives is within its range, where its default is
+pub within : (option : NumberOption) (default n : ℕ) (gs : List Setting) → option.default ≡ Some default → option.low ≤ default → default ≤ option.high → IsGiven option gs n → (option.low ≤ n) × (n ≤ option.high)
+within option default n gs has least most given = go (value_in option.name gs) given where
+  go : (v : Option (List ℕ)) → MatchOption v (IsSomeAnd option.default (λ default. n ≡ default)) (λ word. IsNumber option.low option.high word n) → (option.low ≤ n) × (n ≤ option.high)
+  go None given = let is : n ≡ default = subst (λ d. IsSomeAnd d (λ default. n ≡ default)) has given in (omega arith, omega arith)
+  go (Some word) given = (given.least, given.most)
+
 -- options give one number
-pub same_number : (name : List ℕ) (low high default m n : ℕ) (gs : List Setting) → high < 2 ^ 64 → IsGiven name low high default gs m → IsGiven name low high default gs n → m ≡ n
-same_number name low high default m n gs small p q = go (value_in name gs) p q where
-  go : (v : Option (List ℕ)) → MatchOption v (m ≡ default) (λ word. IsNumber low high word m) → MatchOption v (n ≡ default) (λ word. IsNumber low high word n) → m ≡ n
-  go None p q = p ∙ sym q
+pub same_number : (option : NumberOption) (m n : ℕ) (gs : List Setting) → option.high < 2 ^ 64 → IsGiven option gs m → IsGiven option gs n → m ≡ n
+same_number option m n gs small p q = go (value_in option.name gs) p q where
+  fixed : (default : Option ℕ) → IsSomeAnd default (λ default. m ≡ default) → IsSomeAnd default (λ default. n ≡ default) → m ≡ n
+  fixed None p q = absurd p
+  fixed (Some default) p q = p ∙ sym q
+
+  go : (v : Option (List ℕ)) → MatchOption v (IsSomeAnd option.default (λ default. m ≡ default)) (λ word. IsNumber option.low option.high word m) → MatchOption v (IsSomeAnd option.default (λ default. n ≡ default)) (λ word. IsNumber option.low option.high word n) → m ≡ n
+  go None p q = fixed option.default p q
   go (Some word) p q = decimal_injective m n (omega (arith, p.most, small)) (omega (arith, q.most, small)) (sym p.spelled ∙ q.spelled)
 
-pub same_number_if : (name : List ℕ) (low high : ℕ) (a b : Option ℕ) (gs : List Setting) → high < 2 ^ 64 → IsGivenIf name low high gs a → IsGivenIf name low high gs b → a ≡ b
-same_number_if name low high a b gs small p q = go (value_in name gs) p q where
-  go : (v : Option (List ℕ)) → MatchOption v (a ≡ None) (λ word. (n : ℕ) × (a ≡ Some n) × IsNumber low high word n) → MatchOption v (b ≡ None) (λ word. (n : ℕ) × (b ≡ Some n) × IsNumber low high word n) → a ≡ b
+pub same_number_if : (option : NumberOption) (a b : Option ℕ) (gs : List Setting) → option.high < 2 ^ 64 → IsGivenIf option gs a → IsGivenIf option gs b → a ≡ b
+same_number_if option a b gs small p q = go (value_in option.name gs) p q where
+  go : (v : Option (List ℕ)) → MatchOption v (a ≡ option.default) (λ word. (n : ℕ) × (a ≡ Some n) × IsNumber option.low option.high word n) → MatchOption v (b ≡ option.default) (λ word. (n : ℕ) × (b ≡ Some n) × IsNumber option.low option.high word n) → a ≡ b
   go None p q = p ∙ sym q
   go (Some word) (m, p, first) (n, q, second) =
       let same : m ≡ n = decimal_injective m n (omega (arith, first.most, small)) (omega (arith, second.most, small)) (sym first.spelled ∙ second.spelled) in

@@ -1,24 +1,31 @@
 -- The command lines of each command, and their offences.
-use Rattle.std.proofs.Common.{Contains, ◌↔◌, IsTrue, Bool, not, ◌≡◌, ℕ, ◌+◌, ◌<◌, ◌^◌, ◌*◌, ◌⊎◌, inl, inr, true, false, List, [], ◌∷◌, ◌++◌, flat_map, length, take, Some, None, slice_get, get_or, IfSome, arith, sym, subst, ap, ◌∙◌, refl, append_assoc, length-append, codes, string_bytes, String, pos}
+use Rattle.std.proofs.Common.{Contains, ◌↔◌, IsTrue, Bool, not, ◌≡◌, ◌≢◌, ℕ, ◌+◌, ◌<◌, ◌^◌, ◌⊎◌, inl, inr, true, false, List, [], ◌∷◌, ◌++◌, flat_map, length, take, drop, Option, Some, None, slice_get, get_or, IfSome, arith, sym, subst, ap, ◌∙◌, refl, append_assoc, length-append, codes, string_bytes, String, pos, All}
 use Rattle.std.specs.Prelude.{Result, Ok, Err, IfOk, IfErr, IsOkAnd, IsErrAnd}
 use Rattle.std.specs.Str.{bytes_eq}
 use Rattle.std.specs.declared.alloc.Global.{Global}
 use Rattle.std.proofs.lemmas.Bool.{cases_Bool}
 use Rattle.std.proofs.lemmas.List.{append-nil}
+use Rattle.std.proofs.Math.Seq.{drop-append-add}
+use Rattle.avtp_words.specs.declared.operand.Operand.TheVariants as operand
 use Rattle.std.proofs.lemmas.List.Elements.{All-nil}
 use Rattle.aaf_format.specs.declared.aaf.AafFormat.TheVariants.{Int16}
 use Rattle.avtp_words.specs.declared.option.Takes.{Takes}
 use Rattle.avtp_words.specs.declared.option.Takes.TheVariants as takes
 use Rattle.avtp_words.specs.declared.command.Command.{Command}
+use Rattle.avtp_words.specs.declared.talk.Kind.{Kind}
+use Rattle.avtp_words.specs.declared.talk.Kind.TheVariants.{Aaf, Am824}
 use Rattle.avtp_words.specs.declared.command.Offence.{Offence}
 use Rattle.avtp_words.specs.Operands.{IsId, AreOperands}
-use Rattle.avtp_words.specs.Reading.{IsRest, IsRestTo, StopsBehind, are_sound, word_behind, IsRead, IsReadId, IsReadIf, IsReadFormat}
-use Rattle.avtp_words.specs.Word.{texts, BeginsWithDash}
-use Rattle.avtp_words.specs.Options.{Row, row_named, Setting, words_of, IsSetting, stands_alone, value_in}
-use Rattle.avtp_words.specs.Grammar.{request_of, Request, Talking, show, listen, talk, Form, form_named, show_form, listen_form, talk_form, IsOf, IsGiven, IsGivenId, IsGivenIf, IsGivenFormat, IsShow, IsListen, SaysTalk, KeepsRules, IsCommandLine, IsLine, Begins, Stops, StopsAt, IsOffence, of_a_word, of_a_rule}
+use Rattle.avtp_words.specs.Reading.{IsRest, IsRestTo, StopsAfter, are_sound, value_after, IsRead, IsReadId, IsReadIf, IsReadFormat, IsReadKind, AreRead}
+use Rattle.avtp_words.specs.Word.{texts, BeginsWithDash, IsName}
+use Rattle.avtp_words.specs.Limits as limits
+use Rattle.avtp_words.specs.Limits.{NumberOption, number}
+use Rattle.avtp_words.specs.Options.{Row, row_named, Setting, words_of, IsValue, IsSetting, stands_alone, value_in}
+use Rattle.avtp_words.specs.Grammar.{request_of, Request, Listening, Talking, show, listen, talk, Form, form_named, show_form, listen_form, talk_form, IsOf, IsGiven, IsGivenId, IsGivenIf, IsShow, IsListen, SaysKind, SaysTalk, LacksAaf, KeepsRules, IsCommandLine, IsLine, Begins, Stops, StopsAt, IsOffence, of_a_word, of_a_rule}
 use Rattle.avtp_words.proofs.Settings.{same-true}
-use Rattle.avtp_words.proofs.CommandLines.{same_line, value_is, value-behind, operands_length, number_given, number_given_if, id_given, format_given, same_number, same_number_if, same_id, same_id_given, same_format_given, options_to, beyond}
-use Rattle.avtp_words.proofs.Steps.{fronts, behind_first}
+use Rattle.avtp_words.proofs.CommandLines.{same_line, value_is, value-after, number_given, number_given_if, id_given, format_given, same_number, same_number_if, same_id, same_id_given, same_format_given, options_to, beyond}
+use Rattle.avtp_words.proofs.Operands.{names}
+use Rattle.avtp_words.proofs.Steps.{words_before, after_first}
 
 -- ---- What begins with the word of a command is a line exactly where the rest is one of its form.
 
@@ -38,8 +45,8 @@ rest_of_line form words known l =
     let same : l.form ≡ form = cc in
     subst (λ f. IsRest f.rows f.operands words) same (record { settings = l.settings; names = l.names; spelled = (cc (l.line.spelled)); options = l.line.options; named = l.line.operands })
 
-pub offence_behind : (form : Form) (words : List (List ℕ)) (position : ℕ) → form_named form.command ≡ Some form → StopsBehind (IsRest form.rows form.operands) words position → IsOffence (form.command ∷ words) position
-offence_behind form words position known b = of_a_word (b.place + 1) (omega (arith, b.here)) (record {
+pub offence_after : (form : Form) (words : List (List ℕ)) (position : ℕ) → form_named form.command ≡ Some form → StopsAfter (IsRest form.rows form.operands) words position → IsOffence (form.command ∷ words) position
+offence_after form words position known b = of_a_word (b.place + 1) (omega (arith, b.here)) (record {
   before = form.command ∷ s.before;
   rest = s.rest;
   split = ap (λ ws. form.command ∷ ws) s.split;
@@ -57,7 +64,7 @@ offence_behind form words position known b = of_a_word (b.place + 1) (omega (ari
 -- what a command asks for is told by a line
 line_of : (words : List (List ℕ)) (request : Request) → IsCommandLine words request → IsLine words
 line_of words (show limit file) s = record { form = show_form; known = refl; settings = s.settings; names = file ∷ []; line = s.line }
-line_of words (listen asked) s = record { form = listen_form; known = refl; settings = s.settings; names = s.id ∷ asked.file ∷ []; line = s.line }
+line_of words (listen asked) s = record { form = listen_form; known = refl; settings = s.settings; names = s.id ∷ asked.files; line = s.line }
 line_of words (talk asked) (s, rules) = record { form = talk_form; known = refl; settings = s.settings; names = asked.input ∷ asked.output ∷ []; line = s.line }
 
 -- ---- no command
@@ -112,17 +119,16 @@ none_first (word ∷ words) e = absurd (omega (arith, e))
 
 -- ---- what the code has read
 
--- the word behind the name of an option that takes a value is its value
-behind_options : (form : Form) (words : List (String Global)) (place : ℕ) (r : IsRestTo form.rows form.operands (texts words) place) (name : List ℕ) (row : Row) → are_sound form.rows ≡ true → BeginsWithDash name → row_named form.rows name ≡ Some row → stands_alone row.takes ≡ false → word_behind name (texts (take place words)) ≡ value_in name r.rest.settings
-behind_options form words place r name row sound dash is_row wanted = ap (word_behind name) (fronts form.rows words place (options_to form.rows form.operands (texts words) place r)) ∙ value-behind form.rows r.rest.settings name row sound r.rest.options.each dash is_row wanted
+-- the word after the name of an option that takes a value is its value
+after_options : (form : Form) (words : List (String Global)) (place : ℕ) (r : IsRestTo form.rows form.operands (texts words) place) (name : List ℕ) (row : Row) → are_sound form.rows ≡ true → BeginsWithDash name → row_named form.rows name ≡ Some row → stands_alone row.takes ≡ false → value_after name (texts (take place words)) ≡ value_in name r.rest.settings
+after_options form words place r name row sound dash is_row wanted = ap (value_after name) (words_before form.rows words place (options_to form.rows form.operands (texts words) place r)) ∙ value-after form.rows r.rest.settings name row sound r.rest.options.each dash is_row wanted
 
-number_is : (form : Form) (words : List (String Global)) (place : ℕ) (r : IsRestTo form.rows form.operands (texts words) place) (name : List ℕ) (low high default bound n : ℕ) → are_sound form.rows ≡ true → BeginsWithDash name → row_named form.rows name ≡ Some (record { name = name; takes = takes.Number low high }) → high < bound → IsRead bound default (word_behind name (texts (take place words))) n → IsGiven name low high default r.rest.settings n
-number_is form words place r name low high default bound n sound dash is_row small reads =
-    let row : Row = record { name = name; takes = takes.Number low high } in
-    number_given low high default bound n (value_in name r.rest.settings) small (value_is form.rows name row r.rest.settings is_row r.rest.options.each)
-    (subst (λ v. IsRead bound default v n) (behind_options form words place r name row sound dash is_row refl) reads)
+number_is : (form : Form) (words : List (String Global)) (place : ℕ) (r : IsRestTo form.rows form.operands (texts words) place) (option : NumberOption) (default bound n : ℕ) → are_sound form.rows ≡ true → BeginsWithDash option.name → row_named form.rows option.name ≡ Some (number option) → option.default ≡ Some default → option.high < bound → IsRead bound default (value_after option.name (texts (take place words))) n → IsGiven option r.rest.settings n
+number_is form words place r option default bound n sound dash is_row has small reads =
+    number_given option default bound n (value_in option.name r.rest.settings) has small (value_is form.rows option.name (number option) r.rest.settings is_row r.rest.options.each)
+    (subst (λ v. IsRead bound default v n) (after_options form words place r option.name (number option) sound dash is_row refl) reads)
 
--- the words behind the options are the operands
+-- the words after the options are the operands
 operand_at : (form : Form) (words : List (List ℕ)) (place k : ℕ) (r : IsRestTo form.rows form.operands words place) → slice_get words (place + k) ≡ slice_get r.rest.names k
 operand_at form words place k r = ap (λ n. slice_get words (n + k)) r.here ∙ ap (λ ws. slice_get ws (length (flat_map words_of r.rest.settings) + k)) r.rest.spelled ∙ beyond (flat_map words_of r.rest.settings) r.rest.names k
 
@@ -138,7 +144,7 @@ show_operand words place r none = go r.rest.names r.rest.named (sym (first_opera
   go [] named none = absurd named
   go (file ∷ ns) named none = absurd cc
 
-pub show_is : (words : List (String Global)) (place : ℕ) (file : List ℕ) (limit : ℕ) → IsRestTo show_form.rows show_form.operands (texts words) place → slice_get (texts words) place ≡ Some file → IsRead (2 ^ 64) (2 ^ 40) (word_behind (codes "--limit") (texts (take place words))) limit → IsShow (codes "show" ∷ texts words) limit file
+pub show_is : (words : List (String Global)) (place : ℕ) (file : List ℕ) (limit : ℕ) → IsRestTo show_form.rows show_form.operands (texts words) place → slice_get (texts words) place ≡ Some file → IsRead (2 ^ 64) (2 ^ 40) (value_after (codes "--limit") (texts (take place words))) limit → IsShow (codes "show" ∷ texts words) limit file
 show_is words place file limit r here reads = go r.rest.names r.rest.spelled r.rest.named (sym (first_operand show_form (texts words) place r) ∙ here) where
   gs : List Setting
   gs = r.rest.settings
@@ -150,80 +156,121 @@ show_is words place file limit r here reads = go r.rest.names r.rest.spelled r.r
       record {
         settings = gs;
         line = record { spelled = ap (λ ws. codes "show" ∷ ws) (spelled ∙ ap (λ (n : List ℕ). flat_map words_of gs ++ n ∷ []) same); options = r.rest.options; operands = subst (λ n. AreOperands show_form.operands (n ∷ [])) same named };
-        limit_given = number_is show_form words place r (codes "--limit") 1 (2 ^ 40) (2 ^ 40) (2 ^ 64) limit refl refl refl (omega arith) reads;
+        limit_given = number_is show_form words place r limits.limit (2 ^ 40) (2 ^ 64) limit refl refl refl refl (omega arith) reads;
       }
   go (name ∷ more ∷ ns) spelled named first = absurd named.1
 
--- ---- two operands
-
--- The operands of a form with two of them.
-pub record TwoOperands (form : Form) (words : List (List ℕ)) (place : ℕ) (settings : List Setting) : Type 0 where
-  pub first : List ℕ
-  pub second : List ℕ
-  pub line : IsOf form (form.command ∷ words) settings (first ∷ second ∷ [])
-  pub at_first : slice_get words place ≡ Some first
-  pub at_second : slice_get words (place + 1) ≡ Some second
-
-two_operands : (form : Form) (words : List (List ℕ)) (place : ℕ) (r : IsRestTo form.rows form.operands words place) → length form.operands ≡ 2 → TwoOperands form words place r.rest.settings
-two_operands form words place r two = go r.rest.names r.rest.spelled r.rest.named (operands_length form.operands r.rest.names r.rest.named) (first_operand form words place r) (operand_at form words place 1 r) where
-  go : (ns : List (List ℕ)) → words ≡ flat_map words_of r.rest.settings ++ ns → AreOperands form.operands ns → length ns ≡ length form.operands → slice_get words place ≡ slice_get ns 0 → slice_get words (place + 1) ≡ slice_get ns 1 → TwoOperands form words place r.rest.settings
-  go [] spelled named len at_first at_second = absurd (omega (arith, len, two))
-  go (first ∷ []) spelled named len at_first at_second = absurd (omega (arith, len, two))
-  go (first ∷ second ∷ []) spelled named len at_first at_second = record {
-    first = first;
-    second = second;
-    line = record { spelled = ap (λ ws. form.command ∷ ws) spelled; options = r.rest.options; operands = named };
-    at_first = at_first;
-    at_second = at_second;
-  }
-  go (first ∷ second ∷ more ∷ ns) spelled named len at_first at_second = absurd (omega (arith, len, two))
-
--- the line with the operands that stand there
-line_at : (form : Form) (words : List (List ℕ)) (place : ℕ) (settings : List Setting) (t : TwoOperands form words place settings) (first second : List ℕ) → slice_get words place ≡ Some first → slice_get words (place + 1) ≡ Some second → IsOf form (form.command ∷ words) settings (first ∷ second ∷ [])
-line_at form words place settings t first second at_first at_second =
-    let firsts : t.first ≡ first = (let e = sym t.at_first ∙ at_first in cc) in
-    let seconds : t.second ≡ second = (let e = sym t.at_second ∙ at_second in cc) in
-    subst (λ (n : List ℕ). IsOf form (form.command ∷ words) settings (first ∷ n ∷ [])) seconds (subst (λ (n : List ℕ). IsOf form (form.command ∷ words) settings (n ∷ t.second ∷ [])) firsts t.line)
-
-pub first_stands : (form : Form) (words : List (List ℕ)) (place : ℕ) → IsRestTo form.rows form.operands words place → length form.operands ≡ 2 → slice_get words place ≡ None → ⊥
-first_stands form words place r two none = let t = two_operands form words place r two in let both = sym t.at_first ∙ none in cc
-
-pub second_stands : (form : Form) (words : List (List ℕ)) (place : ℕ) → IsRestTo form.rows form.operands words place → length form.operands ≡ 2 → slice_get words (place + 1) ≡ None → ⊥
-second_stands form words place r two none = let t = two_operands form words place r two in let both = sym t.at_second ∙ none in cc
-
 -- ---- listen
+
+-- The operands of `listen`.
+pub record IdAndNames (words : List (List ℕ)) (place : ℕ) (settings : List Setting) : Type 0 where
+  pub id : List ℕ
+  pub files : List (List ℕ)
+  pub line : IsOf listen_form (codes "listen" ∷ words) settings (id ∷ files)
+  pub at_id : slice_get words place ≡ Some id
+  pub at_files : drop (place + 1) words ≡ files
+
+id_and_names : (words : List (List ℕ)) (place : ℕ) (r : IsRestTo listen_form.rows listen_form.operands words place) → IdAndNames words place r.rest.settings
+id_and_names words place r = go r.rest.names r.rest.spelled r.rest.named (first_operand listen_form words place r) where
+  gs : List Setting
+  gs = r.rest.settings
+
+  go : (ns : List (List ℕ)) → words ≡ flat_map words_of gs ++ ns → AreOperands listen_form.operands ns → slice_get words place ≡ slice_get ns 0 → IdAndNames words place gs
+  go [] spelled named at_first = absurd named
+  go (id ∷ files) spelled named at_first = record {
+    id = id;
+    files = files;
+    line = record { spelled = ap (λ ws. codes "listen" ∷ ws) spelled; options = r.rest.options; operands = named };
+    at_id = at_first;
+    at_files = ap (λ n. drop (n + 1) words) r.here ∙ ap (drop (length (flat_map words_of gs) + 1)) spelled ∙ drop-append-add (flat_map words_of gs) (id ∷ files) 1;
+  }
+
+pub listen_stands : (words : List (List ℕ)) (place : ℕ) → IsRestTo listen_form.rows listen_form.operands words place → slice_get words place ≡ None → ⊥
+listen_stands words place r none = let t = id_and_names words place r in let both = sym t.at_id ∙ none in cc
 
 -- the first operand is an id
 pub listen_id : (words : List (List ℕ)) (place : ℕ) (word : List ℕ) → IsRestTo listen_form.rows listen_form.operands words place → slice_get words place ≡ Some word → ((stream : ℕ) → IsId word stream → ⊥) → ⊥
 listen_id words place word r here none =
-    let t = two_operands listen_form words place r refl in
-    let both = sym t.at_first ∙ here in
-    let same : t.first ≡ word = cc in
+    let t = id_and_names words place r in
+    let both = sym t.at_id ∙ here in
+    let same : t.id ≡ word = cc in
     let id = t.line.operands.0 in
     none id.0 (subst (λ w. IsId w id.0) same id.1)
 
-pub listen_is : (words : List (String Global)) (place : ℕ) (id file : List ℕ) (stream buffer room lead : ℕ) → IsRestTo listen_form.rows listen_form.operands (texts words) place
-    → slice_get (texts words) place ≡ Some id → IsId id stream → slice_get (texts words) (place + 1) ≡ Some file
-    → IsRead (2 ^ 32) 4096 (word_behind (codes "--buffer") (texts (take place words))) buffer
-    → IsRead (2 ^ 32) (2 ^ 26) (word_behind (codes "--room") (texts (take place words))) room
-    → IsRead (2 ^ 32) 2000000 (word_behind (codes "--lead") (texts (take place words))) lead
-    → IsListen (codes "listen" ∷ texts words) (record { stream = stream; buffer = buffer; room = room; lead = lead; file = file })
-listen_is words place id file stream buffer room lead r here is next buffer_reads room_reads lead_reads = record {
+-- the line with the operands that stand there
+listen_line : (words : List (List ℕ)) (place : ℕ) (settings : List Setting) (t : IdAndNames words place settings) (id : List ℕ) (files : List (List ℕ)) → slice_get words place ≡ Some id → drop (place + 1) words ≡ files → IsOf listen_form (codes "listen" ∷ words) settings (id ∷ files)
+listen_line words place settings t id files at_id at_files =
+    let ids : t.id ≡ id = (let e = sym t.at_id ∙ at_id in cc) in
+    let names : t.files ≡ files = sym t.at_files ∙ at_files in
+    subst (λ (n : List (List ℕ)). IsOf listen_form (codes "listen" ∷ words) settings (id ∷ n)) names (subst (λ (n : List ℕ). IsOf listen_form (codes "listen" ∷ words) settings (n ∷ t.files)) ids t.line)
+
+-- a line of `listen` has a file, and each is a name
+pub some_file : (words : List (List ℕ)) (asked : Listening) → IsListen words asked → 0 < length asked.files
+some_file words asked s = go asked.files s.line.operands where
+  go : (files : List (List ℕ)) → AreOperands listen_form.operands (s.id ∷ files) → 0 < length files
+  go [] are = absurd are.1
+  go (file ∷ files) are = omega arith
+
+pub files_named : (words : List (List ℕ)) (asked : Listening) → IsListen words asked → All IsName asked.files
+files_named words asked s = names (operand.Names ∷ []) asked.files s.line.operands.1
+
+pub listen_is : (words : List (String Global)) (place : ℕ) (id : List ℕ) (files : List (List ℕ)) (stream buffer room lead : ℕ) → IsRestTo listen_form.rows listen_form.operands (texts words) place
+    → slice_get (texts words) place ≡ Some id → IsId id stream → drop (place + 1) (texts words) ≡ files
+    → IsRead (2 ^ 32) 4096 (value_after (codes "--buffer") (texts (take place words))) buffer
+    → IsRead (2 ^ 32) (2 ^ 26) (value_after (codes "--room") (texts (take place words))) room
+    → IsRead (2 ^ 32) 2000000 (value_after (codes "--lead") (texts (take place words))) lead
+    → IsListen (codes "listen" ∷ texts words) (record { stream = stream; buffer = buffer; room = room; lead = lead; files = files })
+listen_is words place id files stream buffer room lead r here is next buffer_reads room_reads lead_reads = record {
   settings = r.rest.settings;
   id = id;
-  line = line_at listen_form (texts words) place r.rest.settings (two_operands listen_form (texts words) place r refl) id file here next;
+  line = listen_line (texts words) place r.rest.settings (id_and_names (texts words) place r) id files here next;
   stream = is;
-  buffer = number_is listen_form words place r (codes "--buffer") 1 65536 4096 (2 ^ 32) buffer refl refl refl (omega arith) buffer_reads;
-  room = number_is listen_form words place r (codes "--room") 1 (2 ^ 30) (2 ^ 26) (2 ^ 32) room refl refl refl (omega arith) room_reads;
-  lead = number_is listen_form words place r (codes "--lead") 0 (10 ^ 9) 2000000 (2 ^ 32) lead refl refl refl (omega arith) lead_reads;
+  buffer = number_is listen_form words place r limits.buffer 4096 (2 ^ 32) buffer refl refl refl refl (omega arith) buffer_reads;
+  room = number_is listen_form words place r limits.room (2 ^ 26) (2 ^ 32) room refl refl refl refl (omega arith) room_reads;
+  lead = number_is listen_form words place r limits.listen_lead 2000000 (2 ^ 32) lead refl refl refl refl (omega arith) lead_reads;
 }
 
 -- ---- talk
 
--- an option's name behind `talk` is one of all words
-behind_talk : (name : List ℕ) (tells : Bool) (words : List (List ℕ)) → BeginsWithDash name → IsTrue tells ↔ Contains words name → IsTrue tells ↔ Contains (codes "talk" ∷ words) name
-behind_talk name tells words dash told =
-    let all = behind_first (codes "talk") name words other in
+-- The operands of `talk`.
+pub record TwoNames (words : List (List ℕ)) (place : ℕ) (settings : List Setting) : Type 0 where
+  pub first : List ℕ
+  pub second : List ℕ
+  pub line : IsOf talk_form (codes "talk" ∷ words) settings (first ∷ second ∷ [])
+  pub at_first : slice_get words place ≡ Some first
+  pub at_second : slice_get words (place + 1) ≡ Some second
+
+two_names : (words : List (List ℕ)) (place : ℕ) (r : IsRestTo talk_form.rows talk_form.operands words place) → TwoNames words place r.rest.settings
+two_names words place r = go r.rest.names r.rest.spelled r.rest.named (first_operand talk_form words place r) (operand_at talk_form words place 1 r) where
+  go : (ns : List (List ℕ)) → words ≡ flat_map words_of r.rest.settings ++ ns → AreOperands talk_form.operands ns → slice_get words place ≡ slice_get ns 0 → slice_get words (place + 1) ≡ slice_get ns 1 → TwoNames words place r.rest.settings
+  go [] spelled named at_first at_second = absurd named
+  go (first ∷ []) spelled named at_first at_second = absurd named.1
+  go (first ∷ second ∷ []) spelled named at_first at_second = record {
+    first = first;
+    second = second;
+    line = record { spelled = ap (λ ws. codes "talk" ∷ ws) spelled; options = r.rest.options; operands = named };
+    at_first = at_first;
+    at_second = at_second;
+  }
+  go (first ∷ second ∷ more ∷ ns) spelled named at_first at_second = absurd named.1.1
+
+-- the line with the operands that stand there
+line_at : (words : List (List ℕ)) (place : ℕ) (settings : List Setting) (t : TwoNames words place settings) (first second : List ℕ) → slice_get words place ≡ Some first → slice_get words (place + 1) ≡ Some second → IsOf talk_form (codes "talk" ∷ words) settings (first ∷ second ∷ [])
+line_at words place settings t first second at_first at_second =
+    let firsts : t.first ≡ first = (let e = sym t.at_first ∙ at_first in cc) in
+    let seconds : t.second ≡ second = (let e = sym t.at_second ∙ at_second in cc) in
+    subst (λ (n : List ℕ). IsOf talk_form (codes "talk" ∷ words) settings (first ∷ n ∷ [])) seconds (subst (λ (n : List ℕ). IsOf talk_form (codes "talk" ∷ words) settings (n ∷ t.second ∷ [])) firsts t.line)
+
+pub first_stands : (words : List (List ℕ)) (place : ℕ) → IsRestTo talk_form.rows talk_form.operands words place → slice_get words place ≡ None → ⊥
+first_stands words place r none = let t = two_names words place r in let both = sym t.at_first ∙ none in cc
+
+pub second_stands : (words : List (List ℕ)) (place : ℕ) → IsRestTo talk_form.rows talk_form.operands words place → slice_get words (place + 1) ≡ None → ⊥
+second_stands words place r none = let t = two_names words place r in let both = sym t.at_second ∙ none in cc
+
+-- an option's name after `talk` is one of all words
+after_talk : (name : List ℕ) (tells : Bool) (words : List (List ℕ)) → BeginsWithDash name → IsTrue tells ↔ Contains words name → IsTrue tells ↔ Contains (codes "talk" ∷ words) name
+after_talk name tells words dash told =
+    let all = after_first (codes "talk") name words other in
     ((λ yes. all.0 (told.0 yes)), λ within. told.1 (all.1 within)) where
       no_dash : BeginsWithDash (codes "talk") → ⊥
       no_dash dash = absurd (omega (arith, dash))
@@ -231,55 +278,89 @@ behind_talk name tells words dash told =
       other : codes "talk" ≡ name → ⊥
       other e = no_dash (subst BeginsWithDash (sym e) dash)
 
-pub talk_says : (words : List (String Global)) (place : ℕ) (asked : Talking) → IsRestTo talk_form.rows talk_form.operands (texts words) place
+pub talk_says : (words : List (String Global)) (place : ℕ) (tells : Bool) (asked : Talking) → IsRestTo talk_form.rows talk_form.operands (texts words) place
     → slice_get (texts words) place ≡ Some asked.input → slice_get (texts words) (place + 1) ≡ Some asked.output
-    → IsReadFormat Int16 (word_behind (codes "--format") (texts (take place words))) asked.format
-    → IsRead (2 ^ 32) 48000 (word_behind (codes "--rate") (texts (take place words))) asked.rate
-    → IsRead (2 ^ 16) 2 (word_behind (codes "--channels") (texts (take place words))) asked.channels
-    → IsRead (2 ^ 32) 6 (word_behind (codes "--count") (texts (take place words))) asked.count
-    → IsReadId 0x0200000000010001 (word_behind (codes "--id") (texts (take place words))) asked.id
-    → (n : ℕ) × (asked.start ≡ pos n) × IsRead (2 ^ 63) (10 ^ 9) (word_behind (codes "--start") (texts (take place words))) n
-    → IsRead (2 ^ 32) 2000000 (word_behind (codes "--lead") (texts (take place words))) asked.lead
-    → IsTrue asked.sparse ↔ Contains (texts words) (codes "--sparse")
-    → IsReadIf (2 ^ 32) (word_behind (codes "--restart") (texts (take place words))) asked.restart
-    → IsRead (2 ^ 32) 1000000 (word_behind (codes "--jump") (texts (take place words))) asked.jump
-    → SaysTalk (codes "talk" ∷ texts words) asked
-talk_says words place asked r here next format_reads rate_reads channels_reads count_reads id_reads start_reads lead_reads sparse restart_reads jump_reads = record {
-  settings = r.rest.settings;
-  line = line_at talk_form (texts words) place r.rest.settings (two_operands talk_form (texts words) place r refl) asked.input asked.output here next;
-  format = format_given Int16 asked.format (value_in (codes "--format") r.rest.settings) (value_is talk_form.rows (codes "--format") (row (codes "--format") takes.Format) r.rest.settings refl r.rest.options.each)
-      (subst (λ v. IsReadFormat Int16 v asked.format) (behind_options talk_form words place r (codes "--format") (row (codes "--format") takes.Format) refl refl refl refl) format_reads);
-  rate = number_is talk_form words place r (codes "--rate") 1 192000 48000 (2 ^ 32) asked.rate refl refl refl (omega arith) rate_reads;
-  channels = number_is talk_form words place r (codes "--channels") 1 1023 2 (2 ^ 16) asked.channels refl refl refl (omega arith) channels_reads;
-  count = number_is talk_form words place r (codes "--count") 1 1476 6 (2 ^ 32) asked.count refl refl refl (omega arith) count_reads;
-  id = id_given 0x0200000000010001 asked.id (value_in (codes "--id") r.rest.settings) (value_is talk_form.rows (codes "--id") (row (codes "--id") takes.Id) r.rest.settings refl r.rest.options.each)
-      (subst (λ v. IsReadId 0x0200000000010001 v asked.id) (behind_options talk_form words place r (codes "--id") (row (codes "--id") takes.Id) refl refl refl refl) id_reads);
-  start_at = start_reads.0;
-  start = number_is talk_form words place r (codes "--start") 0 (4 * 10 ^ 18) (10 ^ 9) (2 ^ 63) start_reads.0 refl refl refl (omega arith) start_reads.2;
-  start_is = start_reads.1;
-  lead = number_is talk_form words place r (codes "--lead") 1 (10 ^ 9) 2000000 (2 ^ 32) asked.lead refl refl refl (omega arith) lead_reads;
-  sparse = behind_talk (codes "--sparse") asked.sparse (texts words) refl sparse;
-  restart = number_given_if 8 (10 ^ 9) (2 ^ 32) asked.restart (value_in (codes "--restart") r.rest.settings) (omega arith) (value_is talk_form.rows (codes "--restart") (row (codes "--restart") (takes.Number 8 (10 ^ 9))) r.rest.settings refl r.rest.options.each)
-      (subst (λ v. IsReadIf (2 ^ 32) v asked.restart) (behind_options talk_form words place r (codes "--restart") (row (codes "--restart") (takes.Number 8 (10 ^ 9))) refl refl refl refl) restart_reads);
-  jump = number_is talk_form words place r (codes "--jump") 4 (10 ^ 9) 1000000 (2 ^ 32) asked.jump refl refl refl (omega arith) jump_reads;
+    → IsTrue tells ↔ Contains (texts words) (codes "--sparse") → AreRead (texts (take place words)) tells asked → SaysTalk (codes "talk" ∷ texts words) asked
+talk_says words place tells asked r here next sparse read = record {
+  settings = gs;
+  line = line_at (texts words) place gs (two_names (texts words) place r) asked.input asked.output here next;
+  kind = kind_says asked.kind read.kind;
+  rate = number_of limits.rate 48000 (2 ^ 32) asked.rate refl refl refl (omega arith) read.rate;
+  channels = number_of limits.channels 2 (2 ^ 16) asked.channels refl refl refl (omega arith) read.channels;
+  count = number_of limits.count 6 (2 ^ 32) asked.count refl refl refl (omega arith) read.count;
+  id = id_given limits.talk_id asked.id (value_in (codes "--id") gs) (given (row (codes "--id") takes.Id) refl)
+      (subst (λ v. IsReadId limits.talk_id v asked.id) (after (row (codes "--id") takes.Id) refl refl refl) read.id);
+  start_at = read.start.0;
+  start = number_of limits.start (10 ^ 9) (2 ^ 63) read.start.0 refl refl refl (omega arith) read.start.2;
+  start_is = read.start.1;
+  lead = number_of limits.talk_lead 2000000 (2 ^ 32) asked.lead refl refl refl (omega arith) read.lead;
+  restart = number_given_if limits.restart.low limits.restart.high (2 ^ 32) asked.restart (value_in limits.restart.name gs) (omega arith) (given (number limits.restart) refl)
+      (subst (λ v. IsReadIf (2 ^ 32) v asked.restart) (after (number limits.restart) refl refl refl) read.restart);
+  jump = number_of limits.jump 1000000 (2 ^ 32) asked.jump refl refl refl (omega arith) read.jump;
 } where
+  gs : List Setting
+  gs = r.rest.settings
+
   row : List ℕ → Takes → Row
   row name takes = record { name = name; takes = takes }
+
+  given : (taken : Row) → row_named talk_form.rows taken.name ≡ Some taken → IfSome (value_in taken.name gs) (IsValue taken.takes)
+  given taken is_row = value_is talk_form.rows taken.name taken gs is_row r.rest.options.each
+
+  after : (taken : Row) → BeginsWithDash taken.name → row_named talk_form.rows taken.name ≡ Some taken → stands_alone taken.takes ≡ false → value_after taken.name (texts (take place words)) ≡ value_in taken.name gs
+  after taken dash is_row wanted = after_options talk_form words place r taken.name taken refl dash is_row wanted
+
+  number_of : (option : NumberOption) (default bound n : ℕ) → BeginsWithDash option.name → row_named talk_form.rows option.name ≡ Some (number option) → option.default ≡ Some default → option.high < bound → IsRead bound default (value_after option.name (texts (take place words))) n → IsGiven option gs n
+  number_of option default bound n dash is_row has small reads = number_is talk_form words place r option default bound n refl dash is_row has small reads
+
+  aaf_of : (v : Option (List ℕ)) → IfSome v (IsValue takes.Kind) → IfSome v (λ word. word ≢ codes "am824") → IfSome v (λ word. word ≡ codes "aaf")
+  aaf_of None is other = tt
+  aaf_of (Some word) (inl aaf) other = aaf
+  aaf_of (Some word) (inr am824) other = absurd (other am824)
+
+  kind_says : (kind : Kind) → IsReadKind (texts (take place words)) tells kind → SaysKind (codes "talk" ∷ texts words) gs kind
+  kind_says (Aaf format is_sparse) read = record {
+    kind = aaf_of (value_in (codes "--kind") gs) (given (row (codes "--kind") takes.Kind) refl) (subst (λ v. IfSome v (λ word. word ≢ codes "am824")) (after (row (codes "--kind") takes.Kind) refl refl refl) read.other);
+    format_given = format_given Int16 format (value_in (codes "--format") gs) (given (row (codes "--format") takes.Format) refl)
+        (subst (λ v. IsReadFormat Int16 v format) (after (row (codes "--format") takes.Format) refl refl refl) read.format_read);
+    sparse_given = after_talk (codes "--sparse") is_sparse (texts words) refl (subst (λ is. IsTrue is ↔ Contains (texts words) (codes "--sparse")) (sym read.sparse_read) sparse);
+  }
+  kind_says Am824 read = sym (after (row (codes "--kind") takes.Kind) refl refl refl) ∙ read
 
 -- words with no jump need no restart
 pub without_jump : (words : List (List ℕ)) (jumps : Bool) → jumps ≡ false → IsTrue jumps ↔ Contains words (codes "--jump") → IsTrue (not jumps) ↔ (Contains (codes "talk" ∷ words) (codes "--jump") → Contains (codes "talk" ∷ words) (codes "--restart"))
 without_jump words true e told = absurd (cc)
 without_jump words false e told =
-    let all = behind_talk (codes "--jump") false words refl told in
+    let all = after_talk (codes "--jump") false words refl told in
     ((λ yes given. absurd (let no : false ≡ true = all.1 given in cc)), λ needs. refl)
 
 -- words with a jump need one
 pub with_jump : (words : List (List ℕ)) (jumps restarts : Bool) → jumps ≡ true → IsTrue jumps ↔ Contains words (codes "--jump") → IsTrue restarts ↔ Contains words (codes "--restart") → IsTrue restarts ↔ (Contains (codes "talk" ∷ words) (codes "--jump") → Contains (codes "talk" ∷ words) (codes "--restart"))
 with_jump words false restarts e told restart = absurd (cc)
 with_jump words true restarts e told restart =
-    let jump = behind_talk (codes "--jump") true words refl told in
-    let all = behind_talk (codes "--restart") restarts words refl restart in
+    let jump = after_talk (codes "--jump") true words refl told in
+    let all = after_talk (codes "--restart") restarts words refl restart in
     ((λ yes given. all.0 yes), λ needs. all.1 (needs (jump.0 refl)))
+
+-- a test for an option that is not to be there
+lacks : (name : List ℕ) (tells : Bool) (words : List (List ℕ)) → BeginsWithDash name → IsTrue tells ↔ Contains words name → IsTrue (not tells) ↔ (Contains (codes "talk" ∷ words) name → ⊥)
+lacks name tells words dash told = go tells (after_talk name tells words dash told) where
+  go : (tells : Bool) → IsTrue tells ↔ Contains (codes "talk" ∷ words) name → IsTrue (not tells) ↔ (Contains (codes "talk" ∷ words) name → ⊥)
+  go true all = ((λ no. absurd (let e : false ≡ true = no in cc)), λ none. absurd (none (all.0 refl)))
+  go false all = ((λ yes within. absurd (let e : false ≡ true = all.1 within in cc)), λ none. refl)
+
+-- words without a format
+pub without_format : (words : List (List ℕ)) (formats sparse : Bool) → formats ≡ false → IsTrue formats ↔ Contains words (codes "--format") → IsTrue sparse ↔ Contains words (codes "--sparse") → IsTrue (not sparse) ↔ LacksAaf (codes "talk" ∷ words)
+without_format words formats sparse e format_told sparse_told =
+    let format = lacks (codes "--format") formats words refl format_told in
+    let other = lacks (codes "--sparse") sparse words refl sparse_told in
+    ((λ yes. record { format = format.0 (ap not e); sparse = other.0 yes }), λ lacks. other.1 lacks.sparse)
+
+-- words with one
+pub with_format : (words : List (List ℕ)) (formats : Bool) → formats ≡ true → IsTrue formats ↔ Contains words (codes "--format") → IsTrue (not formats) ↔ LacksAaf (codes "talk" ∷ words)
+with_format words formats e told =
+    let format = lacks (codes "--format") formats words refl told in
+    ((λ no. absurd (let t : false ≡ true = sym (ap not e) ∙ no in cc)), λ lacks. format.1 lacks.format)
 
 -- words are of one command
 same_command : (form other : Form) (words : List (List ℕ)) (gs hs : List Setting) (ns ms : List (List ℕ)) → IsOf form words gs ns → IsOf other words hs ms → form.command ≡ other.command
@@ -294,25 +375,37 @@ show_talk e = let first = ap (λ (word : List ℕ). get_or word 0 0) e in absurd
 listen_talk : codes "listen" ≡ codes "talk" → ⊥
 listen_talk e = let first = ap (λ (word : List ℕ). get_or word 0 0) e in absurd (omega (arith, first))
 
+aaf_am824 : codes "am824" ≡ codes "aaf" → ⊥
+aaf_am824 e = let second = ap (λ (word : List ℕ). get_or word 1 0) e in absurd (omega (arith, second))
+
 same_flag : (a b : Bool) (P : Type 0) → IsTrue a ↔ P → IsTrue b ↔ P → a ≡ b
 same_flag true true P p q = refl
 same_flag true false P p q = sym (q.1 (p.0 refl))
 same_flag false true P p q = p.1 (q.0 refl)
 same_flag false false P p q = refl
 
+-- words tell one kind
+same_kind : (words : List (List ℕ)) (gs : List Setting) (a b : Kind) → SaysKind words gs a → SaysKind words gs b → a ≡ b
+same_kind words gs (Aaf format sparse) (Aaf other another) p q =
+    let formats : format ≡ other = same_format_given (codes "--format") Int16 format other gs p.format_given q.format_given in
+    let flags : sparse ≡ another = same_flag sparse another (Contains words (codes "--sparse")) p.sparse_given q.sparse_given in
+    ap (λ f. Aaf f sparse) formats ∙ ap (Aaf other) flags
+same_kind words gs (Aaf format sparse) Am824 p q = absurd (aaf_am824 (subst (λ v. IfSome v (λ word. word ≡ codes "aaf")) q p.kind))
+same_kind words gs Am824 (Aaf format sparse) p q = absurd (aaf_am824 (subst (λ v. IfSome v (λ word. word ≡ codes "aaf")) p q.kind))
+same_kind words gs Am824 Am824 p q = refl
+
 -- words of `talk` say one thing
 same_talk : (words : List (List ℕ)) (a b : Talking) → SaysTalk words a → SaysTalk words b → a ≡ b
 same_talk words a b p q = same inputs outputs
-    (same_format_given (codes "--format") Int16 a.format b.format q.settings (subst (λ gs. IsGivenFormat (codes "--format") Int16 gs a.format) both.0 p.format) q.format)
-    (number (codes "--rate") 1 192000 48000 a.rate b.rate (omega arith) p.rate q.rate)
-    (number (codes "--channels") 1 1023 2 a.channels b.channels (omega arith) p.channels q.channels)
-    (number (codes "--count") 1 1476 6 a.count b.count (omega arith) p.count q.count)
-    (same_id_given (codes "--id") 0x0200000000010001 a.id b.id q.settings (subst (λ gs. IsGivenId (codes "--id") 0x0200000000010001 gs a.id) both.0 p.id) q.id)
-    (p.start_is ∙ ap pos (number (codes "--start") 0 (4 * 10 ^ 18) (10 ^ 9) p.start_at q.start_at (omega arith) p.start q.start) ∙ sym q.start_is)
-    (number (codes "--lead") 1 (10 ^ 9) 2000000 a.lead b.lead (omega arith) p.lead q.lead)
-    (same_flag a.sparse b.sparse (Contains words (codes "--sparse")) p.sparse q.sparse)
-    (same_number_if (codes "--restart") 8 (10 ^ 9) a.restart b.restart q.settings (omega arith) (subst (λ gs. IsGivenIf (codes "--restart") 8 (10 ^ 9) gs a.restart) both.0 p.restart) q.restart)
-    (number (codes "--jump") 4 (10 ^ 9) 1000000 a.jump b.jump (omega arith) p.jump q.jump) where
+    (same_kind words q.settings a.kind b.kind (subst (λ gs. SaysKind words gs a.kind) both.0 p.kind) q.kind)
+    (number limits.rate a.rate b.rate (omega arith) p.rate q.rate)
+    (number limits.channels a.channels b.channels (omega arith) p.channels q.channels)
+    (number limits.count a.count b.count (omega arith) p.count q.count)
+    (same_id_given (codes "--id") limits.talk_id a.id b.id q.settings (subst (λ gs. IsGivenId (codes "--id") limits.talk_id gs a.id) both.0 p.id) q.id)
+    (p.start_is ∙ ap pos (number limits.start p.start_at q.start_at (omega arith) p.start q.start) ∙ sym q.start_is)
+    (number limits.talk_lead a.lead b.lead (omega arith) p.lead q.lead)
+    (same_number_if limits.restart a.restart b.restart q.settings (omega arith) (subst (λ gs. IsGivenIf limits.restart gs a.restart) both.0 p.restart) q.restart)
+    (number limits.jump a.jump b.jump (omega arith) p.jump q.jump) where
       both : (p.settings ≡ q.settings) × ((a.input ∷ a.output ∷ []) ≡ (b.input ∷ b.output ∷ []))
       both = same_line talk_form words p.settings q.settings (a.input ∷ a.output ∷ []) (b.input ∷ b.output ∷ []) p.line q.line
 
@@ -322,11 +415,11 @@ same_talk words a b p q = same inputs outputs
       outputs : a.output ≡ b.output
       outputs = cc (both.1)
 
-      number : (name : List ℕ) (low high default m n : ℕ) → high < 2 ^ 64 → IsGiven name low high default p.settings m → IsGiven name low high default q.settings n → m ≡ n
-      number name low high default m n small first second = same_number name low high default m n q.settings small (subst (λ gs. IsGiven name low high default gs m) both.0 first) second
+      number : (option : NumberOption) (m n : ℕ) → option.high < 2 ^ 64 → IsGiven option p.settings m → IsGiven option q.settings n → m ≡ n
+      number option m n small first second = same_number option m n q.settings small (subst (λ gs. IsGiven option gs m) both.0 first) second
 
-      same : a.input ≡ b.input → a.output ≡ b.output → a.format ≡ b.format → a.rate ≡ b.rate → a.channels ≡ b.channels → a.count ≡ b.count → a.id ≡ b.id → a.start ≡ b.start → a.lead ≡ b.lead → a.sparse ≡ b.sparse → a.restart ≡ b.restart → a.jump ≡ b.jump → a ≡ b
-      same inputs outputs formats rates channels counts ids starts leads sparses restarts jumps = rw (inputs, outputs, formats, rates, channels, counts, ids, starts, leads, sparses, restarts, jumps) refl
+      same : a.input ≡ b.input → a.output ≡ b.output → a.kind ≡ b.kind → a.rate ≡ b.rate → a.channels ≡ b.channels → a.count ≡ b.count → a.id ≡ b.id → a.start ≡ b.start → a.lead ≡ b.lead → a.restart ≡ b.restart → a.jump ≡ b.jump → a ≡ b
+      same inputs outputs kinds rates channels counts ids starts leads restarts jumps = rw (inputs, outputs, kinds, rates, channels, counts, ids, starts, leads, restarts, jumps) refl
 
 -- every word can stand, and a rule over several of them fails
 pub offence_of_rule : (words : List (List ℕ)) (asked : Talking) → SaysTalk words asked → (KeepsRules words asked → ⊥) → IsOffence words 1
@@ -334,7 +427,7 @@ offence_of_rule words asked says breaks = of_a_rule refl
     (record { form = talk_form; known = refl; settings = says.settings; names = asked.input ∷ asked.output ∷ []; line = says.line }) none where
       none : (request : Request) → IsCommandLine words request → ⊥
       none (show limit file) s = show_talk (same_command show_form talk_form words s.settings says.settings (file ∷ []) (asked.input ∷ asked.output ∷ []) s.line says.line)
-      none (listen other) s = listen_talk (same_command listen_form talk_form words s.settings says.settings (s.id ∷ other.file ∷ []) (asked.input ∷ asked.output ∷ []) s.line says.line)
+      none (listen other) s = listen_talk (same_command listen_form talk_form words s.settings says.settings (s.id ∷ other.files) (asked.input ∷ asked.output ∷ []) s.line says.line)
       none (talk other) (s, rules) = breaks (subst (KeepsRules words) (same_talk words other asked s says) rules)
 
 -- ---- each line asks for one thing, and words have one offence
@@ -344,21 +437,21 @@ pub same_request : (words : List (List ℕ)) (r s : Request) → IsCommandLine w
 same_request words (show limit file) (show other name) p q =
     let both = same_line show_form words p.settings q.settings (file ∷ []) (name ∷ []) p.line q.line in
     let files : file ≡ name = cc (both.1) in
-    let limits : limit ≡ other = same_number (codes "--limit") 1 (2 ^ 40) (2 ^ 40) limit other q.settings (omega arith) (subst (λ gs. IsGiven (codes "--limit") 1 (2 ^ 40) (2 ^ 40) gs limit) both.0 p.limit_given) q.limit_given in
+    let limits : limit ≡ other = same_number limits.limit limit other q.settings (omega arith) (subst (λ gs. IsGiven limits.limit gs limit) both.0 p.limit_given) q.limit_given in
     ap (λ n. show n file) limits ∙ ap (show other) files
-same_request words (show limit file) (listen asked) p q = absurd (show_listen (same_command show_form listen_form words p.settings q.settings (file ∷ []) (q.id ∷ asked.file ∷ []) p.line q.line))
+same_request words (show limit file) (listen asked) p q = absurd (show_listen (same_command show_form listen_form words p.settings q.settings (file ∷ []) (q.id ∷ asked.files) p.line q.line))
 same_request words (show limit file) (talk asked) p (q, rules) = absurd (show_talk (same_command show_form talk_form words p.settings q.settings (file ∷ []) (asked.input ∷ asked.output ∷ []) p.line q.line))
-same_request words (listen asked) (show limit file) p q = absurd (show_listen (same_command show_form listen_form words q.settings p.settings (file ∷ []) (p.id ∷ asked.file ∷ []) q.line p.line))
-same_request words (listen asked) (talk other) p (q, rules) = absurd (listen_talk (same_command listen_form talk_form words p.settings q.settings (p.id ∷ asked.file ∷ []) (other.input ∷ other.output ∷ []) p.line q.line))
+same_request words (listen asked) (show limit file) p q = absurd (show_listen (same_command show_form listen_form words q.settings p.settings (file ∷ []) (p.id ∷ asked.files) q.line p.line))
+same_request words (listen asked) (talk other) p (q, rules) = absurd (listen_talk (same_command listen_form talk_form words p.settings q.settings (p.id ∷ asked.files) (other.input ∷ other.output ∷ []) p.line q.line))
 same_request words (talk asked) (show limit file) (p, rules) q = absurd (show_talk (same_command show_form talk_form words q.settings p.settings (file ∷ []) (asked.input ∷ asked.output ∷ []) q.line p.line))
-same_request words (talk asked) (listen other) (p, rules) q = absurd (listen_talk (same_command listen_form talk_form words q.settings p.settings (q.id ∷ other.file ∷ []) (asked.input ∷ asked.output ∷ []) q.line p.line))
+same_request words (talk asked) (listen other) (p, rules) q = absurd (listen_talk (same_command listen_form talk_form words q.settings p.settings (q.id ∷ other.files) (asked.input ∷ asked.output ∷ []) q.line p.line))
 same_request words (talk asked) (talk other) (p, rules) (q, others) = ap talk (same_talk words asked other p q)
 same_request words (listen asked) (listen other) p q =
-    ap listen (same streams (number (codes "--buffer") 1 65536 4096 asked.buffer other.buffer (omega arith) p.buffer q.buffer) (number (codes "--room") 1 (2 ^ 30) (2 ^ 26) asked.room other.room (omega arith) p.room q.room) (number (codes "--lead") 0 (10 ^ 9) 2000000 asked.lead other.lead (omega arith) p.lead q.lead) files) where
-      both : (p.settings ≡ q.settings) × ((p.id ∷ asked.file ∷ []) ≡ (q.id ∷ other.file ∷ []))
-      both = same_line listen_form words p.settings q.settings (p.id ∷ asked.file ∷ []) (q.id ∷ other.file ∷ []) p.line q.line
+    ap listen (same streams (number limits.buffer asked.buffer other.buffer (omega arith) p.buffer q.buffer) (number limits.room asked.room other.room (omega arith) p.room q.room) (number limits.listen_lead asked.lead other.lead (omega arith) p.lead q.lead) files) where
+      both : (p.settings ≡ q.settings) × ((p.id ∷ asked.files) ≡ (q.id ∷ other.files))
+      both = same_line listen_form words p.settings q.settings (p.id ∷ asked.files) (q.id ∷ other.files) p.line q.line
 
-      files : asked.file ≡ other.file
+      files : asked.files ≡ other.files
       files = cc (both.1)
 
       ids : p.id ≡ q.id
@@ -367,10 +460,10 @@ same_request words (listen asked) (listen other) p q =
       streams : asked.stream ≡ other.stream
       streams = same_id q.id asked.stream other.stream (subst (λ word. IsId word asked.stream) ids p.stream) q.stream
 
-      number : (name : List ℕ) (low high default m n : ℕ) → high < 2 ^ 64 → IsGiven name low high default p.settings m → IsGiven name low high default q.settings n → m ≡ n
-      number name low high default m n small first second = same_number name low high default m n q.settings small (subst (λ gs. IsGiven name low high default gs m) both.0 first) second
+      number : (option : NumberOption) (m n : ℕ) → option.high < 2 ^ 64 → IsGiven option p.settings m → IsGiven option q.settings n → m ≡ n
+      number option m n small first second = same_number option m n q.settings small (subst (λ gs. IsGiven option gs m) both.0 first) second
 
-      same : asked.stream ≡ other.stream → asked.buffer ≡ other.buffer → asked.room ≡ other.room → asked.lead ≡ other.lead → asked.file ≡ other.file → asked ≡ other
+      same : asked.stream ≡ other.stream → asked.buffer ≡ other.buffer → asked.room ≡ other.room → asked.lead ≡ other.lead → asked.files ≡ other.files → asked ≡ other
       same streams buffers rooms leads files = rw (streams, buffers, rooms, leads, files) refl
 
 -- where words stop being a line they are none
@@ -385,14 +478,14 @@ no_offence : (words : List (List ℕ)) (position : ℕ) (request : Request) → 
 no_offence words position request (of_a_word place here stops) line = stopped words place stops (line_of words request line)
 no_offence words position request (of_a_rule here fits none) line = none request line
 
--- Of two fronts of one list, the second goes on from the first, or is one of its own fronts.
-front_of : (xs ys rest more : List (List ℕ)) → xs ++ rest ≡ ys ++ more → ((m : List (List ℕ)) × (ys ≡ xs ++ m) × (rest ≡ m ++ more)) ⊎ ((m : List (List ℕ)) × (xs ≡ ys ++ m) × (more ≡ m ++ rest))
-front_of [] ys rest more e = inl (ys, refl, e)
-front_of (x ∷ xs) [] rest more e = inr (x ∷ xs, refl, sym e)
-front_of (x ∷ xs) (y ∷ ys) rest more e =
+-- Of two prefixes of one list, one begins with the other.
+one_begins : (xs ys rest more : List (List ℕ)) → xs ++ rest ≡ ys ++ more → ((m : List (List ℕ)) × (ys ≡ xs ++ m) × (rest ≡ m ++ more)) ⊎ ((m : List (List ℕ)) × (xs ≡ ys ++ m) × (more ≡ m ++ rest))
+one_begins [] ys rest more e = inl (ys, refl, e)
+one_begins (x ∷ xs) [] rest more e = inr (x ∷ xs, refl, sym e)
+one_begins (x ∷ xs) (y ∷ ys) rest more e =
     let heads : x ≡ y = cc in
     let tails : xs ++ rest ≡ ys ++ more = cc in
-    elim (front_of xs ys rest more tails) [
+    elim (one_begins xs ys rest more tails) [
       | inl (m, whole, left) ↦ inl (m, ap (λ (first : List ℕ). first ∷ ys) (sym heads) ∙ ap (λ (ws : List (List ℕ)). x ∷ ws) whole, left)
       | inr (m, whole, left) ↦ inr (m, ap (λ (first : List ℕ). first ∷ xs) heads ∙ ap (λ (ws : List (List ℕ)). y ∷ ws) whole, left)
     ]
@@ -408,7 +501,7 @@ past before (first ∷ rest) (word ∷ m) more stops split begins =
 -- words stop being a line at one place
 same_stop : (words : List (List ℕ)) (p q : ℕ) → StopsAt IsLine words p → StopsAt IsLine words q → p ≡ q
 same_stop words p q o r =
-    elim (front_of o.before r.before o.rest r.rest (sym o.split ∙ r.split)) [
+    elim (one_begins o.before r.before o.rest r.rest (sym o.split ∙ r.split)) [
       | inl (m, whole, left) ↦ (
           let none : m ≡ [] = past o.before o.rest m r.rest o.stops left (subst (Begins IsLine) whole r.begins) in
           omega (arith, o.here, r.here, ap length whole, length-append o.before m, ap length none))

@@ -1,16 +1,19 @@
 -- Operands, and where words stop being them.
-use Rattle.std.proofs.Common.{◌≡◌, ℕ, ◌+◌, ◌/◌, ◌%◌, ◌==◌, Bool, true, false, if◌then◌else◌, List, [], ◌∷◌, length, Result, Ok, Err, arith, sym, subst, ap, ◌∙◌, refl, codes, All, String}
+use Rattle.std.proofs.Common.{◌≡◌, ℕ, ◌+◌, ◌/◌, ◌%◌, ◌==◌, Bool, true, false, if◌then◌else◌, List, [], ◌∷◌, ◌++◌, take, drop, get_or, length, Option, Some, None, IfSome, IfNone, Result, Ok, Err, arith, sym, subst, ap, ◌∙◌, refl, codes, All, String}
 use Rattle.std.specs.Int.{w64, to_be_bytes}
-use Rattle.std.proofs.lemmas.List.Elements.{All-nil, All-cons}
+use Rattle.std.proofs.lemmas.List.Elements.{All-nil, All-cons, All-head, All-append, All-contains, Contains-append_left, Contains-append_right}
+use Rattle.std.proofs.lemmas.List.{take-append-drop, length-take}
+use Rattle.std.proofs.Math.Seq.{drop-cons}
+use Rattle.avtp_words.specs.Reading.{IsFirstUnnamed}
 use Rattle.hex.proofs.HexLemmas.{decode_pairs-ok}
 use Rattle.hex.specs.Hex.{IsBytes, decode_pairs, decode_sized}
 use Rattle.std.specs.Prelude.{MatchResult}
 use Rattle.hex.specs.declared.error.FromHexError.{FromHexError}
 use Rattle.hex.specs.declared.error.FromHexError.TheVariants.{OddLength, InvalidStringLength}
 use Rattle.avtp_words.specs.declared.operand.Operand.{Operand}
-use Rattle.avtp_words.specs.declared.operand.Operand.TheVariants.{Id, Name}
+use Rattle.avtp_words.specs.declared.operand.Operand.TheVariants.{Id, Name, Names}
 use Rattle.avtp_words.specs.Grammar.{Stops, StopsAt}
-use Rattle.avtp_words.specs.Operands.{IsId, IsOperand, AreOperands}
+use Rattle.avtp_words.specs.Operands.{IsId, IsOperand, AreOperands, takes_all}
 use Rattle.std.specs.declared.alloc.Global.{Global}
 use Rattle.avtp_words.specs.Word.{texts, IsName}
 
@@ -31,31 +34,40 @@ id_name (first ∷ more) id is = λ dash. dash_none more (subst (λ f. decode_si
 operand_name : (operand : Operand) (word : List ℕ) → IsOperand operand word → IsName word
 operand_name Id word (id, is) = id_name word id is
 operand_name Name word is = is
+operand_name Names word is = is
 
 pub names : (operands : List Operand) (ns : List (List ℕ)) → AreOperands operands ns → All IsName ns
 names [] [] are = All-nil IsName
 names [] (n ∷ ns) are = absurd are
 names (o ∷ operands) [] are = absurd are
-names (o ∷ operands) (n ∷ ns) are = All-cons IsName n ns (operand_name o n are.0) (names operands ns are.1)
+names (Id ∷ operands) (n ∷ ns) are = All-cons IsName n ns (operand_name Id n are.0) (names operands ns are.1)
+names (Name ∷ operands) (n ∷ ns) are = All-cons IsName n ns are.0 (names operands ns are.1)
+names (Names ∷ operands) (n ∷ ns) are = are
 
 -- some operand of each kind
 sample : Operand → List ℕ
 sample Id = codes "0000000000000000"
 sample Name = codes "a"
+sample Names = codes "a"
 
 sample_is : (operand : Operand) → IsOperand operand (sample operand)
 unfolding sample decode_pairs
 sample_is Id = (0, record { fits = omega arith; digits = refl })
 sample_is Name = λ e. absurd (omega (arith, e))
+sample_is Names = λ e. absurd (omega (arith, e))
 
 pub samples : List Operand → List (List ℕ)
 samples [] = []
-samples (o ∷ operands) = sample o ∷ samples operands
+samples (Id ∷ operands) = sample Id ∷ samples operands
+samples (Name ∷ operands) = sample Name ∷ samples operands
+samples (Names ∷ operands) = sample Names ∷ []
 
 pub sampled : (operands : List Operand) → AreOperands operands (samples operands)
 unfolding samples
 sampled [] = tt
-sampled (o ∷ operands) = (sample_is o, sampled operands)
+sampled (Id ∷ operands) = (sample_is Id, sampled operands)
+sampled (Name ∷ operands) = (sample_is Name, sampled operands)
+sampled (Names ∷ operands) = All-cons IsName (sample Names) [] (sample_is Names) (All-nil IsName)
 
 -- one is missing
 missing : (operand : Operand) (operands : List Operand) → StopsAt (AreOperands (operand ∷ operands)) [] 0
@@ -65,23 +77,72 @@ pub missing_of : (operand : Operand) (operands : List Operand) (words : List (St
 missing_of operand operands [] e = missing operand operands
 missing_of operand operands (word ∷ words) e = absurd (omega (arith, e))
 
+-- the first is what its place asks for
+first_is : (operand : Operand) (operands : List Operand) (word : List ℕ) (words : List (List ℕ)) → AreOperands (operand ∷ operands) (word ∷ words) → IsOperand operand word
+first_is Id operands word words are = are.0
+first_is Name operands word words are = are.0
+first_is Names operands word words are = All-head IsName word words are
+
 -- the first is another
 pub other : (operand : Operand) (operands : List Operand) (word : List ℕ) (words : List (List ℕ)) → (IsOperand operand word → ⊥) → StopsAt (AreOperands (operand ∷ operands)) (word ∷ words) 0
-other operand operands word words not = record { before = []; rest = word ∷ words; split = refl; here = refl; begins = record { more = samples (operand ∷ operands); whole = sampled (operand ∷ operands) }; stops = λ b. not b.whole.0 }
+other operand operands word words not = record { before = []; rest = word ∷ words; split = refl; here = refl; begins = record { more = samples (operand ∷ operands); whole = sampled (operand ∷ operands) }; stops = λ b. not (first_is operand operands word b.more b.whole) }
+
+pub with_first : (operand : Operand) (operands : List Operand) (word : List ℕ) (words : List (List ℕ)) → takes_all operand ≡ false → IsOperand operand word → AreOperands operands words → AreOperands (operand ∷ operands) (word ∷ words)
+with_first Id operands word words single is are = (is, are)
+with_first Name operands word words single is are = (is, are)
+with_first Names operands word words single is are = absurd cc
+
+rest_are : (operand : Operand) (operands : List Operand) (word : List ℕ) (words : List (List ℕ)) → takes_all operand ≡ false → AreOperands (operand ∷ operands) (word ∷ words) → AreOperands operands words
+rest_are Id operands word words single are = are.1
+rest_are Name operands word words single are = are.1
+rest_are Names operands word words single are = absurd cc
 
 -- a later one is wrong
-pub later : (operand : Operand) (operands : List Operand) (word : List ℕ) (words : List (List ℕ)) (place : ℕ) → IsOperand operand word → StopsAt (AreOperands operands) words place → StopsAt (AreOperands (operand ∷ operands)) (word ∷ words) (place + 1)
-later operand operands word words place is s = record {
+pub later : (operand : Operand) (operands : List Operand) (word : List ℕ) (words : List (List ℕ)) (place : ℕ) → takes_all operand ≡ false → IsOperand operand word → StopsAt (AreOperands operands) words place → StopsAt (AreOperands (operand ∷ operands)) (word ∷ words) (place + 1)
+later operand operands word words place single is s = record {
   before = word ∷ s.before;
   rest = s.rest;
   split = ap (λ ws. word ∷ ws) s.split;
   here = omega (arith, s.here);
-  begins = record { more = s.begins.more; whole = (is, s.begins.whole) };
+  begins = record { more = s.begins.more; whole = with_first operand operands word (s.before ++ s.begins.more) single is s.begins.whole };
   stops = go s.rest s.stops;
 } where
   go : (rest : List (List ℕ)) → Stops (AreOperands operands) s.before rest → Stops (AreOperands (operand ∷ operands)) (word ∷ s.before) rest
-  go [] never = λ are. never are.1
-  go (next ∷ rest) never = λ b. never (record { more = b.more; whole = b.whole.1 })
+  go [] never = λ are. never (rest_are operand operands word s.before single are)
+  go (next ∷ rest) never = λ b. never (record { more = b.more; whole = rest_are operand operands word ((s.before ++ next ∷ []) ++ b.more) single b.whole })
+
+-- a word among the names is none
+unnamed : (operands : List Operand) (words : List (List ℕ)) (place : ℕ) → IsFirstUnnamed words place → StopsAt (AreOperands (Names ∷ operands)) words place
+unfolding samples
+unnamed operands words place u = record {
+  before = take place words;
+  rest = drop place words;
+  split = sym (take-append-drop place words);
+  here = omega (arith, length-take place words, u.within);
+  begins = record { more = samples (Names ∷ operands); whole = ending (take place words) u.named };
+  stops = subst (Stops (AreOperands (Names ∷ operands)) (take place words)) (sym (drop-cons words place [] u.within)) (λ b. u.here (stopped (take place words) b.more b.whole));
+} where
+  ending : (before : List (List ℕ)) → All IsName before → AreOperands (Names ∷ operands) (before ++ samples (Names ∷ operands))
+  ending [] named = sampled (Names ∷ operands)
+  ending (word ∷ before) named = All-append IsName (word ∷ before) (samples (Names ∷ operands)) named (sampled (Names ∷ operands))
+
+  stopped : (before more : List (List ℕ)) → AreOperands (Names ∷ operands) ((before ++ get_or words place [] ∷ []) ++ more) → IsName (get_or words place [])
+  stopped before more are =
+      let word : List ℕ = get_or words place [] in
+      All-contains IsName ((before ++ word ∷ []) ++ more) word (names (Names ∷ operands) ((before ++ word ∷ []) ++ more) are) (Contains-append_left (before ++ word ∷ []) more word (Contains-append_right before (word ∷ []) word (0, omega arith, refl)))
+
+-- one that takes all the words that are left
+pub all_unnamed : (operand : Operand) (operands : List Operand) (words : List (List ℕ)) (wrong : Option ℕ) → takes_all operand ≡ true → IfSome wrong (IsFirstUnnamed words) → IfSome wrong (StopsAt (AreOperands (operand ∷ operands)) words)
+all_unnamed Id operands words wrong all is = absurd cc
+all_unnamed Name operands words wrong all is = absurd cc
+all_unnamed Names operands words None all is = tt
+all_unnamed Names operands words (Some place) all is = unnamed operands words place is
+
+pub all_named : (operand : Operand) (operands : List Operand) (word : List ℕ) (words : List (List ℕ)) (wrong : Option ℕ) → takes_all operand ≡ true → IfNone wrong (All IsName (word ∷ words)) → IfNone wrong (AreOperands (operand ∷ operands) (word ∷ words))
+all_named Id operands word words wrong all is = absurd cc
+all_named Name operands word words wrong all is = absurd cc
+all_named Names operands word words None all is = is
+all_named Names operands word words (Some place) all is = tt
 
 -- what was decoded
 pub decoded : (word : List ℕ) (result : Result Unit FromHexError) (bytes : List ℕ) → result ≡ Ok tt → MatchResult (decode_sized word 8) (λ bs. (result ≡ Ok tt) × (bytes ≡ bs)) (λ e. result ≡ Err e) → decode_sized word 8 ≡ Ok bytes

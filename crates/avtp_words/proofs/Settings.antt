@@ -40,9 +40,12 @@ value-dash (Number low high) (first ∷ more) sound (n, is) dash =
     let small : n < 2 ^ 64 = omega (arith, is.most) in
     let begins : BeginsAsNumber (first ∷ more) = begins-decimal (first ∷ more) n small is.spelled in omega (arith, begins.low, dash)
 value-dash Id word sound (id, is) dash = name-dash word (id_name word id is) dash
-value-dash Kind word sound is dash = no_dash_aaf (subst BeginsWithDash is dash) where
+value-dash Kind word sound (inl is) dash = no_dash_aaf (subst BeginsWithDash is dash) where
   no_dash_aaf : BeginsWithDash (codes "aaf") → ⊥
   no_dash_aaf dash = absurd (omega (arith, dash))
+value-dash Kind word sound (inr is) dash = no_dash_am824 (subst BeginsWithDash is dash) where
+  no_dash_am824 : BeginsWithDash (codes "am824") → ⊥
+  no_dash_am824 dash = absurd (omega (arith, dash))
 value-dash Format word sound (format, is) dash = named format (subst BeginsWithDash is dash) where
   named : (format : AafFormat) → BeginsWithDash (format_name format) → ⊥
   named Int16 dash = absurd (omega (arith, dash))

@@ -20,15 +20,15 @@ use Rattle.avtp_words.specs.Options.{Row, row_named, Setting, words_of, IsValue,
 use Rattle.avtp_words.specs.Grammar.{Stops}
 use Rattle.avtp_words.proofs.Settings.{same-true, same-false, both, found-sound, apart, push, next, fresh, taken}
 
--- the word after a front
-pub at : (front rest : List (List ℕ)) (word : List ℕ) → slice_get (front ++ rest) (length front) ≡ Some word → (more : List (List ℕ)) × (rest ≡ word ∷ more)
+-- the word after others
+pub at : (before rest : List (List ℕ)) (word : List ℕ) → slice_get (before ++ rest) (length before) ≡ Some word → (more : List (List ℕ)) × (rest ≡ word ∷ more)
 at [] [] word e = absurd (cc)
 at [] (r ∷ rest) word e = (rest, cc)
-at (x ∷ front) rest word e = at front rest word e
+at (x ∷ before) rest word e = at before rest word e
 
-pub after : (front : List (List ℕ)) (word : List ℕ) (more : List (List ℕ)) → slice_get (front ++ word ∷ more) (suc (length front)) ≡ slice_get more 0
-after [] word more = refl
-after (x ∷ front) word more = after front word more
+pub following : (before : List (List ℕ)) (word : List ℕ) (more : List (List ℕ)) → slice_get (before ++ word ∷ more) (suc (length before)) ≡ slice_get more 0
+following [] word more = refl
+following (x ∷ before) word more = following before word more
 
 -- a row of the table, found by its name
 pub found : (rows : List OptionRow) (name : List ℕ) → row_named (rows_of rows) name ≡ option_map row_of (find (λ row. bytes_eq row.name.now name) rows)
@@ -64,16 +64,16 @@ pub contained : (words : List (String Global)) (name : List ℕ) (tells : Bool) 
 contained words name true e = ((λ yes. present words name (sym e)), λ within. refl)
 contained words name false e = ((λ yes. absurd (cc)), λ within. absurd (absent words name (sym e) within))
 
--- a word is among others behind another word
-pub behind_first : (first name : List ℕ) (words : List (List ℕ)) → (first ≡ name → ⊥) → Contains words name ↔ Contains (first ∷ words) name
-behind_first first name words other = (
+-- a word is among others after another word
+pub after_first : (first name : List ℕ) (words : List (List ℕ)) → (first ≡ name → ⊥) → Contains words name ↔ Contains (first ∷ words) name
+after_first first name words other = (
   (λ within. Contains-append_right (first ∷ []) words name within),
   λ within. elim (Contains-append_cases (first ∷ []) words name within) [ inl here ↦ absurd (other (only first name here)) | inr later ↦ later ],
 )
 
 -- the words before the place are the options'
-pub fronts : (rows : List Row) (words : List (String Global)) (place : ℕ) (o : AreOptionsTo rows (texts words) place) → map string_bytes (take place words) ≡ flat_map words_of o.settings
-fronts rows words place o = sym (take-map string_bytes place words) ∙ ap (take place) o.split ∙ (rw o.here (take-append_seam (flat_map words_of o.settings) o.rest))
+pub words_before : (rows : List Row) (words : List (String Global)) (place : ℕ) (o : AreOptionsTo rows (texts words) place) → map string_bytes (take place words) ≡ flat_map words_of o.settings
+words_before rows words place o = sym (take-map string_bytes place words) ∙ ap (take place) o.split ∙ (rw o.here (take-append_seam (flat_map words_of o.settings) o.rest))
 
 -- what stands at the place
 pub here : (rows : List Row) (words : List (List ℕ)) (place : ℕ) (o : AreOptionsTo rows words place) (word : List ℕ) → slice_get words place ≡ Some word → (more : List (List ℕ)) × (o.rest ≡ word ∷ more)
@@ -121,7 +121,7 @@ sample : (takes : Takes) → is_sound takes ≡ true → (value : Option (List �
 unfolding decode_pairs
 sample (Number low high) sound = (Some (decimal low), (low, record { least = omega arith; most = leb-true low high (both _ _ sound).0; spelled = refl }))
 sample Id sound = (Some (codes "0000000000000000"), (0, record { fits = omega arith; digits = refl }))
-sample Kind sound = (Some (codes "aaf"), refl)
+sample Kind sound = (Some (codes "aaf"), inl refl)
 sample Format sound = (Some (codes "int16"), (Int16, refl))
 sample Nothing sound = (None, refl)
 
@@ -159,12 +159,12 @@ stops_after rows gs word row more options dash e wanted bad = go more bad where
   go [] bad = λ t. none_follows [] bad t
   go (value ∷ more) bad = λ b. none_follows (value ∷ b.more) bad (subst (IsTail rows) (append_assoc (flat_map words_of gs ++ word ∷ []) (value ∷ []) b.more ∙ append_assoc (flat_map words_of gs) (word ∷ []) (value ∷ b.more)) b.whole)
 
--- what stands behind the place
-pub behind : (rows : List Row) (words : List (List ℕ)) (place : ℕ) (o : AreOptionsTo rows words place) (word : List ℕ) (more : List (List ℕ)) → o.rest ≡ word ∷ more → slice_get words (place + 1) ≡ slice_get more 0
-behind rows words place o word more e =
+-- what stands after the place
+pub after_place : (rows : List Row) (words : List (List ℕ)) (place : ℕ) (o : AreOptionsTo rows words place) (word : List ℕ) (more : List (List ℕ)) → o.rest ≡ word ∷ more → slice_get words (place + 1) ≡ slice_get more 0
+after_place rows words place o word more e =
     let place_is : place + 1 ≡ suc (length (flat_map words_of o.settings)) = rw add-one (ap suc o.here) in
     let words_are : words ≡ flat_map words_of o.settings ++ word ∷ more = o.split ∙ ap (λ ws. flat_map words_of o.settings ++ ws) e in
-    rw (place_is, words_are) (after (flat_map words_of o.settings) word more)
+    rw (place_is, words_are) (following (flat_map words_of o.settings) word more)
 
 pub stops_next : (rows : List Row) (words : List (List ℕ)) (place : ℕ) (o : AreOptionsTo rows words place) (word : List ℕ) (row : Row) → are_sound rows ≡ true → slice_get words place ≡ Some word → BeginsWithDash word → row_named rows word ≡ Some row → All (λ s. s.name ≢ word) o.settings → LacksValue row.takes words (place + 1) → StopsOptions rows words (place + 1)
 stops_next rows words place o word row sound e dash is_row new lacks =
@@ -176,20 +176,20 @@ stops_next rows words place o word row sound e dash is_row new lacks =
       split = o.split ∙ ap (λ ws. flat_map words_of o.settings ++ ws) h.1 ∙ sym (append_assoc (flat_map words_of o.settings) (word ∷ []) h.0);
       here = omega (arith, o.here, length-append (flat_map words_of o.settings) (word ∷ []));
       begins = record { more = option_to_list some.0; whole = record { settings = o.settings ++ setting word some.0 ∷ []; spelled = append_assoc (flat_map words_of o.settings) (word ∷ []) (option_to_list some.0) ∙ sym (words-push o.settings (setting word some.0)); options = push rows o.settings (setting word some.0) o.options (is_setting rows word some.0 row dash is_row some.1) new } };
-      stops = stops_after rows o.settings word row h.0 o.options dash is_row lacks.wanted (subst (λ v. IfSome v (λ value. IsValue row.takes value → ⊥)) (behind rows words place o word h.0 h.1) lacks.none);
+      stops = stops_after rows o.settings word row h.0 o.options dash is_row lacks.wanted (subst (λ v. IfSome v (λ value. IsValue row.takes value → ⊥)) (after_place rows words place o word h.0 h.1) lacks.none);
     }
 
--- what is left behind a value
-left_behind : (value : Option (List ℕ)) (more : List (List ℕ)) → IfSome value (λ word. slice_get more 0 ≡ Some word) → (rest : List (List ℕ)) × (more ≡ option_to_list value ++ rest)
-left_behind None more here = (more, refl)
-left_behind (Some word) [] here = absurd (cc)
-left_behind (Some word) (first ∷ more) here = (more, cc)
+-- what is left after a value
+left_after : (value : Option (List ℕ)) (more : List (List ℕ)) → IfSome value (λ word. slice_get more 0 ≡ Some word) → (rest : List (List ℕ)) × (more ≡ option_to_list value ++ rest)
+left_after None more here = (more, refl)
+left_after (Some word) [] here = absurd (cc)
+left_after (Some word) (first ∷ more) here = (more, cc)
 
 pub goes_on : (rows : List Row) (words : List (List ℕ)) (place len : ℕ) (o : AreOptionsTo rows words place) (word : List ℕ) (row : Row) → slice_get words place ≡ Some word → BeginsWithDash word → row_named rows word ≡ Some row → All (λ s. s.name ≢ word) o.settings → IsTakenAt row.takes words (place + 1) len → AreOptionsTo rows words (place + (1 + len))
 goes_on rows words place len o word row e dash is_row new t =
     let h = here rows words place o word e in
     let s : Setting = setting word t.value in
-    let l = left_behind t.value h.0 (subst (λ found. IfSome t.value (λ word. found ≡ Some word)) (behind rows words place o word h.0 h.1) t.here) in
+    let l = left_after t.value h.0 (subst (λ found. IfSome t.value (λ word. found ≡ Some word)) (after_place rows words place o word h.0 h.1) t.here) in
     record {
       settings = o.settings ++ s ∷ [];
       rest = l.0;
@@ -209,13 +209,13 @@ unknown rows words place o name e dash none = stops_here (rows_of rows) (texts w
 -- the option stands before the place already
 pub repeated : (rows : List OptionRow) (words : List (String Global)) (place : ℕ) (o : AreOptionsTo (rows_of rows) (texts words) place) (name : List ℕ) → are_sound (rows_of rows) ≡ true → slice_get (texts words) place ≡ Some name → BeginsWithDash name → list_any (λ word. bytes_eq (string_bytes word) name) (take place words) ≡ true → StopsOptions (rows_of rows) (texts words) place
 repeated rows words place o name sound e dash given = stops_here (rows_of rows) (texts words) place o name e dash (λ s is new same.
-    let within : Contains (flat_map words_of o.settings) name = subst (λ ws. Contains ws name) (fronts (rows_of rows) words place o) (present (take place words) name given) in
+    let within : Contains (flat_map words_of o.settings) name = subst (λ ws. Contains ws name) (words_before (rows_of rows) words place o) (present (take place words) name given) in
     let within' : Contains (flat_map words_of o.settings) s.name = subst (Contains (flat_map words_of o.settings)) same within in
     taken (rows_of rows) o.settings s.name sound o.options.each new is.dash within')
 
 -- it does not
 pub first : (rows : List OptionRow) (words : List (String Global)) (place : ℕ) (o : AreOptionsTo (rows_of rows) (texts words) place) (name : List ℕ) → list_any (λ word. bytes_eq (string_bytes word) name) (take place words) ≡ false → All (λ s. s.name ≢ name) o.settings
-first rows words place o name not_given = fresh o.settings name (λ within. absent (take place words) name not_given (subst (λ ws. Contains ws name) (sym (fronts (rows_of rows) words place o)) within))
+first rows words place o name not_given = fresh o.settings name (λ within. absent (take place words) name not_given (subst (λ ws. Contains ws name) (sym (words_before (rows_of rows) words place o)) within))
 
 pub row_is : (rows : List OptionRow) (name : List ℕ) (row : OptionRow) → find (λ row. bytes_eq row.name.now name) rows ≡ Some row → row_named (rows_of rows) name ≡ Some (row_of row)
 row_is rows name row e = found rows name ∙ ap (option_map row_of) e

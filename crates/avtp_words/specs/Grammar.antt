@@ -1,35 +1,40 @@
 -- The grammar of the command line, and where words leave it.
-use Rattle.std.specs.Prelude.{◌≡◌, ◌≢◌, ℕ, ℤ, pos, ◌+◌, ◌*◌, ◌≤◌, ◌^◌, ◌↔◌, Bool, IsTrue, Contains, List, [], ◌∷◌, ◌++◌, flat_map, length, codes, Option, None, Some, MatchOption}
+use Rattle.std.specs.Prelude.{◌≡◌, ◌≢◌, ℕ, ℤ, pos, ◌+◌, ◌*◌, ◌≤◌, ◌↔◌, Bool, IsTrue, Contains, List, [], ◌∷◌, ◌++◌, flat_map, length, codes, Option, None, Some, MatchOption, IsSomeAnd, IfSome}
 use Rattle.std.specs.List.{find}
 use Rattle.std.specs.Str.{bytes_eq}
 use Rattle.aaf_format.specs.declared.aaf.AafFormat.{AafFormat}
 use Rattle.aaf_format.specs.declared.aaf.AafFormat.TheVariants.{Int16}
 use Rattle.aaf_format.specs.Aaf.{rate_of, frame_size}
+use Rattle.iec61883_format.specs.Iec.{rate_of_fdf, syt_interval, block_size}
 use Rattle.avtp_words.specs.declared.command.Command.{Command}
 use Rattle.avtp_words.specs.declared.command.Command.TheVariants.{Show, Listen, Talk}
 use Rattle.avtp_words.specs.declared.command.Listen.{Listen as AskedListen}
 use Rattle.avtp_words.specs.declared.talk.Talk.{Talk as AskedTalk}
+use Rattle.avtp_words.specs.declared.talk.Kind.{Kind}
+use Rattle.avtp_words.specs.declared.talk.Kind.TheVariants.{Aaf, Am824}
 use Rattle.avtp_words.specs.declared.operand.Operand.{Operand}
 use Rattle.avtp_words.specs.declared.operand.Operand.TheVariants as operand
 use Rattle.avtp_words.specs.declared.option.Takes.TheVariants as takes
 use Rattle.avtp_words.specs.Number.{IsNumber}
+use Rattle.avtp_words.specs.Limits as limits
+use Rattle.avtp_words.specs.Limits.{NumberOption, number}
 use Rattle.avtp_words.specs.Operands.{AreOperands, IsId}
+use Rattle.avtp_words.specs.Word.{texts}
 use Rattle.avtp_words.specs.Options.{Row, Setting, words_of, AreSettings, value_in, format_name}
 
 -- ---- what a command line asks for, without where its names lie in memory
 
--- the stream to listen to, within these bounds, and the capture
+-- the stream to listen to, within these bounds, and the captures, in order
 pub record Listening : Type 0 where
   pub stream : ℕ
   pub buffer : ℕ
   pub room : ℕ
   pub lead : ℕ
-  pub file : List ℕ
+  pub files : List (List ℕ)
 
 -- the samples to make a capture of, and how they are sent
 pub record Talking : Type 0 where
-  pub format : AafFormat
-  pub sparse : Bool
+  pub kind : Kind
   pub rate : ℕ
   pub channels : ℕ
   pub count : ℕ
@@ -47,12 +52,11 @@ pub data Request : Type 0 where
   talk : Talking → Request
 
 abbrev pub listening_of : AskedListen → Listening
-listening_of asked = record { stream = asked.stream; buffer = asked.buffer; room = asked.room; lead = asked.lead; file = asked.file.now }
+listening_of asked = record { stream = asked.stream; buffer = asked.buffer; room = asked.room; lead = asked.lead; files = texts asked.files.now }
 
 abbrev pub talking_of : AskedTalk → Talking
 talking_of asked = record {
-  format = asked.format;
-  sparse = asked.sparse;
+  kind = asked.kind;
   rate = asked.rate;
   channels = asked.channels;
   count = asked.count;
@@ -70,11 +74,11 @@ request_of (Show limit file) = show limit file.now
 request_of (Listen asked) = listen (listening_of asked)
 request_of (Talk asked) = talk (talking_of asked)
 
--- the file that is read
-abbrev pub file_of : Request → List ℕ
-file_of (show limit file) = file
-file_of (listen asked) = asked.file
-file_of (talk asked) = asked.input
+-- the files that are read, in order
+abbrev pub files_of : Request → List (List ℕ)
+files_of (show limit file) = file ∷ []
+files_of (listen asked) = asked.files
+files_of (talk asked) = asked.input ∷ []
 
 -- the file that is written
 abbrev pub output_of : Request → Option (List ℕ)
@@ -90,42 +94,38 @@ pub record Form : Type 0 where
   pub rows : List Row
   pub operands : List Operand
 
--- show [--limit 1..2^40] FILE
+-- show [options] FILE
 abbrev pub show_form : Form
 show_form = record {
   command = codes "show";
-  rows = record { name = codes "--limit"; takes = takes.Number 1 (2 ^ 40) } ∷ [];
+  rows = number limits.limit ∷ [];
   operands = operand.Name ∷ [];
 }
 
--- listen [--buffer 1..65536] [--room 1..2^30] [--lead 0..10^9] STREAM FILE
+-- listen [options] STREAM FILE..
 abbrev pub listen_form : Form
 listen_form = record {
   command = codes "listen";
-  rows =
-      record { name = codes "--buffer"; takes = takes.Number 1 65536 } ∷
-      record { name = codes "--room"; takes = takes.Number 1 (2 ^ 30) } ∷
-      record { name = codes "--lead"; takes = takes.Number 0 (10 ^ 9) } ∷ [];
-  operands = operand.Id ∷ operand.Name ∷ [];
+  rows = number limits.buffer ∷ number limits.room ∷ number limits.listen_lead ∷ [];
+  operands = operand.Id ∷ operand.Names ∷ [];
 }
 
--- talk [--kind aaf] [--format int16|int24|int32|float32] [--rate 1..192000] [--channels 1..1023] [--count 1..1476]
---     [--id ID] [--start 0..4*10^18] [--lead 1..10^9] [--sparse] [--restart 8..10^9] [--jump 4..10^9] IN OUT
+-- talk [options] IN OUT
 abbrev pub talk_form : Form
 talk_form = record {
   command = codes "talk";
   rows =
       record { name = codes "--kind"; takes = takes.Kind } ∷
       record { name = codes "--format"; takes = takes.Format } ∷
-      record { name = codes "--rate"; takes = takes.Number 1 192000 } ∷
-      record { name = codes "--channels"; takes = takes.Number 1 1023 } ∷
-      record { name = codes "--count"; takes = takes.Number 1 1476 } ∷
+      number limits.rate ∷
+      number limits.channels ∷
+      number limits.count ∷
       record { name = codes "--id"; takes = takes.Id } ∷
-      record { name = codes "--start"; takes = takes.Number 0 (4 * 10 ^ 18) } ∷
-      record { name = codes "--lead"; takes = takes.Number 1 (10 ^ 9) } ∷
+      number limits.start ∷
+      number limits.talk_lead ∷
       record { name = codes "--sparse"; takes = takes.Nothing } ∷
-      record { name = codes "--restart"; takes = takes.Number 8 (10 ^ 9) } ∷
-      record { name = codes "--jump"; takes = takes.Number 4 (10 ^ 9) } ∷ [];
+      number limits.restart ∷
+      number limits.jump ∷ [];
   operands = operand.Name ∷ operand.Name ∷ [];
 }
 
@@ -144,15 +144,15 @@ pub record IsOf (form : Form) (words : List (List ℕ)) (settings : List Setting
 
 -- ---- what the options say
 
--- the number that an option gives, within its range, or else a fixed one
-abbrev pub IsGiven : List ℕ → ℕ → ℕ → ℕ → List Setting → ℕ → Type 0
-IsGiven name low high default settings n = MatchOption (value_in name settings) (n ≡ default) (λ word. IsNumber low high word n)
+-- the number that an option gives, within its range, or else its default
+abbrev pub IsGiven : NumberOption → List Setting → ℕ → Type 0
+IsGiven option settings n = MatchOption (value_in option.name settings) (IsSomeAnd option.default (λ default. n ≡ default)) (λ word. IsNumber option.low option.high word n)
 
--- the number that an option gives, within its range, or else none
-abbrev pub IsGivenIf : List ℕ → ℕ → ℕ → List Setting → Option ℕ → Type 0
-IsGivenIf name low high settings given = MatchOption (value_in name settings) (given ≡ None) (λ word. (n : ℕ) × (given ≡ Some n) × IsNumber low high word n)
+-- the same of an option without a default
+abbrev pub IsGivenIf : NumberOption → List Setting → Option ℕ → Type 0
+IsGivenIf option settings given = MatchOption (value_in option.name settings) (given ≡ option.default) (λ word. (n : ℕ) × (given ≡ Some n) × IsNumber option.low option.high word n)
 
--- the same of a stream id
+-- the same of a stream id, by the name of the option and its default
 abbrev pub IsGivenId : List ℕ → ℕ → List Setting → ℕ → Type 0
 IsGivenId name default settings id = MatchOption (value_in name settings) (id ≡ default) (λ word. IsId word id)
 
@@ -160,48 +160,75 @@ IsGivenId name default settings id = MatchOption (value_in name settings) (id �
 abbrev pub IsGivenFormat : List ℕ → AafFormat → List Setting → AafFormat → Type 0
 IsGivenFormat name default settings format = MatchOption (value_in name settings) (format ≡ default) (λ word. word ≡ format_name format)
 
--- Without --limit the limit is 2^40 bytes.
+-- what `show` is asked for
 pub record IsShow (words : List (List ℕ)) (limit : ℕ) (file : List ℕ) : Type 0 where
   pub settings : List Setting
   pub line : IsOf show_form words settings (file ∷ [])
-  pub limit_given : IsGiven (codes "--limit") 1 (2 ^ 40) (2 ^ 40) settings limit
+  pub limit_given : IsGiven limits.limit settings limit
 
--- Without --buffer there are at most 4,096 batches, without --room at most 2^26 bytes in them, and without --lead a
--- packet is expected 2,000,000 ns before its instant.
+-- what `listen` is asked for
 pub record IsListen (words : List (List ℕ)) (asked : Listening) : Type 0 where
   pub settings : List Setting
   pub id : List ℕ
-  pub line : IsOf listen_form words settings (id ∷ asked.file ∷ [])
+  pub line : IsOf listen_form words settings (id ∷ asked.files)
   pub stream : IsId id asked.stream
-  pub buffer : IsGiven (codes "--buffer") 1 65536 4096 settings asked.buffer
-  pub room : IsGiven (codes "--room") 1 (2 ^ 30) (2 ^ 26) settings asked.room
-  pub lead : IsGiven (codes "--lead") 0 (10 ^ 9) 2000000 settings asked.lead
+  pub buffer : IsGiven limits.buffer settings asked.buffer
+  pub room : IsGiven limits.room settings asked.room
+  pub lead : IsGiven limits.listen_lead settings asked.lead
 
--- The words of `talk`, one by one. Without options the samples are 16-bit integers of two channels at 48,000 Hz, six
--- sample frames a packet, sent from one second of gPTP on, each packet stamped and 2,000,000 ns before its instant, and
--- nothing restarts.
+-- An AAF stream: of this format of samples, and sparse or not.
+pub record SaysAaf (words : List (List ℕ)) (settings : List Setting) (format : AafFormat) (sparse : Bool) : Type 0 where
+  pub kind : IfSome (value_in (codes "--kind") settings) (λ word. word ≡ codes "aaf")
+  pub format_given : IsGivenFormat (codes "--format") Int16 settings format
+  pub sparse_given : IsTrue sparse ↔ Contains words (codes "--sparse")
+
+-- Words ask for a stream of this kind, which is AAF where no kind is given.
+abbrev pub SaysKind : List (List ℕ) → List Setting → Kind → Type 0
+SaysKind words settings (Aaf format sparse) = SaysAaf words settings format sparse
+SaysKind words settings Am824 = value_in (codes "--kind") settings ≡ Some (codes "am824")
+
+-- what `talk` is asked for, by the words one by one
 pub record SaysTalk (words : List (List ℕ)) (asked : Talking) : Type 0 where
   pub settings : List Setting
   pub line : IsOf talk_form words settings (asked.input ∷ asked.output ∷ [])
-  pub format : IsGivenFormat (codes "--format") Int16 settings asked.format
-  pub sparse : IsTrue asked.sparse ↔ Contains words (codes "--sparse")
-  pub rate : IsGiven (codes "--rate") 1 192000 48000 settings asked.rate
-  pub channels : IsGiven (codes "--channels") 1 1023 2 settings asked.channels
-  pub count : IsGiven (codes "--count") 1 1476 6 settings asked.count
-  pub id : IsGivenId (codes "--id") 0x0200000000010001 settings asked.id
+  pub kind : SaysKind words settings asked.kind
+  pub rate : IsGiven limits.rate settings asked.rate
+  pub channels : IsGiven limits.channels settings asked.channels
+  pub count : IsGiven limits.count settings asked.count
+  pub id : IsGivenId (codes "--id") limits.talk_id settings asked.id
   pub start_at : ℕ
-  pub start : IsGiven (codes "--start") 0 (4 * 10 ^ 18) (10 ^ 9) settings start_at
+  pub start : IsGiven limits.start settings start_at
   pub start_is : asked.start ≡ pos start_at
-  pub lead : IsGiven (codes "--lead") 1 (10 ^ 9) 2000000 settings asked.lead
-  pub restart : IsGivenIf (codes "--restart") 8 (10 ^ 9) settings asked.restart
-  pub jump : IsGiven (codes "--jump") 4 (10 ^ 9) 1000000 settings asked.jump
+  pub lead : IsGiven limits.talk_lead settings asked.lead
+  pub restart : IsGivenIf limits.restart settings asked.restart
+  pub jump : IsGiven limits.jump settings asked.jump
 
--- What several words of `talk` together must keep: the file written is another than the one read, the rate is a
--- nominal sample rate of AAF, the samples of a packet fit into it, and there is no jump without a restart.
+-- An AAF stream has a nominal sample rate of AAF, and the samples of a packet fit into it.
+pub record FitsSamples (format : AafFormat) (asked : Talking) : Type 0 where
+  pub rate : (code : ℕ) × (rate_of code ≡ Some asked.rate)
+  pub size : asked.count * frame_size asked.channels format ≤ limits.samples
+
+-- An AM824 stream has a sample rate of IEC 61883-6, and a packet at least an eighth of its SYT interval, so that a block
+-- is stamped in eight packets. A block has few enough quadlets, and the blocks of a packet fit into it.
+pub record FitsBlocks (asked : Talking) : Type 0 where
+  pub rate : (fdf : ℕ) × (rate_of_fdf fdf ≡ Some asked.rate) × IsSomeAnd (syt_interval fdf) (λ interval. interval ≤ 8 * asked.count)
+  pub quadlets : asked.channels ≤ limits.quadlets
+  pub size : asked.count * block_size asked.channels ≤ limits.blocks
+
+-- the words have no option that is AAF's alone
+pub record LacksAaf (words : List (List ℕ)) : Type 0 where
+  pub format : Contains words (codes "--format") → ⊥
+  pub sparse : Contains words (codes "--sparse") → ⊥
+
+abbrev pub FitsKind : Kind → List (List ℕ) → Talking → Type 0
+FitsKind (Aaf format sparse) words asked = FitsSamples format asked
+FitsKind Am824 words asked = FitsBlocks asked × LacksAaf words
+
+-- What several words of `talk` together must keep: the file written is another than the one read, the stream fits its
+-- kind, and there is no jump without a restart.
 pub record KeepsRules (words : List (List ℕ)) (asked : Talking) : Type 0 where
   pub apart : asked.input ≢ asked.output
-  pub rate : (code : ℕ) × (rate_of code ≡ Some asked.rate)
-  pub size : asked.count * frame_size asked.channels asked.format ≤ 1476
+  pub fits : FitsKind asked.kind words asked
   pub restarts : Contains words (codes "--jump") → Contains words (codes "--restart")
 
 -- ---- command lines

@@ -2,5 +2,6 @@ pub mod Word
 pub mod Number
 pub mod Operands
 pub mod Options
+pub mod Limits
 pub mod Grammar
 pub mod Reading

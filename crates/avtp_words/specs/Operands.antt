@@ -1,9 +1,9 @@
--- The operands of a command: the words behind its options.
-use Rattle.std.specs.Prelude.{◌≡◌, ℕ, ◌<◌, ◌^◌, List, [], ◌∷◌, Ok, ⊤}
+-- The operands of a command: the words after its options.
+use Rattle.std.specs.Prelude.{◌≡◌, ℕ, ◌<◌, ◌^◌, List, [], ◌∷◌, Ok, ⊤, All, Bool, true, false}
 use Rattle.std.specs.Int.{w64, to_be_bytes}
 use Rattle.hex.specs.Hex.{decode_sized}
 use Rattle.avtp_words.specs.declared.operand.Operand.{Operand}
-use Rattle.avtp_words.specs.declared.operand.Operand.TheVariants.{Id, Name}
+use Rattle.avtp_words.specs.declared.operand.Operand.TheVariants.{Id, Name, Names}
 use Rattle.avtp_words.specs.Word.{IsName}
 
 -- the word is a stream id: sixteen hexadecimal digits of either case, the highest first
@@ -14,10 +14,20 @@ pub record IsId (word : List ℕ) (id : ℕ) : Type 0 where
 abbrev pub IsOperand : Operand → List ℕ → Type 0
 IsOperand Id word = (id : ℕ) × IsId word id
 IsOperand Name word = IsName word
+IsOperand Names word = IsName word
 
--- each word is the operand of its place, and there are no more and no fewer
+-- the operand takes all the words that are left
+abbrev pub takes_all : Operand → Bool
+takes_all Id = false
+takes_all Name = false
+takes_all Names = true
+
+-- Each word is the operand of its place, and there are no more and no fewer. `Names` takes all the words that are left,
+-- at least one.
 abbrev pub AreOperands : List Operand → List (List ℕ) → Type 0
 AreOperands [] [] = ⊤
 AreOperands [] (word ∷ words) = ⊥
 AreOperands (operand ∷ operands) [] = ⊥
-AreOperands (operand ∷ operands) (word ∷ words) = IsOperand operand word × AreOperands operands words
+AreOperands (Id ∷ operands) (word ∷ words) = IsOperand Id word × AreOperands operands words
+AreOperands (Name ∷ operands) (word ∷ words) = IsOperand Name word × AreOperands operands words
+AreOperands (Names ∷ operands) (word ∷ words) = All IsName (word ∷ words)

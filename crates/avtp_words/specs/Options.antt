@@ -1,5 +1,5 @@
 -- The options of a command: what it knows, what was given, and when the two meet.
-use Rattle.std.specs.Prelude.{◌≡◌, ◌≢◌, ℕ, List, ◌∷◌, Bool, true, false, IsTrue, Option, Some, None, option_to_list, option_and_then, IsSomeAnd, All, AllPairs, codes}
+use Rattle.std.specs.Prelude.{◌≡◌, ◌≢◌, ℕ, List, ◌∷◌, Bool, true, false, IsTrue, Option, Some, None, option_to_list, option_and_then, IsSomeAnd, All, AllPairs, codes, ◌⊎◌}
 use Rattle.std.specs.List.{find}
 use Rattle.std.specs.Str.{bytes_eq}
 use Rattle.aaf_format.specs.declared.aaf.AafFormat.{AafFormat}
@@ -10,7 +10,7 @@ use Rattle.avtp_words.specs.Number.{IsNumber}
 use Rattle.avtp_words.specs.Operands.{IsId}
 use Rattle.avtp_words.specs.Word.{BeginsWithDash}
 
--- an option that a command knows: its name, and what the word behind the name may be
+-- an option that a command knows: its name, and what the word after the name may be
 pub record Row : Type 0 where
   pub name : List ℕ
   pub takes : Takes
@@ -38,7 +38,7 @@ format_name Float32 = codes "float32"
 abbrev pub IsValue : Takes → List ℕ → Type 0
 IsValue (Number low high) word = (n : ℕ) × IsNumber low high word n
 IsValue Id word = (id : ℕ) × IsId word id
-IsValue Kind word = word ≡ codes "aaf"
+IsValue Kind word = (word ≡ codes "aaf") ⊎ (word ≡ codes "am824")
 IsValue Format word = (format : AafFormat) × (word ≡ format_name format)
 IsValue Nothing word = ⊥
 

@@ -1,16 +1,23 @@
 -- What the steps of the reading answer, for any command's table of options.
-use Rattle.std.specs.Prelude.{◌≡◌, ℕ, ◌+◌, ◌^◌, ◌<◌, List, [], ◌∷◌, ◌++◌, map, flat_map, length, decimal, Bool, true, false, nat_le, nat_lt, ◌&&◌, Option, None, Some, option_to_list, if◌then◌else◌, IfSome, IfNone, slice_get, All}
+use Rattle.std.specs.Prelude.{◌≡◌, ◌≢◌, ℕ, ◌+◌, ◌*◌, ◌^◌, ◌<◌, List, [], ◌∷◌, ◌++◌, map, flat_map, length, decimal, Bool, true, false, nat_le, nat_lt, ◌&&◌, Option, None, Some, option_to_list, if◌then◌else◌, IfSome, IfNone, slice_get, get_or, take, All, IsSomeAnd, pos, codes, nat_eq}
 use Rattle.std.specs.List.{list_all}
 use Rattle.std.specs.Str.{bytes_eq}
 use Rattle.aaf_format.specs.declared.aaf.AafFormat.{AafFormat}
 use Rattle.avtp_words.specs.declared.option.Takes.{Takes}
 use Rattle.avtp_words.specs.declared.option.Takes.TheVariants.{Number, Id, Kind, Format, Nothing}
 use Rattle.avtp_words.specs.declared.option.OptionRow.{OptionRow}
+use Rattle.avtp_words.specs.declared.talk.Kind.{Kind as StreamKind}
+use Rattle.avtp_words.specs.declared.talk.Kind.TheVariants.{Aaf, Am824}
+use Rattle.iec61883_format.specs.Iec.{rate_of_fdf, syt_interval}
+use Rattle.std.specs.Option.{option_eq}
 use Rattle.avtp_words.specs.declared.operand.Operand.{Operand}
 use Rattle.avtp_words.specs.Operands.{AreOperands, IsId}
 use Rattle.avtp_words.specs.Word.{BeginsWithDash, IsName}
 use Rattle.avtp_words.specs.Options.{Row, Setting, words_of, AreSettings, IsTaken, IsValue, format_name, stands_alone}
-use Rattle.avtp_words.specs.Grammar.{Begins, Stops, StopsAt}
+use Rattle.avtp_words.specs.Limits as limits
+use Rattle.avtp_words.specs.Limits.{NumberOption}
+use Rattle.avtp_words.specs.Grammar.{Begins, Stops, StopsAt, Talking}
+use Rattle.aaf_format.specs.declared.aaf.AafFormat.TheVariants.{Int16}
 
 -- a row of the code, without where its name lies in memory
 abbrev pub row_of : OptionRow → Row
@@ -30,17 +37,17 @@ is_sound Nothing = true
 abbrev pub are_sound : List Row → Bool
 are_sound rows = list_all (λ row. is_sound row.takes) rows
 
--- the word behind the first one of this name
-abbrev pub word_behind : List ℕ → List (List ℕ) → Option (List ℕ)
-word_behind name [] = None
-word_behind name (word ∷ words) = if bytes_eq word name then slice_get words 0 else word_behind name words
+-- the word after the first one of this name
+abbrev pub value_after : List ℕ → List (List ℕ) → Option (List ℕ)
+value_after name [] = None
+value_after name (word ∷ words) = if bytes_eq word name then slice_get words 0 else value_after name words
 
--- What is read of a word: the number that it spells, below the bound; and without a word a fixed one.
+-- What is read of a word: the number that it spells, below the bound; and without a word the default.
 pub record IsRead (bound default : ℕ) (word : Option (List ℕ)) (n : ℕ) : Type 0 where
   pub absent : IfNone word (n ≡ default)
   pub read : IfSome word (λ word. (k : ℕ) → k < bound → word ≡ decimal k → n ≡ k)
 
--- the same without a fixed one
+-- the same without a default
 pub record IsReadIf (bound : ℕ) (word : Option (List ℕ)) (given : Option ℕ) : Type 0 where
   pub absent : IfNone word (given ≡ None)
   pub read : IfSome word (λ word. (k : ℕ) → k < bound → word ≡ decimal k → given ≡ Some k)
@@ -54,6 +61,32 @@ pub record IsReadId (default : ℕ) (word : Option (List ℕ)) (n : ℕ) : Type 
 pub record IsReadFormat (default : AafFormat) (word : Option (List ℕ)) (format : AafFormat) : Type 0 where
   pub absent : IfNone word (format ≡ default)
   pub read : IfSome word (λ word. (named : AafFormat) → word ≡ format_name named → format ≡ named)
+
+-- the number that is read of an option with a default, among the options
+abbrev pub IsReadOf : ℕ → NumberOption → List (List ℕ) → ℕ → Type 0
+IsReadOf bound option options n = IsSomeAnd option.default (λ default. IsRead bound default (value_after option.name options) n)
+
+-- What is read of the kind of a stream, which is sparse if it is AAF and the word for that stands among all words.
+pub record IsReadAaf (options : List (List ℕ)) (tells : Bool) (format : AafFormat) (sparse : Bool) : Type 0 where
+  pub other : IfSome (value_after (codes "--kind") options) (λ word. word ≢ codes "am824")
+  pub format_read : IsReadFormat Int16 (value_after (codes "--format") options) format
+  pub sparse_read : sparse ≡ tells
+
+abbrev pub IsReadKind : List (List ℕ) → Bool → StreamKind → Type 0
+IsReadKind options tells (Aaf format sparse) = IsReadAaf options tells format sparse
+IsReadKind options tells Am824 = value_after (codes "--kind") options ≡ Some (codes "am824")
+
+-- what is read of the options of `talk`
+pub record AreRead (options : List (List ℕ)) (tells : Bool) (asked : Talking) : Type 0 where
+  pub kind : IsReadKind options tells asked.kind
+  pub rate : IsReadOf (2 ^ 32) limits.rate options asked.rate
+  pub channels : IsReadOf (2 ^ 16) limits.channels options asked.channels
+  pub count : IsReadOf (2 ^ 32) limits.count options asked.count
+  pub id : IsReadId limits.talk_id (value_after (codes "--id") options) asked.id
+  pub start : (n : ℕ) × (asked.start ≡ pos n) × IsReadOf (2 ^ 63) limits.start options n
+  pub lead : IsReadOf (2 ^ 32) limits.talk_lead options asked.lead
+  pub restart : IsReadIf (2 ^ 32) (value_after limits.restart.name options) asked.restart
+  pub jump : IsReadOf (2 ^ 32) limits.jump options asked.jump
 
 -- the words from a place on begin with a value that such an option takes, of so many words
 pub record IsTakenAt (takes : Takes) (words : List (List ℕ)) (place len : ℕ) : Type 0 where
@@ -116,8 +149,23 @@ pub record StopsOptions (rows : List Row) (words : List (List ℕ)) (place : ℕ
   pub begins : Begins (AreOptions rows) before
   pub stops : Stops (IsTail rows) before rest
 
--- words behind a command stop being such at a position among all words, from 1
-pub record StopsBehind (L : List (List ℕ) → Type 0) (words : List (List ℕ)) (position : ℕ) : Type 0 where
+-- words after a command stop being such at a position among all words, from 1
+pub record StopsAfter (L : List (List ℕ) → Type 0) (words : List (List ℕ)) (position : ℕ) : Type 0 where
   pub place : ℕ
   pub here : position ≡ place + 2
   pub stops : StopsAt L words place
+
+-- the word at the place is no name, and all before it are
+pub record IsFirstUnnamed (words : List (List ℕ)) (place : ℕ) : Type 0 where
+  pub within : place < length words
+  pub named : All IsName (take place words)
+  pub here : IsName (get_or words place []) → ⊥
+
+-- a packet of so many blocks has at least an eighth of the interval
+abbrev pub is_long_enough : Option ℕ → ℕ → Bool
+is_long_enough None count = false
+is_long_enough (Some interval) count = nat_le interval (8 * count)
+
+-- the code of IEC 61883-6 names the sample rate, and a packet of so many blocks is long enough at it
+abbrev pub suits : ℕ → ℕ → ℕ → Bool
+suits rate count fdf = option_eq nat_eq (rate_of_fdf fdf) (Some rate) && is_long_enough (syt_interval fdf) count

@@ -4,62 +4,40 @@ ghost use Rattle.std.specs.Prelude.{◌≡◌, ℕ, ◌+◌, ◌-◌, ◌^◌, �
 ghost use Rattle.avtp_words.specs.Grammar.{Request, request_of, IsCommandLine, IsOffence};
 ghost use Rattle.avtp_words.specs.Word.{texts};
 
+use crate::limits::{
+    BUFFER, BUFFER_DEFAULT, LEAD_DEFAULT, LIMIT, LISTEN_LEAD, LISTEN_OPTIONS, MAX_LIMIT, ROOM,
+    ROOM_DEFAULT, SHOW_OPTIONS,
+};
 use crate::operand::{Operand, id_of, operands_at};
-use crate::option::{OptionRow, Takes, word_at};
+use crate::option::word_at;
 use crate::talk::{Talk, read_talk};
-use crate::value::{number_behind, small_number_behind};
-
-/// The most bytes that are read of a capture where no `--limit` is given, and the most that can be asked: 1 TiB.
-pub const MAX_LIMIT: u64 = 1 << 40;
-
-const LIMIT: &str = "--limit";
-
-const BUFFER: &str = "--buffer";
-
-const ROOM: &str = "--room";
-
-pub(crate) const LEAD: &str = "--lead";
+use crate::value::{number_after, small_number_after};
 
 /// A command, as the words ask for it.
 #[derive(Clone, Copy, Debug, PartialEq, Eq)]
 pub enum Command<'a> {
     /// Print what each packet of the capture `file` holds, and read at most `limit` bytes of it.
     Show { limit: u64, file: &'a str },
-    /// Print when each sample of a stream is due.
+    /// Print the presentation time of each sample of a stream.
     Listen(Listen<'a>),
     /// Make a capture of raw samples.
     Talk(Talk<'a>),
 }
 
-impl<'a> Command<'a> {
-    ghost use Rattle.std.specs.Prelude.{◌≡◌};
-    ghost use Rattle.avtp_words.specs.Grammar.{file_of, request_of};
-
-    /// The file that is read: a capture, or the samples for one.
-    pub fn file(&self) -> &'a str
-        ensures { result.now ≡ file_of (request_of self.now) }
-    {
-        match self {
-            Command::Show { limit: _, file } => file,
-            Command::Listen(asked) => asked.file,
-            Command::Talk(asked) => asked.input,
-        }
-    }
-}
-
 /// What to listen to, and within which bounds.
 #[derive(Clone, Copy, Debug, PartialEq, Eq)]
 pub struct Listen<'a> {
-    /// The id of the stream.
+    /// The stream ID.
     pub stream: u64,
-    /// The most packets that wait for their instant, 1 to 65,536.
+    /// The most packets that wait for their presentation time, 1 to 65,536.
     pub buffer: u32,
     /// The most bytes in them, 1 to 1,073,741,824.
     pub room: u32,
-    /// How long before its instant a packet is expected, in nanoseconds, 0 to 1,000,000,000: the maximum transit time.
+    /// The max transit time, in nanoseconds, 0 to 1,000,000,000: how long before its presentation time a packet is
+    /// expected.
     pub lead: u32,
-    /// The capture.
-    pub file: &'a str,
+    /// The names of the captures, in order, at least one.
+    pub files: &'a [String],
 }
 
 /// The words are no command line.
@@ -71,8 +49,8 @@ pub struct Offence {
 }
 
 impl Offence {
-    /// The offence of a word behind the command, by its place there, from 0.
-    pub(crate) fn behind_command(place: usize) -> Offence
+    /// The offence of a word after the command, by its place there, from 0.
+    pub(crate) fn after_command(place: usize) -> Offence
         requires { place < 2 ^ 64 - 2 }
         ensures { result.position ≡ place + 2 }
     {
@@ -82,50 +60,9 @@ impl Offence {
     }
 }
 
-/// The most packets that wait where no `--buffer` is given.
-const BATCHES: u32 = 4_096;
-
-/// The most bytes in them where no `--room` is given: 64 MiB.
-const BYTES: u32 = 1 << 26;
-
-/// The maximum transit time where no `--lead` is given, in nanoseconds.
-pub(crate) const TRANSIT: u32 = 2_000_000;
-
-const SHOW_OPTIONS: [OptionRow; 1] = [OptionRow {
-    name: LIMIT,
-    takes: Takes::Number {
-        low: 1,
-        high: MAX_LIMIT,
-    },
-}];
-
 const SHOW_OPERANDS: [Operand; 1] = [Operand::Name];
 
-const LISTEN_OPTIONS: [OptionRow; 3] = [
-    OptionRow {
-        name: BUFFER,
-        takes: Takes::Number {
-            low: 1,
-            high: 65_536,
-        },
-    },
-    OptionRow {
-        name: ROOM,
-        takes: Takes::Number {
-            low: 1,
-            high: 1 << 30,
-        },
-    },
-    OptionRow {
-        name: LEAD,
-        takes: Takes::Number {
-            low: 0,
-            high: 1_000_000_000,
-        },
-    },
-];
-
-const LISTEN_OPERANDS: [Operand; 2] = [Operand::Id, Operand::Name];
+const LISTEN_OPERANDS: [Operand; 2] = [Operand::Id, Operand::Names];
 
 /// The command that the words ask for.
 pub fn parse(words: &[String]) -> Result<Command<'_>, Offence>
@@ -152,7 +89,7 @@ pub fn parse(words: &[String]) -> Result<Command<'_>, Offence>
     }
 }
 
-/// The words behind `show`.
+/// The words after `show`.
 fn read_show(words: &[String]) -> Result<Command<'_>, Offence>
     ensures ok { IfOk result (λ command. IsCommandLine (codes "show" ∷ texts words.now) (request_of command)) }
     ensures err { IfErr result (λ offence. IsOffence (codes "show" ∷ texts words.now) offence.position) }
@@ -161,11 +98,11 @@ fn read_show(words: &[String]) -> Result<Command<'_>, Offence>
     let Some(file) = word_at(words, place) else {
         unreachable!()
     };
-    let limit = number_behind(&words[..place], LIMIT, MAX_LIMIT);
+    let limit = number_after(&words[..place], LIMIT.name, MAX_LIMIT);
     Ok(Command::Show { limit, file })
 }
 
-/// The words behind `listen`.
+/// The words after `listen`.
 fn read_listen(words: &[String]) -> Result<Command<'_>, Offence>
     ensures ok { IfOk result (λ command. IsCommandLine (codes "listen" ∷ texts words.now) (request_of command)) }
     ensures err { IfErr result (λ offence. IsOffence (codes "listen" ∷ texts words.now) offence.position) }
@@ -177,15 +114,12 @@ fn read_listen(words: &[String]) -> Result<Command<'_>, Offence>
     let Some(stream) = id_of(id) else {
         unreachable!()
     };
-    let Some(file) = word_at(words, place + 1) else {
-        unreachable!()
-    };
     let options = &words[..place];
     Ok(Command::Listen(Listen {
         stream,
-        buffer: small_number_behind(options, BUFFER, BATCHES),
-        room: small_number_behind(options, ROOM, BYTES),
-        lead: small_number_behind(options, LEAD, TRANSIT),
-        file,
+        buffer: small_number_after(options, BUFFER.name, BUFFER_DEFAULT),
+        room: small_number_after(options, ROOM.name, ROOM_DEFAULT),
+        lead: small_number_after(options, LISTEN_LEAD.name, LEAD_DEFAULT),
+        files: &words[place + 1..],
     }))
 }

@@ -3,14 +3,15 @@
 #![tactic(auto)]
 
 mod command;
+mod limits;
 mod number;
 mod operand;
 mod option;
 mod talk;
 mod value;
 
-pub use command::{Command, Listen, MAX_LIMIT, Offence, parse};
-pub use talk::Talk;
+pub use command::{Command, Listen, Offence, parse};
+pub use talk::{Kind, Talk};
 
 #[cfg(test)]
 mod tests;

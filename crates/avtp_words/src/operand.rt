@@ -1,9 +1,9 @@
-//! The operands of a command: the words behind its options.
+//! The operands of a command: the words after its options.
 
-ghost use Rattle.std.specs.Prelude.{◌≡◌, ◌+◌, ◌≤◌, ◌↔◌, ℕ, length, IsTrue, IfOk, IfErr, IfSome, IfNone};
+ghost use Rattle.std.specs.Prelude.{◌≡◌, ◌+◌, ◌≤◌, ◌↔◌, ℕ, length, IsTrue, IfOk, IfErr, IfSome, IfNone, All};
 ghost use Rattle.avtp_words.specs.Grammar.{StopsAt};
-ghost use Rattle.avtp_words.specs.Operands.{AreOperands, IsId, IsOperand};
-ghost use Rattle.avtp_words.specs.Reading.{IsRest, IsRestTo, StopsBehind, are_sound, rows_of};
+ghost use Rattle.avtp_words.specs.Operands.{AreOperands, IsId, IsOperand, takes_all as takes_all_of};
+ghost use Rattle.avtp_words.specs.Reading.{IsFirstUnnamed, IsRest, IsRestTo, StopsAfter, are_sound, rows_of};
 ghost use Rattle.avtp_words.specs.Word.{texts, IsName};
 
 use crate::command::Offence;
@@ -16,6 +16,8 @@ pub enum Operand {
     Id,
     /// The name of a file.
     Name,
+    /// The names of files, all the words that are left, at least one.
+    Names,
 }
 
 impl Operand {
@@ -24,8 +26,15 @@ impl Operand {
     {
         match self {
             Operand::Id => id_of(word).is_some(),
-            Operand::Name => is_name(word),
+            Operand::Name | Operand::Names => is_name(word),
         }
+    }
+
+    /// Whether it takes all the words that are left.
+    fn takes_all(self) -> bool
+        ensures { result ≡ takes_all_of self }
+    {
+        matches!(self, Operand::Names)
     }
 }
 
@@ -47,6 +56,19 @@ fn is_name(word: &str) -> bool
     !word.is_empty() && !begins_with_dash(word)
 }
 
+/// The place, from 0, of the first word that is no name.
+fn first_unnamed(words: &[String]) -> Option<usize>
+    ensures some { IfSome result (IsFirstUnnamed (texts words.now)) }
+    ensures none { IfNone result (All IsName (texts words.now)) }
+{
+    for (place, word) in words.iter().enumerate() {
+        if !is_name(word.as_str()) {
+            return Some(place);
+        }
+    }
+    None
+}
+
 /// The place, from 0, of the first word that is not the operand of its place, or is missing, or is one too many.
 fn first_wrong(operands: &[Operand], words: &[String]) -> Option<usize>
     ensures wrong { IfSome result (StopsAt (AreOperands operands.now) (texts words.now)) }
@@ -55,17 +77,23 @@ fn first_wrong(operands: &[Operand], words: &[String]) -> Option<usize>
 {
     match (operands.split_first(), words.split_first()) {
         (None, None) => None,
-        (Some((operand, operands)), Some((word, words))) if operand.accepts(word.as_str()) => {
-            match first_wrong(operands, words) {
-                Some(place) => Some(place + 1),
-                None => None,
+        (Some((operand, operands)), Some((word, rest))) => {
+            if operand.takes_all() {
+                first_unnamed(words)
+            } else if operand.accepts(word.as_str()) {
+                match first_wrong(operands, rest) {
+                    Some(place) => Some(place + 1),
+                    None => None,
+                }
+            } else {
+                Some(0)
             }
         }
         _ => Some(0),
     }
 }
 
-/// The place, from 0, of the first operand among the words behind a command; an offence counts the command in.
+/// The place, from 0, of the first operand among the words after a command; an offence counts the command in.
 pub fn operands_at(
     rows: &[OptionRow],
     operands: &[Operand],
@@ -73,15 +101,15 @@ pub fn operands_at(
 ) -> Result<usize, Offence>
     requires { IsTrue (are_sound (rows_of rows.now)) }
     ensures ok { IfOk result (IsRestTo (rows_of rows.now) operands.now (texts words.now)) }
-    ensures len { IfOk result (λ place. place + length operands.now ≡ length words.now) }
-    ensures err { IfErr result (λ offence. StopsBehind (IsRest (rows_of rows.now) operands.now) (texts words.now) offence.position) }
+    ensures within { IfOk result (λ place. place ≤ length words.now) }
+    ensures err { IfErr result (λ offence. StopsAfter (IsRest (rows_of rows.now) operands.now) (texts words.now) offence.position) }
 {
     let place = match options_len(rows, words) {
         Ok(place) => place,
-        Err(place) => return Err(Offence::behind_command(place)),
+        Err(place) => return Err(Offence::after_command(place)),
     };
     match first_wrong(operands, &words[place..]) {
-        Some(wrong) => Err(Offence::behind_command(place + wrong)),
+        Some(wrong) => Err(Offence::after_command(place + wrong)),
         None => Ok(place),
     }
 }

@@ -5,7 +5,7 @@ ghost use Rattle.std.specs.List.{find, list_any};
 ghost use Rattle.std.specs.Option.{option_copied};
 ghost use Rattle.std.specs.Str.{bytes_eq};
 ghost use Rattle.avtp_words.specs.Options.{IsValue, stands_alone as stands_alone_of};
-ghost use Rattle.avtp_words.specs.Reading.{EndsOptions, IsTakenAt, LacksValue, StopsOptions, are_sound, rows_of, word_behind};
+ghost use Rattle.avtp_words.specs.Reading.{EndsOptions, IsTakenAt, LacksValue, StopsOptions, are_sound, rows_of, value_after};
 ghost use Rattle.avtp_words.specs.Word.{texts, BeginsWithDash};
 
 use crate::number::is_number;
@@ -19,7 +19,7 @@ pub enum Takes {
     Number { low: u64, high: u64 },
     /// A stream id.
     Id,
-    /// The kind of a stream: `aaf`.
+    /// The kind of a stream: `aaf` or `am824`.
     Kind,
     /// The format of samples, as `int16`.
     Format,
@@ -34,7 +34,7 @@ impl Takes {
         match self {
             Takes::Number { low, high } => is_number(word, low, high),
             Takes::Id => id_of(word).is_some(),
-            Takes::Kind => word == "aaf",
+            Takes::Kind => word == "aaf" || word == "am824",
             Takes::Format => format_of(word).is_some(),
             Takes::Nothing => false,
         }
@@ -53,7 +53,7 @@ impl Takes {
 pub struct OptionRow {
     /// The option's own word.
     pub name: &'static str,
-    /// What the word behind it may be.
+    /// What the word after it may be.
     pub takes: Takes,
 }
 
@@ -102,7 +102,7 @@ fn value_len(words: &[String], place: usize, takes: Takes) -> Option<usize>
     }
 }
 
-/// How many of the words behind a command are its options; names are to follow.
+/// How many of the words after a command are its options; names are to follow.
 pub fn options_len(rows: &[OptionRow], words: &[String]) -> Result<usize, usize>
     requires { IsTrue (are_sound (rows_of rows.now)) }
     ensures ok { IfOk result (EndsOptions (rows_of rows.now) (texts words.now)) }
@@ -128,16 +128,16 @@ pub fn options_len(rows: &[OptionRow], words: &[String]) -> Result<usize, usize>
     Ok(place)
 }
 
-/// The word behind the first one of this name.
+/// The word after the first one of this name.
 pub fn word_after<'a>(words: &'a [String], name: &str) -> Option<&'a str>
-    ensures { option_copied result ≡ word_behind name.now (texts words.now) }
+    ensures { option_copied result ≡ value_after name.now (texts words.now) }
 {
     let mut left = words;
-    while let Some((word, behind)) = left.split_first() {
+    while let Some((word, rest)) = left.split_first() {
         if word.as_str() == name {
-            return word_at(behind, 0);
+            return word_at(rest, 0);
         }
-        left = behind;
+        left = rest;
     }
     None
 }

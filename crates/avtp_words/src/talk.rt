@@ -1,41 +1,57 @@
 //! The command `talk`: what to make a capture of.
 
-ghost use Rattle.std.specs.Prelude.{◌≡◌, ℕ, ◌*◌, ◌^◌, ◌↔◌, ◌∷◌, pos, codes, Contains, IsTrue, IfOk, IfErr, Some, nat_eq};
+ghost use Rattle.std.specs.Prelude.{◌≡◌, ℕ, ◌*◌, ◌≤◌, ◌^◌, ◌↔◌, ◌∷◌, pos, codes, Contains, IsTrue, IfOk, IfErr, IsSomeAnd, Some, nat_eq};
 ghost use Rattle.std.specs.List.{list_any};
 ghost use Rattle.std.specs.Option.{option_eq};
-ghost use Rattle.aaf_format.specs.Aaf.{rate_of as rate_of_code, frame_size};
-ghost use Rattle.avtp_words.specs.Grammar.{IsCommandLine, IsOffence, KeepsRules, SaysTalk, request_of, talking_of};
-ghost use Rattle.avtp_words.specs.Reading.{IsRead, IsReadFormat, IsReadId, IsReadIf, word_behind};
+ghost use Rattle.aaf_format.specs.Aaf.{rate_of as rate_of_code};
+ghost use Rattle.iec61883_format.specs.Iec.{rate_of_fdf as rate_of_fdf_code, syt_interval as interval_of_code};
+ghost use Rattle.avtp_words.specs.Grammar.{FitsBlocks, FitsKind, FitsSamples, IsCommandLine, IsOffence, KeepsRules, LacksAaf, SaysTalk, request_of, talking_of};
+ghost use Rattle.avtp_words.specs.Reading.{AreRead, IsReadKind, IsReadOf, is_long_enough as is_enough, suits as suits_of};
+ghost use Rattle.avtp_words.specs.Limits.{start as start_limits};
 ghost use Rattle.avtp_words.specs.Word.{texts};
 
-use crate::command::{Command, LEAD, Offence, TRANSIT};
+use crate::command::{Command, Offence};
+use crate::limits::{
+    CHANNELS, CHANNELS_DEFAULT, COUNT, COUNT_DEFAULT, FORMAT, FORMAT_DEFAULT, ID, ID_DEFAULT, JUMP,
+    JUMP_DEFAULT, KIND, LEAD_DEFAULT, MAX_BLOCKS, MAX_QUADLETS, MAX_SAMPLES, RATE, RATE_DEFAULT,
+    RESTART, SPARSE, START, START_DEFAULT, TALK_LEAD, TALK_OPTIONS,
+};
 use crate::operand::{Operand, operands_at};
-use crate::option::{OptionRow, Takes, contains, word_at};
+use crate::option::{contains, word_after, word_at};
 use crate::value::{
-    format_behind, id_behind, number_behind, short_number_behind, small_number_behind,
-    small_number_if,
+    format_after, id_after, number_after, short_number_after, small_number_after, small_number_if,
 };
 use aaf_format::{AafFormat, rate_of, width_of};
+use iec61883_format::{rate_of_fdf, syt_interval};
+
+/// What a stream is made of.
+#[derive(Clone, Copy, Debug, PartialEq, Eq)]
+pub enum Kind {
+    /// PCM in the AVTP audio format (IEEE 1722-2016, 7). The format says how a sample is spelled, in the input and in
+    /// the packets; in a sparse stream one packet in eight is stamped, and not each.
+    Aaf { format: AafFormat, sparse: bool },
+    /// AM824 (IEC 61883-6): the input is quadlets as they are sent.
+    Am824,
+}
 
 /// What to make a capture of, and how its packets are sent.
 #[derive(Clone, Copy, Debug, PartialEq, Eq)]
 pub struct Talk<'a> {
-    /// How a sample is spelled, in the input and in the packets.
-    pub format: AafFormat,
-    /// One packet in eight is stamped, and not each.
-    pub sparse: bool,
-    /// The sample rate in Hz, one of the nominal rates of AAF.
+    /// What the stream is made of.
+    pub kind: Kind,
+    /// The sample rate in Hz, one of those that the kind names.
     pub rate: u32,
-    /// The channels of each sample frame, 1 to 1023.
+    /// The channels of each sample frame, 1 to 1023, of AM824 at most 256.
     pub channels: u16,
-    /// The sample frames of a packet, at least 1, and of at most 1,476 bytes together.
+    /// The sample frames of a packet, or data blocks of AM824: at least 1, of AM824 at least an eighth of SYT_INTERVAL,
+    /// and of at most 1,476 bytes together, of AM824 of at most 1,468.
     pub count: u32,
-    /// The id of the stream.
+    /// The stream ID.
     pub id: u64,
     /// When the first packet is sent, in nanoseconds of gPTP, 0 to 4,000,000,000,000,000,000.
     pub start: i64,
-    /// How long before its first presentation time a packet is sent, in nanoseconds, 1 to 1,000,000,000: the maximum
-    /// transit time.
+    /// The max transit time, in nanoseconds, 1 to 1,000,000,000: how long before its first presentation time a packet
+    /// is sent.
     pub lead: u32,
     /// The packets after which the media clock restarts, again and again, 8 to 1,000,000,000.
     pub restart: Option<u32>,
@@ -47,100 +63,12 @@ pub struct Talk<'a> {
     pub output: &'a str,
 }
 
-const KIND: &str = "--kind";
-
-const FORMAT: &str = "--format";
-
-const RATE: &str = "--rate";
-
-const CHANNELS: &str = "--channels";
-
-const COUNT: &str = "--count";
-
-const ID: &str = "--id";
-
-const START: &str = "--start";
-
-const SPARSE: &str = "--sparse";
-
-const RESTART: &str = "--restart";
-
-const JUMP: &str = "--jump";
-
-const TALK_OPTIONS: [OptionRow; 11] = [
-    OptionRow {
-        name: KIND,
-        takes: Takes::Kind,
-    },
-    OptionRow {
-        name: FORMAT,
-        takes: Takes::Format,
-    },
-    OptionRow {
-        name: RATE,
-        takes: Takes::Number {
-            low: 1,
-            high: 192_000,
-        },
-    },
-    OptionRow {
-        name: CHANNELS,
-        takes: Takes::Number { low: 1, high: 1023 },
-    },
-    OptionRow {
-        name: COUNT,
-        takes: Takes::Number { low: 1, high: 1476 },
-    },
-    OptionRow {
-        name: ID,
-        takes: Takes::Id,
-    },
-    OptionRow {
-        name: START,
-        takes: Takes::Number {
-            low: 0,
-            high: 4_000_000_000_000_000_000,
-        },
-    },
-    OptionRow {
-        name: LEAD,
-        takes: Takes::Number {
-            low: 1,
-            high: 1_000_000_000,
-        },
-    },
-    OptionRow {
-        name: SPARSE,
-        takes: Takes::Nothing,
-    },
-    OptionRow {
-        name: RESTART,
-        takes: Takes::Number {
-            low: 8,
-            high: 1_000_000_000,
-        },
-    },
-    OptionRow {
-        name: JUMP,
-        takes: Takes::Number {
-            low: 4,
-            high: 1_000_000_000,
-        },
-    },
-];
-
 const TALK_OPERANDS: [Operand; 2] = [Operand::Name, Operand::Name];
-
-/// When the first packet is sent where no `--start` is given, in nanoseconds of gPTP.
-const FIRST_SECOND: u64 = 1_000_000_000;
-
-/// The most bytes of samples in a packet: the 1,500 that an Ethernet frame carries, less the 24 of the header.
-const MAX_PAYLOAD: u64 = 1_476;
 
 /// The codes that name a nominal sample rate.
 const RATE_CODES: [u8; 10] = [1, 2, 3, 4, 5, 6, 7, 8, 9, 10];
 
-/// The words behind `talk`. Where all can stand and a rule over several of them fails, the offence is that of the
+/// The words after `talk`. Where all can stand and a rule over several of them fails, the offence is that of the
 /// command.
 pub fn read_talk(words: &[String]) -> Result<Command<'_>, Offence>
     ensures ok { IfOk result (λ command. IsCommandLine (codes "talk" ∷ texts words.now) (request_of command)) }
@@ -154,7 +82,7 @@ pub fn read_talk(words: &[String]) -> Result<Command<'_>, Offence>
     }
 }
 
-/// What the words behind `talk` say one by one.
+/// What the words after `talk` say one by one.
 fn read_words(words: &[String]) -> Result<Talk<'_>, Offence>
     ensures ok { IfOk result (λ asked. SaysTalk (codes "talk" ∷ texts words.now) (talking_of asked)) }
     ensures err { IfErr result (λ offence. IsOffence (codes "talk" ∷ texts words.now) offence.position) }
@@ -166,7 +94,7 @@ fn read_words(words: &[String]) -> Result<Talk<'_>, Offence>
     let Some(output) = word_at(words, place + 1) else {
         unreachable!()
     };
-    let sparse = contains(words, SPARSE);
+    let sparse = contains(words, SPARSE.name);
     Ok(read_options(&words[..place], sparse, input, output))
 }
 
@@ -174,65 +102,91 @@ fn read_words(words: &[String]) -> Result<Talk<'_>, Offence>
 fn read_options<'a>(options: &[String], sparse: bool, input: &'a str, output: &'a str) -> Talk<'a>
     ensures input { result.input.now ≡ input.now }
     ensures output { result.output.now ≡ output.now }
-    ensures sparse { result.sparse ≡ sparse }
-    ensures format { IsReadFormat AafFormat.Int16 (word_behind (codes "--format") (texts options.now)) result.format }
-    ensures rate { IsRead (2 ^ 32) 48000 (word_behind (codes "--rate") (texts options.now)) result.rate }
-    ensures channels { IsRead (2 ^ 16) 2 (word_behind (codes "--channels") (texts options.now)) result.channels }
-    ensures count { IsRead (2 ^ 32) 6 (word_behind (codes "--count") (texts options.now)) result.count }
-    ensures id { IsReadId 0x0200000000010001 (word_behind (codes "--id") (texts options.now)) result.id }
-    ensures start { (n : ℕ) × (result.start ≡ pos n) × IsRead (2 ^ 63) (10 ^ 9) (word_behind (codes "--start") (texts options.now)) n }
-    ensures lead { IsRead (2 ^ 32) 2000000 (word_behind (codes "--lead") (texts options.now)) result.lead }
-    ensures restart { IsReadIf (2 ^ 32) (word_behind (codes "--restart") (texts options.now)) result.restart }
-    ensures jump { IsRead (2 ^ 32) 1000000 (word_behind (codes "--jump") (texts options.now)) result.jump }
+    ensures read { AreRead (texts options.now) sparse (talking_of result) }
 {
     Talk {
-        format: format_behind(options, FORMAT, AafFormat::Int16),
-        sparse,
-        rate: small_number_behind(options, RATE, 48_000),
-        channels: short_number_behind(options, CHANNELS, 2),
-        count: small_number_behind(options, COUNT, 6),
-        id: id_behind(options, ID, 0x0200_0000_0001_0001),
-        start: start_behind(options),
-        lead: small_number_behind(options, LEAD, TRANSIT),
-        restart: small_number_if(options, RESTART),
-        jump: small_number_behind(options, JUMP, 1_000_000),
+        kind: kind_after(options, sparse),
+        rate: small_number_after(options, RATE.name, RATE_DEFAULT),
+        channels: short_number_after(options, CHANNELS.name, CHANNELS_DEFAULT),
+        count: small_number_after(options, COUNT.name, COUNT_DEFAULT),
+        id: id_after(options, ID.name, ID_DEFAULT),
+        start: start_after(options),
+        lead: small_number_after(options, TALK_LEAD.name, LEAD_DEFAULT),
+        restart: small_number_if(options, RESTART.name),
+        jump: small_number_after(options, JUMP.name, JUMP_DEFAULT),
         input,
         output,
     }
 }
 
-/// When the first packet is sent, in nanoseconds of gPTP.
-fn start_behind(options: &[String]) -> i64
-    ensures { (n : ℕ) × (result ≡ pos n) × IsRead (2 ^ 63) (10 ^ 9) (word_behind (codes "--start") (texts options.now)) n }
+/// The kind of the stream, which is sparse if it is AAF and that is asked.
+fn kind_after(options: &[String], sparse: bool) -> Kind
+    ensures { IsReadKind (texts options.now) sparse result }
 {
-    let start = number_behind(options, START, FIRST_SECOND);
-    i64::try_from(start).unwrap_or(FIRST_SECOND as i64)
+    match word_after(options, KIND.name) {
+        Some("am824") => Kind::Am824,
+        _ => Kind::Aaf {
+            format: format_after(options, FORMAT.name, FORMAT_DEFAULT),
+            sparse,
+        },
+    }
+}
+
+/// When the first packet is sent, in nanoseconds of gPTP.
+fn start_after(options: &[String]) -> i64
+    ensures { (n : ℕ) × (result ≡ pos n) × IsReadOf (2 ^ 63) start_limits (texts options.now) n }
+{
+    let start = number_after(options, START.name, START_DEFAULT);
+    i64::try_from(start).unwrap_or(START_DEFAULT as i64)
 }
 
 impl<'a> Talk<'a> {
-    /// Whether the words behind `talk`, which ask for this, keep the rules over several of them.
+    /// Whether the words after `talk`, which ask for this, keep the rules over several of them.
     fn keeps_rules(&self, words: &[String]) -> bool
         ensures { IsTrue result ↔ KeepsRules (codes "talk" ∷ texts words.now) (talking_of self.now) }
     {
-        self.input != self.output
-            && is_nominal(self.rate)
-            && self.packet_size() <= MAX_PAYLOAD
-            && has_its_restart(words)
+        self.input != self.output && self.fits_kind(words) && has_its_restart(words)
     }
 
-    /// The bytes of the samples of a packet.
-    fn packet_size(&self) -> u64
-        ensures { result ≡ self.now.count * frame_size self.now.channels self.now.format }
+    /// Whether the stream can be of its kind.
+    fn fits_kind(&self, words: &[String]) -> bool
+        ensures { IsTrue result ↔ FitsKind self.now.kind (codes "talk" ∷ texts words.now) (talking_of self.now) }
     {
-        u64::from(self.count) * (u64::from(self.channels) * u64::from(width_of(self.format)))
+        match self.kind {
+            Kind::Aaf { format, sparse: _ } => self.fits_samples(format),
+            Kind::Am824 => self.fits_blocks() && lacks_aaf(words),
+        }
+    }
+
+    fn fits_samples(&self, format: AafFormat) -> bool
+        ensures { IsTrue result ↔ FitsSamples format (talking_of self.now) }
+    {
+        let frame = u64::from(self.channels) * u64::from(width_of(format));
+        is_nominal(self.rate) && u64::from(self.count) * frame <= MAX_SAMPLES
+    }
+
+    fn fits_blocks(&self) -> bool
+        ensures { IsTrue result ↔ FitsBlocks (talking_of self.now) }
+    {
+        let block = 4 * u64::from(self.channels);
+        suits_blocks(self.rate, self.count)
+            && self.channels <= MAX_QUADLETS
+            && u64::from(self.count) * block <= MAX_BLOCKS
     }
 }
 
-/// Whether the words behind `talk` have a restart for their jump, if they have one.
+/// Whether the words after `talk` have none of the options that are AAF's alone.
+fn lacks_aaf(words: &[String]) -> bool
+    ensures { IsTrue result ↔ LacksAaf (codes "talk" ∷ texts words.now) }
+{
+    !contains(words, FORMAT.name) && !contains(words, SPARSE.name)
+}
+
+/// Whether the words after `talk` have a restart for their jump, if they have one.
 fn has_its_restart(words: &[String]) -> bool
     ensures { IsTrue result ↔ (Contains (codes "talk" ∷ texts words.now) (codes "--jump") → Contains (codes "talk" ∷ texts words.now) (codes "--restart")) }
 {
-    !contains(words, JUMP) || contains(words, RESTART)
+    !contains(words, JUMP.name) || contains(words, RESTART.name)
 }
 
 /// Whether a sample rate is one of the nominal rates of AAF.
@@ -247,4 +201,37 @@ fn has_rate(codes: &[u8], rate: u32) -> bool
     ensures { result ≡ list_any (λ code. option_eq nat_eq (rate_of_code code) (Some rate)) codes.now }
 {
     codes.iter().any(|code| rate_of(*code) == Some(rate))
+}
+
+/// The codes FDF that name a sample rate (IEC 61883-6).
+const FDF_CODES: [u8; 7] = [0, 1, 2, 3, 4, 5, 6];
+
+/// Whether a sample rate is one of IEC 61883-6, and a packet of so many data blocks has at least an eighth of its
+/// SYT_INTERVAL: then a block is stamped in eight packets.
+fn suits_blocks(rate: u32, count: u32) -> bool
+    ensures { IsTrue result ↔ ((fdf : ℕ) × (rate_of_fdf_code fdf ≡ Some rate) × IsSomeAnd (interval_of_code fdf) (λ interval. interval ≤ 8 * count)) }
+{
+    has_suiting(&FDF_CODES, rate, count)
+}
+
+/// Whether one of these codes suits them.
+fn has_suiting(codes: &[u8], rate: u32, count: u32) -> bool
+    ensures { result ≡ list_any (λ fdf. suits_of rate count fdf) codes.now }
+{
+    codes.iter().any(|fdf| suits(*fdf, rate, count))
+}
+
+fn suits(fdf: u8, rate: u32, count: u32) -> bool
+    ensures { result ≡ suits_of rate count fdf }
+{
+    rate_of_fdf(fdf) == Some(rate) && is_long_enough(fdf, count)
+}
+
+fn is_long_enough(fdf: u8, count: u32) -> bool
+    ensures { result ≡ is_enough (interval_of_code fdf) count }
+{
+    match syt_interval(fdf) {
+        Some(interval) => u64::from(interval) <= 8 * u64::from(count),
+        None => false,
+    }
 }

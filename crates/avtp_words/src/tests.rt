@@ -1,6 +1,6 @@
 //! Words that are command lines, and words that are none.
 
-use crate::{Command, Listen, Offence, Talk, parse};
+use crate::{Command, Kind, Listen, Offence, Talk, parse};
 use aaf_format::AafFormat;
 use std::alloc::{AllocError, Global};
 
@@ -20,20 +20,30 @@ fn shows(limit: u64, file: &str) -> Result<Command<'_>, Offence> {
     Ok(Command::Show { limit, file })
 }
 
-fn listens<'a>(stream: u64, buffer: u32, room: u32, lead: u32) -> Result<Command<'a>, Offence> {
-    Ok(Command::Listen(Listen {
-        stream,
-        buffer,
-        room,
-        lead,
-        file: "c.pcap",
-    }))
+/// What is asked for where no option is given.
+fn listens(files: &[String]) -> Listen<'_> {
+    Listen {
+        stream: STREAM,
+        buffer: 4_096,
+        room: 67_108_864,
+        lead: 2_000_000,
+        files,
+    }
 }
 
-/// What is asked for where no option is given.
-const PLAIN: Talk<'static> = Talk {
+const DENSE: Kind = Kind::Aaf {
     format: AafFormat::Int16,
     sparse: false,
+};
+
+const SPARSE: Kind = Kind::Aaf {
+    format: AafFormat::Int16,
+    sparse: true,
+};
+
+/// The same for `talk`.
+const PLAIN: Talk<'static> = Talk {
+    kind: DENSE,
     rate: 48_000,
     channels: 2,
     count: 6,
@@ -89,7 +99,7 @@ fn show_lines(rt: HostRuntime) -> Result<(), AllocError> {
     Ok(())
 }
 
-/// Words behind `show` of which one cannot stand or is missing.
+/// Words after `show` of which one cannot stand or is missing.
 #[test]
 fn show_offences(rt: HostRuntime) -> Result<(), AllocError> {
     let cases: [(&[&str], usize); 18] = [
@@ -121,39 +131,74 @@ fn show_offences(rt: HostRuntime) -> Result<(), AllocError> {
 
 #[test]
 fn listen_lines(rt: HostRuntime) -> Result<(), AllocError> {
-    let cases: [(&[&str], Result<Command<'_>, Offence>); 7] = [
-        (
-            &["listen", ID, "c.pcap"],
-            listens(STREAM, 4_096, 67_108_864, 2_000_000),
-        ),
+    let files = words_of(rt.alloc(), &["c.pcap"])?;
+    let plain = listens(&files);
+    let cases: [(&[&str], Listen<'_>); 7] = [
+        (&["listen", ID, "c.pcap"], plain),
         (
             &["listen", "--buffer", "65536", ID, "c.pcap"],
-            listens(STREAM, 65_536, 67_108_864, 2_000_000),
+            Listen {
+                buffer: 65_536,
+                ..plain
+            },
         ),
         (
             &["listen", "--room", "1", "--buffer", "2", ID, "c.pcap"],
-            listens(STREAM, 2, 1, 2_000_000),
+            Listen {
+                buffer: 2,
+                room: 1,
+                ..plain
+            },
         ),
         (
             &["listen", "--room", "1073741824", ID, "c.pcap"],
-            listens(STREAM, 4_096, 1_073_741_824, 2_000_000),
+            Listen {
+                room: 1_073_741_824,
+                ..plain
+            },
         ),
         (
             &["listen", "--lead", "0", ID, "c.pcap"],
-            listens(STREAM, 4_096, 67_108_864, 0),
+            Listen { lead: 0, ..plain },
         ),
         (
             &["listen", "--lead", "1000000000", ID, "c.pcap"],
-            listens(STREAM, 4_096, 67_108_864, 1_000_000_000),
+            Listen {
+                lead: 1_000_000_000,
+                ..plain
+            },
         ),
         (
             &["listen", "ffffffffffffffff", "c.pcap"],
-            listens(u64::MAX, 4_096, 67_108_864, 2_000_000),
+            Listen {
+                stream: u64::MAX,
+                ..plain
+            },
         ),
     ];
-    for (line, answer) in cases {
+    for (line, asked) in cases {
         let words = words_of(rt.alloc(), line)?;
-        assert_eq!(rt; parse(&words), answer);
+        assert_eq!(rt; parse(&words), Ok(Command::Listen(asked)));
+    }
+    Ok(())
+}
+
+/// All the words after the stream are files, in their order.
+#[test]
+fn listen_files(rt: HostRuntime) -> Result<(), AllocError> {
+    let cases: [(&[&str], &[&str]); 4] = [
+        (&["listen", ID, "a", "b"], &["a", "b"]),
+        (&["listen", ID, "b", "a", "b"], &["b", "a", "b"]),
+        (&["listen", ID, ID, "listen", "5"], &[ID, "listen", "5"]),
+        (
+            &["listen", "--lead", "2000000", ID, "a", "b-", " "],
+            &["a", "b-", " "],
+        ),
+    ];
+    for (line, files) in cases {
+        let words = words_of(rt.alloc(), line)?;
+        let files = words_of(rt.alloc(), files)?;
+        assert_eq!(rt; parse(&words), Ok(Command::Listen(listens(&files))));
     }
     Ok(())
 }
@@ -161,7 +206,7 @@ fn listen_lines(rt: HostRuntime) -> Result<(), AllocError> {
 /// The same for `listen`.
 #[test]
 fn listen_offences(rt: HostRuntime) -> Result<(), AllocError> {
-    let cases: [(&[&str], usize); 18] = [
+    let cases: [(&[&str], usize); 22] = [
         (&["listen"], 2),
         (&["listen", "02", "c.pcap"], 2),
         (&["listen", "c.pcap", ID], 2),
@@ -178,7 +223,11 @@ fn listen_offences(rt: HostRuntime) -> Result<(), AllocError> {
         (&["listen", "--room", "1073741825", ID, "c.pcap"], 3),
         (&["listen", "--lead", "1000000001", ID, "c.pcap"], 3),
         (&["listen", "--lead", ID, "c.pcap"], 3),
-        (&["listen", ID, "c.pcap", "d.pcap"], 4),
+        (&["listen", ID, ""], 3),
+        (&["listen", ID, "a", ""], 4),
+        (&["listen", ID, "a", "-b"], 4),
+        (&["listen", ID, "a", "--lead", "5"], 4),
+        (&["listen", ID, "a", "b", "-"], 5),
         (&["listen", "--room", "1", "--room", "1", ID, "c.pcap"], 4),
     ];
     for (line, position) in cases {
@@ -196,14 +245,20 @@ fn talk_lines(rt: HostRuntime) -> Result<(), AllocError> {
         (
             &["talk", "--format", "float32", "a", "b"],
             Talk {
-                format: AafFormat::Float32,
+                kind: Kind::Aaf {
+                    format: AafFormat::Float32,
+                    sparse: false,
+                },
                 ..PLAIN
             },
         ),
         (
             &["talk", "--rate", "44100", "--format", "int24", "a", "b"],
             Talk {
-                format: AafFormat::Int24,
+                kind: Kind::Aaf {
+                    format: AafFormat::Int24,
+                    sparse: false,
+                },
                 rate: 44_100,
                 ..PLAIN
             },
@@ -260,7 +315,7 @@ fn talk_pairs(rt: HostRuntime) -> Result<(), AllocError> {
         (
             &["talk", "--sparse", "a", "b"],
             Talk {
-                sparse: true,
+                kind: SPARSE,
                 ..PLAIN
             },
         ),
@@ -284,7 +339,7 @@ fn talk_pairs(rt: HostRuntime) -> Result<(), AllocError> {
                 "talk", "--rate", "8000", "--sparse", "--lead", "1", "a", "b",
             ],
             Talk {
-                sparse: true,
+                kind: SPARSE,
                 rate: 8_000,
                 lead: 1,
                 ..PLAIN
@@ -298,6 +353,129 @@ fn talk_pairs(rt: HostRuntime) -> Result<(), AllocError> {
     Ok(())
 }
 
+/// AM824 with the fewest and the most data blocks in a packet.
+#[test]
+fn talk_blocks(rt: HostRuntime) -> Result<(), AllocError> {
+    let cases: [(&[&str], Talk<'_>); 6] = [
+        (&["talk", "--kind", "am824", "a", "b"], PLAIN),
+        (
+            &[
+                "talk",
+                "--kind",
+                "am824",
+                "--count",
+                "1",
+                "--channels",
+                "256",
+                "a",
+                "b",
+            ],
+            Talk {
+                count: 1,
+                channels: 256,
+                ..PLAIN
+            },
+        ),
+        (
+            &[
+                "talk",
+                "--kind",
+                "am824",
+                "--count",
+                "367",
+                "--channels",
+                "1",
+                "a",
+                "b",
+            ],
+            Talk {
+                count: 367,
+                channels: 1,
+                ..PLAIN
+            },
+        ),
+        (
+            &["talk", "--kind", "am824", "--channels", "61", "a", "b"],
+            Talk {
+                channels: 61,
+                ..PLAIN
+            },
+        ),
+        (
+            &[
+                "talk", "--rate", "88200", "--count", "2", "--kind", "am824", "a", "b",
+            ],
+            Talk {
+                rate: 88_200,
+                count: 2,
+                ..PLAIN
+            },
+        ),
+        (
+            &[
+                "talk", "--rate", "192000", "--kind", "am824", "--count", "4", "a", "b",
+            ],
+            Talk {
+                rate: 192_000,
+                count: 4,
+                ..PLAIN
+            },
+        ),
+    ];
+    for (line, asked) in cases {
+        let words = words_of(rt.alloc(), line)?;
+        let kind = Kind::Am824;
+        assert_eq!(rt; parse(&words), Ok(Command::Talk(Talk { kind, ..asked })));
+    }
+    Ok(())
+}
+
+/// What AM824 cannot be.
+#[test]
+fn talk_block_rules(rt: HostRuntime) -> Result<(), AllocError> {
+    let cases: [&[&str]; 10] = [
+        &["talk", "--kind", "am824", "--format", "int16", "a", "b"],
+        &["talk", "--kind", "am824", "--sparse", "a", "b"],
+        &["talk", "--kind", "am824", "--rate", "8000", "a", "b"],
+        &["talk", "--kind", "am824", "--rate", "24000", "a", "b"],
+        &["talk", "--kind", "am824", "--rate", "48001", "a", "b"],
+        &[
+            "talk", "--kind", "am824", "--rate", "88200", "--count", "1", "a", "b",
+        ],
+        &[
+            "talk", "--kind", "am824", "--rate", "192000", "--count", "3", "a", "b",
+        ],
+        &[
+            "talk",
+            "--kind",
+            "am824",
+            "--channels",
+            "257",
+            "--count",
+            "1",
+            "a",
+            "b",
+        ],
+        &[
+            "talk",
+            "--kind",
+            "am824",
+            "--channels",
+            "1",
+            "--count",
+            "368",
+            "a",
+            "b",
+        ],
+        &["talk", "--kind", "am824", "--channels", "62", "a", "b"],
+    ];
+    for line in cases {
+        let words = words_of(rt.alloc(), line)?;
+        assert_eq!(rt; parse(&words), stops(1));
+    }
+    Ok(())
+}
+
 /// The same for `talk`.
 #[test]
 fn talk_offences(rt: HostRuntime) -> Result<(), AllocError> {
@@ -305,7 +483,7 @@ fn talk_offences(rt: HostRuntime) -> Result<(), AllocError> {
         (&["talk"], 2),
         (&["talk", "--limit", "1", "a", "b"], 2),
         (&["talk", "a"], 3),
-        (&["talk", "--kind", "am824", "a", "b"], 3),
+        (&["talk", "--kind", "AM824", "a", "b"], 3),
         (&["talk", "--kind", "h265", "a", "b"], 3),
         (&["talk", "--format", "int8", "a", "b"], 3),
         (&["talk", "--format", "", "a", "b"], 3),

@@ -2,7 +2,7 @@
 
 ghost use Rattle.std.specs.Prelude.{◌≡◌, ◌^◌, IfSome, IfNone};
 ghost use Rattle.avtp_words.specs.Options.{format_name};
-ghost use Rattle.avtp_words.specs.Reading.{IsRead, IsReadFormat, IsReadId, IsReadIf, word_behind};
+ghost use Rattle.avtp_words.specs.Reading.{IsRead, IsReadFormat, IsReadId, IsReadIf, value_after};
 ghost use Rattle.avtp_words.specs.Word.{texts};
 
 use crate::number::number_of;
@@ -10,9 +10,9 @@ use crate::operand::id_of;
 use crate::option::word_after;
 use aaf_format::AafFormat;
 
-/// The number behind the option of this name, or else `default`.
-pub fn number_behind(options: &[String], name: &str, default: u64) -> u64
-    ensures { IsRead (2 ^ 64) default (word_behind name.now (texts options.now)) result }
+/// The number after the option of this name, or else `default`.
+pub fn number_after(options: &[String], name: &str, default: u64) -> u64
+    ensures { IsRead (2 ^ 64) default (value_after name.now (texts options.now)) result }
 {
     match word_after(options, name) {
         Some(word) => number_of(word).unwrap_or(default),
@@ -21,30 +21,30 @@ pub fn number_behind(options: &[String], name: &str, default: u64) -> u64
 }
 
 /// The same for a number of at most 32 bits.
-pub fn small_number_behind(options: &[String], name: &str, default: u32) -> u32
-    ensures { IsRead (2 ^ 32) default (word_behind name.now (texts options.now)) result }
+pub fn small_number_after(options: &[String], name: &str, default: u32) -> u32
+    ensures { IsRead (2 ^ 32) default (value_after name.now (texts options.now)) result }
 {
-    u32::try_from(number_behind(options, name, u64::from(default))).unwrap_or(default)
+    u32::try_from(number_after(options, name, u64::from(default))).unwrap_or(default)
 }
 
 /// The same for a number of at most 16 bits.
-pub fn short_number_behind(options: &[String], name: &str, default: u16) -> u16
-    ensures { IsRead (2 ^ 16) default (word_behind name.now (texts options.now)) result }
+pub fn short_number_after(options: &[String], name: &str, default: u16) -> u16
+    ensures { IsRead (2 ^ 16) default (value_after name.now (texts options.now)) result }
 {
-    u16::try_from(number_behind(options, name, u64::from(default))).unwrap_or(default)
+    u16::try_from(number_after(options, name, u64::from(default))).unwrap_or(default)
 }
 
-/// The number of at most 32 bits behind the option of this name, where it is given.
+/// The number of at most 32 bits after the option of this name, where it is given.
 pub fn small_number_if(options: &[String], name: &str) -> Option<u32>
-    ensures { IsReadIf (2 ^ 32) (word_behind name.now (texts options.now)) result }
+    ensures { IsReadIf (2 ^ 32) (value_after name.now (texts options.now)) result }
 {
     let word = word_after(options, name)?;
     u32::try_from(number_of(word)?).ok()
 }
 
-/// The stream id behind the option of this name, or else `default`.
-pub fn id_behind(options: &[String], name: &str, default: u64) -> u64
-    ensures { IsReadId default (word_behind name.now (texts options.now)) result }
+/// The stream id after the option of this name, or else `default`.
+pub fn id_after(options: &[String], name: &str, default: u64) -> u64
+    ensures { IsReadId default (value_after name.now (texts options.now)) result }
 {
     match word_after(options, name) {
         Some(word) => id_of(word).unwrap_or(default),
@@ -66,9 +66,9 @@ pub fn format_of(word: &str) -> Option<AafFormat>
     }
 }
 
-/// The format behind the option of this name, or else `default`.
-pub fn format_behind(options: &[String], name: &str, default: AafFormat) -> AafFormat
-    ensures { IsReadFormat default (word_behind name.now (texts options.now)) result }
+/// The format after the option of this name, or else `default`.
+pub fn format_after(options: &[String], name: &str, default: AafFormat) -> AafFormat
+    ensures { IsReadFormat default (value_after name.now (texts options.now)) result }
 {
     match word_after(options, name) {
         Some(word) => format_of(word).unwrap_or(default),

@@ -1,26 +1,25 @@
-use Rattle.std.proofs.Common.{subst, IsTrue, ◌↔◌, Contains, codes, sym, refl, ap, ◌∙◌, Some, List, ℕ, ◌≡◌, ◌+◌, slice_get}
+use Rattle.std.proofs.Common.{codes, sym, refl, ap, ◌∙◌, Some, List, ℕ, ◌≡◌, ◌+◌, slice_get}
 use Rattle.std.proofs.lemmas.Result.{err_from_is_err_and}
 use Rattle.avtp_words.specs.Grammar.{talk_form, talking_of}
 use Rattle.avtp_words.specs.Word.{texts}
-use Rattle.avtp_words.proofs.Commands.{offence_behind, first_stands, second_stands, talk_says}
+use Rattle.avtp_words.proofs.Commands.{offence_after, first_stands, second_stands, talk_says}
 use Rattle.avtp_words.proofs.Steps.{contained}
 use Rattle.avtp_words.proofs.talk.read_words.Goals as goal
 
 pub returns-in_err-place-clause-err : goal.returns-in_err-place-clause-err
 returns-in_err-place-clause-err c =
     let p = err_from_is_err_and c.from_residual.result c.from_residual.ensures.1 in
-    rw (p.1, p.2) (offence_behind talk_form (texts c.args.words.now) c.in_err-place.field-0.0.position refl c.in_err-place.ensures.err)
+    rw (p.1, p.2) (offence_after talk_form (texts c.args.words.now) c.in_err-place.field-0.0.position refl c.in_err-place.ensures.err)
 
 pub unreachable-requires : goal.unreachable-requires
-unreachable-requires c = first_stands talk_form (texts c.args.words.now) c.in_ok-place.place c.in_ok-place.ensures.ok refl (sym c.in_default.ensures)
+unreachable-requires c = first_stands (texts c.args.words.now) c.in_ok-place.place c.in_ok-place.ensures.ok (sym c.in_default.ensures)
 
 pub unreachable-requires-in_default-word_at : goal.unreachable-requires-in_default-word_at
-unreachable-requires-in_default-word_at c = second_stands talk_form (texts c.args.words.now) c.in_ok-place.place c.in_ok-place.ensures.ok refl (sym c.in_default-word_at.ensures)
+unreachable-requires-in_default-word_at c = second_stands (texts c.args.words.now) c.in_ok-place.place c.in_ok-place.ensures.ok (sym c.in_default-word_at.ensures)
 
 pub returns-clause-ok : goal.returns-clause-ok
 returns-clause-ok c =
     let input : slice_get (texts c.args.words.now) c.in_ok-place.place ≡ Some c.read_options.result.input.now = sym c.in-Some.ensures ∙ ap (λ (word : List ℕ). Some word) (sym c.read_options.ensures.input) in
     let output : slice_get (texts c.args.words.now) (c.in_ok-place.place + 1) ≡ Some c.read_options.result.output.now = sym c.in-Some-word_at.ensures ∙ ap (λ (word : List ℕ). Some word) (sym c.read_options.ensures.output) in
-    let sparse = subst (λ tells. IsTrue tells ↔ Contains (texts c.args.words.now) (codes "--sparse")) (sym c.read_options.ensures.sparse) (contained c.args.words.now (codes "--sparse") c.contains-sparse.result c.contains-sparse.ensures) in
-    talk_says c.args.words.now c.in_ok-place.place (talking_of c.read_options.result) c.in_ok-place.ensures.ok input output
-    c.read_options.ensures.format c.read_options.ensures.rate c.read_options.ensures.channels c.read_options.ensures.count c.read_options.ensures.id c.read_options.ensures.start c.read_options.ensures.lead sparse c.read_options.ensures.restart c.read_options.ensures.jump
+    talk_says c.args.words.now c.in_ok-place.place c.contains-sparse.result (talking_of c.read_options.result) c.in_ok-place.ensures.ok input output
+    (contained c.args.words.now (codes "--sparse") c.contains-sparse.result c.contains-sparse.ensures) c.read_options.ensures.read

@@ -1,7 +1,7 @@
 use Rattle.std.proofs.Common.{subst, arith, ◌∙◌, ◌^◌}
 use Rattle.avtp_words.specs.Reading.{IsRead}
 use Rattle.avtp_words.proofs.Numbers.{number_is}
-use Rattle.avtp_words.proofs.value.number_behind.Goals as goal
+use Rattle.avtp_words.proofs.value.number_after.Goals as goal
 
 pub returns-in-Some : goal.returns-in-Some
 returns-in-Some c = subst (λ v. IsRead (2 ^ 64) c.args.default v c.unwrap_or.result) c.in-Some.ensures (record {

@@ -1,0 +1,72 @@
+-- The limits of the words in one table: of each option that takes a number its name, the least and the most that may be
+-- given, and what stands where the option is not given, if anything does.
+use Rattle.std.specs.Prelude.{ℕ, ◌*◌, ◌^◌, List, Option, Some, None, codes}
+use Rattle.avtp_words.specs.declared.option.Takes.TheVariants.{Number}
+use Rattle.avtp_words.specs.Options.{Row}
+
+pub record NumberOption : Type 0 where
+  pub name : List ℕ
+  pub low : ℕ
+  pub high : ℕ
+  pub default : Option ℕ
+
+abbrev pub option : List ℕ → ℕ → ℕ → Option ℕ → NumberOption
+option name low high default = record { name = name; low = low; high = high; default = default }
+
+-- its row in the table of a command
+abbrev pub number : NumberOption → Row
+number option = record { name = option.name; takes = Number option.low option.high }
+
+-- show: the bytes of a capture that are read
+abbrev pub limit : NumberOption
+limit = option (codes "--limit") 1 (2 ^ 40) (Some (2 ^ 40))
+
+-- listen: the packets that wait, and the bytes in them
+abbrev pub buffer : NumberOption
+buffer = option (codes "--buffer") 1 65536 (Some 4096)
+
+abbrev pub room : NumberOption
+room = option (codes "--room") 1 (2 ^ 30) (Some (2 ^ 26))
+
+-- the max transit time in nanoseconds, of listen and of talk
+abbrev pub listen_lead : NumberOption
+listen_lead = option (codes "--lead") 0 (10 ^ 9) (Some 2000000)
+
+abbrev pub talk_lead : NumberOption
+talk_lead = option (codes "--lead") 1 (10 ^ 9) (Some 2000000)
+
+-- talk: the sample rate in Hz, the channels of a sample frame, and the sample frames of a packet
+abbrev pub rate : NumberOption
+rate = option (codes "--rate") 1 192000 (Some 48000)
+
+abbrev pub channels : NumberOption
+channels = option (codes "--channels") 1 1023 (Some 2)
+
+abbrev pub count : NumberOption
+count = option (codes "--count") 1 1476 (Some 6)
+
+-- when the first packet is sent, in nanoseconds of gPTP
+abbrev pub start : NumberOption
+start = option (codes "--start") 0 (4 * 10 ^ 18) (Some (10 ^ 9))
+
+-- the packets after which the media clock restarts, and how far that sets presentation times forward, in nanoseconds
+abbrev pub restart : NumberOption
+restart = option (codes "--restart") 8 (10 ^ 9) None
+
+abbrev pub jump : NumberOption
+jump = option (codes "--jump") 4 (10 ^ 9) (Some 1000000)
+
+-- the stream ID of talk where none is given
+abbrev pub talk_id : ℕ
+talk_id = 0x0200000000010001
+
+-- the most bytes of samples in a packet of AAF, and of data blocks in one of AM824
+abbrev pub samples : ℕ
+samples = 1476
+
+abbrev pub blocks : ℕ
+blocks = 1468
+
+-- the most quadlets of a data block of AM824, one for each channel
+abbrev pub quadlets : ℕ
+quadlets = 256

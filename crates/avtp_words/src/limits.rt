@@ -1,0 +1,164 @@
+//! The options of each command in one table: what each is called, what its value may be, and what stands where it is
+//! not given.
+
+use crate::option::{OptionRow, Takes};
+use aaf_format::AafFormat;
+
+/// The most bytes that are read of a capture where no `--limit` is given, and the most that can be asked: 1 TiB.
+pub const MAX_LIMIT: u64 = 1 << 40;
+
+pub const SHOW_OPTIONS: [OptionRow; 1] = [LIMIT];
+
+pub const LIMIT: OptionRow = OptionRow {
+    name: "--limit",
+    takes: Takes::Number {
+        low: 1,
+        high: MAX_LIMIT,
+    },
+};
+
+pub const LISTEN_OPTIONS: [OptionRow; 3] = [BUFFER, ROOM, LISTEN_LEAD];
+
+/// How many packets may wait for their presentation time.
+pub const BUFFER: OptionRow = OptionRow {
+    name: "--buffer",
+    takes: Takes::Number {
+        low: 1,
+        high: 65_536,
+    },
+};
+
+pub const BUFFER_DEFAULT: u32 = 4_096;
+
+/// How many bytes they may hold: at most 1 GiB, by default 64 MiB.
+pub const ROOM: OptionRow = OptionRow {
+    name: "--room",
+    takes: Takes::Number {
+        low: 1,
+        high: 1 << 30,
+    },
+};
+
+pub const ROOM_DEFAULT: u32 = 1 << 26;
+
+/// The max transit time in nanoseconds. A listener may expect a packet at its presentation time; a talker sends each
+/// before it.
+pub const LISTEN_LEAD: OptionRow = OptionRow {
+    name: "--lead",
+    takes: Takes::Number {
+        low: 0,
+        high: 1_000_000_000,
+    },
+};
+
+pub const TALK_LEAD: OptionRow = OptionRow {
+    name: "--lead",
+    takes: Takes::Number {
+        low: 1,
+        high: 1_000_000_000,
+    },
+};
+
+pub const LEAD_DEFAULT: u32 = 2_000_000;
+
+pub const TALK_OPTIONS: [OptionRow; 11] = [
+    KIND, FORMAT, RATE, CHANNELS, COUNT, ID, START, TALK_LEAD, SPARSE, RESTART, JUMP,
+];
+
+pub const KIND: OptionRow = OptionRow {
+    name: "--kind",
+    takes: Takes::Kind,
+};
+
+pub const FORMAT: OptionRow = OptionRow {
+    name: "--format",
+    takes: Takes::Format,
+};
+
+pub const FORMAT_DEFAULT: AafFormat = AafFormat::Int16;
+
+/// The sample rate in Hz.
+pub const RATE: OptionRow = OptionRow {
+    name: "--rate",
+    takes: Takes::Number {
+        low: 1,
+        high: 192_000,
+    },
+};
+
+pub const RATE_DEFAULT: u32 = 48_000;
+
+/// The channels of a sample frame.
+pub const CHANNELS: OptionRow = OptionRow {
+    name: "--channels",
+    takes: Takes::Number {
+        low: 1,
+        high: 1_023,
+    },
+};
+
+pub const CHANNELS_DEFAULT: u16 = 2;
+
+/// The sample frames of a packet.
+pub const COUNT: OptionRow = OptionRow {
+    name: "--count",
+    takes: Takes::Number {
+        low: 1,
+        high: 1_476,
+    },
+};
+
+pub const COUNT_DEFAULT: u32 = 6;
+
+/// The stream ID.
+pub const ID: OptionRow = OptionRow {
+    name: "--id",
+    takes: Takes::Id,
+};
+
+pub const ID_DEFAULT: u64 = 0x0200_0000_0001_0001;
+
+/// When the first packet is sent, in nanoseconds of gPTP.
+pub const START: OptionRow = OptionRow {
+    name: "--start",
+    takes: Takes::Number {
+        low: 0,
+        high: 4_000_000_000_000_000_000,
+    },
+};
+
+pub const START_DEFAULT: u64 = 1_000_000_000;
+
+pub const SPARSE: OptionRow = OptionRow {
+    name: "--sparse",
+    takes: Takes::Nothing,
+};
+
+/// The packets after which the media clock restarts, again and again. Where it is not given there is no restart.
+pub const RESTART: OptionRow = OptionRow {
+    name: "--restart",
+    takes: Takes::Number {
+        low: 8,
+        high: 1_000_000_000,
+    },
+};
+
+/// How far each restart sets presentation times forward, in nanoseconds.
+pub const JUMP: OptionRow = OptionRow {
+    name: "--jump",
+    takes: Takes::Number {
+        low: 4,
+        high: 1_000_000_000,
+    },
+};
+
+pub const JUMP_DEFAULT: u32 = 1_000_000;
+
+/// The most bytes of samples in a packet of AAF: the 1,500 that an Ethernet frame carries, less the 24 of the header.
+pub const MAX_SAMPLES: u64 = 1_476;
+
+/// The most bytes of data blocks in a packet of AM824, where the CIP header takes 8 more.
+pub const MAX_BLOCKS: u64 = 1_468;
+
+/// The most quadlets of a data block of AM824, one for each channel (IEC 61883-1).
+pub const MAX_QUADLETS: u16 = 256;
