@@ -1,7 +1,7 @@
 -- What a sink holds only grows.
 use Rattle.std.proofs.Common.{ℕ, List, [], ◌++◌, Option}
-use Rattle.std.proofs.KnownBytes.{Appends-nil, Appends-trans}
-use Rattle.std.specs.Io.KnownBytes.{Appends}
+use Rattle.avtp_base.proofs.Told.{Appends-nil, Appends-trans}
+use Rattle.avtp_base.specs.Told.{Appends}
 use Rattle.avtp_text.specs.Written.{Grows}
 
 pub grows_by : (before now : Option (List ℕ)) (bytes : List ℕ) → Appends before now bytes → Grows before now

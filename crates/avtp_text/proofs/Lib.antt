@@ -2,6 +2,6 @@ pub mod Moved
 pub mod Growth
 pub mod Digits
 pub mod Names
-pub mod Fronts
+pub mod Printing
 pub mod Hex
 pub mod Samples

@@ -2,8 +2,8 @@
 use Rattle.std.proofs.Common.{◌≡◌, ℕ, ◌+◌, ◌-◌, List, ◌++◌, length, take, drop, Option, sym, arith, subst, length-drop, take-append-drop}
 use Rattle.std.proofs.lemmas.List.{take_all}
 use Rattle.std.proofs.Math.Seq.{take-add, take-append_seam}
-use Rattle.std.proofs.KnownBytes.{append_known-moved, Appends-trans, Appends-nil}
-use Rattle.std.specs.Io.KnownBytes.{Keeps, Appends}
+use Rattle.avtp_base.proofs.Told.{append_known-moved, Appends-trans, Appends-nil}
+use Rattle.avtp_base.specs.Told.{Keeps, Appends}
 use Rattle.avtp_text.specs.Written.{written}
 
 pub taken_none : (a : Option (List ℕ)) (bytes : List ℕ) → Appends a a (take 0 bytes)

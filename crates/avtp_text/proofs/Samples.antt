@@ -1,12 +1,13 @@
 -- Lines that are printed one after the other.
-use Rattle.std.proofs.Common.{◌≡◌, ℕ, zero, suc, ◌+◌, ◌-◌, ◌<◌, List, [], ◌∷◌, ◌++◌, length, take, drop, flat_map, get_or, Option, arith, refl, sym, ap, ◌∙◌, subst}
+use Rattle.std.proofs.Common.{◌≡◌, ℕ, zero, suc, ◌+◌, ◌-◌, ◌<◌, List, [], ◌∷◌, ◌++◌, length, take, drop, flat_map, get_or, Option, arith, refl, sym, ap, ◌∙◌}
 use Rattle.std.proofs.lemmas.List.{append-nil}
 use Rattle.std.proofs.lemmas.Grind.{flat_map-append}
 use Rattle.std.proofs.Math.Seq.{split_at}
 use Rattle.std.specs.List.{range_with_len}
-use Rattle.std.specs.Io.KnownBytes.{Appends}
-use Rattle.avtp_text.specs.Written.{AppendsFront}
-use Rattle.avtp_text.proofs.Fronts.{front_after, front_before}
+use Rattle.std.specs.Prelude.{IsErr, Result, Ok, Err}
+use Rattle.avtp_base.specs.declared.failed.Failed.{Failed}
+use Rattle.avtp_text.specs.Written.{PrintsPart}
+use Rattle.avtp_text.proofs.Printing.{part_as, part_failed, part_then}
 
 range_split : (a j more : ℕ) → range_with_len a (j + suc more) ≡ range_with_len a j ++ (a + j) ∷ range_with_len (a + j + 1) more
 range_split a zero more =
@@ -32,12 +33,13 @@ one_more line j =
     ap (flat_map line) (numbers (j + 1) j (omega arith) ∙ ap (λ k. range_with_len 0 j ++ j ∷ range_with_len (j + 1) k) none)
     ∙ flat_map-append line (range_with_len 0 j) (j ∷ []) ∙ ap (λ t. flat_map line (range_with_len 0 j) ++ t) (append-nil (line j))
 
--- the first lines were written, and of the next one a front
-pub lines_front : (before mid now : Option (List ℕ)) (line : ℕ → List ℕ) (n j : ℕ) → j < n → Appends before mid (flat_map line (range_with_len 0 j)) → AppendsFront mid now (line j) → AppendsFront before now (flat_map line (range_with_len 0 n))
-lines_front before mid now line n j lt first next =
+-- the first lines were printed, and the next one failed
+pub lines_failed : {h h' h'' : Option (List ℕ)} {w w' w'' : List ℕ} {f f' f'' : ℕ} {result : Result Unit Failed} {ok : Unit} {e : Failed} (line : ℕ → List ℕ) (n j : ℕ) → j < n → IsErr result
+    → PrintsPart h h' w w' f f' (Ok ok) (flat_map line (range_with_len 0 j)) → PrintsPart h' h'' w' w'' f' f'' (Err e) (line j) → PrintsPart h h'' w w'' f f'' result (flat_map line (range_with_len 0 n))
+lines_failed line n j lt err first next =
     let split : flat_map line (range_with_len 0 n) ≡ flat_map line (range_with_len 0 j) ++ (line j ++ flat_map line (range_with_len (j + 1) (n - j - 1))) =
     ap (flat_map line) (numbers n j lt) ∙ flat_map-append line (range_with_len 0 j) (j ∷ range_with_len (j + 1) (n - j - 1)) in
-    subst (AppendsFront before now) (sym split) (front_after before mid now _ _ first (front_before mid now (line j) _ next))
+    part_as _ _ (sym split) (part_then _ _ first (part_failed (line j) _ err next))
 
 -- the same of a list
 
@@ -51,8 +53,9 @@ take_more (x ∷ xs) (suc i) d lt =
 pub one_shown : {X : Type 0} (lines : X → List ℕ) (xs : List X) (i : ℕ) (d : X) → i < length xs → flat_map lines (take (i + 1) xs) ≡ flat_map lines (take i xs) ++ lines (get_or xs i d)
 one_shown lines xs i d lt = ap (flat_map lines) (take_more xs i d lt) ∙ flat_map-append lines (take i xs) (get_or xs i d ∷ []) ∙ ap (λ t. flat_map lines (take i xs) ++ t) (append-nil (lines (get_or xs i d)))
 
-pub shown_front : {X : Type 0} (before mid now : Option (List ℕ)) (lines : X → List ℕ) (xs : List X) (i : ℕ) (d : X) → i < length xs → Appends before mid (flat_map lines (take i xs)) → AppendsFront mid now (lines (get_or xs i d)) → AppendsFront before now (flat_map lines xs)
-shown_front before mid now lines xs i d lt first next =
+pub shown_failed : {X : Type 0} {h h' h'' : Option (List ℕ)} {w w' w'' : List ℕ} {f f' f'' : ℕ} {result : Result Unit Failed} {ok : Unit} {e : Failed} (lines : X → List ℕ) (xs : List X) (i : ℕ) (d : X) → i < length xs → IsErr result
+    → PrintsPart h h' w w' f f' (Ok ok) (flat_map lines (take i xs)) → PrintsPart h' h'' w' w'' f' f'' (Err e) (lines (get_or xs i d)) → PrintsPart h h'' w w'' f f'' result (flat_map lines xs)
+shown_failed lines xs i d lt err first next =
     let split : flat_map lines xs ≡ flat_map lines (take i xs) ++ (lines (get_or xs i d) ++ flat_map lines (drop (suc i) xs)) =
     ap (flat_map lines) (split_at xs i d lt) ∙ flat_map-append lines (take i xs) (get_or xs i d ∷ drop (suc i) xs) in
-    subst (AppendsFront before now) (sym split) (front_after before mid now _ _ first (front_before mid now (lines (get_or xs i d)) _ next))
+    part_as _ _ (sym split) (part_then _ _ first (part_failed (lines (get_or xs i d)) _ err next))

@@ -1,28 +1,42 @@
--- What a sink and the text that waits for it hold together.
+-- What a sink and the text that waits for it hold together, and what a call that prints does to them.
 use Rattle.std.specs.Prelude.{◌≡◌, List, ◌++◌, ℕ, Option, Result, MatchResult}
-use Rattle.std.specs.Io.KnownBytes.{append_known, Appends, Keeps}
+use Rattle.avtp_base.specs.Told.{append_known, Appends, Keeps}
 use Rattle.avtp_base.specs.declared.failed.Failed.{Failed}
+use Rattle.avtp_base.specs.Faults.{IsCounted}
 
 -- all that was written so far: what the sink holds, where it tells that, then what waits
 abbrev pub written : Option (List ℕ) → List ℕ → Option (List ℕ)
 written held waiting = append_known held waiting
 
+-- known bytes grew by a prefix of the text
+pub record AppendsPrefix (before now : Option (List ℕ)) (text : List ℕ) : Type 0 where
+  pub prefix : List ℕ
+  pub rest : List ℕ
+  pub split : text ≡ prefix ++ rest
+  pub appends : Appends before now prefix
+
 -- the text was written whole at `Ok`, and none of it at `Err`
 abbrev pub Writes : Option (List ℕ) → Option (List ℕ) → Result Unit Failed → List ℕ → Type 0
-Writes before after result text = MatchResult result (λ _. Appends before after text) (λ _. Keeps before after)
+Writes before now result text = MatchResult result (λ _. Appends before now text) (λ _. Keeps before now)
 
--- What was held stays, with more behind it or not.
+-- the text was written whole at `Ok`, and a prefix of it at `Err`
+abbrev pub WritesPrefix : Option (List ℕ) → Option (List ℕ) → Result Unit Failed → List ℕ → Type 0
+WritesPrefix before now result text = MatchResult result (λ _. Appends before now text) (λ _. AppendsPrefix before now text)
+
+-- what the sink held stays, with more after it or not
 pub record Grows (before now : Option (List ℕ)) : Type 0 where
   pub more : List ℕ
   pub appends : Appends before now more
 
--- known bytes grew by a front of the text
-pub record AppendsFront (before now : Option (List ℕ)) (text : List ℕ) : Type 0 where
-  pub front : List ℕ
-  pub rest : List ℕ
-  pub split : text ≡ front ++ rest
-  pub appends : Appends before now front
+-- A call printed this text: it was written whole, or where the sink failed nothing of it. What the sink held stays, and a
+-- failure is the sink's.
+pub record Prints (held held' : Option (List ℕ)) (waits waits' : List ℕ) (faults faults' : ℕ) (result : Result Unit Failed) (text : List ℕ) : Type 0 where
+  pub written : Writes (written held waits) (written held' waits') result text
+  pub grows : Grows held held'
+  pub counted : IsCounted faults faults' result
 
--- the text was written whole at `Ok`, and a front of it at `Err`
-abbrev pub WritesFront : Option (List ℕ) → Option (List ℕ) → Result Unit Failed → List ℕ → Type 0
-WritesFront before after result text = MatchResult result (λ _. Appends before after text) (λ _. AppendsFront before after text)
+-- The same of a text that may be long: where the sink failed, a prefix of it was written.
+pub record PrintsPart (held held' : Option (List ℕ)) (waits waits' : List ℕ) (faults faults' : ℕ) (result : Result Unit Failed) (text : List ℕ) : Type 0 where
+  pub written : WritesPrefix (written held waits) (written held' waits') result text
+  pub grows : Grows held held'
+  pub counted : IsCounted faults faults' result

@@ -1,9 +1,9 @@
 //! The one buffer through which all text goes.
 
 ghost use Rattle.std.specs.Prelude.{◌≡◌, ◌+◌, ◌≤◌, ◌<◌, [], ◌++◌, length, take, OnOk, IfOk, OnErr};
-ghost use Rattle.std.specs.Io.KnownBytes.{Appends, Keeps};
+ghost use Rattle.avtp_base.specs.Told.{Appends, Keeps};
 ghost use Rattle.avtp_base.specs.Faults.{IsCounted, Rose};
-ghost use Rattle.avtp_text.specs.Written.{written, Grows, Writes};
+ghost use Rattle.avtp_text.specs.Written.{written, Grows, Prints};
 
 use avtp_base::{Failed, NoMemory, Sink};
 use std::alloc::Global;
@@ -99,9 +99,7 @@ impl Text {
     /// Adds a piece of text of at most [`ROOM`] bytes, whole, or nothing where the sink fails.
     pub fn print<S: Sink>(&mut self, out: &mut S, piece: &[u8]) -> Result<(), Failed>
         requires { length piece.now ≤ ROOM }
-        ensures written { Writes (written (S.held out.old) self.old) (written (S.held out.new) self.new) result piece.now }
-        ensures grows { Grows (S.held out.old) (S.held out.new) }
-        ensures counted { IsCounted (S.faults out.old) (S.faults out.new) result }
+        ensures { Prints (S.held out.old) (S.held out.new) self.old self.new (S.faults out.old) (S.faults out.new) result piece.now }
     {
         self.make_room(out, piece.len())?;
         let Ok(()) = self.buffer.extend_from_slice(piece) else {

@@ -2,10 +2,9 @@
 
 ghost use Rattle.std.specs.Prelude.{◌≡◌, ◌+◌, ◌*◌, ◌/◌, ◌<◌, ◌≤◌, ◌++◌, length};
 ghost use Rattle.hex.specs.Hex.{encode_lower};
-ghost use Rattle.avtp_base.specs.Faults.{IsCounted};
 ghost use Rattle.avtp_text.specs.Listen.{batch_lines, capture_line, end_listen_line, flag_line, list_lines, reason_text, sample_bytes, sample_line, due_text, place_text, shown_lines};
 ghost use Rattle.avtp_text.specs.Pieces.{newline};
-ghost use Rattle.avtp_text.specs.Written.{written, Grows, Writes, WritesFront};
+ghost use Rattle.avtp_text.specs.Written.{Prints, PrintsPart};
 
 use crate::buffer::{ROOM, Text};
 use crate::line::{LONGEST, Line};
@@ -70,11 +69,9 @@ fn prepend_reason(line: &mut Line, reason: Reason)
 
 impl Text {
     /// Adds a text of any length. Where the sink fails, a front of it was added.
-    #[tactic(auto, using(crate::proofs::Growth::grows_none, crate::proofs::Fronts::writes_front))]
+    #[tactic(auto, using(crate::proofs::Printing::part_of))]
     fn print_all<S: Sink>(&mut self, out: &mut S, text: &[u8]) -> Result<(), Failed>
-        ensures written { WritesFront (written (S.held out.old) self.old) (written (S.held out.new) self.new) result text.now }
-        ensures grows { Grows (S.held out.old) (S.held out.new) }
-        ensures counted { IsCounted (S.faults out.old) (S.faults out.new) result }
+        ensures { PrintsPart (S.held out.old) (S.held out.new) self.old self.new (S.faults out.old) (S.faults out.new) result text.now }
     {
         if text.len() <= ROOM {
             return self.print(out, text);
@@ -86,9 +83,7 @@ impl Text {
 
     /// Adds the hexadecimal digits of bytes, in lower case.
     fn print_hex<S: Sink>(&mut self, out: &mut S, bytes: &[u8]) -> Result<(), Failed>
-        ensures written { WritesFront (written (S.held out.old) self.old) (written (S.held out.new) self.new) result (encode_lower bytes.now) }
-        ensures grows { Grows (S.held out.old) (S.held out.new) }
-        ensures counted { IsCounted (S.faults out.old) (S.faults out.new) result }
+        ensures { PrintsPart (S.held out.old) (S.held out.new) self.old self.new (S.faults out.old) (S.faults out.new) result (encode_lower bytes.now) }
     {
         if bytes.len() <= PIECE {
             return self.print_hex_piece(out, bytes);
@@ -100,9 +95,7 @@ impl Text {
 
     fn print_hex_piece<S: Sink>(&mut self, out: &mut S, bytes: &[u8]) -> Result<(), Failed>
         requires { length bytes.now ≤ PIECE }
-        ensures written { Writes (written (S.held out.old) self.old) (written (S.held out.new) self.new) result (encode_lower bytes.now) }
-        ensures grows { Grows (S.held out.old) (S.held out.new) }
-        ensures counted { IsCounted (S.faults out.old) (S.faults out.new) result }
+        ensures { Prints (S.held out.old) (S.held out.new) self.old self.new (S.faults out.old) (S.faults out.new) result (encode_lower bytes.now) }
     {
         let mut digits = [0; 2 * PIECE];
         let digits = &mut digits[..2 * bytes.len()];
@@ -115,9 +108,7 @@ impl Text {
     /// Says which capture was opened.
     #[tactic(auto, unfolding(crate::specs::Listen::capture_line))]
     pub fn capture<S: Sink>(&mut self, out: &mut S, name: &str) -> Result<(), Failed>
-        ensures written { WritesFront (written (S.held out.old) self.old) (written (S.held out.new) self.new) result (capture_line name.now) }
-        ensures grows { Grows (S.held out.old) (S.held out.new) }
-        ensures counted { IsCounted (S.faults out.old) (S.faults out.new) result }
+        ensures { PrintsPart (S.held out.old) (S.held out.new) self.old self.new (S.faults out.old) (S.faults out.new) result (capture_line name.now) }
     {
         self.print(out, b"capture ")?;
         self.print_all(out, name.as_bytes())?;
@@ -133,9 +124,7 @@ impl Text {
         seq: u8,
         reason: Reason,
     ) -> Result<(), Failed>
-        ensures written { Writes (written (S.held out.old) self.old) (written (S.held out.new) self.new) result (flag_line frame seq reason) }
-        ensures grows { Grows (S.held out.old) (S.held out.new) }
-        ensures counted { IsCounted (S.faults out.old) (S.faults out.new) result }
+        ensures { Prints (S.held out.old) (S.held out.new) self.old self.new (S.faults out.old) (S.faults out.new) result (flag_line frame seq reason) }
     {
         let mut line = Line::new();
         prepend_reason(&mut line, reason);
@@ -155,15 +144,13 @@ impl Text {
     ) -> Result<(), Failed>
         requires sample { j < batch.now.count }
         requires bytes { bytes.now ≡ sample_bytes batch.now j }
-        ensures written { WritesFront (written (S.held out.old) self.old) (written (S.held out.new) self.new) result (sample_line batch.now j) }
-        ensures grows { Grows (S.held out.old) (S.held out.new) }
-        ensures counted { IsCounted (S.faults out.old) (S.faults out.new) result }
+        ensures { PrintsPart (S.held out.old) (S.held out.new) self.old self.new (S.faults out.old) (S.faults out.new) result (sample_line batch.now j) }
     {
         self.one_sample(out, batch.instant(j), batch.frame, batch.seq, j, bytes)
     }
 
     /// Prints a sample with these bytes.
-    #[tactic(auto, using(crate::proofs::Fronts::writes_front))]
+    #[tactic(auto, using(crate::proofs::Printing::part_of))]
     fn one_sample<S: Sink>(
         &mut self,
         out: &mut S,
@@ -173,9 +160,7 @@ impl Text {
         j: u32,
         bytes: &[u8],
     ) -> Result<(), Failed>
-        ensures written { WritesFront (written (S.held out.old) self.old) (written (S.held out.new) self.new) result (due_text instant frame ++ place_text seq j ++ encode_lower bytes.now ++ newline) }
-        ensures grows { Grows (S.held out.old) (S.held out.new) }
-        ensures counted { IsCounted (S.faults out.old) (S.faults out.new) result }
+        ensures { PrintsPart (S.held out.old) (S.held out.new) self.old self.new (S.faults out.old) (S.faults out.new) result (due_text instant frame ++ place_text seq j ++ encode_lower bytes.now ++ newline) }
     {
         if bytes.len() <= SHORT {
             self.short_sample(out, instant, frame, seq, j, bytes)
@@ -195,9 +180,7 @@ impl Text {
         bytes: &[u8],
     ) -> Result<(), Failed>
         requires { length bytes.now ≤ SHORT }
-        ensures written { Writes (written (S.held out.old) self.old) (written (S.held out.new) self.new) result (due_text instant frame ++ place_text seq j ++ encode_lower bytes.now ++ newline) }
-        ensures grows { Grows (S.held out.old) (S.held out.new) }
-        ensures counted { IsCounted (S.faults out.old) (S.faults out.new) result }
+        ensures { Prints (S.held out.old) (S.held out.new) self.old self.new (S.faults out.old) (S.faults out.new) result (due_text instant frame ++ place_text seq j ++ encode_lower bytes.now ++ newline) }
     {
         let mut line = Line::new();
         line.prepend_hex(bytes);
@@ -216,9 +199,7 @@ impl Text {
         j: u32,
         bytes: &[u8],
     ) -> Result<(), Failed>
-        ensures written { WritesFront (written (S.held out.old) self.old) (written (S.held out.new) self.new) result (due_text instant frame ++ place_text seq j ++ encode_lower bytes.now ++ newline) }
-        ensures grows { Grows (S.held out.old) (S.held out.new) }
-        ensures counted { IsCounted (S.faults out.old) (S.faults out.new) result }
+        ensures { PrintsPart (S.held out.old) (S.held out.new) self.old self.new (S.faults out.old) (S.faults out.new) result (due_text instant frame ++ place_text seq j ++ encode_lower bytes.now ++ newline) }
     {
         let mut line = Line::blank();
         prepend_place(&mut line, seq, j);
@@ -230,9 +211,7 @@ impl Text {
 
     /// Prints the samples of a batch, one on each line.
     fn batch<S: Sink>(&mut self, out: &mut S, batch: &Batch) -> Result<(), Failed>
-        ensures written { WritesFront (written (S.held out.old) self.old) (written (S.held out.new) self.new) result (batch_lines batch.now) }
-        ensures grows { Grows (S.held out.old) (S.held out.new) }
-        ensures counted { IsCounted (S.faults out.old) (S.faults out.new) result }
+        ensures { PrintsPart (S.held out.old) (S.held out.new) self.old self.new (S.faults out.old) (S.faults out.new) result (batch_lines batch.now) }
     {
         let bytes = batch.bytes.as_slice();
         let size = bytes.len() / batch.count as usize;
@@ -245,9 +224,7 @@ impl Text {
 
     /// Prints what a schedule shows: the samples that are presented, and why an item is not.
     pub fn shown<S: Sink>(&mut self, out: &mut S, shown: &Shown) -> Result<(), Failed>
-        ensures written { WritesFront (written (S.held out.old) self.old) (written (S.held out.new) self.new) result (shown_lines shown.now) }
-        ensures grows { Grows (S.held out.old) (S.held out.new) }
-        ensures counted { IsCounted (S.faults out.old) (S.faults out.new) result }
+        ensures { PrintsPart (S.held out.old) (S.held out.new) self.old self.new (S.faults out.old) (S.faults out.new) result (shown_lines shown.now) }
     {
         match shown {
             Shown::Present(batch) => self.batch(out, batch),
@@ -257,9 +234,7 @@ impl Text {
 
     /// Prints all that a schedule shows, in its order.
     pub fn shown_list<S: Sink>(&mut self, out: &mut S, list: &[Shown]) -> Result<(), Failed>
-        ensures written { WritesFront (written (S.held out.old) self.old) (written (S.held out.new) self.new) result (list_lines list.now) }
-        ensures grows { Grows (S.held out.old) (S.held out.new) }
-        ensures counted { IsCounted (S.faults out.old) (S.faults out.new) result }
+        ensures { PrintsPart (S.held out.old) (S.held out.new) self.old self.new (S.faults out.old) (S.faults out.new) result (list_lines list.now) }
     {
         for shown in list {
             self.shown(out, shown)?;
@@ -270,9 +245,7 @@ impl Text {
     /// Says that a capture ended, and what it held of the stream.
     #[tactic(auto, unfolding(crate::specs::Listen::end_listen_line))]
     pub fn end_listen<S: Sink>(&mut self, out: &mut S, counts: &Counts) -> Result<(), Failed>
-        ensures written { Writes (written (S.held out.old) self.old) (written (S.held out.new) self.new) result (end_listen_line counts.now) }
-        ensures grows { Grows (S.held out.old) (S.held out.new) }
-        ensures counted { IsCounted (S.faults out.old) (S.faults out.new) result }
+        ensures { Prints (S.held out.old) (S.held out.new) self.old self.new (S.faults out.old) (S.faults out.new) result (end_listen_line counts.now) }
     {
         let mut line = Line::new();
         line.prepend_u64(" flagged ", counts.flagged);

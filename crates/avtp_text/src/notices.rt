@@ -1,9 +1,8 @@
 //! The lines that any command may write at its end.
 
 ghost use Rattle.std.specs.Prelude.{◌≡◌};
-ghost use Rattle.avtp_base.specs.Faults.{IsCounted};
 ghost use Rattle.avtp_text.specs.Notices.{capture_refused_line, read_fault_line, limit_line, words_line};
-ghost use Rattle.avtp_text.specs.Written.{written, Grows, Writes};
+ghost use Rattle.avtp_text.specs.Written.{Prints};
 
 use crate::buffer::Text;
 use crate::line::Line;
@@ -13,9 +12,7 @@ impl Text {
     /// Says that a capture was refused at a field, whose offset is in the file.
     #[tactic(auto, unfolding(crate::specs::Notices::capture_refused_line))]
     pub fn capture_refused<S: Sink>(&mut self, out: &mut S, refusal: Refusal) -> Result<(), Failed>
-        ensures written { Writes (written (S.held out.old) self.old) (written (S.held out.new) self.new) result (capture_refused_line refusal) }
-        ensures grows { Grows (S.held out.old) (S.held out.new) }
-        ensures counted { IsCounted (S.faults out.old) (S.faults out.new) result }
+        ensures { Prints (S.held out.old) (S.held out.new) self.old self.new (S.faults out.old) (S.faults out.new) result (capture_refused_line refusal) }
     {
         let mut line = Line::new();
         line.prepend_refusal(refusal);
@@ -26,9 +23,7 @@ impl Text {
     /// Says that a file could not be read further.
     #[tactic(auto, unfolding(crate::specs::Notices::read_fault_line))]
     pub fn read_fault<S: Sink>(&mut self, out: &mut S) -> Result<(), Failed>
-        ensures written { Writes (written (S.held out.old) self.old) (written (S.held out.new) self.new) result read_fault_line }
-        ensures grows { Grows (S.held out.old) (S.held out.new) }
-        ensures counted { IsCounted (S.faults out.old) (S.faults out.new) result }
+        ensures { Prints (S.held out.old) (S.held out.new) self.old self.new (S.faults out.old) (S.faults out.new) result read_fault_line }
     {
         self.print(out, b"read fault\n")
     }
@@ -36,9 +31,7 @@ impl Text {
     /// Says that a file has more than so many bytes.
     #[tactic(auto, unfolding(crate::specs::Notices::limit_line))]
     pub fn limit<S: Sink>(&mut self, out: &mut S, bytes: u64) -> Result<(), Failed>
-        ensures written { Writes (written (S.held out.old) self.old) (written (S.held out.new) self.new) result (limit_line bytes) }
-        ensures grows { Grows (S.held out.old) (S.held out.new) }
-        ensures counted { IsCounted (S.faults out.old) (S.faults out.new) result }
+        ensures { Prints (S.held out.old) (S.held out.new) self.old self.new (S.faults out.old) (S.faults out.new) result (limit_line bytes) }
     {
         let mut line = Line::new();
         line.prepend_u64("limit ", bytes);
@@ -48,9 +41,7 @@ impl Text {
     /// Says which word of the command line, counted from 1, is the first that cannot stand at its place.
     #[tactic(auto, unfolding(crate::specs::Notices::words_line))]
     pub fn words<S: Sink>(&mut self, out: &mut S, place: u64) -> Result<(), Failed>
-        ensures written { Writes (written (S.held out.old) self.old) (written (S.held out.new) self.new) result (words_line place) }
-        ensures grows { Grows (S.held out.old) (S.held out.new) }
-        ensures counted { IsCounted (S.faults out.old) (S.faults out.new) result }
+        ensures { Prints (S.held out.old) (S.held out.new) self.old self.new (S.faults out.old) (S.faults out.new) result (words_line place) }
     {
         let mut line = Line::new();
         line.prepend_u64("words: ", place);

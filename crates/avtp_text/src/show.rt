@@ -2,14 +2,13 @@
 //! arrival is in nanoseconds.
 
 ghost use Rattle.std.specs.Prelude.{◌≡◌, ◌+◌, ◌/◌, ◌≤◌, ◌++◌, length, codes, decimal};
-ghost use Rattle.avtp_base.specs.Faults.{IsCounted};
 ghost use Rattle.avtp_text.specs.Show.{frame_start, frame_line, end_frames_line, refused_content, ethertype_content, other_content, format_text, header_text, aaf_content, iec_content, part_text, nal_type as type_of_nal, h264_content, crf_content};
 ghost use Rattle.aaf_format.specs.Aaf.{aaf_shape};
 ghost use Rattle.iec61883_format.specs.Iec.{iec_shape};
 ghost use Rattle.cvf_format.specs.Cvf.{cvf_shape};
 ghost use Rattle.crf_format.specs.Crf.{crf_shape, point_at};
 ghost use Rattle.pcap_frames.specs.Frame.{frame_shape};
-ghost use Rattle.avtp_text.specs.Written.{written, Grows, Writes};
+ghost use Rattle.avtp_text.specs.Written.{Prints};
 
 use crate::buffer::Text;
 use crate::line::{LONGEST, Line};
@@ -175,9 +174,7 @@ impl Text {
         arrival: i64,
         refusal: Refusal,
     ) -> Result<(), Failed>
-        ensures written { Writes (written (S.held out.old) self.old) (written (S.held out.new) self.new) result (frame_line number arrival (refused_content refusal)) }
-        ensures grows { Grows (S.held out.old) (S.held out.new) }
-        ensures counted { IsCounted (S.faults out.old) (S.faults out.new) result }
+        ensures { Prints (S.held out.old) (S.held out.new) self.old self.new (S.faults out.old) (S.faults out.new) result (frame_line number arrival (refused_content refusal)) }
     {
         let mut line = Line::new();
         line.prepend_refusal(refusal);
@@ -195,9 +192,7 @@ impl Text {
         arrival: i64,
         frame: &FrameView<'_>,
     ) -> Result<(), Failed>
-        ensures written { Writes (written (S.held out.old) self.old) (written (S.held out.new) self.new) result (frame_line number arrival (ethertype_content (frame_shape frame.now))) }
-        ensures grows { Grows (S.held out.old) (S.held out.new) }
-        ensures counted { IsCounted (S.faults out.old) (S.faults out.new) result }
+        ensures { Prints (S.held out.old) (S.held out.new) self.old self.new (S.faults out.old) (S.faults out.new) result (frame_line number arrival (ethertype_content (frame_shape frame.now))) }
     {
         let mut line = Line::new();
         line.prepend_u64(" bytes ", frame.payload.len() as u64);
@@ -215,9 +210,7 @@ impl Text {
         arrival: i64,
         subtype: u8,
     ) -> Result<(), Failed>
-        ensures written { Writes (written (S.held out.old) self.old) (written (S.held out.new) self.new) result (frame_line number arrival (other_content subtype)) }
-        ensures grows { Grows (S.held out.old) (S.held out.new) }
-        ensures counted { IsCounted (S.faults out.old) (S.faults out.new) result }
+        ensures { Prints (S.held out.old) (S.held out.new) self.old self.new (S.faults out.old) (S.faults out.new) result (frame_line number arrival (other_content subtype)) }
     {
         let mut line = Line::new();
         line.prepend_u32("other ", subtype as u32);
@@ -233,9 +226,7 @@ impl Text {
         arrival: i64,
         view: &AafView<'_>,
     ) -> Result<(), Failed>
-        ensures written { Writes (written (S.held out.old) self.old) (written (S.held out.new) self.new) result (frame_line number arrival (aaf_content (aaf_shape view.now))) }
-        ensures grows { Grows (S.held out.old) (S.held out.new) }
-        ensures counted { IsCounted (S.faults out.old) (S.faults out.new) result }
+        ensures { Prints (S.held out.old) (S.held out.new) self.old self.new (S.faults out.old) (S.faults out.new) result (frame_line number arrival (aaf_content (aaf_shape view.now))) }
     {
         let mut line = Line::new();
         prepend_aaf(&mut line, view);
@@ -251,9 +242,7 @@ impl Text {
         arrival: i64,
         view: &IecView<'_>,
     ) -> Result<(), Failed>
-        ensures written { Writes (written (S.held out.old) self.old) (written (S.held out.new) self.new) result (frame_line number arrival (iec_content (iec_shape view.now))) }
-        ensures grows { Grows (S.held out.old) (S.held out.new) }
-        ensures counted { IsCounted (S.faults out.old) (S.faults out.new) result }
+        ensures { Prints (S.held out.old) (S.held out.new) self.old self.new (S.faults out.old) (S.faults out.new) result (frame_line number arrival (iec_content (iec_shape view.now))) }
     {
         let mut line = Line::new();
         prepend_iec(&mut line, view);
@@ -269,9 +258,7 @@ impl Text {
         arrival: i64,
         view: &CvfView<'_>,
     ) -> Result<(), Failed>
-        ensures written { Writes (written (S.held out.old) self.old) (written (S.held out.new) self.new) result (frame_line number arrival (h264_content (cvf_shape view.now))) }
-        ensures grows { Grows (S.held out.old) (S.held out.new) }
-        ensures counted { IsCounted (S.faults out.old) (S.faults out.new) result }
+        ensures { Prints (S.held out.old) (S.held out.new) self.old self.new (S.faults out.old) (S.faults out.new) result (frame_line number arrival (h264_content (cvf_shape view.now))) }
     {
         let mut line = Line::new();
         prepend_h264(&mut line, view);
@@ -288,9 +275,7 @@ impl Text {
         view: &CrfView<'_>,
     ) -> Result<(), Failed>
         requires { 8 ≤ length view.now.payload.now }
-        ensures written { Writes (written (S.held out.old) self.old) (written (S.held out.new) self.new) result (frame_line number arrival (crf_content (crf_shape view.now))) }
-        ensures grows { Grows (S.held out.old) (S.held out.new) }
-        ensures counted { IsCounted (S.faults out.old) (S.faults out.new) result }
+        ensures { Prints (S.held out.old) (S.held out.new) self.old self.new (S.faults out.old) (S.faults out.new) result (frame_line number arrival (crf_content (crf_shape view.now))) }
     {
         let mut line = Line::new();
         prepend_crf(&mut line, view);
@@ -301,9 +286,7 @@ impl Text {
     /// Says that a capture ended after so many records.
     #[tactic(auto, unfolding(crate::specs::Show::end_frames_line))]
     pub fn end_frames<S: Sink>(&mut self, out: &mut S, frames: u64) -> Result<(), Failed>
-        ensures written { Writes (written (S.held out.old) self.old) (written (S.held out.new) self.new) result (end_frames_line frames) }
-        ensures grows { Grows (S.held out.old) (S.held out.new) }
-        ensures counted { IsCounted (S.faults out.old) (S.faults out.new) result }
+        ensures { Prints (S.held out.old) (S.held out.new) self.old self.new (S.faults out.old) (S.faults out.new) result (end_frames_line frames) }
     {
         let mut line = Line::new();
         line.prepend_u64("end frames ", frames);

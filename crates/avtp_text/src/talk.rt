@@ -1,9 +1,8 @@
 //! The lines of `talk`: what was sent, or why nothing was.
 
 ghost use Rattle.std.specs.Prelude.{◌≡◌, ◌+◌, ◌≤◌, ◌++◌, length};
-ghost use Rattle.avtp_base.specs.Faults.{IsCounted};
 ghost use Rattle.avtp_text.specs.Talk.{fault_text, talk_input_line, talk_line};
-ghost use Rattle.avtp_text.specs.Written.{written, Grows, Writes};
+ghost use Rattle.avtp_text.specs.Written.{Prints};
 
 use crate::buffer::Text;
 use crate::line::{LONGEST, Line};
@@ -30,9 +29,7 @@ impl Text {
     /// Says how many packets of a stream and of its media clock a capture was made of.
     #[tactic(auto, unfolding(crate::specs::Talk::talk_line))]
     pub fn talk<S: Sink>(&mut self, out: &mut S, packets: u64, clocks: u64) -> Result<(), Failed>
-        ensures written { Writes (written (S.held out.old) self.old) (written (S.held out.new) self.new) result (talk_line packets clocks) }
-        ensures grows { Grows (S.held out.old) (S.held out.new) }
-        ensures counted { IsCounted (S.faults out.old) (S.faults out.new) result }
+        ensures { Prints (S.held out.old) (S.held out.new) self.old self.new (S.faults out.old) (S.faults out.new) result (talk_line packets clocks) }
     {
         let mut line = Line::new();
         line.prepend_u64(" clock ", clocks);
@@ -43,9 +40,7 @@ impl Text {
     /// Says why an input makes no stream.
     #[tactic(auto, unfolding(crate::specs::Talk::talk_input_line))]
     pub fn talk_input<S: Sink>(&mut self, out: &mut S, fault: TalkFault) -> Result<(), Failed>
-        ensures written { Writes (written (S.held out.old) self.old) (written (S.held out.new) self.new) result (talk_input_line fault) }
-        ensures grows { Grows (S.held out.old) (S.held out.new) }
-        ensures counted { IsCounted (S.faults out.old) (S.faults out.new) result }
+        ensures { Prints (S.held out.old) (S.held out.new) self.old self.new (S.faults out.old) (S.faults out.new) result (talk_input_line fault) }
     {
         let mut line = Line::new();
         prepend_fault(&mut line, fault);

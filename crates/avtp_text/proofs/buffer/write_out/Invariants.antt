@@ -1,5 +1,5 @@
 use Rattle.std.proofs.Common.{◌≡◌, ◌≤◌, ◌-◌, length, take}
-use Rattle.std.specs.Io.KnownBytes.{Appends}
+use Rattle.avtp_base.specs.Told.{Appends}
 use Rattle.avtp_text.proofs.buffer.write_out.Given as goal
 
 abbrev pub invariant-loop-taken : goal.invariant-loop-taken

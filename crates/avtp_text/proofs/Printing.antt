@@ -1,0 +1,80 @@
+-- Texts that are printed one after the other.
+use Rattle.std.proofs.Common.{◌≡◌, ℕ, List, [], ◌++◌, Option, Result, Ok, Err, refl, sym, ap, ◌∙◌, subst, append_assoc, arith}
+use Rattle.std.proofs.lemmas.List.{append-nil}
+use Rattle.avtp_base.proofs.Told.{Appends-nil, Appends-trans, Appends-kept}
+use Rattle.std.specs.Prelude.{IsErr}
+use Rattle.avtp_base.specs.Told.{Appends, Keeps}
+use Rattle.avtp_base.specs.declared.failed.Failed.{Failed}
+use Rattle.avtp_base.specs.Faults.{IsCounted}
+use Rattle.avtp_text.specs.Written.{AppendsPrefix, Prints, PrintsPart, written}
+use Rattle.avtp_text.proofs.Growth.{grows_further, grows_none}
+
+-- ---- prefixes
+
+-- nothing was written
+pub prefix_none : (before now : Option (List ℕ)) (text : List ℕ) → Keeps before now → AppendsPrefix before now text
+prefix_none before now text keeps = record { prefix = []; rest = text; split = refl; appends = Appends-kept before before now [] (Appends-nil before) keeps }
+
+-- a first text was written, and of a second a prefix
+pub prefix_after : (before mid now : Option (List ℕ)) (a b : List ℕ) → Appends before mid a → AppendsPrefix mid now b → AppendsPrefix before now (a ++ b)
+prefix_after before mid now a b first second = record {
+  prefix = a ++ second.prefix;
+  rest = second.rest;
+  split = ap (λ t. a ++ t) second.split ∙ sym (append_assoc a second.prefix second.rest);
+  appends = Appends-trans before mid now a second.prefix first second.appends;
+}
+
+-- of a first text a prefix was written
+pub prefix_before : (before now : Option (List ℕ)) (a b : List ℕ) → AppendsPrefix before now a → AppendsPrefix before now (a ++ b)
+prefix_before before now a b first = record {
+  prefix = first.prefix;
+  rest = first.rest ++ b;
+  split = ap (λ t. t ++ b) first.split ∙ append_assoc first.prefix first.rest b;
+  appends = first.appends;
+}
+
+-- all of it was written
+pub prefix_whole : (before now : Option (List ℕ)) (a : List ℕ) → Appends before now a → AppendsPrefix before now a
+prefix_whole before now a appends = record { prefix = a; rest = []; split = sym (append-nil a); appends = appends }
+
+-- ---- what is printed
+
+-- what is written whole or not at all is written whole or in part
+pub part_of : {h h' : Option (List ℕ)} {w w' : List ℕ} {f f' : ℕ} {result : Result Unit Failed} {text : List ℕ} → Prints h h' w w' f f' result text → PrintsPart h h' w w' f f' result text
+part_of {result = Ok ok} prints = record { written = prints.written; grows = prints.grows; counted = prints.counted }
+part_of {result = Err e} prints = record { written = prefix_none _ _ _ prints.written; grows = prints.grows; counted = prints.counted }
+
+-- the same text in other words
+pub part_as : {h h' : Option (List ℕ)} {w w' : List ℕ} {f f' : ℕ} {result : Result Unit Failed} (a b : List ℕ) → a ≡ b → PrintsPart h h' w w' f f' result a → PrintsPart h h' w w' f f' result b
+part_as a b same prints = subst (PrintsPart _ _ _ _ _ _ _) same prints
+
+pub line_as : {h h' : Option (List ℕ)} {w w' : List ℕ} {f f' : ℕ} {result : Result Unit Failed} (a b : List ℕ) → a ≡ b → Prints h h' w w' f f' result a → Prints h h' w w' f f' result b
+line_as a b same prints = subst (Prints _ _ _ _ _ _ _) same prints
+
+-- nothing was printed yet
+pub part_none : (h : Option (List ℕ)) (w : List ℕ) (f : ℕ) (ok : Unit) → PrintsPart h h w w f f (Ok ok) []
+part_none h w f ok = record { written = Appends-nil (written h w); grows = grows_none h; counted = record { never_falls = omega arith; ok = refl; failed = tt } }
+
+-- a second text after a first
+pub part_then : {h h' h'' : Option (List ℕ)} {w w' w'' : List ℕ} {f f' f'' : ℕ} {result : Result Unit Failed} {ok : Unit} (a b : List ℕ)
+    → PrintsPart h h' w w' f f' (Ok ok) a → PrintsPart h' h'' w' w'' f' f'' result b → PrintsPart h h'' w w'' f f'' result (a ++ b)
+part_then {h} {h'} {h''} {w} {w'} {w''} {f} {f'} {f''} {result = Ok o} a b first second = record {
+  written = Appends-trans (written h w) (written h' w') (written h'' w'') a b first.written second.written;
+  grows = grows_further h h' h'' first.grows second.grows;
+  counted = subst (λ (n : ℕ). IsCounted {T = Unit} n f'' (Ok o)) first.counted.ok second.counted;
+}
+part_then {h} {h'} {h''} {w} {w'} {w''} {f} {f'} {f''} {result = Err e} a b first second = record {
+  written = prefix_after (written h w) (written h' w') (written h'' w'') a b first.written second.written;
+  grows = grows_further h h' h'' first.grows second.grows;
+  counted = subst (λ (n : ℕ). IsCounted {T = Unit} n f'' (Err e)) first.counted.ok second.counted;
+}
+
+-- the first of two texts failed
+pub part_failed : {h h' : Option (List ℕ)} {w w' : List ℕ} {f f' : ℕ} {result : Result Unit Failed} {e : Failed} (a b : List ℕ)
+    → IsErr result → PrintsPart h h' w w' f f' (Err e) a → PrintsPart h h' w w' f f' result (a ++ b)
+part_failed {result = Ok ok} a b err first = absurd cc
+part_failed {h} {h'} {w} {w'} {result = Err e'} a b err first = record {
+  written = prefix_before (written h w) (written h' w') a b first.written;
+  grows = first.grows;
+  counted = record { never_falls = first.counted.never_falls; ok = tt; failed = first.counted.failed };
+}
