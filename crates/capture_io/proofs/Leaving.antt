@@ -1,0 +1,75 @@
+-- What two calls after each other leave of a shelf.
+use Rattle.std.proofs.Common.{◌≡◌, ℕ, List, [], ◌∷◌, ◌++◌, Option, refl, sym, subst, ◌∙◌, arith, append_assoc, append-nil}
+use Rattle.std.specs.Prelude.{IsSome}
+use Rattle.avtp_base.specs.Files.{Files, Slots}
+use Rattle.avtp_base.proofs.Files.{KeepsFiles-refl, KeepsFiles-trans, KeepsOthers-closed, KeepsOthers-trans}
+use Rattle.capture_io.specs.Reads.{OnlyReads, ReadsSlot, OpensSlot, ClosesSlot}
+
+-- nothing was called
+pub only_reads_nothing : (files : Option Files) (slots : Slots) (reading writing : ℕ) (asked : List (List ℕ) → Type 0) → OnlyReads files files slots slots reading reading writing writing asked asked []
+only_reads_nothing files slots reading writing asked = record {
+  files = KeepsFiles-refl files;
+  slots = λ j. refl;
+  reading = omega arith;
+  writing = refl;
+  asked = λ before stands. subst asked (sym (append-nil before)) stands;
+}
+
+pub only_reads_then : (f g h : Option Files) (s t u : Slots) (r r' r'' w w' w'' : ℕ) (a b c : List (List ℕ) → Type 0) (names more : List (List ℕ))
+    → OnlyReads f g s t r r' w w' a b names → OnlyReads g h t u r' r'' w' w'' b c more → OnlyReads f h s u r r'' w w'' a c (names ++ more)
+only_reads_then f g h s t u r r' r'' w w' w'' a b c names more first second = record {
+  files = KeepsFiles-trans f g h first.files second.files;
+  slots = λ j. second.slots j ∙ first.slots j;
+  reading = omega (arith, first.reading, second.reading);
+  writing = second.writing ∙ first.writing;
+  asked = λ before stands. subst c (append_assoc before names more) (second.asked (before ++ names) (first.asked before stands));
+}
+
+-- a slot in which nothing was read
+pub reads_nothing : (files : Option Files) (slots : Slots) (reading writing : ℕ) (asked : List (List ℕ) → Type 0) (k : ℕ) → IsSome (slots k) → ReadsSlot files files slots slots reading reading writing writing asked asked k
+reads_nothing files slots reading writing asked k live = record {
+  files = KeepsFiles-refl files;
+  live = live;
+  others = λ j differs. refl;
+  reading = omega arith;
+  writing = refl;
+  asked = λ before stands. stands;
+}
+
+pub reads_then : (f g h : Option Files) (s t u : Slots) (r r' r'' w w' w'' : ℕ) (a b c : List (List ℕ) → Type 0) (k : ℕ)
+    → ReadsSlot f g s t r r' w w' a b k → ReadsSlot g h t u r' r'' w' w'' b c k → ReadsSlot f h s u r r'' w w'' a c k
+reads_then f g h s t u r r' r'' w w' w'' a b c k first second = record {
+  files = KeepsFiles-trans f g h first.files second.files;
+  live = second.live;
+  others = KeepsOthers-trans s t u k first.others second.others;
+  reading = omega (arith, first.reading, second.reading);
+  writing = second.writing ∙ first.writing;
+  asked = λ before stands. second.asked before (first.asked before stands);
+}
+
+pub opens_then : (f g h : Option Files) (s t u : Slots) (r r' r'' w w' w'' : ℕ) (a b c : List (List ℕ) → Type 0) (name : List ℕ) (k : ℕ)
+    → OpensSlot f g s t r r' w w' a b name k → ReadsSlot g h t u r' r'' w' w'' b c k → OpensSlot f h s u r r'' w w'' a c name k
+opens_then f g h s t u r r' r'' w w' w'' a b c name k first second = record {
+  free = first.free;
+  files = KeepsFiles-trans f g h first.files second.files;
+  live = second.live;
+  others = KeepsOthers-trans s t u k first.others second.others;
+  reading = omega (arith, first.reading, second.reading);
+  writing = second.writing ∙ first.writing;
+  asked = λ before stands. second.asked (before ++ name ∷ []) (first.asked before stands);
+}
+
+-- a file was opened, read, and closed
+pub only_reads_closed : (f g h : Option Files) (s t u : Slots) (r r' r'' w w' w'' : ℕ) (a b c : List (List ℕ) → Type 0) (name : List ℕ) (k : ℕ)
+    → OpensSlot f g s t r r' w w' a b name k → ClosesSlot g h t u r' r'' w' w'' b c k → OnlyReads f h s u r r'' w w'' a c (name ∷ [])
+only_reads_closed f g h s t u r r' r'' w w' w'' a b c name k first second = record {
+  files = KeepsFiles-trans f g h first.files second.files;
+  slots = KeepsOthers-closed s t u k first.free first.others second.others second.ended;
+  reading = omega (arith, first.reading, second.reading);
+  writing = second.writing ∙ first.writing;
+  asked = λ before stands. second.asked (before ++ name ∷ []) (first.asked before stands);
+}
+
+-- the same under another number of the slot, which is the same
+pub closes_as : (f g : Option Files) (s t : Slots) (r r' w w' : ℕ) (a b : List (List ℕ) → Type 0) (k j : ℕ) → k ≡ j → ClosesSlot f g s t r r' w w' a b k → ClosesSlot f g s t r r' w w' a b j
+closes_as f g s t r r' w w' a b k j same closes = subst (ClosesSlot f g s t r r' w w' a b) same closes

@@ -1,0 +1,5 @@
+pub mod Leaving
+pub mod Ending
+pub mod Taking
+pub mod Giving
+pub mod Making

@@ -1,0 +1,25 @@
+-- A file that is read whole.
+use Rattle.std.specs.Prelude.{◌≡◌, ◌++◌, ◌<◌, ◌≤◌, ℕ, List, length, take, Some, Result, IfOk, IsErrOf}
+use Rattle.avtp_base.specs.Faults.{Rose}
+use Rattle.avtp_base.specs.declared.failed.OpenFault.{OpenFault}
+use Rattle.avtp_base.specs.declared.failed.OpenFault.TheVariants as open_fault
+use Rattle.capture_io.specs.declared.contents.Contents.{Contents}
+use Rattle.capture_io.specs.declared.end.Stop.{Stop}
+use Rattle.capture_io.specs.declared.end.Stop.TheVariants as stop
+use Rattle.capture_io.specs.Ends.{CountsStop}
+
+-- Of a file of these bytes this prefix was read: all of them; or as many as come before a fault; or as many as may be
+-- read, and there are more.
+abbrev pub IsContents : ℕ → List ℕ → Stop → List ℕ → Type 0
+IsContents limit bytes stop.End prefix = (bytes ≡ prefix) × (length prefix ≤ limit)
+IsContents limit bytes stop.Fault prefix = (rest : List ℕ) × (bytes ≡ prefix ++ rest) × (length prefix ≤ limit)
+IsContents limit bytes stop.Limit prefix = (limit < length bytes) × (prefix ≡ take limit bytes)
+
+-- The count of reading faults where a file was read whole, or why not: it rose where a fault of reading or of opening
+-- came, and else it is as it was.
+pub record IsReadCounted (before after : ℕ) (result : Result Contents OpenFault) : Type 0 where
+  pub never_falls : before ≤ after
+  pub stopped : IfOk result (λ contents. CountsStop (Some contents.stop) before after)
+  pub missing : IsErrOf result open_fault.Missing → after ≡ before
+  pub memory : IsErrOf result open_fault.Memory → after ≡ before
+  pub failed : IsErrOf result open_fault.Failed → Rose before after

@@ -1,0 +1,6 @@
+pub mod Reads
+pub mod Ends
+pub mod Contents
+pub mod Pieces
+pub mod Source
+pub mod Writing

@@ -1,0 +1,30 @@
+-- A file that is read in pieces, up to a limit.
+use Rattle.std.specs.Prelude.{◌≡◌, ◌++◌, ◌+◌, ◌<◌, ◌≤◌, ℕ, Bool, true, false, List, [], length, Option, Some, None, IsSome}
+use Rattle.capture_io.specs.declared.end.Stop.{Stop}
+
+-- The slot of the file; the bytes that were read and wait to be taken; how many more may be read; and whether a read has
+-- shown that there are more.
+pub record Piecing : Type 0 where
+  pub slot : ℕ
+  pub waiting : List ℕ
+  pub left : ℕ
+  pub over : Bool
+
+-- what of the file comes after the bytes that wait, where the slot has `remains` left
+abbrev pub IsAhead : Bool → Option (List ℕ) → ℕ → List ℕ → Type 0
+IsAhead false remains left rest = remains ≡ Some rest
+IsAhead true remains left rest = (left ≡ 0) × (0 < length rest)
+
+-- Of a file of these bytes, of which `limit` may be read, this prefix was taken.
+pub record HasTaken (limit : ℕ) (bytes : List ℕ) (remains : Option (List ℕ)) (pieces : Piecing) (prefix : List ℕ) : Type 0 where
+  pub rest : List ℕ
+  pub split : bytes ≡ (prefix ++ pieces.waiting) ++ rest
+  pub ahead : IsAhead pieces.over remains pieces.left rest
+  pub count : length prefix + length pieces.waiting + pieces.left ≡ limit
+
+-- A read where nothing waited: then some bytes wait, no more than might be read, or it stopped.
+pub record ReadsPiece (old new : Piecing) (result : Option Stop) : Type 0 where
+  pub slot : new.slot ≡ old.slot
+  pub bounded : length new.waiting + new.left ≤ old.left
+  pub some : result ≡ None → 0 < length new.waiting
+  pub none : IsSome result → new.waiting ≡ []

@@ -1,0 +1,57 @@
+-- A file that is written through a buffer.
+use Rattle.std.specs.Prelude.{◌≡◌, ◌≢◌, ◌⊎◌, ℕ, true, List, ◌++◌, Option, None, Some, IsSome, option_map}
+use Rattle.avtp_base.specs.Files.{Files, Slots, file_of, left_in, name_in, KeepsFiles, KeepsOtherFiles, KeepsSlots, PutsFile}
+
+-- The slot of the file, and the bytes that wait to be written to it.
+pub record Writing : Type 0 where
+  pub slot : ℕ
+  pub waiting : List ℕ
+
+-- the file of slot k was made for writing
+abbrev pub IsMadeIn : Slots → ℕ → Type 0
+IsMadeIn slots k = option_map (λ o. o.made) (slots k) ≡ Some true
+
+-- Since files, slots and the count of reading faults stood so, the file of this name was made, and it is open in the
+-- writer's slot, which was not live. The bytes are those that it has and then those that wait. All other files are as they
+-- were where they are told, and so are the other slots, but for what is left there of this file.
+pub record IsWriting (old_files new_files : Option Files) (old_slots new_slots : Slots) (old_reading new_reading : ℕ) (writer : Writing) (name bytes : List ℕ) : Type 0 where
+  pub held : List ℕ
+  pub split : bytes ≡ held ++ writer.waiting
+  pub put : PutsFile old_files new_files name held
+  pub free : old_slots writer.slot ≡ None
+  pub made : IsMadeIn new_slots writer.slot
+  pub named : IsSome old_files → name_in new_slots writer.slot ≡ Some name
+  pub same : (j : ℕ) → j ≢ writer.slot → option_map file_of (new_slots j) ≡ option_map file_of (old_slots j)
+  pub left : IsSome old_files → (j : ℕ) → j ≢ writer.slot → name_in old_slots j ≢ Some name → left_in new_slots j ≡ left_in old_slots j
+  pub reading : new_reading ≡ old_reading
+
+-- The file of slot k was written, or not, and is still open; no reading fault was counted, and no name was asked for.
+pub record WritesSlot (old_slots new_slots : Slots) (old_reading new_reading : ℕ) (old_asked new_asked : List (List ℕ) → Type 0) (k : ℕ) : Type 0 where
+  pub made : IsMadeIn new_slots k
+  pub slots : KeepsOtherFiles old_slots new_slots (name_in old_slots k)
+  pub reading : new_reading ≡ old_reading
+  pub asked : (before : List (List ℕ)) → old_asked before → new_asked before
+
+-- ---- what is left
+
+-- a file was not made
+pub record NotMade (old_files new_files : Option Files) (old_slots new_slots : Slots) (old_reading new_reading : ℕ) : Type 0 where
+  pub files : KeepsFiles old_files new_files
+  pub slots : KeepsSlots old_slots new_slots
+  pub reading : new_reading ≡ old_reading
+
+-- the file has a prefix of these bytes now, and all other files that are told stay as they were
+pub record PutsPrefix (old new : Option Files) (name bytes : List ℕ) : Type 0 where
+  pub prefix : List ℕ
+  pub rest : List ℕ
+  pub split : bytes ≡ prefix ++ rest
+  pub put : PutsFile old new name prefix
+
+-- the file is as it was, or has a prefix of these bytes, and all other files stay as they were
+abbrev pub MakesPrefix : Option Files → Option Files → List ℕ → List ℕ → Type 0
+MakesPrefix old new name bytes = KeepsFiles old new ⊎ PutsPrefix old new name bytes
+
+-- Every slot is live as it was, with its file; and where files are told, what is left of a file of another name than this.
+pub record KeepsSlotsBut (files : Option Files) (old new : Slots) (name : List ℕ) : Type 0 where
+  pub same : (j : ℕ) → option_map file_of (new j) ≡ option_map file_of (old j)
+  pub left : IsSome files → (j : ℕ) → name_in old j ≢ Some name → left_in new j ≡ left_in old j

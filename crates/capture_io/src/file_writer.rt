@@ -1,0 +1,117 @@
+//! A file that is written through a buffer.
+
+ghost use Rattle.std.specs.Prelude.{◌≡◌, ◌≤◌, ◌++◌, ◌∷◌, ℕ, List, [], Option, length, IfOk, OnOk, OnErr, IsErrOf};
+ghost use Rattle.avtp_base.specs.Faults.{IsCounted, IsOpenCounted};
+ghost use Rattle.avtp_base.specs.Files.{Files, Slots, PutsFile};
+ghost use Rattle.capture_io.specs.Writing.{IsMadeIn, IsWriting, KeepsSlotsBut, NotMade, PutsPrefix, WritesSlot};
+
+use avtp_base::{Buffer, Failed, OpenFault, Shelf, Slot};
+use std::marker::Model;
+
+/// A file of a shelf that is made and written through a buffer.
+///
+/// What the file has and then what waits in the buffer is all that was added. Where the shelf fails the file has a prefix
+/// of that; nothing is lost or written twice, so the same call may be made again.
+#[derive(Drop)]
+pub struct FileWriter {
+    slot: Slot,
+    buffer: Buffer,
+}
+
+impl Model for FileWriter {
+    ghost use Rattle.capture_io.specs.Writing.{Writing};
+
+    ghost Value = { Writing };
+
+    ghost view = { λ w. record { slot = w.slot.0; waiting = w.buffer } };
+}
+
+impl FileWriter {
+    /// Makes a file, or empties it, to write it through a buffer in which nothing waits.
+    ///
+    /// `Failed` comes only where the writing count rose, and `Memory` is the shelf's; after both the file is as it was. It
+    /// never answers `Missing`.
+    pub fn create<F: Shelf>(buffer: Buffer, shelf: &mut F, name: &str) -> Result<Self, OpenFault>
+        requires none_waits { buffer ≡ [] }
+        ensures begun { IfOk result (λ writer. IsWriting (F.files shelf.old) (F.files shelf.new) (F.slots shelf.old) (F.slots shelf.new) (F.reading_faults shelf.old) (F.reading_faults shelf.new) writer name.now []) }
+        ensures not_made { OnErr result (NotMade (F.files shelf.old) (F.files shelf.new) (F.slots shelf.old) (F.slots shelf.new) (F.reading_faults shelf.old) (F.reading_faults shelf.new)) }
+        ensures not_missing { IsErrOf result OpenFault.Missing → ⊥ }
+        ensures counted { IsOpenCounted (F.writing_faults shelf.old) (F.writing_faults shelf.new) result }
+        ensures asked { (names : List (List ℕ)) → F.asked shelf.old names → F.asked shelf.new (names ++ name.now ∷ []) }
+    {
+        let slot = shelf.create_file(name)?;
+        Ok(FileWriter { slot, buffer })
+    }
+
+    /// Adds at most [`Buffer::ROOM`] bytes, or nothing where the shelf fails.
+    pub fn add<F: Shelf>(&mut self, shelf: &mut F, bytes: &[u8]) -> Result<(), Failed>
+        requires made { IsMadeIn (F.slots shelf.old) self.old.slot }
+        requires size { length bytes.now ≤ 65536 }
+        ensures added { OnOk result ((files : Option Files) (slots : Slots) (reading : ℕ) (name all : List ℕ) →
+            IsWriting files (F.files shelf.old) slots (F.slots shelf.old) reading (F.reading_faults shelf.old) self.old name all →
+            IsWriting files (F.files shelf.new) slots (F.slots shelf.new) reading (F.reading_faults shelf.new) self.new name (all ++ bytes.now)) }
+        ensures kept { OnErr result ((files : Option Files) (slots : Slots) (reading : ℕ) (name all : List ℕ) →
+            IsWriting files (F.files shelf.old) slots (F.slots shelf.old) reading (F.reading_faults shelf.old) self.old name all →
+            IsWriting files (F.files shelf.new) slots (F.slots shelf.new) reading (F.reading_faults shelf.new) self.new name all) }
+        ensures counted { IsCounted (F.writing_faults shelf.old) (F.writing_faults shelf.new) result }
+        ensures writes { WritesSlot (F.slots shelf.old) (F.slots shelf.new) (F.reading_faults shelf.old) (F.reading_faults shelf.new) (F.asked shelf.old) (F.asked shelf.new) self.old.slot }
+        ensures slot { self.new.slot ≡ self.old.slot }
+    {
+        if self.buffer.room() < bytes.len() {
+            self.flush(shelf)?;
+        }
+        self.buffer.push(bytes);
+        Ok(())
+    }
+
+    /// Writes all that waits.
+    fn flush<F: Shelf>(&mut self, shelf: &mut F) -> Result<(), Failed>
+        requires made { IsMadeIn (F.slots shelf.old) self.old.slot }
+        ensures none_waits { OnOk result (self.new.waiting ≡ []) }
+        ensures kept { (files : Option Files) (slots : Slots) (reading : ℕ) (name all : List ℕ) →
+            IsWriting files (F.files shelf.old) slots (F.slots shelf.old) reading (F.reading_faults shelf.old) self.old name all →
+            IsWriting files (F.files shelf.new) slots (F.slots shelf.new) reading (F.reading_faults shelf.new) self.new name all }
+        ensures counted { IsCounted (F.writing_faults shelf.old) (F.writing_faults shelf.new) result }
+        ensures writes { WritesSlot (F.slots shelf.old) (F.slots shelf.new) (F.reading_faults shelf.old) (F.reading_faults shelf.new) (F.asked shelf.old) (F.asked shelf.new) self.old.slot }
+        ensures slot { self.new.slot ≡ self.old.slot }
+    {
+        while !self.buffer.waiting().is_empty() {
+            let count = shelf.write(self.slot, self.buffer.waiting())?;
+            self.buffer.drop_front(count);
+        }
+        Ok(())
+    }
+
+    /// Writes what waits, and closes the file. At `Ok` the file has all that was added; else it has a prefix of that.
+    pub fn finish<F: Shelf>(self, shelf: &mut F) -> Result<(), Failed>
+        requires made { IsMadeIn (F.slots shelf.old) self.slot }
+        ensures put { OnOk result ((files : Option Files) (slots : Slots) (reading : ℕ) (name all : List ℕ) →
+            IsWriting files (F.files shelf.old) slots (F.slots shelf.old) reading (F.reading_faults shelf.old) self name all → PutsFile files (F.files shelf.new) name all) }
+        ensures prefix { OnErr result ((files : Option Files) (slots : Slots) (reading : ℕ) (name all : List ℕ) →
+            IsWriting files (F.files shelf.old) slots (F.slots shelf.old) reading (F.reading_faults shelf.old) self name all → PutsPrefix files (F.files shelf.new) name all) }
+        ensures slots { (files : Option Files) (slots : Slots) (reading : ℕ) (name all : List ℕ) →
+            IsWriting files (F.files shelf.old) slots (F.slots shelf.old) reading (F.reading_faults shelf.old) self name all → KeepsSlotsBut files slots (F.slots shelf.new) name }
+        ensures counted { IsCounted (F.writing_faults shelf.old) (F.writing_faults shelf.new) result }
+        ensures reading { F.reading_faults shelf.new ≡ F.reading_faults shelf.old }
+        ensures asked { (names : List (List ℕ)) → F.asked shelf.old names → F.asked shelf.new names }
+    {
+        let mut writer = self;
+        let written = writer.flush(shelf);
+        shelf.close_file(writer.slot);
+        written
+    }
+
+    /// Closes the file, which has a prefix of what was added.
+    pub fn abandon<F: Shelf>(self, shelf: &mut F)
+        requires made { IsMadeIn (F.slots shelf.old) self.slot }
+        ensures prefix { (files : Option Files) (slots : Slots) (reading : ℕ) (name all : List ℕ) →
+            IsWriting files (F.files shelf.old) slots (F.slots shelf.old) reading (F.reading_faults shelf.old) self name all → PutsPrefix files (F.files shelf.new) name all }
+        ensures slots { (files : Option Files) (slots : Slots) (reading : ℕ) (name all : List ℕ) →
+            IsWriting files (F.files shelf.old) slots (F.slots shelf.old) reading (F.reading_faults shelf.old) self name all → KeepsSlotsBut files slots (F.slots shelf.new) name }
+        ensures writing { F.writing_faults shelf.new ≡ F.writing_faults shelf.old }
+        ensures reading { F.reading_faults shelf.new ≡ F.reading_faults shelf.old }
+        ensures asked { (names : List (List ℕ)) → F.asked shelf.old names → F.asked shelf.new names }
+    {
+        shelf.close_file(self.slot);
+    }
+}

@@ -1,0 +1,16 @@
+//! What a capture is read through, and what a file is written through, over a shelf.
+#![tactic(auto)]
+
+mod contents;
+mod end;
+mod file_writer;
+mod pieces;
+mod source;
+
+pub use contents::{Contents, read_contents};
+pub use end::{End, Stop};
+pub use file_writer::FileWriter;
+pub use source::Source;
+
+#[cfg(test)]
+mod tests;

@@ -1,0 +1,139 @@
+//! A file that is read in pieces, up to a limit.
+
+ghost use Rattle.std.specs.Prelude.{◌≡◌, ◌≤◌, ◌∷◌, ℕ, List, [], Some, None, length, drop, IsSome, IfSome, IfOk, OnErr, IsErrOf};
+ghost use Rattle.avtp_base.specs.Faults.{IsOpenCounted};
+ghost use Rattle.avtp_base.specs.Files.{Files, left_in, IsMissing};
+ghost use Rattle.capture_io.specs.Contents.{IsContents};
+ghost use Rattle.capture_io.specs.Ends.{CountsStop};
+ghost use Rattle.capture_io.specs.Pieces.{HasTaken, ReadsPiece};
+ghost use Rattle.capture_io.specs.Reads.{OnlyReads, ReadsSlot, OpensSlot, ClosesSlot};
+
+use crate::end::Stop;
+use avtp_base::{Failed, OpenFault, Shelf, Slot};
+use std::alloc::Global;
+use std::marker::Model;
+
+/// The most bytes of a piece.
+const PIECE: usize = 65_536;
+
+/// An open file that is read in pieces of at most 65,536 bytes, up to a limit. Bytes that were read wait until they are
+/// taken.
+#[derive(Drop)]
+pub struct Pieces {
+    slot: Slot,
+    piece: Vec<u8>,
+    /// Where in the piece the bytes begin that wait, and where they end.
+    start: usize,
+    end: usize,
+    /// How many more bytes may be read.
+    left: u64,
+    /// Whether a read has shown that the file has more bytes than may be read.
+    over: bool,
+}
+
+impl Model for Pieces {
+    ghost use Rattle.std.specs.Prelude.{◌≡◌, ◌≤◌, slice_range, vec_len};
+    ghost use Rattle.capture_io.specs.Pieces.{Piecing};
+
+    ghost Value = { Piecing };
+
+    ghost view = { λ p. record { slot = p.slot.0; waiting = slice_range p.piece.items p.start p.end; left = p.left; over = p.over } };
+
+    ghost invariant = { λ p. (vec_len p.piece ≡ 65536) × (p.start ≤ p.end) × (p.end ≤ 65536) };
+}
+
+impl Pieces {
+    /// Opens a file of which at most `limit` bytes may be read. The name is asked for first, and the memory of a piece is
+    /// reserved after that; where there is none, the file is closed again.
+    pub fn open<F: Shelf>(
+        alloc: Global,
+        limit: u64,
+        shelf: &mut F,
+        name: &str,
+    ) -> Result<Self, OpenFault>
+        ensures begun { IfOk result (λ pieces. (files : Files) → F.files shelf.old ≡ Some files → (bytes : List ℕ) × (files name.now ≡ Some bytes)
+            × HasTaken limit bytes (left_in (F.slots shelf.new) pieces.slot) pieces []) }
+        ensures nothing { IfOk result (λ pieces. (pieces.waiting ≡ []) × (pieces.left ≡ limit)) }
+        ensures opened { IfOk result (λ pieces. OpensSlot (F.files shelf.old) (F.files shelf.new) (F.slots shelf.old) (F.slots shelf.new) (F.reading_faults shelf.old) (F.reading_faults shelf.new)
+            (F.writing_faults shelf.old) (F.writing_faults shelf.new) (F.asked shelf.old) (F.asked shelf.new) name.now pieces.slot) }
+        ensures refused { OnErr result (OnlyReads (F.files shelf.old) (F.files shelf.new) (F.slots shelf.old) (F.slots shelf.new) (F.reading_faults shelf.old) (F.reading_faults shelf.new)
+            (F.writing_faults shelf.old) (F.writing_faults shelf.new) (F.asked shelf.old) (F.asked shelf.new) (name.now ∷ [])) }
+        ensures missing { IsErrOf result OpenFault.Missing → IsMissing (F.files shelf.old) name.now }
+        ensures counted { IsOpenCounted (F.reading_faults shelf.old) (F.reading_faults shelf.new) result }
+    {
+        let slot = shelf.open_file(name)?;
+        let Ok(piece) = vec![in alloc; 0u8; PIECE] else {
+            shelf.close_file(slot);
+            return Err(OpenFault::Memory);
+        };
+        Ok(Pieces {
+            slot,
+            piece,
+            start: 0,
+            end: 0,
+            left: limit,
+            over: false,
+        })
+    }
+
+    /// Reads the next piece, where none waits: then bytes wait, or it answers where the reading stopped.
+    pub fn read<F: Shelf>(&mut self, shelf: &mut F) -> Option<Stop>
+        requires live { IsSome (F.slots shelf.old self.old.slot) }
+        requires none_waits { self.old.waiting ≡ [] }
+        ensures more { result ≡ None → (limit : ℕ) (bytes prefix : List ℕ) →
+            HasTaken limit bytes (left_in (F.slots shelf.old) self.old.slot) self.old prefix → HasTaken limit bytes (left_in (F.slots shelf.new) self.new.slot) self.new prefix }
+        ensures stopped { IfSome result (λ stop. (limit : ℕ) (bytes prefix : List ℕ) →
+            HasTaken limit bytes (left_in (F.slots shelf.old) self.old.slot) self.old prefix → IsContents limit bytes stop prefix) }
+        ensures piece { ReadsPiece self.old self.new result }
+        ensures reads { ReadsSlot (F.files shelf.old) (F.files shelf.new) (F.slots shelf.old) (F.slots shelf.new) (F.reading_faults shelf.old) (F.reading_faults shelf.new)
+            (F.writing_faults shelf.old) (F.writing_faults shelf.new) (F.asked shelf.old) (F.asked shelf.new) self.old.slot }
+        ensures counted { CountsStop result (F.reading_faults shelf.old) (F.reading_faults shelf.new) }
+    {
+        if self.over {
+            return Some(Stop::Limit);
+        }
+        match shelf.read(self.slot, &mut self.piece) {
+            Ok(0) => Some(Stop::End),
+            Ok(count) => {
+                let within = self.left.min(count as u64) as usize;
+                self.start = 0;
+                self.end = within;
+                self.left -= within as u64;
+                self.over = within < count;
+                if within == 0 { Some(Stop::Limit) } else { None }
+            }
+            Err(Failed) => Some(Stop::Fault),
+        }
+    }
+
+    /// The bytes that wait.
+    pub fn waiting(&self) -> &[u8]
+        ensures { result.now ≡ self.now.waiting }
+    {
+        &self.piece[self.start..self.end]
+    }
+
+    /// Takes so many of the bytes that wait.
+    pub fn take(&mut self, count: usize)
+        requires { count ≤ length self.old.waiting }
+        ensures { self.new ≡ record self.old { waiting = drop count self.old.waiting } }
+    {
+        self.start += count;
+    }
+
+    /// Takes all bytes that wait.
+    pub fn take_all(&mut self)
+        ensures { self.new ≡ record self.old { waiting = [] } }
+    {
+        self.start = self.end;
+    }
+
+    /// Closes the file.
+    pub fn close<F: Shelf>(self, shelf: &mut F)
+        requires { IsSome (F.slots shelf.old self.slot) }
+        ensures { ClosesSlot (F.files shelf.old) (F.files shelf.new) (F.slots shelf.old) (F.slots shelf.new) (F.reading_faults shelf.old) (F.reading_faults shelf.new)
+            (F.writing_faults shelf.old) (F.writing_faults shelf.new) (F.asked shelf.old) (F.asked shelf.new) self.slot }
+    {
+        shelf.close_file(self.slot);
+    }
+}
