@@ -1,24 +1,20 @@
 -- What words ask for.
-use Rattle.std.proofs.Common.{◌≡◌, ℕ, ◌*◌, ℤ, pos, ◌≤ℤ◌, List, [], ◌≤◌, Option, Some, None, Result, Ok, Err, refl, sym, subst, ap, ◌∙◌, arith}
-use Rattle.std.specs.Prelude.{◌^◌, codes, IfOk, IsErr, IsErrAnd, IsSome, MatchOption}
-use Rattle.std.specs.Io.KnownBytes.{Appends, Keeps}
-use Rattle.std.proofs.KnownBytes.{Appends-kept, Keeps-trans}
-use Rattle.std.proofs.lemmas.List.{append-nil}
+use Rattle.std.proofs.Common.{◌≡◌, ℕ, ◌*◌, ℤ, pos, ◌≤ℤ◌, List, ◌≤◌, Option, Some, None, Result, Ok, Err, refl, sym, subst, arith}
+use Rattle.std.specs.Prelude.{◌^◌, codes, IsErrAnd, IsSome, IsSomeAnd, MatchOption}
 use Rattle.std.proofs.lemmas.Int.{ints}
-use Rattle.avtp_base.specs.Faults.{IsCounted, Rose}
-use Rattle.talker.specs.Plan.{Restarts, rate_code}
-use Rattle.talker.proofs.LawLemmas.{named_rate}
-use Rattle.avtp_text.specs.Written.{written}
-use Rattle.avtp_text.specs.Notices.{words_line}
+use Rattle.iec61883_format.specs.Iec.{block_size, rate_of_fdf, syt_interval}
+use Rattle.talker.specs.declared.plan.TalkPlan.{TalkPlan}
+use Rattle.talker.specs.Plan.{FitsBlocks, FitsPacket, HasRate, IsTalked, Restarts, fdf_of, rate_code}
+use Rattle.talker.proofs.LawLemmas.{named_blocks, named_fdf, named_rate}
 use Rattle.avtp_words.specs.declared.command.Command.{Command}
 use Rattle.avtp_words.specs.declared.command.Offence.{Offence}
-use Rattle.avtp_words.specs.Grammar.{Request, show, listen, talk, IsCommandLine}
+use Rattle.avtp_words.specs.declared.talk.Kind.{Kind}
+use Rattle.avtp_words.specs.declared.talk.Kind.TheVariants as words
+use Rattle.avtp_words.specs.Grammar.{FitsKind, IsCommandLine, Request, show, listen, talk, Talking}
 use Rattle.avtp_words.specs.Number.{IsNumber}
 use Rattle.avtp_words.specs.Options.{value_in}
-use Rattle.avtp_tool.specs.Reports.{IsRequest}
-use Rattle.avtp_tool.specs.declared.status.Status.{Status}
-use Rattle.avtp_tool.specs.declared.status.Status.TheVariants as status
-use Rattle.avtp_base.specs.declared.failed.Failed.{Failed}
+use Rattle.avtp_tool.specs.Run.{IsRequest}
+use Rattle.avtp_tool.specs.Talk.{talk_kind, talk_plan}
 
 given_within : (v : Option (List ℕ)) (low high default n : ℕ) → low ≤ default → default ≤ high → MatchOption v (n ≡ default) (λ word. IsNumber low high word n) → (low ≤ n) × (n ≤ high)
 given_within None low high default n least most given = (omega (arith, given, least), omega (arith, given, most))
@@ -32,6 +28,24 @@ restarts : (v : Option (List ℕ)) (given : Option ℕ) (jump : ℕ) → MatchOp
     → (4 ≤ jump) × (jump ≤ 10 ^ 9) → Restarts given jump
 restarts None given jump none within = subst (λ g. Restarts g jump) (sym none) tt
 restarts (Some word) given jump some within = subst (λ g. Restarts g jump) (sym some.1) (record { some = some.2.least; most = some.2.most; least_jump = within.0; most_jump = within.1 })
+
+-- ---- what is sent
+
+rate_of_kind : (kind : Kind) (words : List (List ℕ)) (asked : Talking) → FitsKind kind words asked → HasRate (talk_kind kind) asked.rate
+rate_of_kind (words.Aaf format sparse) words asked fits = some_is (rate_code asked.rate) fits.rate.0 (named_rate asked.rate fits.rate.0 fits.rate.1)
+rate_of_kind words.Am824 words asked fits = some_is (fdf_of asked.rate) fits.0.rate.0 (named_fdf asked.rate fits.0.rate.0 fits.0.rate.1)
+
+stated_blocks : (plan : TalkPlan) (fdf : ℕ) (stated : Option ℕ) → syt_interval fdf ≡ stated → rate_of_fdf fdf ≡ Some plan.rate → IsSomeAnd stated (λ interval. interval ≤ 8 * plan.count) → plan.channels ≤ 256 → plan.count * block_size plan.channels ≤ 1468 → FitsBlocks plan
+stated_blocks plan fdf None is named some quadlets size = absurd some
+stated_blocks plan fdf (Some interval) is named some quadlets size = named_blocks plan fdf interval named is quadlets some size
+
+fits_kind : (kind : Kind) (words : List (List ℕ)) (asked : Talking) → FitsKind kind words asked → FitsPacket (talk_kind kind) (talk_plan asked)
+fits_kind (words.Aaf format sparse) words asked fits = fits.size
+fits_kind words.Am824 words asked fits = stated_blocks (talk_plan asked) fits.0.rate.0 (syt_interval fits.0.rate.0) refl fits.0.rate.1 fits.0.rate.2 fits.0.quadlets fits.0.size
+
+is_talked : (kind : Kind) → IsTalked (talk_kind kind)
+is_talked (words.Aaf format sparse) = tt
+is_talked words.Am824 = tt
 
 -- what words ask for is within its bounds
 pub requested : (words : List (List ℕ)) (request : Request) → IsCommandLine words request → IsRequest request
@@ -48,13 +62,13 @@ requested words (talk asked) (line, rules) =
     let lead = given_within (value_in (codes "--lead") line.settings) 1 (10 ^ 9) 2000000 asked.lead (omega arith) (omega arith) line.lead in
     let jump = given_within (value_in (codes "--jump") line.settings) 4 (10 ^ 9) 1000000 asked.jump (omega arith) (omega arith) line.jump in
     record {
-      kind = tt;
-      rate = some_is (rate_code asked.rate) rules.rate.0 (named_rate asked.rate rules.rate.0 rules.rate.1);
+      kind = is_talked asked.kind;
+      rate = rate_of_kind asked.kind words asked rules.fits;
       some_channels = channels.0;
       channels = channels.1;
       some_count = count.0;
       count = count.1;
-      fits = rules.size;
+      fits = fits_kind asked.kind words asked rules.fits;
       started = subst (λ (z : ℤ). pos 0 ≤ℤ z) (sym line.start_is) (omega (arith, ints));
       start = subst (λ (z : ℤ). z ≤ℤ pos (4 * 10 ^ 18)) (sym line.start_is) (omega (arith, ints, start.1));
       some_lead = lead.0;
@@ -67,57 +81,3 @@ requested words (talk asked) (line, rules) =
 pub not_offence : (r : Result Command Offence) (command : Command) (position : ℕ) → IsErrAnd r (λ offence. offence.position ≡ position) → r ≡ Ok command → ⊥
 not_offence (Ok c) command position h e = h
 not_offence (Err o) command position h e = absurd cc
-
-pub never_words : (r : Result Status Failed) → IfOk r (λ ended. ended ≡ status.Words → ⊥) → r ≡ Ok status.Words → ⊥
-never_words (Ok s) none e = none cc
-never_words (Err f) none e = absurd cc
-
-pub some_none : {A : Type 0} (x : Option A) → IsSome x → x ≡ None → ⊥
-some_none None some none = absurd cc
-some_none (Some x) some none = absurd cc
-
--- a fault of reading is another end
-pub not_words : (ended : Status) → ended ≡ status.ReadFault → ended ≡ status.Words → ⊥
-not_words ended is e = let t : status.ReadFault ≡ status.Words = sym is ∙ e in cc
-
-pub not_written : (r : Result Status Failed) → IfOk r (λ ended. ended ≡ status.ReadFault) → r ≡ Ok status.WriteFault → ⊥
-not_written (Ok s) is e = cc
-not_written (Err f) is e = absurd cc
-
-pub not_done : (r : Result Status Failed) → IfOk r (λ ended. ended ≡ status.ReadFault) → r ≡ Ok status.Done → ⊥
-not_done (Ok s) is e = cc
-not_done (Err f) is e = absurd cc
-
-pub words_as : (position other : ℕ) (before now : Option (List ℕ)) → position ≡ other → Appends before now (words_line position) → Appends before now (words_line other)
-words_as position other before now same h = subst (λ n. Appends before now (words_line n)) same h
-
-written_none : (held : Option (List ℕ)) → written held [] ≡ held
-written_none None = refl
-written_none (Some xs) = ap (λ t. Some t) (append-nil xs)
-
--- Where nothing waited before, and nothing waits now, the sink holds what was written.
-pub flushed : (old mid new : Option (List ℕ)) (start last printed : List ℕ) → start ≡ [] → last ≡ [] → Appends (written old start) mid printed → Keeps mid (written new last) → Appends old new printed
-flushed old mid new start last printed none ended appends keeps =
-    let whole = Appends-kept (written old start) mid (written new last) printed appends keeps in
-    let from = subst (λ s. Appends (written old s) (written new last) printed) none whole in
-    let to = subst (λ l. Appends (written old []) (written new l) printed) ended from in
-    subst (λ h. Appends h new printed) (written_none old) (subst (λ h. Appends (written old []) h printed) (written_none new) to)
-
-pub kept_flushed : (old mid new : Option (List ℕ)) (start last : List ℕ) → start ≡ [] → last ≡ [] → Keeps (written old start) mid → Keeps mid (written new last) → Keeps old new
-kept_flushed old mid new start last none ended first second =
-    let whole = Keeps-trans (written old start) mid (written new last) first second in
-    let from = subst (λ s. Keeps (written old s) (written new last)) none whole in
-    let to = subst (λ l. Keeps (written old []) (written new l)) ended from in
-    subst (λ h. Keeps h new) (written_none old) (subst (λ h. Keeps (written old []) h) (written_none new) to)
-
--- the same for a report, and for a fixed line
-pub shown_flushed : (Prints : Status → List ℕ → Type 0) (ended : Status) (old mid new : Option (List ℕ)) (start last : List ℕ) → start ≡ [] → last ≡ []
-    → (printed : List ℕ) × Prints ended printed × Appends (written old start) mid printed → Keeps mid (written new last) → (printed : List ℕ) × Prints ended printed × Appends old new printed
-shown_flushed Prints ended old mid new start last none last_none h keeps = (h.0, h.1, flushed old mid new start last h.0 none last_none h.2 keeps)
-
-pub rose_later : (before mid after : ℕ) (r : Result Status Failed) → IsErr r → IsCounted before mid r → mid ≤ after → Rose before after
-rose_later before mid after (Ok s) err counted more = absurd cc
-rose_later before mid after (Err f) err counted more = omega (arith, counted.failed)
-
-pub not_write_fault : (ended other : Status) → ended ≡ other → (other ≡ status.WriteFault → ⊥) → ended ≡ status.WriteFault → ⊥
-not_write_fault ended other is differs e = differs (sym is ∙ e)

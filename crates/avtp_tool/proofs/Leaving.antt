@@ -1,79 +1,73 @@
--- What a request leaves of files and slots.
-use Rattle.std.proofs.Common.{◌≡◌, ℕ, List, Option, Some, None, Result, Ok, inl, inr, arith, refl, sym, ap, subst, ◌∙◌}
-use Rattle.std.specs.Prelude.{IsSome, option_map, option_and_then}
-use Rattle.std.proofs.lemmas.Bool.Decides.{eqb_tells}
-use Rattle.avtp_base.specs.Files.{Files, KeepsFiles, KeepsOthers, KeepsSlots, Open, Slots, file_of, left_in}
+-- What reading leaves, of calls that follow each other.
+use Rattle.std.proofs.Common.{◌≡◌, ℕ, List, [], ◌∷◌, Option, Some, None, Result, Ok, Err, sym, subst, refl, arith, inr, ◌∙◌}
+use Rattle.std.specs.Prelude.{◌⊎◌, ◌≢◌, IfOk}
 use Rattle.avtp_base.specs.declared.failed.Failed.{Failed}
-use Rattle.avtp_words.specs.Grammar.{Request, show, listen, talk}
 use Rattle.avtp_tool.specs.declared.status.Status.{Status}
 use Rattle.avtp_tool.specs.declared.status.Status.TheVariants as status
-use Rattle.avtp_tool.specs.Made.{IsWriteCounted, KeepsFilesBut, KeepsOthersFor, KeepsSlotsFor}
-use Rattle.avtp_tool.specs.Reports.{Makes, MakesPart}
-use Rattle.avtp_tool.proofs.Ending.{files_kept_twice, slots_kept}
-use Rattle.avtp_tool.proofs.Talked.{makes_from, puts_from}
+use Rattle.avtp_tool.specs.Made.{CountsWriting}
+use Rattle.avtp_tool.specs.Status.{status_of}
+use Rattle.avtp_base.specs.Files.{Files, Slots}
+use Rattle.capture_io.specs.declared.end.End.{End}
+use Rattle.capture_io.specs.declared.end.End.TheVariants as end
+use Rattle.capture_io.specs.Ends.{CountsFault}
+use Rattle.capture_io.specs.Reads.{ClosesSlot, OnlyReads, OpensSlot, ReadsSlot}
+use Rattle.capture_io.proofs.Leaving.{closes_as, only_reads_closed, opens_then, reads_then}
 
--- ---- files that are kept
+pub reads_on : {f g h : Option Files} {s t u : Slots} {r r' r'' w w' w'' : ℕ} {a b c : List (List ℕ) → Type 0} {k j : ℕ} → j ≡ k → ReadsSlot f g s t r r' w w' a b k → ReadsSlot g h t u r' r'' w' w'' b c j
+    → ReadsSlot f h s u r r'' w w'' a c k
+reads_on {f} {g} {h} {s} {t} {u} {r} {r'} {r''} {w} {w'} {w''} {a} {b} {c} {k} {j} same first second =
+    reads_then f g h s t u r r' r'' w w' w'' a b c k first (subst (ReadsSlot g h t u r' r'' w' w'' b c) same second)
 
-pub files_but : (output : Option (List ℕ)) (old new : Option Files) → KeepsFiles old new → KeepsFilesBut output old new
-files_but None old new keeps = keeps
-files_but (Some name) None new keeps = tt
-files_but (Some name) (Some old) None keeps = absurd keeps
-files_but (Some name) (Some old) (Some new) keeps = λ other differs. keeps other
+-- a file was opened, read and closed
+pub read_through : {f g h i : Option Files} {s t u v : Slots} {r r' r'' q w w' w'' x : ℕ} {a b c d : List (List ℕ) → Type 0} {name : List ℕ} {k j : ℕ} → j ≡ k
+    → OpensSlot f g s t r r' w w' a b name k → ReadsSlot g h t u r' r'' w' w'' b c k → ClosesSlot h i u v r'' q w'' x c d j → OnlyReads f i s v r q w x a d (name ∷ [])
+read_through {f} {g} {h} {i} {s} {t} {u} {v} {r} {r'} {r''} {q} {w} {w'} {w''} {x} {a} {b} {c} {d} {name} {k} {j} same opens reads closes =
+    only_reads_closed f h i s u v r r'' q w w'' x a c d name k (opens_then f g h s t u r r' r'' w w' w'' a b c name k opens reads) (closes_as h i u v r'' q w'' x c d j k same closes)
 
-pub but_from : (output : Option (List ℕ)) (a b c : Option Files) → KeepsFiles a b → KeepsFilesBut output b c → KeepsFilesBut output a c
-but_from None a b c keeps but = files_kept_twice a b c keeps but
-but_from (Some name) None b c keeps but = tt
-but_from (Some name) (Some a) None c keeps but = absurd keeps
-but_from (Some name) (Some a) (Some b) None keeps but = absurd but
-but_from (Some name) (Some a) (Some b) (Some c) keeps but = λ other differs. but other differs ∙ keeps other
+-- a record more was read, so no fault was counted
+pub quiet_next : (ended result : Option End) (before after : ℕ) → ended ≡ None → result ≡ None → CountsFault ended result before after → after ≡ before
+quiet_next ended result before after none more counts = subst (λ (r : Option End). CountsFault None r before after) more (subst (λ (e : Option End). CountsFault e result before after) none counts)
 
-pub part_kept : (request : Request) (bytes : List ℕ) (old new : Option Files) → KeepsFiles old new → MakesPart request bytes old new
-part_kept (show limit file) bytes old new keeps = keeps
-part_kept (listen asked) bytes old new keeps = keeps
-part_kept (talk asked) bytes old new keeps = inl keeps
+-- the reading ended
+pub ended_so : (ended : Option End) (how : End) (before after : ℕ) → ended ≡ None → CountsFault ended (Some how) before after → CountsFault None (Some how) before after
+ended_so ended how before after none counts = subst (λ (e : Option End). CountsFault e (Some how) before after) none counts
 
-pub made_from : (request : Request) (bytes : List ℕ) (a b c : Option Files) → KeepsFiles a b → Makes request bytes b c → Makes request bytes a c
-made_from (show limit file) bytes a b c keeps makes = files_kept_twice a b c keeps makes
-made_from (listen asked) bytes a b c keeps makes = files_kept_twice a b c keeps makes
-made_from (talk asked) bytes a b c keeps makes = puts_from a b c _ _ keeps makes
+pub some_same : {A : Type 0} (o : Option A) (x y : A) → o ≡ Some x → o ≡ Some y → x ≡ y
+some_same o x y first second = cc
 
-pub part_from : (request : Request) (bytes : List ℕ) (a b c : Option Files) → KeepsFiles a b → MakesPart request bytes b c → MakesPart request bytes a c
-part_from (show limit file) bytes a b c keeps part = files_kept_twice a b c keeps part
-part_from (listen asked) bytes a b c keeps part = files_kept_twice a b c keeps part
-part_from (talk asked) bytes a b c keeps part = makes_from a b c _ _ keeps part
+pub none_left : {A : Type 0} (o : Option A) → ((x : A) → o ≡ Some x → ⊥) → o ≡ None
+none_left None other = refl
+none_left (Some x) other = absurd (other x refl)
 
--- ---- slots
+-- nothing was written
+pub only_read : {before after : ℕ} {result : Result Status Failed} → after ≡ before → (result ≡ Ok status.WriteFault → ⊥) → CountsWriting None before after result
+only_read same never = record { never_falls = omega (arith, same); failed = λ e. absurd (never e); other = λ e. same; unwritten = λ e. same }
 
-pub slots_for : (output : Option (List ℕ)) (files : Option Files) (old new : Slots) → KeepsSlots old new → KeepsSlotsFor output files old new
-slots_for None files old new keeps = keeps
-slots_for (Some name) files old new keeps = record { same = λ j. ap (option_map file_of) (keeps j); left = λ told j differs. ap (option_and_then (λ (o : Open). o.left)) (keeps j) }
+-- a run that ends so does not end with a failed write
+pub never_writes : (result : Result Status Failed) → IfOk result (λ s. s ≢ status.WriteFault) → result ≡ Ok status.WriteFault → ⊥
+never_writes (Ok s) other e = other cc
+never_writes (Err f) other e = absurd cc
 
-told_still : (a b : Option Files) → KeepsFiles a b → IsSome a → IsSome b
-told_still None b keeps told = absurd cc
-told_still (Some a) None keeps told = absurd keeps
-told_still (Some a) (Some b) keeps told = refl
+pub end_writes : (how : End) → status_of how ≢ status.WriteFault
+end_writes end.Whole = λ e. cc
+end_writes (end.Refused refusal) = λ e. cc
+end_writes end.ReadFault = λ e. cc
+end_writes end.Limit = λ e. cc
 
--- a slot that was free was filled, and is free again
-pub slots_closed : (output : Option (List ℕ)) (f g : Option Files) (a b c : Slots) (k : ℕ) → KeepsFiles f g → a k ≡ None → KeepsOthers a b k → KeepsOthersFor output g b c k → c k ≡ None → KeepsSlotsFor output f a c
-slots_closed None f g a b c k keeps free first second closed = slots_kept a b c k free first second closed
-slots_closed (Some name) f g a b c k keeps free first second closed = record {
-  same = λ j. elim (eqb_tells j k) [
-    | inl here ↦ subst (λ (n : ℕ). option_map file_of (c n) ≡ option_map file_of (a n)) (sym here.1) (ap (option_map file_of) (closed ∙ sym free))
-    | inr other ↦ second.same j other.1 ∙ ap (option_map file_of) (first j other.1)
-  ];
-  left = λ told j differs. elim (eqb_tells j k) [
-    | inl here ↦ subst (λ (n : ℕ). left_in c n ≡ left_in a n) (sym here.1) (ap (option_and_then (λ (o : Open). o.left)) (closed ∙ sym free))
-    | inr other ↦
-        second.left (told_still f g keeps told) j other.1 (λ e. differs (sym (ap (option_and_then (λ (o : Open). o.name)) (first j other.1)) ∙ e))
-        ∙ ap (option_and_then (λ (o : Open). o.left)) (first j other.1)
-  ];
-}
+pub ends_unwritten : (result : Result Status Failed) (how : End) → IfOk result (λ s. s ≡ status_of how) → result ≡ Ok status.WriteFault → ⊥
+ends_unwritten (Ok s) how is e = end_writes how (let same : s ≡ status.WriteFault = cc in sym is ∙ same)
+ends_unwritten (Err f) how is e = absurd cc
 
--- ---- counts
+pub as_ended : (result : Result Status Failed) (how : End) → IfOk result (λ s. s ≡ status_of how) → IfOk result (λ s. (s ≡ status.Memory) ⊎ (s ≡ status_of how))
+as_ended (Ok s) how is = inr is
+as_ended (Err f) how is = tt
 
--- no fault of writing came
-pub uncounted : (before after : ℕ) (r : Result Status Failed) → after ≡ before → (r ≡ Ok status.WriteFault → ⊥) → IsWriteCounted before after r
-uncounted before after r same none = record { never_falls = omega arith; failed = λ is. absurd (none is); other = λ differs. same }
+end_words : (how : End) → status_of how ≢ status.Words
+end_words end.Whole = λ e. cc
+end_words (end.Refused refusal) = λ e. cc
+end_words end.ReadFault = λ e. cc
+end_words end.Limit = λ e. cc
 
-pub counted_from : (a b c : ℕ) (r : Result Status Failed) → b ≡ a → IsWriteCounted b c r → IsWriteCounted a c r
-counted_from a b c r same counted = subst (λ (n : ℕ). IsWriteCounted n c r) same counted
+pub ends_no_words : (result : Result Status Failed) (how : End) → IfOk result (λ s. s ≡ status_of how) → result ≡ Ok status.Words → ⊥
+ends_no_words (Ok s) how is e = end_words how (let same : s ≡ status.Words = cc in sym is ∙ same)
+ends_no_words (Err f) how is e = absurd cc

@@ -1,99 +1,134 @@
--- A file that is written piece by piece.
-use Rattle.std.proofs.Common.{◌≡◌, ℕ, ◌+◌, ◌-◌, ◌≤◌, List, [], ◌++◌, length, take, drop, Option, Some, None, refl, sym, ap, subst, ◌∙◌, append_assoc, arith, take-append-drop, length-drop}
-use Rattle.std.specs.Prelude.{IsSome, option_map, option_and_then}
-use Rattle.std.proofs.lemmas.List.{append-nil, take_all, length-take-le, take-append-le}
-use Rattle.std.proofs.Math.Seq.{take-add, take-append-add}
-use Rattle.avtp_base.specs.Files.{AppendsTo, Files, IsMade, KeepsFiles, KeepsOtherFiles, Open, PutsFile, Slots, file_of, name_in}
-use Rattle.avtp_tool.specs.Made.{HasWritten, IsMaking, PutsFront}
+-- What a run leaves of the file that it makes.
+use Rattle.std.proofs.Common.{◌≡◌, ℕ, ◌≤◌, List, [], ◌∷◌, ◌++◌, Option, Some, None, Result, Ok, Err, true, false, inl, inr, refl, sym, ap, subst, ◌∙◌, append-nil, append_assoc, arith}
+use Rattle.std.specs.Prelude.{◌≢◌, IfOk, IsErr, is_err}
+use Rattle.avtp_base.specs.declared.failed.Failed.{Failed}
+use Rattle.avtp_base.specs.declared.failed.OpenFault.{OpenFault}
+use Rattle.avtp_base.specs.declared.failed.OpenFault.TheVariants as open_fault
+use Rattle.avtp_base.specs.Faults.{IsCounted, Rose}
+use Rattle.avtp_base.specs.Files.{Files, Slots, KeepsFiles, PutsFile}
+use Rattle.avtp_base.proofs.Files.{KeepsFiles-refl, KeepsFiles-puts, KeepsFiles-trans}
+use Rattle.capture_io.specs.Writing.{IsWriting, KeepsSlotsBut, MakesPrefix, PutsPrefix, Writing}
+use Rattle.avtp_tool.specs.Made.{IsWritingPart, KeepsFilesBut, Makes, MakesFile, unmade_as}
+use Rattle.avtp_tool.specs.Outcome.{AsksFor}
+use Rattle.avtp_tool.specs.Talk.{WritesOnly}
+use Rattle.avtp_tool.specs.declared.status.Status.{Status}
+use Rattle.avtp_tool.specs.declared.status.Status.TheVariants as status
 
-named_as : (a b : Option Open) → option_map file_of b ≡ option_map file_of a → option_and_then (λ (o : Open). o.name) b ≡ option_and_then (λ (o : Open). o.name) a
-named_as None None same = refl
-named_as None (Some b) same = absurd cc
-named_as (Some a) None same = absurd cc
-named_as (Some a) (Some b) same = let e : file_of b ≡ file_of a = cc in ap (λ (p : _). p.1) e
+-- ---- names
 
-same_bytes : (first now : Option Files) (name held piece : List ℕ) (next : Option Files) → PutsFile first now name held → AppendsTo now next (Some name) piece → PutsFile first next name (held ++ piece)
-same_bytes None now name held piece next put more = tt
-same_bytes (Some first) None name held piece next put more = absurd put
-same_bytes (Some first) (Some now) name held piece None put more = absurd more.2
-same_bytes (Some first) (Some now) name held piece (Some next) put more =
-    let before : Some more.0 ≡ Some held = sym more.1 ∙ put.0 in
-    let same : more.0 ≡ held = cc in
-    (more.2.0 ∙ ap (λ (b : List ℕ). Some (b ++ piece)) same, λ other differs. more.2.1 other differs ∙ put.1 other differs)
+asks_one : {a b : List (List ℕ) → Type 0} {done : Type 0} (name : List ℕ) → ((names : List (List ℕ)) → a names → b (names ++ name ∷ [])) → AsksFor (name ∷ []) a b done
+asks_one name asked = record { count = 1; within = omega arith; all = λ d. refl; asked = asked }
 
-puts_as : (first now next : Option Files) (name held piece : List ℕ) (of : Option (List ℕ)) → (IsSome first → of ≡ Some name) → PutsFile first now name held → AppendsTo now next of piece → PutsFile first next name (held ++ piece)
-puts_as None now next name held piece of named put more = tt
-puts_as (Some first) now next name held piece of named put more =
-    same_bytes (Some first) now name held piece next put (subst (λ (o : Option (List ℕ)). AppendsTo now next o piece) (named refl) more)
+asks_none : (a : List (List ℕ) → Type 0) (done : Type 0) (name : List ℕ) → (done → ⊥) → AsksFor (name ∷ []) a a done
+asks_none a done name never = record { count = 0; within = omega arith; all = λ d. absurd (never d); asked = λ before stands. subst a (sym (append-nil before)) stands }
 
--- more was written
-pub making_more : (first a b : Option Files) (s t : Slots) (k : ℕ) (name held piece : List ℕ) → IsMaking first a s k name held → AppendsTo a b (name_in s k) piece → KeepsOtherFiles s t (name_in s k) → IsMaking first b t k name (held ++ piece)
-making_more first a b s t k name held piece making more keeps = record {
-  named = λ told. named_as (s k) (t k) (keeps.same k) ∙ making.named told;
-  put = puts_as first a b name held piece (name_in s k) making.named making.put more;
+-- ---- slots
+
+slots_still : (files : Option Files) (slots : Slots) (name : List ℕ) → KeepsSlotsBut files slots slots name
+slots_still files slots name = record { same = λ j. refl; left = λ told j differs. refl }
+
+-- ---- a file that was made, or not
+
+-- it was made, and writing it failed
+pub unmade_part : {f g : Option Files} {s t : Slots} {r q w x : ℕ} {a b : List (List ℕ) → Type 0} (name bytes : List ℕ) → PutsPrefix f g name bytes → KeepsSlotsBut f s t name → q ≡ r → w ≤ x → Rose w x
+    → ((names : List (List ℕ)) → a names → b (names ++ name ∷ [])) → MakesFile f g s t r q w x a b name bytes (Err open_fault.Failed)
+unmade_part name bytes part slots reading falls rose asked = record {
+  made = tt;
+  part = inr part;
+  not_missing = λ e. absurd cc;
+  slots = slots;
+  reading = reading;
+  writing = record { never_falls = falls; ok = tt; missing = λ e. absurd cc; memory = λ e. absurd cc; failed = λ e. rose };
+  asked = asks_one name asked;
 }
 
-pub making_as : (first now : Option Files) (slots : Slots) (k : ℕ) (name bytes other : List ℕ) → bytes ≡ other → IsMaking first now slots k name bytes → IsMaking first now slots k name other
-making_as first now slots k name bytes other same making = subst (IsMaking first now slots k name) same making
-
-puts_kept : (first a b : Option Files) (name held : List ℕ) → PutsFile first a name held → KeepsFiles a b → PutsFile first b name held
-puts_kept None a b name held put keeps = tt
-puts_kept (Some first) None b name held put keeps = absurd put
-puts_kept (Some first) (Some a) None name held put keeps = absurd keeps
-puts_kept (Some first) (Some a) (Some b) name held put keeps = (keeps name ∙ put.0, λ other differs. keeps other ∙ put.1 other differs)
-
--- a write failed, and the rest was not written
-pub front_left : (first a b : Option Files) (s : Slots) (k : ℕ) (name held rest bytes : List ℕ) → IsMaking first a s k name held → KeepsFiles a b → bytes ≡ held ++ rest → PutsFront first b name bytes
-front_left first a b s k name held rest bytes making keeps split =
-    record { front = held; rest = rest; split = split; put = puts_kept first a b name held making.put keeps }
-
--- slots over two calls
-pub others_twice : (a b c : Slots) (k : ℕ) → KeepsOtherFiles a b (name_in a k) → KeepsOtherFiles b c (name_in b k) → KeepsOtherFiles a c (name_in a k)
-others_twice a b c k first second = record {
-  same = λ j. second.same j ∙ first.same j;
-  left = λ j differs. second.left j (λ e. differs (sym (named_as (a j) (b j) (first.same j)) ∙ (e ∙ named_as (a k) (b k) (first.same k)))) ∙ first.left j differs;
+-- all of it was written
+pub made_all : {f g : Option Files} {s t : Slots} {r q w x : ℕ} {a b : List (List ℕ) → Type 0} (name bytes : List ℕ) (ok : Unit) → PutsFile f g name bytes → KeepsSlotsBut f s t name → q ≡ r → x ≡ w
+    → ((names : List (List ℕ)) → a names → b (names ++ name ∷ [])) → MakesFile f g s t r q w x a b name bytes (Ok ok)
+made_all name bytes ok put slots reading writing asked = record {
+  made = put;
+  part = tt;
+  not_missing = λ e. absurd cc;
+  slots = slots;
+  reading = reading;
+  writing = record { never_falls = omega (arith, writing); ok = writing; missing = λ e. absurd cc; memory = λ e. absurd cc; failed = λ e. absurd cc };
+  asked = asks_one name asked;
 }
 
--- the front of the bytes, and then more of them
-pub piece_more : (held bytes : List ℕ) (taken n : ℕ) → (held ++ take taken bytes) ++ take n (take (length bytes - taken) (drop taken bytes)) ≡ held ++ take (taken + n) bytes
-piece_more held bytes taken n =
-    let rest : take (length bytes - taken) (drop taken bytes) ≡ drop taken bytes = take_all (length bytes - taken) (drop taken bytes) (simp length-drop (omega arith)) in
-    append_assoc held (take taken bytes) (take n (take (length bytes - taken) (drop taken bytes)))
-    ∙ ap (λ (l : List ℕ). held ++ (take taken bytes ++ take n l)) rest ∙ ap (λ (l : List ℕ). held ++ l) (sym (take-add taken n bytes))
+-- ---- the bytes that were written
 
--- the bytes, cut behind some
-pub cut : (held bytes : List ℕ) (n : ℕ) → held ++ bytes ≡ (held ++ take n bytes) ++ drop n bytes
-cut held bytes n = sym (append_assoc held (take n bytes) (drop n bytes) ∙ ap (λ (l : List ℕ). held ++ l) (take-append-drop n bytes))
+-- the shelf failed, and a prefix of them was
+pub wrote_part : {f g : Option Files} {s t : Slots} {r q : ℕ} {w : Writing} {name : List ℕ} (bytes prefix rest : List ℕ) (result : Result Unit Failed) → IsErr result → prefix ++ rest ≡ bytes → IsWriting f g s t r q w name prefix
+    → IsWritingPart f g s t r q w name bytes result
+wrote_part bytes prefix rest (Ok x) err split writing = absurd cc
+wrote_part bytes prefix rest (Err e) err split writing = record { prefix = prefix; rest = rest; split = sym split; whole = tt; writing = writing }
 
--- the front of bytes that were put behind the first of others
-pub put_behind : (xs ys rest text : List ℕ) (a n : ℕ) → a ≤ length xs → n ≤ length ys → take n ys ≡ text → take (a + n) (take a xs ++ (ys ++ rest)) ≡ take a xs ++ text
-put_behind xs ys rest text a n fits within is =
-    let size : length (take a xs) ≡ a = length-take-le a xs fits in
-    let whole : take (a + n) (take a xs ++ (ys ++ rest)) ≡ take a xs ++ take n (ys ++ rest) =
-    subst (λ (k : ℕ). take (k + n) (take a xs ++ (ys ++ rest)) ≡ take a xs ++ take n (ys ++ rest)) size (take-append-add (take a xs) (ys ++ rest) n) in
-    whole ∙ ap (λ (t : List ℕ). take a xs ++ t) (take-append-le n ys rest within ∙ is)
+-- no byte more was to be written
+pub wrote_to_end : {f g : Option Files} {s t : Slots} {r q : ℕ} {w : Writing} {name : List ℕ} (bytes prefix : List ℕ) (ok : Unit) → prefix ≡ bytes → IsWriting f g s t r q w name prefix → IsWritingPart f g s t r q w name bytes (Ok ok)
+wrote_to_end bytes prefix ok is writing = record { prefix = prefix; rest = []; split = sym is ∙ sym (append-nil prefix); whole = refl; writing = writing }
 
--- ---- fronts of what is to be written
+-- all of them
+pub wrote_all : {f g : Option Files} {s t : Slots} {r q : ℕ} {w : Writing} {name bytes : List ℕ} (result : Result Unit Failed) → is_err result ≡ false → IsWritingPart f g s t r q w name bytes result → IsWriting f g s t r q w name bytes
+wrote_all {f} {g} {s} {t} {r} {q} {w} {name} {bytes} (Ok ok) went p = subst (IsWriting f g s t r q w name) (sym (p.split ∙ (ap (λ (l : List ℕ). p.prefix ++ l) p.whole ∙ append-nil p.prefix))) p.writing
+wrote_all (Err e) went p = absurd cc
 
-pub front_longer : (first now : Option Files) (name bytes rest whole : List ℕ) → bytes ++ rest ≡ whole → PutsFront first now name bytes → PutsFront first now name whole
-front_longer first now name bytes rest whole same p =
-    record { front = p.front; rest = p.rest ++ rest; split = sym same ∙ (ap (λ (b : List ℕ). b ++ rest) p.split ∙ append_assoc p.front p.rest rest); put = p.put }
+pub still_counted : (result : Result Unit Failed) (before after : ℕ) → is_err result ≡ false → IsCounted before after result → after ≡ before
+still_counted (Ok ok) before after went counts = counts.ok
+still_counted (Err e) before after went counts = absurd cc
 
-pub front_stays : (first a b : Option Files) (name bytes : List ℕ) → PutsFront first a name bytes → KeepsFiles a b → PutsFront first b name bytes
-front_stays first a b name bytes p keeps = record { front = p.front; rest = p.rest; split = p.split; put = puts_kept first a b name p.front p.put keeps }
+pub failed_counted : (result : Result Unit Failed) (before after : ℕ) → is_err result ≡ true → IsCounted before after result → Rose before after
+failed_counted (Ok ok) before after is counts = absurd cc
+failed_counted (Err e) before after is counts = counts.failed
 
-pub written_as : (first now : Option Files) (slots : Slots) (k : ℕ) (name waits bytes other : List ℕ) → bytes ≡ other → HasWritten first now slots k name waits bytes → HasWritten first now slots k name waits other
-written_as first now slots k name waits bytes other same h = subst (HasWritten first now slots k name waits) same h
+-- a prefix of them
+pub prefix_further : {f g : Option Files} {name prefix bytes : List ℕ} (rest : List ℕ) → bytes ≡ prefix ++ rest → PutsPrefix f g name prefix → PutsPrefix f g name bytes
+prefix_further rest split p = record { prefix = p.prefix; rest = p.rest ++ rest; split = split ∙ (ap (λ (l : List ℕ). l ++ rest) p.split ∙ append_assoc p.prefix p.rest rest); put = p.put }
 
--- nothing waits any more
-pub written_all : (first now : Option Files) (slots : Slots) (k : ℕ) (name waits bytes : List ℕ) → waits ≡ [] → HasWritten first now slots k name waits bytes → IsMaking first now slots k name bytes
-written_all first now slots k name waits bytes none h =
-    making_as first now slots k name h.held bytes (sym (h.split ∙ (ap (λ (w : List ℕ). h.held ++ w) none ∙ append-nil h.held))) h.making
+pub whole_prefix : (f g : Option Files) (name bytes : List ℕ) → PutsFile f g name bytes → PutsPrefix f g name bytes
+whole_prefix f g name bytes put = record { prefix = bytes; rest = []; split = sym (append-nil bytes); put = put }
 
-made_named : (files : Option Files) (slot : Option Open) (name : List ℕ) → IsMade files slot name → IsSome files → option_and_then (λ (o : Open). o.name) slot ≡ Some name
-made_named files None name is told = absurd is
-made_named files (Some o) name is told = is.1 told
+-- ---- runs that make it, or not
 
--- a file that was made has no bytes
-pub making_none : (files now : Option Files) (slots : Slots) (k : ℕ) (name : List ℕ) → IsMade files (slots k) name → PutsFile files now name [] → IsMaking files now slots k name []
-making_none files now slots k name is put = record { named = λ told. made_named files (slots k) name is told; put = put }
+-- it was made, and the run ends as it may
+pub makes_whole : {f g : Option Files} {name bytes : List ℕ} (result : Result Status Failed) → PutsFile f g name bytes → IfOk result (λ s. s ≡ status.Done) → Makes name bytes f g result
+makes_whole {f} {g} {name} {bytes} (Ok s) put is = record { done = λ e. put; part = inr (whole_prefix f g name bytes put); untouched = λ done. absurd (done is) }
+makes_whole {f} {g} {name} {bytes} (Err e) put is = record { done = λ e. absurd cc; part = inr (whole_prefix f g name bytes put); untouched = tt }
+
+-- it could not be made
+pub makes_part : {f g : Option Files} {name bytes : List ℕ} (fault : OpenFault) → MakesPrefix f g name bytes → Makes name bytes f g (Ok (unmade_as fault))
+makes_part open_fault.Memory part = record { done = λ e. absurd cc; part = part; untouched = λ done write memory. absurd (memory refl) }
+makes_part open_fault.Missing part = record { done = λ e. absurd cc; part = part; untouched = λ done write. absurd (write refl) }
+makes_part open_fault.Failed part = record { done = λ e. absurd cc; part = part; untouched = λ done write. absurd (write refl) }
+
+-- the run never came to it
+pub makes_none : {name bytes : List ℕ} (f : Option Files) (result : Result Status Failed) → (result ≡ Ok status.Done → ⊥) → Makes name bytes f f result
+makes_none {name} {bytes} f result never = record { done = λ e. absurd (never e); part = inl (KeepsFiles-refl f); untouched = kept result } where
+  kept : (r : Result Status Failed) → IfOk r (λ s. s ≢ status.Done → s ≢ status.WriteFault → s ≢ status.Memory → KeepsFiles f f)
+  kept (Ok s) = λ done write memory. KeepsFiles-refl f
+  kept (Err e) = tt
+
+-- the files stood so before
+pub makes_after : {a b c : Option Files} {name bytes : List ℕ} {result : Result Status Failed} → KeepsFiles a b → Makes name bytes b c result → Makes name bytes a c result
+makes_after {a} {b} {c} {name} {bytes} {result} keeps m = record {
+  done = λ e. KeepsFiles-puts a b c name bytes keeps (m.done e);
+  part = elim m.part [ inl kept ↦ inl (KeepsFiles-trans a b c keeps kept) | inr p ↦ inr (record { prefix = p.prefix; rest = p.rest; split = p.split; put = KeepsFiles-puts a b c name p.prefix keeps p.put }) ];
+  untouched = still result m.untouched;
+} where
+  still : (r : Result Status Failed) → IfOk r (λ s. s ≢ status.Done → s ≢ status.WriteFault → s ≢ status.Memory → KeepsFiles b c) → IfOk r (λ s. s ≢ status.Done → s ≢ status.WriteFault → s ≢ status.Memory → KeepsFiles a c)
+  still (Ok s) u = λ done write memory. KeepsFiles-trans a b c keeps (u done write memory)
+  still (Err e) u = tt
+
+-- ---- all else that a run leaves
+
+-- the run never came to the file
+pub writes_none : {f : Option Files} {s : Slots} {r w : ℕ} {a : List (List ℕ) → Type 0} (name : List ℕ) (result : Result Status Failed) → (result ≡ Ok status.Done → ⊥) → (result ≡ Ok status.WriteFault → ⊥) → WritesOnly f f s s r r w w a a name result
+writes_none {f} {s} {r} {w} {a} name result not_done not_failed = record {
+  files = still f;
+  slots = slots_still f s name;
+  reading = refl;
+  writing = record { never_falls = omega arith; failed = λ e. absurd (not_failed e); other = λ e. refl; unwritten = λ e. absurd cc };
+  asked = asks_none a _ name not_done;
+} where
+  still : (files : Option Files) → KeepsFilesBut (Some name) files files
+  still None = tt
+  still (Some files) = λ other differs. refl

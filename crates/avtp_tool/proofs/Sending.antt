@@ -1,6 +1,6 @@
 -- The frames of a talker, one after another.
-use Rattle.std.proofs.Common.{◌≡◌, ℕ, zero, suc, ◌+◌, ◌<◌, ◌≤◌, min, List, [], ◌∷◌, ◌++◌, length, take, drop, Option, Some, None, refl, sym, ap, ◌∙◌, arith, append_assoc, take-append-drop}
-use Rattle.std.specs.Prelude.{slice_get, flat_map, option_map, OnOk, Result, Ok, Err}
+use Rattle.std.proofs.Common.{◌≡◌, ℕ, zero, suc, ◌+◌, ◌-◌, ◌<◌, ◌≤◌, min, List, [], ◌∷◌, ◌++◌, length, take, drop, Option, Some, None, refl, sym, ap, ◌∙◌, arith, append_assoc, take-append-drop}
+use Rattle.std.specs.Prelude.{slice_get, flat_map, option_map}
 use Rattle.talker.specs.declared.sent.Sent.{Sent}
 use Rattle.talker.specs.Talking.{Talking}
 use Rattle.std.proofs.Math.Seq.{take-suc}
@@ -63,6 +63,9 @@ last_frame None t plan input of_plan of_input frame none =
     ap (λ (p : TalkPlan). slice_get (frames p input) t.given) (sym of_plan) ∙ (ap (λ (i : List ℕ). slice_get (frames t.plan i) t.given) (sym of_input) ∙ sym frame)
 last_frame (Some sent) t plan input of_plan of_input frame none = absurd (none sent refl)
 
-pub on_ok_both : {T E : Type 0} (r : Result T E) (P Q R : Type 0) → OnOk r P → OnOk r Q → (P → Q → R) → OnOk r R
-on_ok_both (Ok x) P Q R p q make = make p q
-on_ok_both (Err e) P Q R p q make = tt
+-- fewer are left
+pub sent_fewer : (plan : TalkPlan) (input : List ℕ) (given next : ℕ) (f : SentFrame) → slice_get (frames plan input) given ≡ Some f → next ≡ min (given + 1) (length (frames plan input))
+    → length (frames plan input) - next < length (frames plan input) - given
+sent_fewer plan input given next f has is =
+    let within : given < length (frames plan input) = slice_get_within (frames plan input) given f has in
+    omega arith

@@ -1,75 +1,147 @@
 -- What was talked of an input.
-use Rattle.std.proofs.Common.{◌≡◌, ℕ, ◌≤◌, List, [], length, Option, Some, None, Result, Ok, Err, inl, inr, refl, sym, ap, subst, ◌∙◌}
+use Rattle.std.proofs.Common.{◌≡◌, ℕ, ◌≤◌, ◌<◌, List, length, Option, Some, None, Result, Ok, Err, inl, inr, refl, sym, subst, ◌∙◌}
 use Rattle.std.specs.Prelude.{◌⊎◌, ◌≢◌, IfOk}
-use Rattle.std.proofs.lemmas.List.{append-nil}
-use Rattle.std.specs.Io.KnownBytes.{Appends}
-use Rattle.avtp_base.specs.Files.{Files, KeepsFiles, PutsFile}
 use Rattle.avtp_base.specs.declared.failed.Failed.{Failed}
+use Rattle.avtp_base.specs.declared.failed.OpenFault.{OpenFault}
+use Rattle.avtp_base.specs.declared.failed.OpenFault.TheVariants as open_fault
+use Rattle.avtp_base.specs.Faults.{IsOpenCounted, Rose}
+use Rattle.avtp_base.specs.Files.{Files}
 use Rattle.talker.specs.declared.fault.TalkFault.{TalkFault}
 use Rattle.talker.specs.declared.fault.TalkFault.TheVariants as fault
 use Rattle.talker.specs.declared.plan.TalkPlan.{TalkPlan}
 use Rattle.talker.specs.Faults.{fault_of}
 use Rattle.talker.specs.Talking.{most_input}
-use Rattle.avtp_text.specs.Talk.{talk_input_line}
-use Rattle.avtp_tool.specs.Contents.{IsContents}
-use Rattle.avtp_tool.specs.declared.contents.Stop.{Stop}
-use Rattle.avtp_tool.specs.declared.contents.Stop.TheVariants as stop
+use Rattle.avtp_text.specs.Notices.{read_fault_line}
+use Rattle.avtp_text.specs.Written.{written}
+use Rattle.avtp_text.proofs.Printing.{prefix_none}
+use Rattle.capture_io.specs.Contents.{IsContents, IsReadCounted}
+use Rattle.capture_io.specs.declared.contents.Contents.{Contents}
+use Rattle.capture_io.specs.declared.end.Stop.{Stop}
+use Rattle.capture_io.specs.declared.end.Stop.TheVariants as stop
 use Rattle.avtp_tool.specs.declared.status.Status.{Status}
 use Rattle.avtp_tool.specs.declared.status.Status.TheVariants as status
-use Rattle.avtp_tool.specs.Made.{MakesFront}
-use Rattle.avtp_tool.specs.Talk.{Talks, sent_line}
-use Rattle.avtp_tool.proofs.Ending.{files_kept_twice}
+use Rattle.avtp_tool.specs.Made.{unmade_as}
+use Rattle.avtp_tool.specs.Outcome.{EndsWith, Tells}
+use Rattle.avtp_tool.specs.Talk.{EndsRefused, FaultStops, line_by, status_by, TalkedOutcome, TalkOutcome}
+use Rattle.avtp_tool.proofs.Complete.{talks_by}
+use Rattle.avtp_tool.proofs.Outcomes.{IsCut, missing_none, ok_same, tells_cut, tells_line, tells_weaker, Unopened}
 
--- all of it was written
-pub front_whole : (first now : Option Files) (name bytes : List ℕ) → PutsFile first now name bytes → MakesFront first now name bytes
-front_whole first now name bytes put = inr (record { front = bytes; rest = []; split = sym (append-nil bytes); put = put })
+-- a file that could not be made cuts a run short
+pub unmade_cut : (why : OpenFault) → IsCut (Ok (unmade_as why))
+unmade_cut open_fault.Memory = inl refl
+unmade_cut open_fault.Missing = inr refl
+unmade_cut open_fault.Failed = inr refl
 
--- the files stood so before
-pub puts_from : (a b c : Option Files) (name bytes : List ℕ) → KeepsFiles a b → PutsFile b c name bytes → PutsFile a c name bytes
-puts_from None b c name bytes keeps put = tt
-puts_from (Some a) None c name bytes keeps put = absurd keeps
-puts_from (Some a) (Some b) None name bytes keeps put = absurd put
-puts_from (Some a) (Some b) (Some c) name bytes keeps put = (put.0, λ other differs. put.1 other differs ∙ keeps other)
+-- ---- an input that makes no stream
 
-pub makes_from : (a b c : Option Files) (name bytes : List ℕ) → KeepsFiles a b → MakesFront b c name bytes → MakesFront a c name bytes
-makes_from a b c name bytes keeps made =
-    elim made [
-      | inl kept ↦ inl (files_kept_twice a b c keeps kept)
-      | inr front ↦ inr (record { front = front.front; rest = front.rest; split = front.split; put = puts_from a b c name front.front keeps front.put })
-    ]
+memory_or : (why : TalkFault) → (why ≡ fault.Memory) ⊎ (why ≢ fault.Memory)
+memory_or fault.Memory = inl refl
+memory_or fault.Frames = inr (λ e. cc)
+memory_or fault.StartCode = inr (λ e. cc)
+memory_or fault.NalType = inr (λ e. cc)
+memory_or fault.Packets = inr (λ e. cc)
+memory_or fault.Arrival = inr (λ e. cc)
 
--- a text of the input, where it is told
-abbrev pub Told : TalkPlan → List ℕ → Option (List ℕ) → Option (List ℕ) → Status → Type 0
-Told plan input before now ended = (printed : List ℕ) × Talks plan input ended printed × Appends before now printed
-
-pub told_sent : (r : Result Status Failed) (plan : TalkPlan) (input : List ℕ) (before now : Option (List ℕ)) → IfOk r (λ ended. (ended ≡ status.Done) ⊎ ((ended ≡ status.WriteFault) ⊎ (ended ≡ status.Memory)))
-    → length input ≤ most_input → fault_of plan input ≡ None → (r ≡ Ok status.Done → Appends before now (sent_line plan input))
-    → IfOk r (λ ended. ended ≢ status.Memory → ended ≢ status.WriteFault → Told plan input before now ended)
-told_sent (Ok s) plan input before now ends fits none printed = λ memory write.
-    elim ends [
-      | inl done ↦ subst (Told plan input before now) (sym done) (sent_line plan input, (fits, none, refl), printed (ap (λ (x : Status). Ok x) done))
-      | inr other ↦ elim other [
-        | inl failed ↦ absurd (write failed)
-        | inr none ↦ absurd (memory none)
+pub tells_refused : {h h' : Option (List ℕ)} {w w' : List ℕ} {f f' : ℕ} {result : Result Status Failed} (plan : TalkPlan) (bytes : List ℕ) (cause : Type 0) (why : TalkFault) → length bytes ≤ most_input
+    → (fault_of plan bytes ≡ Some why) ⊎ (why ≡ fault.Memory) → EndsRefused why h h' w w' f f' result → Tells (TalkedOutcome plan bytes cause) (written h w) (written h' w') result
+tells_refused {h} {h'} {w} {w'} {result = result} plan bytes cause why fits only ends =
+    elim (memory_or why) [
+      | inl is ↦
+          let left = ends.memory is in
+          let known : Option TalkFault = fault_of plan bytes in
+          tells_cut (status_by known) (line_by known plan bytes) (talks_by plan bytes cause known fits refl) (subst IsCut (sym left.0) (inl refl)) (prefix_none (written h w) (written h' w') (line_by known plan bytes) left.1)
+      | inr other ↦ elim only [
+        | inl is ↦ tells_line (talks_by plan bytes cause (Some why) fits is) (ends.other other)
+        | inr memory ↦ absurd (other memory)
       ]
     ]
-told_sent (Err e) plan input before now ends fits none printed = tt
 
-pub told_refused : (r : Result Status Failed) (plan : TalkPlan) (input : List ℕ) (f : TalkFault) (before now : Option (List ℕ)) → IfOk r (λ ended. (ended ≡ status.TalkInput) ⊎ (ended ≡ status.Memory))
-    → length input ≤ most_input → (fault_of plan input ≡ Some f) ⊎ (f ≡ fault.Memory) → (r ≡ Ok status.TalkInput → (f ≢ fault.Memory) × Appends before now (talk_input_line f))
-    → IfOk r (λ ended. ended ≢ status.Memory → ended ≢ status.WriteFault → Told plan input before now ended)
-told_refused (Ok s) plan input f before now ends fits only printed = λ memory write.
-    elim ends [
-      | inl refused ↦
-          let told = printed (ap (λ (x : Status). Ok x) refused) in
-          elim only [
-            | inl is ↦ subst (Told plan input before now) (sym refused) (talk_input_line f, (fits, (f, is, refl)), told.1)
-            | inr none ↦ absurd (told.0 none)
-          ]
-      | inr none ↦ absurd (memory none)
+ends_other : (result : Result Status Failed) (ended other : Status) → ended ≢ other → IfOk result (λ s. s ≡ ended) → result ≡ Ok other → ⊥
+ends_other (Ok s) ended other differ is e = differ (sym is ∙ ok_same (Ok s) s other refl e)
+ends_other (Err x) ended other differ is e = absurd cc
+
+-- a run whose last line is of one status does not end with another
+pub ends_not : {h h' : Option (List ℕ)} {w w' : List ℕ} {f f' : ℕ} {result : Result Status Failed} {ended : Status} {line : List ℕ} (other : Status) → ended ≢ other → EndsWith ended h h' w w' f f' result line → result ≡ Ok other → ⊥
+ends_not {result = result} {ended} other differ ends e = ends_other result ended other differ ends.status e
+
+pub refused_not : {h h' : Option (List ℕ)} {w w' : List ℕ} {f f' : ℕ} {result : Result Status Failed} (why : TalkFault) (other : Status) → status.Memory ≢ other → status.TalkInput ≢ other → EndsRefused why h h' w w' f f' result → result ≡ Ok other → ⊥
+refused_not {result = result} why other no_memory no_input ends e =
+    elim (memory_or why) [
+      | inl is ↦ no_memory (ok_same result status.Memory other (ends.memory is).0 e)
+      | inr differs ↦ ends_not other no_input (ends.other differs) e
     ]
-told_refused (Err e) plan input f before now ends fits only printed = tt
+
+-- ---- an input that was read
+
+talked_weaker : (plan : TalkPlan) (bytes : List ℕ) (a b : Type 0) (ended : Status) (text : List ℕ) → (a → b) → TalkedOutcome plan bytes a ended text → TalkedOutcome plan bytes b ended text
+talked_weaker plan bytes a b status.Done text weaker o = o
+talked_weaker plan bytes a b status.TalkInput text weaker o = o
+talked_weaker plan bytes a b status.Limit text weaker o = o
+talked_weaker plan bytes a b status.ReadFault text weaker o = (weaker o.0, o.1)
+talked_weaker plan bytes a b status.Findings text weaker o = absurd o
+talked_weaker plan bytes a b status.Words text weaker o = absurd o
+talked_weaker plan bytes a b status.Refused text weaker o = absurd o
+talked_weaker plan bytes a b status.WriteFault text weaker o = absurd o
+talked_weaker plan bytes a b status.Memory text weaker o = absurd o
+talked_weaker plan bytes a b status.DeviceFault text weaker o = absurd o
+
+-- for another cause of a fault of reading
+pub tells_caused : {before now : Option (List ℕ)} {result : Result Status Failed} (plan : TalkPlan) (bytes : List ℕ) (a b : Type 0) → (a → b) → Tells (TalkedOutcome plan bytes a) before now result → Tells (TalkedOutcome plan bytes b) before now result
+tells_caused plan bytes a b weaker tells = tells_weaker (λ ended text o. talked_weaker plan bytes a b ended text weaker o) tells
 
 -- the input was read whole
-pub whole_is : (limit : ℕ) (bytes : List ℕ) (halt : Stop) (front slice : List ℕ) → halt ≡ stop.End → slice ≡ front → IsContents limit bytes halt front → slice ≡ bytes
-whole_is limit bytes halt front slice is same has = same ∙ sym (subst (λ (h : Stop). IsContents limit bytes h front) is has).0
+pub whole_is : (limit : ℕ) (bytes : List ℕ) (halt : Stop) (prefix slice : List ℕ) → halt ≡ stop.End → slice ≡ prefix → IsContents limit bytes halt prefix → slice ≡ bytes
+whole_is limit bytes halt prefix slice is same has = same ∙ sym (subst (λ (h : Stop). IsContents limit bytes h prefix) is has).0
+
+-- it is longer than may be read
+pub too_long : (limit : ℕ) (bytes : List ℕ) (halt : Stop) (prefix : List ℕ) → halt ≡ stop.Limit → IsContents limit bytes halt prefix → limit < length bytes
+too_long limit bytes halt prefix is has = (subst (λ (h : Stop). IsContents limit bytes h prefix) is has).0
+
+-- ---- how a run over it ends
+
+-- a run does not end with a status that no outcome has
+talked_never : {before now : Option (List ℕ)} (plan : TalkPlan) (bytes : List ℕ) (cause : Type 0) (result : Result Status Failed) (other : Status) → other ≢ status.Memory → other ≢ status.WriteFault
+    → ((text : List ℕ) → TalkedOutcome plan bytes cause other text → ⊥) → Tells (TalkedOutcome plan bytes cause) before now result → result ≡ Ok other → ⊥
+talked_never plan bytes cause (Ok s) other no_memory no_write none tells e =
+    let same : s ≡ other = ok_same (Ok s) s other refl e in
+    let ended = (tells.whole (λ m. no_memory (sym same ∙ m)) (λ w. no_write (sym same ∙ w))).0 in
+    none tells.text (subst (λ (x : Status). TalkedOutcome plan bytes cause x tells.text) (sym ended ∙ same) tells.outcome)
+talked_never plan bytes cause (Err f) other no_memory no_write none tells e = absurd cc
+
+quiet_end : (halt : Stop) (result : Result Status Failed) → halt ≡ stop.End → IfOk result (λ s. s ≢ status.ReadFault → s ≢ status.Memory → s ≢ status.WriteFault → halt ≢ stop.Fault)
+quiet_end halt (Ok s) is = λ fault memory write e. absurd (let t : stop.End ≡ stop.Fault = sym is ∙ e in cc)
+quiet_end halt (Err e) is = tt
+
+pub stops_end : {before now : Option (List ℕ)} (plan : TalkPlan) (bytes : List ℕ) (halt : Stop) (result : Result Status Failed) → halt ≡ stop.End → Tells (TalkedOutcome plan bytes ⊥) before now result → FaultStops halt result
+stops_end plan bytes halt result is tells = record {
+  fault = λ e. absurd (talked_never plan bytes ⊥ result status.ReadFault (λ t. cc) (λ t. cc) (λ text o. o.0) tells e);
+  quiet = quiet_end halt result is;
+  no_words = talked_never plan bytes ⊥ result status.Words (λ t. cc) (λ t. cc) (λ text o. o) tells;
+}
+
+quiet_fault : (halt : Stop) (result : Result Status Failed) → IfOk result (λ s. s ≡ status.ReadFault) → IfOk result (λ s. s ≢ status.ReadFault → s ≢ status.Memory → s ≢ status.WriteFault → halt ≢ stop.Fault)
+quiet_fault halt (Ok s) is = λ fault. absurd (fault is)
+quiet_fault halt (Err e) is = tt
+
+pub stops_fault : {h h' : Option (List ℕ)} {w w' : List ℕ} {f f' : ℕ} {line : List ℕ} (halt : Stop) (result : Result Status Failed) → halt ≡ stop.Fault → EndsWith status.ReadFault h h' w w' f f' result line → FaultStops halt result
+stops_fault halt result is ends = record { fault = λ e. is; quiet = quiet_fault halt result ends.status; no_words = ends_not status.Words (λ t. cc) ends }
+
+quiet_limit : (halt : Stop) (result : Result Status Failed) → halt ≡ stop.Limit → IfOk result (λ s. s ≢ status.ReadFault → s ≢ status.Memory → s ≢ status.WriteFault → halt ≢ stop.Fault)
+quiet_limit halt (Ok s) is = λ fault memory write e. absurd (let t : stop.Limit ≡ stop.Fault = sym is ∙ e in cc)
+quiet_limit halt (Err e) is = tt
+
+pub stops_limit : {h h' : Option (List ℕ)} {w w' : List ℕ} {f f' : ℕ} {line : List ℕ} (halt : Stop) (result : Result Status Failed) → halt ≡ stop.Limit → EndsWith status.Limit h h' w w' f f' result line → FaultStops halt result
+stops_limit halt result is ends = record { fault = λ e. absurd (ends_not status.ReadFault (λ t. cc) ends e); quiet = quiet_limit halt result is; no_words = ends_not status.Words (λ t. cc) ends }
+
+-- ---- an input that could not be opened
+
+pub read_counted : {before after : ℕ} {why : OpenFault} → IsReadCounted before after (Err why) → IsOpenCounted {T = Contents} before after (Err why)
+read_counted counts = record { never_falls = counts.never_falls; ok = tt; missing = counts.missing; memory = counts.memory; failed = counts.failed }
+
+pub talks_unopened : (plan : TalkPlan) (before after : ℕ) (files : Option Files) (name : List ℕ) (all : Files) → files ≡ Some all → Unopened before after files name → TalkOutcome plan (all name) (Rose before after) status.ReadFault read_fault_line
+talks_unopened plan before after files name all told (inl rose) = by_told (all name) where
+  by_told : (t : Option (List ℕ)) → TalkOutcome plan t (Rose before after) status.ReadFault read_fault_line
+  by_told None = (refl, refl)
+  by_told (Some bytes) = (rose, refl)
+talks_unopened plan before after files name all told (inr missing) =
+    subst (λ (t : Option (List ℕ)). TalkOutcome plan t (Rose before after) status.ReadFault read_fault_line) (sym (missing_none files name all told missing)) (refl, refl)

@@ -1,10 +1,8 @@
 pub mod Status
 pub mod Record
-pub mod Report
-pub mod Progress
-pub mod Front
-pub mod Listen
-pub mod Contents
-pub mod Reports
+pub mod Outcome
 pub mod Made
+pub mod Show
+pub mod Listen
 pub mod Talk
+pub mod Run

@@ -1,70 +1,66 @@
 -- What a command does to the files of a shelf: it writes one of them, or none.
-use Rattle.std.specs.Prelude.{◌≡◌, ◌≢◌, ◌⊎◌, ℕ, ◌≤◌, List, ◌++◌, Option, Some, None, IsSome, option_map, Result, Ok, ⊤}
+use Rattle.std.specs.Prelude.{◌≡◌, ◌≢◌, ℕ, ◌≤◌, List, [], ◌∷◌, ◌++◌, Option, Some, None, Result, Ok, IfOk, IsErrOf, IsOk, OnErr, OnOk, ⊤}
+use Rattle.avtp_base.specs.declared.failed.OpenFault.{OpenFault}
+use Rattle.avtp_base.specs.declared.failed.OpenFault.TheVariants as open_fault
 use Rattle.avtp_base.specs.declared.failed.Failed.{Failed}
-use Rattle.avtp_base.specs.Faults.{Rose}
-use Rattle.avtp_base.specs.Files.{Files, Slots, file_of, left_in, name_in, KeepsFiles, KeepsOthers, KeepsSlots, PutsFile}
+use Rattle.avtp_base.specs.Faults.{IsOpenCounted, Rose}
+use Rattle.avtp_base.specs.Files.{Files, Slots, KeepsFiles, KeepsSlots, PutsFile}
+use Rattle.capture_io.specs.Writing.{IsWriting, KeepsSlotsBut, MakesPrefix, Writing}
+use Rattle.avtp_tool.specs.Outcome.{AsksFor}
 use Rattle.avtp_tool.specs.declared.status.Status.{Status}
 use Rattle.avtp_tool.specs.declared.status.Status.TheVariants as status
-
--- ---- while a file is written
-
--- Where files are told: since they stood as `first`, the file of this name was made, it is open in the slot and has these
--- bytes, and every other file is as it was.
-pub record IsMaking (first now : Option Files) (slots : Slots) (k : ℕ) (name bytes : List ℕ) : Type 0 where
-  pub named : IsSome first → name_in slots k ≡ Some name
-  pub put : PutsFile first now name bytes
-
--- the same where some of the bytes still wait to be written
-pub record HasWritten (first now : Option Files) (slots : Slots) (k : ℕ) (name waits bytes : List ℕ) : Type 0 where
-  pub held : List ℕ
-  pub split : bytes ≡ held ++ waits
-  pub making : IsMaking first now slots k name held
-
--- ---- what is left behind
-
--- the file has a front of these bytes now, and all other files that are told stay as they were
-pub record PutsFront (old new : Option Files) (name bytes : List ℕ) : Type 0 where
-  pub front : List ℕ
-  pub rest : List ℕ
-  pub split : bytes ≡ front ++ rest
-  pub put : PutsFile old new name front
-
--- the file is as it was, or has a front of these bytes, and all other files stay as they were
-abbrev pub MakesFront : Option Files → Option Files → List ℕ → List ℕ → Type 0
-MakesFront old new name bytes = KeepsFiles old new ⊎ PutsFront old new name bytes
 
 -- all files that are told stay as they were, but for the one that is written, where one is
 abbrev pub KeepsFilesBut : Option (List ℕ) → Option Files → Option Files → Type 0
 KeepsFilesBut None old new = KeepsFiles old new
-KeepsFilesBut (Some name) None new = ⊤
-KeepsFilesBut (Some name) (Some old) None = ⊥
+KeepsFilesBut (Some name) None None = ⊤
+KeepsFilesBut (Some name) None (Some new) = ⊥
+KeepsFilesBut (Some name) (Some old) None = ⊤
 KeepsFilesBut (Some name) (Some old) (Some new) = (other : List ℕ) → other ≢ name → new other ≡ old other
 
--- Every slot is live as it was, with its file; and where files are told, what is left of a file of another name than this.
-pub record KeepsSlotsBut (files : Option Files) (old new : Slots) (name : List ℕ) : Type 0 where
-  pub same : (j : ℕ) → option_map file_of (new j) ≡ option_map file_of (old j)
-  pub left : IsSome files → (j : ℕ) → name_in old j ≢ Some name → left_in new j ≡ left_in old j
-
--- all slots stay as they were, but for what is left of the file that is written, where one is
+-- All slots stay as they were, but for what is left of the file that is written, where one is: that is known where the files
+-- are told.
 abbrev pub KeepsSlotsFor : Option (List ℕ) → Option Files → Slots → Slots → Type 0
 KeepsSlotsFor None files old new = KeepsSlots old new
 KeepsSlotsFor (Some name) files old new = KeepsSlotsBut files old new name
 
--- ---- the same for the slots beside one
-
-pub record KeepsOthersBut (files : Option Files) (old new : Slots) (k : ℕ) (name : List ℕ) : Type 0 where
-  pub same : (j : ℕ) → j ≢ k → option_map file_of (new j) ≡ option_map file_of (old j)
-  pub left : IsSome files → (j : ℕ) → j ≢ k → name_in old j ≢ Some name → left_in new j ≡ left_in old j
-
-abbrev pub KeepsOthersFor : Option (List ℕ) → Option Files → Slots → Slots → ℕ → Type 0
-KeepsOthersFor None files old new k = KeepsOthers old new k
-KeepsOthersFor (Some name) files old new k = KeepsOthersBut files old new k name
-
--- ---- counts
+-- A run that makes the file of this name ended so. Where all was done the file has these bytes; where memory or a write
+-- failed it is as it was or has a prefix of them; and else all files are as they were.
+pub record Makes (name bytes : List ℕ) (files files' : Option Files) (result : Result Status Failed) : Type 0 where
+  pub done : result ≡ Ok status.Done → PutsFile files files' name bytes
+  pub part : MakesPrefix files files' name bytes
+  pub untouched : IfOk result (λ s. s ≢ status.Done → s ≢ status.WriteFault → s ≢ status.Memory → KeepsFiles files files')
 
 -- The count of writing faults where a run ended so: it never falls, it rose where a file could not be written, and it stays
--- as it was else.
-pub record IsWriteCounted (before after : ℕ) (result : Result Status Failed) : Type 0 where
+-- as it was else; and where no file is written it stays.
+pub record CountsWriting (name : Option (List ℕ)) (before after : ℕ) (result : Result Status Failed) : Type 0 where
   pub never_falls : before ≤ after
   pub failed : result ≡ Ok status.WriteFault → Rose before after
   pub other : result ≢ Ok status.WriteFault → after ≡ before
+  pub unwritten : name ≡ None → after ≡ before
+
+-- ---- one file
+
+-- A call made a file of these bytes, or answers why not. Where it was not made, it is as it was or has a prefix of them; the
+-- cause is the count of writing faults, or want of memory. All else is as it was, and no other name was asked for.
+pub record MakesFile (old_files new_files : Option Files) (old_slots new_slots : Slots) (old_reading new_reading old_writing new_writing : ℕ) (old_asked new_asked : List (List ℕ) → Type 0) (name bytes : List ℕ) (result : Result Unit OpenFault) : Type 0 where
+  pub made : OnOk result (PutsFile old_files new_files name bytes)
+  pub part : OnErr result (MakesPrefix old_files new_files name bytes)
+  pub not_missing : IsErrOf result open_fault.Missing → ⊥
+  pub slots : KeepsSlotsBut old_files old_slots new_slots name
+  pub reading : new_reading ≡ old_reading
+  pub writing : IsOpenCounted old_writing new_writing result
+  pub asked : AsksFor (name ∷ []) old_asked new_asked (IsOk result)
+
+-- a file is being written: it has all of these bytes, or where the shelf failed a prefix of them
+pub record IsWritingPart (old_files new_files : Option Files) (old_slots new_slots : Slots) (old_reading new_reading : ℕ) (writer : Writing) (name bytes : List ℕ) (result : Result Unit Failed) : Type 0 where
+  pub prefix : List ℕ
+  pub rest : List ℕ
+  pub split : bytes ≡ prefix ++ rest
+  pub whole : OnOk result (rest ≡ [])
+  pub writing : IsWriting old_files new_files old_slots new_slots old_reading new_reading writer name prefix
+
+-- the status of a run whose file could not be made
+abbrev pub unmade_as : OpenFault → Status
+unmade_as open_fault.Memory = status.Memory
+unmade_as fault = status.WriteFault

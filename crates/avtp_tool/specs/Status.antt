@@ -1,5 +1,7 @@
 -- The exit status of the command.
 use Rattle.std.specs.Prelude.{ℕ}
+use Rattle.capture_io.specs.declared.end.End.{End}
+use Rattle.capture_io.specs.declared.end.End.TheVariants as end
 use Rattle.avtp_tool.specs.declared.status.Status.{Status}
 use Rattle.avtp_tool.specs.declared.status.Status.TheVariants.{Done, Findings, Words, Refused, ReadFault, WriteFault, Memory, Limit, DeviceFault, TalkInput}
 
@@ -14,3 +16,10 @@ code_of Memory = 6
 code_of Limit = 7
 code_of DeviceFault = 8
 code_of TalkInput = 9
+
+-- the status of a run that ends with a capture whose reading ends so
+abbrev pub status_of : End → Status
+status_of end.Whole = Done
+status_of (end.Refused refusal) = Refused
+status_of end.ReadFault = ReadFault
+status_of end.Limit = Limit

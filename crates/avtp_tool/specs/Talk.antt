@@ -1,7 +1,15 @@
--- What `talk` prints and how it ends, as a function of the bytes of its input.
-use Rattle.std.specs.Prelude.{◌≡◌, ℕ, ◌≤◌, ◌<◌, nat_le, List, length, Option, Some, None, if◌then◌else◌}
+-- What `talk` prints and how it ends.
+use Rattle.std.specs.Prelude.{◌≡◌, ◌≢◌, ℕ, ◌≤◌, ◌<◌, nat_le, List, [], ◌∷◌, length, Option, Some, None, Result, Ok, IfOk, if◌then◌else◌}
+use Rattle.avtp_base.specs.declared.failed.Failed.{Failed}
+use Rattle.avtp_base.specs.Files.{Files, Slots}
+use Rattle.capture_io.specs.declared.end.Stop.{Stop}
+use Rattle.capture_io.specs.declared.end.Stop.TheVariants as stop
+use Rattle.capture_io.specs.Writing.{KeepsSlotsBut}
 use Rattle.talker.specs.declared.fault.TalkFault.{TalkFault}
-use Rattle.talker.specs.declared.plan.TalkKind.TheVariants.{Aaf}
+use Rattle.talker.specs.declared.plan.TalkKind.{TalkKind}
+use Rattle.talker.specs.declared.plan.TalkKind.TheVariants.{Aaf, Am824}
+use Rattle.avtp_words.specs.declared.talk.Kind.{Kind}
+use Rattle.avtp_words.specs.declared.talk.Kind.TheVariants as words
 use Rattle.talker.specs.declared.plan.TalkPlan.{TalkPlan}
 use Rattle.talker.specs.Faults.{fault_of}
 use Rattle.talker.specs.Frames.{clock_frames, stream_frames}
@@ -11,11 +19,20 @@ use Rattle.avtp_text.specs.Notices.{limit_line, read_fault_line}
 use Rattle.avtp_text.specs.Talk.{talk_input_line, talk_line}
 use Rattle.avtp_tool.specs.declared.status.Status.{Status}
 use Rattle.avtp_tool.specs.declared.status.Status.TheVariants as status
+use Rattle.avtp_tool.specs.Made.{CountsWriting, KeepsFilesBut}
+use Rattle.avtp_tool.specs.Outcome.{AsksFor, EndsWith, KeepsSink}
+use Rattle.talker.specs.declared.fault.TalkFault.TheVariants as fault
+use Rattle.avtp_base.specs.Told.{Keeps}
+use Rattle.avtp_text.specs.Written.{written}
 
--- what is asked for: PCM without a media clock
+abbrev pub talk_kind : Kind → TalkKind
+talk_kind (words.Aaf format sparse) = Aaf format sparse
+talk_kind words.Am824 = Am824
+
+-- what is asked for: audio without a media clock
 abbrev pub talk_plan : Talking → TalkPlan
 talk_plan asked = record {
-  kind = Aaf asked.format asked.sparse;
+  kind = talk_kind asked.kind;
   rate = asked.rate;
   channels = asked.channels;
   count = asked.count;
@@ -31,30 +48,61 @@ talk_plan asked = record {
 abbrev pub sent_line : TalkPlan → List ℕ → List ℕ
 sent_line plan input = talk_line (length (stream_frames plan input)) (length (clock_frames plan input))
 
--- `talk` of an input of these bytes ends with this status and prints this text. A longer input than may be is not talked
--- of, and a fault of reading may end it whatever the bytes are.
-abbrev pub Talks : TalkPlan → List ℕ → Status → List ℕ → Type 0
-Talks plan bytes status.Done text = (length bytes ≤ most_input) × (fault_of plan bytes ≡ None) × (text ≡ sent_line plan bytes)
-Talks plan bytes status.TalkInput text =
-    (length bytes ≤ most_input) × ((fault : TalkFault) × (fault_of plan bytes ≡ Some fault) × (text ≡ talk_input_line fault))
-Talks plan bytes status.Limit text = (most_input < length bytes) × (text ≡ limit_line most_input)
-Talks plan bytes status.ReadFault text = text ≡ read_fault_line
-Talks plan bytes ended text = ⊥
+-- `talk` of an input of these bytes can end with this status and print this text. A longer input is rejected, and a fault
+-- of reading can end it whatever the bytes are.
+abbrev pub TalkedOutcome : TalkPlan → List ℕ → Type 0 → Status → List ℕ → Type 0
+TalkedOutcome plan bytes fault status.Done text = (length bytes ≤ most_input) × (fault_of plan bytes ≡ None) × (text ≡ sent_line plan bytes)
+TalkedOutcome plan bytes fault status.TalkInput text =
+    (length bytes ≤ most_input) × ((why : TalkFault) × (fault_of plan bytes ≡ Some why) × (text ≡ talk_input_line why))
+TalkedOutcome plan bytes fault status.Limit text = (most_input < length bytes) × (text ≡ limit_line most_input)
+TalkedOutcome plan bytes fault status.ReadFault text = fault × (text ≡ read_fault_line)
+TalkedOutcome plan bytes fault ended text = ⊥
+
+-- the same of an input that a shelf tells so; one that is missing gives the fault of reading
+abbrev pub TalkOutcome : TalkPlan → Option (List ℕ) → Type 0 → Status → List ℕ → Type 0
+TalkOutcome plan None fault ended text = (ended ≡ status.ReadFault) × (text ≡ read_fault_line)
+TalkOutcome plan (Some bytes) fault ended text = TalkedOutcome plan bytes fault ended text
 
 -- ---- where no fault of reading comes
 
 abbrev pub status_by : Option TalkFault → Status
 status_by None = status.Done
-status_by (Some fault) = status.TalkInput
+status_by (Some why) = status.TalkInput
 
 abbrev pub line_by : Option TalkFault → TalkPlan → List ℕ → List ℕ
 line_by None plan bytes = sent_line plan bytes
-line_by (Some fault) plan bytes = talk_input_line fault
+line_by (Some why) plan bytes = talk_input_line why
 
 -- the status
-abbrev pub talk_status : TalkPlan → List ℕ → Status
-talk_status plan bytes = if nat_le (length bytes) most_input then status_by (fault_of plan bytes) else status.Limit
+abbrev pub talk_status : TalkPlan → Option (List ℕ) → Status
+talk_status plan None = status.ReadFault
+talk_status plan (Some bytes) = if nat_le (length bytes) most_input then status_by (fault_of plan bytes) else status.Limit
 
 -- the whole text
-abbrev pub talk_report : TalkPlan → List ℕ → List ℕ
-talk_report plan bytes = if nat_le (length bytes) most_input then line_by (fault_of plan bytes) plan bytes else limit_line most_input
+abbrev pub talk_report : TalkPlan → Option (List ℕ) → List ℕ
+talk_report plan None = read_fault_line
+talk_report plan (Some bytes) = if nat_le (length bytes) most_input then line_by (fault_of plan bytes) plan bytes else limit_line most_input
+
+-- ---- what is done
+
+-- A run over an input whose reading stopped so ends with a fault of reading exactly where that stopped it, and never for its
+-- words.
+pub record FaultStops (halt : Stop) (result : Result Status Failed) : Type 0 where
+  pub fault : result ≡ Ok status.ReadFault → halt ≡ stop.Fault
+  pub quiet : IfOk result (λ s. s ≢ status.ReadFault → s ≢ status.Memory → s ≢ status.WriteFault → halt ≢ stop.Fault)
+  pub no_words : result ≢ Ok status.Words
+
+-- A call that writes one file alone left this of all others, of the slots and of the counts, and asked for its name.
+pub record WritesOnly (old_files new_files : Option Files) (old_slots new_slots : Slots) (old_reading new_reading old_writing new_writing : ℕ) (old_asked new_asked : List (List ℕ) → Type 0) (name : List ℕ) (result : Result Status Failed) : Type 0 where
+  pub files : KeepsFilesBut (Some name) old_files new_files
+  pub slots : KeepsSlotsBut old_files old_slots new_slots name
+  pub reading : new_reading ≡ old_reading
+  pub writing : CountsWriting (Some name) old_writing new_writing result
+  pub asked : AsksFor (name ∷ []) old_asked new_asked (result ≡ Ok status.Done)
+
+-- A run ends since the input makes no stream: for want of memory with that status and nothing printed, and else with the line
+-- that says why.
+pub record EndsRefused (why : TalkFault) (held held' : Option (List ℕ)) (waits waits' : List ℕ) (faults faults' : ℕ) (result : Result Status Failed) : Type 0 where
+  pub memory : why ≡ fault.Memory → (result ≡ Ok status.Memory) × Keeps (written held waits) (written held' waits')
+  pub other : why ≢ fault.Memory → EndsWith status.TalkInput held held' waits waits' faults faults' result (talk_input_line why)
+  pub sink : KeepsSink held held' faults faults' result

@@ -1,27 +1,28 @@
 //! The command `listen`: when each sample of a stream is due.
 
-ghost use Rattle.std.specs.Prelude.{◌≡◌, ◌≢◌, ◌≤◌, ◌<◌, ◌⊎◌, ◌++◌, ℕ, List, Ok, Some, None, length, IsSome, IfOk, OnErr};
-ghost use Rattle.std.specs.Io.KnownBytes.{Appends, Keeps};
-ghost use Rattle.avtp_base.specs.Faults.{IsCounted, Rose};
-ghost use Rattle.avtp_base.specs.Files.{left_in, KeepsFiles, KeepsOthers};
-ghost use Rattle.avtp_words.specs.Grammar.{listening_of};
+ghost use Rattle.std.specs.Prelude.{◌≡◌, ◌≢◌, ◌≤◌, ◌^◌, ◌*◌, ◌∷◌, ◌++◌, ℕ, List, [], All, Some, None, IsSome, IfOk, ◌⊎◌};
+ghost use Rattle.avtp_base.specs.Faults.{Rose};
+ghost use Rattle.avtp_base.specs.Files.{Files, left_in};
+ghost use Rattle.avtp_words.specs.Grammar.{listen as listen_request, listening_of};
 ghost use Rattle.avtp_text.specs.Listen.{capture_line};
-ghost use Rattle.avtp_text.specs.Written.{written, AppendsFront, Grows, WritesFront};
-ghost use Rattle.avtp_tool.specs.Contents.{IsContents, end_at};
-ghost use Rattle.avtp_tool.specs.Front.{ShowsFront};
-ghost use Rattle.avtp_tool.specs.Listen.{heard as heard_in, heard_limit, heard_lines, Hears, plan_of};
-ghost use Rattle.avtp_tool.specs.Reports.{IsListening};
-ghost use Rattle.avtp_tool.specs.Report.{status_of};
-ghost use Rattle.avtp_tool.specs.declared.capture.End as ends;
-ghost use Rattle.avtp_tool.specs.declared.capture.End.TheVariants as end;
+ghost use Rattle.avtp_text.specs.Written.{written, PrintsPart};
+ghost use Rattle.pcap_frames.specs.Capture.{Record};
+ghost use Rattle.capture_io.specs.Reads.{OnlyReads, ReadsSlot};
+ghost use Rattle.capture_io.specs.Source.{HasGiven, slot_of, to_do};
+ghost use Rattle.avtp_tool.specs.Listen.{CountsGathered, FileOutcome, HasGathered, heard_lines, heard_text, plan_of};
+ghost use Rattle.avtp_tool.specs.Outcome.{CountsReading, KeepsSink, Only, Tells};
+ghost use Rattle.avtp_tool.specs.Run.{IsListening, Runs};
+ghost use Rattle.avtp_tool.specs.Status.{status_of};
+ghost use Rattle.listener.specs.Collected.{StandsFor};
+ghost use Rattle.sample_schedule.specs.Limits.{IsEntry};
 
-use crate::capture::End;
-use crate::contents::{Contents, read_contents};
+use crate::command::print_unopened;
 use crate::status::Status;
-use avtp_base::{Failed, NoMemory, Refusal, Shelf, Sink, Slot};
+use avtp_base::{Failed, NoMemory, OpenFault, Refusal, Shelf, Sink};
 use avtp_text::Text;
 use avtp_words::Listen;
-use listener::{Heard, ListenPlan, whole};
+use capture_io::{End, Source};
+use listener::{Collected, Heard, ListenPlan};
 use std::alloc::Global;
 
 /// The most bytes of a capture that are read: 16 MiB. A longer capture is not listened to.
@@ -42,78 +43,121 @@ fn plan(asked: &Listen<'_>) -> ListenPlan
     }
 }
 
-/// Reads an open capture whole and closes it, and prints what of the stream is presented, at which instants, and why
-/// the rest is not.
-#[tactic(auto, using(avtp_text::proofs::Growth::grows_none))]
+/// Prints of each capture in order what of the stream is presented, at which instants, and why the rest is not. The first
+/// that cannot be read whole ends it.
 pub fn listen<F: Shelf, S: Sink>(
     alloc: Global,
     asked: &Listen<'_>,
     shelf: &mut F,
-    slot: Slot,
-    buffer: &mut [u8],
     text: &mut Text,
     out: &mut S,
 ) -> Result<Status, Failed>
-    requires live { IsSome (F.slots shelf.old slot.0) }
-    requires room { 0 < length buffer.old }
-    requires asked { IsListening (listening_of asked.now) }
-    ensures shown { IfOk result (λ ended. ended ≢ Status.Memory → (bytes : List ℕ) → left_in (F.slots shelf.old) slot.0 ≡ Some bytes →
-        (printed : List ℕ) × Hears (listening_of asked.now) bytes ended printed
-        × Appends (written (S.held out.old) text.old) (written (S.held out.new) text.new) printed) }
-    ensures part { OnErr result ((bytes : List ℕ) → left_in (F.slots shelf.old) slot.0 ≡ Some bytes →
-        ShowsFront (Hears (listening_of asked.now) bytes) (written (S.held out.old) text.old) (written (S.held out.new) text.new) (F.reading_faults shelf.old) (F.reading_faults shelf.new)) }
-    ensures memory { result ≡ Ok Status.Memory → Keeps (written (S.held out.old) text.old) (written (S.held out.new) text.new) }
-    ensures ends { IfOk result (λ ended. (ended ≡ Status.Memory) ⊎ ((how : ends.End) × (ended ≡ status_of how))) }
-    ensures read_fault { result ≡ Ok Status.ReadFault → Rose (F.reading_faults shelf.old) (F.reading_faults shelf.new) }
-    ensures closed { F.slots shelf.new slot.0 ≡ None }
-    ensures others { KeepsOthers (F.slots shelf.old) (F.slots shelf.new) slot.0 }
-    ensures files { KeepsFiles (F.files shelf.old) (F.files shelf.new) }
-    ensures never_falls { F.reading_faults shelf.old ≤ F.reading_faults shelf.new }
-    ensures writing { F.writing_faults shelf.new ≡ F.writing_faults shelf.old }
-    ensures grows { Grows (S.held out.old) (S.held out.new) }
-    ensures counted { IsCounted (S.faults out.old) (S.faults out.new) result }
+    requires { IsListening (listening_of asked.now) }
+    ensures runs { Runs (listen_request (listening_of asked.now)) (F.files shelf.old) (F.files shelf.new) (F.slots shelf.old) (F.slots shelf.new) (F.reading_faults shelf.old) (F.reading_faults shelf.new)
+        (F.writing_faults shelf.old) (F.writing_faults shelf.new) (F.asked shelf.old) (F.asked shelf.new)
+        (written (S.held out.old) text.old) (written (S.held out.new) text.new) result }
+    ensures sink { KeepsSink (S.held out.old) (S.held out.new) (S.faults out.old) (S.faults out.new) result }
 {
-    let contents = read_contents(alloc, LIMIT, shelf, slot, buffer);
-    shelf.close_file(slot);
-    match contents {
-        Ok(contents) => hear(alloc, asked, &contents, text, out),
+    for file in asked.files {
+        match listen_file(alloc, asked, file, shelf, text, out)? {
+            Status::Done => {}
+            ended => return Ok(ended),
+        }
+    }
+    Ok(Status::Done)
+}
+
+/// Reads a capture, and prints what is heard of it.
+fn listen_file<F: Shelf, S: Sink>(
+    alloc: Global,
+    asked: &Listen<'_>,
+    file: &str,
+    shelf: &mut F,
+    text: &mut Text,
+    out: &mut S,
+) -> Result<Status, Failed>
+    requires { IsListening (listening_of asked.now) }
+    ensures tells { (files : Files) → F.files shelf.old ≡ Some files →
+        Tells (FileOutcome (listening_of asked.now) (files file.now) (Rose (F.reading_faults shelf.old) (F.reading_faults shelf.new)) file.now) (written (S.held out.old) text.old) (written (S.held out.new) text.new) result }
+    ensures keeps { OnlyReads (F.files shelf.old) (F.files shelf.new) (F.slots shelf.old) (F.slots shelf.new) (F.reading_faults shelf.old) (F.reading_faults shelf.new)
+        (F.writing_faults shelf.old) (F.writing_faults shelf.new) (F.asked shelf.old) (F.asked shelf.new) (file.now ∷ []) }
+    ensures own { IfOk result (λ ended. (ended ≢ Status.WriteFault) × (ended ≢ Status.Words)) }
+    ensures counts { CountsReading (file.now ∷ []) (F.files shelf.old) (F.reading_faults shelf.old) (F.reading_faults shelf.new) result }
+    ensures sink { KeepsSink (S.held out.old) (S.held out.new) (S.faults out.old) (S.faults out.new) result }
+{
+    let mut source = match Source::open(alloc, LIMIT, shelf, file) {
+        Ok(source) => source,
+        Err(fault) => return print_unopened(text, out, fault),
+    };
+    let gathered = gather(alloc, asked.stream, &mut source, shelf);
+    source.close(shelf);
+    match gathered {
+        Ok(gathered) => hear(alloc, asked, file, gathered, text, out),
         Err(NoMemory) => Ok(Status::Memory),
     }
 }
 
-/// Prints what is heard of a capture's contents.
-#[tactic(auto, using(avtp_text::proofs::Growth::grows_none))]
+/// What was made of the records of a capture, and how its reading ended.
+#[derive(Drop)]
+struct Gathered {
+    collected: Collected,
+    end: End,
+}
+
+/// Reads an open capture as far as it can be read, and collects what belongs to the stream.
+fn gather<F: Shelf>(
+    alloc: Global,
+    stream: u64,
+    source: &mut Source,
+    shelf: &mut F,
+) -> Result<Gathered, NoMemory>
+    requires begun { (source.old.ended ≡ None) × IsSome (F.slots shelf.old (slot_of source.old)) }
+    requires limit { to_do source.old ≤ 2 ^ 41 }
+    ensures gathered { IfOk result (λ all. (limit : ℕ) (bytes : List ℕ) → HasGiven limit bytes (left_in (F.slots shelf.old) (slot_of source.old)) source.old [] →
+        HasGathered limit bytes (Rose (F.reading_faults shelf.old) (F.reading_faults shelf.new)) stream all) }
+    ensures fits { IfOk result (λ all. All IsEntry all.collected.entries.items) }
+    ensures reads { ReadsSlot (F.files shelf.old) (F.files shelf.new) (F.slots shelf.old) (F.slots shelf.new) (F.reading_faults shelf.old) (F.reading_faults shelf.new)
+        (F.writing_faults shelf.old) (F.writing_faults shelf.new) (F.asked shelf.old) (F.asked shelf.new) (slot_of source.old) }
+    ensures slot { slot_of source.new ≡ slot_of source.old }
+    ensures counts { CountsGathered (F.reading_faults shelf.old) (F.reading_faults shelf.new) result }
+{
+    let mut collected = Collected::new(alloc);
+    loop {
+        if let Some(end) = source.next(shelf) {
+            return Ok(Gathered { collected, end });
+        }
+        collected.take_record(alloc, stream, &source.record())?;
+    }
+}
+
+/// Prints what is heard of a capture's records.
 fn hear<S: Sink>(
     alloc: Global,
     asked: &Listen<'_>,
-    contents: &Contents,
+    file: &str,
+    gathered: Gathered,
     text: &mut Text,
     out: &mut S,
 ) -> Result<Status, Failed>
     requires asked { IsListening (listening_of asked.now) }
-    requires bounded { length contents.now.bytes.items ≤ heard_limit }
-    ensures how { IfOk result (λ ended. ended ≢ Status.Memory →
-        ended ≡ status_of (end_at contents.now.stop (heard_in (listening_of asked.now) contents.now.bytes.items).refused)) }
-    ensures printed { IfOk result (λ ended. ended ≢ Status.Memory → Appends (written (S.held out.old) text.old) (written (S.held out.new) text.new)
-        (capture_line asked.now.file.now ++ heard_lines (heard_in (listening_of asked.now) contents.now.bytes.items) (end_at contents.now.stop (heard_in (listening_of asked.now) contents.now.bytes.items).refused))) }
-    ensures part { OnErr result (AppendsFront (written (S.held out.old) text.old) (written (S.held out.new) text.new)
-        (capture_line asked.now.file.now ++ heard_lines (heard_in (listening_of asked.now) contents.now.bytes.items) (end_at contents.now.stop (heard_in (listening_of asked.now) contents.now.bytes.items).refused))) }
-    ensures memory { result ≡ Ok Status.Memory → Keeps (written (S.held out.old) text.old) (written (S.held out.new) text.new) }
-    ensures grows { Grows (S.held out.old) (S.held out.new) }
-    ensures counted { IsCounted (S.faults out.old) (S.faults out.new) result }
+    requires fits { All IsEntry gathered.collected.entries.items }
+    ensures tells { (records : List Record) → StandsFor asked.now.stream records gathered.collected →
+        Tells (Only (status_of gathered.end) (heard_text (listening_of asked.now) file.now records gathered.end)) (written (S.held out.old) text.old) (written (S.held out.new) text.new) result }
+    ensures ends { IfOk result (λ ended. (ended ≡ Status.Memory) ⊎ (ended ≡ status_of gathered.end)) }
+    ensures sink { KeepsSink (S.held out.old) (S.held out.new) (S.faults out.old) (S.faults out.new) result }
 {
-    match whole(alloc, &plan(asked), contents.bytes.as_slice()) {
+    let Gathered { collected, end } = gathered;
+    match collected.heard(alloc, &plan(asked), None) {
         Ok(heard) => {
-            let end = contents.stop.end(heard.refused);
-            print_heard(text, out, asked.file, &heard, end)?;
-            Ok(end.status())
+            print_heard(text, out, file, &heard, end)?;
+            Ok(Status::of(end))
         }
         Err(NoMemory) => Ok(Status::Memory),
     }
 }
 
 /// Prints what was heard of a capture whose reading ended so.
-#[tactic(auto, using(avtp_text::proofs::Growth::grows_further, avtp_text::proofs::Fronts::failed_before, avtp_text::proofs::Fronts::writes_after))]
+#[tactic(auto, using(avtp_text::proofs::Printing::part_then, avtp_text::proofs::Printing::part_failed))]
 fn print_heard<S: Sink>(
     text: &mut Text,
     out: &mut S,
@@ -121,20 +165,16 @@ fn print_heard<S: Sink>(
     heard: &Heard,
     end: End,
 ) -> Result<(), Failed>
-    ensures written { WritesFront (written (S.held out.old) text.old) (written (S.held out.new) text.new) result (capture_line file.now ++ heard_lines heard.now end) }
-    ensures grows { Grows (S.held out.old) (S.held out.new) }
-    ensures counted { IsCounted (S.faults out.old) (S.faults out.new) result }
+    ensures { PrintsPart (S.held out.old) (S.held out.new) text.old text.new (S.faults out.old) (S.faults out.new) result (capture_line file.now ++ heard_lines heard.now.shown heard.now.counts end) }
 {
     text.capture(out, file)?;
     print_lines(text, out, heard, end)
 }
 
-/// Prints what stands behind the capture's name.
-#[tactic(auto, using(avtp_text::proofs::Fronts::writes_front))]
+/// Prints what stands after the capture's name.
+#[tactic(auto, using(avtp_text::proofs::Printing::part_of))]
 fn print_lines<S: Sink>(text: &mut Text, out: &mut S, heard: &Heard, end: End) -> Result<(), Failed>
-    ensures written { WritesFront (written (S.held out.old) text.old) (written (S.held out.new) text.new) result (heard_lines heard.now end) }
-    ensures grows { Grows (S.held out.old) (S.held out.new) }
-    ensures counted { IsCounted (S.faults out.old) (S.faults out.new) result }
+    ensures { PrintsPart (S.held out.old) (S.held out.new) text.old text.new (S.faults out.old) (S.faults out.new) result (heard_lines heard.now.shown heard.now.counts end) }
 {
     match end {
         End::Whole => print_whole(text, out, heard),
@@ -145,27 +185,23 @@ fn print_lines<S: Sink>(text: &mut Text, out: &mut S, heard: &Heard, end: End) -
 }
 
 /// Prints what is shown of a whole capture, and its numbers.
-#[tactic(auto, using(avtp_text::proofs::Growth::grows_further, avtp_text::proofs::Fronts::failed_before, avtp_text::proofs::Fronts::writes_whole_after))]
+#[tactic(auto, using(avtp_text::proofs::Printing::part_of, avtp_text::proofs::Printing::part_then, avtp_text::proofs::Printing::part_failed))]
 fn print_whole<S: Sink>(text: &mut Text, out: &mut S, heard: &Heard) -> Result<(), Failed>
-    ensures written { WritesFront (written (S.held out.old) text.old) (written (S.held out.new) text.new) result (heard_lines heard.now end.Whole) }
-    ensures grows { Grows (S.held out.old) (S.held out.new) }
-    ensures counted { IsCounted (S.faults out.old) (S.faults out.new) result }
+    ensures { PrintsPart (S.held out.old) (S.held out.new) text.old text.new (S.faults out.old) (S.faults out.new) result (heard_lines heard.now.shown heard.now.counts End.Whole) }
 {
     text.shown_list(out, heard.shown.as_slice())?;
     text.end_listen(out, &heard.counts)
 }
 
 /// Prints what is shown of a capture up to a field that is refused, and the refusal.
-#[tactic(auto, using(avtp_text::proofs::Growth::grows_further, avtp_text::proofs::Fronts::failed_before, avtp_text::proofs::Fronts::writes_whole_after))]
+#[tactic(auto, using(avtp_text::proofs::Printing::part_of, avtp_text::proofs::Printing::part_then, avtp_text::proofs::Printing::part_failed))]
 fn print_refused<S: Sink>(
     text: &mut Text,
     out: &mut S,
     heard: &Heard,
     refusal: Refusal,
 ) -> Result<(), Failed>
-    ensures written { WritesFront (written (S.held out.old) text.old) (written (S.held out.new) text.new) result (heard_lines heard.now (end.Refused refusal)) }
-    ensures grows { Grows (S.held out.old) (S.held out.new) }
-    ensures counted { IsCounted (S.faults out.old) (S.faults out.new) result }
+    ensures { PrintsPart (S.held out.old) (S.held out.new) text.old text.new (S.faults out.old) (S.faults out.new) result (heard_lines heard.now.shown heard.now.counts (End.Refused refusal)) }
 {
     text.shown_list(out, heard.shown.as_slice())?;
     text.capture_refused(out, refusal)

@@ -1,95 +1,83 @@
 //! The command `show`: what each record of a capture holds.
 
-ghost use Rattle.std.specs.Prelude.{◌≡◌, ◌≢◌, ◌≤◌, ◌<◌, ◌^◌, ◌⊎◌, ℕ, List, Ok, Some, None, length, IsSome, IfOk, OnErr};
-ghost use Rattle.std.specs.Io.KnownBytes.{Appends, Keeps};
-ghost use Rattle.avtp_base.specs.Faults.{IsCounted, Rose};
-ghost use Rattle.avtp_base.specs.Files.{left_in, KeepsFiles, KeepsOthers};
-ghost use Rattle.pcap_frames.specs.Reading.{nothing_read};
-ghost use Rattle.avtp_text.specs.Written.{written, Grows};
-ghost use Rattle.avtp_tool.specs.Front.{ShowsFront};
-ghost use Rattle.avtp_tool.specs.declared.capture.End as ends;
-ghost use Rattle.avtp_tool.specs.Report.{Shows, end_line, status_of};
+ghost use Rattle.std.specs.Prelude.{◌≡◌, ◌*◌, ◌^◌, ◌≤◌, ℕ, List, None, [], IsSome};
+ghost use Rattle.avtp_base.specs.Faults.{Rose};
+ghost use Rattle.avtp_base.specs.Files.{left_in};
+ghost use Rattle.avtp_words.specs.Grammar.{show as show_request};
+ghost use Rattle.avtp_text.specs.Written.{written, Prints};
+ghost use Rattle.capture_io.specs.Reads.{ReadsSlot};
+ghost use Rattle.capture_io.specs.Source.{HasGiven, slot_of, to_do};
+ghost use Rattle.avtp_tool.specs.Outcome.{EndsWith, KeepsSink};
+ghost use Rattle.avtp_tool.specs.Run.{Runs};
+ghost use Rattle.avtp_tool.specs.Show.{CountsPrinted, end_line, PrintsRecords};
+ghost use Rattle.avtp_tool.specs.Status.{status_of};
 
-use crate::capture::{End, Progress};
+use crate::command::print_unopened;
+use crate::record::print_record;
 use crate::status::Status;
-use avtp_base::{Failed, Shelf, Sink, Slot};
+use avtp_base::{Failed, Shelf, Sink};
 use avtp_text::Text;
-use pcap_frames::Reader;
+use capture_io::{End, Source};
 use std::alloc::Global;
 
-/// Prints a line for each record of an open capture, and a line for its end, and closes it. At most `limit` bytes are
-/// read.
-#[tactic(auto, using(avtp_text::proofs::Growth::grows_none))]
+/// How many records of a capture were printed, and how its reading ended.
+#[derive(Clone, Copy, Debug, PartialEq, Eq)]
+pub struct Printed {
+    pub frames: u64,
+    pub end: End,
+}
+
+/// Prints a line for each record of a capture, and a line for its end. At most `limit` bytes of it are read.
 pub fn show<F: Shelf, S: Sink>(
     alloc: Global,
     limit: u64,
+    file: &str,
     shelf: &mut F,
-    slot: Slot,
-    buffer: &mut [u8],
     text: &mut Text,
     out: &mut S,
 ) -> Result<Status, Failed>
-    requires live { IsSome (F.slots shelf.old slot.0) }
-    requires room { 0 < length buffer.old }
-    requires limit { limit ≤ 2 ^ 40 }
-    ensures shown { IfOk result (λ ended. ended ≢ Status.Memory → (bytes : List ℕ) → left_in (F.slots shelf.old) slot.0 ≡ Some bytes →
-        (printed : List ℕ) × Shows limit bytes ended printed
-        × Appends (written (S.held out.old) text.old) (written (S.held out.new) text.new) printed) }
-    ensures part { OnErr result ((bytes : List ℕ) → left_in (F.slots shelf.old) slot.0 ≡ Some bytes →
-        ShowsFront (Shows limit bytes) (written (S.held out.old) text.old) (written (S.held out.new) text.new) (F.reading_faults shelf.old) (F.reading_faults shelf.new)) }
-    ensures memory { result ≡ Ok Status.Memory → Keeps (written (S.held out.old) text.old) (written (S.held out.new) text.new) }
-    ensures ends { IfOk result (λ ended. (ended ≡ Status.Memory) ⊎ ((how : ends.End) × (ended ≡ status_of how))) }
-    ensures read_fault { result ≡ Ok Status.ReadFault → Rose (F.reading_faults shelf.old) (F.reading_faults shelf.new) }
-    ensures closed { F.slots shelf.new slot.0 ≡ None }
-    ensures others { KeepsOthers (F.slots shelf.old) (F.slots shelf.new) slot.0 }
-    ensures files { KeepsFiles (F.files shelf.old) (F.files shelf.new) }
-    ensures never_falls { F.reading_faults shelf.old ≤ F.reading_faults shelf.new }
-    ensures writing { F.writing_faults shelf.new ≡ F.writing_faults shelf.old }
-    ensures grows { Grows (S.held out.old) (S.held out.new) }
-    ensures counted { IsCounted (S.faults out.old) (S.faults out.new) result }
+    requires { limit ≤ 2 ^ 40 }
+    ensures runs { Runs (show_request limit file.now) (F.files shelf.old) (F.files shelf.new) (F.slots shelf.old) (F.slots shelf.new) (F.reading_faults shelf.old) (F.reading_faults shelf.new)
+        (F.writing_faults shelf.old) (F.writing_faults shelf.new) (F.asked shelf.old) (F.asked shelf.new)
+        (written (S.held out.old) text.old) (written (S.held out.new) text.new) result }
+    ensures sink { KeepsSink (S.held out.old) (S.held out.new) (S.faults out.old) (S.faults out.new) result }
 {
-    let Ok(reader) = Reader::new(alloc) else {
-        shelf.close_file(slot);
-        return Ok(Status::Memory);
+    let mut source = match Source::open(alloc, limit, shelf, file) {
+        Ok(source) => source,
+        Err(fault) => return print_unopened(text, out, fault),
     };
-    print_open(limit, shelf, slot, reader, buffer, text, out)
+    let printed = print_records(&mut source, shelf, text, out);
+    source.close(shelf);
+    match printed {
+        Ok(printed) => print_end(text, out, limit, printed),
+        Err(Failed) => Err(Failed),
+    }
 }
 
-/// Prints the records of an open capture and how its reading ended, and closes it.
-fn print_open<F: Shelf, S: Sink>(
-    limit: u64,
+/// Prints each record of an open capture, in order, as far as it can be read.
+fn print_records<F: Shelf, S: Sink>(
+    source: &mut Source,
     shelf: &mut F,
-    slot: Slot,
-    reader: Reader,
-    buffer: &mut [u8],
     text: &mut Text,
     out: &mut S,
-) -> Result<Status, Failed>
-    requires live { IsSome (F.slots shelf.old slot.0) }
-    requires room { 0 < length buffer.old }
-    requires limit { limit ≤ 2 ^ 40 }
-    requires fresh { reader ≡ nothing_read }
-    ensures shown { IfOk result (λ ended. (bytes : List ℕ) → left_in (F.slots shelf.old) slot.0 ≡ Some bytes →
-        (printed : List ℕ) × Shows limit bytes ended printed
-        × Appends (written (S.held out.old) text.old) (written (S.held out.new) text.new) printed) }
-    ensures part { OnErr result ((bytes : List ℕ) → left_in (F.slots shelf.old) slot.0 ≡ Some bytes →
-        ShowsFront (Shows limit bytes) (written (S.held out.old) text.old) (written (S.held out.new) text.new) (F.reading_faults shelf.old) (F.reading_faults shelf.new)) }
-    ensures ends { IfOk result (λ ended. (how : ends.End) × (ended ≡ status_of how)) }
-    ensures read_fault { result ≡ Ok Status.ReadFault → Rose (F.reading_faults shelf.old) (F.reading_faults shelf.new) }
-    ensures closed { F.slots shelf.new slot.0 ≡ None }
-    ensures others { KeepsOthers (F.slots shelf.old) (F.slots shelf.new) slot.0 }
-    ensures files { KeepsFiles (F.files shelf.old) (F.files shelf.new) }
-    ensures never_falls { F.reading_faults shelf.old ≤ F.reading_faults shelf.new }
-    ensures writing { F.writing_faults shelf.new ≡ F.writing_faults shelf.old }
-    ensures grows { Grows (S.held out.old) (S.held out.new) }
-    ensures counted { IsCounted (S.faults out.old) (S.faults out.new) result }
+) -> Result<Printed, Failed>
+    requires begun { (source.old.ended ≡ None) × IsSome (F.slots shelf.old (slot_of source.old)) }
+    requires limit { to_do source.old ≤ 2 ^ 41 }
+    ensures printed { (limit : ℕ) (bytes : List ℕ) → HasGiven limit bytes (left_in (F.slots shelf.old) (slot_of source.old)) source.old [] →
+        PrintsRecords limit bytes (Rose (F.reading_faults shelf.old) (F.reading_faults shelf.new)) (written (S.held out.old) text.old) (written (S.held out.new) text.new) result }
+    ensures reads { ReadsSlot (F.files shelf.old) (F.files shelf.new) (F.slots shelf.old) (F.slots shelf.new) (F.reading_faults shelf.old) (F.reading_faults shelf.new)
+        (F.writing_faults shelf.old) (F.writing_faults shelf.new) (F.asked shelf.old) (F.asked shelf.new) (slot_of source.old) }
+    ensures slot { slot_of source.new ≡ slot_of source.old }
+    ensures counts { CountsPrinted (F.reading_faults shelf.old) (F.reading_faults shelf.new) result }
+    ensures sink { KeepsSink (S.held out.old) (S.held out.new) (S.faults out.old) (S.faults out.new) result }
 {
-    let mut progress = Progress { reader, frames: 0 };
-    let end = progress.print_file(limit, shelf, slot, buffer, text, out);
-    shelf.close_file(slot);
-    match end {
-        Ok(end) => print_end(text, out, limit, progress.frames, end),
-        Err(Failed) => Err(Failed),
+    let mut frames = 0;
+    loop {
+        if let Some(end) = source.next(shelf) {
+            return Ok(Printed { frames, end });
+        }
+        frames += 1;
+        print_record(text, out, frames, &source.record())?;
     }
 }
 
@@ -98,31 +86,26 @@ fn print_end<S: Sink>(
     text: &mut Text,
     out: &mut S,
     limit: u64,
-    frames: u64,
-    end: End,
+    printed: Printed,
 ) -> Result<Status, Failed>
-    ensures status { IfOk result (λ ended. ended ≡ status_of end) }
-    ensures printed { IfOk result (λ ended. Appends (written (S.held out.old) text.old) (written (S.held out.new) text.new) (end_line limit frames end)) }
-    ensures part { OnErr result (Keeps (written (S.held out.old) text.old) (written (S.held out.new) text.new)) }
-    ensures grows { Grows (S.held out.old) (S.held out.new) }
-    ensures counted { IsCounted (S.faults out.old) (S.faults out.new) result }
+    ensures { EndsWith (status_of printed.end) (S.held out.old) (S.held out.new) text.old text.new (S.faults out.old) (S.faults out.new) result (end_line limit printed.frames printed.end) }
 {
-    match end {
-        End::Whole => {
-            text.end_frames(out, frames)?;
-            Ok(Status::Done)
-        }
-        End::Refused(refusal) => {
-            text.capture_refused(out, refusal)?;
-            Ok(Status::Refused)
-        }
-        End::ReadFault => {
-            text.read_fault(out)?;
-            Ok(Status::ReadFault)
-        }
-        End::Limit => {
-            text.limit(out, limit)?;
-            Ok(Status::Limit)
-        }
+    print_end_line(text, out, limit, printed)?;
+    Ok(Status::of(printed.end))
+}
+
+fn print_end_line<S: Sink>(
+    text: &mut Text,
+    out: &mut S,
+    limit: u64,
+    printed: Printed,
+) -> Result<(), Failed>
+    ensures { Prints (S.held out.old) (S.held out.new) text.old text.new (S.faults out.old) (S.faults out.new) result (end_line limit printed.frames printed.end) }
+{
+    match printed.end {
+        End::Whole => text.end_frames(out, printed.frames),
+        End::Refused(refusal) => text.capture_refused(out, refusal),
+        End::ReadFault => text.read_fault(out),
+        End::Limit => text.limit(out, limit),
     }
 }

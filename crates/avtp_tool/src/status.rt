@@ -1,7 +1,9 @@
 //! How a run ends.
 
 ghost use Rattle.std.specs.Prelude.{◌≡◌};
-ghost use Rattle.avtp_tool.specs.Status.{code_of};
+ghost use Rattle.avtp_tool.specs.Status.{code_of, status_of};
+
+use capture_io::End;
 
 /// How a run ended. The command ends with its code.
 #[derive(Clone, Copy, Debug, PartialEq, Eq)]
@@ -29,6 +31,18 @@ pub enum Status {
 }
 
 impl Status {
+    /// The status of a run that ends with a capture whose reading ends so.
+    pub fn of(end: End) -> Status
+        ensures { result ≡ status_of end }
+    {
+        match end {
+            End::Whole => Status::Done,
+            End::Refused(_) => Status::Refused,
+            End::ReadFault => Status::ReadFault,
+            End::Limit => Status::Limit,
+        }
+    }
+
     /// The exit status of the command.
     pub fn code(self) -> u8
         ensures { result ≡ code_of self }

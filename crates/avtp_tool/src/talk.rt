@@ -1,44 +1,62 @@
 //! The command `talk`: a capture of a stream, made from raw samples.
 
-ghost use Rattle.std.specs.Prelude.{◌≡◌, ◌≢◌, ◌≤◌, ◌<◌, ◌⊎◌, ℕ, List, Ok, Some, None, length, IsSome, IfOk, OnErr};
-ghost use Rattle.std.specs.Io.KnownBytes.{Appends, Keeps};
-ghost use Rattle.avtp_base.specs.Faults.{IsCounted, Rose};
-ghost use Rattle.avtp_base.specs.Files.{left_in, KeepsFiles, PutsFile};
-ghost use Rattle.talker.specs.Frames.{capture};
+ghost use Rattle.std.specs.Prelude.{◌≡◌, ◌≤◌, ◌<◌, ℕ, List, [], Option, Ok, Some, IfOk, length, take};
+ghost use Rattle.avtp_base.specs.Faults.{IsCounted};
+ghost use Rattle.avtp_base.specs.Files.{Files, Slots};
+ghost use Rattle.pcap_frames.specs.Capture.{header_spelling, record_spelling, HasSpelling};
+ghost use Rattle.talker.specs.Frames.{capture, capture_style, record_of, sent_frame};
 ghost use Rattle.talker.specs.Plan.{IsPlan};
 ghost use Rattle.talker.specs.Talking.{most_input};
-ghost use Rattle.avtp_words.specs.Grammar.{talking_of};
+ghost use Rattle.avtp_words.specs.Grammar.{talk as talk_request, talking_of};
 ghost use Rattle.avtp_text.specs.Talk.{talk_input_line, talk_line};
 ghost use Rattle.avtp_text.specs.Notices.{limit_line};
-ghost use Rattle.avtp_text.specs.Written.{written, Grows};
-ghost use Rattle.avtp_tool.specs.Contents.{IsContents};
-ghost use Rattle.avtp_tool.specs.declared.contents.Stop.TheVariants as stop;
-ghost use Rattle.avtp_tool.specs.Front.{ShowsFront};
-ghost use Rattle.avtp_tool.specs.Made.{IsWriteCounted, KeepsFilesBut, KeepsOthersBut, KeepsSlotsBut, MakesFront};
-ghost use Rattle.avtp_tool.specs.Talk.{sent_line, talk_plan, Talks};
+ghost use Rattle.avtp_text.specs.Written.{written};
+ghost use Rattle.capture_io.specs.Contents.{IsContents};
+ghost use Rattle.capture_io.specs.Writing.{IsMadeIn, IsWriting, WritesSlot};
+ghost use Rattle.capture_io.specs.declared.end.Stop.TheVariants as stop;
+ghost use Rattle.avtp_tool.specs.Made.{IsWritingPart, Makes, MakesFile, unmade_as};
+ghost use Rattle.avtp_tool.specs.Outcome.{EndsWith, KeepsSink, Only, Tells};
+ghost use Rattle.avtp_tool.specs.Run.{Runs};
+ghost use Rattle.avtp_tool.specs.Talk.{EndsRefused, FaultStops, sent_line, talk_kind, talk_plan, TalkedOutcome, WritesOnly};
 
-use crate::capture_file::FileBuffer;
-use crate::contents::{Contents, Stop, read_contents};
-use crate::report::print_fault;
+use crate::command::{print_fault, print_unopened};
 use crate::status::Status;
-use avtp_base::{Failed, NoMemory, OpenFault, Shelf, Sink, Slot};
+use avtp_base::{Buffer, Failed, OpenFault, Shelf, Sink};
 use avtp_text::Text;
-use avtp_words::Talk;
+use avtp_words::{Kind, Talk};
+use capture_io::{Contents, FileWriter, Stop, read_contents};
+use pcap_frames::{Order, Style, Unit, write_header, write_record};
 use std::alloc::Global;
-use talker::{TalkFault, TalkKind, TalkPlan, Talker};
+use talker::{Sent, TalkFault, TalkKind, TalkPlan, Talker};
 
 /// The most bytes of an input: 256 MiB.
 const LIMIT: u64 = 268_435_456;
 
-/// What is sent: PCM without a media clock.
+/// The most bytes of a record: its header, and a frame of Ethernet.
+const RECORD: usize = 16 + 1_518;
+
+/// Captures are little-endian, and count nanoseconds.
+const STYLE: Style = Style {
+    order: Order::Little,
+    unit: Unit::Nano,
+};
+
+/// What the packets are made of.
+fn kind(asked: Kind) -> TalkKind
+    ensures { result ≡ talk_kind asked }
+{
+    match asked {
+        Kind::Aaf { format, sparse } => TalkKind::Aaf { format, sparse },
+        Kind::Am824 => TalkKind::Am824,
+    }
+}
+
+/// What is sent: audio without a media clock.
 fn plan(asked: &Talk<'_>) -> TalkPlan
     ensures { result ≡ talk_plan (talking_of asked.now) }
 {
     TalkPlan {
-        kind: TalkKind::Aaf {
-            format: asked.format,
-            sparse: asked.sparse,
-        },
+        kind: kind(asked.kind),
         rate: asked.rate,
         channels: asked.channels,
         count: asked.count,
@@ -51,44 +69,21 @@ fn plan(asked: &Talk<'_>) -> TalkPlan
     }
 }
 
-/// Reads an open input whole and closes it, makes the capture of it that is asked for, and says how many packets it has; or
-/// why it made none.
+/// Reads an input whole, makes the capture of it that is asked for, and says how many packets it has; or why it made none.
 pub fn talk<F: Shelf, S: Sink>(
     alloc: Global,
     asked: &Talk<'_>,
     shelf: &mut F,
-    slot: Slot,
-    buffer: &mut [u8],
     text: &mut Text,
     out: &mut S,
 ) -> Result<Status, Failed>
-    requires live { IsSome (F.slots shelf.old slot.0) }
-    requires room { 0 < length buffer.old }
-    requires asked { IsPlan (talk_plan (talking_of asked.now)) }
-    ensures shown { IfOk result (λ ended. ended ≢ Status.Memory → ended ≢ Status.WriteFault → (bytes : List ℕ) → left_in (F.slots shelf.old) slot.0 ≡ Some bytes →
-        (printed : List ℕ) × Talks (talk_plan (talking_of asked.now)) bytes ended printed
-        × Appends (written (S.held out.old) text.old) (written (S.held out.new) text.new) printed) }
-    ensures made { result ≡ Ok Status.Done → (bytes : List ℕ) → left_in (F.slots shelf.old) slot.0 ≡ Some bytes →
-        PutsFile (F.files shelf.old) (F.files shelf.new) asked.now.output.now (capture (talk_plan (talking_of asked.now)) bytes) }
-    ensures part_made { (bytes : List ℕ) → left_in (F.slots shelf.old) slot.0 ≡ Some bytes →
-        MakesFront (F.files shelf.old) (F.files shelf.new) asked.now.output.now (capture (talk_plan (talking_of asked.now)) bytes) }
-    ensures untouched { IfOk result (λ ended. ended ≢ Status.Done → ended ≢ Status.WriteFault → ended ≢ Status.Memory → KeepsFiles (F.files shelf.old) (F.files shelf.new)) }
-    ensures part { OnErr result (Keeps (written (S.held out.old) text.old) (written (S.held out.new) text.new)) }
-    ensures memory { result ≡ Ok Status.Memory → Keeps (written (S.held out.old) text.old) (written (S.held out.new) text.new) }
-    ensures unwritten { result ≡ Ok Status.WriteFault → Keeps (written (S.held out.old) text.old) (written (S.held out.new) text.new) }
-    ensures no_words { IfOk result (λ ended. ended ≢ Status.Words) }
-    ensures read_fault { result ≡ Ok Status.ReadFault → Rose (F.reading_faults shelf.old) (F.reading_faults shelf.new) }
-    ensures closed { F.slots shelf.new slot.0 ≡ None }
-    ensures others { KeepsOthersBut (F.files shelf.old) (F.slots shelf.old) (F.slots shelf.new) slot.0 asked.now.output.now }
-    ensures files { KeepsFilesBut (Some asked.now.output.now) (F.files shelf.old) (F.files shelf.new) }
-    ensures never_falls { F.reading_faults shelf.old ≤ F.reading_faults shelf.new }
-    ensures writing { IsWriteCounted (F.writing_faults shelf.old) (F.writing_faults shelf.new) result }
-    ensures grows { Grows (S.held out.old) (S.held out.new) }
-    ensures counted { IsCounted (S.faults out.old) (S.faults out.new) result }
+    requires { IsPlan (talk_plan (talking_of asked.now)) }
+    ensures runs { Runs (talk_request (talking_of asked.now)) (F.files shelf.old) (F.files shelf.new) (F.slots shelf.old) (F.slots shelf.new) (F.reading_faults shelf.old) (F.reading_faults shelf.new)
+        (F.writing_faults shelf.old) (F.writing_faults shelf.new) (F.asked shelf.old) (F.asked shelf.new)
+        (written (S.held out.old) text.old) (written (S.held out.new) text.new) result }
+    ensures sink { KeepsSink (S.held out.old) (S.held out.new) (S.faults out.old) (S.faults out.new) result }
 {
-    let contents = read_contents(alloc, LIMIT, shelf, slot, buffer);
-    shelf.close_file(slot);
-    match contents {
+    match read_contents(alloc, LIMIT, shelf, asked.input) {
         Ok(contents) => talk_contents(
             alloc,
             plan(asked),
@@ -98,7 +93,7 @@ pub fn talk<F: Shelf, S: Sink>(
             text,
             out,
         ),
-        Err(NoMemory) => Ok(Status::Memory),
+        Err(fault) => print_unopened(text, out, fault),
     }
 }
 
@@ -114,25 +109,14 @@ fn talk_contents<F: Shelf, S: Sink>(
 ) -> Result<Status, Failed>
     requires plan { IsPlan plan }
     requires bounded { length contents.now.bytes.items ≤ most_input }
-    ensures shown { IfOk result (λ ended. ended ≢ Status.Memory → ended ≢ Status.WriteFault → (bytes : List ℕ) → IsContents most_input bytes contents.now.stop contents.now.bytes.items →
-        (printed : List ℕ) × Talks plan bytes ended printed
-        × Appends (written (S.held out.old) text.old) (written (S.held out.new) text.new) printed) }
-    ensures made { result ≡ Ok Status.Done → (bytes : List ℕ) → IsContents most_input bytes contents.now.stop contents.now.bytes.items →
-        PutsFile (F.files shelf.old) (F.files shelf.new) output.now (capture plan bytes) }
-    ensures part_made { (bytes : List ℕ) → IsContents most_input bytes contents.now.stop contents.now.bytes.items →
-        MakesFront (F.files shelf.old) (F.files shelf.new) output.now (capture plan bytes) }
-    ensures untouched { IfOk result (λ ended. ended ≢ Status.Done → ended ≢ Status.WriteFault → ended ≢ Status.Memory → KeepsFiles (F.files shelf.old) (F.files shelf.new)) }
-    ensures part { OnErr result (Keeps (written (S.held out.old) text.old) (written (S.held out.new) text.new)) }
-    ensures memory { result ≡ Ok Status.Memory → Keeps (written (S.held out.old) text.old) (written (S.held out.new) text.new) }
-    ensures unwritten { result ≡ Ok Status.WriteFault → Keeps (written (S.held out.old) text.old) (written (S.held out.new) text.new) }
-    ensures no_words { IfOk result (λ ended. ended ≢ Status.Words) }
-    ensures read_fault { result ≡ Ok Status.ReadFault → contents.now.stop ≡ stop.Fault }
-    ensures slots { KeepsSlotsBut (F.files shelf.old) (F.slots shelf.old) (F.slots shelf.new) output.now }
-    ensures files { KeepsFilesBut (Some output.now) (F.files shelf.old) (F.files shelf.new) }
-    ensures reading { F.reading_faults shelf.new ≡ F.reading_faults shelf.old }
-    ensures writing { IsWriteCounted (F.writing_faults shelf.old) (F.writing_faults shelf.new) result }
-    ensures grows { Grows (S.held out.old) (S.held out.new) }
-    ensures counted { IsCounted (S.faults out.old) (S.faults out.new) result }
+    ensures tells { (bytes : List ℕ) → IsContents most_input bytes contents.now.stop contents.now.bytes.items →
+        Tells (TalkedOutcome plan bytes (contents.now.stop ≡ stop.Fault)) (written (S.held out.old) text.old) (written (S.held out.new) text.new) result }
+    ensures makes { (bytes : List ℕ) → IsContents most_input bytes contents.now.stop contents.now.bytes.items →
+        Makes output.now (capture plan bytes) (F.files shelf.old) (F.files shelf.new) result }
+    ensures writes { WritesOnly (F.files shelf.old) (F.files shelf.new) (F.slots shelf.old) (F.slots shelf.new) (F.reading_faults shelf.old) (F.reading_faults shelf.new)
+        (F.writing_faults shelf.old) (F.writing_faults shelf.new) (F.asked shelf.old) (F.asked shelf.new) output.now result }
+    ensures counts { FaultStops contents.now.stop result }
+    ensures sink { KeepsSink (S.held out.old) (S.held out.new) (S.faults out.old) (S.faults out.new) result }
 {
     match contents.stop {
         Stop::End => talk_input(
@@ -150,7 +134,6 @@ fn talk_contents<F: Shelf, S: Sink>(
 }
 
 /// Makes the capture of an input, where it makes a stream.
-#[tactic(auto, using(avtp_text::proofs::Growth::grows_none))]
 fn talk_input<F: Shelf, S: Sink>(
     alloc: Global,
     plan: TalkPlan,
@@ -162,32 +145,19 @@ fn talk_input<F: Shelf, S: Sink>(
 ) -> Result<Status, Failed>
     requires plan { IsPlan plan }
     requires limit { length input.now ≤ most_input }
-    ensures shown { IfOk result (λ ended. ended ≢ Status.Memory → ended ≢ Status.WriteFault →
-        (printed : List ℕ) × Talks plan input.now ended printed
-        × Appends (written (S.held out.old) text.old) (written (S.held out.new) text.new) printed) }
-    ensures made { result ≡ Ok Status.Done → PutsFile (F.files shelf.old) (F.files shelf.new) output.now (capture plan input.now) }
-    ensures part_made { MakesFront (F.files shelf.old) (F.files shelf.new) output.now (capture plan input.now) }
-    ensures untouched { IfOk result (λ ended. ended ≢ Status.Done → ended ≢ Status.WriteFault → ended ≢ Status.Memory → KeepsFiles (F.files shelf.old) (F.files shelf.new)) }
-    ensures part { OnErr result (Keeps (written (S.held out.old) text.old) (written (S.held out.new) text.new)) }
-    ensures memory { result ≡ Ok Status.Memory → Keeps (written (S.held out.old) text.old) (written (S.held out.new) text.new) }
-    ensures unwritten { result ≡ Ok Status.WriteFault → Keeps (written (S.held out.old) text.old) (written (S.held out.new) text.new) }
-    ensures no_words { IfOk result (λ ended. ended ≢ Status.Words) }
-    ensures no_read_fault { IfOk result (λ ended. ended ≢ Status.ReadFault) }
-    ensures slots { KeepsSlotsBut (F.files shelf.old) (F.slots shelf.old) (F.slots shelf.new) output.now }
-    ensures files { KeepsFilesBut (Some output.now) (F.files shelf.old) (F.files shelf.new) }
-    ensures reading { F.reading_faults shelf.new ≡ F.reading_faults shelf.old }
-    ensures writing { IsWriteCounted (F.writing_faults shelf.old) (F.writing_faults shelf.new) result }
-    ensures grows { Grows (S.held out.old) (S.held out.new) }
-    ensures counted { IsCounted (S.faults out.old) (S.faults out.new) result }
+    ensures tells { Tells (TalkedOutcome plan input.now ⊥) (written (S.held out.old) text.old) (written (S.held out.new) text.new) result }
+    ensures makes { Makes output.now (capture plan input.now) (F.files shelf.old) (F.files shelf.new) result }
+    ensures writes { WritesOnly (F.files shelf.old) (F.files shelf.new) (F.slots shelf.old) (F.slots shelf.new) (F.reading_faults shelf.old) (F.reading_faults shelf.new)
+        (F.writing_faults shelf.old) (F.writing_faults shelf.new) (F.asked shelf.old) (F.asked shelf.new) output.now result }
+    ensures sink { KeepsSink (S.held out.old) (S.held out.new) (S.faults out.old) (S.faults out.new) result }
 {
     match Talker::begin(alloc, plan, input) {
         Ok(mut talker) => send(alloc, &mut talker, output, shelf, text, out),
-        Err(fault) => print_refused(text, out, fault),
+        Err(fault) => print_talk_fault(text, out, fault),
     }
 }
 
 /// Makes the capture of all frames of a talker, and says how many packets they are.
-#[tactic(auto, using(avtp_text::proofs::Growth::grows_none))]
 fn send<F: Shelf, S: Sink>(
     alloc: Global,
     talker: &mut Talker<'_>,
@@ -197,29 +167,114 @@ fn send<F: Shelf, S: Sink>(
     out: &mut S,
 ) -> Result<Status, Failed>
     requires begun { talker.old.given ≡ 0 }
-    ensures printed { result ≡ Ok Status.Done →
-        Appends (written (S.held out.old) text.old) (written (S.held out.new) text.new) (sent_line talker.old.plan talker.old.input) }
-    ensures made { result ≡ Ok Status.Done → PutsFile (F.files shelf.old) (F.files shelf.new) output.now (capture talker.old.plan talker.old.input) }
-    ensures part_made { MakesFront (F.files shelf.old) (F.files shelf.new) output.now (capture talker.old.plan talker.old.input) }
-    ensures part { OnErr result (Keeps (written (S.held out.old) text.old) (written (S.held out.new) text.new)) }
-    ensures unwritten { IfOk result (λ ended. ended ≢ Status.Done → Keeps (written (S.held out.old) text.old) (written (S.held out.new) text.new)) }
-    ensures ends { IfOk result (λ ended. (ended ≡ Status.Done) ⊎ ((ended ≡ Status.WriteFault) ⊎ (ended ≡ Status.Memory))) }
-    ensures slots { KeepsSlotsBut (F.files shelf.old) (F.slots shelf.old) (F.slots shelf.new) output.now }
-    ensures reading { F.reading_faults shelf.new ≡ F.reading_faults shelf.old }
-    ensures writing { IsWriteCounted (F.writing_faults shelf.old) (F.writing_faults shelf.new) result }
-    ensures grows { Grows (S.held out.old) (S.held out.new) }
-    ensures counted { IsCounted (S.faults out.old) (S.faults out.new) result }
+    ensures tells { Tells (Only Status.Done (sent_line talker.old.plan talker.old.input)) (written (S.held out.old) text.old) (written (S.held out.new) text.new) result }
+    ensures makes { Makes output.now (capture talker.old.plan talker.old.input) (F.files shelf.old) (F.files shelf.new) result }
+    ensures writes { WritesOnly (F.files shelf.old) (F.files shelf.new) (F.slots shelf.old) (F.slots shelf.new) (F.reading_faults shelf.old) (F.reading_faults shelf.new)
+        (F.writing_faults shelf.old) (F.writing_faults shelf.new) (F.asked shelf.old) (F.asked shelf.new) output.now result }
+    ensures sink { KeepsSink (S.held out.old) (S.held out.new) (S.faults out.old) (S.faults out.new) result }
 {
     let packets = talker.packets();
     let clocks = talker.clocks();
-    let Ok(mut file) = FileBuffer::new(alloc) else {
-        return Ok(Status::Memory);
-    };
-    match file.make_capture(shelf, output, talker) {
+    match make_capture(alloc, shelf, output, talker) {
         Ok(()) => print_sent(text, out, packets, clocks),
-        Err(OpenFault::Memory) => Ok(Status::Memory),
-        Err(_) => Ok(Status::WriteFault),
+        Err(fault) => Ok(unmade(fault)),
     }
+}
+
+/// How a run ends whose file could not be made.
+fn unmade(fault: OpenFault) -> Status
+    ensures { result ≡ unmade_as fault }
+{
+    match fault {
+        OpenFault::Memory => Status::Memory,
+        OpenFault::Missing | OpenFault::Failed => Status::WriteFault,
+    }
+}
+
+/// Makes a file, or empties it, and writes the capture of all frames of a talker.
+///
+/// `Failed` comes only where the writing count rose; the file then is as it was, or has a prefix of the capture. `Memory`
+/// leaves it as it was, and `Missing` never comes.
+fn make_capture<F: Shelf>(
+    alloc: Global,
+    shelf: &mut F,
+    name: &str,
+    talker: &mut Talker<'_>,
+) -> Result<(), OpenFault>
+    requires begun { talker.old.given ≡ 0 }
+    ensures { MakesFile (F.files shelf.old) (F.files shelf.new) (F.slots shelf.old) (F.slots shelf.new) (F.reading_faults shelf.old) (F.reading_faults shelf.new)
+        (F.writing_faults shelf.old) (F.writing_faults shelf.new) (F.asked shelf.old) (F.asked shelf.new) name.now (capture talker.old.plan talker.old.input) result }
+{
+    let Ok(buffer) = Buffer::new(alloc) else {
+        return Err(OpenFault::Memory);
+    };
+    let mut writer = FileWriter::create(buffer, shelf, name)?;
+    let written = write_capture(&mut writer, shelf, talker);
+    if written.is_err() {
+        writer.abandon(shelf);
+        return Err(OpenFault::Failed);
+    }
+    match writer.finish(shelf) {
+        Ok(()) => Ok(()),
+        Err(Failed) => Err(OpenFault::Failed),
+    }
+}
+
+/// Writes a capture's header and the records of all frames of a talker.
+fn write_capture<F: Shelf>(
+    writer: &mut FileWriter,
+    shelf: &mut F,
+    talker: &mut Talker<'_>,
+) -> Result<(), Failed>
+    requires made { IsMadeIn (F.slots shelf.old) writer.old.slot }
+    requires begun { talker.old.given ≡ 0 }
+    ensures written { (files : Option Files) (slots : Slots) (reading : ℕ) (name : List ℕ) →
+        IsWriting files (F.files shelf.old) slots (F.slots shelf.old) reading (F.reading_faults shelf.old) writer.old name [] →
+        IsWritingPart files (F.files shelf.new) slots (F.slots shelf.new) reading (F.reading_faults shelf.new) writer.new name (capture talker.old.plan talker.old.input) result }
+    ensures counted { IsCounted (F.writing_faults shelf.old) (F.writing_faults shelf.new) result }
+    ensures writes { WritesSlot (F.slots shelf.old) (F.slots shelf.new) (F.reading_faults shelf.old) (F.reading_faults shelf.new) (F.asked shelf.old) (F.asked shelf.new) writer.old.slot }
+    ensures slot { writer.new.slot ≡ writer.old.slot }
+{
+    let mut room = [0; RECORD];
+    let size = put_header(&mut room);
+    writer.add(shelf, &room[..size])?;
+    while let Some(sent) = talker.next() {
+        let size = put_record(&mut room, &sent);
+        writer.add(shelf, &room[..size])?;
+    }
+    Ok(())
+}
+
+/// Puts a capture's header at the front of the room, and answers its length.
+fn put_header(room: &mut [u8]) -> usize
+    requires { RECORD ≤ length room.old }
+    ensures text { take result room.new ≡ header_spelling capture_style }
+    ensures size { result ≤ RECORD }
+{
+    let Ok(size) = write_header(room, STYLE) else {
+        unreachable!()
+    };
+    size
+}
+
+/// Puts a frame's record at the front of the room, and answers its length.
+fn put_record(room: &mut [u8], sent: &Sent<'_>) -> usize
+    requires fits { HasSpelling capture_style (record_of (sent_frame sent.now)) }
+    requires size { length sent.now.bytes.now ≤ 1518 }
+    requires room { RECORD ≤ length room.old }
+    ensures text { take result room.new ≡ record_spelling capture_style (record_of (sent_frame sent.now)) }
+    ensures size { result ≤ RECORD }
+{
+    let Ok(size) = write_record(
+        room,
+        STYLE,
+        sent.arrival,
+        sent.bytes.len() as u32,
+        sent.bytes,
+    ) else {
+        unreachable!()
+    };
+    size
 }
 
 /// Says how many packets were sent.
@@ -229,43 +284,40 @@ fn print_sent<S: Sink>(
     packets: u64,
     clocks: u64,
 ) -> Result<Status, Failed>
-    ensures status { IfOk result (λ ended. ended ≡ Status.Done) }
-    ensures printed { IfOk result (λ ended. Appends (written (S.held out.old) text.old) (written (S.held out.new) text.new) (talk_line packets clocks)) }
-    ensures part { OnErr result (Keeps (written (S.held out.old) text.old) (written (S.held out.new) text.new)) }
-    ensures grows { Grows (S.held out.old) (S.held out.new) }
-    ensures counted { IsCounted (S.faults out.old) (S.faults out.new) result }
+    ensures { EndsWith Status.Done (S.held out.old) (S.held out.new) text.old text.new (S.faults out.old) (S.faults out.new) result (talk_line packets clocks) }
 {
     text.talk(out, packets, clocks)?;
     Ok(Status::Done)
 }
 
-/// Says why the input makes no stream. Want of memory is no fault of the input.
-#[tactic(auto, using(avtp_text::proofs::Growth::grows_none))]
-fn print_refused<S: Sink>(text: &mut Text, out: &mut S, fault: TalkFault) -> Result<Status, Failed>
-    ensures ends { IfOk result (λ ended. (ended ≡ Status.TalkInput) ⊎ (ended ≡ Status.Memory)) }
-    ensures printed { result ≡ Ok Status.TalkInput → (fault ≢ TalkFault.Memory)
-        × Appends (written (S.held out.old) text.old) (written (S.held out.new) text.new) (talk_input_line fault) }
-    ensures memory { result ≡ Ok Status.Memory → Keeps (written (S.held out.old) text.old) (written (S.held out.new) text.new) }
-    ensures part { OnErr result (Keeps (written (S.held out.old) text.old) (written (S.held out.new) text.new)) }
-    ensures grows { Grows (S.held out.old) (S.held out.new) }
-    ensures counted { IsCounted (S.faults out.old) (S.faults out.new) result }
+/// Says why the input makes no stream, where that is for want of memory by the status alone.
+fn print_talk_fault<S: Sink>(
+    text: &mut Text,
+    out: &mut S,
+    fault: TalkFault,
+) -> Result<Status, Failed>
+    ensures { EndsRefused fault (S.held out.old) (S.held out.new) text.old text.new (S.faults out.old) (S.faults out.new) result }
 {
     match fault {
         TalkFault::Memory => Ok(Status::Memory),
-        _ => {
-            text.talk_input(out, fault)?;
-            Ok(Status::TalkInput)
-        }
+        TalkFault::Frames => print_input(text, out, fault),
+        TalkFault::StartCode => print_input(text, out, fault),
+        TalkFault::NalType => print_input(text, out, fault),
+        TalkFault::Packets => print_input(text, out, fault),
+        TalkFault::Arrival => print_input(text, out, fault),
     }
+}
+
+fn print_input<S: Sink>(text: &mut Text, out: &mut S, fault: TalkFault) -> Result<Status, Failed>
+    ensures { EndsWith Status.TalkInput (S.held out.old) (S.held out.new) text.old text.new (S.faults out.old) (S.faults out.new) result (talk_input_line fault) }
+{
+    text.talk_input(out, fault)?;
+    Ok(Status::TalkInput)
 }
 
 /// Says that the input is too long.
 fn print_limit<S: Sink>(text: &mut Text, out: &mut S) -> Result<Status, Failed>
-    ensures status { IfOk result (λ ended. ended ≡ Status.Limit) }
-    ensures printed { IfOk result (λ ended. Appends (written (S.held out.old) text.old) (written (S.held out.new) text.new) (limit_line most_input)) }
-    ensures part { OnErr result (Keeps (written (S.held out.old) text.old) (written (S.held out.new) text.new)) }
-    ensures grows { Grows (S.held out.old) (S.held out.new) }
-    ensures counted { IsCounted (S.faults out.old) (S.faults out.new) result }
+    ensures { EndsWith Status.Limit (S.held out.old) (S.held out.new) text.old text.new (S.faults out.old) (S.faults out.new) result (limit_line most_input) }
 {
     text.limit(out, LIMIT)?;
     Ok(Status::Limit)

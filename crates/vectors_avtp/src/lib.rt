@@ -2,6 +2,10 @@
 #![tactic(auto)]
 
 #[cfg(test)]
+mod am824;
+#[cfg(test)]
+mod files;
+#[cfg(test)]
 mod listen;
 #[cfg(test)]
 mod losses;

@@ -1,4 +1,4 @@
-//! Captures of a sparse talker that lose, repeat and reorder its packets: what is presented stands at the talker's instants.
+//! Captures that lose, repeat and reorder a talker's packets: what is presented stands at the talker's instants.
 
 use crate::runs::{STREAM, noise, run_over, talk_over};
 use avtp_base::NoMemory;
@@ -9,26 +9,31 @@ use std::test::Fail;
 /// The file header of a capture, and each record of a packet of six stereo sample frames of 16 bits.
 const HEADER: usize = 24;
 
-const RECORD: usize = 82;
+const RECORD: u16 = 82;
 
-/// The capture of a sparse talker.
-fn talked(alloc: Global, options: &[&str], packets: usize) -> Result<Vec<u8>, Fail> {
+/// The capture of a talker of an input of so many bytes.
+fn talked(alloc: Global, options: &[&str], len: usize) -> Result<Vec<u8>, Fail> {
     let mut line = Vec::new(alloc);
-    line.extend_from_slice(&["talk", "--sparse"])?;
+    line.push("talk")?;
     line.extend_from_slice(options)?;
     line.extend_from_slice(&["a.raw", "c.pcap"])?;
-    let samples = noise(alloc, packets.saturating_mul(24))?;
-    let (_, made) = talk_over(alloc, &line, samples, &[], &[])?;
+    let (_, made) = talk_over(alloc, &line, noise(alloc, len)?, &[], &[])?;
     Ok(made.ok_or("no capture")?)
 }
 
-/// The records of these packets, in this order.
-fn records_of(alloc: Global, capture: &[u8], packets: &[u16]) -> Result<Vec<u8>, NoMemory> {
+/// The records of these packets, in this order. All are of the same size.
+fn records_of(
+    alloc: Global,
+    capture: &[u8],
+    size: u16,
+    packets: &[u16],
+) -> Result<Vec<u8>, NoMemory> {
+    let size = usize::from(size);
     let mut picked = Vec::new(alloc);
     picked.extend_from_slice(capture.get(..HEADER).unwrap_or(&[]))?;
     for n in packets {
-        let at = HEADER + usize::from(*n) * RECORD;
-        picked.extend_from_slice(capture.get(at..at + RECORD).unwrap_or(&[]))?;
+        let at = HEADER + usize::from(*n) * size;
+        picked.extend_from_slice(capture.get(at..at + size).unwrap_or(&[]))?;
     }
     Ok(picked)
 }
@@ -48,9 +53,9 @@ fn heard(alloc: Global, capture: Vec<u8>) -> Result<String, Fail> {
 /// Without its first packet, which is stamped, a sparse stream is known from the next stamped one on.
 #[test]
 fn first_stamp_lost(rt: HostRuntime) -> Result<(), Fail> {
-    let capture = talked(rt.alloc(), &[], 16)?;
+    let capture = talked(rt.alloc(), &["--sparse"], 384)?;
     let rest = [1, 2, 3, 4, 5, 6, 7, 8, 9, 10, 11, 12, 13, 14, 15];
-    let text = heard(rt.alloc(), records_of(rt.alloc(), &capture, &rest)?)?;
+    let text = heard(rt.alloc(), records_of(rt.alloc(), &capture, RECORD, &rest)?)?;
     let flags = "\
 capture c.pcap
 flag frame 1 seq 1 untimed
@@ -70,8 +75,11 @@ at 1003000000 frame 8 seq 8 sample 0 ";
 /// A packet is not counted from a stamp whose sequence number fits and that is 256 packets too old.
 #[test]
 fn stamp_of_another_round(rt: HostRuntime) -> Result<(), Fail> {
-    let capture = talked(rt.alloc(), &[], 258)?;
-    let text = heard(rt.alloc(), records_of(rt.alloc(), &capture, &[0, 257])?)?;
+    let capture = talked(rt.alloc(), &["--sparse"], 6_192)?;
+    let text = heard(
+        rt.alloc(),
+        records_of(rt.alloc(), &capture, RECORD, &[0, 257])?,
+    )?;
     assert!(rt; text.starts_with("capture c.pcap\nat 1002000000 frame 1 seq 0 sample 0 "));
     assert!(rt;
         text.ends_with(
@@ -84,7 +92,7 @@ fn stamp_of_another_round(rt: HostRuntime) -> Result<(), Fail> {
 /// After a restart a sparse stream is known from the next stamped packet on.
 #[test]
 fn restart(rt: HostRuntime) -> Result<(), Fail> {
-    let capture = talked(rt.alloc(), &["--restart", "10"], 20)?;
+    let capture = talked(rt.alloc(), &["--sparse", "--restart", "10"], 480)?;
     let text = heard(rt.alloc(), capture)?;
     for flag in [
         "\nflag frame 11 seq 10 untimed\n",
@@ -126,27 +134,98 @@ const CASES: [(&[u16], &str); 6] = [
     (&[0, 8, 16, 11, 10, 19, 9, 24], " presented 7 flagged 1\n"),
 ];
 
+/// Whether each sample that is presented of these packets is one of the untouched capture's, at the same instant and in the
+/// same order.
+fn is_among(alloc: Global, whole: &str, text: &str, packets: &[u16]) -> Result<bool, Fail> {
+    let mut sent = whole.lines();
+    for line in text.lines() {
+        if let Some((instant, rest)) = line.split_once(" frame ")
+            && let Some((frame, sample)) = rest.split_once(" seq ")
+            && instant.starts_with("at ")
+        {
+            let place = frame.parse::<usize>().unwrap_or(0);
+            let packet = packets.get(place.saturating_sub(1)).ok_or("no such frame")?;
+            let number = u32::from(*packet) + 1;
+            let same = format!(in alloc; "{instant} frame {number} seq {sample}")?;
+            if !sent.any(|other| other == same.as_str()) {
+                return Ok(false);
+            }
+        }
+    }
+    Ok(true)
+}
+
 /// Whatever is lost, comes again or comes in another order: each sample that is presented is one of the untouched capture's,
 /// at the same instant.
 #[test]
 fn losses(rt: HostRuntime) -> Result<(), Fail> {
-    let capture = talked(rt.alloc(), &["--restart", "12"], 40)?;
+    let capture = talked(rt.alloc(), &["--sparse", "--restart", "12"], 960)?;
     let whole = heard(rt.alloc(), Vec::from_slice(rt.alloc(), &capture)?)?;
     for (packets, counts) in CASES {
-        let text = heard(rt.alloc(), records_of(rt.alloc(), &capture, packets)?)?;
+        let text = heard(
+            rt.alloc(),
+            records_of(rt.alloc(), &capture, RECORD, packets)?,
+        )?;
         assert!(rt; text.ends_with(counts));
-        for line in text.lines() {
-            if let Some((instant, rest)) = line.split_once(" frame ")
-                && let Some((frame, sample)) = rest.split_once(" seq ")
-                && instant.starts_with("at ")
-            {
-                let place = frame.parse::<usize>().unwrap_or(0);
-                let packet = packets.get(place.saturating_sub(1)).ok_or("no such frame")?;
-                let number = u32::from(*packet) + 1;
-                let same = format!(in rt.alloc(); "\n{instant} frame {number} seq {sample}\n")?;
-                assert!(rt; whole.contains(same.as_str()), "{line}");
-            }
-        }
+        assert!(rt; is_among(rt.alloc(), &whole, &text, packets)?);
+    }
+    Ok(())
+}
+
+/// Packets of which some are lost, come again or overtake others, behind restarts too.
+const PACKETS: [u16; 28] = [
+    0, 1, 1, 3, 2, 5, 6, 8, 9, 7, 9, 11, 13, 12, 14, 16, 17, 19, 18, 20, 23, 25, 24, 26, 32, 33,
+    33, 39,
+];
+
+/// Rates and numbers of blocks in a packet, and how many of these packets are presented: each once, where its stamp, which can
+/// stand up to seven packets back, came before it and stands behind the same restart.
+const BLOCKS: [(&str, &str, &str); 14] = [
+    ("44100", "1", " presented 20 flagged 8\n"),
+    ("44100", "5", " presented 21 flagged 7\n"),
+    ("44100", "6", " presented 20 flagged 8\n"),
+    ("44100", "7", " presented 23 flagged 5\n"),
+    ("44100", "32", " presented 25 flagged 3\n"),
+    ("48000", "1", " presented 20 flagged 8\n"),
+    ("48000", "5", " presented 21 flagged 7\n"),
+    ("48000", "6", " presented 20 flagged 8\n"),
+    ("48000", "7", " presented 23 flagged 5\n"),
+    ("48000", "32", " presented 25 flagged 3\n"),
+    ("192000", "5", " presented 22 flagged 6\n"),
+    ("192000", "6", " presented 17 flagged 11\n"),
+    ("192000", "7", " presented 14 flagged 14\n"),
+    ("192000", "32", " presented 25 flagged 3\n"),
+];
+
+/// The capture of a talker of IEC 61883-6 that restarts after each twelve packets.
+fn talked_blocks(alloc: Global, rate: &str, count: &str, len: usize) -> Result<Vec<u8>, Fail> {
+    let options = [
+        "--kind",
+        "am824",
+        "--channels",
+        "1",
+        "--restart",
+        "12",
+        "--rate",
+        rate,
+        "--count",
+        count,
+    ];
+    talked(alloc, &options, len)
+}
+
+/// The same of IEC 61883-6, where a stamp belongs to each eighth or, at 192 kHz, to each 32nd block.
+#[test]
+fn losses_of_blocks(rt: HostRuntime) -> Result<(), Fail> {
+    for (rate, count, counts) in BLOCKS {
+        let size = count.parse::<u16>().unwrap_or(0).saturating_mul(4);
+        let capture = talked_blocks(rt.alloc(), rate, count, usize::from(size) * 40)?;
+        let whole = heard(rt.alloc(), Vec::from_slice(rt.alloc(), &capture)?)?;
+        let record = size.saturating_add(66);
+        let picked = records_of(rt.alloc(), &capture, record, &PACKETS)?;
+        let text = heard(rt.alloc(), picked)?;
+        assert!(rt; text.ends_with(counts), "{rate} {count}");
+        assert!(rt; is_among(rt.alloc(), &whole, &text, &PACKETS)?);
     }
     Ok(())
 }

@@ -54,7 +54,8 @@ fn shelf_of(
     Ok(MemoryShelf::over(alloc, files, Vec::from_slice(alloc, fails)?))
 }
 
-fn run_on(
+/// Runs the words over a shelf. The numbered calls of the sink fail.
+pub fn run_on(
     alloc: Global,
     line: &[&str],
     shelf: &mut MemoryShelf,

@@ -1,178 +1,183 @@
-use Rattle.std.proofs.Common.{◌≡◌, Ok, inl, inr, sym, ap, ◌∙◌, arith}
-use Rattle.avtp_tool.specs.declared.status.Status.TheVariants as status
-use Rattle.avtp_tool.proofs.Asked.{flushed, kept_flushed, shown_flushed, rose_later, not_write_fault}
-use Rattle.avtp_tool.proofs.Headline.{prints_headline}
-use Rattle.avtp_tool.proofs.Quiet.{complete}
-use Rattle.avtp_tool.proofs.Partly.{shows_unbegun, gains_none, err_one, shows_any, line_any, gains_front}
-use Rattle.avtp_text.specs.Notices.{read_fault_line, words_line}
-use Rattle.avtp_tool.proofs.Ending.{if_one}
-use Rattle.avtp_text.proofs.Growth.{grows_none, grows_further}
-use Rattle.std.proofs.KnownBytes.{Keeps-refl}
-use Rattle.std.specs.Io.KnownBytes.{Appends}
-use Rattle.avtp_text.specs.Written.{AppendsFront}
+use Rattle.std.proofs.Common.{inl, inr, ap, subst, ◌∙◌, arith}
+use Rattle.avtp_base.proofs.Files.{KeepsFiles-refl}
+use Rattle.avtp_base.proofs.Told.{Keeps-refl}
+use Rattle.avtp_text.specs.Notices.{words_line}
+use Rattle.avtp_text.specs.Written.{AppendsPrefix}
+use Rattle.avtp_text.proofs.Growth.{grows_further}
+use Rattle.avtp_text.proofs.Printing.{prefix_none}
 use Rattle.avtp_words.specs.Grammar.{listen, talk}
-use Rattle.avtp_tool.specs.Reports.{Reports}
+use Rattle.avtp_tool.specs.declared.status.Status.TheVariants as status
+use Rattle.avtp_tool.specs.Listen.{listen_report}
+use Rattle.avtp_tool.specs.Run.{MakesFrom, names_of, report_for, status_for}
+use Rattle.avtp_base.specs.Told.{Appends}
+use Rattle.avtp_tool.proofs.Complete.{complete_of, has_headline, outcome_here}
+use Rattle.avtp_tool.proofs.Ended.{asks_nothing, asks_same, ended_as, ends_prefix, ends_whole, not_ended, offence_ends, quiet_if, quiet_not, told_whole, untouched_by}
+use Rattle.avtp_tool.proofs.Finished.{flushed, gains_prefix, rose_later}
 use Rattle.avtp_tool.proofs.command.run.Goals as goal
 
-pub returns-clause-shown : goal.returns-clause-shown
-returns-clause-shown g c memory write request files bytes line told has =
-    let done = c.finish.ensures.written write in
-    let shown = rw done.0 at c.obey-ended.ensures.shown in
-    shown_flushed (Reports request bytes) c.finish.result _ _ _ _ _ c.in-Ok.ensures done.1 (shown memory write request files bytes line told has) done.2
+-- ---- no memory was found for the text
 
-pub returns-clause-missing : goal.returns-clause-missing
-returns-clause-missing g c memory write request line none =
-    let done = c.finish.ensures.written write in
-    let missing = rw done.0 at c.obey-ended.ensures.missing in
-    let told = missing memory request line none in
-    (told.0, flushed _ _ _ _ _ _ c.in-Ok.ensures done.1 told.1 done.2)
+pub returns-in_default-clause-part : goal.returns-in_default-clause-part
+returns-in_default-clause-part g c request files line told some = (status_for request files, report_for request files, outcome_here request files _, prefix_none _ _ _ (Keeps-refl _))
+
+pub returns-in_default-clause-part_complete : goal.returns-in_default-clause-part_complete
+returns-in_default-clause-part_complete g c request files line told some quiet = prefix_none _ _ _ (Keeps-refl _)
+
+pub returns-in_default-clause-part_words : goal.returns-in_default-clause-part_words
+returns-in_default-clause-part_words g c position offence = prefix_none _ _ _ (Keeps-refl _)
+
+pub returns-in_default-clause-asks : goal.returns-in_default-clause-asks
+returns-in_default-clause-asks g c request line = asks_nothing (names_of request) _ (λ e. cc)
+
+-- ---- the text
+
+pub returns-clause-shown : goal.returns-clause-shown
+returns-clause-shown g c memory write request files line told some =
+    let done = c.finish.ensures.whole write in
+    let all = told_whole c.finish.result done.0 memory write ((c.execute-ended.ensures.runs request line).tells files told some) in
+    (all.0, all.1, flushed _ _ _ _ _ all.0 c.in-Ok.ensures done.1 all.2 c.finish.ensures.kept)
 
 pub returns-clause-complete : goal.returns-clause-complete
-returns-clause-complete g c memory write request files bytes line told has quiet =
-    let done = c.finish.ensures.written write in
-    let shown = rw done.0 at c.obey-ended.ensures.shown in
-    let shows = shown_flushed (Reports request bytes) c.finish.result _ _ _ _ _ c.in-Ok.ensures done.1 (shown memory write request files bytes line told has) done.2 in
-    complete (λ text. Appends (g.S.Sink.held c.args.out.now) (g.S.Sink.held c.finish.new.out) text) request bytes c.finish.result shows.0 _ _ shows.1 shows.2 (λ is. c.obey-ended.ensures.told_fault (done.0 ∙ ap (λ s. Ok s) is) request files bytes line told has) quiet
+returns-clause-complete g c memory write request files line told some quiet =
+    let all = returns-clause-shown g c memory write request files line told some in
+    let same = complete_of request files _ c.finish.result all.0 (quiet_not _ _ quiet) all.1 in
+    (same.0, subst (Appends (g.S.Sink.held c.args.out.now) (g.S.Sink.held c.finish.new.out)) same.1 all.2)
 
 pub returns-clause-headline : goal.returns-clause-headline
-returns-clause-headline g c memory write asked files bytes shift p line told has quiet fits hears =
-    let printed = returns-clause-complete g c memory write (listen asked) files bytes line told has quiet in
-    (_, prints_headline asked shift p bytes fits hears, printed.1)
+returns-clause-headline g c memory write asked files earlier later name bytes shift p line told some quiet split done has fits hears =
+    let printed = returns-clause-complete g c memory write (listen asked) files line told some quiet in
+    (listen_report asked files asked.files, has_headline asked files earlier later name bytes shift p split done has fits hears, printed.1)
 
 pub returns-clause-words : goal.returns-clause-words
 returns-clause-words g c memory write position offence =
-    let done = c.finish.ensures.written write in
-    let words = rw done.0 at c.obey-ended.ensures.words in
-    let told = words position offence in
-    (told.0, flushed _ _ _ _ _ _ c.in-Ok.ensures done.1 told.1 done.2)
-
-pub returns-clause-part : goal.returns-clause-part
-returns-clause-part g c request files bytes line told has =
-    let ended = c.obey-ended.result in
-    let obeyed = c.obey-ended.ensures in
-    let grown = grows_further _ _ _ obeyed.grows c.finish.ensures.grows in
-    let front = shows_any ended request bytes _ _ _ _
-    (if_one ended _ _ obeyed.shown (λ status shown memory write. shown memory write request files bytes line told has)) (λ is. obeyed.told_fault is request files bytes line told has) obeyed.memory obeyed.unwritten
-    (err_one ended _ _ obeyed.part (λ part. part request files bytes line told has)) in
-    (front.ended, front.whole, front.shows, gains_front _ _ _ _ _ front.whole c.in-Ok.ensures front.written c.finish.ensures.kept grown)
-
-pub returns-clause-part_complete : goal.returns-clause-part_complete
-returns-clause-part_complete g c request files bytes line told has quiet =
-    let ended = c.obey-ended.result in
-    let obeyed = c.obey-ended.ensures in
-    let grown = grows_further _ _ _ obeyed.grows c.finish.ensures.grows in
-    let front = shows_any ended request bytes _ _ _ _
-    (if_one ended _ _ obeyed.shown (λ status shown memory write. shown memory write request files bytes line told has)) (λ is. obeyed.told_fault is request files bytes line told has) obeyed.memory obeyed.unwritten
-    (err_one ended _ _ obeyed.part (λ part. part request files bytes line told has)) in
-    let holds = gains_front _ _ _ _ _ front.whole c.in-Ok.ensures front.written c.finish.ensures.kept grown in
-    (complete (λ text. AppendsFront (g.S.Sink.held c.args.out.now) (g.S.Sink.held c.finish.new.out) text) request bytes front.ended front.whole _ _ front.shows holds front.fault quiet).1
-
-pub returns-clause-part_missing : goal.returns-clause-part_missing
-returns-clause-part_missing g c request line none =
-    let ended = c.obey-ended.result in
-    let obeyed = c.obey-ended.ensures in
-    let grown = grows_further _ _ _ obeyed.grows c.finish.ensures.grows in
-    let front = line_any ended read_fault_line _ _
-    (if_one ended _ _ obeyed.missing (λ status missing memory. (missing memory request line none).1)) obeyed.memory
-    (err_one ended _ _ obeyed.part_missing (λ missing. missing request line none)) in
-    gains_front _ _ _ _ _ read_fault_line c.in-Ok.ensures front c.finish.ensures.kept grown
-
-pub returns-clause-part_words : goal.returns-clause-part_words
-returns-clause-part_words g c position offence =
-    let ended = c.obey-ended.result in
-    let obeyed = c.obey-ended.ensures in
-    let grown = grows_further _ _ _ obeyed.grows c.finish.ensures.grows in
-    let front = line_any ended (words_line position) _ _
-    (if_one ended _ _ obeyed.words (λ status words memory. (words position offence).1)) obeyed.memory
-    (err_one ended _ _ obeyed.part_words (λ words. words position offence)) in
-    gains_front _ _ _ _ _ (words_line position) c.in-Ok.ensures front c.finish.ensures.kept grown
-
-pub returns-clause-grows : goal.returns-clause-grows
-returns-clause-grows g c = grows_further _ _ _ c.obey-ended.ensures.grows c.finish.ensures.grows
+    let done = c.finish.ensures.whole write in
+    let all = ends_whole c.finish.result done.0 (c.execute-ended.ensures.words position offence).1 in
+    (all.0, flushed _ _ _ _ _ _ c.in-Ok.ensures done.1 all.1 c.finish.ensures.kept)
 
 pub returns-clause-only_words : goal.returns-clause-only_words
 returns-clause-only_words g c is =
-    let write = not_write_fault c.finish.result status.Words is (λ e. cc) in
-    c.obey-ended.ensures.only_words ((c.finish.ensures.written write).0 ∙ ap (λ s. Ok s) is)
+    elim c.execute-ended.ensures.either [
+      | inl request ↦ absurd ((c.execute-ended.ensures.runs request.0 request.1).no_words (ended_as status.Words (λ e. cc) c.finish.ensures is))
+      | inr offence ↦ offence
+    ]
 
 pub returns-clause-unopened : goal.returns-clause-unopened
-returns-clause-unopened g c = c.obey-ended.ensures.unopened
+returns-clause-unopened g c position offence = (c.execute-ended.ensures.words position offence).0
+
+pub returns-clause-grows : goal.returns-clause-grows
+returns-clause-grows g c = grows_further _ _ _ c.execute-ended.ensures.sink.grows c.finish.ensures.grows
+
+pub returns-clause-part : goal.returns-clause-part
+returns-clause-part g c request files line told some =
+    let tells = (c.execute-ended.ensures.runs request line).tells files told some in
+    let grown = grows_further _ _ _ c.execute-ended.ensures.sink.grows c.finish.ensures.grows in
+    (tells.ended, tells.text, tells.outcome, gains_prefix _ _ _ _ _ tells.text c.in-Ok.ensures tells.part c.finish.ensures.kept grown)
+
+pub returns-clause-part_complete : goal.returns-clause-part_complete
+returns-clause-part_complete g c request files line told some quiet =
+    let part = returns-clause-part g c request files line told some in
+    let same = complete_of request files _ part.0 part.1 (quiet_not _ _ quiet) part.2 in
+    subst (AppendsPrefix (g.S.Sink.held c.args.out.now) (g.S.Sink.held c.finish.new.out)) same.1 part.3
+
+pub returns-clause-part_words : goal.returns-clause-part_words
+returns-clause-part_words g c position offence =
+    let grown = grows_further _ _ _ c.execute-ended.ensures.sink.grows c.finish.ensures.grows in
+    gains_prefix _ _ _ _ _ (words_line position) c.in-Ok.ensures (ends_prefix c.execute-ended.result (c.execute-ended.ensures.words position offence).1) c.finish.ensures.kept grown
+
+-- ---- faults
 
 pub returns-clause-read_fault : goal.returns-clause-read_fault
 returns-clause-read_fault g c is =
-    let write = not_write_fault c.finish.result status.ReadFault is (λ e. cc) in
-    c.obey-ended.ensures.read_fault ((c.finish.ensures.written write).0 ∙ ap (λ s. Ok s) is)
+    let ended = ended_as status.ReadFault (λ e. cc) c.finish.ensures is in
+    elim c.execute-ended.ensures.either [
+      | inl request ↦ elim ((c.execute-ended.ensures.runs request.0 request.1).counts.fault ended) [
+        | inl rose ↦ inl rose
+        | inr missing ↦ inr (request.0, request.1, missing)
+      ]
+      | inr offence ↦ absurd (offence_ends status.ReadFault (λ e. cc) (c.execute-ended.ensures.words offence.0 offence.1).1 ended)
+    ]
+
+pub returns-clause-no_read_fault : goal.returns-clause-no_read_fault
+returns-clause-no_read_fault g c fault write memory =
+    let done = c.finish.ensures.whole write in
+    elim c.execute-ended.ensures.either [
+      | inl request ↦ quiet_if c.finish.result done.0 fault memory write (c.execute-ended.ensures.runs request.0 request.1).counts.quiet
+      | inr offence ↦ ap g.F.Shelf.reading_faults (c.execute-ended.ensures.words offence.0 offence.1).0
+    ]
 
 pub returns-clause-write_fault : goal.returns-clause-write_fault
 returns-clause-write_fault g c is =
-    elim (c.finish.ensures.write_fault is) [
-      | inl err ↦ inl (rose_later _ _ _ c.obey-ended.result err c.obey-ended.ensures.counted c.finish.ensures.never_falls)
+    elim (c.finish.ensures.fault is) [
+      | inl err ↦ inl (rose_later _ _ _ c.execute-ended.result err c.execute-ended.ensures.sink.counted c.finish.ensures.never_falls)
       | inr other ↦ elim other [
-        | inl failed ↦ inr (c.obey-ended.ensures.writing.failed failed)
-        | inr rose ↦ inl (omega (arith, rose, c.obey-ended.ensures.counted.never_falls))
+        | inl ended ↦ elim c.execute-ended.ensures.either [
+          | inl request ↦ inr ((c.execute-ended.ensures.runs request.0 request.1).writing.failed ended)
+          | inr offence ↦ absurd (offence_ends status.WriteFault (λ e. cc) (c.execute-ended.ensures.words offence.0 offence.1).1 ended)
+        ]
+        | inr rose ↦ inl (omega (arith, rose, c.execute-ended.ensures.sink.counted.never_falls))
       ]
     ]
 
-pub returns-clause-no_file_fault : goal.returns-clause-no_file_fault
-returns-clause-no_file_fault g c write =
-    c.obey-ended.ensures.writing.other (λ is. let same : Ok c.finish.result ≡ Ok status.WriteFault = sym (c.finish.ensures.written write).0 ∙ is in write cc)
-
 pub returns-clause-no_write_fault : goal.returns-clause-no_write_fault
 returns-clause-no_write_fault g c write =
-    let done = c.finish.ensures.written write in
-    let counted = rw done.0 at c.obey-ended.ensures.counted.ok in
-    c.finish.ensures.no_write_fault write ∙ counted
+    let done = c.finish.ensures.whole write in
+    let counted = rw done.0 at c.execute-ended.ensures.sink.counted in
+    c.finish.ensures.quiet write ∙ counted.ok
 
-pub returns-clause-memory : goal.returns-clause-memory
-returns-clause-memory g c is =
-    let write = not_write_fault c.finish.result status.Memory is (λ e. cc) in
-    let done = c.finish.ensures.written write in
-    kept_flushed _ _ _ _ _ c.in-Ok.ensures done.1 (c.obey-ended.ensures.memory (done.0 ∙ ap (λ s. Ok s) is)) done.2
+pub returns-clause-no_file_fault : goal.returns-clause-no_file_fault
+returns-clause-no_file_fault g c write =
+    let done = c.finish.ensures.whole write in
+    elim c.execute-ended.ensures.either [
+      | inl request ↦ (c.execute-ended.ensures.runs request.0 request.1).writing.other (not_ended c.finish.result status.WriteFault done.0 write)
+      | inr offence ↦ ap g.F.Shelf.writing_faults (c.execute-ended.ensures.words offence.0 offence.1).0
+    ]
+
+pub returns-clause-never_falls : goal.returns-clause-never_falls
+returns-clause-never_falls g c =
+    elim c.execute-ended.ensures.either [
+      | inl request ↦ (c.execute-ended.ensures.runs request.0 request.1).counts.never_falls
+      | inr offence ↦ let same = ap g.F.Shelf.reading_faults (c.execute-ended.ensures.words offence.0 offence.1).0 in omega (arith, same)
+    ]
+
+pub returns-clause-writing : goal.returns-clause-writing
+returns-clause-writing g c =
+    elim c.execute-ended.ensures.either [
+      | inl request ↦ (c.execute-ended.ensures.runs request.0 request.1).writing.never_falls
+      | inr offence ↦ let same = ap g.F.Shelf.writing_faults (c.execute-ended.ensures.words offence.0 offence.1).0 in omega (arith, same)
+    ]
+
+pub returns-clause-not_written : goal.returns-clause-not_written
+returns-clause-not_written g c request line none = (c.execute-ended.ensures.runs request line).writing.unwritten none
+
+-- ---- the files
 
 pub returns-clause-made : goal.returns-clause-made
 returns-clause-made g c is asked files bytes line told has =
-    let write = not_write_fault c.finish.result status.Done is (λ e. cc) in
-    c.obey-ended.ensures.made ((c.finish.ensures.written write).0 ∙ ap (λ s. Ok s) is) (talk asked) files bytes line told has
+    let makes = subst (λ t. MakesFrom asked t (g.F.Shelf.files c.args.shelf.now) (g.F.Shelf.files c.execute-ended.new.shelf) c.execute-ended.result) has ((c.execute-ended.ensures.runs (talk asked) line).makes files told) in
+    makes.done (ended_as status.Done (λ e. cc) c.finish.ensures is)
 
 pub returns-clause-part_made : goal.returns-clause-part_made
-returns-clause-part_made g c asked files bytes line told has = c.obey-ended.ensures.part_made (talk asked) files bytes line told has
+returns-clause-part_made g c asked files bytes line told has =
+    let makes = subst (λ t. MakesFrom asked t (g.F.Shelf.files c.args.shelf.now) (g.F.Shelf.files c.execute-ended.new.shelf) c.execute-ended.result) has ((c.execute-ended.ensures.runs (talk asked) line).makes files told) in
+    makes.part
+
+pub returns-clause-not_made : goal.returns-clause-not_made
+returns-clause-not_made g c asked files line told none =
+    subst (λ t. MakesFrom asked t (g.F.Shelf.files c.args.shelf.now) (g.F.Shelf.files c.execute-ended.new.shelf) c.execute-ended.result) none ((c.execute-ended.ensures.runs (talk asked) line).makes files told)
 
 pub returns-clause-untouched : goal.returns-clause-untouched
 returns-clause-untouched g c done write memory =
-    let untouched = rw (c.finish.ensures.written write).0 at c.obey-ended.ensures.untouched in
-    untouched done write memory
+    let whole = c.finish.ensures.whole write in
+    elim c.execute-ended.ensures.either [
+      | inl request ↦ let runs = c.execute-ended.ensures.runs request.0 request.1 in untouched_by request.0 (g.F.Shelf.files c.args.shelf.now) (g.F.Shelf.files c.execute-ended.new.shelf) c.execute-ended.result c.finish.result whole.0 done write memory runs.makes runs.files
+      | inr offence ↦ rw (c.execute-ended.ensures.words offence.0 offence.1).0 (KeepsFiles-refl (g.F.Shelf.files c.args.shelf.now))
+    ]
 
-pub returns-clause-not_made : goal.returns-clause-not_made
-returns-clause-not_made g c = c.obey-ended.ensures.not_made
-
-pub returns-clause-slots : goal.returns-clause-slots
-returns-clause-slots g c = c.obey-ended.ensures.slots
+pub returns-clause-asks : goal.returns-clause-asks
+returns-clause-asks g c request line = asks_same (names_of request) (ended_as status.Done (λ e. cc) c.finish.ensures) (c.execute-ended.ensures.runs request line).asks
 
 pub returns-clause-files : goal.returns-clause-files
-returns-clause-files g c = c.obey-ended.ensures.files
+returns-clause-files g c request line = (c.execute-ended.ensures.runs request line).files
 
-pub returns-clause-never_falls : goal.returns-clause-never_falls
-returns-clause-never_falls g c = c.obey-ended.ensures.never_falls
-
-pub returns-clause-writing : goal.returns-clause-writing
-returns-clause-writing g c = c.obey-ended.ensures.writing.never_falls
-
-pub returns-clause-not_written : goal.returns-clause-not_written
-returns-clause-not_written g c = c.obey-ended.ensures.not_written
-
-pub returns-in_default-clause-part : goal.returns-in_default-clause-part
-returns-in_default-clause-part g c request files bytes line told has =
-    let front = shows_unbegun request bytes _ _ 0 0 (Keeps-refl (g.S.Sink.held c.args.out.now)) in
-    (front.ended, front.whole, front.shows, gains_none (g.S.Sink.held c.args.out.now) front.whole)
-
-pub returns-in_default-clause-part_missing : goal.returns-in_default-clause-part_missing
-returns-in_default-clause-part_missing g c request line none = gains_none (g.S.Sink.held c.args.out.now) read_fault_line
-
-pub returns-in_default-clause-part_words : goal.returns-in_default-clause-part_words
-returns-in_default-clause-part_words g c position offence = gains_none (g.S.Sink.held c.args.out.now) (words_line position)
-
-pub returns-in_default-clause-part_complete : goal.returns-in_default-clause-part_complete
-returns-in_default-clause-part_complete g c request files bytes line told has quiet = gains_none (g.S.Sink.held c.args.out.now) _
-
-pub returns-in_default-clause-grows : goal.returns-in_default-clause-grows
-returns-in_default-clause-grows g c = grows_none (g.S.Sink.held c.args.out.now)
+pub returns-clause-slots : goal.returns-clause-slots
+returns-clause-slots g c request line = (c.execute-ended.ensures.runs request line).slots

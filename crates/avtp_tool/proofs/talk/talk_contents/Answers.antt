@@ -1,14 +1,31 @@
-use Rattle.std.proofs.Common.{List, ℕ, inl, subst}
-use Rattle.avtp_tool.specs.Talk.{Talks}
-use Rattle.avtp_tool.proofs.Ending.{files_kept, if_one}
-use Rattle.avtp_tool.proofs.Talked.{whole_is}
+use Rattle.std.proofs.Common.{refl}
+use Rattle.talker.specs.Talking.{most_input}
+use Rattle.avtp_tool.specs.declared.status.Status.TheVariants as status
+use Rattle.avtp_tool.proofs.Making.{makes_none, writes_none}
+use Rattle.avtp_tool.proofs.Outcomes.{tells_line}
+use Rattle.avtp_tool.proofs.Talked.{ends_not, stops_end, stops_fault, stops_limit, too_long}
 use Rattle.avtp_tool.proofs.talk.talk_contents.Goals as goal
 
-pub returns-in-End-clause-shown : goal.returns-in-End-clause-shown
-returns-in-End-clause-shown g c =
-    if_one c.talk_input.result _ _ c.talk_input.ensures.shown (λ ended shown memory write bytes has.
-    let all = shown memory write in
-    (all.0, subst (λ (b : List ℕ). Talks c.args.plan b ended all.0) (whole_is _ bytes _ _ _ c.in-End.is c.as_slice.ensures.value has) all.1, all.2))
+pub returns-in-End-clause-counts : goal.returns-in-End-clause-counts
+returns-in-End-clause-counts g c = stops_end c.args.plan _ c.args.contents.now.stop c.talk_input.result c.in-End.is c.talk_input.ensures.tells
 
-pub returns-in-Limit-clause-part_made : goal.returns-in-Limit-clause-part_made
-returns-in-Limit-clause-part_made g c bytes has = inl (files_kept _)
+pub returns-in-Fault-clause-tells : goal.returns-in-Fault-clause-tells
+returns-in-Fault-clause-tells g c = λ bytes has. tells_line (c.in-Fault.is, refl) c.print_fault.ensures
+
+pub returns-in-Fault-clause-writes : goal.returns-in-Fault-clause-writes
+returns-in-Fault-clause-writes g c = writes_none c.args.output.now c.print_fault.result (ends_not status.Done (λ e. cc) c.print_fault.ensures) (ends_not status.WriteFault (λ e. cc) c.print_fault.ensures)
+
+pub returns-in-Fault-clause-counts : goal.returns-in-Fault-clause-counts
+returns-in-Fault-clause-counts g c = stops_fault c.args.contents.now.stop c.print_fault.result c.in-Fault.is c.print_fault.ensures
+
+pub returns-in-Limit-clause-tells : goal.returns-in-Limit-clause-tells
+returns-in-Limit-clause-tells g c = λ bytes has. tells_line (too_long most_input bytes _ _ c.in-Limit.is has, refl) c.print_limit.ensures
+
+pub returns-in-Limit-clause-makes : goal.returns-in-Limit-clause-makes
+returns-in-Limit-clause-makes g c = λ bytes has. makes_none _ c.print_limit.result (ends_not status.Done (λ e. cc) c.print_limit.ensures)
+
+pub returns-in-Limit-clause-writes : goal.returns-in-Limit-clause-writes
+returns-in-Limit-clause-writes g c = writes_none c.args.output.now c.print_limit.result (ends_not status.Done (λ e. cc) c.print_limit.ensures) (ends_not status.WriteFault (λ e. cc) c.print_limit.ensures)
+
+pub returns-in-Limit-clause-counts : goal.returns-in-Limit-clause-counts
+returns-in-Limit-clause-counts g c = stops_limit c.args.contents.now.stop c.print_limit.result c.in-Limit.is c.print_limit.ensures

@@ -1,10 +1,14 @@
-use Rattle.avtp_tool.proofs.Talked.{told_refused, told_sent}
+use Rattle.avtp_tool.specs.declared.status.Status.TheVariants as status
+use Rattle.avtp_tool.proofs.Making.{makes_none, writes_none}
+use Rattle.avtp_tool.proofs.Talked.{refused_not, tells_refused}
 use Rattle.avtp_tool.proofs.talk.talk_input.Goals as goal
 
-pub returns-in-Ok-clause-shown : goal.returns-in-Ok-clause-shown
-returns-in-Ok-clause-shown g c =
-    told_sent c.send.result c.args.plan c.args.input.now _ _ c.send.ensures.ends c.requires.limit c.in-Ok.ensures.accepted (λ done. rw c.in-Ok.ensures.begun at (c.send.ensures.printed done))
+pub returns-in-Err-clause-tells : goal.returns-in-Err-clause-tells
+returns-in-Err-clause-tells g c = tells_refused c.args.plan c.args.input.now _ c.in-Err.fault c.requires.limit c.in-Err.ensures.only c.print_talk_fault.ensures
 
-pub returns-in-Err-clause-shown : goal.returns-in-Err-clause-shown
-returns-in-Err-clause-shown g c =
-    told_refused c.print_refused.result c.args.plan c.args.input.now c.in-Err.fault _ _ c.print_refused.ensures.ends c.requires.limit c.in-Err.ensures.only c.print_refused.ensures.printed
+pub returns-in-Err-clause-makes : goal.returns-in-Err-clause-makes
+returns-in-Err-clause-makes g c = makes_none _ c.print_talk_fault.result (refused_not c.in-Err.fault status.Done (λ e. cc) (λ e. cc) c.print_talk_fault.ensures)
+
+pub returns-in-Err-clause-writes : goal.returns-in-Err-clause-writes
+returns-in-Err-clause-writes g c =
+    writes_none c.args.output.now c.print_talk_fault.result (refused_not c.in-Err.fault status.Done (λ e. cc) (λ e. cc) c.print_talk_fault.ensures) (refused_not c.in-Err.fault status.WriteFault (λ e. cc) (λ e. cc) c.print_talk_fault.ensures)

@@ -1,0 +1,173 @@
+-- What a run comes to where no fault of reading comes.
+use Rattle.std.proofs.Common.{◌≡◌, ℕ, ℤ, ◌≤◌, ◌<◌, List, [], ◌∷◌, ◌++◌, length, take, Option, Some, None, true, false, if◌then◌else◌, inl, inr, refl, sym, ap, subst, ◌∙◌, append_assoc}
+use Rattle.std.proofs.lemmas.Bool.{cases_lt, le-leb, lt-leb}
+use Rattle.std.proofs.lemmas.List.{append-nil, take_all}
+use Rattle.avtp_base.specs.declared.refusal.Refusal.{Refusal}
+use Rattle.avtp_base.specs.Files.{Files}
+use Rattle.pcap_frames.specs.Capture.{first_refusal, Record, whole_records}
+use Rattle.packet_journal.specs.Packets.{PacketJournal}
+use Rattle.listener.specs.Laws.{HearsTalker}
+use Rattle.listener.proofs.TrueHeadline.{headline}
+use Rattle.talker.specs.declared.fault.TalkFault.{TalkFault}
+use Rattle.talker.specs.declared.plan.TalkPlan.{TalkPlan}
+use Rattle.talker.specs.Faults.{fault_of}
+use Rattle.talker.specs.Talking.{most_input}
+use Rattle.capture_io.specs.declared.end.End.{End}
+use Rattle.capture_io.specs.declared.end.End.TheVariants as end
+use Rattle.capture_io.specs.Ends.{at_end, EndsAt, end_of}
+use Rattle.capture_io.proofs.Ending.{at_end_is}
+use Rattle.avtp_text.specs.Listen.{capture_line, list_lines}
+use Rattle.avtp_text.specs.Notices.{limit_line}
+use Rattle.avtp_words.specs.Grammar.{Listening, Request, show, listen, talk}
+use Rattle.avtp_tool.specs.declared.status.Status.{Status}
+use Rattle.avtp_tool.specs.declared.status.Status.TheVariants as status
+use Rattle.avtp_tool.specs.Listen.{counts_in, FileOutcome, file_status, file_text, HasHeadline, heard_limit, heard_lines, heard_text, last_line, listen_report, listen_status, no_clock, plan_of, PrintsHeadline, shown_in}
+use Rattle.avtp_tool.specs.Outcome.{InOrder, in_order_status, in_order_text, is_done}
+use Rattle.avtp_tool.specs.Run.{Outcome, report_for, status_for}
+use Rattle.avtp_tool.specs.Show.{ShowOutcome, show_report, show_status, show_text}
+use Rattle.avtp_tool.specs.Status.{status_of}
+use Rattle.avtp_tool.specs.Talk.{line_by, status_by, TalkedOutcome, TalkOutcome, talk_plan, talk_report, talk_status}
+use Rattle.avtp_tool.proofs.Heard.{file_here}
+use Rattle.avtp_tool.proofs.InOrder.{not_done, order_here}
+use Rattle.avtp_tool.proofs.Shown.{show_here}
+
+-- ---- one capture
+
+by_end : (limit : ℕ) (bytes prefix : List ℕ) (fault : Type 0) (how : End) → (fault → ⊥) → EndsAt limit (Some bytes) fault how prefix → (how ≡ end_of limit bytes) × (prefix ≡ take limit bytes)
+by_end limit bytes prefix fault end.Whole none ends = ends
+by_end limit bytes prefix fault (end.Refused refusal) none ends = ends
+by_end limit bytes prefix fault end.ReadFault none ends = absurd (none ends.0)
+by_end limit bytes prefix fault end.Limit none ends = ends
+
+complete_at : (text : List Record → End → List ℕ) (limit : ℕ) (bytes prefix : List ℕ) (how : End) (ended : Status) (printed : List ℕ) → (how ≡ end_of limit bytes) × (prefix ≡ take limit bytes) → ended ≡ status_of how → printed ≡ text (whole_records prefix) how
+    → (ended ≡ status_of (end_of limit bytes)) × (printed ≡ text (whole_records (take limit bytes)) (end_of limit bytes))
+complete_at text limit bytes prefix how ended printed (at, here) status is =
+    (status ∙ ap status_of at, is ∙ ap (λ (p : List ℕ). text (whole_records p) how) here ∙ ap (λ (h : End). text (whole_records (take limit bytes)) h) at)
+
+complete_show : (limit : ℕ) (told : Option (List ℕ)) (fault : Type 0) (ended : Status) (text : List ℕ) → (fault → ⊥) → ShowOutcome limit told fault ended text → (ended ≡ show_status limit told) × (text ≡ show_report limit told)
+complete_show limit None fault ended text none o =
+    (o.status ∙ ap status_of o.ends.0, o.printed ∙ ap (λ (p : List ℕ). show_text limit (whole_records p) o.how) o.ends.1 ∙ ap (λ (h : End). show_text limit (whole_records []) h) o.ends.0)
+complete_show limit (Some bytes) fault ended text none o = complete_at (show_text limit) limit bytes o.prefix o.how ended text (by_end limit bytes o.prefix fault o.how none o.ends) o.status o.printed
+
+complete_file : (asked : Listening) (told : Option (List ℕ)) (fault : Type 0) (name : List ℕ) (ended : Status) (text : List ℕ) → (fault → ⊥) → FileOutcome asked told fault name ended text → (ended ≡ file_status told) × (text ≡ file_text asked told name)
+complete_file asked None fault name ended text none o = o
+complete_file asked (Some bytes) fault name ended text none (inl heard) =
+    complete_at (heard_text asked name) heard_limit bytes heard.prefix heard.how ended text (by_end heard_limit bytes heard.prefix fault heard.how none heard.ends) heard.status heard.printed
+complete_file asked (Some bytes) fault name ended text none (inr unopened) = absurd (none unopened.0)
+
+-- ---- captures in order
+
+complete_order : (one : List ℕ → Status → List ℕ → Type 0) (ends : List ℕ → Status) (text : List ℕ → List ℕ) → ((name : List ℕ) (ended : Status) (printed : List ℕ) → one name ended printed → (ended ≡ ends name) × (printed ≡ text name))
+    → (names : List (List ℕ)) (ended : Status) (printed : List ℕ) → InOrder one names ended printed → (ended ≡ in_order_status ends names) × (printed ≡ in_order_text ends text names)
+unfolding InOrder in_order_status in_order_text
+complete_order one ends text each [] ended printed order = order
+complete_order one ends text each (name ∷ names) ended printed (inl (other, outcome)) =
+    let same = each name ended printed outcome in
+    let stops : is_done (ends name) ≡ false = not_done (ends name) (λ done. other (same.0 ∙ done)) in
+    (rw stops same.0, rw stops (same.1 ∙ sym (append-nil (text name))))
+complete_order one ends text each (name ∷ names) ended printed (inr (first, rest, outcome, order, is)) =
+    let same = each name status.Done first outcome in
+    let goes_on : is_done (ends name) ≡ true = subst (λ (s : Status). is_done s ≡ true) same.0 refl in
+    let more = complete_order one ends text each names ended rest order in
+    (rw goes_on more.0, rw goes_on (is ∙ ap (λ (t : List ℕ). t ++ rest) same.1 ∙ ap (λ (t : List ℕ). text name ++ t) more.1))
+
+-- ---- an input
+
+fits_is : (plan : TalkPlan) (bytes : List ℕ) (f : Option TalkFault) → length bytes ≤ most_input → fault_of plan bytes ≡ f → (talk_status plan (Some bytes) ≡ status_by f) × (talk_report plan (Some bytes) ≡ line_by f plan bytes)
+fits_is plan bytes f fits is = (rw (le-leb (length bytes) most_input fits, is) refl, rw (le-leb (length bytes) most_input fits, is) refl)
+
+long_is : (plan : TalkPlan) (bytes : List ℕ) → most_input < length bytes → (talk_status plan (Some bytes) ≡ status.Limit) × (talk_report plan (Some bytes) ≡ limit_line most_input)
+long_is plan bytes more = (rw (lt-leb (length bytes) most_input more) refl, rw (lt-leb (length bytes) most_input more) refl)
+
+pub talks_by : (plan : TalkPlan) (bytes : List ℕ) (cause : Type 0) (f : Option TalkFault) → length bytes ≤ most_input → fault_of plan bytes ≡ f → TalkedOutcome plan bytes cause (status_by f) (line_by f plan bytes)
+talks_by plan bytes cause None fits is = (fits, is, refl)
+talks_by plan bytes cause (Some why) fits is = (fits, (why, is, refl))
+
+talks_as : (plan : TalkPlan) (bytes : List ℕ) (cause : Type 0) (ended other : Status) (text whole : List ℕ) → ended ≡ other → text ≡ whole → TalkedOutcome plan bytes cause other whole → TalkedOutcome plan bytes cause ended text
+talks_as plan bytes cause ended other text whole same is talks = subst (λ (s : Status). TalkedOutcome plan bytes cause s text) (sym same) (subst (TalkedOutcome plan bytes cause other) (sym is) talks)
+
+pub talk_here : (plan : TalkPlan) (told : Option (List ℕ)) (cause : Type 0) → TalkOutcome plan told cause (talk_status plan told) (talk_report plan told)
+talk_here plan None cause = (refl, refl)
+talk_here plan (Some bytes) cause =
+    elim (cases_lt most_input (length bytes)) [
+      | inl more ↦ let is = long_is plan bytes more in talks_as plan bytes cause (talk_status plan (Some bytes)) status.Limit (talk_report plan (Some bytes)) (limit_line most_input) is.0 is.1 (more, refl)
+      | inr fits ↦
+          let f : Option TalkFault = fault_of plan bytes in
+          let is = fits_is plan bytes f fits refl in
+          talks_as plan bytes cause (talk_status plan (Some bytes)) (status_by f) (talk_report plan (Some bytes)) (line_by f plan bytes) is.0 is.1 (talks_by plan bytes cause f fits refl)
+    ]
+
+complete_talk : (plan : TalkPlan) (bytes : List ℕ) (cause : Type 0) (ended : Status) (text : List ℕ) → (cause → ⊥) → TalkedOutcome plan bytes cause ended text → (ended ≡ talk_status plan (Some bytes)) × (text ≡ talk_report plan (Some bytes))
+complete_talk plan bytes cause status.Done text unfaulty (fits, none, is) = let all = fits_is plan bytes None fits none in (sym all.0, is ∙ sym all.1)
+complete_talk plan bytes cause status.TalkInput text unfaulty (fits, why) = let all = fits_is plan bytes (Some why.0) fits why.1 in (sym all.0, why.2 ∙ sym all.1)
+complete_talk plan bytes cause status.Limit text unfaulty (more, is) = let all = long_is plan bytes more in (sym all.0, is ∙ sym all.1)
+complete_talk plan bytes cause status.ReadFault text unfaulty talks = absurd (unfaulty talks.0)
+complete_talk plan bytes cause status.Findings text unfaulty talks = absurd talks
+complete_talk plan bytes cause status.Words text unfaulty talks = absurd talks
+complete_talk plan bytes cause status.Refused text unfaulty talks = absurd talks
+complete_talk plan bytes cause status.WriteFault text unfaulty talks = absurd talks
+complete_talk plan bytes cause status.Memory text unfaulty talks = absurd talks
+complete_talk plan bytes cause status.DeviceFault text unfaulty talks = absurd talks
+
+complete_input : (plan : TalkPlan) (told : Option (List ℕ)) (cause : Type 0) (ended : Status) (text : List ℕ) → (cause → ⊥) → TalkOutcome plan told cause ended text → (ended ≡ talk_status plan told) × (text ≡ talk_report plan told)
+complete_input plan None cause ended text unfaulty o = o
+complete_input plan (Some bytes) cause ended text unfaulty o = complete_talk plan bytes cause ended text unfaulty o
+
+-- ---- any request
+
+pub outcome_here : (request : Request) (files : Files) (cause : Type 0) → Outcome request files cause (status_for request files) (report_for request files)
+outcome_here (show limit file) files cause = show_here limit (files file) cause
+outcome_here (listen asked) files cause =
+    order_here (λ name. FileOutcome asked (files name) cause name) (λ name. file_status (files name)) (λ name. file_text asked (files name) name) (λ name. file_here asked (files name) cause name) asked.files
+outcome_here (talk asked) files cause = talk_here (talk_plan asked) (files asked.input) cause
+
+pub complete_of : (request : Request) (files : Files) (cause : Type 0) (ended : Status) (text : List ℕ) → (cause → ⊥) → Outcome request files cause ended text → (ended ≡ status_for request files) × (text ≡ report_for request files)
+complete_of (show limit file) files cause ended text none o = complete_show limit (files file) cause ended text none o
+complete_of (listen asked) files cause ended text none o =
+    complete_order (λ name. FileOutcome asked (files name) cause name) (λ name. file_status (files name)) (λ name. file_text asked (files name) name) (λ name e t outcome. complete_file asked (files name) cause name e t none outcome) asked.files ended text o
+complete_of (talk asked) files cause ended text none o = complete_input (talk_plan asked) (files asked.input) cause ended text none o
+
+-- ---- the headline
+
+-- the text of files that are read to their end, and of those after them
+text_split : (ends : List ℕ → Status) (text : List ℕ → List ℕ) (earlier more : List (List ℕ)) → in_order_status ends earlier ≡ status.Done → in_order_text ends text (earlier ++ more) ≡ in_order_text ends text earlier ++ in_order_text ends text more
+unfolding in_order_status in_order_text
+text_split ends text [] more done = refl
+text_split ends text (name ∷ earlier) more done =
+    elim (is_done (ends name)) as (λ b. is_done (ends name) ≡ b → (if b then in_order_status ends earlier else ends name) ≡ status.Done
+    → text name ++ (if b then in_order_text ends text (earlier ++ more) else []) ≡ (text name ++ (if b then in_order_text ends text earlier else [])) ++ in_order_text ends text more) [
+      | true ↦ λ is all. ap (λ (t : List ℕ). text name ++ t) (text_split ends text earlier more all) ∙ sym (append_assoc (text name) (in_order_text ends text earlier) (in_order_text ends text more))
+      | false ↦ λ is all. absurd (let t : is_done (ends name) ≡ true = subst (λ (s : Status). is_done s ≡ true) (sym all) refl in cc)
+    ] refl done
+
+lines_at : (asked : Listening) (records : List Record) (refused : Option Refusal) → heard_lines (shown_in asked records) (counts_in asked records) (at_end refused) ≡ list_lines (shown_in asked records) ++ last_line (counts_in asked records) refused
+lines_at asked records None = refl
+lines_at asked records (Some refusal) = refl
+
+prints_headline : (asked : Listening) (name : List ℕ) (shift : ℤ) (p : PacketJournal) (bytes : List ℕ) → length bytes ≤ heard_limit → HearsTalker shift p (plan_of asked) bytes → PrintsHeadline asked name shift p bytes (file_text asked (Some bytes) name)
+prints_headline asked name shift p bytes fits hears = record {
+  shown = shown_in asked (whole_records bytes);
+  keeps = headline no_clock shift p (plan_of asked) bytes hears;
+  printed = ap (λ (prefix : List ℕ). heard_text asked name (whole_records prefix) (end_of heard_limit bytes)) (take_all heard_limit bytes fits)
+      ∙ ap (heard_text asked name (whole_records bytes)) (at_end_is heard_limit bytes fits)
+      ∙ ap (λ (t : List ℕ). capture_line name ++ t) (lines_at asked (whole_records bytes) (first_refusal bytes));
+}
+
+rest_text : (ends : List ℕ → Status) (text : List ℕ → List ℕ) (name : List ℕ) (later : List (List ℕ)) → (rest : List ℕ) × (in_order_text ends text (name ∷ later) ≡ text name ++ rest)
+unfolding in_order_text
+rest_text ends text name later = (if is_done (ends name) then in_order_text ends text later else [], refl)
+
+pub has_headline : (asked : Listening) (files : Files) (earlier later : List (List ℕ)) (name bytes : List ℕ) (shift : ℤ) (p : PacketJournal) → asked.files ≡ earlier ++ name ∷ later → listen_status files earlier ≡ status.Done
+    → files name ≡ Some bytes → length bytes ≤ heard_limit → HearsTalker shift p (plan_of asked) bytes → HasHeadline asked name shift p bytes (listen_report asked files asked.files)
+has_headline asked files earlier later name bytes shift p split done told fits hears =
+    let ends = λ (n : List ℕ). file_status (files n) in
+    let text = λ (n : List ℕ). file_text asked (files n) n in
+    let rest = rest_text ends text name later in
+    let here : text name ≡ file_text asked (Some bytes) name = ap (λ (t : Option (List ℕ)). file_text asked t name) told in
+    record {
+      before = in_order_text ends text earlier;
+      here = file_text asked (Some bytes) name;
+      after = rest.0;
+      prints = prints_headline asked name shift p bytes fits hears;
+      split = ap (in_order_text ends text) split ∙ text_split ends text earlier (name ∷ later) done ∙ ap (λ (t : List ℕ). in_order_text ends text earlier ++ t) (rest.1 ∙ ap (λ (t : List ℕ). t ++ rest.0) here);
+    }

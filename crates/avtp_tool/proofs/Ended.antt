@@ -1,0 +1,91 @@
+-- How a run ends whose text was written to its end, or not.
+use Rattle.std.proofs.Common.{◌≡◌, ◌≢◌, ℕ, List, Option, Some, None, Result, Ok, Err, refl, sym, ap, subst, ◌∙◌, arith}
+use Rattle.std.specs.Prelude.{IfOk}
+use Rattle.std.proofs.lemmas.List.{append-nil}
+use Rattle.avtp_base.specs.declared.failed.Failed.{Failed}
+use Rattle.avtp_base.specs.Faults.{IsQuiet, Rose}
+use Rattle.avtp_base.specs.Files.{Files, KeepsFiles}
+use Rattle.avtp_base.specs.Told.{Appends}
+use Rattle.avtp_text.specs.Written.{AppendsPrefix, written}
+use Rattle.avtp_text.proofs.Printing.{prefix_none, prefix_whole}
+use Rattle.avtp_words.specs.Grammar.{output_of, Request, show, listen, talk, Talking}
+use Rattle.avtp_tool.specs.declared.status.Status.{Status}
+use Rattle.avtp_tool.specs.declared.status.Status.TheVariants as status
+use Rattle.avtp_tool.specs.Made.{KeepsFilesBut}
+use Rattle.avtp_tool.specs.Outcome.{AsksFor, EndsWith, Finishes, Tells}
+use Rattle.avtp_tool.specs.Run.{MakesFrom, MakesOf}
+use Rattle.avtp_tool.proofs.Outcomes.{ok_same}
+
+-- ---- what was told
+
+pub quiet_not : (before after : ℕ) → IsQuiet before after → Rose before after → ⊥
+quiet_not before after quiet rose = omega (arith, quiet, rose)
+
+-- the run ended with a status of its own, so the text is whole
+pub told_whole : {Outcome : Status → List ℕ → Type 0} {before now : Option (List ℕ)} {ended : Result Status Failed} (result : Status) → ended ≡ Ok result → result ≢ status.Memory → result ≢ status.WriteFault → Tells Outcome before now ended
+    → (text : List ℕ) × Outcome result text × Appends before now text
+told_whole {Outcome} {before} {now} result same memory write tells =
+    let t = subst (Tells Outcome before now) same tells in
+    let whole = t.whole memory write in
+    (t.text, subst (λ (s : Status). Outcome s t.text) (sym whole.0) t.outcome, whole.1)
+
+-- and so is its last line
+pub ends_whole : {h h' : Option (List ℕ)} {w w' : List ℕ} {f f' : ℕ} {ended : Result Status Failed} {s : Status} {line : List ℕ} (result : Status) → ended ≡ Ok result → EndsWith s h h' w w' f f' ended line
+    → (result ≡ s) × Appends (written h w) (written h' w') line
+ends_whole {h} {h'} {w} {w'} {f} {f'} {ended} {s} {line} result same ends = let e = subst (λ (r : Result Status Failed). EndsWith s h h' w w' f f' r line) same ends in (e.status, e.written)
+
+pub ends_prefix : {h h' : Option (List ℕ)} {w w' : List ℕ} {f f' : ℕ} {s : Status} {line : List ℕ} (ended : Result Status Failed) → EndsWith s h h' w w' f f' ended line → AppendsPrefix (written h w) (written h' w') line
+ends_prefix {h} {h'} {w} {w'} {line = line} (Ok r) ends = prefix_whole (written h w) (written h' w') line ends.written
+ends_prefix {h} {h'} {w} {w'} {line = line} (Err e) ends = prefix_none (written h w) (written h' w') line ends.written
+
+-- ---- the status
+
+not_write : (result other : Status) → result ≡ other → other ≢ status.WriteFault → result ≢ status.WriteFault
+not_write result other is differs e = differs (sym is ∙ e)
+
+-- it ended with this status before, where that is no failed write
+pub ended_as : {h h' : Option (List ℕ)} {w w' : List ℕ} {f f' : ℕ} {ended : Result Status Failed} {result : Status} (other : Status) → other ≢ status.WriteFault → Finishes h h' w w' f f' ended result → result ≡ other → ended ≡ Ok other
+ended_as {result = result} other differs finishes is = (finishes.whole (not_write result other is differs)).0 ∙ ap (λ (s : Status). Ok s) is
+
+-- it did not end with a failed write
+pub not_ended : {ended : Result Status Failed} (result other : Status) → ended ≡ Ok result → result ≢ other → ended ≡ Ok other → ⊥
+not_ended {ended} result other same differs e = differs (ok_same ended result other same e)
+
+pub quiet_if : {P : Type 0} {ended : Result Status Failed} (result : Status) → ended ≡ Ok result → result ≢ status.ReadFault → result ≢ status.Memory → result ≢ status.WriteFault
+    → IfOk ended (λ s. s ≢ status.ReadFault → s ≢ status.Memory → s ≢ status.WriteFault → P) → P
+quiet_if {P} result same fault memory write quiet = subst (λ (r : Result Status Failed). IfOk r (λ s. s ≢ status.ReadFault → s ≢ status.Memory → s ≢ status.WriteFault → P)) same quiet fault memory write
+
+-- ---- words that are no command line
+
+pub offence_ends : {h h' : Option (List ℕ)} {w w' : List ℕ} {f f' : ℕ} {ended : Result Status Failed} {line : List ℕ} (other : Status) → status.Words ≢ other → EndsWith status.Words h h' w w' f f' ended line → ended ≡ Ok other → ⊥
+offence_ends {ended = ended} other differs ends e = differs (sym (ends_whole other e ends).0)
+
+-- ---- files
+
+still_untold : (name : Option (List ℕ)) (g : Option Files) → KeepsFilesBut name None g → KeepsFiles None g
+still_untold None g keeps = keeps
+still_untold (Some name) None keeps = tt
+still_untold (Some name) (Some g) keeps = absurd keeps
+
+untouched_from : (asked : Talking) (told : Option (List ℕ)) (f g : Option Files) (result : Status) → result ≢ status.Done → result ≢ status.WriteFault → result ≢ status.Memory → MakesFrom asked told f g (Ok result) → KeepsFiles f g
+untouched_from asked None f g result done write memory makes = makes
+untouched_from asked (Some bytes) f g result done write memory makes = makes.untouched done write memory
+
+untouched_of : (request : Request) (all : Files) (f g : Option Files) (result : Status) → result ≢ status.Done → result ≢ status.WriteFault → result ≢ status.Memory → MakesOf request all f g (Ok result) → KeepsFiles f g
+untouched_of (show limit file) all f g result done write memory makes = makes
+untouched_of (listen asked) all f g result done write memory makes = makes
+untouched_of (talk asked) all f g result done write memory makes = untouched_from asked (all asked.input) f g result done write memory makes
+
+-- a run that was not cut short leaves all files as they were, where not all was done
+pub untouched_by : (request : Request) (f g : Option Files) (ended : Result Status Failed) (result : Status) → ended ≡ Ok result → result ≢ status.Done → result ≢ status.WriteFault → result ≢ status.Memory
+    → ((all : Files) → f ≡ Some all → MakesOf request all f g ended) → KeepsFilesBut (output_of request) f g → KeepsFiles f g
+untouched_by request None g ended result same done write memory makes keeps = still_untold (output_of request) g keeps
+untouched_by request (Some all) g ended result same done write memory makes keeps = untouched_of request all (Some all) g result done write memory (subst (MakesOf request all (Some all) g) same (makes all refl))
+
+-- ---- names
+
+pub asks_same : {a b : List (List ℕ) → Type 0} {p q : Type 0} (names : List (List ℕ)) → (q → p) → AsksFor names a b p → AsksFor names a b q
+asks_same names weaker asks = record { count = asks.count; within = asks.within; all = λ done. asks.all (weaker done); asked = asks.asked }
+
+pub asks_nothing : {p : Type 0} (names : List (List ℕ)) (a : List (List ℕ) → Type 0) → (p → ⊥) → AsksFor names a a p
+asks_nothing names a never = record { count = 0; within = omega arith; all = λ done. absurd (never done); asked = λ before stands. subst a (sym (append-nil before)) stands }

@@ -1,0 +1,250 @@
+-- What a run left of the text, in parts that follow each other.
+use Rattle.std.proofs.Common.{◌≡◌, ℕ, ◌≤◌, List, [], ◌∷◌, ◌++◌, Option, Some, None, Result, Ok, Err, inl, inr, refl, sym, subst, ◌∙◌, arith}
+use Rattle.std.specs.Prelude.{◌⊎◌, ◌≢◌, Contains, IfOk, IsErr, IsErrOf}
+use Rattle.avtp_base.specs.declared.failed.Failed.{Failed}
+use Rattle.avtp_base.specs.declared.failed.OpenFault.{OpenFault}
+use Rattle.avtp_base.specs.declared.failed.OpenFault.TheVariants as open_fault
+use Rattle.avtp_base.specs.Faults.{IsCounted, IsOpenCounted, Rose}
+use Rattle.avtp_base.specs.Files.{Files, IsMissing}
+use Rattle.avtp_text.specs.Notices.{read_fault_line}
+use Rattle.avtp_base.specs.Told.{Appends}
+use Rattle.avtp_base.proofs.Told.{Appends-nil, Appends-trans, Appends-kept}
+use Rattle.avtp_text.specs.Written.{AppendsPrefix, Prints, PrintsPart, written}
+use Rattle.avtp_text.proofs.Growth.{grows_further, grows_none}
+use Rattle.avtp_text.proofs.Printing.{prefix_none, prefix_whole}
+use Rattle.capture_io.specs.declared.end.End.{End}
+use Rattle.capture_io.specs.declared.end.End.TheVariants as end
+use Rattle.capture_io.specs.Ends.{CountsFault}
+use Rattle.avtp_tool.specs.Status.{status_of}
+use Rattle.avtp_tool.specs.declared.status.Status.{Status}
+use Rattle.avtp_tool.specs.declared.status.Status.TheVariants as status
+use Rattle.avtp_tool.specs.Outcome.{CountsReading, EndsUnopened, EndsWith, KeepsSink, Only, Tells}
+
+-- ---- the sink
+
+pub sink_still : {T : Type 0} (held : Option (List ℕ)) (faults : ℕ) (x : T) → KeepsSink held held faults faults (Ok x)
+sink_still held faults x = record { grows = grows_none held; counted = record { never_falls = omega arith; ok = refl; failed = tt } }
+
+pub sink_then : {T U : Type 0} {h h' h'' : Option (List ℕ)} {f f' f'' : ℕ} {x : T} {result : Result U Failed} → KeepsSink h h' f f' (Ok x) → KeepsSink h' h'' f' f'' result → KeepsSink h h'' f f'' result
+sink_then {U = U} {h} {h'} {h''} {f} {f'} {f''} {x} {result} first second = record {
+  grows = grows_further h h' h'' first.grows second.grows;
+  counted = subst (λ (n : ℕ). IsCounted {T = U} n f'' result) first.counted.ok second.counted;
+}
+
+-- a failure is a failure whatever was to be answered
+pub sink_failed : {T U : Type 0} {h h' : Option (List ℕ)} {f f' : ℕ} {e : Failed} {result : Result U Failed} → IsErr result → KeepsSink {T = T} h h' f f' (Err e) → KeepsSink h h' f f' result
+sink_failed {result = Ok x} err first = absurd cc
+sink_failed {result = Err e'} err first = record { grows = first.grows; counted = record { never_falls = first.counted.never_falls; ok = tt; failed = first.counted.failed } }
+
+pub sink_printed : {h h' : Option (List ℕ)} {w w' : List ℕ} {f f' : ℕ} {result : Result Unit Failed} {text : List ℕ} → Prints h h' w w' f f' result text → KeepsSink h h' f f' result
+sink_printed prints = record { grows = prints.grows; counted = prints.counted }
+
+pub sink_part : {h h' : Option (List ℕ)} {w w' : List ℕ} {f f' : ℕ} {result : Result Unit Failed} {text : List ℕ} → PrintsPart h h' w w' f f' result text → KeepsSink h h' f f' result
+sink_part prints = record { grows = prints.grows; counted = prints.counted }
+
+-- an answer of another value
+pub sink_ok : {T U : Type 0} {h h' : Option (List ℕ)} {f f' : ℕ} {x : T} (y : U) → KeepsSink h h' f f' (Ok x) → KeepsSink h h' f f' (Ok y)
+sink_ok y first = record { grows = first.grows; counted = record { never_falls = first.counted.never_falls; ok = first.counted.ok; failed = tt } }
+
+-- ---- the last line
+
+pub ends_printed : {h h' : Option (List ℕ)} {w w' : List ℕ} {f f' : ℕ} {ok : Unit} {line : List ℕ} (ended : Status) → Prints h h' w w' f f' (Ok ok) line → EndsWith ended h h' w w' f f' (Ok ended) line
+ends_printed ended prints = record { status = refl; written = prints.written; sink = sink_ok ended (sink_printed prints) }
+
+pub ends_failed : {h h' : Option (List ℕ)} {w w' : List ℕ} {f f' : ℕ} {e : Failed} {line : List ℕ} {result : Result Status Failed} (ended : Status) → IsErr result → Prints h h' w w' f f' (Err e) line → EndsWith ended h h' w w' f f' result line
+ends_failed {result = Ok s} ended err prints = absurd cc
+ends_failed {result = Err e'} ended err prints = record { status = tt; written = prints.written; sink = sink_failed err (sink_printed prints) }
+
+-- ---- what a run tells
+
+-- it was cut short before its first byte, or where memory was missing
+abbrev pub IsCut : Result Status Failed → Type 0
+IsCut result = IfOk result (λ s. (s ≡ status.Memory) ⊎ (s ≡ status.WriteFault))
+
+pub tells_cut : {Outcome : Status → List ℕ → Type 0} {before now : Option (List ℕ)} {result : Result Status Failed} (ended : Status) (text : List ℕ) → Outcome ended text → IsCut result → AppendsPrefix before now text → Tells Outcome before now result
+tells_cut {result = Ok s} ended text outcome cut prefix = record {
+  ended = ended;
+  text = text;
+  outcome = outcome;
+  part = prefix;
+  whole = λ memory write. elim cut [ inl is ↦ absurd (memory is) | inr is ↦ absurd (write is) ];
+}
+tells_cut {result = Err e} ended text outcome cut prefix = record { ended = ended; text = text; outcome = outcome; part = prefix; whole = tt }
+
+-- a text was printed, and a last line after it
+pub tells_end : {Outcome : Status → List ℕ → Type 0} {before : Option (List ℕ)} {h h' : Option (List ℕ)} {w w' : List ℕ} {f f' : ℕ} {result : Result Status Failed} {ended : Status} {line : List ℕ} (text : List ℕ)
+    → Outcome ended (text ++ line) → Appends before (written h w) text → EndsWith ended h h' w w' f f' result line → Tells Outcome before (written h' w') result
+tells_end {before = before} {h} {h'} {w} {w'} {result = Ok s} {ended} {line} text outcome first last =
+    let all = Appends-trans before (written h w) (written h' w') text line first last.written in
+    record { ended = ended; text = text ++ line; outcome = outcome; whole = λ memory write. (last.status, all); part = prefix_whole before (written h' w') (text ++ line) all }
+tells_end {before = before} {h} {h'} {w} {w'} {result = Err e} {ended} {line} text outcome first last =
+    record {
+      ended = ended;
+      text = text ++ line;
+      outcome = outcome;
+      whole = tt;
+      part = record { prefix = text; rest = line; split = refl; appends = Appends-kept before (written h w) (written h' w') text first last.written };
+    }
+
+-- the last line alone
+pub tells_line : {Outcome : Status → List ℕ → Type 0} {h h' : Option (List ℕ)} {w w' : List ℕ} {f f' : ℕ} {result : Result Status Failed} {ended : Status} {line : List ℕ}
+    → Outcome ended line → EndsWith ended h h' w w' f f' result line → Tells Outcome (written h w) (written h' w') result
+tells_line {h = h} {w = w} outcome last = tells_end [] outcome (Appends-nil (written h w)) last
+
+-- what can be, under a weaker cause
+pub tells_weaker : {A B : Status → List ℕ → Type 0} {before now : Option (List ℕ)} {result : Result Status Failed} → ((ended : Status) (text : List ℕ) → A ended text → B ended text) → Tells A before now result → Tells B before now result
+tells_weaker weaker t = record { ended = t.ended; text = t.text; outcome = weaker t.ended t.text t.outcome; whole = t.whole; part = t.part }
+
+-- a text was printed, and the run ends with this status
+pub tells_all : {h h' : Option (List ℕ)} {w w' : List ℕ} {f f' : ℕ} {ok : Unit} {text : List ℕ} (ended : Status) (all : List ℕ) → text ≡ all → PrintsPart h h' w w' f f' (Ok ok) text
+    → Tells (Only ended all) (written h w) (written h' w') (Ok ended)
+tells_all {h} {h'} {w} {w'} {f} {f'} {ok} {text} ended all same prints = record {
+  ended = ended;
+  text = all;
+  outcome = (refl, refl);
+  whole = λ memory write. (refl, subst (Appends (written h w) (written h' w')) same prints.written);
+  part = prefix_whole (written h w) (written h' w') all (subst (Appends (written h w) (written h' w')) same prints.written);
+}
+
+-- a prefix of it was, and the sink failed
+pub tells_some : {h h' : Option (List ℕ)} {w w' : List ℕ} {f f' : ℕ} {e : Failed} {text : List ℕ} {result : Result Status Failed} (ended : Status) (all : List ℕ) → text ≡ all → IsErr result → PrintsPart h h' w w' f f' (Err e) text
+    → Tells (Only ended all) (written h w) (written h' w') result
+tells_some {result = Ok s} ended all same err prints = absurd cc
+tells_some {h} {h'} {w} {w'} {result = Err e'} ended all same err prints = record {
+  ended = ended;
+  text = all;
+  outcome = (refl, refl);
+  whole = tt;
+  part = subst (AppendsPrefix (written h w) (written h' w')) same prints.written;
+}
+
+-- the same status in other words
+pub tells_as : {Outcome : Status → List ℕ → Type 0} {before now : Option (List ℕ)} {s r : Status} → s ≡ r → Tells Outcome before now (Ok s) → Tells Outcome before now (Ok r)
+tells_as {Outcome} {before} {now} {s} {r} same t = subst (λ (x : Status). Tells Outcome before now (Ok x)) same t
+
+-- ---- a file that could not be opened
+
+-- why a file of this name was not opened, but for want of memory: the count of reading faults rose, or the shelf tells that
+-- it is missing
+abbrev pub Unopened : ℕ → ℕ → Option Files → List ℕ → Type 0
+Unopened before after files name = Rose before after ⊎ IsMissing files name
+
+cause_of : {T : Type 0} (fault : OpenFault) (before after : ℕ) (files : Option Files) (name : List ℕ) → fault ≢ open_fault.Memory → IsOpenCounted {T = T} before after (Err fault)
+    → (IsErrOf {T = T} (Err fault) open_fault.Missing → IsMissing files name) → Unopened before after files name
+cause_of open_fault.Missing before after files name other counts missing = inr (missing refl)
+cause_of open_fault.Failed before after files name other counts missing = inl (counts.failed refl)
+cause_of open_fault.Memory before after files name other counts missing = absurd (other refl)
+
+memory_or : (fault : OpenFault) → (fault ≡ open_fault.Memory) ⊎ (fault ≢ open_fault.Memory)
+memory_or open_fault.Missing = inr (λ e. cc)
+memory_or open_fault.Failed = inr (λ e. cc)
+memory_or open_fault.Memory = inl refl
+
+-- a missing file has no bytes
+pub missing_none : (files : Option Files) (name : List ℕ) (all : Files) → files ≡ Some all → IsMissing files name → all name ≡ None
+missing_none None name all told missing = absurd missing
+missing_none (Some files) name all told missing = let same : files ≡ all = cc in subst (λ (m : Files). m name ≡ None) same missing
+
+pub tells_unopened : {T : Type 0} {Outcome : Status → List ℕ → Type 0} {h h' : Option (List ℕ)} {w w' : List ℕ} {f f' : ℕ} {result : Result Status Failed} (fault : OpenFault) (before after : ℕ) (files : Option Files) (name : List ℕ) (ended : Status) (text : List ℕ)
+    → Outcome ended text → (Unopened before after files name → Outcome status.ReadFault read_fault_line)
+    → IsOpenCounted {T = T} before after (Err fault) → (IsErrOf {T = T} (Err fault) open_fault.Missing → IsMissing files name)
+    → EndsUnopened fault h h' w w' f f' result → Tells Outcome (written h w) (written h' w') result
+tells_unopened {h = h} {h'} {w} {w'} {result = result} fault before after files name ended text outcome other counts missing ends =
+    elim (memory_or fault) [
+      | inl is ↦ let left = ends.memory is in tells_cut ended text outcome (subst IsCut (sym left.0) (inl refl)) (prefix_none (written h w) (written h' w') text left.1)
+      | inr no_memory ↦ tells_line (other (cause_of fault before after files name no_memory counts missing)) (ends.other no_memory)
+    ]
+
+-- ---- counts of reading faults
+
+one_of : (name : List ℕ) → Contains (name ∷ []) name
+one_of name = (0, omega arith, refl)
+
+-- it ended with a fault of reading, or not at all
+counts_fault : (result : Result Status Failed) (before after : ℕ) (files : Option Files) (name : List ℕ) → before ≤ after → Unopened before after files name → IfOk result (λ s. s ≡ status.ReadFault)
+    → CountsReading (name ∷ []) files before after result
+counts_fault (Ok s) before after files name falls cause is = record {
+  never_falls = falls;
+  fault = λ e. elim cause [ inl rose ↦ inl rose | inr missing ↦ inr (record { name = name; one = one_of name; missing = missing }) ];
+  quiet = λ fault memory write. absurd (fault is);
+}
+counts_fault (Err e) before after files name falls cause is = record { never_falls = falls; fault = λ same. absurd cc; quiet = tt }
+
+pub ok_same : (x : Result Status Failed) (s r : Status) → x ≡ Ok s → x ≡ Ok r → s ≡ r
+ok_same x s r first second = cc
+
+-- it was cut short
+pub counts_memory : {before after : ℕ} {names : List (List ℕ)} {files : Option Files} (result : Result Status Failed) → before ≤ after → result ≡ Ok status.Memory → CountsReading names files before after result
+counts_memory (Ok s) falls is = record {
+  never_falls = falls;
+  fault = λ e. absurd (let t : status.Memory ≡ status.ReadFault = ok_same (Ok s) status.Memory status.ReadFault is e in cc);
+  quiet = λ fault memory write. absurd (memory cc);
+}
+counts_memory (Err e) falls is = absurd cc
+
+pub counts_failed : {before after : ℕ} {names : List (List ℕ)} {files : Option Files} (e : Failed) → before ≤ after → CountsReading names files before after (Err e)
+counts_failed e falls = record { never_falls = falls; fault = λ same. absurd cc; quiet = tt }
+
+pub counts_unopened : {T : Type 0} {h h' : Option (List ℕ)} {w w' : List ℕ} {f f' : ℕ} {result : Result Status Failed} (fault : OpenFault) (before after : ℕ) (files : Option Files) (name : List ℕ)
+    → IsOpenCounted {T = T} before after (Err fault) → (IsErrOf {T = T} (Err fault) open_fault.Missing → IsMissing files name)
+    → EndsUnopened fault h h' w w' f f' result → CountsReading (name ∷ []) files before after result
+counts_unopened {result = result} fault before after files name counts missing ends =
+    elim (memory_or fault) [
+      | inl is ↦ counts_memory result counts.never_falls (ends.memory is).0
+      | inr no_memory ↦ counts_fault result before after files name counts.never_falls (cause_of fault before after files name no_memory counts missing) (ends.other no_memory).status
+    ]
+
+-- the reading of a capture ended so, and the run with its status
+pub counts_ended : {before after : ℕ} {names : List (List ℕ)} {files : Option Files} (how : End) (result : Result Status Failed) → before ≤ after → CountsFault None (Some how) before after
+    → IfOk result (λ s. (s ≡ status.Memory) ⊎ (s ≡ status_of how)) → CountsReading names files before after result
+counts_ended how (Err e) falls counts is = counts_failed e falls
+counts_ended end.ReadFault (Ok s) falls counts is = record {
+  never_falls = falls;
+  fault = λ e. inl counts;
+  quiet = λ fault memory write. elim is [ inl m ↦ absurd (memory m) | inr f ↦ absurd (fault f) ];
+}
+counts_ended end.Whole (Ok s) falls counts is = record {
+  never_falls = falls;
+  quiet = λ fault memory write. counts;
+  fault = λ e. absurd (elim is [ inl m ↦ (let t : status.ReadFault ≡ status.Memory = sym (ok_same (Ok s) s status.ReadFault refl e) ∙ m in cc) | inr f ↦ (let t : status.ReadFault ≡ status.Done = sym (ok_same (Ok s) s status.ReadFault refl e) ∙ f in cc) ]);
+}
+counts_ended (end.Refused refusal) (Ok s) falls counts is = record {
+  never_falls = falls;
+  quiet = λ fault memory write. counts;
+  fault = λ e. absurd (elim is [ inl m ↦ (let t : status.ReadFault ≡ status.Memory = sym (ok_same (Ok s) s status.ReadFault refl e) ∙ m in cc) | inr f ↦ (let t : status.ReadFault ≡ status.Refused = sym (ok_same (Ok s) s status.ReadFault refl e) ∙ f in cc) ]);
+}
+counts_ended end.Limit (Ok s) falls counts is = record {
+  never_falls = falls;
+  quiet = λ fault memory write. counts;
+  fault = λ e. absurd (elim is [ inl m ↦ (let t : status.ReadFault ≡ status.Memory = sym (ok_same (Ok s) s status.ReadFault refl e) ∙ m in cc) | inr f ↦ (let t : status.ReadFault ≡ status.Limit = sym (ok_same (Ok s) s status.ReadFault refl e) ∙ f in cc) ]);
+}
+
+pub unopened_other : {h h' : Option (List ℕ)} {w w' : List ℕ} {f f' : ℕ} {result : Result Status Failed} (fault : OpenFault) (other : Status) → status.Memory ≢ other → status.ReadFault ≢ other → EndsUnopened fault h h' w w' f f' result → result ≡ Ok other → ⊥
+unopened_other {result = result} fault other no_memory no_fault ends e =
+    elim (memory_or fault) [
+      | inl is ↦ no_memory (ok_same result status.Memory other (ends.memory is).0 e)
+      | inr opened ↦ by_fault result (ends.other opened).status e
+    ] where
+      by_fault : (r : Result Status Failed) → IfOk r (λ s. s ≡ status.ReadFault) → r ≡ Ok other → ⊥
+      by_fault (Ok s) is e = no_fault (sym is ∙ ok_same (Ok s) s other refl e)
+      by_fault (Err x) is e = absurd cc
+
+pub unopened_writes : {h h' : Option (List ℕ)} {w w' : List ℕ} {f f' : ℕ} {result : Result Status Failed} (fault : OpenFault) → EndsUnopened fault h h' w w' f f' result → result ≡ Ok status.WriteFault → ⊥
+unopened_writes fault ends e = unopened_other fault status.WriteFault (λ t. cc) (λ t. cc) ends e
+
+pub unopened_words : {h h' : Option (List ℕ)} {w w' : List ℕ} {f f' : ℕ} {result : Result Status Failed} (fault : OpenFault) → EndsUnopened fault h h' w w' f f' result → result ≡ Ok status.Words → ⊥
+unopened_words fault ends e = unopened_other fault status.Words (λ t. cc) (λ t. cc) ends e
+
+-- ---- failures, whatever was to be answered
+
+pub tells_err : {Outcome : Status → List ℕ → Type 0} {before now : Option (List ℕ)} {result : Result Status Failed} {e : Failed} → IsErr result → Tells Outcome before now (Err e) → Tells Outcome before now result
+tells_err {result = Ok s} err tells = absurd cc
+tells_err {result = Err e'} err tells = record { ended = tells.ended; text = tells.text; outcome = tells.outcome; whole = tt; part = tells.part }
+
+pub counts_err : {before after : ℕ} {names : List (List ℕ)} {files : Option Files} (result : Result Status Failed) → IsErr result → before ≤ after → CountsReading names files before after result
+counts_err (Ok s) err falls = absurd cc
+counts_err (Err e) err falls = counts_failed e falls
+
+pub err_is_no : (result : Result Status Failed) (s : Status) → IsErr result → result ≡ Ok s → ⊥
+err_is_no (Ok r) s err e = absurd cc
+err_is_no (Err f) s err e = absurd cc

@@ -1,0 +1,135 @@
+-- The run of `talk`, over an input that was opened or not.
+use Rattle.std.proofs.Common.{◌≡◌, ◌≢◌, ℕ, suc, List, [], ◌∷◌, ◌++◌, take, Option, Some, None, Result, Ok, Err, inl, refl, sym, ap, subst, ◌∙◌, append_assoc, arith}
+use Rattle.std.specs.Prelude.{IfOk, IsErrOf, IsSome}
+use Rattle.avtp_base.specs.declared.failed.Failed.{Failed}
+use Rattle.avtp_base.specs.declared.failed.OpenFault.{OpenFault}
+use Rattle.avtp_base.specs.declared.failed.OpenFault.TheVariants as open_fault
+use Rattle.avtp_base.specs.Faults.{Rose}
+use Rattle.avtp_base.specs.Files.{Files, Slots, IsMissing, KeepsFiles, KeepsSlots, name_in}
+use Rattle.capture_io.specs.declared.contents.Contents.{Contents}
+use Rattle.capture_io.specs.declared.end.Stop.{Stop}
+use Rattle.capture_io.specs.declared.end.Stop.TheVariants as stop
+use Rattle.capture_io.specs.Contents.{IsContents, IsReadCounted}
+use Rattle.capture_io.specs.Ends.{CountsStop}
+use Rattle.capture_io.specs.Reads.{OnlyReads}
+use Rattle.capture_io.specs.Writing.{KeepsSlotsBut}
+use Rattle.talker.specs.Frames.{capture}
+use Rattle.talker.specs.Talking.{most_input}
+use Rattle.avtp_text.specs.Written.{written}
+use Rattle.avtp_words.specs.Grammar.{talk, Talking}
+use Rattle.avtp_tool.specs.declared.status.Status.{Status}
+use Rattle.avtp_tool.specs.declared.status.Status.TheVariants as status
+use Rattle.avtp_tool.specs.Made.{CountsWriting, KeepsFilesBut, Makes}
+use Rattle.avtp_tool.specs.Outcome.{AsksFor, EndsUnopened, Tells}
+use Rattle.avtp_tool.specs.Run.{MakesFrom, Runs}
+use Rattle.avtp_tool.specs.Talk.{FaultStops, TalkedOutcome, TalkOutcome, talk_plan, talk_report, talk_status, WritesOnly}
+use Rattle.avtp_tool.proofs.Complete.{talk_here}
+use Rattle.avtp_tool.proofs.Making.{makes_after, makes_none}
+use Rattle.avtp_tool.proofs.Outcomes.{counts_unopened, tells_unopened, unopened_other, unopened_words, unopened_writes}
+use Rattle.avtp_tool.proofs.Talked.{read_counted, talks_unopened, tells_caused}
+
+-- ---- an input that was not opened
+
+kept_but : (f g : Option Files) (name : List ℕ) → KeepsFiles f g → KeepsFilesBut (Some name) f g
+kept_but None None name keeps = tt
+kept_but None (Some g) name keeps = absurd keeps
+kept_but (Some f) None name keeps = tt
+kept_but (Some f) (Some g) name keeps = λ other differs. keeps other
+
+slots_but : (files : Option Files) (s t : Slots) (name : List ℕ) → KeepsSlots s t → KeepsSlotsBut files s t name
+slots_but files s t name keeps = record { same = λ j. rw (keeps j) refl; left = λ told j differs. rw (keeps j) refl }
+
+made_none : (asked : Talking) (told : Option (List ℕ)) (f g : Option Files) (result : Result Status Failed) → KeepsFiles f g → (result ≡ Ok status.Done → ⊥) → MakesFrom asked told f g result
+made_none asked None f g result keeps never = keeps
+made_none asked (Some bytes) f g result keeps never = makes_after keeps (makes_none g result never)
+
+pub unopened_runs : {f g : Option Files} {s t : Slots} {r q w x : ℕ} {a b : List (List ℕ) → Type 0} {h h' : Option (List ℕ)} {l l' : List ℕ} {n n' : ℕ} {result : Result Status Failed} (asked : Talking) (why : OpenFault)
+    → (IsErrOf {T = Contents} (Err why) open_fault.Missing → IsMissing f asked.input) → IsReadCounted r q (Err why) → OnlyReads f g s t r q w x a b (asked.input ∷ []) → EndsUnopened why h h' l l' n n' result
+    → Runs (talk asked) f g s t r q w x a b (written h l) (written h' l') result
+unopened_runs {f} {g} {s} {t} {r} {q} {w} {x} {a} {b} {h} {h'} {l} {l'} {n} {n'} {result} asked why missing counts keeps ends =
+    let plan = talk_plan asked in
+    let not_done = unopened_other why status.Done (λ e. cc) (λ e. cc) ends in
+    let not_failed = unopened_writes why ends in
+    record {
+      tells = λ all told some.
+          tells_unopened {T = Contents} {Outcome = TalkOutcome plan (all asked.input) (Rose r q)} why r q f asked.input (talk_status plan (all asked.input)) (talk_report plan (all asked.input)) (talk_here plan (all asked.input) (Rose r q))
+          (λ cause. talks_unopened plan r q f asked.input all told cause) (read_counted counts) missing ends;
+      makes = λ all told. made_none asked (all asked.input) f g result keeps.files not_done;
+      files = kept_but f g asked.output keeps.files;
+      slots = slots_but g s t asked.output keeps.slots;
+      counts = counts_unopened {T = Contents} why r q f asked.input (read_counted counts) missing ends;
+      writing = record { never_falls = omega (arith, keeps.writing); failed = λ e. absurd (not_failed e); other = λ e. keeps.writing; unwritten = λ e. absurd cc };
+      no_words = unopened_words why ends;
+      asks = record { count = 1; within = omega arith; all = λ e. absurd (not_done e); asked = keeps.asked };
+    }
+
+-- ---- an input that was read
+
+files_from : (f g k : Option Files) (name : List ℕ) → KeepsFiles f g → KeepsFilesBut (Some name) g k → KeepsFilesBut (Some name) f k
+files_from None None None name first second = tt
+files_from None None (Some k) name first second = absurd second
+files_from None (Some g) k name first second = absurd first
+files_from (Some f) g None name first second = tt
+files_from (Some f) None (Some k) name first second = absurd second
+files_from (Some f) (Some g) (Some k) name first second = λ other differs. second other differs ∙ first other
+
+told_before : (g k : Option Files) (name : List ℕ) → KeepsFilesBut (Some name) g k → IsSome k → IsSome g
+told_before None None name keeps some = some
+told_before None (Some k) name keeps some = absurd keeps
+told_before (Some g) k name keeps some = refl
+
+slots_from : (g k : Option Files) (s t u : Slots) (name : List ℕ) → KeepsFilesBut (Some name) g k → KeepsSlots s t → KeepsSlotsBut g t u name → KeepsSlotsBut k s u name
+slots_from g k s t u name files first second = record {
+  same = λ j. second.same j ∙ (rw (first j) refl);
+  left = λ told j differs. second.left (told_before g k name files told) j (λ (e : name_in t j ≡ Some name). differs (rw (first j) at e)) ∙ (rw (first j) refl);
+}
+
+asks_from : {a b c : List (List ℕ) → Type 0} {done : Type 0} (input output : List ℕ) → ((names : List (List ℕ)) → a names → b (names ++ input ∷ [])) → AsksFor (output ∷ []) b c done → AsksFor (input ∷ output ∷ []) a c done
+asks_from {c = c} input output first second = record {
+  count = suc second.count;
+  within = omega (arith, second.within);
+  all = λ done. ap suc (second.all done);
+  asked = λ before stands. subst c (append_assoc before (input ∷ []) (take second.count (output ∷ []))) (second.asked (before ++ input ∷ []) (first before stands));
+}
+
+rose_by : (halt : Stop) (before after : ℕ) → CountsStop (Some halt) before after → halt ≡ stop.Fault → Rose before after
+rose_by halt before after counts is = subst (λ (x : Stop). CountsStop (Some x) before after) is counts
+
+still_by : (halt : Stop) (before after : ℕ) → CountsStop (Some halt) before after → halt ≢ stop.Fault → after ≡ before
+still_by stop.Fault before after counts other = absurd (other refl)
+still_by stop.End before after counts other = counts
+still_by stop.Limit before after counts other = counts
+
+quiet_by : (halt : Stop) (result : Result Status Failed) (before after : ℕ) → CountsStop (Some halt) before after → IfOk result (λ s. s ≢ status.ReadFault → s ≢ status.Memory → s ≢ status.WriteFault → halt ≢ stop.Fault)
+    → IfOk result (λ s. s ≢ status.ReadFault → s ≢ status.Memory → s ≢ status.WriteFault → after ≡ before)
+quiet_by halt (Ok s) before after counts quiet = λ fault memory write. still_by halt before after counts (quiet fault memory write)
+quiet_by halt (Err e) before after counts quiet = tt
+
+-- what was read of the input, where the files are told
+abbrev pub IsInput : Option Files → List ℕ → Contents → Type 0
+IsInput files name contents = (all : Files) → files ≡ Some all → (bytes : List ℕ) × (all name ≡ Some bytes) × IsContents most_input bytes contents.stop contents.bytes.items
+
+made_from : (asked : Talking) (told : Option (List ℕ)) (bytes : List ℕ) (f g k : Option Files) (result : Result Status Failed) → told ≡ Some bytes → KeepsFiles f g → Makes asked.output (capture (talk_plan asked) bytes) g k result → MakesFrom asked told f k result
+made_from asked told bytes f g k result is keeps makes = subst (λ (t : Option (List ℕ)). MakesFrom asked t f k result) (sym is) (makes_after keeps makes)
+
+pub opened_runs : {f g k : Option Files} {s t u : Slots} {r q q' w x x' : ℕ} {a b c : List (List ℕ) → Type 0} {before now : Option (List ℕ)} {result : Result Status Failed} (asked : Talking) (contents : Contents)
+    → IsInput f asked.input contents → CountsStop (Some contents.stop) r q → OnlyReads f g s t r q w x a b (asked.input ∷ [])
+    → ((bytes : List ℕ) → IsContents most_input bytes contents.stop contents.bytes.items → Tells (TalkedOutcome (talk_plan asked) bytes (contents.stop ≡ stop.Fault)) before now result)
+    → ((bytes : List ℕ) → IsContents most_input bytes contents.stop contents.bytes.items → Makes asked.output (capture (talk_plan asked) bytes) g k result)
+    → WritesOnly g k t u q q' x x' b c asked.output result → FaultStops contents.stop result → Runs (talk asked) f k s u r q' w x' a c before now result
+opened_runs {f} {g} {k} {s} {t} {u} {r} {q} {q'} {w} {x} {x'} {a} {b} {c} {before} {now} {result} asked contents read counted keeps tells makes writes stops =
+    let plan = talk_plan asked in
+    let counts : CountsStop (Some contents.stop) r q' = subst (λ (n : ℕ). CountsStop (Some contents.stop) r n) (sym writes.reading) counted in
+    record {
+      tells = λ all told some.
+          let input = read all told in
+          subst (λ (v : Option (List ℕ)). Tells (TalkOutcome plan v (Rose r q')) before now result) (sym input.1)
+          (tells_caused plan input.0 (contents.stop ≡ stop.Fault) (Rose r q') (rose_by contents.stop r q' counts) (tells input.0 input.2));
+      makes = λ all told. let input = read all told in made_from asked (all asked.input) input.0 f g k result input.1 keeps.files (makes input.0 input.2);
+      files = files_from f g k asked.output keeps.files writes.files;
+      slots = slots_from g k s t u asked.output writes.files keeps.slots writes.slots;
+      counts = record { never_falls = omega (arith, keeps.reading, writes.reading); fault = λ e. inl (rose_by contents.stop r q' counts (stops.fault e)); quiet = quiet_by contents.stop result r q' counts stops.quiet };
+      writing = subst (λ (n : ℕ). CountsWriting (Some asked.output) n x' result) keeps.writing writes.writing;
+      no_words = stops.no_words;
+      asks = asks_from asked.input asked.output keeps.asked writes.asked;
+    }

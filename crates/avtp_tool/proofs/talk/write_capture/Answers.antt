@@ -1,0 +1,55 @@
+use Rattle.std.proofs.Common.{ℕ, List, [], refl, ap, subst, ◌∙◌}
+use Rattle.capture_io.specs.Writing.{IsWriting, WritesSlot}
+use Rattle.capture_io.proofs.Making.{writes_then}
+use Rattle.talker.specs.Frames.{capture}
+use Rattle.avtp_tool.proofs.Making.{wrote_part, wrote_to_end}
+use Rattle.avtp_tool.proofs.Sending.{last_frame, next_frame, sent_all, sent_fewer, sent_more, sent_rest}
+use Rattle.avtp_tool.proofs.talk.write_capture.Goals as goal
+
+pub returns-in_err-add-clause-written : goal.returns-in_err-add-clause-written
+returns-in_err-add-clause-written g c = λ files slots reading name making.
+    let all : List ℕ = capture c.args.talker.now.plan c.args.talker.now.input in
+    wrote_part all [] all c.from_residual.result c.from_residual.ensures.0 refl (c.in_err-add.ensures.kept files slots reading name [] making)
+
+pub loop-sent-smaller : goal.loop-sent-smaller
+loop-sent-smaller g c =
+    let before = c.loop-sent.invariant in
+    let on = c.next.follows.holds-at-none in
+    let plan = c.args.talker.now.plan in
+    let input : List ℕ = c.args.talker.now.input in
+    let frame = next_frame c.next.result c.loop-sent.talker plan input c.in-Some.sent before.plan before.input c.next.ensures.frame c.in-Some.is in
+    sent_fewer plan input c.loop-sent.talker.given c.next.follows.lender-at-none.given _ frame (ap (λ (t : _). t.given) on ∙ (rw (before.plan, before.input) refl))
+
+pub loop-sent-preserved : goal.loop-sent-preserved
+loop-sent-preserved g c =
+    let before = c.loop-sent.invariant in
+    let added = c.in_ok-add-2.ensures in
+    let on = c.next.follows.holds-at-none in
+    let plan = c.args.talker.now.plan in
+    let input : List ℕ = c.args.talker.now.input in
+    let frame = next_frame c.next.result c.loop-sent.talker plan input c.in-Some.sent before.plan before.input c.next.ensures.frame c.in-Some.is in
+    let more = sent_more plan input c.loop-sent.talker.given c.next.follows.lender-at-none.given _ frame (ap (λ (t : _). t.given) on ∙ (rw (before.plan, before.input) refl)) in
+    record {
+      room = c.put_record-size.auto.room ∙ before.room;
+      plan = ap (λ (t : _). t.plan) on ∙ before.plan;
+      input = ap (λ (t : _). t.input) on ∙ before.input;
+      slot = added.slot ∙ before.slot;
+      put = λ files slots reading name making.
+          subst (IsWriting files _ slots _ reading _ c.add-in-Some.new.self name) (rw c.put_record-size.ensures.text more) (added.added files slots reading name _ (before.put files slots reading name making));
+      writes = writes_then _ _ _ _ _ _ _ _ _ _ before.writes (subst (WritesSlot _ _ _ _ _ _) before.slot added.writes);
+      writing = added.counted.ok ∙ before.writing;
+    }
+
+pub returns-in_err-add-2-clause-written : goal.returns-in_err-add-2-clause-written
+returns-in_err-add-2-clause-written g c = λ files slots reading name making.
+    let plan = c.args.talker.now.plan in
+    let input : List ℕ = c.args.talker.now.input in
+    wrote_part _ _ _ c.from_residual-in_err-add-2.result c.from_residual-in_err-add-2.ensures.0 (sent_rest plan input c.loop-sent.talker.given) (c.in_err-add-2.ensures.kept files slots reading name _ (c.loop-sent.invariant.put files slots reading name making))
+
+pub returns-clause-written : goal.returns-clause-written
+returns-clause-written g c = λ files slots reading name making.
+    let plan = c.args.talker.now.plan in
+    let input : List ℕ = c.args.talker.now.input in
+    let before = c.loop-sent.invariant in
+    let all = sent_all plan input c.loop-sent.talker.given (last_frame c.next.result c.loop-sent.talker plan input before.plan before.input c.next.ensures.frame c.in_default.not-Some) in
+    wrote_to_end _ _ _ all (before.put files slots reading name making)

@@ -1,0 +1,117 @@
+-- What a command's run may come to: the status that it ends with and the text that it prints; and how much of that stands
+-- where it is cut short.
+use Rattle.std.specs.Prelude.{◌≡◌, ◌≢◌, ◌⊎◌, ℕ, ◌≤◌, List, [], ◌∷◌, ◌++◌, length, take, Option, Some, None, Result, Ok, IfOk, if◌then◌else◌, Bool, true, false, Contains, IsErr, MatchResult}
+use Rattle.avtp_base.specs.declared.failed.Failed.{Failed}
+use Rattle.avtp_base.specs.declared.failed.OpenFault.{OpenFault}
+use Rattle.avtp_base.specs.declared.failed.OpenFault.TheVariants as open_fault
+use Rattle.avtp_text.specs.Notices.{read_fault_line}
+use Rattle.avtp_base.specs.Faults.{IsCounted, Rose}
+use Rattle.avtp_base.specs.Files.{Files, IsMissing}
+use Rattle.avtp_base.specs.Told.{Appends, Keeps}
+use Rattle.avtp_text.specs.Written.{AppendsPrefix, Grows, written}
+use Rattle.capture_io.specs.declared.end.End.{End}
+use Rattle.capture_io.specs.declared.end.End.TheVariants as end
+use Rattle.capture_io.specs.Ends.{end_of}
+use Rattle.avtp_tool.specs.declared.status.Status.{Status}
+use Rattle.avtp_tool.specs.declared.status.Status.TheVariants as status
+
+-- ---- a file, where no fault of reading comes
+
+-- How the reading ends of a file that a shelf tells so. One that is missing counts as a fault of reading before its first
+-- byte.
+abbrev pub end_told : ℕ → Option (List ℕ) → End
+end_told limit None = end.ReadFault
+end_told limit (Some bytes) = end_of limit bytes
+
+-- the bytes of it that are read
+abbrev pub read_told : ℕ → Option (List ℕ) → List ℕ
+read_told limit None = []
+read_told limit (Some bytes) = take limit bytes
+
+-- ---- files in order
+
+abbrev pub is_done : Status → Bool
+is_done status.Done = true
+is_done ended = false
+
+-- Files are read in order, each to its end, up to the first that ends otherwise and with it the run. `One` says of a file
+-- of a name with which status and which text it can end.
+unfoldable pub InOrder : (List ℕ → Status → List ℕ → Type 0) → List (List ℕ) → Status → List ℕ → Type 0
+InOrder One [] ended text = (ended ≡ status.Done) × (text ≡ [])
+InOrder One (name ∷ names) ended text =
+    ((ended ≢ status.Done) × One name ended text)
+    ⊎ ((first : List ℕ) × (rest : List ℕ) × One name status.Done first × InOrder One names ended rest × (text ≡ first ++ rest))
+
+-- the same as functions, where the status and the text of a file are functions of its name
+unfoldable pub in_order_status : (List ℕ → Status) → List (List ℕ) → Status
+in_order_status one [] = status.Done
+in_order_status one (name ∷ names) = if is_done (one name) then in_order_status one names else one name
+
+unfoldable pub in_order_text : (List ℕ → Status) → (List ℕ → List ℕ) → List (List ℕ) → List ℕ
+in_order_text one text [] = []
+in_order_text one text (name ∷ names) = text name ++ (if is_done (one name) then in_order_text one text names else [])
+
+-- ---- what a run left
+
+-- Known bytes grew from `before` to `now` by the text of one of the outcomes that there can be. Where the run ended with a
+-- status of its own, it is the outcome's, and the text is whole; where memory or a write failed, a prefix of it stands.
+pub record Tells (Outcome : Status → List ℕ → Type 0) (before now : Option (List ℕ)) (result : Result Status Failed) : Type 0 where
+  pub ended : Status
+  pub text : List ℕ
+  pub outcome : Outcome ended text
+  pub whole : IfOk result (λ s. s ≢ status.Memory → s ≢ status.WriteFault → (s ≡ ended) × Appends before now text)
+  pub part : AppendsPrefix before now text
+
+-- one outcome and no other
+abbrev pub Only : Status → List ℕ → Status → List ℕ → Type 0
+Only ended text e t = (e ≡ ended) × (t ≡ text)
+
+-- What the sink held stays, and a failure is the sink's.
+pub record KeepsSink {T : Type 0} (held held' : Option (List ℕ)) (faults faults' : ℕ) (result : Result T Failed) : Type 0 where
+  pub grows : Grows held held'
+  pub counted : IsCounted faults faults' result
+
+-- The last line of a run was printed whole, and it ends with this status; or the sink failed, and nothing of it was.
+pub record EndsWith (ended : Status) (held held' : Option (List ℕ)) (waits waits' : List ℕ) (faults faults' : ℕ) (result : Result Status Failed) (line : List ℕ) : Type 0 where
+  pub status : IfOk result (λ s. s ≡ ended)
+  pub written : MatchResult result (λ _. Appends (written held waits) (written held' waits') line) (λ _. Keeps (written held waits) (written held' waits'))
+  pub sink : KeepsSink held held' faults faults' result
+
+-- A run ends since a file could not be opened: for want of memory with that status and nothing printed, and else with the
+-- line that says so.
+pub record EndsUnopened (fault : OpenFault) (held held' : Option (List ℕ)) (waits waits' : List ℕ) (faults faults' : ℕ) (result : Result Status Failed) : Type 0 where
+  pub memory : fault ≡ open_fault.Memory → (result ≡ Ok status.Memory) × Keeps (written held waits) (written held' waits')
+  pub other : fault ≢ open_fault.Memory → EndsWith status.ReadFault held held' waits waits' faults faults' result read_fault_line
+  pub sink : KeepsSink held held' faults faults' result
+
+-- The text that waited was written, and the run ends with this status: that with which it had ended, where the sink took all;
+-- and else with that of a failed write. What the sink held stays, and it has all that was written, or a prefix of it.
+pub record Finishes (held held' : Option (List ℕ)) (waits waits' : List ℕ) (faults faults' : ℕ) (ended : Result Status Failed) (result : Status) : Type 0 where
+  pub whole : result ≢ status.WriteFault → (ended ≡ Ok result) × (waits' ≡ [])
+  pub kept : Keeps (written held waits) (written held' waits')
+  pub grows : Grows held held'
+  pub never_falls : faults ≤ faults'
+  pub fault : result ≡ status.WriteFault → IsErr ended ⊎ ((ended ≡ Ok status.WriteFault) ⊎ Rose faults faults')
+  pub quiet : result ≢ status.WriteFault → faults' ≡ faults
+
+-- ---- reading faults, and names
+
+-- the shelf tells that one of these files is missing
+pub record IsOneMissing (names : List (List ℕ)) (files : Option Files) : Type 0 where
+  pub name : List ℕ
+  pub one : Contains names name
+  pub missing : IsMissing files name
+
+-- A run that reads some of these files ended so. It is a fault of reading only where the count of these rose or the shelf
+-- tells that one of the files is missing; where it ended otherwise, and was not cut short, the count is as it was.
+pub record CountsReading (names : List (List ℕ)) (files : Option Files) (before after : ℕ) (result : Result Status Failed) : Type 0 where
+  pub never_falls : before ≤ after
+  pub fault : result ≡ Ok status.ReadFault → Rose before after ⊎ IsOneMissing names files
+  pub quiet : IfOk result (λ s. s ≢ status.ReadFault → s ≢ status.Memory → s ≢ status.WriteFault → after ≡ before)
+
+-- A shelf was asked for the first of these names, in their order, and for no other; for all of them where all was done.
+pub record AsksFor (names : List (List ℕ)) (old_asked new_asked : List (List ℕ) → Type 0) (done : Type 0) : Type 0 where
+  pub count : ℕ
+  pub within : count ≤ length names
+  pub all : done → count ≡ length names
+  pub asked : (before : List (List ℕ)) → old_asked before → new_asked (before ++ take count names)

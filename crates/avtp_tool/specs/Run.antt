@@ -1,0 +1,82 @@
+-- What a run comes to, whichever command the words ask for.
+use Rattle.std.specs.Prelude.{◌≡◌, ◌≢◌, ◌⊎◌, ℕ, ◌^◌, ◌≤◌, List, ◌++◌, option_to_list, Option, Some, None, IsSome, Result, Ok}
+use Rattle.avtp_base.specs.declared.failed.Failed.{Failed}
+use Rattle.avtp_base.specs.Faults.{Rose}
+use Rattle.avtp_base.specs.Files.{Files, Slots, KeepsFiles}
+use Rattle.talker.specs.Frames.{capture}
+use Rattle.talker.specs.Plan.{IsPlan}
+use Rattle.avtp_words.specs.Grammar.{files_of, IsCommandLine, IsOffence, output_of, Request, show, listen, talk, Listening, Talking}
+use Rattle.avtp_tool.specs.declared.status.Status.{Status}
+use Rattle.avtp_tool.specs.declared.status.Status.TheVariants as status
+use Rattle.avtp_tool.specs.Listen.{ListenOutcome, listen_report, listen_status}
+use Rattle.avtp_tool.specs.Made.{CountsWriting, KeepsFilesBut, KeepsSlotsFor, Makes}
+use Rattle.avtp_tool.specs.Outcome.{AsksFor, CountsReading, Tells}
+use Rattle.avtp_tool.specs.Show.{ShowOutcome, show_report, show_status}
+use Rattle.avtp_tool.specs.Talk.{TalkOutcome, talk_plan, talk_report, talk_status}
+
+-- over the files that a shelf tells so, it can end with this status and print this text; what a fault of reading needs is
+-- `fault`
+abbrev pub Outcome : Request → Files → Type 0 → Status → List ℕ → Type 0
+Outcome (show limit file) files fault ended text = ShowOutcome limit (files file) fault ended text
+Outcome (listen asked) files fault ended text = ListenOutcome asked files fault ended text
+Outcome (talk asked) files fault ended text = TalkOutcome (talk_plan asked) (files asked.input) fault ended text
+
+-- ---- where no fault of reading comes
+
+-- the status
+abbrev pub status_for : Request → Files → Status
+status_for (show limit file) files = show_status limit (files file)
+status_for (listen asked) files = listen_status files asked.files
+status_for (talk asked) files = talk_status (talk_plan asked) (files asked.input)
+
+-- the whole text
+abbrev pub report_for : Request → Files → List ℕ
+report_for (show limit file) files = show_report limit (files file)
+report_for (listen asked) files = listen_report asked files asked.files
+report_for (talk asked) files = talk_report (talk_plan asked) (files asked.input)
+
+-- ---- what it does beside
+
+-- the names that it asks a shelf for: of the files that are read, in order, and then of the one that is written
+abbrev pub names_of : Request → List (List ℕ)
+names_of request = files_of request ++ option_to_list (output_of request)
+
+abbrev pub MakesFrom : Talking → Option (List ℕ) → Option Files → Option Files → Result Status Failed → Type 0
+MakesFrom asked None files files' result = KeepsFiles files files'
+MakesFrom asked (Some input) files files' result = Makes asked.output (capture (talk_plan asked) input) files files' result
+
+-- What it makes of the files: `talk` the capture of its input, where it has one.
+abbrev pub MakesOf : Request → Files → Option Files → Option Files → Result Status Failed → Type 0
+MakesOf (show limit file) all files files' result = KeepsFiles files files'
+MakesOf (listen asked) all files files' result = KeepsFiles files files'
+MakesOf (talk asked) all files files' result = MakesFrom asked (all asked.input) files files' result
+
+-- A run of the request left this: of the text, of the files and slots, of the counts of faults, and of the names that were
+-- asked for.
+pub record Runs (request : Request) (old_files new_files : Option Files) (old_slots new_slots : Slots) (old_reading new_reading old_writing new_writing : ℕ) (old_asked new_asked : List (List ℕ) → Type 0) (before now : Option (List ℕ)) (result : Result Status Failed) : Type 0 where
+  pub tells : (all : Files) → old_files ≡ Some all → IsSome new_files → Tells (Outcome request all (Rose old_reading new_reading)) before now result
+  pub makes : (all : Files) → old_files ≡ Some all → MakesOf request all old_files new_files result
+  pub files : KeepsFilesBut (output_of request) old_files new_files
+  pub slots : KeepsSlotsFor (output_of request) new_files old_slots new_slots
+  pub counts : CountsReading (files_of request) old_files old_reading new_reading result
+  pub writing : CountsWriting (output_of request) old_writing new_writing result
+  pub no_words : result ≢ Ok status.Words
+  pub asks : AsksFor (names_of request) old_asked new_asked (result ≡ Ok status.Done)
+
+-- the words are a command line, or have an offence
+abbrev pub IsAsked : List (List ℕ) → Type 0
+IsAsked words = ((request : Request) × IsCommandLine words request) ⊎ ((position : ℕ) × IsOffence words position)
+
+-- ---- what the words keep within bounds
+
+pub record IsListening (asked : Listening) : Type 0 where
+  pub some_buffer : 1 ≤ asked.buffer
+  pub buffer : asked.buffer ≤ 65536
+  pub some_room : 1 ≤ asked.room
+  pub room : asked.room ≤ 2 ^ 30
+  pub lead : asked.lead ≤ 1000000000
+
+abbrev pub IsRequest : Request → Type 0
+IsRequest (show limit file) = limit ≤ 2 ^ 40
+IsRequest (listen asked) = IsListening asked
+IsRequest (talk asked) = IsPlan (talk_plan asked)
