@@ -7,7 +7,7 @@ mod aaf;
 mod pcap;
 mod text;
 
-use aaf::{HEADER, RATES, read_aaf};
+use aaf::{HEADER, RATES, check_header, read_aaf};
 use pcap::{read_frame, read_records, u16_at};
 use std::collections::VecDeque;
 use std::env;
@@ -227,7 +227,7 @@ impl Listener {
             return None;
         };
         let pdu = &frame[start..];
-        let is_wanted = pdu.len() >= 12 && pdu[0] == 2 && pdu[1] & 0x80 != 0 && pdu[4..12] == self.stream;
+        let is_wanted = pdu.len() >= 12 && matches!(pdu[0], 0 | 2) && pdu[1] & 0x80 != 0 && pdu[4..12] == self.stream;
         is_wanted.then_some(pdu)
     }
 
@@ -267,6 +267,11 @@ impl Listener {
     /// Keeps the samples of the packet until their instant, or tells why not.
     #[inline(always)]
     fn judge(&mut self, frame: u64, arrival: i64, pdu: &[u8]) -> Result<(), Reason> {
+        if pdu[0] == 0 {
+            // No packet of the capture is one of IEC 61883: one whose subtype was damaged into that has another tag.
+            check_header(pdu).map_err(|refusal| Reason("malformed ", refusal.0))?;
+            return Err(Reason("malformed ", "tag"));
+        }
         let (_, size, rate) = read_aaf(pdu).map_err(|refusal| Reason("malformed ", refusal.0))?;
         let len = usize::from(u16_at(pdu, 20));
         if pdu[3] & 1 != 0 {
