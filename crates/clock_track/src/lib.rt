@@ -7,6 +7,7 @@ mod clock_row;
 pub mod laws;
 mod over;
 mod pair;
+mod pull;
 mod search;
 
 pub use answer::ClockAnswer;
@@ -14,6 +15,7 @@ pub use clock::Clock;
 pub use clock_row::{ClockRow, Points};
 pub use over::line_over;
 pub use pair::Pair;
+pub use pull::{pull_down, pull_up};
 
 #[cfg(test)]
 mod tests;

@@ -5,13 +5,14 @@ ghost use Rattle.std.specs.List.{filter_map, range_with_len};
 ghost use Rattle.time_unfold.specs.Stamps.{find_last};
 ghost use Rattle.clock_track.specs.declared.clock_row.ClockRow.{ClockRow as ClockRowValue};
 ghost use Rattle.clock_track.specs.Limits.{IsNotable, IsRow, IsShift, IsSmall};
-ghost use Rattle.clock_track.specs.Pairs.{IsJoined, pull_down as pull_down_of, pull_up as pull_up_of};
+ghost use Rattle.clock_track.specs.Pairs.{IsJoined};
 ghost use Rattle.clock_track.specs.Rows.{across as across_rows, inside as inside_row, joined_by, latest as latest_of, pair_of as pair_of_rows, pairs_at, seems_next as seems_next_of, timestamp as timestamp_of, timestamps as timestamps_of, used};
 ghost use Rattle.clock_track.specs.Search.{IsCovering, kept, test_of};
 ghost use Rattle.clock_track.specs.Views.{row_of};
 
 use crate::clock_row::Points;
 use crate::pair::Pair;
+use crate::pull::{pull_down, pull_up};
 use avtp_base::octets::u64_at;
 
 /// Timestamps from here on are no points.
@@ -36,35 +37,6 @@ pub trait Rows {
     fn row(&self, place: usize) -> Points<'_>
         requires { place < length (rows self.now) }
         ensures { slice_get (rows self.now) place ≡ Some (row_of result) };
-}
-
-fn pull_up(pull: u8) -> u64
-    ensures value { result ≡ pull_up_of pull }
-    ensures some { 1 ≤ result }
-    ensures most { result ≤ 1001 }
-{
-    match pull {
-        1 => 1000,
-        2 => 1001,
-        3 => 24,
-        4 => 25,
-        _ => 1,
-    }
-}
-
-fn pull_down(pull: u8) -> u64
-    ensures value { result ≡ pull_down_of pull }
-    ensures some { 1 ≤ result }
-    ensures most { result ≤ 1001 }
-{
-    match pull {
-        1 => 1001,
-        2 => 1000,
-        3 => 25,
-        4 => 24,
-        5 => 8,
-        _ => 1,
-    }
 }
 
 fn timestamps(row: &Points<'_>) -> usize

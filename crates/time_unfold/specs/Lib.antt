@@ -3,3 +3,4 @@ pub mod Lines
 pub mod Heads
 pub mod Stamps
 pub mod Limits
+pub mod Anchors

@@ -1,8 +1,8 @@
 //! The stamp from which a packet is counted that has none of its own.
 
-ghost use Rattle.std.specs.Prelude.{◌≡◌, ◌≤◌, ◌*◌, All};
+ghost use Rattle.std.specs.Prelude.{◌≡◌, ◌≤◌, ◌*◌, All, IfSome};
 ghost use Rattle.time_unfold.specs.Limits.{IsStamp, IsWant};
-ghost use Rattle.time_unfold.specs.Stamps.{IsFound, candidate as candidate_of, fits as fits_of, found, is_near as is_near_of, last_of};
+ghost use Rattle.time_unfold.specs.Stamps.{IsFound, candidate as candidate_of, find_last, fits as fits_of, found, is_near as is_near_of, last_of};
 
 use crate::line::Line;
 use crate::stamp::{Stamp, Want};
@@ -48,6 +48,23 @@ fn fits(stamp: &Stamp, want: &Want) -> bool
         && is_near(stamp, want)
 }
 
+/// The last of the stamps that fits.
+pub fn last_fit(stamps: &[Stamp], want: &Want) -> Option<Stamp>
+    requires stamps { All IsStamp stamps.now }
+    requires want { IsWant want.now }
+    ensures value { result ≡ find_last (fits_of want.now) stamps.now }
+    ensures stamp { IfSome result IsStamp }
+{
+    let mut rest = stamps;
+    while let Some((last, front)) = rest.split_last() {
+        if fits(last, want) {
+            return Some(*last);
+        }
+        rest = front;
+    }
+    None
+}
+
 /// The stamp from which a packet is counted that has none of its own: the last of the list's last `room` stamps that
 /// fits, and none exactly where none of them fits. A stamp fits that has the wanted sequence number, media clock restart
 /// bit, rate and block count, and from which the packet's first sample would be within 60 packets' time of the arrival
@@ -61,12 +78,6 @@ pub fn head_among(stamps: &[Stamp], room: u32, want: &Want) -> Option<Stamp>
     ensures value { result ≡ found room want.now stamps.now }
     ensures last { IsFound want.now (last_of room stamps.now) result }
 {
-    let mut rest = &stamps[stamps.len().saturating_sub(room as usize)..];
-    while let Some((last, front)) = rest.split_last() {
-        if fits(last, want) {
-            return Some(*last);
-        }
-        rest = front;
-    }
-    None
+    let first = stamps.len().saturating_sub(room as usize);
+    last_fit(&stamps[first..], want)
 }

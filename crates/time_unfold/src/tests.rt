@@ -1,6 +1,13 @@
-//! Instants that were worked out by hand.
+//! Instants that were worked out by hand, and stamps that are kept beside the whole list.
 
-use super::{Distance, HeadRule, Line, Stamp, Want, head_among, unfold};
+ghost use Rattle.std.specs.Prelude.{◌≤◌, ◌<◌, All, OnOk};
+ghost use Rattle.time_unfold.specs.Anchors.{IsRoom};
+ghost use Rattle.time_unfold.specs.Limits.{IsStamp, IsWant};
+
+use super::{Anchors, Distance, HeadRule, Line, Stamp, Want, head_among, unfold};
+use avtp_base::NoMemory;
+use std::alloc::Global;
+use std::process::Abort;
 
 /// Each timestamp, arrival and instant: the last nanosecond before the half circle's end and the first behind it, both
 /// ends around a wrap, and times before 0.
@@ -102,4 +109,88 @@ fn packets_lie_behind_their_stamp(rt: HostRuntime) {
         let far = behind.map(|(packets, samples)| Distance { packets, samples });
         assert_eq!(rt; rule.distance(seq, count), far);
     }
+}
+
+/// Numbers that look random.
+#[derive(Clone, Copy)]
+struct Draw {
+    state: u32,
+}
+
+impl Draw {
+    fn below(&mut self, end: u32) -> u32
+        requires { 1 ≤ end }
+        ensures { result < end }
+    {
+        self.state = self.state.wrapping_mul(1_103_515_245).wrapping_add(12_345);
+        (self.state >> 8) % end
+    }
+
+    /// One of three sequence numbers, mostly without a restart, within 20 ms.
+    fn stamp(&mut self) -> Stamp
+        ensures { IsStamp result }
+    {
+        Stamp {
+            seq: self.below(3) as u8,
+            mr: self.below(4) == 0,
+            block: None,
+            rate: 48_000,
+            instant: 1_000_000_000 + i64::from(self.below(20_000_000)),
+        }
+    }
+
+    /// 60 packets' time is 7,500,000 ns, so that not every stamp is near.
+    fn want(&mut self) -> Want
+        ensures { IsWant result }
+    {
+        Want {
+            seq: self.below(3) as u8,
+            mr: self.below(4) == 0,
+            block: None,
+            rate: 48_000,
+            arrival: 1_000_000_000 + i64::from(self.below(20_000_000)),
+            lead: 0,
+            back: self.below(43),
+            count: 6,
+        }
+    }
+}
+
+/// Notes a stamp among those that are kept and in the whole list.
+fn note(anchors: &mut Anchors, stamps: &mut Vec<Stamp>, stamp: Stamp) -> Result<(), NoMemory>
+    requires stamp { IsStamp stamp }
+    requires stamps { All IsStamp stamps.old.items }
+    ensures { OnOk result (All IsStamp stamps.new.items) }
+{
+    anchors.note(stamp);
+    stamps.push(stamp)?;
+    Ok(())
+}
+
+/// How many of 400 packets found a stamp, where each looked for one among those that are kept and in the whole list.
+fn found(rt: &impl Abort, alloc: Global, room: u32) -> Result<u32, NoMemory>
+    requires { IsRoom room }
+{
+    let mut draw = Draw { state: room };
+    let mut anchors = Anchors::new(alloc, room)?;
+    let mut stamps = Vec::new(alloc);
+    let mut found: u32 = 0;
+    for _ in 0..400 {
+        note(&mut anchors, &mut stamps, draw.stamp())?;
+        let want = draw.want();
+        let expected = head_among(stamps.as_slice(), room, &want);
+        assert_eq!(rt; anchors.find(&want), expected);
+        found = found.saturating_add(u32::from(expected.is_some()));
+    }
+    Ok(found)
+}
+
+/// With room for one stamp, for those of a listener that waits for none, and for the most.
+#[test]
+fn the_last_stamps_answer_for_the_whole_list(rt: HostRuntime) -> Result<(), NoMemory> {
+    for (room, least) in [(1, 20), (16, 200), (80, 300)] {
+        let found = found(&rt, rt.alloc(), room)?;
+        assert!(rt; found >= least, "{found} of {room}");
+    }
+    Ok(())
 }

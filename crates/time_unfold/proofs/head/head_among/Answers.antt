@@ -1,40 +1,15 @@
--- The last of what is left decides, or is left out of the search.
-use Rattle.std.proofs.Common.{◌≡◌, true, false, All, List, [], Option, sym, ap, ◌∙◌, subst}
-use Rattle.std.proofs.lemmas.List.{nil_from_length}
+-- What is looked through is the end of the list.
+use Rattle.std.proofs.Common.{◌-◌, Option, arith, length, drop, sym, subst}
+use Rattle.std.proofs.lemmas.List.{length-drop, take_all}
 use Rattle.time_unfold.specs.declared.stamp.Stamp.{Stamp}
-use Rattle.time_unfold.specs.Limits.{IsStamp}
-use Rattle.time_unfold.specs.Stamps.{IsFound, find_last, fits, last_of}
-use Rattle.time_unfold.proofs.Found.{All-front, find_last-passes, find_last-fails, find_last-found}
+use Rattle.time_unfold.specs.Stamps.{IsFound, last_of}
+use Rattle.time_unfold.proofs.Found.{find_last-found}
 use Rattle.time_unfold.proofs.head.head_among.Goals as goal
-
-pub returns-then-fits-clause-value : goal.returns-then-fits-clause-value
-returns-then-fits-clause-value c =
-    let split = c.in-Some.ensures.cases in
-    let passes : fits c.args.want.now c.in-Some.last.now ≡ true = sym c.fits.ensures ∙ c.if-fits.true in
-    sym (find_last-passes (fits c.args.want.now) c.in-Some.front.now c.in-Some.last.now passes)
-    ∙ ap (λ (l : List Stamp). find_last (fits c.args.want.now) l) (sym split.0) ∙ c.loop-last.invariant.same
-
-pub returns-then-fits-clause-last : goal.returns-then-fits-clause-last
-returns-then-fits-clause-last c =
-    let found = find_last-found c.args.want.now (last_of c.args.room c.args.stamps.now) in
-    subst (λ (r : Option Stamp). IsFound c.args.want.now (last_of c.args.room c.args.stamps.now) r) (sym (returns-then-fits-clause-value c)) found
-
-pub loop-last-preserved : goal.loop-last-preserved
-loop-last-preserved c =
-    let split = c.in-Some.ensures.cases in
-    let fails : fits c.args.want.now c.in-Some.last.now ≡ false = sym c.fits.ensures ∙ c.if-fits.false in
-    record {
-      stamps = All-front IsStamp c.in-Some.front.now c.in-Some.last.now (subst (λ (l : List Stamp). All IsStamp l) split.0 c.loop-last.invariant.stamps);
-      same = sym (find_last-fails (fits c.args.want.now) c.in-Some.front.now c.in-Some.last.now fails)
-          ∙ ap (λ (l : List Stamp). find_last (fits c.args.want.now) l) (sym split.0) ∙ c.loop-last.invariant.same;
-    }
-
-pub returns-clause-value : goal.returns-clause-value
-returns-clause-value c =
-    let none : c.loop-last.rest.now ≡ [] = nil_from_length c.loop-last.rest.now c.in_default.ensures.cases in
-    ap (λ (l : List Stamp). find_last (fits c.args.want.now) l) (sym none) ∙ c.loop-last.invariant.same
 
 pub returns-clause-last : goal.returns-clause-last
 returns-clause-last c =
-    let found = find_last-found c.args.want.now (last_of c.args.room c.args.stamps.now) in
-    subst (λ (r : Option Stamp). IsFound c.args.want.now (last_of c.args.room c.args.stamps.now) r) (sym (returns-clause-value c)) found
+    let first = c.saturating_sub-first.result in
+    let whole = take_all (length c.args.stamps.now - first) (drop first c.args.stamps.now) (let n = length-drop first c.args.stamps.now in omega arith) in
+    let value = rw (whole, c.saturating_sub-first.ensures) at c.last_fit.ensures.value in
+    subst (λ (r : Option Stamp). IsFound c.args.want.now (last_of c.args.room c.args.stamps.now) r) (sym value)
+    (find_last-found c.args.want.now (last_of c.args.room c.args.stamps.now))

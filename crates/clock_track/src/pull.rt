@@ -1,0 +1,35 @@
+//! The factor by which a clock is pulled.
+
+ghost use Rattle.std.specs.Prelude.{◌≡◌, ◌≤◌};
+ghost use Rattle.clock_track.specs.Pairs.{pull_down as pull_down_of, pull_up as pull_up_of};
+
+/// What a code of pull multiplies the base frequency of a clock by (IEEE 1722-2016, 10), over [`pull_down`].
+pub fn pull_up(pull: u8) -> u64
+    ensures value { result ≡ pull_up_of pull }
+    ensures some { 1 ≤ result }
+    ensures most { result ≤ 1001 }
+{
+    match pull {
+        1 => 1000,
+        2 => 1001,
+        3 => 24,
+        4 => 25,
+        _ => 1,
+    }
+}
+
+/// What it divides the base frequency by.
+pub fn pull_down(pull: u8) -> u64
+    ensures value { result ≡ pull_down_of pull }
+    ensures some { 1 ≤ result }
+    ensures most { result ≤ 1001 }
+{
+    match pull {
+        1 => 1001,
+        2 => 1000,
+        3 => 25,
+        4 => 24,
+        5 => 8,
+        _ => 1,
+    }
+}

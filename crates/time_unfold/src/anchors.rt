@@ -1,0 +1,68 @@
+//! The stamps from which packets are counted, of a stream that goes on.
+
+ghost use Rattle.std.specs.Prelude.{◌≡◌, ◌++◌, ◌∷◌, [], IfOk, IfSome, List};
+ghost use Rattle.time_unfold.specs.declared.stamp.Stamp.{Stamp as StampValue};
+ghost use Rattle.time_unfold.specs.Anchors.{IsRoom, KeepsLast};
+ghost use Rattle.time_unfold.specs.Limits.{IsStamp, IsWant};
+ghost use Rattle.time_unfold.specs.Stamps.{found};
+
+use crate::head::last_fit;
+use crate::stamp::{Stamp, Want};
+use avtp_base::NoMemory;
+use circular_buffer::HeapCircularBuffer;
+use std::alloc::Global;
+use std::marker::Model;
+
+/// The last stamps of a stream.
+#[derive(Drop)]
+pub struct Anchors {
+    stamps: HeapCircularBuffer<Stamp>,
+}
+
+impl Model for Anchors {
+    ghost use Rattle.std.specs.Prelude.{All};
+    ghost use Rattle.time_unfold.specs.Anchors.{IsRoom, LastStamps};
+    ghost use Rattle.time_unfold.specs.Limits.{IsStamp};
+
+    ghost Value = { LastStamps };
+
+    ghost view = { λ anchors. record { room = anchors.stamps.capacity; stamps = anchors.stamps.items } };
+
+    ghost invariant = { λ anchors. IsRoom anchors.stamps.capacity × All IsStamp anchors.stamps.items };
+}
+
+impl Anchors {
+    /// No stamps, with room for so many, 1 to 80. Reserves all the memory that they take.
+    pub fn new(alloc: Global, room: u32) -> Result<Self, NoMemory>
+        requires { IsRoom room }
+        ensures empty { IfOk result (λ anchors. KeepsLast anchors []) }
+        ensures room { IfOk result (λ anchors. anchors.room ≡ room) }
+    {
+        let stamps = HeapCircularBuffer::with_capacity(alloc, room as usize)?;
+        Ok(Anchors { stamps })
+    }
+
+    /// Notes a stamp, and drops the oldest where as many are held as there is room for. Its instant is from -2^62 to below
+    /// 2^62 + 2^31 ns. Takes no memory.
+    pub fn note(&mut self, stamp: Stamp)
+        requires { IsStamp stamp }
+        ensures noted { (stamps : List StampValue) → KeepsLast self.old stamps → KeepsLast self.new (stamps ++ stamp ∷ []) }
+        ensures room { self.new.room ≡ self.old.room }
+    {
+        self.stamps.push_back(stamp);
+    }
+
+    /// The stamp from which a packet is counted that has none of its own: what `head_among` answers for all stamps that
+    /// were noted. None comes exactly where none of those that are held fits. Takes no memory.
+    pub fn find(&self, want: &Want) -> Option<Stamp>
+        requires { IsWant want.now }
+        ensures value { (stamps : List StampValue) → KeepsLast self.now stamps → result ≡ found self.now.room want.now stamps }
+        ensures stamp { IfSome result IsStamp }
+    {
+        let (older, newer) = self.stamps.as_slices();
+        match last_fit(newer, want) {
+            Some(stamp) => Some(stamp),
+            None => last_fit(older, want),
+        }
+    }
+}
