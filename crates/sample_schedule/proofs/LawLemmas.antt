@@ -21,7 +21,7 @@ use Rattle.sample_schedule.specs.Laws.{IsBefore, IsNoCopy, Pairwise, place_of, p
 use Rattle.sample_schedule.specs.Order.{between, by_instant, due_of, left_of, put_behind, standing}
 use Rattle.sample_schedule.specs.Schedule.{Given, Presents, Flags, accepted, accepted_by, arrival_of, flag_by, given, judged, latest, now_at, step, steps, verdict_at}
 use Rattle.sample_schedule.specs.Verdicts.{Clock, decided, first_instant, is_copy, is_full, total_bytes, verdict}
-use Rattle.sample_schedule.proofs.OrderLemmas.{all-put_behind, all-weaker, lt_true, lt_false, le_true, any-by_instant, due-waiting, sum-by_instant, left-waiting, standing-standing, waiting-more}
+use Rattle.sample_schedule.proofs.OrderLemmas.{all-put_behind, all-weaker, lt_true, lt_false, le_true, any-by_instant, due-waiting, sum-by_instant, bytes-by_instant, length-by_instant, left-waiting, standing-standing, sum-put_behind, waiting-more}
 use Rattle.sample_schedule.proofs.StageLemmas.{max_above, now-next}
 
 -- ---- what a verdict says of what it accepts
@@ -74,7 +74,7 @@ take_past [] (suc n) e = refl
 take_past (y ∷ xs) zero e = absurd cc
 take_past (y ∷ xs) (suc n) e = ap (λ (l : List Entry). y ∷ l) (take_past xs n e)
 
-now-grows : (entries : List Entry) (n : ℕ) → latest (take n entries) ≤ℤ now_at entries n
+pub now-grows : (entries : List Entry) (n : ℕ) → latest (take n entries) ≤ℤ now_at entries n
 now-grows entries n = elim (slice_get entries n) as (λ e. slice_get entries n ≡ e → latest (take n entries) ≤ℤ now_at entries n) [
   | None ↦ λ e. rw (take_past entries n e) (omega (arith, ints))
   | Some x ↦ λ e. rw (now-next entries n x e) (max_above (latest (take n entries)) (arrival_of x))
@@ -92,6 +92,9 @@ bytes-more n (x ∷ xs) =
     let e = bytes-more (n + length x.batch.bytes) xs in
     let f = bytes-more (0 + length x.batch.bytes) xs in
     omega arith
+
+pub bytes-put_behind : (xs : List Accepted) (a : Accepted) → total_bytes (put_behind xs a) ≡ total_bytes xs + length a.batch.bytes
+bytes-put_behind xs a = let e = sum-put_behind (λ (b : Accepted). length b.batch.bytes) 0 xs a in let f = bytes-more (0 + length a.batch.bytes) xs in omega arith
 
 fewer : (now : ℤ) (xs : List Accepted) → length (standing now xs) ≤ length xs
 fewer now [] = omega arith
@@ -173,7 +176,7 @@ due-passed t (y ∷ ys) = by_lt_z y.instant t
     (λ h. rw (lt_true y.instant t h) (h, due-passed t ys))
     (λ h. rw (lt_false y.instant t h) tt)
 
-all-after : (P : Accepted → Type 0) (xs ys : List Accepted) → AllByRecursion P xs → AllByRecursion P ys → AllByRecursion P (xs ++ ys)
+pub all-after : (P : Accepted → Type 0) (xs ys : List Accepted) → AllByRecursion P xs → AllByRecursion P ys → AllByRecursion P (xs ++ ys)
 all-after P [] ys p q = q
 all-after P (x ∷ xs) ys p q = (p.0, all-after P xs ys p.1 q)
 
@@ -230,6 +233,25 @@ told clock plan entries (suc n) =
       early = rw (presented-step clock plan entries n) early;
       whole = rw (presented-step clock plan entries n) whole;
     }
+
+-- what was presented so far, and what waits
+pub presented-waiting : (clock : Clock) (plan : SchedulePlan) (entries : List Entry) (n : ℕ) → presented (steps clock plan entries n) ++ by_instant (standing (latest (take n entries)) (accepted clock plan entries n)) ≡ by_instant (accepted clock plan entries n)
+presented-waiting clock plan entries n = (told clock plan entries n).whole
+
+bounded-waiting-first : (clock : Clock) (plan : SchedulePlan) (entries : List Entry) → Bounded plan (by_instant (standing (latest (take zero entries)) (accepted clock plan entries zero)))
+unfolding accepted by_instant
+bounded-waiting-first clock plan entries = record { batches = omega arith; bytes = omega arith }
+
+pub bounded-waiting : (clock : Clock) (plan : SchedulePlan) (entries : List Entry) (n : ℕ) → Bounded plan (by_instant (standing (latest (take n entries)) (accepted clock plan entries n)))
+bounded-waiting clock plan entries zero = bounded-waiting-first clock plan entries
+bounded-waiting clock plan entries (suc i) =
+    let waits = waiting_at clock plan entries i in
+    let b = bounded clock plan entries i in
+    let batches = b.batches in
+    let bytes = b.bytes in
+    let l = length-by_instant waits in
+    let w = bytes-by_instant waits in
+    record { batches = omega arith; bytes = omega arith }
 
 pub accepted-presented : (clock : Clock) (plan : SchedulePlan) (entries : List Entry) → presented (given clock plan entries) ≡ by_instant (accepted clock plan entries (length entries))
 unfolding given

@@ -1,9 +1,14 @@
 pub mod Presentable
 pub mod OrderLemmas
-pub mod InOrder
 pub mod VerdictLemmas
 pub mod StageLemmas
 pub mod LawLemmas
 pub mod Judged
-pub mod StampLemmas
 pub mod CallLemmas
+pub mod NotedLemmas
+pub mod ClockLemmas
+pub mod JudgeSound
+pub mod JudgeLemmas
+pub mod GivenLemmas
+pub mod Growing
+pub mod Keys

@@ -118,7 +118,7 @@ waiting-more now xs a stands =
 
 -- ---- what does not depend on the order
 
-length-put_behind : (ys : List Accepted) (x : Accepted) → length (put_behind ys x) ≡ suc (length ys)
+pub length-put_behind : (ys : List Accepted) (x : Accepted) → length (put_behind ys x) ≡ suc (length ys)
 length-put_behind [] x = refl
 length-put_behind (b ∷ bs) x = elim (int_lt x.instant b.instant) as (λ v. length (cond v (x ∷ b ∷ bs) (b ∷ put_behind bs x)) ≡ suc (suc (length bs))) [
   | true ↦ refl
@@ -177,7 +177,7 @@ any-standing p now asks (x ∷ xs) =
     ] refl
 
 -- the sum of any number over them
-sum-put_behind : (f : Accepted → ℕ) (n : ℕ) (ys : List Accepted) (x : Accepted) → fold (λ t a. t + f a) n (put_behind ys x) ≡ fold (λ t a. t + f a) (n + f x) ys
+pub sum-put_behind : (f : Accepted → ℕ) (n : ℕ) (ys : List Accepted) (x : Accepted) → fold (λ t a. t + f a) n (put_behind ys x) ≡ fold (λ t a. t + f a) (n + f x) ys
 sum-put_behind f n [] x = refl
 sum-put_behind f n (b ∷ bs) x = elim (int_lt x.instant b.instant) as (λ v. fold (λ t a. t + f a) n (cond v (x ∷ b ∷ bs) (b ∷ put_behind bs x)) ≡ fold (λ t a. t + f a) (n + f x) (b ∷ bs)) [
   | true ↦ refl

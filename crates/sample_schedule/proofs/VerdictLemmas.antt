@@ -18,6 +18,9 @@ copy_stands now instant seq le a copy = by_lt_z a.instant now
     (λ g. let f = le_true a.instant instant g in let n : is_copy instant seq a ≡ false = rw (f, e) refl in cc)))
     (λ h. le_true now a.instant h)
 
+pub copies-stand : (now instant : ℤ) (seq : ℕ) (earlier : List Accepted) → now ≤ℤ instant → list_any (is_copy instant seq) (standing now earlier) ≡ list_any (is_copy instant seq) earlier
+copies-stand now instant seq earlier le = any-standing (is_copy instant seq) now (copy_stands now instant seq le) earlier
+
 full_same : (plan : SchedulePlan) (now : ℤ) (earlier : List Accepted) (size : ℕ) → is_full plan (by_instant (standing now earlier)) size ≡ is_full plan (standing now earlier) size
 full_same plan now earlier size = rw (length-by_instant (standing now earlier), bytes-by_instant (standing now earlier)) refl
 

@@ -5,7 +5,9 @@ pub mod Verdicts
 pub mod Schedule
 pub mod Limits
 pub mod Reach
-pub mod Stage
+pub mod Noted
+pub mod Judge
 pub mod Laws
 pub mod Devices
 pub mod MemoryDevice
+pub mod Waiting

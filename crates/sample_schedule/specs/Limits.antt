@@ -1,5 +1,6 @@
 -- What a schedule is asked for: a plan within its limits, and entries as the formats give them.
 use Rattle.std.specs.Prelude.{◌≡◌, ◌+◌, ◌%◌, ◌^◌, ◌≤◌, pos, neg_ℤ, ◌≤ℤ◌, ◌<ℤ◌, length}
+use Rattle.clock_track.specs.Limits.{IsNotable}
 use Rattle.time_unfold.specs.Limits.{IsRule}
 use Rattle.time_unfold.specs.Time.{IsArrival}
 use Rattle.sample_schedule.specs.declared.entry.Entry.{Entry}
@@ -40,4 +41,4 @@ IsItem (OfBad b) = IsArrival b.arrival
 
 abbrev pub IsEntry : Entry → Type 0
 IsEntry (OfItem item) = IsItem item
-IsEntry (OfClock arrival row) = IsArrival arrival
+IsEntry (OfClock arrival row) = IsArrival arrival × IsNotable row

@@ -1,7 +1,5 @@
 -- Accepted items, by their first instants.
-use Rattle.std.specs.Prelude.{◌≡◌, Bool, false, if◌then◌else◌, ⊤, ℤ, int_lt, int_le, List, [], ◌∷◌, filter, fold}
-use Rattle.std.specs.Coded.{Coded-set, coded_bool, ×_prop, Unit-prop}
-use Rattle.std.specs.List.{AllByRecursion, AllByRecursion-prop}
+use Rattle.std.specs.Prelude.{Bool, false, if◌then◌else◌, ℤ, int_lt, int_le, List, [], ◌∷◌, filter, fold}
 use Rattle.sample_schedule.specs.declared.accepted.Accepted.{Accepted}
 
 -- those whose first instant has not passed
@@ -20,15 +18,6 @@ put_behind (b ∷ bs) a = if int_lt a.instant b.instant then a ∷ b ∷ bs else
 -- by first instant, and then by place: each is put behind those before it that are not later
 unfoldable pub by_instant : List Accepted → List Accepted
 by_instant accepted = fold put_behind [] accepted
-
--- none is earlier than one before it
-abbrev pub IsInOrder : List Accepted → Type 0
-IsInOrder [] = ⊤
-IsInOrder (a ∷ rest) = AllByRecursion (λ b. int_lt b.instant a.instant ≡ false) rest × IsInOrder rest
-
-pub IsInOrder-prop : (accepted : List Accepted) → IsProp (IsInOrder accepted)
-IsInOrder-prop [] = Unit-prop
-IsInOrder-prop (a ∷ rest) = ×_prop (AllByRecursion-prop _ (λ b. Coded-set coded_bool _ _) rest) (IsInOrder-prop rest)
 
 -- of a list by first instant, those at its front whose instant has passed
 abbrev pub due_of : ℤ → List Accepted → List Accepted

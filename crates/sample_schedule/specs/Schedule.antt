@@ -113,6 +113,15 @@ given clock plan entries = steps clock plan entries (length entries) ++ rest_of 
 abbrev pub shown : Clock → SchedulePlan → List Entry → List Shown
 shown clock plan entries = map shown_of (given clock plan entries)
 
--- what is certain while further entries may follow: the steps whose prefix is whole
+-- how many entries are judged while further ones may follow: those whose prefix is whole
+abbrev pub settled : SchedulePlan → List Entry → ℕ
+settled plan entries = length entries - plan.look
+
+-- what is certain while further entries may follow: the steps of those that are judged
 abbrev pub due : Clock → SchedulePlan → List Entry → List Shown
-due clock plan entries = map shown_of (steps clock plan entries (length entries - plan.look))
+due clock plan entries = map shown_of (steps clock plan entries (settled plan entries))
+
+-- what waits then, by first instant and then by place
+abbrev pub waiting : Clock → SchedulePlan → List Entry → List Accepted
+waiting clock plan entries =
+    by_instant (standing (latest (take (settled plan entries) entries)) (accepted clock plan entries (settled plan entries)))

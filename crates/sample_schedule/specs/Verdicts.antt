@@ -1,8 +1,9 @@
 -- The verdict of an item: it is accepted, or it has a reason why not.
-use Rattle.std.specs.Prelude.{ℕ, ◌+◌, ◌==◌, nat_lt, nat_le, Bool, true, false, if◌then◌else◌, ℤ, pos, ◌+ℤ◌, int_lt, int_le, List, length, sum_by, Option, Some, None, option_map, Result, Ok, Err}
+use Rattle.std.specs.Prelude.{◌≡◌, ℕ, ◌+◌, ◌==◌, nat_lt, nat_le, Bool, true, false, if◌then◌else◌, ℤ, pos, ◌+ℤ◌, int_lt, int_le, List, length, sum_by, Option, Some, None, option_map, Result, Ok, Err}
 use Rattle.std.specs.List.{filter_map, list_any}
 use Rattle.clock_track.specs.declared.clock_row.ClockRow.{ClockRow}
 use Rattle.clock_track.specs.Pairs.{Spot}
+use Rattle.clock_track.specs.Rows.{clock_spot}
 use Rattle.time_unfold.specs.declared.head_rule.Head.{Head}
 use Rattle.time_unfold.specs.Lines.{nominal_line}
 use Rattle.sample_schedule.specs.declared.accepted.Accepted.{Accepted}
@@ -25,6 +26,10 @@ use Rattle.sample_schedule.specs.Heads.{head_of}
 -- their timestamps, and the rate of the stream. None where no line covers the instant.
 abbrev pub Clock : Type 0
 Clock = List ClockRow → ℤ → ℤ → ℕ → Option Spot
+
+-- Where the plan has a clock, it is that of the clock's packets; where it has none, any clock will do, since none is asked.
+abbrev pub IsClockOf : SchedulePlan → Clock → Type 0
+IsClockOf plan clock = plan.clock ≡ true → clock ≡ clock_spot
 
 abbrev pub row_of : Entry → Option ClockRow
 row_of (OfItem item) = None

@@ -1,6 +1,7 @@
 //! What was accepted.
 
 use crate::batch::Batch;
+use crate::shown::Shown;
 
 /// An accepted item: its place in the list, the instant of its first sample, and what is presented of it.
 #[derive(Debug, Drop)]
@@ -8,4 +9,21 @@ pub struct Accepted {
     pub place: u64,
     pub instant: i64,
     pub batch: Batch,
+}
+
+impl Accepted {
+    ghost use Rattle.std.specs.Prelude.{◌≡◌};
+    ghost use Rattle.sample_schedule.specs.Schedule.{present as present_of};
+
+    /// The item as it is shown.
+    pub fn present(self) -> Shown
+        ensures { result ≡ present_of self }
+    {
+        let Accepted {
+            place: _,
+            instant: _,
+            batch,
+        } = self;
+        Shown::Present(batch)
+    }
 }

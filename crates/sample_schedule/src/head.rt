@@ -1,20 +1,19 @@
 //! The stamped sample from which the samples of a packet are counted.
 
-ghost use Rattle.std.specs.Prelude.{◌≡◌, ◌+◌, ◌≤◌, ◌<◌, ℕ, All, IfSome, List};
+ghost use Rattle.std.specs.Prelude.{◌≡◌, ◌+◌, ◌≤◌, ◌<◌, ℕ, IfSome, List};
 ghost use Rattle.time_unfold.specs.Heads.{stamped_index as stamped_index_of};
 ghost use Rattle.time_unfold.specs.Limits.{IsBehind, IsRule, IsStamp, IsWant};
 ghost use Rattle.sample_schedule.specs.declared.entry.Entry.{Entry as EntryValue};
-ghost use Rattle.sample_schedule.specs.Heads.{head_at, head_back as head_back_of, head_of as head_of_packet, stamp_of as stamp_of_entry, stamp_of_packet as stamp_of_packet_value, stamps_of, usable_stamp as usable_stamp_of, want_of as want_of_packet};
-ghost use Rattle.sample_schedule.specs.Limits.{IsEntry, IsPacket, IsPlan};
+ghost use Rattle.sample_schedule.specs.declared.entry.Entry.TheVariants.{Item as OfItem};
+ghost use Rattle.sample_schedule.specs.Heads.{head_at, head_back as head_back_of, head_of as head_of_packet, stamp_of as stamp_of_entry, stamp_of_packet as stamp_of_packet_value, usable_stamp as usable_stamp_of, want_of as want_of_packet};
+ghost use Rattle.sample_schedule.specs.Limits.{IsItem, IsPacket, IsPlan};
+ghost use Rattle.sample_schedule.specs.Noted.{HasNoted};
 ghost use Rattle.sample_schedule.specs.Reach.{IsCountable};
 
-use crate::entry::Entry;
 use crate::item::{Item, Packet};
+use crate::noted::Noted;
 use crate::plan::SchedulePlan;
-use time_unfold::{Distance, Head, Stamp, Want, head_among, unfold};
-
-/// How many stamps are looked through, beside those of the packets that were waited for.
-const STAMPS: u32 = 16;
+use time_unfold::{Distance, Head, Stamp, Want, unfold};
 
 fn usable_stamp(packet: &Packet) -> Option<u32>
     requires { IsRule packet.now.rule }
@@ -43,14 +42,14 @@ fn stamp_of_packet(packet: &Packet) -> Option<Stamp>
     }
 }
 
-/// The stamp that an entry adds to those from which packets are counted, where it has a usable one.
-pub fn stamp_of(entry: &Entry) -> Option<Stamp>
-    requires { IsEntry entry.now }
-    ensures value { result ≡ stamp_of_entry entry.now }
+/// The stamp that an item adds to those from which packets are counted, where it has a usable one.
+pub fn stamp_of(item: &Item) -> Option<Stamp>
+    requires { IsItem item.now }
+    ensures value { result ≡ stamp_of_entry (OfItem item.now) }
     ensures stamp { IfSome result IsStamp }
 {
-    match entry {
-        Entry::Item(Item::Packet(packet)) => stamp_of_packet(packet),
+    match item {
+        Item::Packet(packet) => stamp_of_packet(packet),
         _ => None,
     }
 }
@@ -86,18 +85,17 @@ fn own_head(packet: &Packet, timestamp: u32) -> Head
     }
 }
 
-fn head_back(plan: &SchedulePlan, stamps: &[Stamp], packet: &Packet) -> Option<Head>
+fn head_back(plan: &SchedulePlan, noted: &Noted, packet: &Packet) -> Option<Head>
     requires plan { IsPlan plan.now }
     requires packet { IsPacket packet.now }
     requires rate { 1 ≤ packet.now.rate }
     requires some { 1 ≤ packet.now.count }
-    requires stamps { All IsStamp stamps.now }
-    ensures value { (prefix : List EntryValue) → stamps.now ≡ stamps_of prefix → result ≡ head_back_of plan.now prefix packet.now }
+    ensures value { (prefix : List EntryValue) → HasNoted plan.now prefix noted.now → result ≡ head_back_of plan.now prefix packet.now }
     ensures countable { IfSome result IsCountable }
 {
     let far = packet.rule.distance(packet.seq, packet.count)?;
     let want = want_of(plan, packet, &far);
-    let stamp = head_among(stamps, plan.look + STAMPS, &want)?;
+    let stamp = noted.find(&want)?;
     Some(Head {
         instant: stamp.instant,
         first: i64::from(far.samples),
@@ -106,17 +104,16 @@ fn head_back(plan: &SchedulePlan, stamps: &[Stamp], packet: &Packet) -> Option<H
 
 /// The head of a packet that has samples and a rate: its own timestamp where that is usable, or the stamp that it finds
 /// among those of a prefix of the list.
-pub fn head_of(plan: &SchedulePlan, stamps: &[Stamp], packet: &Packet) -> Option<Head>
+pub fn head_of(plan: &SchedulePlan, noted: &Noted, packet: &Packet) -> Option<Head>
     requires plan { IsPlan plan.now }
     requires packet { IsPacket packet.now }
     requires rate { 1 ≤ packet.now.rate }
     requires some { 1 ≤ packet.now.count }
-    requires stamps { All IsStamp stamps.now }
-    ensures value { (prefix : List EntryValue) → stamps.now ≡ stamps_of prefix → result ≡ head_of_packet plan.now prefix packet.now }
+    ensures value { (prefix : List EntryValue) → HasNoted plan.now prefix noted.now → result ≡ head_of_packet plan.now prefix packet.now }
     ensures countable { IfSome result IsCountable }
 {
     match usable_stamp(packet) {
         Some(timestamp) => Some(own_head(packet, timestamp)),
-        None => head_back(plan, stamps, packet),
+        None => head_back(plan, noted, packet),
     }
 }

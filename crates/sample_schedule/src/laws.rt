@@ -1,13 +1,23 @@
 //! Laws of schedules, whatever the clock answers. Each call is its contract, and does nothing.
 
-ghost use Rattle.std.specs.Prelude.{◌≡◌, ◌≤◌, ◌∷◌, [], List, ℕ, Some, length, slice_get};
+ghost use Rattle.std.specs.Prelude.{◌≡◌, ◌≤◌, ◌≤ℤ◌, ◌+◌, ◌++◌, ◌∷◌, [], List, ℕ, ℤ, Some, length, slice_get};
+ghost use Rattle.std.specs.List.{list_any};
+ghost use mathlib.Core.List.{IsPrefix};
+ghost use Rattle.clock_track.specs.Limits.{IsClockLine};
+ghost use Rattle.clock_track.specs.Pairs.{Spot};
+ghost use Rattle.time_unfold.specs.declared.head_rule.Head.{Head};
+ghost use Rattle.sample_schedule.specs.declared.accepted.Accepted.{Accepted};
+ghost use Rattle.sample_schedule.specs.declared.item.Packet.{Packet};
+ghost use Rattle.sample_schedule.specs.Batches.{IsPresentable};
+ghost use Rattle.sample_schedule.specs.Limits.{IsPacket};
+ghost use Rattle.sample_schedule.specs.Reach.{IsCountable};
 ghost use Rattle.sample_schedule.specs.declared.entry.Entry.{Entry};
 ghost use Rattle.sample_schedule.specs.declared.item.Item.{Item};
 ghost use Rattle.sample_schedule.specs.declared.plan.SchedulePlan.{SchedulePlan};
 ghost use Rattle.sample_schedule.specs.Laws.{IsBefore, IsNoCopy, Pairwise, given_by, presented, shown_at, times_due, times_shown, verdict_in, waiting_at};
-ghost use Rattle.sample_schedule.specs.Order.{by_instant};
-ghost use Rattle.sample_schedule.specs.Schedule.{accepted, given};
-ghost use Rattle.sample_schedule.specs.Verdicts.{Clock, total_bytes};
+ghost use Rattle.sample_schedule.specs.Order.{between, by_instant, due_of, left_of, standing};
+ghost use Rattle.sample_schedule.specs.Schedule.{accepted, due, given, settled, shown, steps, waiting};
+ghost use Rattle.sample_schedule.specs.Verdicts.{Clock, is_copy, moved, samples_at, total_bytes};
 
 /// At every entry what waits is at most `buffer` batches, of at most `room` bytes together.
 pub fn waiting_is_bounded()
@@ -40,4 +50,40 @@ pub fn presented_in_order()
 /// presented.
 pub fn copies_are_not_presented()
     ensures { (clock : Clock) (plan : SchedulePlan) (entries : List Entry) → Pairwise IsNoCopy (presented (given clock plan entries)) }
+{}
+
+/// What is certain of a list stays where the list goes on: what is due of the longer list begins with it.
+pub fn due_stays()
+    ensures { (clock : Clock) (plan : SchedulePlan) (entries more : List Entry) → IsPrefix (due clock plan entries) (due clock plan (entries ++ more)) }
+{}
+
+/// What is due of a list is what is shown of it first, if the list ends there.
+pub fn due_is_shown_first()
+    ensures { (clock : Clock) (plan : SchedulePlan) (entries : List Entry) → IsPrefix (due clock plan entries) (shown clock plan entries) }
+{}
+
+/// Of the entries that are judged, what is accepted was presented or waits, within the buffer and its room; and at most
+/// `look` entries are not judged.
+pub fn what_is_not_due_waits()
+    ensures accepted { (clock : Clock) (plan : SchedulePlan) (entries : List Entry) → presented (steps clock plan entries (settled plan entries)) ++ waiting clock plan entries ≡ by_instant (accepted clock plan entries (settled plan entries)) }
+    ensures batches { (clock : Clock) (plan : SchedulePlan) (entries : List Entry) → length (waiting clock plan entries) ≤ plan.buffer }
+    ensures bytes { (clock : Clock) (plan : SchedulePlan) (entries : List Entry) → total_bytes (waiting clock plan entries) ≤ plan.room }
+    ensures unjudged { (plan : SchedulePlan) (entries : List Entry) → length entries ≤ settled plan entries + plan.look }
+{}
+
+/// A copy of an item that comes in time is found among those that wait, as among all that were accepted.
+pub fn copies_wait()
+    ensures { (now instant : ℤ) (seq : ℕ) (earlier : List Accepted) → now ≤ℤ instant → list_any (is_copy instant seq) (standing now earlier) ≡ list_any (is_copy instant seq) earlier }
+{}
+
+/// Where the time goes on, what waits splits into what is due, first, and what is still held.
+pub fn what_waits_is_due_or_held()
+    ensures due { (from to : ℤ) (earlier : List Accepted) → due_of to (by_instant (standing from earlier)) ≡ by_instant (between from to earlier) }
+    ensures held { (from to : ℤ) (earlier : List Accepted) → from ≤ℤ to → left_of to (by_instant (standing from earlier)) ≡ by_instant (standing to earlier) }
+{}
+
+/// A packet whose head the clock covers can be presented: its samples on the clock's line, counted from the head, have what
+/// holds of every batch.
+pub fn clock_lines_can_be_presented()
+    ensures { (p : Packet) (head : Head) (spot : Spot) → IsPacket p → 1 ≤ p.count → IsCountable head → IsClockLine p.rate head.instant spot → IsPresentable (samples_at p (moved head.first spot)) }
 {}

@@ -7,25 +7,34 @@ mod device;
 mod entry;
 mod head;
 mod item;
+mod judge;
 pub mod laws;
 mod memory_device;
+mod noted;
+mod pending;
 mod plan;
 mod shown;
-mod stage;
-mod stamps;
 mod timing;
 mod verdicts;
-mod waiting;
+mod waiting_room;
+mod whole;
 
 pub use batch::Batch;
 pub use device::Device;
 pub use entry::Entry;
 pub use item::{Bad, Item, Packet, Unit};
+pub use judge::Judge;
 pub use memory_device::MemoryDevice;
 pub use plan::SchedulePlan;
 pub use shown::{Reason, Shown};
-pub use stage::schedule;
 pub use time_unfold::HeadRule;
+pub use whole::schedule;
 
 #[cfg(test)]
+mod clock_tests;
+#[cfg(test)]
+mod judge_tests;
+#[cfg(test)]
 mod tests;
+#[cfg(test)]
+mod waiting_tests;

@@ -1,15 +1,17 @@
 //! Lists of packets, and what a listener shows of them, worked out by hand.
 
-ghost use Rattle.std.specs.Prelude.{◌≡◌, ◌≤◌, false, All, IfOk};
+ghost use Rattle.std.specs.Prelude.{◌≤◌, All, IfOk};
 ghost use Rattle.time_unfold.specs.Time.{IsArrival};
 ghost use Rattle.sample_schedule.specs.Limits.{IsEntry, IsPlan};
 ghost use Rattle.time_unfold.specs.Limits.{IsRule};
 
-use super::{Batch, Entry, HeadRule, Item, Packet, Reason, SchedulePlan, Shown, schedule};
+use super::{Batch, Entry, HeadRule, Item, Judge, Packet, Reason, SchedulePlan, Shown, schedule};
+use crate::whole::{give_all, take_entry};
 use avtp_base::{Bytes, NoMemory};
 use std::alloc::Global;
+use std::collections::VecDeque;
 
-const PLAN: SchedulePlan = SchedulePlan {
+pub const PLAN: SchedulePlan = SchedulePlan {
     buffer: 4_096,
     room: 67_108_864,
     look: 0,
@@ -20,7 +22,7 @@ const PLAN: SchedulePlan = SchedulePlan {
 
 /// How a stream is stamped: each packet, each eighth, or the data blocks with a count that is a multiple of 8.
 #[derive(Clone, Copy)]
-enum Format {
+pub enum Format {
     Plain,
     Sparse,
     Blocks(u8),
@@ -38,20 +40,20 @@ fn rule_of(format: Format) -> HeadRule
 
 /// A packet of 6 sample frames or data blocks of 4 bytes.
 #[derive(Clone, Copy)]
-struct Sent {
-    seq: u8,
-    mr: bool,
-    stamp: Option<u32>,
-    format: Format,
-    arrival: i64,
-    rate: u32,
+pub struct Sent {
+    pub seq: u8,
+    pub mr: bool,
+    pub stamp: Option<u32>,
+    pub format: Format,
+    pub arrival: i64,
+    pub rate: u32,
     ghost arrives: { IsArrival arrival },
     ghost rate_from: { 8000 ≤ rate },
     ghost rate_to: { rate ≤ 192000 },
 }
 
 /// A packet of a stream in which each packet is stamped.
-fn audio(seq: u8, stamp: u32, arrival: i64) -> Sent
+pub fn audio(seq: u8, stamp: u32, arrival: i64) -> Sent
     requires { IsArrival arrival }
 {
     Sent {
@@ -73,6 +75,20 @@ fn blocks(seq: u8, dbc: u8, stamp: Option<u32>, arrival: i64) -> Sent
         mr: false,
         stamp,
         format: Format::Blocks(dbc),
+        arrival,
+        rate: 48_000,
+    }
+}
+
+/// A packet of a sparse stream.
+pub fn sparse_packet(seq: u8, stamp: Option<u32>, arrival: i64) -> Sent
+    requires { IsArrival arrival }
+{
+    Sent {
+        seq,
+        mr: false,
+        stamp,
+        format: Format::Sparse,
         arrival,
         rate: 48_000,
     }
@@ -112,21 +128,21 @@ fn sparse_packets(alloc: Global, numbers: &[u16], restart: u16) -> Result<Vec<Se
 
 /// What is shown of a frame: the instants of its samples, or the reason why there are none.
 #[derive(Clone, Copy)]
-enum Seen {
+pub enum Seen {
     From { frame: u64, instants: [i64; 6] },
     At { frame: u64, instant: i64 },
     Flag { frame: u64, reason: Reason },
 }
 
-const fn at(frame: u64, instant: i64) -> Seen {
+pub const fn at(frame: u64, instant: i64) -> Seen {
     Seen::At { frame, instant }
 }
 
-const fn flag(frame: u64, reason: Reason) -> Seen {
+pub const fn flag(frame: u64, reason: Reason) -> Seen {
     Seen::Flag { frame, reason }
 }
 
-fn packet(alloc: Global, frame: u64, row: Sent) -> Result<Entry, NoMemory>
+pub fn packet(alloc: Global, frame: u64, row: Sent) -> Result<Entry, NoMemory>
     ensures { IfOk result IsEntry }
 {
     let bytes = Vec::from_array(alloc, [7u8; 24])?;
@@ -185,7 +201,7 @@ fn is_seen(shown: &Shown, seen: &Seen) -> bool {
     }
 }
 
-fn are_seen(list: &[Shown], seen: &[Seen]) -> bool {
+pub fn are_seen(list: &[Shown], seen: &[Seen]) -> bool {
     if list.len() != seen.len() {
         return false;
     }
@@ -197,12 +213,34 @@ fn are_seen(list: &[Shown], seen: &[Seen]) -> bool {
     true
 }
 
-fn shows(alloc: Global, plan: &SchedulePlan, rows: &[Sent], seen: &[Seen]) -> Result<bool, NoMemory>
+/// All that a judge gives that is fed with one entry after the other.
+pub fn fed(alloc: Global, plan: &SchedulePlan, entries: Vec<Entry>) -> Result<Vec<Shown>, NoMemory>
     requires plan { IsPlan plan.now }
-    requires no_clock { plan.now.clock ≡ false }
+    requires entries { All IsEntry entries.items }
+{
+    let mut judge = Judge::begin(alloc, *plan)?;
+    let mut list = Vec::new(alloc);
+    let mut entries = VecDeque::from_vec(entries);
+    while let Some(entry) = entries.pop_front() {
+        take_entry(&mut judge, entry);
+        give_all(&mut judge, &mut list)?;
+    }
+    judge.close();
+    give_all(&mut judge, &mut list)?;
+    Ok(list)
+}
+
+pub fn shows(
+    alloc: Global,
+    plan: &SchedulePlan,
+    rows: &[Sent],
+    seen: &[Seen],
+) -> Result<bool, NoMemory>
+    requires plan { IsPlan plan.now }
 {
     let list = schedule(alloc, plan, packets(alloc, rows)?)?;
-    Ok(are_seen(list.as_slice(), seen))
+    let given = fed(alloc, plan, packets(alloc, rows)?)?;
+    Ok(are_seen(list.as_slice(), seen) && are_seen(given.as_slice(), seen))
 }
 
 fn shows_sparse(
@@ -213,7 +251,6 @@ fn shows_sparse(
     seen: &[Seen],
 ) -> Result<bool, NoMemory>
     requires plan { IsPlan plan.now }
-    requires no_clock { plan.now.clock ≡ false }
     requires restart { 1 ≤ restart }
 {
     let rows = sparse_packets(alloc, numbers, restart)?;

@@ -1,29 +1,30 @@
 //! What can be presented of an item, and from which instant.
 
-ghost use Rattle.std.specs.Prelude.{◌≡◌, ◌≤◌, false, All, List};
-ghost use Rattle.time_unfold.specs.Limits.{IsStamp};
+ghost use Rattle.std.specs.Prelude.{◌≡◌, ◌≤◌, pos, List, Some};
+ghost use Rattle.clock_track.specs.Limits.{IsClockLine};
 ghost use Rattle.sample_schedule.specs.declared.entry.Entry.{Entry as EntryValue};
-ghost use Rattle.sample_schedule.specs.Heads.{stamps_of};
+ghost use Rattle.sample_schedule.specs.declared.plan.SchedulePlan.{SchedulePlan as SchedulePlanValue};
+ghost use Rattle.sample_schedule.specs.Batches.{IsPresentable};
 ghost use Rattle.sample_schedule.specs.Limits.{IsItem, IsPacket, IsPlan, IsUnit};
+ghost use Rattle.sample_schedule.specs.Noted.{HasNoted};
 ghost use Rattle.sample_schedule.specs.Reach.{IsCountable};
-ghost use Rattle.sample_schedule.specs.Verdicts.{Clock, nominal_spot, samples_at, timed as timed_of, unit_at_once};
+ghost use Rattle.sample_schedule.specs.Verdicts.{Clock, IsClockOf, counted_from as counted_from_head, moved, nominal_spot, samples_at, timed as timed_of, unit_at_once};
 
 use crate::batch::Batch;
 use crate::head::head_of;
 use crate::item::{Item, Packet, Unit};
+use crate::noted::Noted;
 use crate::plan::SchedulePlan;
 use crate::shown::Reason;
-use time_unfold::{Head, Line, Stamp};
+use clock_track::ClockAnswer;
+use time_unfold::{Head, Line};
 
 const NANOSECONDS: u64 = 1_000_000_000;
 
-/// The samples of a packet on the nominal line of its head.
-fn counted(packet: Packet, head: &Head) -> Batch
-    requires packet { IsPacket packet }
-    requires rate { 1 ≤ packet.rate }
-    requires some { 1 ≤ packet.count }
-    requires countable { IsCountable head.now }
-    ensures { result ≡ samples_at packet (nominal_spot packet.rate head.now) }
+/// The samples of a packet, of which the first has this number on a line.
+fn samples_on(packet: Packet, line: Line, from: i64) -> Batch
+    requires { IsPresentable (samples_at packet (record { line = line; from = from })) }
+    ensures { result ≡ samples_at packet (record { line = line; from = from }) }
 {
     let Packet {
         frame,
@@ -33,31 +34,70 @@ fn counted(packet: Packet, head: &Head) -> Batch
         tu: _,
         stamp: _,
         rule: _,
-        rate,
+        rate: _,
         count,
         bytes,
     } = packet;
     Batch {
         frame,
         seq,
-        line: Line {
-            base: head.instant,
-            num: NANOSECONDS,
-            den: u64::from(rate),
-        },
-        from: head.first,
+        line,
+        from,
         count,
         bytes,
     }
 }
 
-#[tactic(auto, unfolding(crate::specs::Verdicts::timed))]
-fn timed_packet(plan: &SchedulePlan, stamps: &[Stamp], packet: Packet) -> Result<Batch, Reason>
-    requires plan { IsPlan plan.now }
-    requires no_clock { plan.now.clock ≡ false }
-    requires stamps { All IsStamp stamps.now }
+/// The samples of a packet on the nominal line of its head.
+fn on_nominal_line(packet: Packet, head: &Head) -> Batch
     requires packet { IsPacket packet }
-    ensures { (clock : Clock) (prefix : List EntryValue) → stamps.now ≡ stamps_of prefix → result ≡ timed_of clock plan.now prefix (Item.Packet packet) }
+    requires rate { 1 ≤ packet.rate }
+    requires some { 1 ≤ packet.count }
+    requires countable { IsCountable head.now }
+    ensures { result ≡ samples_at packet (nominal_spot packet.rate head.now) }
+{
+    let line = Line {
+        base: head.instant,
+        num: NANOSECONDS,
+        den: u64::from(packet.rate),
+    };
+    samples_on(packet, line, head.first)
+}
+
+/// The samples of a packet on a line of the clock, where its head has this number.
+fn on_clock_line(packet: Packet, head: &Head, line: Line, number: u64) -> Batch
+    requires packet { IsPacket packet }
+    requires some { 1 ≤ packet.count }
+    requires countable { IsCountable head.now }
+    requires line { IsClockLine packet.rate head.now.instant (record { line = line; from = pos number }) }
+    ensures { result ≡ samples_at packet (moved head.now.first (record { line = line; from = pos number })) }
+{
+    samples_on(packet, line, number as i64 + head.first)
+}
+
+/// The samples of a packet that are counted from its head: on the line of the clock that covers it, or on the nominal line
+/// where there is no clock.
+fn counted(noted: &Noted, packet: Packet, head: &Head) -> Result<Batch, Reason>
+    requires packet { IsPacket packet }
+    requires rate { 1 ≤ packet.rate }
+    requires some { 1 ≤ packet.count }
+    requires countable { IsCountable head.now }
+    ensures { (clock : Clock) (plan : SchedulePlanValue) (prefix : List EntryValue) → IsClockOf plan clock → HasNoted plan prefix noted.now → result ≡ counted_from_head clock plan prefix packet (Some head.now) }
+{
+    match &noted.clock {
+        None => Ok(on_nominal_line(packet, head)),
+        Some(clock) => match clock.line_for(head.instant, packet.rate) {
+            ClockAnswer::OnLine { line, offset } => Ok(on_clock_line(packet, head, line, offset)),
+            ClockAnswer::NoClock => Err(Reason::NoClock),
+        },
+    }
+}
+
+#[tactic(auto, unfolding(crate::specs::Verdicts::timed))]
+fn timed_packet(plan: &SchedulePlan, noted: &Noted, packet: Packet) -> Result<Batch, Reason>
+    requires plan { IsPlan plan.now }
+    requires packet { IsPacket packet }
+    ensures { (clock : Clock) (prefix : List EntryValue) → IsClockOf plan.now clock → HasNoted plan.now prefix noted.now → result ≡ timed_of clock plan.now prefix (Item.Packet packet) }
 {
     if packet.tu {
         return Err(Reason::Uncertain);
@@ -68,8 +108,8 @@ fn timed_packet(plan: &SchedulePlan, stamps: &[Stamp], packet: Packet) -> Result
     if packet.rate == 0 {
         return Err(Reason::NoRate);
     }
-    match head_of(plan, stamps, &packet) {
-        Some(head) => Ok(counted(packet, &head)),
+    match head_of(plan, noted, &packet) {
+        Some(head) => counted(noted, packet, &head),
         None => Err(Reason::Untimed),
     }
 }
@@ -99,18 +139,16 @@ fn timed_unit(unit: Unit) -> Batch
     }
 }
 
-/// What can be presented of an item where there is no clock, given the stamps of the prefix that is known when it is
-/// judged; or the first reason why nothing can, whatever the time.
+/// What can be presented of an item, given what was noted of the prefix that is known when it is judged; or the first reason
+/// why nothing can, whatever the time.
 #[tactic(auto, unfolding(crate::specs::Verdicts::timed))]
-pub fn timed(plan: &SchedulePlan, stamps: &[Stamp], item: Item) -> Result<Batch, Reason>
+pub fn timed(plan: &SchedulePlan, noted: &Noted, item: Item) -> Result<Batch, Reason>
     requires plan { IsPlan plan.now }
-    requires no_clock { plan.now.clock ≡ false }
-    requires stamps { All IsStamp stamps.now }
     requires item { IsItem item }
-    ensures { (clock : Clock) (prefix : List EntryValue) → stamps.now ≡ stamps_of prefix → result ≡ timed_of clock plan.now prefix item }
+    ensures { (clock : Clock) (prefix : List EntryValue) → IsClockOf plan.now clock → HasNoted plan.now prefix noted.now → result ≡ timed_of clock plan.now prefix item }
 {
     match item {
-        Item::Packet(packet) => timed_packet(plan, stamps, packet),
+        Item::Packet(packet) => timed_packet(plan, noted, packet),
         Item::Unit(unit) => Ok(timed_unit(unit)),
         Item::Bad(bad) => Err(bad.reason),
     }

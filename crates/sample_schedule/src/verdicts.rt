@@ -1,23 +1,22 @@
 //! An item is accepted, or has a reason why not.
 
-ghost use Rattle.std.specs.Prelude.{◌≡◌, ◌+◌, ◌≤◌, false, All, IfOk, length, List, int_lt, Ok, Err};
+ghost use Rattle.std.specs.Prelude.{◌≡◌, ◌+◌, ◌≤◌, ◌≤ℤ◌, ◌<◌, IfOk, length, List, int_lt, Ok, Err};
 ghost use Rattle.std.specs.List.{list_any};
-ghost use Rattle.time_unfold.specs.Limits.{IsStamp};
 ghost use Rattle.sample_schedule.specs.declared.accepted.Accepted.{Accepted as AcceptedValue};
 ghost use Rattle.sample_schedule.specs.declared.entry.Entry.{Entry as EntryValue};
-ghost use Rattle.sample_schedule.specs.Heads.{stamps_of};
 ghost use Rattle.sample_schedule.specs.Limits.{IsItem, IsPlan};
+ghost use Rattle.sample_schedule.specs.Noted.{HasNoted};
 ghost use Rattle.sample_schedule.specs.Order.{by_instant, standing};
-ghost use Rattle.sample_schedule.specs.Verdicts.{Clock, decided, first_instant, is_copy as is_copy_of, is_full as is_full_of, timed as timed_of, verdict as verdict_of};
+ghost use Rattle.sample_schedule.specs.Verdicts.{Clock, IsClockOf, decided, first_instant, is_copy as is_copy_of, is_full as is_full_of, timed as timed_of, total_bytes, verdict as verdict_of};
 
 use crate::accepted::Accepted;
 use crate::batch::Batch;
 use crate::item::Item;
+use crate::noted::Noted;
 use crate::plan::SchedulePlan;
 use crate::shown::Reason;
 use crate::timing::timed;
-use crate::waiting::Waiting;
-use time_unfold::Stamp;
+use crate::waiting_room::Waiting;
 
 fn judge(
     plan: &SchedulePlan,
@@ -26,8 +25,10 @@ fn judge(
     place: u64,
     batch: Batch,
 ) -> Result<Accepted, Reason>
-    ensures judged { result ≡ decided (int_lt (first_instant batch) now) (list_any (is_copy_of (first_instant batch) batch.seq) waiting.now.list.items) (is_full_of plan.now waiting.now.list.items (length batch.bytes)) place batch }
-    ensures fits { IfOk result (λ a. waiting.now.bytes + length a.batch.bytes ≤ plan.now.room) }
+    ensures judged { result ≡ decided (int_lt (first_instant batch) now) (list_any (is_copy_of (first_instant batch) batch.seq) waiting.now.list) (is_full_of plan.now waiting.now.list (length batch.bytes)) place batch }
+    ensures fits { IfOk result (λ a. total_bytes waiting.now.list + length a.batch.bytes ≤ plan.now.room) }
+    ensures buffer { IfOk result (λ a. length waiting.now.list < plan.now.buffer) }
+    ensures stands { IfOk result (λ a. now ≤ℤ a.instant) }
 {
     let instant = batch.instant(0);
     if instant < now {
@@ -46,23 +47,23 @@ fn judge(
     })
 }
 
-/// The verdict of an item, over what is accepted before it and waits, and the stamps of the prefix that is known.
+/// The verdict of an item, over what is accepted before it and waits, and what was noted of the prefix that is known.
 pub fn verdict(
     plan: &SchedulePlan,
     now: i64,
     waiting: &Waiting,
-    stamps: &[Stamp],
+    noted: &Noted,
     place: u64,
     item: Item,
 ) -> Result<Accepted, Reason>
     requires plan { IsPlan plan.now }
-    requires no_clock { plan.now.clock ≡ false }
-    requires stamps { All IsStamp stamps.now }
     requires item { IsItem item }
-    ensures judged { (clock : Clock) (prefix : List EntryValue) (earlier : List AcceptedValue) → stamps.now ≡ stamps_of prefix → waiting.now.list.items ≡ by_instant (standing now earlier) → result ≡ verdict_of plan.now now earlier place (timed_of clock plan.now prefix item) }
-    ensures fits { IfOk result (λ a. waiting.now.bytes + length a.batch.bytes ≤ plan.now.room) }
+    ensures judged { (clock : Clock) (prefix : List EntryValue) (earlier : List AcceptedValue) → IsClockOf plan.now clock → HasNoted plan.now prefix noted.now → waiting.now.list ≡ by_instant (standing now earlier) → result ≡ verdict_of plan.now now earlier place (timed_of clock plan.now prefix item) }
+    ensures fits { IfOk result (λ a. total_bytes waiting.now.list + length a.batch.bytes ≤ plan.now.room) }
+    ensures buffer { IfOk result (λ a. length waiting.now.list < plan.now.buffer) }
+    ensures stands { IfOk result (λ a. now ≤ℤ a.instant) }
 {
-    match timed(plan, stamps, item) {
+    match timed(plan, noted, item) {
         Ok(batch) => judge(plan, now, waiting, place, batch),
         Err(reason) => Err(reason),
     }

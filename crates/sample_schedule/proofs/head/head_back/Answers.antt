@@ -1,12 +1,10 @@
 use Rattle.std.proofs.Common.{arith}
 use Rattle.std.proofs.lemmas.Int.{ints}
-use Rattle.time_unfold.specs.Limits.{IsStamp}
-use Rattle.time_unfold.proofs.Found.{found_is}
 use Rattle.sample_schedule.proofs.head.head_back.Goals as goal
 
 pub returns-clause-countable : goal.returns-clause-countable
 returns-clause-countable c =
-    let held = found_is IsStamp c.want_of-want.result _ c.args.stamps.now c.in_ok-stamp.stamp c.in_ok-stamp.ensures.last c.requires.stamps in
+    let held = c.in_ok-stamp.ensures.stamp in
     let behind = c.in_ok-far.ensures.behind in
     record {
       from = omega (arith, ints);

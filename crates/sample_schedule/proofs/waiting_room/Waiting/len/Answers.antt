@@ -1,0 +1,9 @@
+use Rattle.std.proofs.Common.{◌≡◌, ap, rules, sym, ◌∙◌, length}
+use Rattle.sample_schedule.specs.Waiting.{Held}
+use Rattle.sample_schedule.proofs.Keys.{held-length}
+use Rattle.sample_schedule.proofs.waiting_room.Waiting.len.Goals as goal
+
+pub returns : goal.returns
+returns c =
+    let keys : c.len.result ≡ length c.self.inside.keys.items = search rules in
+    keys ∙ sym (held-length c.self.inside.batches c.self.inside.keys.items c.self.invariant.there) ∙ ap (λ (h : Held). length h.list) c.self.view_is

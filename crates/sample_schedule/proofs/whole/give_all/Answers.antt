@@ -1,0 +1,27 @@
+use Rattle.std.proofs.Common.{List, sym, subst}
+use Rattle.sample_schedule.specs.declared.entry.Entry.{Entry}
+use Rattle.sample_schedule.specs.declared.shown.Shown.{Shown}
+use Rattle.sample_schedule.specs.Judge.{HasGiven}
+use Rattle.sample_schedule.specs.Verdicts.{Clock}
+use Rattle.sample_schedule.proofs.GivenLemmas.{given-all, given-more, given-on}
+use Rattle.sample_schedule.proofs.JudgeLemmas.{keeps-all}
+use Rattle.sample_schedule.proofs.whole.give_all.Goals as goal
+
+pub loop-shown-preserved : goal.loop-shown-preserved
+loop-shown-preserved c = record {
+  given = λ (clock : Clock) (entries : List Entry). λ h.
+      let here = c.loop-shown.invariant.given clock entries h in
+      subst (λ (l : List Shown). HasGiven clock entries l c.next_out.new.self) (sym c.in_ok-push.ensures.items)
+      (given-more clock entries c.loop-shown.list.items c.in-Some.shown c.loop-shown.judge c.next_out.new.self here (c.in-Some.ensures.given clock entries _ here.stands) (c.in-Some.ensures.stands clock entries _ here.stands) c.in-Some.ensures.keeps);
+  keeps = keeps-all _ _ _ c.loop-shown.invariant.keeps c.in-Some.ensures.keeps;
+}
+
+pub returns-clause-given : goal.returns-clause-given
+returns-clause-given c clock entries h =
+    let here = c.loop-shown.invariant.given clock entries h in
+    given-on clock entries c.loop-shown.list.items c.loop-shown.judge c.next_out.new.self here (c.in_default.ensures.stands clock entries _ here.stands) c.in_default.ensures.keeps
+
+pub returns-clause-all : goal.returns-clause-all
+returns-clause-all c clock entries h =
+    let here = c.loop-shown.invariant.given clock entries h in
+    given-all clock entries c.loop-shown.list.items c.loop-shown.judge c.next_out.new.self here (c.in_default.ensures.given clock entries _ here.stands) c.in_default.ensures.keeps

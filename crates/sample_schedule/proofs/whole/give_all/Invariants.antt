@@ -1,0 +1,15 @@
+use Rattle.std.proofs.Common.{List}
+use Rattle.sample_schedule.specs.declared.entry.Entry.{Entry}
+use Rattle.sample_schedule.specs.Judge.{HasGiven, Keeps, work}
+use Rattle.sample_schedule.specs.Verdicts.{Clock}
+use Rattle.sample_schedule.proofs.whole.give_all.Given as goal
+
+-- the list has what the judge has given so far
+abbrev pub invariant-loop-shown : goal.invariant-loop-shown
+invariant-loop-shown l = record {
+  given : (clock : Clock) (entries : List Entry) → HasGiven clock entries l.fn.list.items l.fn.judge → HasGiven clock entries l.list.items l.judge;
+  keeps : Keeps l.fn.judge l.judge;
+}
+
+abbrev pub decreases-loop-shown : goal.decreases-loop-shown
+decreases-loop-shown l = work l.judge

@@ -1,0 +1,131 @@
+-- A judge, which is given a stream of entries one at a time and shows what is certain of it.
+use Rattle.std.specs.Prelude.{◌≡◌, ℕ, ◌+◌, ◌*◌, ◌^◌, ◌≤◌, Bool, true, false, if◌then◌else◌, ℤ, ◌<ℤ◌, ◌<◌, List, [], ◌∷◌, ◌++◌, All, length, take, drop, map, Option, None, Some, IfSome}
+use mathlib.Core.List.{IsPrefix}
+use Rattle.std.specs.Int.{int_max}
+use Rattle.std.specs.List.{AllByRecursion}
+use Rattle.std.specs.Option.{option_to_list}
+use Rattle.time_unfold.specs.Time.{IsArrival}
+use Rattle.sample_schedule.specs.declared.accepted.Accepted.{Accepted}
+use Rattle.sample_schedule.specs.declared.entry.Entry.{Entry}
+use Rattle.sample_schedule.specs.declared.entry.Entry.TheVariants.{Item as OfItem, Clock as OfClock}
+use Rattle.sample_schedule.specs.declared.noted.Noted.{Noted}
+use Rattle.sample_schedule.specs.declared.pending.Pending.{Pending}
+use Rattle.sample_schedule.specs.declared.pending.Pending.TheVariants.{Item as PendingItem, Clock as PendingClock}
+use Rattle.sample_schedule.specs.declared.plan.SchedulePlan.{SchedulePlan}
+use Rattle.sample_schedule.specs.declared.shown.Shown.{Shown}
+use Rattle.sample_schedule.specs.Limits.{IsItem, IsPlan}
+use Rattle.sample_schedule.specs.Noted.{HasNoted}
+use Rattle.sample_schedule.specs.Order.{by_instant, standing}
+use Rattle.sample_schedule.specs.Schedule.{accepted, due, item_arrival, latest, settled, shown, steps}
+use Rattle.sample_schedule.specs.Verdicts.{Clock, IsClockOf, total_bytes}
+use Rattle.sample_schedule.specs.Waiting.{Held}
+
+-- ---- entries that wait for their verdict
+
+-- what is kept of an entry until then: the item, or the arrival of a packet of the clock
+abbrev pub pending_of : Entry → Pending
+pending_of (OfItem item) = PendingItem item
+pending_of (OfClock arrival row) = PendingClock arrival
+
+abbrev pub pending_arrival : Pending → ℤ
+pending_arrival (PendingItem item) = item_arrival item
+pending_arrival (PendingClock arrival) = arrival
+
+abbrev pub IsPending : Pending → Type 0
+IsPending (PendingItem item) = IsItem item
+IsPending (PendingClock arrival) = IsArrival arrival
+
+-- ---- the judge
+
+-- How many entries are judged, the greatest arrival up to the one that is being judged, what was noted of all entries, what
+-- is accepted and waits for its instant, the entry that is being judged, those after it, and that no further one follows.
+pub record JudgeState : Type 0 where
+  pub plan : SchedulePlan
+  pub place : ℕ
+  pub time : ℤ
+  pub noted : Noted
+  pub waiting : List Accepted
+  pub current : Option Pending
+  pub ahead : List Pending
+  pub closed : Bool
+
+-- how many entries are judged or being judged
+abbrev pub begun : JudgeState → ℕ
+begun judge = judge.place + length (option_to_list judge.current)
+
+-- how many entries the judge was given
+abbrev pub taken : JudgeState → ℕ
+taken judge = begun judge + length judge.ahead
+
+-- what the judge still has to do: entries to judge, and batches to present
+abbrev pub work : JudgeState → ℕ
+work judge = 2 * (length (option_to_list judge.current) + length judge.ahead) + length judge.waiting
+
+-- No entry is being judged: all that is due of the entries so far was given.
+abbrev pub IsIdle : JudgeState → Type 0
+IsIdle judge = judge.current ≡ None
+
+-- what a judge shows of a list of entries: what is due, or all if the list has ended
+abbrev pub out : Clock → JudgeState → List Entry → List Shown
+out clock judge entries = if judge.closed then shown clock judge.plan entries else due clock judge.plan entries
+
+-- no entry is left to judge
+abbrev pub none_left : Option Pending → List Pending → Bool
+none_left None [] = true
+none_left None (p ∷ rest) = false
+none_left (Some p) ahead = false
+
+-- no entry of an ended list is left to judge
+abbrev pub is_over : JudgeState → Bool
+is_over judge = if judge.closed then none_left judge.current judge.ahead else false
+
+-- The judge was given these entries, and has given so many items of what it shows of them, by the clock of its plan.
+pub record StandsFor (clock : Clock) (entries : List Entry) (given : ℕ) (judge : JudgeState) : Type 0 where
+  pub asks : IsClockOf judge.plan clock
+  -- the entries that are not judged stand in the judge, and of all of them it has noted what others are counted from
+  pub within : judge.place ≤ length entries
+  pub left : map pending_of (drop judge.place entries) ≡ option_to_list judge.current ++ judge.ahead
+  pub noted : HasNoted judge.plan entries judge.noted
+  pub now : judge.time ≡ latest (take (begun judge) entries)
+  -- while further entries may follow, those are judged whose prefix is whole
+  pub settles : judge.closed ≡ false → begun judge ≡ settled judge.plan entries
+  -- of what waited before the entry that is being judged, some was presented, since its instant has passed, and the others wait
+  pub passed : List Accepted
+  pub waiting : passed ++ judge.waiting ≡ by_instant (standing (latest (take judge.place entries)) (accepted clock judge.plan entries judge.place))
+  pub early : is_over judge ≡ false → AllByRecursion (λ a. a.instant <ℤ judge.time) passed
+  pub count : given ≡ length (steps clock judge.plan entries judge.place) + length passed
+
+-- A list has all that the judge has given of what it shows of the entries.
+pub record HasGiven (clock : Clock) (entries : List Entry) (list : List Shown) (judge : JudgeState) : Type 0 where
+  pub stands : StandsFor clock entries (length list) judge
+  pub first : IsPrefix list (out clock judge entries)
+
+-- the greatest arrival, and that of an entry which is judged next
+abbrev pub now_with : ℤ → Option Pending → ℤ
+now_with now None = now
+now_with now (Some pending) = int_max now (pending_arrival pending)
+
+-- An entry was put behind those that wait for further ones, and the first of more than the look-ahead is judged next.
+pub record Puts (pending : Pending) (old new : JudgeState) : Type 0 where
+  pub same : new ≡ record old { time = now_with old.time new.current; current = new.current; ahead = new.ahead }
+  pub line : option_to_list new.current ++ new.ahead ≡ old.ahead ++ pending ∷ []
+  pub fits : length old.ahead < old.plan.look → length new.ahead ≡ length old.ahead + 1
+  pub full : old.plan.look ≤ length old.ahead → length new.ahead ≡ length old.ahead
+
+-- what no call of the judge changes but the one that is for it
+pub record Keeps (old new : JudgeState) : Type 0 where
+  pub plan : new.plan ≡ old.plan
+  pub taken : taken new ≡ taken old
+  pub closed : new.closed ≡ old.closed
+
+-- What holds of every judge: what is kept of entries is theirs, and all of it has room, in memory that is reserved.
+pub record IsSound (judge : JudgeState) (capacity : ℕ) (held : Held) : Type 0 where
+  pub plan : IsPlan judge.plan
+  pub current : IfSome judge.current IsPending
+  pub ahead : All IsPending judge.ahead
+  pub line : capacity ≡ judge.plan.look
+  pub behind : length judge.ahead ≤ judge.plan.look
+  pub taken : taken judge ≤ 2 ^ 62
+  pub room : judge.plan.buffer ≤ held.room
+  pub batches : length judge.waiting ≤ judge.plan.buffer
+  pub bytes : total_bytes judge.waiting ≤ judge.plan.room

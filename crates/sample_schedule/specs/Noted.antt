@@ -1,0 +1,27 @@
+-- What was noted of a list of entries, for the packets that are counted from others.
+use Rattle.std.specs.Prelude.{◌≡◌, ◌+◌, true, false, List, Option, None, Some}
+use Rattle.std.specs.List.{filter_map}
+use Rattle.clock_track.specs.Window.{ClockState, StandsFor as StandsForRows}
+use Rattle.time_unfold.specs.Anchors.{KeepsLast}
+use Rattle.sample_schedule.specs.declared.entry.Entry.{Entry}
+use Rattle.sample_schedule.specs.declared.noted.Noted.{Noted}
+use Rattle.sample_schedule.specs.declared.plan.SchedulePlan.{SchedulePlan}
+use Rattle.sample_schedule.specs.Heads.{stamps_of}
+use Rattle.sample_schedule.specs.Verdicts.{row_of}
+
+-- a clock with the plan's shift, which has noted the clock's packets of the list
+pub record HasNotedClock (plan : SchedulePlan) (entries : List Entry) (clock : ClockState) : Type 0 where
+  pub asked : plan.clock ≡ true
+  pub shift : clock.shift ≡ plan.shift
+  pub rows : StandsForRows clock (filter_map row_of entries)
+
+-- there is a clock where the plan has one
+abbrev pub HasClock : SchedulePlan → List Entry → Option ClockState → Type 0
+HasClock plan entries None = plan.clock ≡ false
+HasClock plan entries (Some clock) = HasNotedClock plan entries clock
+
+-- the last usable stamps of the list, and its clock
+pub record HasNoted (plan : SchedulePlan) (entries : List Entry) (noted : Noted) : Type 0 where
+  pub stamps : KeepsLast noted.stamps (stamps_of entries)
+  pub room : noted.stamps.room ≡ plan.look + 16
+  pub clock : HasClock plan entries noted.clock

@@ -1,0 +1,307 @@
+//! The schedule of a stream, from one entry at a time.
+
+ghost use Rattle.std.specs.Prelude.{◌≡◌, ◌+◌, ◌*◌, ◌^◌, ◌<◌, ◌≤◌, ◌≢◌, ◌<ℤ◌, ◌++◌, ◌∷◌, [], ℕ, true, false, List, length, slice_get, Option, Some, None, IfNone, IfOk, IfSome};
+ghost use Rattle.std.specs.Option.{option_to_list};
+ghost use Rattle.sample_schedule.specs.declared.entry.Entry.{Entry as EntryValue};
+ghost use Rattle.sample_schedule.specs.declared.entry.Entry.TheVariants.{Item as OfItem, Clock as OfClock};
+ghost use Rattle.clock_track.specs.Limits.{IsNotable};
+ghost use Rattle.clock_track.specs.Views.{row_of};
+ghost use Rattle.time_unfold.specs.Time.{IsArrival};
+ghost use Rattle.sample_schedule.specs.Judge.{IsIdle, IsPending, Keeps, Puts, StandsFor, now_with, out, taken, work};
+ghost use Rattle.sample_schedule.specs.Limits.{IsItem, IsPlan};
+ghost use Rattle.sample_schedule.specs.Order.{starts_due};
+ghost use Rattle.sample_schedule.specs.Schedule.{waiting};
+ghost use Rattle.sample_schedule.specs.Verdicts.{Clock, IsClockOf, total_bytes};
+
+use crate::accepted::Accepted;
+use crate::item::Item;
+use crate::noted::Noted;
+use crate::pending::Pending;
+use crate::plan::SchedulePlan;
+use crate::shown::Shown;
+use crate::verdicts::verdict;
+use crate::waiting_room::Waiting;
+use avtp_base::NoMemory;
+use circular_buffer::HeapCircularBuffer;
+use clock_track::Points;
+use std::alloc::Global;
+use std::marker::Model;
+
+/// A judge is given the entries of a stream one at a time, in capture order, and shows each item of the stream once,
+/// presented or flagged with the first reason that holds of it.
+///
+/// An item is judged once `look` further entries are known, so a packet without a timestamp may be counted from one that was
+/// captured after it. All memory is reserved when the judge is made.
+#[derive(Drop)]
+pub struct Judge {
+    plan: SchedulePlan,
+    /// How many entries are judged.
+    place: u64,
+    /// The greatest arrival of these and of the entry that is being judged.
+    time: i64,
+    noted: Noted,
+    /// What is accepted and waits for its instant.
+    waiting: Waiting,
+    /// The entry that is being judged: it is, as soon as all is given that its arrival makes due.
+    current: Option<Pending>,
+    /// The entries after it, which wait for further ones.
+    ahead: HeapCircularBuffer<Pending>,
+    /// No further entry follows.
+    closed: bool,
+}
+
+impl Model for Judge {
+    ghost use Rattle.sample_schedule.specs.Judge.{IsSound, JudgeState};
+
+    ghost Value = { JudgeState };
+
+    ghost view = { λ judge. record { plan = judge.plan; place = judge.place; time = judge.time; noted = judge.noted; waiting = judge.waiting.list; current = judge.current; ahead = judge.ahead.items; closed = judge.closed } };
+
+    ghost invariant = { λ judge. IsSound (record { plan = judge.plan; place = judge.place; time = judge.time; noted = judge.noted; waiting = judge.waiting.list; current = judge.current; ahead = judge.ahead.items; closed = judge.closed }) judge.ahead.capacity judge.waiting };
+}
+
+impl Judge {
+    /// A judge of no entries. Reserves all the memory that it takes, of which some 4 MiB for a clock where the plan has one: no
+    /// further call takes any.
+    pub fn begin(alloc: Global, plan: SchedulePlan) -> Result<Self, NoMemory>
+        requires plan { IsPlan plan }
+        ensures stands { IfOk result (λ judge. (clock : Clock) → IsClockOf plan clock → StandsFor clock [] 0 judge) }
+        ensures plan { IfOk result (λ judge. judge.plan ≡ plan) }
+        ensures none { IfOk result (λ judge. taken judge ≡ 0) }
+        ensures open { IfOk result (λ judge. judge.closed ≡ false) }
+        ensures idle { IfOk result IsIdle }
+    {
+        let noted = Noted::new(alloc, &plan)?;
+        let waiting = Waiting::with_room(alloc, plan.buffer)?;
+        let ahead = HeapCircularBuffer::with_capacity(alloc, plan.look as usize)?;
+        Ok(Judge {
+            plan,
+            place: 0,
+            time: 0,
+            noted,
+            waiting,
+            current: None,
+            ahead,
+            closed: false,
+        })
+    }
+
+    /// An entry that left those that wait is judged next, and time goes on to its arrival.
+    fn judge_next(&mut self, next: Pending)
+        requires idle { IsIdle self.old }
+        requires taken { taken self.old < 2 ^ 62 }
+        requires pending { IsPending next }
+        ensures { self.new ≡ record self.old { time = now_with self.old.time (Some next); current = Some next } }
+    {
+        self.time = self.time.max(next.arrival());
+        self.current = Some(next);
+    }
+
+    /// Puts an entry behind those that wait for further ones; the first of them is judged next, once they are more than the
+    /// look-ahead.
+    fn put(&mut self, pending: Pending)
+        requires idle { IsIdle self.old }
+        requires taken { taken self.old < 2 ^ 62 }
+        requires pending { IsPending pending }
+        ensures { Puts pending self.old self.new }
+    {
+        match self.ahead.push_back(pending) {
+            Some(next) => self.judge_next(next),
+            None => {}
+        }
+    }
+
+    /// Takes the next item of the stream. Nothing is due from the entries so far, and the judge is not closed. At most 2^62
+    /// entries may be taken. Takes no memory.
+    pub fn step(&mut self, item: Item)
+        requires open { self.old.closed ≡ false }
+        requires idle { IsIdle self.old }
+        requires taken { taken self.old < 2 ^ 62 }
+        requires item { IsItem item }
+        ensures stands { (clock : Clock) (entries : List EntryValue) (given : ℕ) → StandsFor clock entries given self.old → StandsFor clock (entries ++ OfItem item ∷ []) given self.new }
+        ensures plan { self.new.plan ≡ self.old.plan }
+        ensures taken { taken self.new ≡ taken self.old + 1 }
+        ensures open { self.new.closed ≡ false }
+    {
+        self.noted.note_item(&item);
+        self.put(Pending::Item(item));
+    }
+
+    /// Takes a packet of the stream's clock, by its arrival and its points: an entry that is never shown. The same holds as for
+    /// an item. Where the plan has no clock it counts by its arrival alone. Takes no memory.
+    pub fn step_clock(&mut self, arrival: i64, points: &Points<'_>)
+        requires open { self.old.closed ≡ false }
+        requires idle { IsIdle self.old }
+        requires taken { taken self.old < 2 ^ 62 }
+        requires arrival { IsArrival arrival }
+        requires points { IsNotable (row_of points.now) }
+        ensures stands { (clock : Clock) (entries : List EntryValue) (given : ℕ) → StandsFor clock entries given self.old → StandsFor clock (entries ++ OfClock arrival (row_of points.now) ∷ []) given self.new }
+        ensures plan { self.new.plan ≡ self.old.plan }
+        ensures taken { taken self.new ≡ taken self.old + 1 }
+        ensures open { self.new.closed ≡ false }
+    {
+        self.noted.note_points(points);
+        self.put(Pending::Clock { arrival });
+    }
+
+    /// The front of what waits, where the arrival of the entry that is being judged has passed its instant.
+    fn give_due(&mut self) -> Option<Accepted>
+        requires { self.old.current ≢ None }
+        ensures due { IfSome result (λ first. first.instant <ℤ self.old.time) }
+        ensures waiting { self.old.waiting ≡ option_to_list result ++ self.new.waiting }
+        ensures none { IfNone result (starts_due self.new.time self.new.waiting ≡ false) }
+        ensures same { self.new ≡ record self.old { waiting = self.new.waiting } }
+    {
+        self.waiting.take_due(self.time)
+    }
+
+    /// The front of what waits.
+    fn give_first(&mut self) -> Option<Accepted>
+        ensures waiting { self.old.waiting ≡ option_to_list result ++ self.new.waiting }
+        ensures none { IfNone result (self.old.waiting ≡ []) }
+        ensures same { self.new ≡ record self.old { waiting = self.new.waiting } }
+    {
+        self.waiting.take_first()
+    }
+
+    /// Judges the entry that is being judged: a flag is given, and an accepted item waits for its instant.
+    fn judge(&mut self) -> Option<Shown>
+        requires { starts_due self.old.time self.old.waiting ≡ false }
+        ensures given { (clock : Clock) (entries : List EntryValue) (given : ℕ) → StandsFor clock entries given self.old → IfSome result (λ shown. slice_get (out clock self.old entries) given ≡ Some shown) }
+        ensures stands { (clock : Clock) (entries : List EntryValue) (given : ℕ) → StandsFor clock entries given self.old → StandsFor clock entries (given + length (option_to_list result)) self.new }
+        ensures idle { IsIdle self.new }
+        ensures keeps { Keeps self.old self.new }
+        ensures ahead { self.new.ahead ≡ self.old.ahead }
+        ensures less { work self.new + length (option_to_list result) ≤ work self.old }
+    {
+        let Some(pending) = self.current.take() else {
+            return None;
+        };
+        let place = self.place;
+        self.place += 1;
+        match pending {
+            Pending::Clock { arrival: _ } => None,
+            Pending::Item(item) => {
+                let frame = item.frame();
+                let seq = item.seq();
+                match verdict(
+                    &self.plan,
+                    self.time,
+                    &self.waiting,
+                    &self.noted,
+                    place,
+                    item,
+                ) {
+                    Ok(accepted) => {
+                        self.waiting.put_behind(accepted);
+                        None
+                    }
+                    Err(reason) => Some(Shown::Flag { frame, seq, reason }),
+                }
+            }
+        }
+    }
+
+    /// Gives what the entry that is being judged makes due, and then its flag, where it has one.
+    fn give_or_judge(&mut self) -> Option<Shown>
+        ensures given { (clock : Clock) (entries : List EntryValue) (given : ℕ) → StandsFor clock entries given self.old → IfSome result (λ shown. slice_get (out clock self.old entries) given ≡ Some shown) }
+        ensures stands { (clock : Clock) (entries : List EntryValue) (given : ℕ) → StandsFor clock entries given self.old → StandsFor clock entries (given + length (option_to_list result)) self.new }
+        ensures idle { IfNone result (IsIdle self.new) }
+        ensures keeps { Keeps self.old self.new }
+        ensures ahead { self.new.ahead ≡ self.old.ahead }
+        ensures less { work self.new + length (option_to_list result) ≤ work self.old }
+    {
+        if self.current.is_none() {
+            return None;
+        }
+        match self.give_due() {
+            Some(first) => Some(first.present()),
+            None => self.judge(),
+        }
+    }
+
+    /// Once the list has ended, judges the next entry too; whether there is one.
+    fn take_ahead(&mut self) -> bool
+        requires { IsIdle self.old }
+        ensures stands { (clock : Clock) (entries : List EntryValue) (given : ℕ) → StandsFor clock entries given self.old → StandsFor clock entries given self.new }
+        ensures keeps { Keeps self.old self.new }
+        ensures none { result ≡ false → (self.new ≡ self.old) × (self.old.closed ≡ true → self.old.ahead ≡ []) }
+        ensures shorter { result ≡ true → length self.new.ahead < length self.old.ahead }
+        ensures work { work self.new ≡ work self.old }
+    {
+        if !self.closed {
+            return false;
+        }
+        match self.ahead.pop_front() {
+            Some(next) => {
+                self.judge_next(next);
+                true
+            }
+            None => false,
+        }
+    }
+
+    /// Once all entries of an ended list are judged, gives the front of what waits.
+    fn give_last(&mut self) -> Option<Shown>
+        requires idle { IsIdle self.old }
+        requires over { self.old.closed ≡ true → self.old.ahead ≡ [] }
+        ensures given { (clock : Clock) (entries : List EntryValue) (given : ℕ) → StandsFor clock entries given self.old → result ≡ slice_get (out clock self.old entries) given }
+        ensures stands { (clock : Clock) (entries : List EntryValue) (given : ℕ) → StandsFor clock entries given self.old → StandsFor clock entries (given + length (option_to_list result)) self.new }
+        ensures idle { IsIdle self.new }
+        ensures empty { IfNone result (self.old.closed ≡ true → self.new.waiting ≡ []) }
+        ensures keeps { Keeps self.old self.new }
+        ensures less { work self.new + length (option_to_list result) ≤ work self.old }
+    {
+        if !self.closed {
+            return None;
+        }
+        match self.give_first() {
+            Some(first) => Some(first.present()),
+            None => None,
+        }
+    }
+
+    /// The next item that is shown of the entries so far: while further ones may follow, of those that are judged, and once
+    /// the judge is closed of all. None comes exactly where all of that was given. Takes no memory.
+    pub fn next_out(&mut self) -> Option<Shown>
+        ensures given { (clock : Clock) (entries : List EntryValue) (given : ℕ) → StandsFor clock entries given self.old → result ≡ slice_get (out clock self.old entries) given }
+        ensures stands { (clock : Clock) (entries : List EntryValue) (given : ℕ) → StandsFor clock entries given self.old → StandsFor clock entries (given + length (option_to_list result)) self.new }
+        ensures idle { IfNone result (IsIdle self.new) }
+        ensures empty { IfNone result (self.old.closed ≡ true → self.new.waiting ≡ []) }
+        ensures keeps { Keeps self.old self.new }
+        ensures less { work self.new + length (option_to_list result) ≤ work self.old }
+    {
+        loop {
+            if let Some(shown) = self.give_or_judge() {
+                return Some(shown);
+            }
+            if !self.take_ahead() {
+                return self.give_last();
+            }
+        }
+    }
+
+    /// Says that no further entry follows. Nothing is due from the entries so far. Takes no memory.
+    pub fn close(&mut self)
+        requires open { self.old.closed ≡ false }
+        requires idle { IsIdle self.old }
+        ensures stands { (clock : Clock) (entries : List EntryValue) (given : ℕ) → StandsFor clock entries given self.old → StandsFor clock entries given self.new }
+        ensures plan { self.new.plan ≡ self.old.plan }
+        ensures taken { taken self.new ≡ taken self.old }
+        ensures closed { self.new.closed ≡ true }
+        ensures work { work self.new ≡ work self.old }
+    {
+        self.closed = true;
+    }
+
+    /// How many batches are held: at most as many as the buffer takes, with at most as many bytes as its room. Where nothing
+    /// is due these are the accepted ones, of the entries that are judged, which were not given; none after `close`.
+    pub fn held(&self) -> u32
+        ensures held { result ≡ length self.now.waiting }
+        ensures batches { result ≤ self.now.plan.buffer }
+        ensures bytes { total_bytes self.now.waiting ≤ self.now.plan.room }
+        ensures accepted { (clock : Clock) (entries : List EntryValue) (given : ℕ) → StandsFor clock entries given self.now → self.now.closed ≡ false → IsIdle self.now → self.now.waiting ≡ waiting clock self.now.plan entries }
+    {
+        self.waiting.len() as u32
+    }
+}

@@ -1,0 +1,78 @@
+//! The schedule of a list.
+
+ghost use Rattle.std.specs.Prelude.{◌≡◌, ◌+◌, ◌^◌, ◌<◌, ◌++◌, ◌∷◌, [], ℕ, false, List, All, IfOk, OnOk};
+ghost use Rattle.sample_schedule.specs.declared.entry.Entry.{Entry as EntryValue};
+ghost use Rattle.sample_schedule.specs.Judge.{HasGiven, IsIdle, Keeps, StandsFor, out, taken};
+ghost use Rattle.sample_schedule.specs.Limits.{IsEntry, IsPlan};
+ghost use Rattle.sample_schedule.specs.Schedule.{shown};
+ghost use Rattle.sample_schedule.specs.Verdicts.{Clock, IsClockOf};
+
+use crate::entry::Entry;
+use crate::judge::Judge;
+use crate::plan::SchedulePlan;
+use crate::shown::Shown;
+use avtp_base::NoMemory;
+use std::alloc::Global;
+use std::collections::VecDeque;
+
+/// The judge takes an entry.
+pub fn take_entry(judge: &mut Judge, entry: Entry)
+    requires open { judge.old.closed ≡ false }
+    requires idle { IsIdle judge.old }
+    requires taken { taken judge.old < 2 ^ 62 }
+    requires entry { IsEntry entry }
+    ensures stands { (clock : Clock) (entries : List EntryValue) (given : ℕ) → StandsFor clock entries given judge.old → StandsFor clock (entries ++ entry ∷ []) given judge.new }
+    ensures plan { judge.new.plan ≡ judge.old.plan }
+    ensures taken { taken judge.new ≡ taken judge.old + 1 }
+    ensures open { judge.new.closed ≡ false }
+{
+    match entry {
+        Entry::Item(item) => judge.step(item),
+        Entry::Clock { arrival, row } => judge.step_clock(arrival, &row.points()),
+    }
+}
+
+/// Puts all that the judge gives into a list.
+pub fn give_all(judge: &mut Judge, list: &mut Vec<Shown>) -> Result<(), NoMemory>
+    ensures given { OnOk result ((clock : Clock) (entries : List EntryValue) → HasGiven clock entries list.old.items judge.old → HasGiven clock entries list.new.items judge.new) }
+    ensures all { OnOk result ((clock : Clock) (entries : List EntryValue) → HasGiven clock entries list.old.items judge.old → list.new.items ≡ out clock judge.new entries) }
+    ensures idle { OnOk result (IsIdle judge.new) }
+    ensures keeps { OnOk result (Keeps judge.old judge.new) }
+{
+    while let Some(shown) = judge.next_out() {
+        list.push(shown)?;
+    }
+    Ok(())
+}
+
+/// The schedule of a list of entries, in capture order: each item of the stream is shown once, presented or flagged with
+/// the first reason that holds of it. A batch is presented as soon as the arrival of an entry has passed its first
+/// instant, and those that are left behind the last entry, by first instant and then by place in the list.
+///
+/// An item is judged once `look` further entries are known or the list has ended, so a packet without a timestamp may be
+/// counted from one that was captured behind it: from the last of the last `look + 16` usable ones that fits.
+///
+/// Where the plan has a clock, samples stand on its lines, by those of its packets that are known when the item is judged;
+/// where it has none, packets of a clock count by their arrival alone.
+///
+/// `NoMemory` comes where no memory is found, and nothing is shown then.
+pub fn schedule(
+    alloc: Global,
+    plan: &SchedulePlan,
+    entries: Vec<Entry>,
+) -> Result<Vec<Shown>, NoMemory>
+    requires plan { IsPlan plan.now }
+    requires entries { All IsEntry entries.items }
+    ensures { IfOk result (λ list. (clock : Clock) → IsClockOf plan.now clock → list.items ≡ shown clock plan.now entries.items) }
+{
+    let mut judge = Judge::begin(alloc, *plan)?;
+    let mut list = Vec::new(alloc);
+    let mut entries = VecDeque::from_vec(entries);
+    while let Some(entry) = entries.pop_front() {
+        take_entry(&mut judge, entry);
+        give_all(&mut judge, &mut list)?;
+    }
+    judge.close();
+    give_all(&mut judge, &mut list)?;
+    Ok(list)
+}
