@@ -1,5 +1,5 @@
 -- Packets of AM824, by the rules.
-use Rattle.std.proofs.Common.{◌≡◌, ℕ, ◌*◌, ◌%◌, ◌^◌, ◌<◌, pos, Option, Some, None, is_some, refl, inl, lit<, arith}
+use Rattle.std.proofs.Common.{◌≡◌, ℕ, ◌*◌, ◌%◌, ◌^◌, pos, Option, Some, None, is_some, refl, inl, lit<, arith}
 use Rattle.std.specs.Prelude.{IfSome, unwrap_or}
 use Rattle.avtp_base.specs.Layout.{Fits}
 use Rattle.avtp_base.proofs.BitLemmas.{flag-below}

@@ -1,6 +1,6 @@
 -- A record that carries a packet belongs to the stream, and its delivery is a copy of the packet.
 use Rattle.std.proofs.Common.{◌≡◌, ℕ, ◌+◌, ◌≤◌, true, false, ℤ, List, [], ◌∷◌, length, map, filter, Option, None, is_none, refl, sym, ap, ◌∙◌, eq-eqb, arith}
-use Rattle.std.specs.Prelude.{nat_le, nat_lt, ◌==◌}
+use Rattle.std.specs.Prelude.{Bool, nat_le, nat_lt, ◌==◌, if◌then◌else◌}
 use Rattle.std.specs.List.{enumerate_from, list_any}
 use Rattle.std.proofs.lemmas.Bool.Decides.{nat_tests}
 use Rattle.avtp_base.specs.Octets.{bits, flag, is_set}
@@ -8,21 +8,23 @@ use Rattle.avtp_base.specs.Layout.{first_short, short_row}
 use Rattle.avtp_base.specs.Rows.{first_row, or_else}
 use Rattle.avtp_base.proofs.RowLemmas.{or_else-none, rows_passed}
 use Rattle.pcap_frames.specs.Capture.{Record}
-use Rattle.pcap_frames.specs.Frame.{Frame, frame_of, frame_refusal, frame_spelling, plain_frame}
+use Rattle.pcap_frames.specs.Frame.{Frame, IsWritableFrame, frame_of, frame_refusal, frame_spelling, plain_frame}
 use Rattle.pcap_frames.proofs.FrameLemmas.{frame_again, one_frame}
 use Rattle.avtp_header.specs.Header.{header_layout, kind_refusal, subtype_row, version_row}
 use Rattle.avtp_header.specs.declared.header.StreamHeader.{StreamHeader}
 use Rattle.aaf_format.specs.Aaf.{Aaf, IsWritableAaf, SpellsAaf, aaf_subtype, length_rows, plain_aaf, sample_rows}
 use Rattle.iec61883_format.specs.Iec.{Iec, IsWritableIec, SpellsIec, carrier_rows, cip_refusal, iec_subtype, plain_iec}
 use Rattle.cvf_format.specs.Cvf.{Cvf, IsWritableCvf, SpellsCvf, cvf_subtype, format_rows, nal_rows, plain_cvf}
+use Rattle.crf_format.specs.Crf.{Crf, SpellsCrf, clock_rows, crf_layout, crf_subtype, plain_crf, shared_rows}
+use Rattle.stream_journal.specs.Clocks.{ClockJournal}
 use Rattle.stream_journal.specs.Journal.{Journal, Kind, DenseAaf, SparseAaf, Am824, H264}
 use Rattle.stream_journal.specs.Delivered.{AreNear}
-use Rattle.packet_journal.specs.Deliveries.{avtp_ethertype, belongs, delivery, is_delivered, packet_in, stream_kinds}
-use Rattle.packet_journal.specs.Packets.{IsConforming, IsHeader, IsPacket, PacketJournal, PacketView, Pcm, Am824Data, H264Data}
-use Rattle.packet_journal.specs.Delivered.{AreFrom, Delivers, IsCopyOf, OfStream, stream_numbers}
-use Rattle.packet_journal.specs.Carried.{AllCarry, Carries, IsReadKind, subtype_of}
+use Rattle.packet_journal.specs.Deliveries.{Delivery, avtp_ethertype, belongs, delivery, is_delivered, packet_in, stream_kinds}
+use Rattle.packet_journal.specs.Packets.{IsClockPacket, IsConforming, IsHeader, IsPacket, PacketJournal, PacketView, Pcm, Am824Data, H264Data}
+use Rattle.packet_journal.specs.Delivered.{AreFrom, Delivers, IsClockCopyOf, IsCopyOf, OfClock, OfStream, Origin, stream_numbers}
+use Rattle.packet_journal.specs.Carried.{AllCarry, AllCarryFrom, Carries, CarriesClock, IsReadKind, crf_kinds, subtype_of}
 use Rattle.packet_journal.specs.Laws.{IsReadAs}
-use Rattle.packet_journal.proofs.Copies.{CvfAgain, packet_read}
+use Rattle.packet_journal.proofs.Copies.{CvfAgain, crf_read, packet_read}
 
 -- ---- the packet of a frame
 
@@ -31,15 +33,21 @@ record IsFrame (bytes payload : List ℕ) : Type 0 where
   ethertype : (frame_of bytes).ethertype ≡ avtp_ethertype
   payload_is : packet_in bytes ≡ payload
 
-frame_is : (p : PacketJournal) (lead n : ℕ) (r : Record) (c : Carries p lead n r) → IsFrame r.bytes c.frame.payload
-frame_is p lead n r c =
-    let again = frame_again c.frame c.writable in
-    let same : plain_frame c.frame ≡ frame_of (frame_spelling c.frame) = one_frame (frame_spelling c.frame) (plain_frame c.frame) again in
-    rw c.bytes (record {
+frame_by : (frame : Frame) (bytes : List ℕ) → IsWritableFrame frame → bytes ≡ frame_spelling frame → frame.ethertype ≡ avtp_ethertype → IsFrame bytes frame.payload
+frame_by frame bytes writable spelled avtp =
+    let again = frame_again frame writable in
+    let same : plain_frame frame ≡ frame_of (frame_spelling frame) = one_frame (frame_spelling frame) (plain_frame frame) again in
+    rw spelled (record {
       accepted = again.accepted;
-      ethertype = sym (ap (λ (f : Frame). f.ethertype) same) ∙ c.avtp;
+      ethertype = sym (ap (λ (f : Frame). f.ethertype) same) ∙ avtp;
       payload_is = sym (ap (λ (f : Frame). f.payload) same);
     })
+
+frame_is : (p : PacketJournal) (lead n : ℕ) (r : Record) (c : Carries p lead n r) → IsFrame r.bytes c.frame.payload
+frame_is p lead n r c = frame_by c.frame r.bytes c.writable c.bytes c.avtp
+
+clock_frame_is : (p : PacketJournal) (m : ℕ) (r : Record) (c : CarriesClock p m r) → IsFrame r.bytes c.frame.payload
+clock_frame_is p m r c = frame_by c.frame r.bytes c.writable c.bytes c.avtp
 
 -- ---- a packet belongs to its stream
 
@@ -99,22 +107,39 @@ packet_of_stream (H264 part) j stream n (Pcm v) bytes is read = absurd is
 packet_of_stream (H264 part) j stream n (Am824Data v) bytes is read = absurd is
 packet_of_stream (H264 part) j stream n (H264Data v) bytes is read = cvf_of_stream j stream n v bytes is.writable is.header read
 
-belongs_so : (subtype stream : ℕ) (bytes payload : List ℕ) → list_any (λ (k : ℕ). subtype == k) stream_kinds ≡ true → IsFrame bytes payload → IsOfStream subtype stream payload → belongs stream_kinds stream bytes ≡ true
-belongs_so subtype stream bytes payload known f is =
+belongs_so : (kinds : List ℕ) (subtype stream : ℕ) (bytes payload : List ℕ) → list_any (λ (k : ℕ). subtype == k) kinds ≡ true → IsFrame bytes payload → IsOfStream subtype stream payload → belongs kinds stream bytes ≡ true
+belongs_so kinds subtype stream bytes payload known f is =
     let long = is.long in
     let a : is_none (frame_refusal bytes) ≡ true = rw f.accepted refl in
     let b : ((frame_of bytes).ethertype == avtp_ethertype) ≡ true = rw f.ethertype refl in
     let c : nat_le 12 (length (packet_in bytes)) ≡ true = rw f.payload_is (grind (arith, nat_tests)) in
-    let d : list_any (λ kind. bits 0 0 8 (packet_in bytes) == kind) stream_kinds ≡ true = rw (f.payload_is, is.kind) known in
+    let d : list_any (λ kind. bits 0 0 8 (packet_in bytes) == kind) kinds ≡ true = rw (f.payload_is, is.kind) known in
     let e : is_set 1 0 (packet_in bytes) ≡ true = rw f.payload_is is.valid in
     let g : (bits 4 0 64 (packet_in bytes) == stream) ≡ true = rw (f.payload_is, is.id) (eq-eqb stream stream refl) in
     rw (a, b, c, d, e, g) refl
+
+clock_of_stream : (c : ClockJournal) (shift : ℤ) (id m : ℕ) (v : Crf) (bytes : List ℕ) → IsClockPacket c shift id m v → SpellsCrf bytes (plain_crf v) → IsOfStream crf_subtype id bytes
+clock_of_stream c shift id m v bytes is s =
+    let start = or_else-none (first_short crf_layout (length bytes)) (or_else (first_row (shared_rows bytes)) (first_row (clock_rows bytes))) s.accepted in
+    let f = s.fields in
+    record {
+      long = crf_long bytes start.0;
+      kind = f.0.0;
+      valid = rw (f.1.0.0, is.valid_id) refl;
+      id = f.1.1.1.1.0.0 ∙ is.id_is;
+    }
+  where
+    crf_long : (bytes : List ℕ) → first_short crf_layout (length bytes) ≡ None → 12 ≤ length bytes
+    crf_long bytes none =
+        let within = rows_passed (map (short_row (length bytes)) crf_layout) none in
+        let short : nat_lt (length bytes) 12 ≡ false = within.1.1.1.1.0 in
+        grind (arith, nat_tests)
 
 pub carried_belongs : CvfAgain → (shift : ℤ) (p : PacketJournal) (lead n : ℕ) (r : Record) → IsConforming shift p → IsReadKind p.times.kind → Carries p lead n r → belongs stream_kinds p.stream r.bytes ≡ true
 carried_belongs again shift p lead n r is known c =
     let packet = is.packets n c.delivered.known in
     let read = packet_read again p.times.kind p.times p.stream n (p.packet n) c.frame.payload packet c.packet in
-    belongs_so (subtype_of p.times.kind) p.stream r.bytes c.frame.payload known (frame_is p lead n r c)
+    belongs_so stream_kinds (subtype_of p.times.kind) p.stream r.bytes c.frame.payload known (frame_is p lead n r c)
     (packet_of_stream p.times.kind p.times p.stream n (p.packet n) c.frame.payload packet read)
 
 pub copy_of : (p : PacketJournal) (lead n i : ℕ) (r : Record) → Carries p lead n r → IsCopyOf p lead n (delivery i r)
@@ -147,3 +172,53 @@ all_delivered again shift p clock lead numbers records is known all near = recor
   copies = all_from again shift p clock lead 1 numbers records is known all;
   near = rw (numbers_again numbers) near;
 }
+
+-- ---- with those of the clock
+
+pub clock_belongs : (shift : ℤ) (p : PacketJournal) (m : ℕ) (r : Record) → IsConforming shift p → CarriesClock p m r → belongs crf_kinds p.clock r.bytes ≡ true
+clock_belongs shift p m r is c =
+    let packet = is.clock_packets m c.known in
+    let read = crf_read (p.clock_packet m) c.frame.payload packet.writable packet.fits c.packet in
+    belongs_so crf_kinds crf_subtype p.clock r.bytes c.frame.payload refl (clock_frame_is p m r c)
+    (clock_of_stream p.times.clock shift p.clock m (p.clock_packet m) c.frame.payload packet read)
+
+pub clock_copy_of : (p : PacketJournal) (m i : ℕ) (r : Record) → CarriesClock p m r → IsClockCopyOf p m (delivery i r)
+clock_copy_of p m i r c = record { known = c.known; spelled = rw (clock_frame_is p m r c).payload_is c.packet }
+
+-- deliveries of records, some of those of the clock maybe left out
+record AreKept (p : PacketJournal) (lead : ℕ) (numbers : List ℕ) (ds : List Delivery) : Type 0 where
+  origins : List Origin
+  copies : AreFrom p lead origins ds
+  same : stream_numbers origins ≡ numbers
+
+clock_kept : (p : PacketJournal) (lead m : ℕ) (numbers : List ℕ) (d : Delivery) (i : ℕ) (r : Record) (rest : List (ℕ × Record)) (b : Bool) → IsClockCopyOf p m (delivery i r)
+    → AreKept p lead numbers (map (λ (x : ℕ × Record). delivery x.0 x.1) rest)
+    → AreKept p lead numbers (map (λ (x : ℕ × Record). delivery x.0 x.1) (if b then (i, r) ∷ rest else rest))
+clock_kept p lead m numbers d i r rest true copy kept = record { origins = OfClock m ∷ kept.origins; copies = (copy, kept.copies); same = kept.same }
+clock_kept p lead m numbers d i r rest false copy kept = kept
+
+both_from : CvfAgain → (shift : ℤ) (p : PacketJournal) (clock : Option ℕ) (lead i : ℕ) (origins : List Origin) (records : List Record) → IsConforming shift p → IsReadKind p.times.kind
+    → AllCarryFrom p lead origins records
+    → AreKept p lead (stream_numbers origins) (map (λ (x : ℕ × Record). delivery x.0 x.1) (filter (λ (x : ℕ × Record). is_delivered p.stream clock x.1.bytes) (enumerate_from i records)))
+both_from again shift p clock lead i [] [] is known all = record { origins = []; copies = tt; same = refl }
+both_from again shift p clock lead i [] (r ∷ records) is known all = absurd all
+both_from again shift p clock lead i (o ∷ origins) [] is known all = absurd all
+both_from again shift p clock lead i (OfStream n ∷ origins) (r ∷ records) is known all =
+    let rest = both_from again shift p clock lead (i + 1) origins records is known all.1 in
+    rw (carried_belongs again shift p lead n r is known all.0)
+    (record {
+      origins = OfStream n ∷ rest.origins;
+      copies = (copy_of p lead n i r all.0, rest.copies);
+      same = ap (λ (l : List ℕ). n ∷ l) rest.same;
+    })
+both_from again shift p clock lead i (OfClock m ∷ origins) (r ∷ records) is known all =
+    clock_kept p lead m (stream_numbers origins) (delivery i r) i r
+    (filter (λ (x : ℕ × Record). is_delivered p.stream clock x.1.bytes) (enumerate_from (i + 1) records))
+    (is_delivered p.stream clock r.bytes) (clock_copy_of p m i r all.0)
+    (both_from again shift p clock lead (i + 1) origins records is known all.1)
+
+pub both_delivered : CvfAgain → (shift : ℤ) (p : PacketJournal) (clock : Option ℕ) (lead : ℕ) (origins : List Origin) (records : List Record) → IsConforming shift p → IsReadKind p.times.kind
+    → AllCarryFrom p lead origins records → AreNear p.times (stream_numbers origins) → Delivers p clock lead records
+both_delivered again shift p clock lead origins records is known all near =
+    let kept = both_from again shift p clock lead 1 origins records is known all in
+    record { origins = kept.origins; copies = kept.copies; near = rw kept.same near }

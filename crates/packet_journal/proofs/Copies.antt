@@ -27,7 +27,7 @@ iec_read v bytes writable fits s = rw s.whole (iec_again v s.trail writable fits
 cvf_read : CvfAgain → (v : Cvf) (bytes : List ℕ) → IsWritableCvf v → Fits (layout_of v.part) v → Spells (cvf_spelling v) bytes → SpellsCvf bytes (plain_cvf v)
 cvf_read again v bytes writable fits s = rw s.whole (again v s.trail writable fits)
 
-crf_read : (v : Crf) (bytes : List ℕ) → IsWritableCrf v → Fits crf_layout v → Spells (crf_spelling v) bytes → SpellsCrf bytes (plain_crf v)
+pub crf_read : (v : Crf) (bytes : List ℕ) → IsWritableCrf v → Fits crf_layout v → Spells (crf_spelling v) bytes → SpellsCrf bytes (plain_crf v)
 crf_read v bytes writable fits s = rw s.whole (crf_again v s.trail writable fits)
 
 pub packet_read : CvfAgain → (kind : Kind) (j : Journal) (stream n : ℕ) (view : PacketView) (bytes : List ℕ) → IsPacket kind j stream n view → Spells (spelling_of view) bytes → IsReadAs view bytes

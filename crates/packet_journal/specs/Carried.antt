@@ -1,15 +1,16 @@
 -- Records whose frames carry a journal's packets.
-use Rattle.std.specs.Prelude.{◌≡◌, ◌==◌, ℕ, true, pos, List, [], ◌∷◌, ⊤}
+use Rattle.std.specs.Prelude.{◌≡◌, ◌<◌, ◌==◌, ℕ, true, pos, List, [], ◌∷◌, ⊤}
 use Rattle.std.specs.List.{list_any}
 use Rattle.pcap_frames.specs.Capture.{Record}
 use Rattle.pcap_frames.specs.Frame.{Frame, IsWritableFrame, frame_spelling}
 use Rattle.aaf_format.specs.Aaf.{aaf_subtype}
 use Rattle.iec61883_format.specs.Iec.{iec_subtype}
 use Rattle.cvf_format.specs.Cvf.{cvf_subtype}
+use Rattle.crf_format.specs.Crf.{crf_spelling, crf_subtype}
 use Rattle.stream_journal.specs.Journal.{Kind, DenseAaf, SparseAaf, Am824, H264}
 use Rattle.stream_journal.specs.Delivered.{IsDelivered}
 use Rattle.packet_journal.specs.Deliveries.{avtp_ethertype, stream_kinds}
-use Rattle.packet_journal.specs.Delivered.{Spells}
+use Rattle.packet_journal.specs.Delivered.{Origin, OfClock, OfStream, Spells}
 use Rattle.packet_journal.specs.Packets.{PacketJournal, spelling_of}
 
 -- the subtype of a stream's packets (IEEE 1722-2016, table 6)
@@ -40,3 +41,30 @@ AllCarry p lead [] [] = ⊤
 AllCarry p lead [] (r ∷ rs) = ⊥
 AllCarry p lead (n ∷ ns) [] = ⊥
 AllCarry p lead (n ∷ ns) (r ∷ rs) = Carries p lead n r × AllCarry p lead ns rs
+
+-- ---- with those of the clock
+
+-- the kind of a clock's packets (IEEE 1722-2016, table 6)
+abbrev pub crf_kinds : List ℕ
+crf_kinds = crf_subtype ∷ []
+
+-- A record holds an Ethernet frame of AVTP with packet m of the clock.
+pub record CarriesClock (p : PacketJournal) (m : ℕ) (r : Record) : Type 0 where
+  pub known : m < p.times.clock.packets
+  pub frame : Frame
+  pub writable : IsWritableFrame frame
+  pub bytes : r.bytes ≡ frame_spelling frame
+  pub avtp : frame.ethertype ≡ avtp_ethertype
+  pub packet : Spells (crf_spelling (p.clock_packet m)) frame.payload
+
+-- a record carries a packet of the stream, or of the clock
+abbrev pub CarriesFrom : PacketJournal → ℕ → Origin → Record → Type 0
+CarriesFrom p lead (OfStream n) r = Carries p lead n r
+CarriesFrom p lead (OfClock m) r = CarriesClock p m r
+
+-- each record carries the packet of its origin
+abbrev pub AllCarryFrom : PacketJournal → ℕ → List Origin → List Record → Type 0
+AllCarryFrom p lead [] [] = ⊤
+AllCarryFrom p lead [] (r ∷ rs) = ⊥
+AllCarryFrom p lead (o ∷ os) [] = ⊥
+AllCarryFrom p lead (o ∷ os) (r ∷ rs) = CarriesFrom p lead o r × AllCarryFrom p lead os rs

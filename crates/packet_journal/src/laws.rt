@@ -5,8 +5,8 @@ ghost use Rattle.pcap_frames.specs.Capture.{Record};
 ghost use Rattle.stream_journal.specs.Delivered.{AreNear};
 ghost use Rattle.packet_journal.specs.Deliveries.{Delivery, belongs, delivery, stream_kinds};
 ghost use Rattle.packet_journal.specs.Packets.{IsConforming, PacketJournal};
-ghost use Rattle.packet_journal.specs.Delivered.{Delivers, IsClockCopyOf, IsCopyOf};
-ghost use Rattle.packet_journal.specs.Carried.{AllCarry, Carries, IsReadKind};
+ghost use Rattle.packet_journal.specs.Delivered.{Delivers, IsClockCopyOf, IsCopyOf, Origin, stream_numbers};
+ghost use Rattle.packet_journal.specs.Carried.{AllCarry, AllCarryFrom, Carries, CarriesClock, IsReadKind, crf_kinds};
 ghost use Rattle.packet_journal.specs.Laws.{IsClockReadAs, IsReadAs};
 
 /// What a listener reads of a copy of a packet is the packet that was sent, whatever trail the copy has.
@@ -30,6 +30,21 @@ pub fn carried_packet_is_delivered()
 /// are, where the kind is one of those that belong to a stream.
 pub fn carried_packets_are_delivered()
     ensures { (shift : ℤ) (p : PacketJournal) (clock : Option ℕ) (lead : ℕ) (numbers : List ℕ) (records : List Record) → IsConforming shift p → IsReadKind p.times.kind → AllCarry p lead numbers records → AreNear p.times numbers → Delivers p clock lead records }
+{
+    cvf_format::laws::packet_again();
+}
+
+/// A record that carries a packet of the clock of a conforming talker is one of the clock's, by its kind and its id, and its
+/// delivery is a copy of the packet.
+pub fn carried_clock_packet_is_delivered()
+    ensures belongs { (shift : ℤ) (p : PacketJournal) (m : ℕ) (r : Record) → IsConforming shift p → CarriesClock p m r → belongs crf_kinds p.clock r.bytes ≡ true }
+    ensures copy { (p : PacketJournal) (m frame : ℕ) (r : Record) → CarriesClock p m r → IsClockCopyOf p m (delivery frame r) }
+{}
+
+/// Records whose frames carry packets of a conforming talker's stream, captured in time, and of its clock deliver its
+/// journal, whichever packets they are, to listeners with a clock and without.
+pub fn records_of_both_are_delivered()
+    ensures { (shift : ℤ) (p : PacketJournal) (clock : Option ℕ) (lead : ℕ) (origins : List Origin) (records : List Record) → IsConforming shift p → IsReadKind p.times.kind → AllCarryFrom p lead origins records → AreNear p.times (stream_numbers origins) → Delivers p clock lead records }
 {
     cvf_format::laws::packet_again();
 }

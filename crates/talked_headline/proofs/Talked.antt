@@ -7,7 +7,6 @@ use Rattle.packet_journal.specs.Carried.{AllCarry, Carries, IsReadKind}
 use Rattle.packet_journal.specs.Deliveries.{belongs, deliveries, delivery, stream_kinds}
 use Rattle.packet_journal.specs.Packets.{PacketJournal}
 use Rattle.listener.specs.Laws.{IsAudioStream}
-use Rattle.talker.specs.declared.plan.CrfPlan.{CrfPlan}
 use Rattle.talker.specs.declared.plan.TalkKind.{TalkKind}
 use Rattle.talker.specs.declared.plan.TalkKind.TheVariants.{Aaf, Am824, H264}
 use Rattle.talker.specs.declared.plan.TalkPlan.{TalkPlan}
@@ -17,36 +16,31 @@ use Rattle.talker.specs.Journal.{journal, stream_by}
 
 -- ---- the journal of a plan
 
-heard_by : (kind : TalkKind) (crf : Option CrfPlan) (plan : TalkPlan) (input : List ℕ) → IsAudioStream (stream_by (audio_by kind plan) crf plan input).journal.times.kind
-heard_by (Aaf format false) None plan input = tt
-heard_by (Aaf format true) None plan input = tt
-heard_by (Aaf format sparse) (Some crf) plan input = tt
-heard_by Am824 None plan input = tt
-heard_by Am824 (Some crf) plan input = tt
-heard_by (H264 last_stamp) crf plan input = tt
+heard_by : (kind : TalkKind) (plan : TalkPlan) (input : List ℕ) → IsAudioStream (stream_by (audio_by kind plan) plan input).journal.times.kind
+heard_by (Aaf format false) plan input = tt
+heard_by (Aaf format true) plan input = tt
+heard_by Am824 plan input = tt
+heard_by (H264 last_stamp) plan input = tt
 
 -- its kind is one for which the headline is said
 pub kind_heard : (plan : TalkPlan) (input : List ℕ) → IsAudioStream (journal plan input).times.kind
-kind_heard plan input = heard_by plan.kind plan.crf plan input
+kind_heard plan input = heard_by plan.kind plan input
 
-read_by : (kind : TalkKind) (crf : Option CrfPlan) (plan : TalkPlan) (input : List ℕ) → IsReadKind (stream_by (audio_by kind plan) crf plan input).journal.times.kind
-read_by (Aaf format false) None plan input = refl
-read_by (Aaf format true) None plan input = refl
-read_by (Aaf format sparse) (Some crf) plan input = refl
-read_by Am824 None plan input = refl
-read_by Am824 (Some crf) plan input = refl
-read_by (H264 last_stamp) crf plan input = refl
+read_by : (kind : TalkKind) (plan : TalkPlan) (input : List ℕ) → IsReadKind (stream_by (audio_by kind plan) plan input).journal.times.kind
+read_by (Aaf format false) plan input = refl
+read_by (Aaf format true) plan input = refl
+read_by Am824 plan input = refl
+read_by (H264 last_stamp) plan input = refl
 
 pub kind_read : (plan : TalkPlan) (input : List ℕ) → IsReadKind (journal plan input).times.kind
-kind_read plan input = read_by plan.kind plan.crf plan input
+kind_read plan input = read_by plan.kind plan input
 
-id_by : (audio : Option Audio) (crf : Option CrfPlan) (plan : TalkPlan) (input : List ℕ) → plan.id ≡ (stream_by audio crf plan input).journal.stream
-id_by (Some audio) None plan input = refl
-id_by (Some audio) (Some crf) plan input = refl
-id_by None crf plan input = refl
+id_by : (audio : Option Audio) (plan : TalkPlan) (input : List ℕ) → plan.id ≡ (stream_by audio plan input).journal.stream
+id_by (Some audio) plan input = refl
+id_by None plan input = refl
 
 pub stream_is : (plan : TalkPlan) (input : List ℕ) → plan.id ≡ (journal plan input).stream
-stream_is plan input = id_by (audio_by plan.kind plan) plan.crf plan input
+stream_is plan input = id_by (audio_by plan.kind plan) plan input
 
 -- ---- the first frame of a capture
 

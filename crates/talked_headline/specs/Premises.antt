@@ -20,6 +20,8 @@ pub record ListensTo (plan : TalkPlan) (input : List ℕ) (listen : ListenPlan) 
 -- packet n of the plan is stamped, and has room in the listener's buffer
 pub record HasRoomFor (plan : TalkPlan) (input : List ℕ) (listen : ListenPlan) (n : ℕ) : Type 0 where
   pub known : n < (journal plan input).times.packets
+  -- no clock is sent beside the stream, so its frame is the one of its number
+  pub alone : plan.crf ≡ None
   pub instant : ℕ
   pub stamped : (journal plan input).times.stamp n ≡ Some instant
   pub buffer : 1 ≤ listen.buffer

@@ -188,6 +188,15 @@ blocks_found plan n p of eighth unstamped behind =
 goes_on : (m c : ℕ) → (m + c) % 256 ≡ (m % 256 + c) % 256
 goes_on m c = omega arith
 
+-- the stream begins with block 0
+first_block : (plan : TalkPlan) (interval : ℕ) → IsInterval interval → (interval - 0 * plan.count % 256 % interval) % interval ≡ 0
+first_block plan interval of = let none : 0 * plan.count ≡ 0 = omega arith in rw none (none_left interval of)
+  where
+    none_left : (interval : ℕ) → IsInterval interval → (interval - 0 % 256 % interval) % interval ≡ 0
+    none_left interval (inl e) = rw e refl
+    none_left interval (inr (inl e)) = rw e refl
+    none_left interval (inr (inr e)) = rw e refl
+
 pub am824_times : (f : Am824Format) (plan : TalkPlan) → IsPlan plan → IsAm824 f plan → IsKindOf plan (am824_kind plan)
 am824_times f plan p is =
     let interval : ℕ = interval_of plan.rate in
@@ -206,6 +215,7 @@ am824_times f plan p is =
       };
       of_kind = λ j audio agrees. (audio, agrees);
       whole = λ n fragment. fragment;
+      first = first_block plan (interval_of plan.rate) of;
     }
   where
     below : (i count : ℕ) → nat_lt i count ≡ true → i < count

@@ -1,22 +1,27 @@
 -- A stream of audio keeps all that streams keep, whatever its format.
-use Rattle.std.proofs.Common.{◌≡◌, ℕ, suc, ◌+◌, ◌*◌, ◌^◌, ◌%◌, ◌<◌, ◌≤◌, Bool, true, false, List, [], ◌∷◌, length, Some, None, is_some, pos, refl, sym, ap, ◌∙◌, arith}
+use Rattle.std.proofs.Common.{◌≡◌, ℕ, suc, ◌+◌, ◌*◌, ◌^◌, ◌%◌, ◌<◌, ◌≤◌, Bool, true, false, List, [], ◌∷◌, length, Option, Some, None, is_some, pos, refl, sym, ap, ◌∙◌, arith}
 use Rattle.std.specs.Prelude.{◌==◌, if◌then◌else◌}
 use Rattle.std.proofs.Math.Nat.{le-mul_of_pos_right, mul-le-mul_right, mul_assoc}
 use Rattle.stream_journal.specs.Conforming.{Conforms, HoldsEight, IsApart, IsAudio, is_stamped}
 use Rattle.stream_journal.specs.Delivered.{AreNear, IsDelivered, IsInHalfCircle, IsWithin}
 use Rattle.stream_journal.specs.Journal.{Kind, rule_of}
 use Rattle.time_unfold.specs.Heads.{stamped_index}
-use Rattle.stream_journal.proofs.Worked.{no_clock-agrees, no_clock-is}
 use Rattle.packet_journal.specs.Carried.{IsReadKind}
 use Rattle.packet_journal.specs.Packets.{IsConforming, IsPacket}
+use Rattle.talker.specs.declared.plan.CrfPlan.{CrfPlan}
 use Rattle.talker.specs.declared.plan.TalkPlan.{TalkPlan}
 use Rattle.talker.specs.Audio.{Audio}
 use Rattle.talker.specs.Frames.{packet_bytes}
 use Rattle.talker.specs.Journal.{Stream, audio_journal, audio_times, due_in, nominal_times, packets_of, samples_in, stream_by}
+use Rattle.talker.specs.Clock.{stamped_instant}
 use Rattle.talker.specs.Packets.{stamp_of}
-use Rattle.talker.specs.Plan.{Expects, IsNearLead, IsPlan}
+use Rattle.talker.specs.Plan.{Expects, IsAhead, IsNearLead, IsPlan}
 use Rattle.talker.specs.Talking.{most_input}
 use Rattle.talker.specs.Timing.{arrival_of, event_of, first_instant, mr_of, nominal_instant}
+use Rattle.talker.proofs.ClockLemmas.{early_by, most_early, most_late, stamped_near}
+use Rattle.talker.proofs.ClockPackets.{clock_early, clock_fits, clock_packet_is, clock_rises}
+use Rattle.talker.proofs.ClockRules.{clock_is}
+use Rattle.talker.proofs.ClockStamps.{clock_agrees}
 use Rattle.talker.proofs.DueLemmas.{IsKindOf, due_near, head_due, stamp_is}
 use Rattle.talker.proofs.RateLemmas.{rate_from, rate_range}
 use Rattle.talker.proofs.RunLemmas.{new_bit}
@@ -38,7 +43,7 @@ pub record IsFormatOf (plan : TalkPlan) (a : Audio) (headers : ℕ) : Type 0 whe
   pub leads : (lead n : ℕ) → Expects plan lead → is_stamped (rule_of a.kind n) n plan.count ≡ false → IsNearLead plan lead
 
 abbrev pub stream_in : Audio → TalkPlan → List ℕ → Stream
-stream_in a plan input = stream_by (Some a) None plan input
+stream_in a plan input = stream_by (Some a) plan input
 
 -- ---- packet n of an input that is not too long
 
@@ -67,11 +72,11 @@ soon plan n i p within =
 
 -- ---- the rules
 
--- packets are due by a nanosecond before their nominal first instants
-apart_by : (due next x y rate time : ℕ) → due ≤ x → y ≤ next + 1 → 4 * (x * rate) + time + 4 * rate ≤ 4 * (y * rate) → 4 * (due * rate) + time ≤ 4 * (next * rate)
+-- packets are due near their nominal first instants
+apart_by : (due next x y rate time : ℕ) → due ≤ x + 1 → y ≤ next + 3 → 4 * (x * rate) + time + 16 * rate ≤ 4 * (y * rate) → 4 * (due * rate) + time ≤ 4 * (next * rate)
 apart_by due next x y rate time from to far =
-    let least : due * rate ≤ x * rate = mul-le-mul_right rate from in
-    let most : y * rate ≤ (next + 1) * rate = mul-le-mul_right rate to in
+    let least : due * rate ≤ (x + 1) * rate = mul-le-mul_right rate from in
+    let most : y * rate ≤ (next + 3) * rate = mul-le-mul_right rate to in
     omega arith
 
 spaced : (kind : Kind) (plan : TalkPlan) (packets n : ℕ) → IsPlan plan → IsKindOf plan kind
@@ -80,7 +85,7 @@ spaced kind plan packets n p k =
     let here = due_near kind plan packets n p k in
     let next = due_near kind plan packets (suc n) p k in
     apart_by (due_in (nominal_times kind plan packets) n) (due_in (nominal_times kind plan packets) (suc n)) (first_instant plan n) (first_instant plan (suc n)) plan.rate
-    (3 * (plan.count * 1000000000)) here.from next.to (apart plan n p)
+    (3 * (plan.count * 1000000000)) (omega (arith, here.from, most_late plan.crf)) (omega (arith, next.to, most_early plan.crf)) (apart plan n p)
 
 pub some_by : (b : Bool) (instant : ℕ) → is_some (if b then Some instant else None) ≡ b
 some_by true instant = refl
@@ -93,7 +98,7 @@ audio kind plan packets p k =
       rate_from = range.least;
       rate_to = range.most;
       some = p.some_count;
-      stamps = λ n h. some_by (is_stamped (rule_of kind n) n plan.count) (nominal_instant plan n (stamped_index (rule_of kind n)));
+      stamps = λ n h. some_by (is_stamped (rule_of kind n) n plan.count) (stamped_instant plan n (stamped_index (rule_of kind n)));
       blocks = k.blocks packets;
       spacing = λ n h. spaced kind plan packets n p k;
       first_instants = λ n head h e. head_due kind plan packets n head p k e;
@@ -105,14 +110,14 @@ holds plan packets p n k other few known =
     ap (λ (g : ℕ). g % 2 == 1) (new.kept k few ∙ sym new.run)
 
 stamp_by : (kind : Kind) (plan : TalkPlan) (n instant : ℕ) (b : Bool) → is_stamped (rule_of kind n) n plan.count ≡ b → stamp_of kind plan n ≡ Some instant
-    → (b ≡ true) × (nominal_instant plan n (stamped_index (rule_of kind n)) ≡ instant)
-stamp_by kind plan n instant true e h = (refl, stamp_is true (nominal_instant plan n (stamped_index (rule_of kind n))) instant (rw e at h))
+    → (b ≡ true) × (stamped_instant plan n (stamped_index (rule_of kind n)) ≡ instant)
+stamp_by kind plan n instant true e h = (refl, stamp_is true (stamped_instant plan n (stamped_index (rule_of kind n))) instant (rw e at h))
 stamp_by kind plan n instant false e h = let none : stamp_of kind plan n ≡ None = rw e refl in absurd cc
 
 -- a stamped packet stamps a sample frame of its own
 record IsStamped (kind : Kind) (plan : TalkPlan) (n instant : ℕ) : Type 0 where
   within : stamped_index (rule_of kind n) < plan.count
-  same : nominal_instant plan n (stamped_index (rule_of kind n)) ≡ instant
+  same : stamped_instant plan n (stamped_index (rule_of kind n)) ≡ instant
 
 stamped : (kind : Kind) (plan : TalkPlan) (n instant : ℕ) → IsKindOf plan kind → stamp_of kind plan n ≡ Some instant → IsStamped kind plan n instant
 stamped kind plan n instant k h =
@@ -124,27 +129,28 @@ due_within : (plan : TalkPlan) (a : Audio) (headers packets : ℕ) (input : List
 due_within plan a headers packets input n p is limit h =
     let near = due_near a.kind plan packets n p is.kind in
     let most = in_time plan n 0 p (timely plan a headers input n p is limit h) p.some_count in
-    omega (arith, near.from, p.lead)
+    omega (arith, near.from, p.lead, most_late plan.crf)
 
 stamp_within : (plan : TalkPlan) (a : Audio) (headers : ℕ) (input : List ℕ) (n instant : ℕ) → IsPlan plan → IsFormatOf plan a headers → length input ≤ most_input → n < packets_of a plan input
     → stamp_of a.kind plan n ≡ Some instant → instant ≤ 2 ^ 62
 stamp_within plan a headers input n instant p is limit h e =
     let stamp = stamped a.kind plan n instant is.kind e in
     let most = in_time plan n (stamped_index (rule_of a.kind n)) p (timely plan a headers input n p is limit h) stamp.within in
-    omega (arith, stamp.same, p.lead)
+    let near = stamped_near plan n (stamped_index (rule_of a.kind n)) p in
+    omega (arith, stamp.same, p.lead, near.late, most_late plan.crf)
 
 times_conform : (plan : TalkPlan) (a : Audio) (headers : ℕ) (input : List ℕ) → IsPlan plan → IsFormatOf plan a headers → length input ≤ most_input
     → Conforms (audio_times a.kind plan (packets_of a plan input))
 times_conform plan a headers input p is limit =
     let packets : ℕ = packets_of a plan input in
     record {
-      kind = is.kind.of_kind (audio_times a.kind plan packets) (audio a.kind plan packets p is.kind) (no_clock-agrees (audio_times a.kind plan packets) refl);
+      kind = is.kind.of_kind (audio_times a.kind plan packets) (audio a.kind plan packets p is.kind) (clock_agrees a.kind plan packets p is.kind);
       holds = holds plan packets p;
       instants = record {
         due = λ n h. due_within plan a headers packets input n p is limit h;
         stamp = λ n instant h e. stamp_within plan a headers input n instant p is limit h e;
       };
-      clock = no_clock-is;
+      clock = clock_is plan packets p (λ n h. timely plan a headers input n p is limit h);
     }
 
 audio_conforms : (plan : TalkPlan) (a : Audio) (headers : ℕ) (input : List ℕ) → IsPlan plan → IsFormatOf plan a headers → length input ≤ most_input → plan.id < 2 ^ 64
@@ -152,17 +158,17 @@ audio_conforms : (plan : TalkPlan) (a : Audio) (headers : ℕ) (input : List ℕ
 audio_conforms plan a headers input p is limit id = record {
   times = times_conform plan a headers input p is limit;
   packets = λ n h. is.packet (packets_of a plan input) n (samples_in a plan input n) id (samples_whole a.silence a.frame plan.count n input is.silence);
-  clock_packets = λ m h. absurd (omega arith);
+  clock_packets = λ m h. clock_packet_is plan (packets_of a plan input) m p (λ n k. timely plan a headers input n p is limit k) h;
 }
 
 -- ---- packet n comes in time
 
-near_by : (arrival lead plan_lead first due rate time : ℕ) → arrival + plan_lead ≡ first → due ≤ first → first ≤ due + 1 → rate < time
+near_by : (arrival lead plan_lead first due rate time : ℕ) → arrival + plan_lead ≡ first → due ≤ first + 1 → first ≤ due + 3 → 3 * rate < time
     → plan_lead * rate < lead * rate + 127 * time → lead * rate < plan_lead * rate + 127 * time
     → (due * rate < (arrival + lead) * rate + 128 * time) × ((arrival + lead) * rate < due * rate + 128 * time)
 near_by arrival lead plan_lead first due rate time at from to wide soon late =
-    let least : due * rate ≤ (arrival + plan_lead) * rate = mul-le-mul_right rate (omega arith) in
-    let most : (arrival + plan_lead) * rate ≤ (due + 1) * rate = mul-le-mul_right rate (omega arith) in
+    let least : due * rate ≤ (arrival + plan_lead + 1) * rate = mul-le-mul_right rate (omega arith) in
+    let most : (arrival + plan_lead) * rate ≤ (due + 3) * rate = mul-le-mul_right rate (omega arith) in
     (omega arith, omega arith)
 
 -- a packet without a timestamp comes near its first instant
@@ -172,18 +178,22 @@ near_due kind plan packets lead n p k near =
     let range = rate_range plan p in
     let due = due_near kind plan packets n p k in
     let found = near_by (arrival_of plan n) lead plan.lead (first_instant plan n) (due_in (nominal_times kind plan packets) n) plan.rate (plan.count * 1000000000)
-    (ahead plan n) due.from due.to (omega (arith, range.most, p.some_count)) near.from near.to in
+    (ahead plan n) (omega (arith, due.from, most_late plan.crf)) (omega (arith, due.to, most_early plan.crf)) (omega (arith, range.most, p.some_count)) near.from near.to in
     record { from = found.0; to = found.1 }
 
 unstamped : (kind : Kind) (plan : TalkPlan) (n : ℕ) (b : Bool) → is_stamped (rule_of kind n) n plan.count ≡ b → stamp_of kind plan n ≡ None → b ≡ false
-unstamped kind plan n true e none = let some : stamp_of kind plan n ≡ Some (nominal_instant plan n (stamped_index (rule_of kind n))) = rw e refl in absurd cc
+unstamped kind plan n true e none = let some : stamp_of kind plan n ≡ Some (stamped_instant plan n (stamped_index (rule_of kind n))) = rw e refl in absurd cc
 unstamped kind plan n false e none = refl
 
 in_circle : (kind : Kind) (plan : TalkPlan) (n instant : ℕ) → IsPlan plan → IsKindOf plan kind → stamp_of kind plan n ≡ Some instant → IsInHalfCircle instant (arrival_of plan n)
 in_circle kind plan n instant p k e =
     let stamp = stamped kind plan n instant k e in
     let near = soon plan n (stamped_index (rule_of kind n)) p stamp.within in
-    record { from = omega (arith, stamp.same, ahead plan n, near.1, p.lead); to = omega (arith, stamp.same, ahead plan n, near.0) }
+    let by = stamped_near plan n (stamped_index (rule_of kind n)) p in
+    record {
+      from = omega (arith, stamp.same, ahead plan n, near.1, p.lead, by.late, most_late plan.crf);
+      to = omega (arith, stamp.same, ahead plan n, near.0, by.early, most_early plan.crf);
+    }
 
 on_time : (plan : TalkPlan) (a : Audio) (headers : ℕ) (input : List ℕ) (lead n : ℕ) → IsPlan plan → IsFormatOf plan a headers → length input ≤ most_input → Expects plan lead
     → n < packets_of a plan input → IsDelivered (audio_times a.kind plan (packets_of a plan input)) lead (record { number = n; arrival = arrival_of plan n })
@@ -203,16 +213,29 @@ all_near kind plan packets [] k = tt
 all_near kind plan packets (n ∷ []) k = tt
 all_near kind plan packets (n ∷ m ∷ numbers) k = ((λ first second unstamped. absurd (k.whole n first)), all_near kind plan packets (m ∷ numbers) k)
 
+early_lead : (crf : Option CrfPlan) (lead : ℕ) → 1 ≤ lead → IsAhead crf lead → 1 + early_by crf ≤ lead
+early_lead None lead some ready = omega arith
+early_lead (Some crf) lead some ready = omega arith
+
+sent_early : (kind : Kind) (plan : TalkPlan) (packets n : ℕ) → IsPlan plan → IsKindOf plan kind → IsAhead plan.crf plan.lead
+    → arrival_of plan n ≤ due_in (nominal_times kind plan packets) n
+sent_early kind plan packets n p k ready =
+    let due = due_near kind plan packets n p k in
+    omega (arith, ahead plan n, due.to, early_lead plan.crf plan.lead p.some_lead ready)
+
 -- ---- all of it
 
 pub audio_stream : (plan : TalkPlan) (a : Audio) (headers : ℕ) (input : List ℕ) → IsPlan plan → IsFormatOf plan a headers → length input ≤ most_input → IsStream plan (stream_in a plan input)
 audio_stream plan a headers input p is limit = record {
   rising = λ n. rising plan n p;
-  early = λ n h. let due = due_near a.kind plan (packets_of a plan input) n p is.kind in omega (arith, ahead plan n, due.to, p.some_lead);
+  early = λ n ready h. sent_early a.kind plan (packets_of a plan input) n p is.kind ready;
   sent = λ n h. let most = in_time plan n 0 p (timely plan a headers input n p is limit h) p.some_count in omega (arith, ahead plan n);
   size = λ n h.
       let bytes = is.bytes n (samples_in a plan input n) (samples_whole a.silence a.frame plan.count n input is.silence) in
       omega (arith, bytes, is.size);
+  clock_rising = λ m. clock_rises plan m p;
+  clock_sent = λ m h. clock_early plan (packets_of a plan input) m p (λ n k. timely plan a headers input n p is limit k) h;
+  clock_size = λ m h. clock_fits plan (packets_of a plan input) m p h;
   conforms = λ id. audio_conforms plan a headers input p is limit id;
   read = is.read;
   on_time = λ lead n expects h. on_time plan a headers input lead n p is limit expects h;

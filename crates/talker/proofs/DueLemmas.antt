@@ -1,5 +1,5 @@
 -- When the packets of a kind are due.
-use Rattle.std.proofs.Common.{◌%◌, ◌≡◌, ℕ, ◌+◌, ◌-◌, ◌*◌, ◌<◌, ◌≤◌, Bool, true, false, ℤ, pos, neg_ℤ, nat_abs, ◌+ℤ◌, ◌-ℤ◌, ◌*ℤ◌, Option, Some, None, inl, inr, refl, sym, ap, ◌∙◌, arith}
+use Rattle.std.proofs.Common.{subst, zero, suc, ◌%◌, ◌≡◌, ℕ, ◌+◌, ◌-◌, ◌*◌, ◌<◌, ◌≤◌, Bool, true, false, ℤ, pos, neg_ℤ, nat_abs, ◌+ℤ◌, ◌-ℤ◌, ◌*ℤ◌, Option, Some, None, inl, inr, refl, sym, ap, ◌∙◌, arith}
 use Rattle.std.specs.Prelude.{IsSome, ◌==◌, if◌then◌else◌, nat_le, option_map}
 use Rattle.std.specs.Int.{div_ceil}
 use Rattle.std.proofs.Math.Nat.{mul-le-mul_right}
@@ -9,7 +9,7 @@ use Rattle.std.proofs.lemmas.Grind.{div_ceil_times}
 use Rattle.std.proofs.lemmas.Int.{ints}
 use borrow.Author.Differences.{up, down}
 use Rattle.time_unfold.specs.declared.line.Line.{Line}
-use Rattle.time_unfold.specs.Lines.{IsAt, instant_at, nominal_line}
+use Rattle.time_unfold.specs.Lines.{IsAt, floor_of, instant_at, nominal_line}
 use Rattle.time_unfold.specs.Stamps.{same_flag}
 use Rattle.time_unfold.proofs.OnLine.{instant_at-at, one_at}
 use Rattle.time_unfold.specs.declared.head_rule.Distance.{Distance}
@@ -20,13 +20,16 @@ use Rattle.stream_journal.specs.Conforming.{AgreesWithClock, HasBlocks, IsAudio,
 use Rattle.stream_journal.specs.Delivered.{IsFragment}
 use Rattle.stream_journal.proofs.Spacing.{IsBefore}
 use Rattle.talker.specs.declared.plan.TalkPlan.{TalkPlan}
+use Rattle.talker.specs.declared.plan.CrfPlan.{CrfPlan}
+use Rattle.talker.specs.Clock.{stamped_instant}
 use Rattle.talker.specs.Plan.{IsPlan}
 use Rattle.talker.specs.Journal.{due_by, due_in, nominal_times}
 use Rattle.talker.specs.Packets.{stamp_of}
 use Rattle.talker.specs.Timing.{event_of, first_instant, first_packet, mr_of, nominal_instant, nominal_offset, run_of, run_start}
-use Rattle.talker.proofs.RateLemmas.{rate_from}
+use Rattle.talker.proofs.ClockLemmas.{IsNear, early_by, late_by, most_early, stamped_first, stamped_near}
+use Rattle.talker.proofs.RateLemmas.{rate_from, rate_range}
 use Rattle.talker.proofs.RunLemmas.{in_run, no_later_run, one_run, whole}
-use Rattle.talker.proofs.TimingLemmas.{is_offset, sum_of}
+use Rattle.talker.proofs.TimingLemmas.{apart, is_offset, sum_of}
 
 -- ---- what kinds of audio keep
 
@@ -50,14 +53,45 @@ pub record IsKindOf (plan : TalkPlan) (kind : Kind) : Type 0 where
   pub blocks : (packets : ℕ) → HasBlocks kind plan.count packets
   pub of_kind : (j : Journal) → IsAudio j → AgreesWithClock j → IsOfKind kind j
   pub whole : (n : ℕ) → ¬ IsFragment kind n
+  pub first : stamped_index (rule_of kind 0) ≡ 0
 
 -- ---- the head of a packet
 
--- it is the instant of an event of the packet's run
+-- It is near the nominal instant of an event of the packet's run, and that much before which the packet is not at 0.
 pub record IsCounted (plan : TalkPlan) (n : ℕ) (head : Head) : Type 0 where
   pub event : ℕ
-  pub instant : head.instant ≡ pos (run_start plan (run_of plan n) + nominal_offset plan.rate event)
+  pub stamp : ℕ
+  pub instant : head.instant ≡ pos stamp
+  pub near : IsNear plan.crf stamp (run_start plan (run_of plan n) + nominal_offset plan.rate event)
+  pub room : run_start plan (run_of plan n) + nominal_offset plan.rate event + 1 ≤ stamp + first_instant plan n
   pub first : head.first ≡ pos (event_of plan n 0) -ℤ pos event
+
+-- the first packet alone can be at an instant below 3
+pub some_instant : (plan : TalkPlan) (n : ℕ) → IsPlan plan → 1 ≤ first_instant plan n
+unfolding nominal_instant
+some_instant plan n p = omega (arith, p.some_lead)
+
+third_by : (x y rate count : ℕ) → rate ≤ 192000 → 1 ≤ count → 4 * (x * rate) + 3 * (count * 1000000000) + 16 * rate ≤ 4 * (y * rate) → 3 ≤ y
+third_by x y rate count slow some far = elim (cases_lt y 3) [
+  | inl less ↦ let times : y * rate ≤ 2 * rate = mul-le-mul_right rate (omega arith) in absurd (omega arith)
+  | inr not ↦ not
+]
+
+third : (plan : TalkPlan) (n : ℕ) → IsPlan plan → 3 ≤ first_instant plan (suc n)
+third plan n p =
+    let range = rate_range plan p in
+    third_by (first_instant plan n) (first_instant plan (suc n)) plan.rate plan.count range.most p.some_count (apart plan n p)
+
+pub has_room : (plan : TalkPlan) (n m i : ℕ) → IsPlan plan → (n ≡ 0 → event_of plan m i ≡ 0) → nominal_instant plan m i + 1 ≤ stamped_instant plan m i + first_instant plan n
+has_room plan zero m i p first =
+    let same = stamped_first plan m i p (first refl) in
+    let some = some_instant plan 0 p in
+    omega arith
+has_room plan (suc n) m i p first =
+    let near = stamped_near plan m i p in
+    let early = most_early plan.crf in
+    let some = third plan n p in
+    omega (arith, near.early)
 
 one_flag : (a b : Bool) → same_flag a b ≡ true → a ≡ b
 one_flag true b h = sym h
@@ -71,19 +105,39 @@ pub stamp_is : (b : Bool) (first instant : ℕ) → (if b then Some first else N
 stamp_is true first instant e = cc
 stamp_is false first instant e = absurd cc
 
-own_counted : (kind : Kind) (plan : TalkPlan) (packets n : ℕ) (head : Head) → is_stamped (rule_of kind n) n plan.count ≡ true
+-- the stream begins with event 0
+event_none : (plan : TalkPlan) (n : ℕ) → n ≡ 0 → event_of plan n 0 ≡ 0
+event_none plan n none =
+    let before : n - first_packet plan (run_of plan n) ≡ 0 = omega arith in
+    ap (λ (m : ℕ). m * plan.count + 0) before ∙ omega arith
+
+own_counted : (kind : Kind) (plan : TalkPlan) (packets n : ℕ) (head : Head) → IsPlan plan → IsKindOf plan kind → is_stamped (rule_of kind n) n plan.count ≡ true
     → head_of (nominal_times kind plan packets) n ≡ Some head → IsCounted plan n head
 unfolding nominal_instant
-own_counted kind plan packets n head e h =
+own_counted kind plan packets n head p k e h =
     let i : ℕ = stamped_index (rule_of kind n) in
-    let own : head_of (nominal_times kind plan packets) n ≡ Some (record { instant = pos (nominal_instant plan n i); first = neg_ℤ (pos i) }) = rw e refl in
-    let same : record { instant = pos (nominal_instant plan n i); first = neg_ℤ (pos i) } ≡ head = cc in
-    rw (← same) (record { event = event_of plan n i; instant = refl; first = omega (arith, ints) })
+    let own : head_of (nominal_times kind plan packets) n ≡ Some (record { instant = pos (stamped_instant plan n i); first = neg_ℤ (pos i) }) = rw e refl in
+    let same : record { instant = pos (stamped_instant plan n i); first = neg_ℤ (pos i) } ≡ head = cc in
+    rw (← same)
+    (record {
+      event = event_of plan n i;
+      stamp = stamped_instant plan n i;
+      instant = refl;
+      near = stamped_near plan n i p;
+      room = has_room plan n n i p (own_first n);
+      first = omega (arith, ints);
+    })
+  where
+    own_first : (n : ℕ) → n ≡ 0 → event_of plan n (stamped_index (rule_of kind n)) ≡ 0
+    own_first n none =
+        let e = event_none plan n none in
+        let first : stamped_index (rule_of kind n) ≡ 0 = rw none k.first in
+        omega arith
 
 record IsFrom (kind : Kind) (plan : TalkPlan) (n : ℕ) (far : Distance) (head : Head) : Type 0 where
   back : far.packets ≤ n
   one_run : mr_of plan (n - far.packets) ≡ mr_of plan n
-  instant : head.instant ≡ pos (nominal_instant plan (n - far.packets) (stamped_index (rule_of kind (n - far.packets))))
+  instant : head.instant ≡ pos (stamped_instant plan (n - far.packets) (stamped_index (rule_of kind (n - far.packets))))
   first : head.first ≡ pos far.samples
 
 from_by : (kind : Kind) (plan : TalkPlan) (n : ℕ) (far : Distance) (head : Head) (a b : Bool) → nat_le far.packets n ≡ a → same_flag (mr_of plan (n - far.packets)) (mr_of plan n) ≡ b
@@ -94,10 +148,10 @@ from_by kind plan n far head true false e f h = absurd cc
 from_by kind plan n far head true true e f h = stamped_by (is_stamped (rule_of kind (n - far.packets)) (n - far.packets) plan.count) h
   where
     stamped_by : (t : Bool) → option_map (λ instant. record { instant = pos instant; first = pos far.samples })
-        (if t then Some (nominal_instant plan (n - far.packets) (stamped_index (rule_of kind (n - far.packets)))) else None) ≡ Some head → IsFrom kind plan n far head
+        (if t then Some (stamped_instant plan (n - far.packets) (stamped_index (rule_of kind (n - far.packets)))) else None) ≡ Some head → IsFrom kind plan n far head
     stamped_by false h = absurd cc
     stamped_by true h =
-        let same : record { instant = pos (nominal_instant plan (n - far.packets) (stamped_index (rule_of kind (n - far.packets)))); first = pos far.samples } ≡ head = cc in
+        let same : record { instant = pos (stamped_instant plan (n - far.packets) (stamped_index (rule_of kind (n - far.packets)))); first = pos far.samples } ≡ head = cc in
         rw (← same) (record { back = before far.packets n e; one_run = one_flag (mr_of plan (n - far.packets)) (mr_of plan n) f; instant = refl; first = refl })
 
 -- d packets on in one run
@@ -121,11 +175,18 @@ back_counted kind plan n far head p counted from =
     let i : ℕ = stamped_index (rule_of kind m) in
     let events = same_run plan m far.packets n i far.samples p place same counted.place in
     let starts : run_start plan (run_of plan m) ≡ run_start plan (run_of plan n) = ap (λ (g : ℕ). run_start plan g) same in
+    let nominal : nominal_instant plan m i ≡ run_start plan (run_of plan n) + nominal_offset plan.rate (event_of plan m i) = ap (λ (s : ℕ). s + nominal_offset plan.rate (event_of plan m i)) starts in
     record {
       event = event_of plan m i;
-      instant = from.instant ∙ ap (λ (s : ℕ). pos (s + nominal_offset plan.rate (event_of plan m i))) starts;
+      stamp = stamped_instant plan m i;
+      instant = from.instant;
+      near = subst (IsNear plan.crf (stamped_instant plan m i)) nominal (stamped_near plan m i p);
+      room = (let room = has_room plan n m i p (λ none. sum_first (event_of plan m i) far.samples (event_of plan n 0) events (event_none plan n none)) in omega (arith, nominal, room));
       first = from.first ∙ (omega (arith, ints));
     }
+  where
+    sum_first : (e samples e0 : ℕ) → e + samples ≡ e0 → e0 ≡ 0 → e ≡ 0
+    sum_first e samples e0 sum none = omega arith
 
 distant_by : (kind : Kind) (plan : TalkPlan) (packets n : ℕ) (head : Head) (far : Option Distance) → IsPlan plan → IsKindOf plan kind → is_stamped (rule_of kind n) n plan.count ≡ false
     → distance (rule_of kind n) n plan.count ≡ far → head_of (nominal_times kind plan packets) n ≡ Some head → IsCounted plan n head
@@ -139,7 +200,7 @@ distant_by kind plan packets n head (Some far) p k e f h =
 
 counted_by : (kind : Kind) (plan : TalkPlan) (packets n : ℕ) (head : Head) (b : Bool) → IsPlan plan → IsKindOf plan kind → is_stamped (rule_of kind n) n plan.count ≡ b
     → head_of (nominal_times kind plan packets) n ≡ Some head → IsCounted plan n head
-counted_by kind plan packets n head true p k e h = own_counted kind plan packets n head e h
+counted_by kind plan packets n head true p k e h = own_counted kind plan packets n head p k e h
 counted_by kind plan packets n head false p k e h = distant_by kind plan packets n head (distance (rule_of kind n) n plan.count) p k e refl h
 
 -- ---- a first sample is at the nominal first instant, or a nanosecond before
@@ -242,23 +303,48 @@ nearby start e e0 rate first some some_rate at = elim (cases_lt e0 e) [
       rw ahead (forward start e (e0 - e) e0 rate some_rate (omega arith))
 ]
 
+-- the same, counted from an instant near the nominal one
+record IsNearly (crf : Option CrfPlan) (x : ℤ) (first : ℕ) : Type 0 where
+  due : ℕ
+  same : x ≡ pos due
+  from : due ≤ first + late_by crf
+  to : first ≤ due + 1 + early_by crf
+
+shifted : (q : ℤ) (nominal stamp due moved : ℕ) → pos nominal +ℤ q ≡ pos due → moved + nominal ≡ due + stamp → pos stamp +ℤ q ≡ pos moved
+shifted q nominal stamp due moved e sum = omega (arith, ints)
+
+nearly : (crf : Option CrfPlan) (start e e0 rate stamp : ℕ) (first : ℤ) → 1 ≤ start → 0 < rate → first ≡ pos e0 -ℤ pos e → IsNear crf stamp (start + nominal_offset rate e)
+    → start + nominal_offset rate e + 1 ≤ stamp + (start + nominal_offset rate e0)
+    → IsNearly crf (instant_at (nominal_line (pos stamp) rate) (first +ℤ pos 0)) (start + nominal_offset rate e0)
+nearly crf start e e0 rate stamp first some some_rate at near room =
+    let is = nearby start e e0 rate first some some_rate at in
+    let nominal : ℕ = start + nominal_offset rate e in
+    let due : ℕ = is.due + stamp - nominal in
+    let place : due + nominal ≡ is.due + stamp = omega (arith, is.to, room) in
+    record {
+      due = due;
+      same = shifted (floor_of ((first +ℤ pos 0) *ℤ pos 1000000000) rate) nominal stamp is.due due is.same place;
+      from = omega (arith, is.from, near.late);
+      to = omega (arith, is.to, near.early);
+    }
+
 head_nearby : (kind : Kind) (plan : TalkPlan) (packets n : ℕ) (head : Head) → IsPlan plan → IsCounted plan n head
-    → IsNearby (journal_instant (nominal_times kind plan packets) head 0) (first_instant plan n)
+    → IsNearly plan.crf (journal_instant (nominal_times kind plan packets) head 0) (first_instant plan n)
 unfolding nominal_instant
 head_nearby kind plan packets n head p counted =
     let some : 0 < plan.rate = omega (arith, rate_from plan p) in
     let start : ℕ = run_start plan (run_of plan n) in
     let lead = p.some_lead in
-    rw counted.instant (nearby start counted.event (event_of plan n 0) plan.rate head.first (omega arith) some counted.first)
+    rw counted.instant (nearly plan.crf start counted.event (event_of plan n 0) plan.rate counted.stamp head.first (omega arith) some counted.first counted.near counted.room)
 
 -- ---- so a packet is due near it, and at its head's first sample
 
 pub record IsDueNear (kind : Kind) (plan : TalkPlan) (packets n : ℕ) : Type 0 where
-  pub from : due_in (nominal_times kind plan packets) n ≤ first_instant plan n
-  pub to : first_instant plan n ≤ due_in (nominal_times kind plan packets) n + 1
+  pub from : due_in (nominal_times kind plan packets) n ≤ first_instant plan n + late_by plan.crf
+  pub to : first_instant plan n ≤ due_in (nominal_times kind plan packets) n + 1 + early_by plan.crf
 
 near_by : (kind : Kind) (plan : TalkPlan) (packets n : ℕ) (head : Option Head) → IsPlan plan → IsKindOf plan kind → head_of (nominal_times kind plan packets) n ≡ head
-    → (due_by (nominal_times kind plan packets) n head ≤ first_instant plan n) × (first_instant plan n ≤ due_by (nominal_times kind plan packets) n head + 1)
+    → (due_by (nominal_times kind plan packets) n head ≤ first_instant plan n + late_by plan.crf) × (first_instant plan n ≤ due_by (nominal_times kind plan packets) n head + 1 + early_by plan.crf)
 near_by kind plan packets n None p k e = (omega arith, omega arith)
 near_by kind plan packets n (Some head) p k e =
     let counted = counted_by kind plan packets n head (is_stamped (rule_of kind n) n plan.count) p k refl e in
@@ -295,7 +381,7 @@ some_of h head e = rw e refl
 has_by : (kind : Kind) (plan : TalkPlan) (packets n : ℕ) (b : Bool) → IsPlan plan → IsKindOf plan kind → is_stamped (rule_of kind n) n plan.count ≡ b → 7 ≤ n
     → run_of plan (n - 7) ≡ run_of plan n → IsSome (head_of (nominal_times kind plan packets) n)
 has_by kind plan packets n true p k e behind same =
-    some_of (head_of (nominal_times kind plan packets) n) (record { instant = pos (nominal_instant plan n (stamped_index (rule_of kind n))); first = neg_ℤ (pos (stamped_index (rule_of kind n))) }) (rw e refl)
+    some_of (head_of (nominal_times kind plan packets) n) (record { instant = pos (stamped_instant plan n (stamped_index (rule_of kind n))); first = neg_ℤ (pos (stamped_index (rule_of kind n))) }) (rw e refl)
 has_by kind plan packets n false p k e behind same =
     let is = k.found n behind e in
     let d : ℕ = is.far.packets in
@@ -306,7 +392,7 @@ has_by kind plan packets n false p k e behind same =
     let bits : mr_of plan (n - d) ≡ mr_of plan n = ap (λ (g : ℕ). g % 2 == 1) runs in
     let near : nat_le d n ≡ true = no_later d n (omega arith) in
     some_of (head_of (nominal_times kind plan packets) n)
-    (record { instant = pos (nominal_instant plan (n - d) (stamped_index (rule_of kind (n - d)))); first = pos is.far.samples })
+    (record { instant = pos (stamped_instant plan (n - d) (stamped_index (rule_of kind (n - d)))); first = pos is.far.samples })
     (rw (e, is.is_far, near, flags (mr_of plan (n - d)) (mr_of plan n) bits, is.stamped) refl)
 
 pub has_head : (kind : Kind) (plan : TalkPlan) (packets n : ℕ) → IsPlan plan → IsKindOf plan kind → 7 ≤ n → run_of plan (n - 7) ≡ run_of plan n

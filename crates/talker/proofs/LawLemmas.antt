@@ -13,17 +13,17 @@ use Rattle.packet_journal.specs.Carried.{AllCarry}
 use Rattle.talker.specs.declared.plan.TalkKind.{TalkKind}
 use Rattle.talker.specs.declared.plan.TalkKind.TheVariants.{Aaf, Am824}
 use Rattle.talker.specs.declared.plan.TalkPlan.{TalkPlan}
-use Rattle.talker.specs.Frames.{RiseByArrival, SentFrame, by_arrival, capture_style, frames, frames_at, numbered_frames, put_in, record_of, records}
+use Rattle.talker.specs.Frames.{RiseByArrival, SentFrame, by_arrival, capture_style, frames, frames_at, put_in, record_of, records, stream_frames}
 use Rattle.talker.specs.Journal.{journal, stream_of}
 use Rattle.talker.specs.Packets.{aaf_packet, iec_packet}
-use Rattle.talker.specs.Plan.{Expects, FitsBlocks, HasRate, IsPlan, fdf_of, interval_of, rate_code}
+use Rattle.talker.specs.Plan.{Expects, FitsBlocks, IsAhead, HasRate, IsPlan, fdf_of, interval_of, rate_code}
 use Rattle.talker.specs.Talking.{most_input}
 use Rattle.talker.specs.Timing.{arrival_of, event_of, first_packet, nominal_instant, nominal_offset, run_of}
 use Rattle.talker.proofs.Am824Lemmas.{blocks_again, some_interval}
 use Rattle.talker.proofs.PcmLemmas.{packet_again}
 use Rattle.talker.proofs.RateLemmas.{known_fdf}
 use Rattle.talker.proofs.StreamLemmas.{AreCarried, all_carried, all_frames, at_number, frames_in, some_carried, spelled}
-use Rattle.talker.proofs.TalkLemmas.{frames_are, plan_keeps}
+use Rattle.talker.proofs.TalkLemmas.{frames_alone, plan_keeps}
 
 pub named_rate : (rate code : ℕ) → rate_of code ≡ Some rate → rate_code rate ≡ Some code
 named_rate rate code h = grind (arith, nat_tests)
@@ -112,34 +112,46 @@ all_rise (f ∷ frames) = put_rises f (by_arrival frames) (all_rise frames)
 pub records_spelled : (plan : TalkPlan) (input : List ℕ) → IsPlan plan → length input ≤ most_input → AllByRecursion (HasSpelling capture_style) (records plan input)
 records_spelled plan input p limit =
     let s = stream_of plan input in
-    rw (frames_are plan input p limit) (spelled plan s (numbered_frames s) (plan_keeps plan input p limit) (all_frames s))
+    spelled plan s (frames plan input) (plan_keeps plan input p limit) (all_frames s)
 
 pub kept_spelled : (plan : TalkPlan) (input places : List ℕ) → IsPlan plan → length input ≤ most_input
     → AllByRecursion (HasSpelling capture_style) (map record_of (frames_at plan input places))
 kept_spelled plan input places p limit =
     let s = stream_of plan input in
-    rw (frames_are plan input p limit) (spelled plan s (filter_map (slice_get (numbered_frames s)) places) (plan_keeps plan input p limit) (frames_in s places))
+    spelled plan s (filter_map (slice_get (frames plan input)) places) (plan_keeps plan input p limit) (frames_in s places)
 
--- they carry the packets of the journal
-pub all_carry : (plan : TalkPlan) (input : List ℕ) (lead : ℕ) → IsPlan plan → length input ≤ most_input → Expects plan lead
+-- without a clock they carry the packets of the journal, one after another
+pub all_carry : (plan : TalkPlan) (input : List ℕ) (lead : ℕ) → IsPlan plan → plan.crf ≡ None → length input ≤ most_input → Expects plan lead
     → AllCarry (journal plan input) lead (range_with_len 0 (journal plan input).times.packets) (records plan input)
-all_carry plan input lead p limit expects =
-    rw (frames_are plan input p limit) (all_carried plan (stream_of plan input) lead (plan_keeps plan input p limit) expects)
+all_carry plan input lead p none limit expects =
+    rw (frames_alone plan input p none limit) (all_carried plan (stream_of plan input) lead (plan_keeps plan input p limit) expects)
+
+-- they carry packets of the journal and of its clock
+pub every_carried : (plan : TalkPlan) (input : List ℕ) (lead : ℕ) → IsPlan plan → length input ≤ most_input → Expects plan lead
+    → AreCarried (journal plan input) lead (records plan input)
+every_carried plan input lead p limit expects =
+    let s = stream_of plan input in
+    some_carried plan s lead (frames plan input) (plan_keeps plan input p limit) expects (all_frames s)
 
 pub kept_carried : (plan : TalkPlan) (input places : List ℕ) (lead : ℕ) → IsPlan plan → length input ≤ most_input → Expects plan lead
     → AreCarried (journal plan input) lead (map record_of (frames_at plan input places))
 kept_carried plan input places lead p limit expects =
     let s = stream_of plan input in
-    rw (frames_are plan input p limit)
-    (some_carried plan s lead (filter_map (slice_get (numbered_frames s)) places) (plan_keeps plan input p limit) expects (frames_in s places))
+    some_carried plan s lead (filter_map (slice_get (frames plan input)) places) (plan_keeps plan input p limit) expects (frames_in s places)
 
 -- each packet is sent before it is due
-pub sent_in_time : (plan : TalkPlan) (input : List ℕ) (n : ℕ) → IsPlan plan → length input ≤ most_input → n < (journal plan input).times.packets
-    → IsSomeAnd (slice_get (frames plan input) n) (λ f. f.arrival ≤ℤ pos ((journal plan input).times.due n))
-sent_in_time plan input n p limit h =
+pub stream_in_time : (plan : TalkPlan) (input : List ℕ) (n : ℕ) → IsPlan plan → IsAhead plan.crf plan.lead → length input ≤ most_input → n < (journal plan input).times.packets
+    → IsSomeAnd (slice_get (stream_frames plan input) n) (λ f. f.arrival ≤ℤ pos ((journal plan input).times.due n))
+stream_in_time plan input n p ready limit h =
     let s = stream_of plan input in
-    let soon = (plan_keeps plan input p limit).early n h in
-    rw (frames_are plan input p limit, at_number s n h) (omega (arith, ints, soon))
+    let soon = (plan_keeps plan input p limit).early n ready h in
+    rw (at_number s n h) (omega (arith, ints, soon))
+
+pub sent_in_time : (plan : TalkPlan) (input : List ℕ) (n : ℕ) → IsPlan plan → plan.crf ≡ None → length input ≤ most_input → n < (journal plan input).times.packets
+    → IsSomeAnd (slice_get (frames plan input) n) (λ f. f.arrival ≤ℤ pos ((journal plan input).times.due n))
+sent_in_time plan input n p none limit h =
+    let ready : IsAhead plan.crf plan.lead = rw none tt in
+    rw (frames_alone plan input p none limit) (stream_in_time plan input n p ready limit h)
 
 -- ---- packets
 

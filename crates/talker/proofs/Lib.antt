@@ -1,6 +1,12 @@
 pub mod RateLemmas
 pub mod RunLemmas
 pub mod TimingLemmas
+pub mod BeatLemmas
+pub mod ClockLemmas
+pub mod ClockPoints
+pub mod ClockRules
+pub mod ClockStamps
+pub mod ClockPackets
 pub mod SampleLemmas
 pub mod SizeLemmas
 pub mod FrameLemmas
@@ -12,3 +18,6 @@ pub mod PcmLemmas
 pub mod Am824Lemmas
 pub mod TalkLemmas
 pub mod LawLemmas
+pub mod SoakLemmas
+mod Sorting
+mod Arrivals

@@ -71,6 +71,7 @@ pcm_kind plan false p = record {
   blocks = λ packets. tt;
   of_kind = λ j audio agrees. (audio, agrees);
   whole = λ n fragment. fragment;
+  first = refl;
 }
 pcm_kind plan true p = record {
   within = λ n stamped. p.some_count;
@@ -79,6 +80,7 @@ pcm_kind plan true p = record {
   blocks = λ packets. tt;
   of_kind = λ j audio agrees. (audio, agrees);
   whole = λ n fragment. fragment;
+  first = refl;
 }
 
 leads_by : (kind : TalkKind) (format : AafFormat) (sparse : Bool) (plan : TalkPlan) (lead n : ℕ) → kind ≡ Aaf format sparse → ExpectsBy kind plan lead

@@ -8,7 +8,8 @@ use Rattle.pcap_frames.specs.Frame.{frame_layout}
 use Rattle.aaf_format.specs.Aaf.{Aaf, aaf_layout}
 use Rattle.iec61883_format.specs.Iec.{Iec, iec_layout}
 use Rattle.packet_journal.specs.Packets.{PacketView, Pcm, Am824Data, spelling_of}
-use Rattle.talker.specs.Frames.{ethernet, packet_bytes}
+use Rattle.crf_format.specs.Crf.{Crf, crf_layout, crf_spelling}
+use Rattle.talker.specs.Frames.{clock_bytes, ethernet, packet_bytes}
 
 abbrev layout_size : {V : Type 0} → Layout V → ℕ
 layout_size [] = 0
@@ -37,3 +38,11 @@ iec_size v =
     let header = length-spelling iec_layout v in
     let whole = length-append (spelling iec_layout v) v.payload in
     omega (arith, bytes_size (Am824Data v))
+
+pub crf_size : (v : Crf) → length (clock_bytes v) ≡ 38 + length v.payload
+unfolding clock_bytes
+crf_size v =
+    let outer = length-spelling (frame_layout true) (ethernet (crf_spelling v)) in
+    let header = length-spelling crf_layout v in
+    let whole = length-append (spelling crf_layout v) v.payload in
+    length-append (spelling (frame_layout true) (ethernet (crf_spelling v))) (crf_spelling v) ∙ omega arith

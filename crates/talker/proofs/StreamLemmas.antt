@@ -1,26 +1,31 @@
 -- What every stream keeps, and what follows of its frames and their captures.
-use Rattle.std.proofs.Common.{◌≡◌, ℕ, zero, suc, ◌+◌, ◌*◌, ◌^◌, ◌<◌, ◌≤◌, true, false, List, [], ◌∷◌, map, length, Option, Some, None, pos, refl, sym, subst, arith}
+use Rattle.std.proofs.Common.{◌≡◌, ◌⊎◌, inl, inr, ℕ, zero, suc, ◌+◌, ◌-◌, ◌*◌, ◌^◌, ◌<◌, ◌≤◌, true, false, List, [], ◌∷◌, ◌++◌, map, length, Option, Some, None, pos, refl, sym, subst, ap, ◌∙◌, arith}
 use Rattle.std.specs.Prelude.{int_le, slice_get, IfSome}
 use Rattle.std.specs.List.{AllByRecursion, cons_option, filter_map, list_any, range_with_len}
 use Rattle.std.proofs.Math.Nat.{mod-one}
 use Rattle.std.proofs.lemmas.Bool.{le-leb, lt-leb}
 use Rattle.std.proofs.lemmas.Int.{ints}
-use Rattle.std.proofs.lemmas.List.{append-nil}
+use Rattle.std.proofs.lemmas.List.{append-nil, length-append}
 use Rattle.std.proofs.lemmas.List.FromFn.{length-map-range_with_len}
 use Rattle.pcap_frames.specs.Capture.{HasSpelling, Record}
 use Rattle.pcap_frames.specs.Frame.{IsWritableFrame, SpellsFrame}
 use Rattle.pcap_frames.proofs.FrameLemmas.{frame_again}
 use Rattle.stream_journal.specs.Delivered.{AreNear, IsDelivered}
-use Rattle.packet_journal.specs.Carried.{AllCarry, Carries, IsReadKind}
+use Rattle.crf_format.specs.Crf.{crf_spelling}
+use Rattle.packet_journal.specs.Carried.{AllCarry, AllCarryFrom, Carries, CarriesClock, IsReadKind}
+use Rattle.packet_journal.specs.Delivered.{OfClock, OfStream, Origin}
 use Rattle.packet_journal.specs.Packets.{IsConforming, PacketJournal, PacketView, spelling_of}
 use Rattle.talker.specs.declared.plan.TalkPlan.{TalkPlan}
-use Rattle.talker.specs.Frames.{SentFrame, by_arrival, capture_style, ethernet, frame_of, numbered_frames, packet_bytes, record_of}
+use Rattle.talker.specs.Frames.{SentFrame, by_arrival, capture_style, clock_bytes, clock_frame_of, ethernet, frame_of, left_of, numbered_clock, numbered_frames, packet_bytes, record_of}
 use Rattle.talker.specs.Journal.{Stream}
-use Rattle.talker.specs.Plan.{Expects}
-use Rattle.talker.proofs.FrameLemmas.{each, in_order, none, numbered}
+use Rattle.talker.specs.Plan.{Expects, IsAhead}
+use Rattle.talker.proofs.FrameLemmas.{AllLater, NotBefore, all_of, comes_first, each, each_from, in_order, length_sorted, none_of, numbered, sorted_all, stays_first}
 
 abbrev pub packets_in : Stream → ℕ
 packets_in s = s.journal.times.packets
+
+abbrev pub clocks_in : Stream → ℕ
+clocks_in s = s.journal.times.clock.packets
 
 -- The stream of a plan.
 pub record IsStream (plan : TalkPlan) (s : Stream) : Type 0 where
@@ -28,9 +33,13 @@ pub record IsStream (plan : TalkPlan) (s : Stream) : Type 0 where
   pub rising : (n : ℕ) → s.arrival n ≤ s.arrival (n + 1)
   pub sent : (n : ℕ) → n < packets_in s → s.arrival n < 2 ^ 32 * 1000000000
   -- and before it is due
-  pub early : (n : ℕ) → n < packets_in s → s.arrival n ≤ s.journal.times.due n
+  pub early : (n : ℕ) → IsAhead plan.crf plan.lead → n < packets_in s → s.arrival n ≤ s.journal.times.due n
   -- its frame fits Ethernet
   pub size : (n : ℕ) → n < packets_in s → length (packet_bytes (s.journal.packet n)) ≤ 1518
+  -- so do those of the clock
+  pub clock_rising : (m : ℕ) → s.clock_arrival m ≤ s.clock_arrival (m + 1)
+  pub clock_sent : (m : ℕ) → m < clocks_in s → s.clock_arrival m < 2 ^ 32 * 1000000000
+  pub clock_size : (m : ℕ) → m < clocks_in s → length (clock_bytes (s.journal.clock_packet m)) ≤ 1518
   -- the talker keeps the rules
   pub conforms : plan.id < 2 ^ 64 → IsConforming (pos 0) s.journal
   -- a capture delivers each packet
@@ -44,11 +53,6 @@ pub in_turn : (plan : TalkPlan) (s : Stream) → IsStream plan s → by_arrival 
 in_turn plan s is =
     let rises : (k : ℕ) → int_le (pos (s.arrival k)) (pos (s.arrival (k + 1))) ≡ true = λ k. le-leb _ _ (is.rising k) in
     in_order (frame_of s) rises 0 (packets_in s)
-
-pub never_late : (plan : TalkPlan) (s : Stream) → IsStream plan s → list_any (λ f. int_le (pos (2 ^ 32 * 1000000000)) f.arrival) (numbered_frames s) ≡ false
-never_late plan s is =
-    none (frame_of s) (λ f. int_le (pos (2 ^ 32 * 1000000000)) f.arrival) 0 (packets_in s)
-    (λ k h. let known : k < packets_in s = omega arith in lt-leb (2 ^ 32 * 1000000000) (s.arrival k) (is.sent k known))
 
 pub count_of : (s : Stream) → length (numbered_frames s) ≡ packets_in s
 count_of s = length-map-range_with_len (frame_of s) 0 (packets_in s)
@@ -81,16 +85,62 @@ has_spelling plan s n is h =
       limit = omega arith;
     }
 
--- ---- some of its frames
+pub clock_has_spelling : (plan : TalkPlan) (s : Stream) (m : ℕ) → IsStream plan s → m < clocks_in s → HasSpelling capture_style (record_of (clock_frame_of s m))
+clock_has_spelling plan s m is h =
+    let sent = is.clock_sent m h in
+    let size = is.clock_size m h in
+    record {
+      begun = omega (arith, ints);
+      ended = omega (arith, ints);
+      whole = mod-one (s.clock_arrival m);
+      orig_len = omega arith;
+      limit = omega arith;
+    }
 
--- a frame is that of some packet
-pub record IsFrameOf (s : Stream) (f : SentFrame) : Type 0 where
+-- ---- all frames
+
+pub record IsStreamFrame (s : Stream) (f : SentFrame) : Type 0 where
   pub number : ℕ
   pub known : number < packets_in s
   pub same : f ≡ frame_of s number
 
-pub all_frames : (s : Stream) → AllByRecursion (IsFrameOf s) (numbered_frames s)
-all_frames s = each (frame_of s) (IsFrameOf s) 0 (packets_in s) (λ k h. record { number = k; known = omega arith; same = refl })
+pub record IsClockFrame (s : Stream) (f : SentFrame) : Type 0 where
+  pub number : ℕ
+  pub known : number < clocks_in s
+  pub same : f ≡ clock_frame_of s number
+
+-- a frame is that of some packet, of the stream or of the clock
+abbrev pub IsFrameOf : Stream → SentFrame → Type 0
+IsFrameOf s f = IsStreamFrame s f ⊎ IsClockFrame s f
+
+abbrev pub frames_of : Stream → List SentFrame
+frames_of s = by_arrival (numbered_clock s ++ numbered_frames s)
+
+pub all_frames : (s : Stream) → AllByRecursion (IsFrameOf s) (frames_of s)
+all_frames s =
+    sorted_all (IsFrameOf s) (numbered_clock s ++ numbered_frames s)
+    (all_of (IsFrameOf s) (numbered_clock s) (numbered_frames s)
+    (each (clock_frame_of s) (IsFrameOf s) 0 (clocks_in s) (λ k h. inr (record { number = k; known = omega arith; same = refl })))
+    (each (frame_of s) (IsFrameOf s) 0 (packets_in s) (λ k h. inl (record { number = k; known = omega arith; same = refl }))))
+
+not_late : (plan : TalkPlan) (s : Stream) (f : SentFrame) → IsStream plan s → IsFrameOf s f → int_le (pos (2 ^ 32 * 1000000000)) f.arrival ≡ false
+not_late plan s f is (inl of) =
+    let P : SentFrame → Type 0 = λ f. int_le (pos (2 ^ 32 * 1000000000)) f.arrival ≡ false in
+    subst P (sym of.same) (lt-leb (2 ^ 32 * 1000000000) (s.arrival of.number) (is.sent of.number of.known))
+not_late plan s f is (inr of) =
+    let P : SentFrame → Type 0 = λ f. int_le (pos (2 ^ 32 * 1000000000)) f.arrival ≡ false in
+    subst P (sym of.same) (lt-leb (2 ^ 32 * 1000000000) (s.clock_arrival of.number) (is.clock_sent of.number of.known))
+
+mapped : (P Q : SentFrame → Type 0) (fs : List SentFrame) → ((f : SentFrame) → P f → Q f) → AllByRecursion P fs → AllByRecursion Q fs
+mapped P Q [] each all = tt
+mapped P Q (f ∷ fs) each all = (each f all.0, mapped P Q fs each all.1)
+
+pub never_late : (plan : TalkPlan) (s : Stream) → IsStream plan s → list_any (λ f. int_le (pos (2 ^ 32 * 1000000000)) f.arrival) (frames_of s) ≡ false
+never_late plan s is =
+    none_of (λ f. int_le (pos (2 ^ 32 * 1000000000)) f.arrival) (frames_of s)
+    (mapped (IsFrameOf s) (λ f. int_le (pos (2 ^ 32 * 1000000000)) f.arrival ≡ false) (frames_of s) (λ f of. not_late plan s f is of) (all_frames s))
+
+-- ---- some of its frames
 
 at_place : {X : Type 0} (P : X → Type 0) (xs : List X) (k : ℕ) → AllByRecursion P xs → IfSome (slice_get xs k) P
 at_place P [] k all = tt
@@ -106,16 +156,22 @@ kept P h (x ∷ xs) each = kept_by P (h x) (filter_map h xs) (each x) (kept P h 
     kept_by P (Some y) ys here rest = (here, rest)
 
 -- and so are those in some places
-pub frames_in : (s : Stream) (places : List ℕ) → AllByRecursion (IsFrameOf s) (filter_map (slice_get (numbered_frames s)) places)
-frames_in s places = kept (IsFrameOf s) (slice_get (numbered_frames s)) places (λ k. at_place (IsFrameOf s) (numbered_frames s) k (all_frames s))
+pub frames_in : (s : Stream) (places : List ℕ) → AllByRecursion (IsFrameOf s) (filter_map (slice_get (frames_of s)) places)
+frames_in s places = kept (IsFrameOf s) (slice_get (frames_of s)) places (λ k. at_place (IsFrameOf s) (frames_of s) k (all_frames s))
 
 -- their records can be spelled
+spells : (plan : TalkPlan) (s : Stream) (f : SentFrame) → IsStream plan s → IsFrameOf s f → HasSpelling capture_style (record_of f)
+spells plan s f is (inl of) =
+    let P : SentFrame → Type 0 = λ f. HasSpelling capture_style (record_of f) in
+    subst P (sym of.same) (has_spelling plan s of.number is of.known)
+spells plan s f is (inr of) =
+    let P : SentFrame → Type 0 = λ f. HasSpelling capture_style (record_of f) in
+    subst P (sym of.same) (clock_has_spelling plan s of.number is of.known)
+
 pub spelled : (plan : TalkPlan) (s : Stream) (given : List SentFrame) → IsStream plan s → AllByRecursion (IsFrameOf s) given
     → AllByRecursion (HasSpelling capture_style) (map record_of given)
 spelled plan s [] is all = tt
-spelled plan s (f ∷ given) is all =
-    let P : SentFrame → Type 0 = λ f. HasSpelling capture_style (record_of f) in
-    (subst P (sym all.0.same) (has_spelling plan s all.0.number is all.0.known), spelled plan s given is all.1)
+spelled plan s (f ∷ given) is all = (spells plan s f is all.0, spelled plan s given is all.1)
 
 -- ---- its captures
 
@@ -144,18 +200,101 @@ pub all_carried : (plan : TalkPlan) (s : Stream) (lead : ℕ) → IsStream plan 
 all_carried plan s lead is expects =
     all_by s.journal lead (frame_of s) 0 (packets_in s) (λ n h. let known : n < packets_in s = omega arith in carried plan s lead n is expects known)
 
--- records carry the packets of these numbers
+clock_carried : (plan : TalkPlan) (s : Stream) (m : ℕ) → m < clocks_in s → CarriesClock s.journal m (record_of (clock_frame_of s m))
+unfolding clock_bytes
+clock_carried plan s m h =
+    let packet : List ℕ = crf_spelling (s.journal.clock_packet m) in
+    record {
+      known = h;
+      frame = ethernet packet;
+      writable = writable_frame packet;
+      bytes = refl;
+      avtp = refl;
+      packet = record { trail = []; whole = sym (append-nil packet) };
+    }
+
+-- records carry packets of these origins
 pub record AreCarried (j : PacketJournal) (lead : ℕ) (rs : List Record) : Type 0 where
-  pub numbers : List ℕ
-  pub carry : AllCarry j lead numbers rs
+  pub origins : List Origin
+  pub carry : AllCarryFrom j lead origins rs
+
+one_more : (plan : TalkPlan) (s : Stream) (lead : ℕ) (f : SentFrame) (rs : List Record) → IsStream plan s → Expects plan lead → IsFrameOf s f → AreCarried s.journal lead rs → AreCarried s.journal lead (record_of f ∷ rs)
+one_more plan s lead f rs is expects (inl of) rest =
+    let P : SentFrame → Type 0 = λ f. Carries s.journal lead of.number (record_of f) in
+    record { origins = OfStream of.number ∷ rest.origins; carry = (subst P (sym of.same) (carried plan s lead of.number is expects of.known), rest.carry) }
+one_more plan s lead f rs is expects (inr of) rest =
+    let P : SentFrame → Type 0 = λ f. CarriesClock s.journal of.number (record_of f) in
+    record { origins = OfClock of.number ∷ rest.origins; carry = (subst P (sym of.same) (clock_carried plan s of.number of.known), rest.carry) }
 
 pub some_carried : (plan : TalkPlan) (s : Stream) (lead : ℕ) (given : List SentFrame) → IsStream plan s → Expects plan lead → AllByRecursion (IsFrameOf s) given
     → AreCarried s.journal lead (map record_of given)
-some_carried plan s lead [] is expects all = record { numbers = []; carry = tt }
-some_carried plan s lead (f ∷ given) is expects all =
-    let rest = some_carried plan s lead given is expects all.1 in
-    let P : SentFrame → Type 0 = λ f. Carries s.journal lead all.0.number (record_of f) in
-    record {
-      numbers = all.0.number ∷ rest.numbers;
-      carry = (subst P (sym all.0.same) (carried plan s lead all.0.number is expects all.0.known), rest.carry);
-    }
+some_carried plan s lead [] is expects all = record { origins = []; carry = tt }
+some_carried plan s lead (f ∷ given) is expects all = one_more plan s lead f (map record_of given) is expects all.0 (some_carried plan s lead given is expects all.1)
+
+-- ---- one frame after another
+
+rises_by : (g : ℕ → ℕ) → ((k : ℕ) → g k ≤ g (k + 1)) → (a k d : ℕ) → a + d ≡ k → g a ≤ g k
+rises_by g rises a k zero e = let same : a ≡ k = omega arith in rw same (omega arith)
+rises_by g rises a k (suc d) e =
+    let step = rises_by g rises a (a + d) d refl in
+    let next = rises (a + d) in
+    let place : a + d + 1 ≡ k = omega arith in
+    let same : g (a + d + 1) ≡ g k = ap g place in
+    omega arith
+
+pub rises : (g : ℕ → ℕ) → ((k : ℕ) → g k ≤ g (k + 1)) → (a k : ℕ) → a ≤ k → g a ≤ g k
+rises g each a k h = rises_by g each a k (k - a) (omega arith)
+
+unrolled : (f : ℕ → SentFrame) (a n : ℕ) → a < n → map f (range_with_len a (n - a)) ≡ f a ∷ map f (range_with_len (a + 1) (n - (a + 1)))
+unrolled f a n h = let more : n - a ≡ suc (n - (a + 1)) = omega arith in rw more refl
+
+-- a packet of the clock comes first
+pub clock_first : (plan : TalkPlan) (s : Stream) (a b : ℕ) → IsStream plan s → a < clocks_in s → ((k : ℕ) → b ≤ k → k < packets_in s → s.clock_arrival a ≤ s.arrival k)
+    → left_of s a b ≡ clock_frame_of s a ∷ left_of s (a + 1) b
+clock_first plan s a b is h sooner =
+    let f = clock_frame_of s a in
+    let clocks : List SentFrame = map (clock_frame_of s) (range_with_len (a + 1) (clocks_in s - (a + 1))) in
+    let packets : List SentFrame = map (frame_of s) (range_with_len b (packets_in s - b)) in
+    let later : NotBefore f clocks =
+    each_from (clock_frame_of s) (λ g. int_le f.arrival g.arrival ≡ true) (a + 1) (clocks_in s - (a + 1))
+    (λ k from below. le-leb (s.clock_arrival a) (s.clock_arrival k) (rises s.clock_arrival is.clock_rising a k (omega arith))) in
+    let others : NotBefore f packets =
+    each_from (frame_of s) (λ g. int_le f.arrival g.arrival ≡ true) b (packets_in s - b)
+    (λ k from below. le-leb (s.clock_arrival a) (s.arrival k) (sooner k from (omega arith))) in
+    rw (unrolled (clock_frame_of s) a (clocks_in s) h)
+    (stays_first f (clocks ++ packets) (all_of (λ g. int_le f.arrival g.arrival ≡ true) clocks packets later others))
+
+-- or one of the stream
+pub packet_first : (plan : TalkPlan) (s : Stream) (a b : ℕ) → IsStream plan s → b < packets_in s → ((m : ℕ) → a ≤ m → m < clocks_in s → s.arrival b < s.clock_arrival m)
+    → left_of s a b ≡ frame_of s b ∷ left_of s a (b + 1)
+packet_first plan s a b is h sooner =
+    let f = frame_of s b in
+    let clocks : List SentFrame = map (clock_frame_of s) (range_with_len a (clocks_in s - a)) in
+    let packets : List SentFrame = map (frame_of s) (range_with_len (b + 1) (packets_in s - (b + 1))) in
+    let later : AllLater f clocks =
+    each_from (clock_frame_of s) (λ g. int_le g.arrival f.arrival ≡ false) a (clocks_in s - a)
+    (λ m from below. lt-leb (s.clock_arrival m) (s.arrival b) (sooner m from (omega arith))) in
+    let others : NotBefore f packets =
+    each_from (frame_of s) (λ g. int_le f.arrival g.arrival ≡ true) (b + 1) (packets_in s - (b + 1))
+    (λ k from below. le-leb (s.arrival b) (s.arrival k) (rises s.arrival is.rising b k (omega arith))) in
+    rw (unrolled (frame_of s) b (packets_in s) h) (comes_first f clocks packets later others)
+
+-- all were sent
+pub none_left : (s : Stream) → left_of s (clocks_in s) (packets_in s) ≡ []
+none_left s =
+    let clocks : clocks_in s - clocks_in s ≡ 0 = omega arith in
+    let packets : packets_in s - packets_in s ≡ 0 = omega arith in
+    rw (clocks, packets) refl
+
+pub count_all : (s : Stream) → length (frames_of s) ≡ clocks_in s + packets_in s
+count_all s =
+    length_sorted (numbered_clock s ++ numbered_frames s)
+    ∙ length-append (numbered_clock s) (numbered_frames s)
+    ∙ ap (λ (n : ℕ). n + length (numbered_frames s)) (length-map-range_with_len (clock_frame_of s) 0 (clocks_in s))
+    ∙ ap (λ (n : ℕ). clocks_in s + n) (count_of s)
+
+pub count_clock : (s : Stream) → length (numbered_clock s) ≡ clocks_in s
+count_clock s = length-map-range_with_len (clock_frame_of s) 0 (clocks_in s)
+
+pub clock_at_number : (s : Stream) (m : ℕ) → m < clocks_in s → slice_get (numbered_clock s) m ≡ Some (clock_frame_of s m)
+clock_at_number s m h = numbered (clock_frame_of s) 0 (clocks_in s) m m h (omega arith)

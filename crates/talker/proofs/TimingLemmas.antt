@@ -77,14 +77,14 @@ in_time plan n i p events within =
 -- ---- the next packet
 
 -- x, y and z, w are times of parts of n and of n + count events
-apart_by : (s j x y k z w a b c d n count rate : ℕ) → a + b ≡ n → c + d ≡ n + count → j * rate ≤ k * rate → 12 * rate ≤ count * 1000000000
+apart_by : (s j x y k z w a b c d n count rate : ℕ) → a + b ≡ n → c + d ≡ n + count → j * rate ≤ k * rate → 24 * rate ≤ count * 1000000000
     → x * rate ≤ a * 1000000000 → y * rate ≤ b * 1000000000 → c * 1000000000 < z * rate + rate → d * 1000000000 < w * rate + rate
-    → 4 * ((s + j + x + y) * rate) + 3 * (count * 1000000000) + 4 * rate ≤ 4 * ((s + k + z + w) * rate)
+    → 4 * ((s + j + x + y) * rate) + 3 * (count * 1000000000) + 16 * rate ≤ 4 * ((s + k + z + w) * rate)
 apart_by s j x y k z w a b c d n count rate e f jumps wide under also over and = omega arith
 
--- two first instants are 3/4 of a packet's time apart, and a nanosecond
+-- two first instants are 3/4 of a packet's time apart, and 4 nanoseconds
 pub apart : (plan : TalkPlan) (n : ℕ) → IsPlan plan
-    → 4 * (first_instant plan n * plan.rate) + 3 * (plan.count * 1000000000) + 4 * plan.rate ≤ 4 * (first_instant plan (suc n) * plan.rate)
+    → 4 * (first_instant plan n * plan.rate) + 3 * (plan.count * 1000000000) + 16 * plan.rate ≤ 4 * (first_instant plan (suc n) * plan.rate)
 unfolding nominal_instant
 apart plan n p =
     let range = rate_range plan p in
@@ -117,6 +117,6 @@ pub rising : (plan : TalkPlan) (n : ℕ) → IsPlan plan → arrival_of plan n �
 rising plan n p =
     let least = rate_from plan p in
     let next : n + 1 ≡ suc n = omega arith in
-    let h = not_before (first_instant plan n) (first_instant plan (suc n)) plan.rate (3 * (plan.count * 1000000000) + 4 * plan.rate) (omega arith)
+    let h = not_before (first_instant plan n) (first_instant plan (suc n)) plan.rate (3 * (plan.count * 1000000000) + 16 * plan.rate) (omega arith)
     (let far = apart plan n p in omega arith) in
     rw next (omega arith)

@@ -1,5 +1,5 @@
 -- The frames of a plan, and the capture that they make.
-use Rattle.std.specs.Prelude.{ℕ, Bool, false, if◌then◌else◌, ℤ, pos, int_le, ◌≤ℤ◌, List, [], ◌∷◌, ◌++◌, length, map, slice_get, Option, Some, None, ⊤}
+use Rattle.std.specs.Prelude.{ℕ, ◌-◌, Bool, true, false, if◌then◌else◌, ℤ, pos, int_le, ◌≤ℤ◌, List, [], ◌∷◌, ◌++◌, length, map, slice_get, Some, ⊤}
 use Rattle.std.specs.List.{filter_map, range_with_len}
 use Rattle.pcap_frames.specs.declared.style.Order.TheVariants.{Little}
 use Rattle.pcap_frames.specs.declared.style.Style.{Style}
@@ -8,8 +8,8 @@ use Rattle.pcap_frames.specs.Capture.{Record, capture_spelling}
 use Rattle.pcap_frames.specs.Frame.{Frame, frame_spelling}
 use Rattle.avtp_header.specs.Numbers.{avtp_ethertype}
 use Rattle.aaf_format.specs.declared.aaf.AafFormat.{AafFormat}
+use Rattle.crf_format.specs.Crf.{Crf, crf_spelling}
 use Rattle.packet_journal.specs.Packets.{PacketView, Pcm, spelling_of}
-use Rattle.talker.specs.declared.plan.CrfPlan.{CrfPlan}
 use Rattle.talker.specs.declared.plan.TalkPlan.{TalkPlan}
 use Rattle.talker.specs.declared.sent.Sent.{Sent}
 use Rattle.talker.specs.Journal.{Stream, stream_of}
@@ -64,19 +64,29 @@ numbered_frames stream = map (frame_of stream) (range_with_len 0 stream.journal.
 abbrev pub stream_frames : TalkPlan → List ℕ → List SentFrame
 stream_frames plan input = numbered_frames (stream_of plan input)
 
--- ---- all frames
+-- ---- the packets of the clock
 
--- no clock is talked so far: no plan asks for one
-abbrev pub not_talked : List SentFrame
-not_talked = []
+-- the bytes of a clock packet's frame
+unfoldable pub clock_bytes : Crf → List ℕ
+clock_bytes packet = frame_spelling (ethernet (crf_spelling packet))
 
-abbrev pub clock_by : Option CrfPlan → TalkPlan → List ℕ → List SentFrame
-clock_by None plan input = []
-clock_by (Some crf) plan input = not_talked
+-- the frame of packet m of the clock
+abbrev pub clock_frame_of : Stream → ℕ → SentFrame
+clock_frame_of stream m = record {
+  arrival = pos (stream.clock_arrival m);
+  number = m;
+  clock = true;
+  bytes = clock_bytes (stream.journal.clock_packet m);
+}
 
--- the packets of the plan's media clock, by number
+-- the frames of a clock, by the numbers of their packets
+abbrev pub numbered_clock : Stream → List SentFrame
+numbered_clock stream = map (clock_frame_of stream) (range_with_len 0 stream.journal.times.clock.packets)
+
 abbrev pub clock_frames : TalkPlan → List ℕ → List SentFrame
-clock_frames plan input = clock_by plan.crf plan input
+clock_frames plan input = numbered_clock (stream_of plan input)
+
+-- ---- all frames
 
 -- a frame put in before the first that does not arrive earlier
 abbrev pub put_in : SentFrame → List SentFrame → List SentFrame
@@ -92,6 +102,12 @@ by_arrival (f ∷ frames) = put_in f (by_arrival frames)
 -- stream, and then by number.
 abbrev pub frames : TalkPlan → List ℕ → List SentFrame
 frames plan input = by_arrival (clock_frames plan input ++ stream_frames plan input)
+
+-- what is left of them once so many packets of the clock and of the stream were sent
+abbrev pub left_of : Stream → ℕ → ℕ → List SentFrame
+left_of stream clocks packets =
+    by_arrival (map (clock_frame_of stream) (range_with_len clocks (stream.journal.times.clock.packets - clocks))
+    ++ map (frame_of stream) (range_with_len packets (stream.journal.times.packets - packets)))
 
 -- no frame arrives before the one in front of it
 abbrev pub RiseByArrival : List SentFrame → Type 0

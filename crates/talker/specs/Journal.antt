@@ -2,18 +2,18 @@
 use Rattle.std.specs.Prelude.{ℕ, nat_abs, false, List, [], Option, Some, None}
 use Rattle.aaf_format.specs.declared.aaf.AafFormat.TheVariants.{Int16}
 use Rattle.crf_format.specs.Crf.{Crf, crf_of}
-use Rattle.stream_journal.specs.Clocks.{no_clock}
 use Rattle.time_unfold.specs.declared.head_rule.Head.{Head}
 use Rattle.stream_journal.specs.Journal.{Journal, Kind, DenseAaf, head_of, nominal_instant}
 use Rattle.packet_journal.specs.Packets.{PacketJournal, Pcm}
 use Rattle.talker.specs.declared.plan.CrfPlan.{CrfPlan}
 use Rattle.talker.specs.declared.plan.TalkPlan.{TalkPlan}
 use Rattle.talker.specs.Audio.{Audio, audio_by}
+use Rattle.talker.specs.Clock.{clock_arrival, clock_by, clock_packet}
 use Rattle.talker.specs.Packets.{aaf_packet, stamp_of}
 use Rattle.talker.specs.Samples.{packets_for, samples_of}
 use Rattle.talker.specs.Timing.{arrival_of, first_instant, mr_of}
 
--- ---- audio, without a media clock
+-- ---- audio
 
 -- the times of so many packets of a kind, as if each were due at its nominal first instant
 abbrev pub nominal_times : Kind → TalkPlan → ℕ → Journal
@@ -25,7 +25,7 @@ nominal_times kind plan packets = record {
   due = λ n. first_instant plan n;
   stamp = λ n. stamp_of kind plan n;
   mr = λ n. mr_of plan n;
-  clock = no_clock;
+  clock = clock_by plan.crf plan packets;
 }
 
 -- When packet n is due: at its first sample, counted from its head. A packet without a head is due at its nominal first
@@ -48,25 +48,35 @@ packets_of audio plan input = packets_for audio.frame plan.count input
 abbrev pub samples_in : Audio → TalkPlan → List ℕ → ℕ → List ℕ
 samples_in audio plan input n = samples_of audio.silence audio.frame plan.count input n
 
--- no clock packet is sent; this stands where one would
-abbrev pub no_packet : Crf
-no_packet = crf_of []
+-- the stream id of the clock, and its packets beside a stream of so many; without a clock none is sent
+abbrev pub clock_id : Option CrfPlan → ℕ
+clock_id None = 0
+clock_id (Some crf) = crf.id
+
+abbrev pub clock_packet_by : Option CrfPlan → TalkPlan → ℕ → ℕ → Crf
+clock_packet_by None plan packets m = crf_of []
+clock_packet_by (Some crf) plan packets m = clock_packet crf plan packets m
 
 abbrev pub audio_journal : Audio → TalkPlan → List ℕ → PacketJournal
 audio_journal audio plan input = record {
   times = audio_times audio.kind plan (packets_of audio plan input);
   stream = plan.id;
   packet = λ n. audio.packet n (samples_in audio plan input n);
-  clock = 0;
-  clock_packet = λ m. no_packet;
+  clock = clock_id plan.crf;
+  clock_packet = λ m. clock_packet_by plan.crf plan (packets_of audio plan input) m;
 }
 
 -- ---- all streams
 
--- A stream as it is sent: its packets with their times, and when each is sent.
+-- A stream as it is sent: its packets and those of its clock with their times, and when each is sent.
 pub record Stream : Type 0 where
   pub journal : PacketJournal
   pub arrival : ℕ → ℕ
+  pub clock_arrival : ℕ → ℕ
+
+abbrev pub clock_arrival_by : Option CrfPlan → TalkPlan → ℕ → ℕ
+clock_arrival_by None plan m = 0
+clock_arrival_by (Some crf) plan m = clock_arrival crf plan m
 
 -- a stream without packets, for what is not talked so far
 abbrev pub silent : TalkPlan → Stream
@@ -75,21 +85,23 @@ silent plan = record {
     times = nominal_times DenseAaf plan 0;
     stream = plan.id;
     packet = λ n. Pcm (aaf_packet Int16 false plan n []);
-    clock = 0;
-    clock_packet = λ m. no_packet;
+    clock = clock_id plan.crf;
+    clock_packet = λ m. clock_packet_by plan.crf plan 0 m;
   };
   arrival = λ n. 0;
+  clock_arrival = λ m. 0;
 }
 
-abbrev pub stream_by : Option Audio → Option CrfPlan → TalkPlan → List ℕ → Stream
-stream_by (Some audio) None plan input = record {
+abbrev pub stream_by : Option Audio → TalkPlan → List ℕ → Stream
+stream_by (Some audio) plan input = record {
   journal = audio_journal audio plan input;
   arrival = λ n. arrival_of plan n;
+  clock_arrival = λ m. clock_arrival_by plan.crf plan m;
 }
-stream_by audio crf plan input = silent plan
+stream_by None plan input = silent plan
 
 abbrev pub stream_of : TalkPlan → List ℕ → Stream
-stream_of plan input = stream_by (audio_by plan.kind plan) plan.crf plan input
+stream_of plan input = stream_by (audio_by plan.kind plan) plan input
 
 abbrev pub journal : TalkPlan → List ℕ → PacketJournal
 journal plan input = (stream_of plan input).journal

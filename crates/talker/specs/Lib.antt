@@ -1,6 +1,8 @@
 pub mod Plan
 pub mod Timing
+pub mod Beats
 pub mod Samples
+pub mod Clock
 pub mod Packets
 pub mod Audio
 pub mod Journal
@@ -10,3 +12,5 @@ pub mod Talking
 pub mod Kept
 pub mod Lending
 pub mod Examples
+pub mod Noise
+pub mod Soak

@@ -8,14 +8,15 @@ use Rattle.stream_journal.specs.Conforming.{is_stamped}
 use Rattle.stream_journal.specs.Journal.{Kind, DenseAaf, SparseAaf, Am824, rule_of}
 use Rattle.time_unfold.specs.Heads.{stamped_index}
 use Rattle.talker.specs.declared.plan.TalkPlan.{TalkPlan}
+use Rattle.talker.specs.Clock.{stamped_instant}
 use Rattle.talker.specs.Plan.{fdf_of, interval_of, rate_code}
-use Rattle.talker.specs.Timing.{mr_of, nominal_instant, seq_of, timestamp_of}
+use Rattle.talker.specs.Timing.{mr_of, seq_of, timestamp_of}
 
--- The instant with which packet n is stamped, in a stream of this kind and without a media clock: that of the sample frame
--- that the kind stamps, where the packet has it.
+-- The instant with which packet n is stamped, in a stream of this kind: that of the sample frame that the kind stamps, where
+-- the packet has it.
 abbrev pub stamp_of : Kind → TalkPlan → ℕ → Option ℕ
 stamp_of kind plan n =
-    if is_stamped (rule_of kind n) n plan.count then Some (nominal_instant plan n (stamped_index (rule_of kind n))) else None
+    if is_stamped (rule_of kind n) n plan.count then Some (stamped_instant plan n (stamped_index (rule_of kind n))) else None
 
 -- The stream header of packet n (IEEE 1722-2016, 4.4.4), with this stamp, before so many bytes.
 abbrev pub header_of : ℕ → Option ℕ → TalkPlan → ℕ → ℕ → StreamHeader

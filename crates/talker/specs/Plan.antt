@@ -1,7 +1,9 @@
 -- Which plans are talked.
-use Rattle.std.specs.Prelude.{◌≡◌, ℕ, ◌+◌, ◌*◌, ◌^◌, ◌<◌, ◌≤◌, ◌==◌, true, false, pos, ◌≤ℤ◌, if◌then◌else◌, Option, Some, None, IsSome, option_and_then, unwrap_or, ⊤}
+use Rattle.std.specs.Prelude.{◌≡◌, ℕ, ◌+◌, ◌*◌, ◌/◌, ◌%◌, ◌^◌, ◌<◌, ◌≤◌, ◌==◌, true, false, pos, ◌≤ℤ◌, if◌then◌else◌, Option, Some, None, IsSome, option_and_then, unwrap_or, ⊤}
 use Rattle.aaf_format.specs.Aaf.{frame_size}
 use Rattle.iec61883_format.specs.Iec.{block_size, syt_interval}
+use Rattle.clock_track.specs.Pairs.{pull_down, pull_up}
+use Rattle.talker.specs.declared.plan.CrfPlan.{CrfPlan}
 use Rattle.talker.specs.declared.plan.TalkKind.{TalkKind}
 use Rattle.talker.specs.declared.plan.TalkKind.TheVariants.{Aaf, Am824, H264}
 use Rattle.talker.specs.declared.plan.TalkPlan.{TalkPlan}
@@ -79,8 +81,43 @@ abbrev pub Restarts : Option ℕ → ℕ → Type 0
 Restarts None jump = ⊤
 Restarts (Some packets) jump = IsRestart packets jump
 
--- A plan that is talked: PCM in the AVTP audio format, sparse or not, or AM824, with restarts or without, and without a
--- media clock.
+-- ---- the media clock
+
+-- The sample frames from one point of the clock to the next, at so many a second: they take as long as `interval` events at
+-- the clock's frequency, which is its base frequency times the factor of its pull (IEEE 1722-2016, 10).
+unfoldable pub spacing_of : CrfPlan → ℕ → ℕ
+spacing_of crf rate = crf.interval * rate * pull_down crf.pull / (crf.rate * pull_up crf.pull)
+
+-- A run is so many sample frames of so many packets, which are whole packets of the clock: 8, or a multiple of 8.
+abbrev pub HasWholeRuns : CrfPlan → ℕ → ℕ → Option ℕ → Type 0
+HasWholeRuns crf rate count None = ⊤
+HasWholeRuns crf rate count (Some packets) = packets * count % (8 * spacing_of crf rate * crf.points) ≡ 0
+
+-- A clock beside a stream of so many sample frames a second, with so many in a packet, and maybe with restarts.
+pub record IsClockPlan (crf : CrfPlan) (rate count : ℕ) (restart : Option ℕ) : Type 0 where
+  pub id : crf.id < 2 ^ 64
+  pub some_rate : 1 ≤ crf.rate
+  pub most_rate : crf.rate ≤ 200000000
+  pub pull : crf.pull ≤ 5
+  pub some_interval : 1 ≤ crf.interval
+  pub most_interval : crf.interval ≤ 65535
+  pub some_points : 1 ≤ crf.points
+  pub most_points : crf.points ≤ 180
+  -- its points stand at whole sample frames
+  pub whole : crf.interval * rate * pull_down crf.pull % (crf.rate * pull_up crf.pull) ≡ 0
+  pub runs : HasWholeRuns crf rate count restart
+
+abbrev pub HasClock : Option CrfPlan → ℕ → ℕ → Option ℕ → Type 0
+HasClock None rate count restart = ⊤
+HasClock (Some crf) rate count restart = IsClockPlan crf rate count restart
+
+-- Timestamps on a clock can be a few nanoseconds before nominal instants: a lead of 3 is more.
+abbrev pub IsAhead : Option CrfPlan → ℕ → Type 0
+IsAhead None lead = ⊤
+IsAhead (Some crf) lead = 3 ≤ lead
+
+-- A plan that is talked: PCM in the AVTP audio format, sparse or not, or AM824, with restarts or without, and with a media
+-- clock or without.
 pub record IsPlan (plan : TalkPlan) : Type 0 where
   pub kind : IsTalked plan.kind
   pub rate : HasRate plan.kind plan.rate
@@ -94,7 +131,7 @@ pub record IsPlan (plan : TalkPlan) : Type 0 where
   pub some_lead : 1 ≤ plan.lead
   pub lead : plan.lead ≤ 1000000000
   pub restart : Restarts plan.restart plan.jump
-  pub crf : plan.crf ≡ None
+  pub crf : HasClock plan.crf plan.rate plan.count plan.restart
 
 -- ---- listeners
 

@@ -95,7 +95,7 @@ impl Am824Format {
     {
         let stamped = anchor_index(block_count(plan, n), self.interval);
         if stamped < plan.count {
-            Some(plan.instant(n, stamped))
+            Some(plan.stamped_instant(n, stamped))
         } else {
             None
         }

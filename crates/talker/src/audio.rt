@@ -36,7 +36,7 @@ pub(crate) struct AudioStream {
 }
 
 /// The length of the Ethernet header, with its tag.
-const HEADER: usize = 18;
+pub(crate) const HEADER: usize = 18;
 
 /// The most bytes of samples in a packet.
 pub(crate) const SAMPLES_LIMIT: usize = 1476;
@@ -216,7 +216,7 @@ impl AudioStream {
 }
 
 /// Writes the Ethernet header of every frame.
-fn write_ethernet(out: &mut [u8])
+pub(crate) fn write_ethernet(out: &mut [u8])
     requires { length out.old ≡ 18 }
     ensures { out.new ≡ spelling (frame_layout true) (ethernet []) }
 {

@@ -1,6 +1,6 @@
 //! Laws of plans and their frames. Each call is its contract, and does nothing.
 
-ghost use Rattle.std.specs.Prelude.{◌≡◌, ◌↔◌, ◌<◌, ◌≤◌, ◌≤ℤ◌, ◌+◌, ◌-◌, ◌*◌, ◌/◌, ◌%◌, ◌^◌, Bool, length, map, nat_abs, pos, slice_get, List, ℕ, Option, Some, None, IsSome, IsSomeAnd};
+ghost use Rattle.std.specs.Prelude.{◌≡◌, ◌↔◌, ◌<◌, ◌≤◌, ◌≤ℤ◌, ◌+◌, ◌-◌, ◌*◌, ◌/◌, ◌%◌, ◌^◌, ◌==◌, suc, Bool, length, map, nat_abs, pos, slice_get, List, ℕ, Option, Some, None, IsSome, IsSomeAnd};
 ghost use Rattle.aaf_format.specs.declared.aaf.AafFormat.{AafFormat};
 ghost use Rattle.aaf_format.specs.Aaf.{SpellsAaf, aaf_spelling, frame_size, rate_of};
 ghost use Rattle.iec61883_format.specs.Iec.{SpellsIec, block_size, iec_spelling, rate_of_fdf, syt_interval};
@@ -12,15 +12,20 @@ ghost use Rattle.pcap_frames.specs.Capture.{IsCapture, first_refusal, whole_reco
 ghost use Rattle.pcap_frames.specs.Frame.{SpellsFrame};
 ghost use Rattle.stream_journal.specs.Journal.{head_of};
 ghost use Rattle.talker.specs.declared.plan.TalkKind.TheVariants.{Aaf, Am824};
+ghost use Rattle.clock_track.specs.Pairs.{Covers, IsJoined, IsOfRate, period};
+ghost use Rattle.stream_journal.specs.Conforming.{IsSteady};
+ghost use Rattle.talker.specs.Beats.{Beat, IsBeat, IsNextStart, IsOnEvent, pair_from, point_at, stamped_at};
+ghost use Rattle.talker.specs.declared.plan.CrfPlan.{CrfPlan};
 ghost use Rattle.talker.specs.declared.plan.TalkPlan.{TalkPlan};
-ghost use Rattle.talker.specs.Frames.{RiseByArrival, aaf_bytes, capture, capture_of, capture_style, ethernet, frames, frames_at, packet_bytes, record_of, records};
+ghost use Rattle.talker.specs.Clock.{clock_mr, clock_point, points_for, run_points};
+ghost use Rattle.talker.specs.Frames.{RiseByArrival, aaf_bytes, capture, capture_of, capture_style, ethernet, frames, frames_at, packet_bytes, record_of, records, stream_frames};
 ghost use Rattle.talker.specs.Journal.{journal};
 ghost use Rattle.talker.specs.Packets.{aaf_packet, iec_packet};
-ghost use Rattle.talker.specs.Plan.{Expects, IsPlan, fdf_of, interval_of, rate_code};
+ghost use Rattle.talker.specs.Plan.{Expects, IsAhead, IsPlan, fdf_of, interval_of, rate_code, spacing_of};
 ghost use Rattle.talker.specs.Talking.{most_input};
-ghost use Rattle.talker.specs.Timing.{arrival_of, run_of};
+ghost use Rattle.talker.specs.Timing.{arrival_of, nominal_offset, run_of, run_start};
 
-use packet_journal::laws::carried_packets_are_delivered;
+use packet_journal::laws::records_of_both_are_delivered;
 
 /// The rates of plans are those that AAF, or IEC 61883-6, names, each by its code; the latter with its interval.
 pub fn rates_are_named()
@@ -36,14 +41,26 @@ pub fn packets_are_paced()
     ensures restarting { (plan : TalkPlan) (packets n : ℕ) → plan.restart ≡ Some packets → arrival_of plan n ≡ nat_abs plan.start + n / packets * plan.jump + n / packets * packets * plan.count * 1000000000 / plan.rate + n % packets * plan.count * 1000000000 / plan.rate }
 {}
 
+/// The clock has a point at the first sample frame of the stream, and at each further sample frame whose number is a multiple
+/// of the spacing. Its points are counted through all runs, and its packets too; with restarts a point's instant is counted
+/// anew in each run, and a packet has the restart bit of its run.
+pub fn clocks_are_paced()
+    ensures points { (plan : TalkPlan) (crf : CrfPlan) (packets s : ℕ) → IsPlan plan → plan.crf ≡ Some crf → s < points_for crf plan packets ↔ s * spacing_of crf plan.rate < packets * plan.count }
+    ensures steady { (plan : TalkPlan) (crf : CrfPlan) (s : ℕ) → IsPlan plan → plan.crf ≡ Some crf → plan.restart ≡ None → clock_point crf plan s ≡ run_start plan 0 + nominal_offset plan.rate (s * spacing_of crf plan.rate) }
+    ensures restarting { (plan : TalkPlan) (crf : CrfPlan) (packets s : ℕ) → IsPlan plan → plan.crf ≡ Some crf → plan.restart ≡ Some packets → clock_point crf plan s ≡ run_start plan (s / run_points crf plan packets) + nominal_offset plan.rate (s % run_points crf plan packets * spacing_of crf plan.rate) }
+    ensures bit { (plan : TalkPlan) (crf : CrfPlan) (packets m : ℕ) → IsPlan plan → plan.crf ≡ Some crf → plan.restart ≡ Some packets → clock_mr crf plan m ≡ (m / (run_points crf plan packets / crf.points) % 2 == 1) }
+{}
+
 /// No frame arrives before the one that it follows.
 pub fn frames_rise()
     ensures { (plan : TalkPlan) (input : List ℕ) → RiseByArrival (frames plan input) }
 {}
 
-/// Each packet is sent before it is due.
+/// Each packet of the stream is sent before it is due. Without a clock it is the frame of its number; with one the lead is
+/// at least 3 nanoseconds, since timestamps on a clock can be so much before nominal instants.
 pub fn packets_are_sent_in_time()
-    ensures { (plan : TalkPlan) (input : List ℕ) (n : ℕ) → IsPlan plan → length input ≤ most_input → n < (journal plan input).times.packets → IsSomeAnd (slice_get (frames plan input) n) (λ f. f.arrival ≤ℤ pos ((journal plan input).times.due n)) }
+    ensures alone { (plan : TalkPlan) (input : List ℕ) (n : ℕ) → IsPlan plan → plan.crf ≡ None → length input ≤ most_input → n < (journal plan input).times.packets → IsSomeAnd (slice_get (frames plan input) n) (λ f. f.arrival ≤ℤ pos ((journal plan input).times.due n)) }
+    ensures stream { (plan : TalkPlan) (input : List ℕ) (n : ℕ) → IsPlan plan → IsAhead plan.crf plan.lead → length input ≤ most_input → n < (journal plan input).times.packets → IsSomeAnd (slice_get (stream_frames plan input) n) (λ f. f.arrival ≤ℤ pos ((journal plan input).times.due n)) }
 {}
 
 /// Where no restart lies between a packet and the seventh before it, one of these eight is stamped, and the packet is
@@ -74,22 +91,37 @@ pub fn journal_conforms()
     ensures { (plan : TalkPlan) (input : List ℕ) → IsPlan plan → plan.id < 2 ^ 64 → length input ≤ most_input → IsConforming (pos 0) (journal plan input) }
 {}
 
-/// The capture of a plan delivers its journal: its records carry the packets, each once and in order. It does so to every
-/// listener where each packet is stamped. Of a sparse stream, or one of AM824 with fewer data blocks in a packet than its
-/// interval, it does so to every listener that expects packets by about the plan's lead before their first instants.
+/// The capture of a plan delivers its journal: its records carry the packets of the stream and of its clock, each once, and
+/// without a clock those of the stream in their order. It does so to every listener where each packet is stamped. Of a
+/// sparse stream, or one of AM824 with fewer data blocks in a packet than its interval, it does so to every listener that
+/// expects packets by about the plan's lead before their first instants.
 pub fn capture_delivers()
-    ensures carries { (plan : TalkPlan) (input : List ℕ) (lead : ℕ) → IsPlan plan → length input ≤ most_input → Expects plan lead → AllCarry (journal plan input) lead (range_with_len 0 (journal plan input).times.packets) (records plan input) }
+    ensures carries { (plan : TalkPlan) (input : List ℕ) (lead : ℕ) → IsPlan plan → plan.crf ≡ None → length input ≤ most_input → Expects plan lead → AllCarry (journal plan input) lead (range_with_len 0 (journal plan input).times.packets) (records plan input) }
     ensures delivers { (plan : TalkPlan) (input : List ℕ) (clock : Option ℕ) (lead : ℕ) → IsPlan plan → plan.id < 2 ^ 64 → length input ≤ most_input → Expects plan lead → Delivers (journal plan input) clock lead (records plan input) }
 {
-    carried_packets_are_delivered();
+    records_of_both_are_delivered();
 }
 
 /// Whatever a capture loses, repeats or reorders of a plan's frames, each captured when it was sent: it reads back as just
 /// the records of these frames, and delivers the plan's journal to the same listeners as the whole capture, those of the
-/// law above.
+/// law above, whichever packets of the stream and of the clock are lost, come again or change places.
 pub fn losses_are_delivered()
     ensures records { (plan : TalkPlan) (input places : List ℕ) → IsPlan plan → length input ≤ most_input → whole_records (capture_of (frames_at plan input places)) ≡ map record_of (frames_at plan input places) }
     ensures delivers { (plan : TalkPlan) (input places : List ℕ) (clock : Option ℕ) (lead : ℕ) → IsPlan plan → plan.id < 2 ^ 64 → length input ≤ most_input → Expects plan lead → Delivers (journal plan input) clock lead (whole_records (capture_of (frames_at plan input places))) }
 {
-    carried_packets_are_delivered();
+    records_of_both_are_delivered();
 }
+
+/// The arithmetic of a media clock and of a stream that is stamped on it, on plain numbers: points beside each other in a
+/// run are joined, and their periods differ little; a new run doesn't begin before the last point and the last period behind
+/// it. The instant of an event is covered by just the pair that ends with the last point before the event, and by no pair
+/// of another run. Where the clock's frequency is the stream's rate, it is that of an event of the clock.
+pub fn clocks_keep_time()
+    ensures even { (b : Beat) (start m : ℕ) → IsBeat b → IsJoined (pair_from b start m) }
+    ensures steady { (b : Beat) (start m : ℕ) → IsBeat b → IsSteady (pair_from b start m) (pair_from b start (suc m)) }
+    ensures renewed { (b : Beat) (start m next : ℕ) → IsBeat b → IsNextStart b start (suc (suc m) * b.spacing) next → point_at b start (suc m) + period (pair_from b start m) ≤ next }
+    ensures one { (b : Beat) (start m e : ℕ) → IsBeat b → Covers (pair_from b start m) b.rate (pos (stamped_at b start e)) ↔ e / b.spacing ≡ suc m }
+    ensures no_earlier { (b : Beat) (start events next m e : ℕ) → IsBeat b → IsNextStart b start events next → suc (suc m) * b.spacing ≤ events → ¬ Covers (pair_from b start m) b.rate (pos (stamped_at b next e)) }
+    ensures no_later { (b : Beat) (start events next m e : ℕ) → IsBeat b → IsNextStart b start events next → e < events → ¬ Covers (pair_from b next m) b.rate (pos (stamped_at b start e)) }
+    ensures exact { (b : Beat) (start m e : ℕ) → IsBeat b → IsOfRate (pair_from b start m) b.rate → Covers (pair_from b start m) b.rate (pos (stamped_at b start e)) → IsOnEvent (pair_from b start m) b.rate (stamped_at b start e) }
+{}

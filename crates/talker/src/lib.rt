@@ -1,20 +1,25 @@
-//! A talker: the packets of a stream, made from raw samples.
+//! A talker: the packets of a stream, made from raw samples, and those of a media clock beside it.
 #![tactic(auto)]
 
 mod am824;
 mod audio;
+mod clock;
 pub mod examples;
 mod fault;
 pub mod laws;
+mod noise;
 mod pcm;
 mod plan;
 mod sent;
+mod soak;
 mod talker;
 mod timing;
 
 pub use fault::TalkFault;
+pub use noise::Noise;
 pub use plan::{CrfPlan, TalkKind, TalkPlan};
 pub use sent::Sent;
+pub use soak::{SOAK_PLAN, soak_deliveries};
 pub use talker::Talker;
 
 #[cfg(test)]

@@ -75,7 +75,7 @@ impl PcmFormat {
         if self.sparse && n % 8 != 0 {
             None
         } else {
-            Some(plan.instant(n, 0))
+            Some(plan.stamped_instant(n, 0))
         }
     }
 

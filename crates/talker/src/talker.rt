@@ -1,42 +1,49 @@
 //! The frames of a plan, one after another.
 
-ghost use Rattle.std.specs.Prelude.{◌≡◌, ◌<◌, ◌≤◌, ◌⊎◌, length, slice_get, Ok, Err, Some, None, IfOk, IfErr, IfSome, OnOk};
+ghost use Rattle.std.specs.Prelude.{◌≡◌, ◌<◌, ◌≤◌, ◌⊎◌, ◌↔◌, IsTrue, length, slice_get, Ok, Err, Some, None, IfOk, IfErr, IfSome, OnOk};
 ghost use Rattle.std.specs.Option.{option_map};
 ghost use Rattle.pcap_frames.specs.Capture.{HasSpelling};
 ghost use Rattle.talker.specs.declared.fault.TalkFault.TheVariants.{Memory};
 ghost use Rattle.talker.specs.Faults.{fault_of};
 ghost use Rattle.talker.specs.Frames.{capture_style, clock_frames, frames, record_of, sent_frame, stream_frames};
 ghost use Rattle.talker.specs.Plan.{IsPlan};
-ghost use Rattle.talker.specs.Talking.{most_input, gone_on};
+ghost use Rattle.talker.specs.Clock.{AreFew};
+ghost use Rattle.talker.specs.Talking.{IsAudio, IsClockFirst, IsClockOf, IsClockStream, clock_room, clocks_of, most_input, gone_on};
 
 use crate::audio::AudioStream;
+use crate::clock::{CLOCK_FRAME_LIMIT, ClockStream};
 use crate::fault::TalkFault;
 use crate::plan::TalkPlan;
 use crate::sent::Sent;
 use std::alloc::Global;
 use std::marker::Model;
 
-/// Makes the frames of a plan from its samples, each on its own or one after another. The memory of one frame is taken at
-/// the beginning, and no more later: a frame is lent until the next is made.
+/// Makes the frames of a plan from its samples, each on its own or one after another. The memory of one frame of the stream
+/// and of one of the clock is taken at the beginning, and no more later: a frame is lent until the next is made.
 #[derive(Debug, Drop)]
 pub struct Talker<'a> {
     stream: AudioStream,
+    clock: Option<ClockStream>,
     input: &'a [u8],
     packets: u64,
-    /// How many frames `next` gave.
-    given: u64,
-    /// The frame that was made last.
+    clocks: u64,
+    /// How many packets of the stream `next` gave, and how many of the clock.
+    given_packets: u64,
+    given_clocks: u64,
+    /// The frame of the stream that was made last, and that of the clock.
     frame: Vec<u8>,
+    clock_frame: Vec<u8>,
 }
 
 impl<'a> Model for Talker<'a> {
+    ghost use Rattle.std.specs.Prelude.{◌+◌};
     ghost use Rattle.talker.specs.Talking.{Talking};
 
     ghost Value = { Talking };
 
     ghost use Rattle.talker.specs.Kept.{IsTalker};
 
-    ghost view = { λ t. record { plan = t.stream.plan; input = t.input.now; given = t.given } };
+    ghost view = { λ t. record { plan = t.stream.plan; input = t.input.now; given = t.given_clocks + t.given_packets } };
 
     ghost invariant = { IsTalker };
 }
@@ -49,10 +56,14 @@ impl<'a> Talker<'a> {
     /// sample of PCM has its highest byte first; one of AM824 is a quadlet as it is sent, a label and 24 bits (IEC 61883-6).
     ///
     /// The plan is one that is talked so far, with a start of 0 to 4 * 10^18, a lead of 1 to 10^9, no restart or one after
-    /// each 8 to 10^9 packets with a jump of 4 to 10^9, and no media clock. PCM, sparse or not, has one of AAF's rates, 1 to
-    /// 1023 channels, and 1 to 1476 sample frames in a packet that have at most 1476 bytes. AM824 has one of the rates of IEC
-    /// 61883-6, 1 to 256 channels, and data blocks in a packet that have at most 1468 bytes and are at least an eighth of
-    /// SYT_INTERVAL. The input has at most 268,435,456 bytes.
+    /// each 8 to 10^9 packets with a jump of 4 to 10^9. PCM, sparse or not, has one of AAF's rates, 1 to 1023 channels, and
+    /// 1 to 1476 sample frames in a packet that have at most 1476 bytes. AM824 has one of the rates of IEC 61883-6, 1 to 256
+    /// channels, and data blocks in a packet that have at most 1468 bytes and are at least an eighth of SYT_INTERVAL. The
+    /// input has at most 268,435,456 bytes.
+    ///
+    /// A media clock has a base frequency of 1 to 200,000,000 Hz, a pull of 0 to 5, and 1 to 180 timestamps in a packet. The
+    /// time from one to the next, 1 to 65,535 events of the clock, is that of whole sample frames, and with restarts a run of
+    /// the stream is 8 packets of the clock or a multiple of that.
     ///
     /// `Frames` comes exactly where the input is not whole sample frames, and `Arrival` exactly where a packet would
     /// arrive 2^32 seconds after 0 or later, which no such plan does. `Memory` comes where no memory is found.
@@ -69,16 +80,20 @@ impl<'a> Talker<'a> {
             return Err(fault);
         }
         let packets = stream.packets(input);
-        match stream.room(alloc) {
-            Err(fault) => Err(fault),
-            Ok(frame) => Ok(Talker {
-                stream,
-                input,
-                packets,
-                given: 0,
-                frame,
-            }),
-        }
+        let clock = ClockStream::of(plan, packets);
+        let frame = stream.room(alloc)?;
+        let clock_frame = clock_memory(alloc, &clock)?;
+        Ok(Talker {
+            stream,
+            clock,
+            input,
+            packets,
+            clocks: clock_packets(&clock),
+            given_packets: 0,
+            given_clocks: 0,
+            frame,
+            clock_frame,
+        })
     }
 
     /// The number of the stream's packets.
@@ -88,11 +103,11 @@ impl<'a> Talker<'a> {
         self.packets
     }
 
-    /// The number of the media clock's packets. No plan with a clock is talked so far.
+    /// The number of the media clock's packets.
     pub fn clocks(&self) -> u64
         ensures { result ≡ length (clock_frames self.now.plan self.now.input) }
     {
-        0
+        self.clocks
     }
 
     /// The frame of packet `n` of the stream. It takes no memory.
@@ -112,19 +127,90 @@ impl<'a> Talker<'a> {
         }
     }
 
-    /// The next of all frames, in the order in which they are sent: by arrival. It takes no memory. `None` comes exactly
-    /// where all frames were given.
+    /// The frame of packet `m` of the clock. It takes no memory.
+    fn clock_packet(&mut self, m: u64) -> Sent<'_>
+        requires { m < length (clock_frames self.old.plan self.old.input) }
+        ensures frame { slice_get (clock_frames self.old.plan self.old.input) m ≡ Some (sent_frame result) }
+        ensures fits { HasSpelling capture_style (record_of (sent_frame result)) }
+        ensures size { length result.bytes.now ≤ 1518 }
+        ensures* after { sem 𝓛 (EndsAs self.entry (λ last. last ≡ self.old)) }
+    {
+        let Some(clock) = self.clock else {
+            unreachable!()
+        };
+        let size = clock.write_front(self.clock_frame.as_mut_slice(), m);
+        Sent {
+            arrival: clock.arrival(m),
+            number: m,
+            clock: true,
+            bytes: &self.clock_frame.as_slice()[..size],
+        }
+    }
+
+    /// The next of all frames, in the order in which they are sent: by arrival, those of the clock first. It takes no memory.
+    /// `None` comes exactly where all frames were given.
     pub fn next(&mut self) -> Option<Sent<'_>>
         ensures frame { option_map sent_frame result ≡ slice_get (frames self.old.plan self.old.input) self.old.given }
         ensures fits { IfSome result (λ sent. HasSpelling capture_style (record_of (sent_frame sent))) }
         ensures size { IfSome result (λ sent. length sent.bytes.now ≤ 1518) }
         ensures* after { sem 𝓛 (EndsAs self.entry (λ last. last ≡ gone_on self.old)) }
     {
-        let n = self.given;
+        let (m, n) = (self.given_clocks, self.given_packets);
+        if clock_is_first(&self.clock, &self.stream, m, n, self.packets) {
+            self.given_clocks += 1;
+            return Some(self.clock_packet(m));
+        }
         if n == self.packets {
             return None;
         }
-        self.given += 1;
+        self.given_packets += 1;
         Some(self.packet(n))
+    }
+}
+
+/// The number of packets of a clock, where there is one.
+fn clock_packets(clock: &Option<ClockStream>) -> u64
+    requires { IfSome clock.now IsClockStream }
+    ensures { result ≡ clocks_of clock.now }
+{
+    match clock {
+        None => 0,
+        Some(clock) => clock.packets(),
+    }
+}
+
+/// Memory for one frame of a clock, where there is one.
+fn clock_memory(alloc: Global, clock: &Option<ClockStream>) -> Result<Vec<u8>, TalkFault>
+    ensures room { IfOk result (λ frame. length frame.items ≡ clock_room clock.now) }
+    ensures only { IfErr result (λ fault. fault ≡ Memory) }
+{
+    let size = match clock {
+        None => 0,
+        Some(_) => CLOCK_FRAME_LIMIT,
+    };
+    match vec![in alloc; 0; size] {
+        Ok(frame) => Ok(frame),
+        Err(_) => Err(TalkFault::Memory),
+    }
+}
+
+/// Packet `m` of the clock, where there is one, is sent before packet `n` of a stream of so many, or at the same time.
+fn clock_is_first(
+    clock: &Option<ClockStream>,
+    stream: &AudioStream,
+    m: u64,
+    n: u64,
+    packets: u64,
+) -> bool
+    requires stream { IsAudio stream.now }
+    requires clock { IsClockOf clock.now stream.now.plan packets }
+    requires few { AreFew stream.now.plan packets }
+    ensures { IsTrue result ↔ IsClockFirst clock.now stream.now.plan m n packets }
+{
+    match clock {
+        None => false,
+        Some(clock) => {
+            m < clock.packets() && (n >= packets || clock.arrival(m) <= stream.arrival(n))
+        }
     }
 }

@@ -9,9 +9,10 @@ ghost use Rattle.talker.specs.Journal.{journal};
 ghost use Rattle.talker.specs.Plan.{Expects, IsPlan};
 ghost use Rattle.talker.specs.Talking.{most_input};
 
-use super::{Sent, TalkFault, TalkKind, TalkPlan, Talker, laws};
+use super::{CrfPlan, Sent, TalkFault, TalkKind, TalkPlan, Talker, laws};
 use aaf_format::{AafFormat, rate_of, read_aaf};
 use avtp_header::StreamHeader;
+use crf_format::read_crf;
 use iec61883_format::{rate_of_fdf, read_iec, syt_interval};
 use pcap_frames::{Order, Style, Tag, Unit, read_frame, write_header, write_record};
 use std::process::Abort;
@@ -119,6 +120,7 @@ fn append(bytes: &mut Vec<u8>, sent: Sent<'_>) -> Result<(), Fail>
 /// The capture of the frames with these numbers, in this order.
 fn capture(rt: &HostRuntime, plan: TalkPlan, input: &[u8], numbers: &[u64]) -> Result<Vec<u8>, Fail>
     requires plan { IsPlan plan }
+    requires alone { plan.crf ≡ None }
     requires limit { length input.now ≤ most_input }
     ensures { IfOk result (λ bytes. bytes.items ≡ capture_of (frames_at plan input.now numbers.now)) }
 {
@@ -156,6 +158,7 @@ fn check_heard(_plan: TalkPlan, _input: &[u8], _bytes: &[u8])
 /// The length of the capture of the frames with these numbers. It has what a listener relies on.
 fn heard(rt: &HostRuntime, plan: TalkPlan, input: &[u8], numbers: &[u64]) -> Result<usize, Fail>
     requires plan { IsPlan plan }
+    requires alone { plan.crf ≡ None }
     requires limit { length input.now ≤ most_input }
     requires lead { Expects plan 2000000 }
 {
@@ -541,5 +544,200 @@ fn stamps_blocks(rt: HostRuntime) -> Result<(), Fail> {
         assert!(rt; n < talker.packets());
         check_stamp(&rt, talker.packet(n), count, stamp)?;
     }
+    Ok(())
+}
+
+/// A clock of the stream's rate with a timestamp in each packet, two milliseconds apart.
+const CLOCK: CrfPlan = CrfPlan {
+    id: 0x0200_0000_0001_0002,
+    rate: 48_000,
+    pull: 0,
+    interval: 96,
+    points: 1,
+};
+
+/// The plan with this clock.
+const CLOCKED: TalkPlan = TalkPlan {
+    crf: Some(CLOCK),
+    ..PLAN
+};
+
+/// The first packet of that clock.
+const CLOCK_PACKET: [u8; 28] = [
+    0x04, 0x80, 0x00, 0x01, 0x02, 0x00, 0x00, 0x00, 0x00, 0x01, 0x00, 0x02, 0x00, 0x00, 0xbb, 0x80,
+    0x00, 0x08, 0x00, 0x60, 0x00, 0x00, 0x00, 0x00, 0x3b, 0xb9, 0x4e, 0x80,
+];
+
+/// A second of stereo samples of 16 bits at 48 kHz.
+const SECOND: [u8; 192_000] = [0; 192_000];
+
+/// The packet of the clock that is written out above comes before the stream's first, at the same time.
+#[test]
+fn makes_a_clock_packet(rt: HostRuntime) -> Result<(), Fail> {
+    let mut talker = Talker::begin(rt.alloc(), CLOCKED, &ONE[SAMPLES..])?;
+    assert_eq!(rt; (talker.packets(), talker.clocks()), (1, 1));
+    let clock = talker.next().ok_or("no frame")?;
+    assert_eq!(rt;
+        (clock.arrival, clock.number, clock.clock),
+        (1_000_000_000, 0, true)
+    );
+    assert!(rt; clock.bytes.get(PACKET..) == Some(&CLOCK_PACKET[..]));
+    let stream = talker.next().ok_or("one frame alone")?;
+    assert_eq!(rt;
+        (stream.arrival, stream.number, stream.clock),
+        (1_000_000_000, 0, false)
+    );
+    assert!(rt; stream.bytes == &ONE[40..]);
+    assert!(rt; talker.next().is_none());
+    Ok(())
+}
+
+/// The bytes of the capture of a plan.
+fn capture_size(rt: &HostRuntime, plan: TalkPlan, input: &[u8]) -> Result<(u64, u64, usize), Fail>
+    requires plan { IsPlan plan }
+    requires limit { length input.now ≤ most_input }
+{
+    let mut talker = Talker::begin(rt.alloc(), plan, input)?;
+    let mut size = 24usize;
+    for _ in 0..20_000u32 {
+        match talker.next() {
+            None => break,
+            Some(sent) => size = size.saturating_add(16 + sent.bytes.len()),
+        }
+    }
+    Ok((talker.packets(), talker.clocks(), size))
+}
+
+/// A second of a clock of the stream's own rate, and of one of 44.1 kHz.
+#[test]
+fn makes_clocks(rt: HostRuntime) -> Result<(), Fail> {
+    assert_eq!(rt; capture_size(&rt, CLOCKED, &SECOND)?, (8000, 500, 687_024));
+    let other = TalkPlan {
+        crf: Some(CrfPlan {
+            rate: 44_100,
+            interval: 147,
+            ..CLOCK
+        }),
+        ..PLAN
+    };
+    assert_eq!(rt; capture_size(&rt, other, &SECOND)?, (8000, 300, 674_624));
+    Ok(())
+}
+
+/// Which frame comes next, and when: of the clock or not, its number, how many nanoseconds behind the stream's start, and
+/// the restart bit and first timestamp of its packet, which is counted from that start too.
+const ORDER: [(bool, u64, i64, bool, u32); 12] = [
+    (true, 0, 0, false, 2_000_000),
+    (false, 0, 0, false, 2_000_000),
+    (false, 1, 125_000, false, 2_125_000),
+    (true, 1, 250_000, false, 2_250_000),
+    (false, 2, 250_000, false, 2_250_000),
+    (false, 3, 375_000, false, 2_375_000),
+    (true, 2, 500_000, false, 2_500_000),
+    (false, 4, 500_000, false, 2_500_000),
+    (false, 5, 625_000, false, 2_625_000),
+    (true, 3, 750_000, false, 2_750_000),
+    (false, 6, 750_000, false, 2_750_000),
+    (false, 7, 875_000, false, 2_875_000),
+];
+
+/// At equal arrivals a frame of the clock comes before one of the stream.
+#[test]
+fn sends_the_clock_first(rt: HostRuntime) -> Result<(), Fail> {
+    let plan = TalkPlan {
+        crf: Some(CrfPlan {
+            interval: 12,
+            ..CLOCK
+        }),
+        ..PLAN
+    };
+    let mut talker = Talker::begin(rt.alloc(), plan, &SILENCE[..192])?;
+    for (clock, number, arrival, mr, timestamp) in ORDER {
+        let sent = talker.next().ok_or("no frame")?;
+        assert_eq!(rt;
+            (sent.clock, sent.number, sent.arrival),
+            (clock, number, arrival.wrapping_add(1_000_000_000))
+        );
+        check_time(&rt, sent, mr, timestamp)?;
+    }
+    assert!(rt; talker.next().is_none());
+    Ok(())
+}
+
+/// A frame's packet has this restart bit, and is stamped first so many nanoseconds behind a second.
+fn check_time(rt: &impl Abort, sent: Sent<'_>, mr: bool, timestamp: u32) -> Result<(), Fail> {
+    let frame = read_frame(sent.bytes)?;
+    if sent.clock {
+        let packet = read_crf(frame.payload)?;
+        assert_eq!(rt; u64::from(packet.seq), sent.number % 256);
+        assert_eq!(rt; packet.mr, mr);
+        let want = (u64::from(timestamp) + 1_000_000_000).to_be_bytes();
+        assert!(rt; packet.payload.get(..8) == Some(&want[..]));
+    } else {
+        let packet = read_aaf(frame.payload)?;
+        assert_eq!(rt; packet.header.mr, mr);
+        assert_eq!(rt;
+            packet.header.timestamp,
+            timestamp.wrapping_add(1_000_000_000)
+        );
+    }
+    Ok(())
+}
+
+/// Packets of the clock and when their first points are, so many nanoseconds behind a second, where the stream restarts
+/// after each 8 packets of 6 sample frames and the clock has a point at each packet: point 8 is the first of a new run, and
+/// comes a millisecond later than the ninth packet of 125 microseconds.
+const RESTARTED_CLOCK: [(u64, bool, u32); 4] = [
+    (0, false, 2_000_000),
+    (7, false, 2_875_000),
+    (8, true, 4_000_000),
+    (15, true, 4_875_000),
+];
+
+#[test]
+#[tactic(auto, unfolding(crate::specs::Plan::spacing_of))]
+fn restarts_the_clock(rt: HostRuntime) -> Result<(), Fail> {
+    let plan = TalkPlan {
+        restart: Some(8),
+        crf: Some(CrfPlan {
+            interval: 6,
+            ..CLOCK
+        }),
+        ..PLAN
+    };
+    let mut talker = Talker::begin(rt.alloc(), plan, &SILENCE[..384])?;
+    assert_eq!(rt; (talker.packets(), talker.clocks()), (16, 16));
+    for _ in 0..32u32 {
+        let sent = talker.next().ok_or("no frame")?;
+        for (number, mr, timestamp) in RESTARTED_CLOCK {
+            if sent.clock && sent.number == number {
+                check_time(&rt, sent, mr, timestamp)?;
+            }
+        }
+    }
+    assert!(rt; talker.next().is_none());
+    Ok(())
+}
+
+/// At 44.1 kHz a hundred events take 2,267,573 ns or one more. Event 150 is stamped with half of the first hundred's time
+/// behind event 100, a nanosecond before its nominal instant.
+#[test]
+fn stamps_on_the_clock(rt: HostRuntime) -> Result<(), Fail> {
+    let plan = TalkPlan {
+        rate: 44_100,
+        crf: Some(CrfPlan {
+            rate: 44_100,
+            interval: 100,
+            ..CLOCK
+        }),
+        ..PLAN
+    };
+    let mut talker = Talker::begin(rt.alloc(), plan, &SILENCE[..1200])?;
+    for (n, timestamp) in [(0, 2_000_000), (16, 4_176_870), (25, 5_401_359)] {
+        if n < talker.packets() {
+            check_time(&rt, talker.packet(n), false, timestamp)?;
+        }
+    }
+    assert_eq!(rt; (talker.packets(), talker.clocks()), (50, 3));
     Ok(())
 }

@@ -1,14 +1,25 @@
 //! When the packets of a plan are sent, and with which timestamps.
 
-ghost use Rattle.std.specs.Prelude.{◌≡◌, ◌+◌, ◌*◌, ◌≤◌, ◌<◌, ◌^◌, pos, Option, Some, None};
+ghost use Rattle.std.specs.Prelude.{◌≡◌, ◌+◌, ◌*◌, ◌/◌, ◌≤◌, ◌<◌, ◌^◌, pos, Option, Some, None};
+ghost use Rattle.talker.specs.Clock.{stamped_by, stamped_instant as stamped_instant_of};
 ghost use Rattle.talker.specs.Packets.{header_of};
-ghost use Rattle.talker.specs.Plan.{IsPlan};
-ghost use Rattle.talker.specs.Timing.{arrival_of, first_packet as first_packet_of, nominal_instant, nominal_offset as nominal_offset_of, run_of};
+ghost use Rattle.talker.specs.Plan.{IsPlan, spacing_of};
+ghost use Rattle.talker.specs.Timing.{arrival_of, event_of, mr_of, first_packet as first_packet_of, nominal_instant, nominal_offset as nominal_offset_of, run_of, run_start as run_start_of};
 
-use crate::plan::TalkPlan;
+use crate::plan::{CrfPlan, TalkPlan};
 use avtp_header::StreamHeader;
+use clock_track::{pull_down, pull_up};
 
 const NANOSECONDS: u64 = 1_000_000_000;
+
+/// So many of `whole` parts of a period, rounded down.
+fn part(parts: u64, period: u64, whole: u64) -> u64
+    requires { parts < whole }
+    ensures value { result ≡ parts * period / whole }
+    ensures bound { result ≤ period }
+{
+    (u128::from(parts) * u128::from(period) / u128::from(whole)) as u64
+}
 
 impl TalkPlan {
     /// The run of packet `n`: one begins with the stream, and one with each restart.
@@ -58,8 +69,35 @@ impl TalkPlan {
         frames * NANOSECONDS / u64::from(self.rate)
     }
 
+    /// The instant of event 0 of the run of packet `n`, in nanoseconds of gPTP.
+    #[tactic(auto, using(crate::proofs::RunLemmas::in_run))]
+    fn run_start(&self, n: u64) -> u64
+        requires plan { IsPlan self.now }
+        requires frames { n * self.now.count ≤ 2 ^ 28 }
+        ensures value { result ≡ run_start_of self.now (run_of self.now n) }
+        ensures bound { result ≤ 2 ^ 63 }
+    {
+        let first = self.first_packet(n);
+        self.start as u64
+            + u64::from(self.lead)
+            + self.jumps(n)
+            + self.offset(first * u64::from(self.count))
+    }
+
+    /// The event of sample frame `i` of packet `n` in the packet's run.
+    #[tactic(auto, using(crate::proofs::RunLemmas::in_run))]
+    fn event(&self, n: u64, i: u32) -> u64
+        requires plan { IsPlan self.now }
+        requires frames { n * self.now.count ≤ 2 ^ 28 }
+        requires within { i < self.now.count }
+        ensures value { result ≡ event_of self.now n i }
+        ensures bound { result ≤ 2 ^ 29 }
+    {
+        (n - self.first_packet(n)) * u64::from(self.count) + u64::from(i)
+    }
+
     /// The instant of sample frame `i` of packet `n`, in nanoseconds of gPTP.
-    #[tactic(auto, using(crate::proofs::RunLemmas::in_run), unfolding(crate::specs::Timing::nominal_instant))]
+    #[tactic(auto, using(crate::proofs::TimingLemmas::in_time), unfolding(crate::specs::Timing::nominal_instant))]
     pub(crate) fn instant(&self, n: u64, i: u32) -> u64
         requires plan { IsPlan self.now }
         requires frames { n * self.now.count ≤ 2 ^ 28 }
@@ -68,13 +106,51 @@ impl TalkPlan {
         ensures lead { self.now.lead ≤ result }
         ensures bound { result < self.now.lead + 2 ^ 32 * 1000000000 }
     {
-        let count = u64::from(self.count);
-        let first = self.first_packet(n);
-        self.start as u64
-            + u64::from(self.lead)
-            + self.jumps(n)
-            + self.offset(first * count)
-            + self.offset((n - first) * count + u64::from(i))
+        self.run_start(n) + self.offset(self.event(n, i))
+    }
+
+    /// The sample frames from one point of the plan's clock to the next.
+    pub(crate) fn spacing(&self, crf: &CrfPlan) -> u64
+        requires plan { IsPlan self.now }
+        requires clock { self.now.crf ≡ Some crf.now }
+        ensures value { result ≡ spacing_of crf.now self.now.rate }
+        ensures some { 1 ≤ result }
+    {
+        u64::from(crf.interval) * u64::from(self.rate) * pull_down(crf.pull)
+            / (u64::from(crf.rate) * pull_up(crf.pull))
+    }
+
+    /// The instant with which sample frame `i` of packet `n` is stamped on the plan's clock, in nanoseconds of gPTP: so far
+    /// behind the last point of the clock as the period before it tells.
+    fn clocked_instant(&self, crf: &CrfPlan, n: u64, i: u32) -> u64
+        requires plan { IsPlan self.now }
+        requires clock { self.now.crf ≡ Some crf.now }
+        requires frames { n * self.now.count ≤ 2 ^ 28 }
+        requires within { i < self.now.count }
+        ensures { result ≡ stamped_by (Some crf.now) self.now n i }
+    {
+        let spacing = self.spacing(crf);
+        let event = self.event(n, i);
+        if event < spacing {
+            return self.instant(n, i);
+        }
+        let last = event / spacing;
+        let offset = self.offset(last * spacing);
+        let period = offset - self.offset((last - 1) * spacing);
+        self.run_start(n) + offset + part(event % spacing, period, spacing)
+    }
+
+    /// The instant with which sample frame `i` of packet `n` is stamped, in nanoseconds of gPTP.
+    pub(crate) fn stamped_instant(&self, n: u64, i: u32) -> u64
+        requires plan { IsPlan self.now }
+        requires frames { n * self.now.count ≤ 2 ^ 28 }
+        requires within { i < self.now.count }
+        ensures { result ≡ stamped_instant_of self.now n i }
+    {
+        match self.crf {
+            None => self.instant(n, i),
+            Some(crf) => self.clocked_instant(&crf, n, i),
+        }
     }
 
     /// When packet `n` is sent, in nanoseconds of gPTP.
@@ -84,6 +160,14 @@ impl TalkPlan {
         ensures { result ≡ pos (arrival_of self.now n) }
     {
         (self.instant(n, 0) - u64::from(self.lead)) as i64
+    }
+
+    /// The media clock restart bit of packet `n`, which toggles with each run.
+    pub(crate) fn restart_bit(&self, n: u64) -> bool
+        requires { IsPlan self.now }
+        ensures { result ≡ mr_of self.now n }
+    {
+        self.run(n) % 2 == 1
     }
 
     /// The stream header of packet `n` (IEEE 1722-2016, 4.4.4), which is stamped with an instant or not, before so many bytes.
@@ -100,7 +184,7 @@ impl TalkPlan {
         StreamHeader {
             subtype,
             sv: true,
-            mr: self.run(n) % 2 == 1,
+            mr: self.restart_bit(n),
             format_bits: 0,
             tv: stamp.is_some(),
             seq: (n % 256) as u8,

@@ -12,9 +12,9 @@ pub returns : goal.returns
 returns c clock plan input places listen n l room =
     let p = journal plan input in
     let bytes = capture_of (frames_at plan input (n ∷ places)) in
-    let found = early_frame plan input n (c.packets_are_sent_in_time.ensures plan input n l.talked l.limit room.known) in
+    let found = early_frame plan input n (c.packets_are_sent_in_time.ensures.alone plan input n l.talked room.alone l.limit room.known) in
     let r = record_of found.0 in
-    let carries = carries_at p listen.lead 0 p.times.packets n n (frames plan input) found.0 (omega arith) (c.capture_delivers.ensures.carries plan input listen.lead l.talked l.limit l.lead) room.known found.1.there in
+    let carries = carries_at p listen.lead 0 p.times.packets n n (frames plan input) found.0 (omega arith) (c.capture_delivers.ensures.carries plan input listen.lead l.talked room.alone l.limit l.lead) room.known found.1.there in
     let conforming = c.journal_conforms.ensures plan input l.talked l.id l.limit in
     let in_it = c.carried_packet_is_delivered.ensures.belongs (pos 0) p listen.lead n r conforming (kind_read plan input) carries in
     let records : whole_records bytes ≡ r ∷ map record_of (frames_at plan input places) =

@@ -1,5 +1,6 @@
 use Rattle.std.proofs.Common.{map, pos}
 use Rattle.pcap_frames.proofs.Written.{written_records}
+use Rattle.packet_journal.specs.Delivered.{stream_numbers}
 use Rattle.talker.specs.Frames.{capture_style, frames_at, record_of}
 use Rattle.talker.specs.Journal.{journal}
 use Rattle.talker.proofs.LawLemmas.{kept_carried, kept_spelled}
@@ -15,5 +16,5 @@ returns-clause-delivers c = λ plan input places clock lead p id limit expects.
     let is = plan_keeps plan input p limit in
     let carried = kept_carried plan input places lead p limit expects in
     rw (written_records capture_style records (kept_spelled plan input places p limit))
-    (c.carried_packets_are_delivered.ensures (pos 0) (journal plan input) clock lead carried.numbers records
-    (is.conforms id) is.read carried.carry (is.near carried.numbers))
+    (c.records_of_both_are_delivered.ensures (pos 0) (journal plan input) clock lead carried.origins records
+    (is.conforms id) is.read carried.carry (is.near (stream_numbers carried.origins)))

@@ -1,0 +1,216 @@
+-- The clock of a plan, and the timestamps of its stream.
+use Rattle.std.proofs.Common.{◌≡◌, ℕ, zero, suc, ◌+◌, ◌*◌, ◌/◌, ◌%◌, ◌<◌, ◌≤◌, [], ◌∷◌, ◌++◌, map, Some, None, inl, inr, refl, subst, ap, ◌∙◌, arith}
+use Rattle.std.specs.Prelude.{Option}
+use Rattle.std.proofs.Math.Nat.{div-mul-le_self, mod-lt, mul-le-mul_left, mul-le-mul_right}
+use Rattle.std.specs.Int.{div_ceil}
+use Rattle.std.specs.List.{range_with_len}
+use Rattle.std.proofs.lemmas.Bool.{cases_lt}
+use Rattle.std.proofs.lemmas.Grind.{div_ceil_times}
+use Rattle.std.proofs.lemmas.Nat.{div-add-mod'}
+use Rattle.clock_track.specs.Pairs.{pull_down, pull_up}
+use Rattle.talker.specs.declared.plan.CrfPlan.{CrfPlan}
+use Rattle.talker.specs.declared.plan.TalkPlan.{TalkPlan}
+use Rattle.talker.specs.Beats.{IsBeat}
+use Rattle.talker.specs.declared.clock.ClockStream.{ClockStream}
+use Rattle.talker.specs.Clock.{AreFew, beat_of, clock_packets, first_point, frame_at, points_for, stamped_by}
+use Rattle.talker.specs.Talking.{IsClockStream}
+use Rattle.talker.specs.Plan.{HasClock, IsClockPlan, IsPlan, spacing_of}
+use Rattle.talker.specs.Timing.{event_of, nominal_instant, nominal_offset, run_of, run_start}
+use Rattle.talker.proofs.BeatLemmas.{is_stamped, stamped_early}
+use Rattle.talker.proofs.RateLemmas.{rate_range}
+use Rattle.talker.proofs.TimingLemmas.{is_offset}
+
+-- ---- the two rates
+
+pub record IsPull (pull : ℕ) : Type 0 where
+  pub up : 1 ≤ pull_up pull
+  pub down : 1 ≤ pull_down pull
+  pub few_up : pull_up pull ≤ 1001
+  pub few_down : pull_down pull ≤ 1001
+  -- a pull makes a clock at most 1/24 faster
+  pub slow : 24 * pull_up pull ≤ 25 * pull_down pull
+
+pub is_pull : (pull : ℕ) → pull ≤ 5 → IsPull pull
+is_pull zero few = record { up = omega arith; down = omega arith; few_up = omega arith; few_down = omega arith; slow = omega arith }
+is_pull (suc zero) few = record { up = omega arith; down = omega arith; few_up = omega arith; few_down = omega arith; slow = omega arith }
+is_pull (suc (suc zero)) few = record { up = omega arith; down = omega arith; few_up = omega arith; few_down = omega arith; slow = omega arith }
+is_pull (suc (suc (suc zero))) few = record { up = omega arith; down = omega arith; few_up = omega arith; few_down = omega arith; slow = omega arith }
+is_pull (suc (suc (suc (suc zero)))) few = record { up = omega arith; down = omega arith; few_up = omega arith; few_down = omega arith; slow = omega arith }
+is_pull (suc (suc (suc (suc (suc zero))))) few = record { up = omega arith; down = omega arith; few_up = omega arith; few_down = omega arith; slow = omega arith }
+is_pull (suc (suc (suc (suc (suc (suc pull)))))) few = absurd (omega arith)
+
+product : (a b : ℕ) → 1 ≤ a → 1 ≤ b → 1 ≤ a * b
+product a b p q = let h : a * 1 ≤ a * b = mul-le-mul_left a q in omega arith
+
+whole_part : (a b : ℕ) → 1 ≤ a → a % b ≡ 0 → (a / b * b ≡ a) × (1 ≤ a / b)
+whole_part a b some whole =
+    let split = div-add-mod' a b in
+    let same : a / b * b ≡ a = omega arith in
+    let one : 1 ≤ a / b = elim (cases_lt (a / b) 1) [
+      | inl none ↦ let z : a / b ≡ 0 = omega arith in let e : a / b * b ≡ 0 * b = ap (λ (n : ℕ). n * b) z in absurd (omega arith)
+      | inr one ↦ one
+    ] in
+    (same, one)
+
+pub clock_of : (plan : TalkPlan) (crf : CrfPlan) → IsPlan plan → plan.crf ≡ Some crf → IsClockPlan crf plan.rate plan.count plan.restart
+clock_of plan crf p e = subst (λ (c : Option CrfPlan). HasClock c plan.rate plan.count plan.restart) e p.crf
+
+pub is_beat : (plan : TalkPlan) (crf : CrfPlan) → IsPlan plan → plan.crf ≡ Some crf → IsBeat (beat_of crf plan)
+unfolding spacing_of
+is_beat plan crf p e =
+    let of = clock_of plan crf p e in
+    let range = rate_range plan p in
+    let pull = is_pull crf.pull of.pull in
+    let up : ℕ = crf.rate * pull_up crf.pull in
+    let some_up : 1 ≤ up = product crf.rate (pull_up crf.pull) of.some_rate pull.up in
+    let some : 1 ≤ crf.interval * plan.rate * pull_down crf.pull = product (crf.interval * plan.rate) (pull_down crf.pull) (product crf.interval plan.rate of.some_interval (omega (arith, range.least))) pull.down in
+    let whole = whole_part (crf.interval * plan.rate * pull_down crf.pull) up some of.whole in
+    let most : up ≤ 200000000 * pull_up crf.pull = mul-le-mul_right (pull_up crf.pull) of.most_rate in
+    record {
+      rate_from = range.least;
+      rate_to = range.most;
+      some = whole.1;
+      some_up = some_up;
+      same_time = whole.0;
+      slow = omega (arith, pull.slow);
+    }
+
+-- ---- timestamps lie near nominal instants
+
+-- at most so many nanoseconds behind them, or before them: none without a clock
+abbrev pub late_by : Option CrfPlan → ℕ
+late_by None = 0
+late_by (Some crf) = 1
+
+abbrev pub early_by : Option CrfPlan → ℕ
+early_by None = 0
+early_by (Some crf) = 2
+
+pub record IsNear (crf : Option CrfPlan) (stamp nominal : ℕ) : Type 0 where
+  pub late : stamp ≤ nominal + late_by crf
+  pub early : nominal ≤ stamp + early_by crf
+
+close : (rate stamp start q e : ℕ) → 1 ≤ rate → q * rate ≤ e * 1000000000 → e * 1000000000 < q * rate + rate → stamp * rate ≤ start * rate + e * 1000000000 + rate
+    → start * rate + e * 1000000000 < stamp * rate + 3 * rate → (stamp ≤ start + q + 1) × (start + q ≤ stamp + 2)
+close rate stamp start q e some under over late early = (
+  elim (cases_lt (start + q + 1) stamp) [
+    | inl more ↦ let times : (start + q + 2) * rate ≤ stamp * rate = mul-le-mul_right rate (omega arith) in absurd (omega arith)
+    | inr not ↦ not
+  ],
+  elim (cases_lt (stamp + 2) (start + q)) [
+    | inl more ↦ let times : (stamp + 3) * rate ≤ (start + q) * rate = mul-le-mul_right rate (omega arith) in absurd (omega arith)
+    | inr not ↦ not
+  ],
+)
+
+near_by : (crf : Option CrfPlan) (plan : TalkPlan) (n i : ℕ) → IsPlan plan → plan.crf ≡ crf → IsNear crf (stamped_by crf plan n i) (nominal_instant plan n i)
+unfolding nominal_instant
+near_by None plan n i p e = record { late = omega arith; early = omega arith }
+near_by (Some crf) plan n i p e =
+    let is = is_beat plan crf p e in
+    let start : ℕ = run_start plan (run_of plan n) in
+    let stamp = is_stamped (beat_of crf plan) start (event_of plan n i) is in
+    let x = is_offset plan.rate (event_of plan n i) (omega (arith, is.rate_from)) in
+    let near = close plan.rate (stamped_by (Some crf) plan n i) start (nominal_offset plan.rate (event_of plan n i)) (event_of plan n i) (omega (arith, is.rate_from)) x.under x.over stamp.under stamp.over in
+    record { late = near.0; early = near.1 }
+
+pub stamped_near : (plan : TalkPlan) (n i : ℕ) → IsPlan plan → IsNear plan.crf (stamped_by plan.crf plan n i) (nominal_instant plan n i)
+stamped_near plan n i p = near_by plan.crf plan n i p refl
+
+at_first : (crf : Option CrfPlan) (plan : TalkPlan) (n i : ℕ) → IsPlan plan → plan.crf ≡ crf → event_of plan n i ≡ 0 → stamped_by crf plan n i ≡ nominal_instant plan n i
+unfolding nominal_instant
+at_first None plan n i p e first = refl
+at_first (Some crf) plan n i p e first =
+    let is = is_beat plan crf p e in
+    stamped_early (beat_of crf plan) (run_start plan (run_of plan n)) (event_of plan n i) (omega (arith, is.some))
+
+-- event 0 of a run is stamped with its nominal instant
+pub stamped_first : (plan : TalkPlan) (n i : ℕ) → IsPlan plan → event_of plan n i ≡ 0 → stamped_by plan.crf plan n i ≡ nominal_instant plan n i
+stamped_first plan n i p first = at_first plan.crf plan n i p refl first
+
+pub most_late : (crf : Option CrfPlan) → late_by crf ≤ 1
+most_late None = omega arith
+most_late (Some crf) = omega arith
+
+pub most_early : (crf : Option CrfPlan) → early_by crf ≤ 2
+most_early None = omega arith
+most_early (Some crf) = omega arith
+
+-- ---- the points lie within the stream
+
+frames_by : (count k : ℕ) → ((n : ℕ) → n < k → n * count ≤ 268435456) → k * count ≤ 268435456 + count
+frames_by count zero few = omega arith
+frames_by count (suc k) few = omega (arith, few k (omega arith))
+
+pub few_frames : (c : ClockStream) → IsClockStream c → c.stream * c.plan.count ≤ 268436932
+few_frames c is = omega (arith, frames_by c.plan.count c.stream is.few, is.plan.count)
+
+-- where point s stands
+pub record IsPointAt (plan : TalkPlan) (packets frame : ℕ) : Type 0 where
+  pub packet : frame / plan.count < packets
+  pub frames : frame / plan.count * plan.count ≤ 268435456
+  pub within : frame % plan.count < plan.count
+  pub small : frame ≤ 268436932
+
+frame_within : (plan : TalkPlan) (packets frame : ℕ) → IsPlan plan → AreFew plan packets → frame < packets * plan.count → IsPointAt plan packets frame
+frame_within plan packets frame p few h =
+    let below : frame / plan.count < packets = elim (cases_lt (frame / plan.count) packets) [
+      | inl below ↦ below
+      | inr past ↦
+          let times : packets * plan.count ≤ frame / plan.count * plan.count = mul-le-mul_right plan.count past in
+          absurd (omega (arith, div-mul-le_self frame plan.count))
+    ] in
+    record {
+      packet = below;
+      frames = few (frame / plan.count) below;
+      within = mod-lt frame p.some_count;
+      small = omega (arith, frames_by plan.count packets few, p.count);
+    }
+
+-- the points before the last sample frame
+pub points_within : (points w frames s : ℕ) → 1 ≤ w → points ≡ div_ceil frames w → s < points → s * w < frames
+points_within points w frames s some e h =
+    let times : (s + 1) * w ≤ points * w = mul-le-mul_right w (omega arith) in
+    let bound = div_ceil_times frames w some in
+    let same : points * w ≡ div_ceil frames w * w = ap (λ (n : ℕ). n * w) e in
+    omega (arith, bound.1)
+
+pub point_at_frame : (plan : TalkPlan) (crf : CrfPlan) (packets s : ℕ) → IsPlan plan → plan.crf ≡ Some crf → AreFew plan packets → s < points_for crf plan packets
+    → IsPointAt plan packets (frame_at crf plan s)
+point_at_frame plan crf packets s p e few h =
+    let is = is_beat plan crf p e in
+    frame_within plan packets (frame_at crf plan s) p few (points_within (points_for crf plan packets) (spacing_of crf plan.rate) (packets * plan.count) s is.some refl h)
+
+pub point_within : (c : ClockStream) (s : ℕ) → IsClockStream c → s < points_for c.crf c.plan c.stream → IsPointAt c.plan c.stream (frame_at c.crf c.plan s)
+point_within c s is h = point_at_frame c.plan c.crf c.stream s is.plan is.clock is.few h
+
+-- each packet has a point
+pub first_in : (plan : TalkPlan) (crf : CrfPlan) (packets m : ℕ) → IsPlan plan → plan.crf ≡ Some crf → m < clock_packets crf plan packets
+    → first_point crf m < points_for crf plan packets
+first_in plan crf packets m p e h =
+    let of = clock_of plan crf p e in
+    points_within (clock_packets crf plan packets) crf.points (points_for crf plan packets) m of.some_points refl h
+
+pub first_within : (c : ClockStream) (m : ℕ) → IsClockStream c → m < clock_packets c.crf c.plan c.stream → first_point c.crf m < points_for c.crf c.plan c.stream
+first_within c m is h = first_in c.plan c.crf c.stream m is.plan is.clock h
+
+few_by : (points w frames : ℕ) → 1 ≤ w → points ≡ div_ceil frames w → points ≤ frames
+few_by points w frames some e = elim (cases_lt frames points) [
+  | inl more ↦
+      let last = points_within points w frames frames some e more in
+      let times : frames * 1 ≤ frames * w = mul-le-mul_left frames some in
+      absurd (omega arith)
+  | inr not ↦ not
+]
+
+pub few_points : (c : ClockStream) → IsClockStream c → points_for c.crf c.plan c.stream ≤ 268436932
+few_points c is =
+    let beat = is_beat c.plan c.crf is.plan is.clock in
+    omega (arith, few_frames c is, few_by (points_for c.crf c.plan c.stream) (spacing_of c.crf c.plan.rate) (c.stream * c.plan.count) beat.some refl)
+
+-- one more of numbers that are counted
+pub map_more : {X : Type 0} (f : ℕ → X) (a i : ℕ) → map f (range_with_len a (suc i)) ≡ map f (range_with_len a i) ++ (f (a + i) ∷ [])
+map_more f a zero = let here : a ≡ a + 0 = omega arith in ap (λ (n : ℕ). f n ∷ []) here
+map_more f a (suc i) =
+    let next : a + 1 + i ≡ a + suc i = omega arith in
+    ap (λ xs. f a ∷ xs) (map_more f (a + 1) i ∙ ap (λ (n : ℕ). map f (range_with_len (a + 1) i) ++ (f n ∷ [])) next)

@@ -1,0 +1,122 @@
+-- The media clock of a plan: its points, its packets, and the timestamps of the stream on it.
+use Rattle.std.specs.Prelude.{ℕ, ◌+◌, ◌-◌, ◌*◌, ◌/◌, ◌%◌, ◌^◌, ◌<◌, ◌≤◌, min, Bool, true, false, List, map, flat_map, Option, Some, None}
+use Rattle.std.specs.Int.{div_ceil}
+use Rattle.std.specs.List.{range_with_len}
+use Rattle.byteorder.specs.Endian.{big_bytes}
+use Rattle.clock_track.specs.Pairs.{pull_down, pull_up}
+use Rattle.crf_format.specs.Crf.{Crf}
+use Rattle.packet_journal.specs.Packets.{audio_sample_type}
+use Rattle.stream_journal.specs.Clocks.{ClockJournal, no_clock}
+use Rattle.talker.specs.declared.plan.CrfPlan.{CrfPlan}
+use Rattle.talker.specs.declared.plan.TalkPlan.{TalkPlan}
+use Rattle.talker.specs.Beats.{Beat, stamped_at}
+use Rattle.talker.specs.Plan.{spacing_of}
+use Rattle.talker.specs.Timing.{event_of, mr_of, nominal_instant, run_of, run_start, seq_of}
+
+-- the stream and its clock, side by side
+abbrev pub beat_of : CrfPlan → TalkPlan → Beat
+beat_of crf plan = record {
+  rate = plan.rate;
+  spacing = spacing_of crf plan.rate;
+  interval = crf.interval;
+  up = crf.rate * pull_up crf.pull;
+  down = pull_down crf.pull;
+}
+
+-- ---- the stream's timestamps
+
+-- The instant with which sample frame i of packet n is stamped: without a clock its nominal instant, and with one what the
+-- clock's points in the packet's run tell.
+abbrev pub stamped_by : Option CrfPlan → TalkPlan → ℕ → ℕ → ℕ
+stamped_by None plan n i = nominal_instant plan n i
+stamped_by (Some crf) plan n i = stamped_at (beat_of crf plan) (run_start plan (run_of plan n)) (event_of plan n i)
+
+abbrev pub stamped_instant : TalkPlan → ℕ → ℕ → ℕ
+stamped_instant plan n i = stamped_by plan.crf plan n i
+
+-- ---- the points
+
+-- The clock has a point at the first sample frame of the stream, and at each further `spacing_of` sample frames. Point s is
+-- at this sample frame, of all that are sent.
+abbrev pub frame_at : CrfPlan → TalkPlan → ℕ → ℕ
+frame_at crf plan s = s * spacing_of crf plan.rate
+
+-- the instant of point s: the nominal one of its sample frame
+unfoldable pub clock_point : CrfPlan → TalkPlan → ℕ → ℕ
+clock_point crf plan s = nominal_instant plan (frame_at crf plan s / plan.count) (frame_at crf plan s % plan.count)
+
+-- how many points a stream of so many packets has, those at sample frames with which its last packet is filled up among them
+abbrev pub points_for : CrfPlan → TalkPlan → ℕ → ℕ
+points_for crf plan packets = div_ceil (packets * plan.count) (spacing_of crf plan.rate)
+
+-- the points of a run of so many packets
+abbrev pub run_points : CrfPlan → TalkPlan → ℕ → ℕ
+run_points crf plan packets = packets * plan.count / spacing_of crf plan.rate
+
+-- the sample frames of so many packets can be counted: the longest input has no more
+abbrev pub AreFew : TalkPlan → ℕ → Type 0
+AreFew plan packets = (n : ℕ) → n < packets → n * plan.count ≤ 2 ^ 28
+
+-- ---- the packets
+
+-- how many packets they fill, the last one maybe in part
+abbrev pub clock_packets : CrfPlan → TalkPlan → ℕ → ℕ
+clock_packets crf plan packets = div_ceil (points_for crf plan packets) crf.points
+
+-- the first point of packet m, of all points
+abbrev pub first_point : CrfPlan → ℕ → ℕ
+first_point crf m = m * crf.points
+
+-- the number of its points
+abbrev pub points_size : CrfPlan → TalkPlan → ℕ → ℕ → ℕ
+points_size crf plan packets m = min crf.points (points_for crf plan packets - first_point crf m)
+
+-- its points
+unfoldable pub points_in : CrfPlan → TalkPlan → ℕ → ℕ → List ℕ
+points_in crf plan packets m = map (clock_point crf plan) (range_with_len (first_point crf m) (points_size crf plan packets m))
+
+-- its restart bit: that of the stream where its first point stands
+abbrev pub clock_mr : CrfPlan → TalkPlan → ℕ → Bool
+clock_mr crf plan m = mr_of plan (frame_at crf plan (first_point crf m) / plan.count)
+
+-- packet m (IEEE 1722-2016, 10)
+abbrev pub clock_packet : CrfPlan → TalkPlan → ℕ → ℕ → Crf
+clock_packet crf plan packets m = record {
+  sv = true;
+  mr = clock_mr crf plan m;
+  fs = false;
+  tu = false;
+  seq = seq_of m;
+  kind = audio_sample_type;
+  stream_id = crf.id;
+  pull = crf.pull;
+  base_frequency = crf.rate;
+  interval = crf.interval;
+  payload = flat_map (big_bytes 8) (points_in crf plan packets m);
+  reserved = false;
+}
+
+-- when packet m is sent: the plan's lead before its first point
+abbrev pub clock_arrival : CrfPlan → TalkPlan → ℕ → ℕ
+clock_arrival crf plan m = clock_point crf plan (first_point crf m) - plan.lead
+
+-- the length of packet m's frame: Ethernet's header with its tag, that of the packet, and 8 bytes for each point
+abbrev pub clock_frame_size : CrfPlan → TalkPlan → ℕ → ℕ → ℕ
+clock_frame_size crf plan packets m = 38 + 8 * points_size crf plan packets m
+
+-- ---- its journal
+
+-- the clock beside a stream of so many packets
+abbrev pub clock_times : CrfPlan → TalkPlan → ℕ → ClockJournal
+clock_times crf plan packets = record {
+  base = crf.rate;
+  pull = crf.pull;
+  interval = crf.interval;
+  packets = clock_packets crf plan packets;
+  points = λ m. points_in crf plan packets m;
+  mr = λ m. clock_mr crf plan m;
+}
+
+abbrev pub clock_by : Option CrfPlan → TalkPlan → ℕ → ClockJournal
+clock_by None plan packets = no_clock
+clock_by (Some crf) plan packets = clock_times crf plan packets

@@ -1,0 +1,34 @@
+-- Numbers that look as if they were drawn at random, and are the same in each run: the linear congruential generator that
+-- the standard of C gives as an example, with one more bit of its state (own).
+use Rattle.std.specs.Prelude.{ℕ, zero, suc, ◌+◌, ◌*◌, ◌/◌, ◌%◌, ◌^◌}
+
+-- the states are the numbers below this
+abbrev pub states : ℕ
+states = 2 ^ 31
+
+abbrev pub multiplier : ℕ
+multiplier = 1103515245
+
+abbrev pub increment : ℕ
+increment = 12345
+
+-- the state after another
+abbrev pub next_state : ℕ → ℕ
+next_state state = (state * multiplier + increment) % states
+
+-- the number that is drawn with a state: its upper bits
+abbrev pub drawn : ℕ → ℕ
+drawn state = state / 2 ^ 16
+
+-- the state with which numbers are drawn from a seed
+abbrev pub first_state : ℕ → ℕ
+first_state seed = seed % states
+
+-- the state after so many numbers were drawn from a seed
+unfoldable pub state_after : ℕ → ℕ → ℕ
+state_after seed zero = first_state seed
+state_after seed (suc draws) = next_state (state_after seed draws)
+
+-- the number that is drawn after so many others
+abbrev pub draw_after : ℕ → ℕ → ℕ
+draw_after seed draws = drawn (next_state (state_after seed draws))
