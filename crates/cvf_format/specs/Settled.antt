@@ -1,0 +1,29 @@
+-- Each packet is settled once, in order: it is given up, or lost when it comes, or in a unit that is whole, or it waits.
+use Rattle.std.specs.Prelude.{List, [], ◌∷◌, ◌++◌}
+use Rattle.cvf_format.specs.declared.piece.Piece.{Piece}
+use Rattle.cvf_format.specs.declared.piece.Piece.TheVariants.{Whole, Held, Lost}
+use Rattle.cvf_format.specs.Stretches.{Fragment, Event, packet, cut, last_stretch, piece, given_up}
+
+-- all packets of a list of events
+abbrev pub packets : List Event → List Fragment
+packets [] = []
+packets (cut ∷ events) = packets events
+packets (packet fragment ∷ events) = fragment ∷ packets events
+
+-- A packet settles all of its unit where it makes it whole, and itself where it is lost.
+abbrev pub settled_as : Piece → Fragment → List Fragment → List Fragment
+settled_as Whole fragment stretch = stretch
+settled_as Held fragment stretch = []
+settled_as (Lost why) fragment stretch = fragment ∷ []
+
+-- what an event settles after those before it: the packets that it gives up, and then what it settles itself
+abbrev pub settled_by : List Event → Event → List Fragment
+settled_by before cut = given_up (before ++ cut ∷ [])
+settled_by before (packet fragment) =
+    given_up (before ++ packet fragment ∷ [])
+    ++ settled_as (piece (before ++ packet fragment ∷ [])) fragment (last_stretch (before ++ packet fragment ∷ []))
+
+-- what these events settle, one after the other
+abbrev pub settled : List Event → List Event → List Fragment
+settled before [] = []
+settled before (event ∷ events) = settled_by before event ++ settled (before ++ event ∷ []) events

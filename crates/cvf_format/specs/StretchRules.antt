@@ -1,0 +1,27 @@
+-- What a stretch is, in the words of the rules (RFC 6184, 5.8).
+use Rattle.std.specs.Prelude.{◌≡◌, ◌≢◌, ◌+◌, ◌%◌, true, false, ℤ, List, [], ◌∷◌, ◌++◌, map}
+use Rattle.std.specs.List.{All}
+use Rattle.std.specs.Option.{IfSome}
+use Rattle.cvf_format.specs.Stretches.{Fragment, Event, packet, begins, goes_on, completes, sequence_numbers}
+
+-- A packet goes on with the unit of the one before it: that did not complete it, both carry the same first byte of the
+-- unit, and the sequence number is the next one.
+pub record GoesOn (before after : Fragment) : Type 0 where
+  pub incomplete : completes before.part ≡ false
+  pub part : goes_on after.part ≡ true
+  pub nal : after.nal ≡ before.nal
+  pub seq : after.mark.seq ≡ (before.mark.seq + 1) % sequence_numbers
+
+-- Packets are a stretch: the first begins a unit, each other goes on with the unit of the one before it, and all that are
+-- stamped have one instant.
+pub record IsStretch (packets : List Fragment) : Type 0 where
+  pub some : packets ≢ []
+  pub first : (first : Fragment) (rest : List Fragment) → packets ≡ first ∷ rest → begins first.part ≡ true
+  pub others : (front : List Fragment) (before after : Fragment) (rest : List Fragment) → packets ≡ front ++ before ∷ (after ∷ rest) → GoesOn before after
+  pub one_instant : (instant : ℤ) × All (λ (f : Fragment). IfSome f.instant (λ stamp. stamp ≡ instant)) packets
+
+-- the events end with these packets, and these are a stretch
+pub record EndsWith (events : List Event) (stretch : List Fragment) : Type 0 where
+  pub front : List Event
+  pub is : events ≡ front ++ map packet stretch
+  pub stretches : IsStretch stretch

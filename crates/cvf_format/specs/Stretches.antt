@@ -1,0 +1,179 @@
+-- How fragments beside each other make one NAL unit (RFC 6184, 5.8). The limits are a choice of this project.
+use Rattle.std.specs.Prelude.{ℕ, ◌+◌, ◌-◌, ◌%◌, ◌==◌, nat_le, nat_lt, Bool, true, false, not, ◌&&◌, if◌then◌else◌, ℤ, List, [], ◌∷◌, length, take, map, Option}
+use Rattle.std.specs.List.{list_any, list_all, filter_map, flat_map}
+use Rattle.std.specs.Ordering.{int_eq}
+use Rattle.cvf_format.specs.declared.cvf.NalPart.{NalPart}
+use Rattle.cvf_format.specs.declared.cvf.NalPart.TheVariants.{Single, First, Middle, Last}
+use Rattle.cvf_format.specs.declared.piece.Mark.{Mark}
+use Rattle.cvf_format.specs.declared.piece.Lost.{Lost}
+use Rattle.cvf_format.specs.declared.piece.Lost.TheVariants.{Broken, Long}
+use Rattle.cvf_format.specs.declared.piece.Piece.{Piece}
+use Rattle.cvf_format.specs.declared.piece.Piece.TheVariants as variant
+
+-- the bytes of the longest unit, and the most fragments of one
+abbrev pub longest_unit : ℕ
+longest_unit = 4194304
+
+abbrev pub most_fragments : ℕ
+most_fragments = 4096
+
+-- the numbers of packets of a stream, which begin again at 0
+abbrev pub sequence_numbers : ℕ
+sequence_numbers = 256
+
+-- ---- events
+
+-- a packet that carries a unit, or a fragment of one, with its instant where it is stamped
+pub record Fragment : Type 0 where
+  pub mark : Mark
+  pub instant : Option ℤ
+  pub nal : ℕ
+  pub part : NalPart
+  pub body : List ℕ
+
+-- a packet, or something between two packets that no unit goes on over
+pub data Event : Type 0 where
+  packet : Fragment → Event
+  cut : Event
+
+abbrev pub is_cut : Event → Bool
+is_cut (packet fragment) = false
+is_cut cut = true
+
+-- the packets after the last cut
+abbrev pub after_cuts : List Event → List Fragment
+after_cuts [] = []
+after_cuts (cut ∷ events) = after_cuts events
+after_cuts (packet fragment ∷ events) =
+    if list_any is_cut events then after_cuts events else fragment ∷ after_cuts events
+
+-- ---- stretches
+
+-- what a unit begins with, goes on with, and is whole with
+abbrev pub begins : NalPart → Bool
+begins Single = true
+begins First = true
+begins Middle = false
+begins Last = false
+
+abbrev pub goes_on : NalPart → Bool
+goes_on Single = false
+goes_on First = false
+goes_on Middle = true
+goes_on Last = true
+
+abbrev pub completes : NalPart → Bool
+completes Single = true
+completes First = false
+completes Middle = false
+completes Last = true
+
+-- a packet goes on with the unit of the packet before it
+abbrev pub follows : Fragment → Fragment → Bool
+follows before after =
+    not (completes before.part)
+    && goes_on after.part
+    && (after.nal == before.nal)
+    && (after.mark.seq == (before.mark.seq + 1) % sequence_numbers)
+
+-- each packet goes on with the unit of the one before it
+abbrev pub are_linked : Fragment → List Fragment → Bool
+are_linked before [] = true
+are_linked before (after ∷ rest) = follows before after && are_linked after rest
+
+-- the instants of those that are stamped
+abbrev pub stamps : List Fragment → List ℤ
+stamps fragments = filter_map (λ (f : Fragment). f.instant) fragments
+
+abbrev pub all_equal : List ℤ → Bool
+all_equal [] = true
+all_equal (instant ∷ rest) = list_all (int_eq instant) rest
+
+-- Packets beside each other are a stretch: the first begins a unit, each other goes on with it, and all that are stamped
+-- have one instant.
+unfoldable pub is_stretch : List Fragment → Bool
+is_stretch [] = false
+is_stretch (first ∷ rest) = begins first.part && are_linked first rest && all_equal (stamps (first ∷ rest))
+
+-- the longest end of a list that is a stretch, and nothing where no end is one
+abbrev pub stretch_of : List Fragment → List Fragment
+stretch_of [] = []
+stretch_of (first ∷ rest) = if is_stretch (first ∷ rest) then first ∷ rest else stretch_of rest
+
+-- the stretch that the last event belongs to
+unfoldable pub last_stretch : List Event → List Fragment
+last_stretch events = stretch_of (after_cuts events)
+
+-- ---- units
+
+-- the bytes of the unit of a stretch: its first byte, which each fragment carries, and all bodies
+abbrev pub unit_of : List Fragment → List ℕ
+unit_of [] = []
+unit_of (first ∷ rest) = first.nal ∷ flat_map (λ (f : Fragment). f.body) (first ∷ rest)
+
+-- a stretch is within the limits
+unfoldable pub is_within : List Fragment → Bool
+is_within stretch = nat_le (length (unit_of stretch)) longest_unit && nat_le (length stretch) most_fragments
+
+-- a stretch has the last packet of its unit
+unfoldable pub is_complete : List Fragment → Bool
+is_complete [] = false
+is_complete (last ∷ []) = completes last.part
+is_complete (first ∷ (second ∷ rest)) = is_complete (second ∷ rest)
+
+-- a list without its last item
+unfoldable pub before_last : {A : Type 0} → List A → List A
+before_last items = take (length items - 1) items
+
+-- ---- what becomes of the packets
+
+-- the packets that wait at the end of the events for the rest of their unit
+abbrev pub waiting : List Fragment → List Fragment
+waiting stretch = if is_within stretch && not (is_complete stretch) then stretch else []
+
+abbrev pub held : List Event → List Fragment
+held events = waiting (last_stretch events)
+
+-- the last packet of a stretch is the first with which it is longer than the limits
+abbrev pub is_passed : List Fragment → Bool
+is_passed stretch = not (is_within stretch) && is_within (before_last stretch)
+
+-- what becomes of the last packet of a stretch, and of a packet that belongs to none, as far as is known there
+abbrev pub piece_of : List Fragment → Piece
+piece_of [] = variant.Lost Broken
+piece_of (first ∷ rest) =
+    if is_within (first ∷ rest) then (if is_complete (first ∷ rest) then variant.Whole else variant.Held)
+    else if is_passed (first ∷ rest) then variant.Lost Long else variant.Lost Broken
+
+abbrev pub piece : List Event → Piece
+piece events = piece_of (last_stretch events)
+
+-- a packet went on with the unit of those before it, within the limits
+abbrev pub is_joined : List Fragment → Bool
+is_joined stretch = nat_lt 1 (length stretch) && is_within stretch
+
+-- the packets that waited until the last event, and that it gave up
+abbrev pub given_up : List Event → List Fragment
+given_up events = if is_joined (last_stretch events) then [] else held (before_last events)
+
+-- Why: a packet with which their unit is too long, or what did not go on with it.
+abbrev pub reason_of : List Fragment → Lost
+reason_of [] = Broken
+reason_of (first ∷ rest) = if is_passed (first ∷ rest) then Long else Broken
+
+abbrev pub reason : List Event → Lost
+reason events = reason_of (last_stretch events)
+
+-- the bytes of the unit that the last event made whole, and none where it made none
+abbrev pub whole_of : List Fragment → List ℕ
+whole_of stretch = if is_within stretch && is_complete stretch then unit_of stretch else []
+
+abbrev pub whole_unit : List Event → List ℕ
+whole_unit events = whole_of (last_stretch events)
+
+abbrev pub mark_of : Fragment → Mark
+mark_of fragment = fragment.mark
+
+-- the marks of the packets that the last event gave up, in order
+abbrev pub lost_marks : List Event → List Mark
+lost_marks events = map mark_of (given_up events)

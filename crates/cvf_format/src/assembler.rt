@@ -1,0 +1,327 @@
+//! NAL units are put together from packets (RFC 6184, 5.8).
+
+ghost use Rattle.std.specs.Prelude.{◌≡◌, ◌+◌, ◌%◌, ◌≤◌, ◌<◌, ◌++◌, ◌∷◌, [], length, slice_get, List, IfOk, IsTrue, IsSome, if◌then◌else◌};
+ghost use Rattle.cvf_format.specs.Stretches.{Event, cut as cut_event, packet, given_up, lost_marks, piece as piece_after, reason, sequence_numbers, whole_unit, completes, goes_on, begins};
+ghost use Rattle.cvf_format.specs.Assembly.{IsPushed, StandsFor, agree, fragment_of, broken, gave_up, goes_on_here, has_room, longest_body, lost_for, or_first, settled, shown_unit, with_first, with_next};
+
+use crate::cvf::{CvfView, NalPart};
+use crate::piece::{Lost, Mark, Piece, Pushed};
+use avtp_base::NoMemory;
+use std::alloc::Global;
+use std::marker::Model;
+
+/// The bytes of the longest unit.
+const LONGEST_UNIT: usize = 4_194_304;
+
+/// The most fragments of a unit.
+const MOST_FRAGMENTS: usize = 4_096;
+
+/// Puts NAL units together from the packets of a stream, in the order in which they came.
+///
+/// A unit is one packet, or a first fragment and those after it, each with the same first byte of the unit and the next
+/// sequence number, up to a last one. All that are stamped must have one presentation time.
+#[derive(Drop)]
+pub struct Assembler {
+    /// The unit so far, or the last one that is whole.
+    bytes: Vec<u8>,
+    /// The marks of the fragments that wait.
+    held: Vec<Mark>,
+    /// The marks of those that were given up last.
+    lost: Vec<Mark>,
+    nal: u8,
+    next_seq: u8,
+    instant: Option<i64>,
+    whole: bool,
+}
+
+impl Model for Assembler {
+    ghost use Rattle.std.specs.Prelude.{◌≤◌, vec_len, vec_capacity};
+    ghost use Rattle.cvf_format.specs.Assembly.{Assembly};
+    ghost use Rattle.cvf_format.specs.Stretches.{longest_unit, most_fragments};
+
+    ghost Value = { Assembly };
+
+    ghost view = { λ a. record {
+      bytes = a.bytes.items;
+      held = a.held.items;
+      lost = a.lost.items;
+      nal = a.nal;
+      next_seq = a.next_seq;
+      instant = a.instant;
+      whole = a.whole;
+    } };
+
+    ghost invariant = { λ a. (vec_len a.bytes ≤ longest_unit)
+        × (longest_unit ≤ vec_capacity a.bytes)
+        × (vec_len a.held ≤ most_fragments)
+        × (most_fragments ≤ vec_capacity a.held)
+        × (vec_len a.lost ≤ most_fragments)
+        × (most_fragments ≤ vec_capacity a.lost) };
+}
+
+/// Whether two presentation times, of which each may be unknown, do not differ.
+fn agrees(a: Option<i64>, b: Option<i64>) -> bool
+    ensures { result ≡ agree a b }
+{
+    match (a, b) {
+        (Some(a), Some(b)) => a == b,
+        _ => true,
+    }
+}
+
+fn or_later(a: Option<i64>, b: Option<i64>) -> Option<i64>
+    ensures { result ≡ or_first a b }
+{
+    match a {
+        Some(a) => Some(a),
+        None => b,
+    }
+}
+
+fn continues_unit(part: NalPart) -> bool
+    ensures { result ≡ goes_on part }
+{
+    match part {
+        NalPart::Middle | NalPart::Last => true,
+        NalPart::Single | NalPart::First => false,
+    }
+}
+
+fn begins_unit(part: NalPart) -> bool
+    ensures { result ≡ begins part }
+{
+    match part {
+        NalPart::Single | NalPart::First => true,
+        NalPart::Middle | NalPart::Last => false,
+    }
+}
+
+fn completes_unit(part: NalPart) -> bool
+    ensures { result ≡ completes part }
+{
+    match part {
+        NalPart::Single | NalPart::Last => true,
+        NalPart::First | NalPart::Middle => false,
+    }
+}
+
+impl Assembler {
+    /// No packet yet. Reserves the memory for a unit of 4,194,304 bytes, and for the marks of 4,096 fragments that wait and
+    /// as many that were given up.
+    pub fn new(alloc: Global) -> Result<Self, NoMemory>
+        ensures { IfOk result (λ assembler. StandsFor assembler []) }
+    {
+        Ok(Assembler {
+            bytes: Vec::with_capacity(alloc, LONGEST_UNIT)?,
+            held: Vec::with_capacity(alloc, MOST_FRAGMENTS)?,
+            lost: Vec::with_capacity(alloc, MOST_FRAGMENTS)?,
+            nal: 0,
+            next_seq: 0,
+            instant: None,
+            whole: false,
+        })
+    }
+
+    /// Takes a packet, with its mark and, where it is stamped, its presentation time in nanoseconds of gPTP.
+    ///
+    /// A unit is whole with its last packet. A packet that does not go on with the fragments that wait gives them up, and
+    /// so does one with which the unit would have more than 4,194,304 bytes or 4,096 fragments, which is then lost too. A
+    /// packet that completes a unit must be stamped. Takes no memory.
+    pub fn push(&mut self, mark: Mark, instant: Option<i64>, view: &CvfView<'_>) -> Pushed
+        requires body { length view.now.body.now ≤ longest_body }
+        requires stamped { IsTrue (completes view.now.part) → IsSome instant }
+        ensures stands { (events : List Event) → StandsFor self.old events
+            → StandsFor self.new (events ++ packet (fragment_of mark instant view.now) ∷ []) }
+        ensures piece { (events : List Event) → StandsFor self.old events
+            → result.piece ≡ piece_after (events ++ packet (fragment_of mark instant view.now) ∷ []) }
+        ensures lost { (events : List Event) → StandsFor self.old events
+            → result.lost ≡ length (given_up (events ++ packet (fragment_of mark instant view.now) ∷ [])) }
+        ensures why { (events : List Event) → StandsFor self.old events
+            → result.why ≡ reason (events ++ packet (fragment_of mark instant view.now) ∷ []) }
+        ensures marks { result.lost ≡ length self.new.lost }
+    {
+        self.push_packet(mark, instant, view)
+    }
+
+    /// The mark of one of the fragments that were given up by the last packet or cut: these are counted from 0, in the
+    /// order in which they came.
+    pub fn lost_mark(&self, i: u32) -> Mark
+        requires { i < length self.now.lost }
+        ensures { (events : List Event) → StandsFor self.now events → slice_get (lost_marks events) i ≡ Some result }
+    {
+        self.lost[i as usize]
+    }
+
+    /// Something stands here between two packets that no unit goes on over. Gives up the fragments that wait, and answers
+    /// how many these are. Takes no memory.
+    pub fn cut(&mut self) -> u32
+        ensures stands { (events : List Event) → StandsFor self.old events → StandsFor self.new (events ++ cut_event ∷ []) }
+        ensures lost { (events : List Event) → StandsFor self.old events → result ≡ length (given_up (events ++ cut_event ∷ [])) }
+        ensures marks { result ≡ length self.new.lost }
+    {
+        self.give_up()
+    }
+
+    /// The bytes of the unit that the last packet made whole, and none where it made none.
+    pub fn unit(&self) -> &[u8]
+        ensures { (events : List Event) → StandsFor self.now events → result.now ≡ whole_unit events }
+    {
+        self.shown()
+    }
+
+    fn shown(&self) -> &[u8]
+        ensures { result.now ≡ shown_unit self.now }
+    {
+        if self.whole {
+            return self.bytes.as_slice();
+        }
+        &[]
+    }
+
+    /// Takes a packet: it begins a unit, or goes on with the one that waits, or is lost with it.
+    fn push_packet(&mut self, mark: Mark, instant: Option<i64>, view: &CvfView<'_>) -> Pushed
+        requires { length view.now.body.now ≤ longest_body }
+        ensures pushed { (events : List Event) → StandsFor self.old events
+            → IsPushed self.new (events ++ packet (fragment_of mark instant view.now) ∷ []) result }
+        ensures count { result.lost ≡ length self.new.lost }
+    {
+        if begins_unit(view.part) {
+            return self.begin(mark, instant, view);
+        }
+        if !self.goes_on_with(mark, instant, view) {
+            return self.lose(Lost::Broken);
+        }
+        if !self.has_room_for(view.body) {
+            return self.lose(Lost::Long);
+        }
+        self.go_on(mark, instant, view)
+    }
+
+    /// Gives up all that waits, and answers how many these are.
+    fn give_up(&mut self) -> u32
+        ensures left { self.new ≡ gave_up self.old }
+        ensures count { result ≡ length self.old.held }
+    {
+        self.whole = false;
+        std::mem::swap(&mut self.held, &mut self.lost);
+        self.held.clear();
+        self.lost.len() as u32
+    }
+
+    /// Whether a packet goes on with what waits.
+    #[tactic(auto, unfolding(crate::specs::Assembly::goes_on_here))]
+    fn goes_on_with(&self, mark: Mark, instant: Option<i64>, view: &CvfView<'_>) -> bool
+        ensures { result ≡ goes_on_here self.now (fragment_of mark instant view.now) }
+    {
+        !self.held.is_empty()
+            && continues_unit(view.part)
+            && view.nal == self.nal
+            && mark.seq == self.next_seq
+            && agrees(self.instant, instant)
+    }
+
+    /// Whether the unit is within the limits with one fragment more.
+    #[tactic(auto, unfolding(crate::specs::Assembly::has_room))]
+    fn has_room_for(&self, body: &[u8]) -> bool
+        ensures room { result ≡ has_room self.now body.now }
+        ensures bytes { IsTrue result → length self.now.bytes + length body.now ≤ LONGEST_UNIT }
+        ensures fragments { IsTrue result → length self.now.held < MOST_FRAGMENTS }
+    {
+        body.len() <= LONGEST_UNIT - self.bytes.len() && self.held.len() < MOST_FRAGMENTS
+    }
+
+    /// Adds to the bytes of the unit, for which there must be room.
+    fn append(&mut self, bytes: &[u8])
+        requires { length self.old.bytes + length bytes.now ≤ LONGEST_UNIT }
+        ensures { self.new ≡ record self.old { bytes = self.old.bytes ++ bytes.now } }
+    {
+        let Ok(()) = self.bytes.extend_from_slice(bytes) else {
+            unreachable!()
+        };
+    }
+
+    /// Keeps the mark of a fragment that waits, for which there must be room.
+    fn hold(&mut self, mark: Mark)
+        requires { length self.old.held < MOST_FRAGMENTS }
+        ensures { self.new ≡ record self.old { held = self.old.held ++ mark ∷ [] } }
+    {
+        let Ok(()) = self.held.push(mark) else {
+            unreachable!()
+        };
+    }
+
+    /// Notes what the next fragment must carry.
+    fn expect_after(&mut self, mark: Mark, nal: u8)
+        ensures { self.new ≡ record self.old { nal = nal; next_seq = (mark.seq + 1) % sequence_numbers } }
+    {
+        self.nal = nal;
+        self.next_seq = mark.seq.wrapping_add(1);
+    }
+
+    /// The packet waits, or the unit is whole with it.
+    fn settle(&mut self, mark: Mark, part: NalPart) -> Piece
+        requires { length self.old.held < MOST_FRAGMENTS }
+        ensures left { self.new ≡ record self.old { held = if completes part then [] else self.old.held ++ mark ∷ []; whole = completes part } }
+        ensures piece { result ≡ settled part }
+    {
+        self.whole = completes_unit(part);
+        if self.whole {
+            self.held.clear();
+            return Piece::Whole;
+        }
+        self.hold(mark);
+        Piece::Held
+    }
+
+    /// Begins a unit, where what waited is given up.
+    fn begin(&mut self, mark: Mark, instant: Option<i64>, view: &CvfView<'_>) -> Pushed
+        requires { length view.now.body.now ≤ longest_body }
+        ensures left { self.new ≡ with_first self.old (fragment_of mark instant view.now) }
+        ensures pushed { result ≡ record { lost = length self.old.held; why = broken; piece = settled view.now.part } }
+    {
+        let lost = self.give_up();
+        self.bytes.clear();
+        self.append(&[view.nal]);
+        self.append(view.body);
+        self.instant = instant;
+        self.expect_after(mark, view.nal);
+        let piece = self.settle(mark, view.part);
+        Pushed {
+            lost,
+            why: Lost::Broken,
+            piece,
+        }
+    }
+
+    /// Goes on with the unit, for which there must be room.
+    fn go_on(&mut self, mark: Mark, instant: Option<i64>, view: &CvfView<'_>) -> Pushed
+        requires bytes { length self.old.bytes + length view.now.body.now ≤ LONGEST_UNIT }
+        requires fragments { length self.old.held < MOST_FRAGMENTS }
+        ensures left { self.new ≡ with_next self.old (fragment_of mark instant view.now) }
+        ensures pushed { result ≡ record { lost = 0; why = broken; piece = settled view.now.part } }
+    {
+        self.lost.clear();
+        self.append(view.body);
+        self.instant = or_later(self.instant, instant);
+        self.expect_after(mark, view.nal);
+        let piece = self.settle(mark, view.part);
+        Pushed {
+            lost: 0,
+            why: Lost::Broken,
+            piece,
+        }
+    }
+
+    /// Gives up what waits, and the packet with it.
+    fn lose(&mut self, why: Lost) -> Pushed
+        ensures left { self.new ≡ gave_up self.old }
+        ensures pushed { result ≡ record { lost = length self.old.held; why = why; piece = lost_for why } }
+    {
+        let lost = self.give_up();
+        Pushed {
+            lost,
+            why,
+            piece: Piece::Lost(why),
+        }
+    }
+}

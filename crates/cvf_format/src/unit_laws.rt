@@ -1,0 +1,31 @@
+//! Laws of the units that packets make. Each call is its contract, and does nothing.
+
+ghost use Rattle.std.specs.Prelude.{◌≡◌, ◌≤◌, ◌++◌, ◌∷◌, ◌↔◌, ◌⊎◌, true, [], length, List};
+ghost use Rattle.cvf_format.specs.Settled.{packets, settled, settled_by};
+ghost use Rattle.cvf_format.specs.StretchRules.{EndsWith, IsStretch};
+ghost use Rattle.cvf_format.specs.Stretches.{Event, Fragment, given_up, held, is_stretch, last_stretch, longest_unit, most_fragments, whole_unit};
+
+/// The test of a stretch tells what the rules say.
+pub fn stretches_by_the_rules()
+    ensures { (packets : List Fragment) → (is_stretch packets ≡ true) ↔ IsStretch packets }
+{}
+
+/// Events end with at most one stretch, which is the one that the last event belongs to.
+pub fn one_stretch()
+    ensures one { (events : List Event) (stretch : List Fragment) → EndsWith events stretch → last_stretch events ≡ stretch }
+    ensures some { (events : List Event) → (last_stretch events ≡ []) ⊎ EndsWith events (last_stretch events) }
+{}
+
+/// Each packet is settled exactly once, and all are in the order in which they came: it is given up by a later event, or
+/// lost when it comes, or it is in a unit that a packet makes whole, or it waits at the end.
+pub fn each_packet_once()
+    ensures all { (events : List Event) → packets events ≡ settled [] events ++ held events }
+    ensures next { (before : List Event) (event : Event) → held before ++ packets (event ∷ []) ≡ settled_by before event ++ held (before ++ event ∷ []) }
+{}
+
+/// What waits, what an event gives up, and a unit that is whole are within the limits.
+pub fn within_the_limits()
+    ensures held { (events : List Event) → length (held events) ≤ most_fragments }
+    ensures given_up { (events : List Event) → length (given_up events) ≤ most_fragments }
+    ensures unit { (events : List Event) → length (whole_unit events) ≤ longest_unit }
+{}
