@@ -2,8 +2,12 @@
 #![tactic(auto)]
 
 mod packet;
+mod packet_stream;
+mod stamp_pattern;
 
 pub use packet::{Packet, read_packet};
+pub use packet_stream::{PacketStream, reserved, stream_of};
+pub use stamp_pattern::stamp_is_wrong;
 
 #[cfg(test)]
 mod tests;

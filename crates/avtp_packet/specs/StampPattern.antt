@@ -1,0 +1,50 @@
+-- Which packets of a stream have a timestamp. The rule of sparse PCM is of IEEE 1722-2016, 7; the rest is this project's
+-- own.
+use Rattle.std.specs.Prelude.{ℕ, ◌%◌, ◌==◌, Bool, true, false, not, ◌&&◌, nat_lt, Option, Some, None, if◌then◌else◌}
+use Rattle.std.specs.Bool.{beq}
+use Rattle.aaf_format.specs.Aaf.{Aaf}
+use Rattle.cvf_format.specs.declared.cvf.NalPart.{NalPart}
+use Rattle.cvf_format.specs.declared.cvf.NalPart.TheVariants.{Single, First, Middle, Last}
+use Rattle.cvf_format.specs.Cvf.{Cvf}
+use Rattle.iec61883_format.specs.Iec.{Iec, anchor_index, syt_interval}
+use Rattle.avtp_packet.specs.Packet.{AnyPacket, OfAaf, OfCrf, OfH264, OfIec, OfOther}
+
+-- a packet of so many samples, with a timestamp or not, which must have one or must not: a packet of no samples may do
+-- either
+abbrev pub is_off : ℕ → Bool → Bool → Bool
+is_off count stamped must = nat_lt 0 count && not (beq stamped must)
+
+-- PCM is stamped in every packet, and sparse PCM in every packet whose sequence number is a multiple of 8.
+abbrev pub must_stamp_aaf : Aaf → Bool
+must_stamp_aaf v = if v.sparse then v.header.seq % 8 == 0 else true
+
+abbrev pub aaf_is_off : Aaf → Bool
+aaf_is_off v = is_off v.count v.header.tv (must_stamp_aaf v)
+
+-- AM824 is stamped in every packet that has the data block to which a timestamp belongs. A packet of no data has no
+-- interval and no block.
+abbrev pub iec_is_off_by : Option ℕ → Iec → Bool
+iec_is_off_by None v = false
+iec_is_off_by (Some interval) v = is_off v.count v.header.tv (nat_lt (anchor_index v.cip.dbc interval) v.count)
+
+abbrev pub iec_is_off : Iec → Bool
+iec_is_off v = iec_is_off_by (syt_interval v.cip.fdf) v
+
+-- a packet that ends a NAL unit of H.264
+abbrev pub ends_unit : NalPart → Bool
+ends_unit Single = true
+ends_unit First = false
+ends_unit Middle = false
+ends_unit Last = true
+
+-- H.264 is stamped in every packet that ends a NAL unit; its other packets may be stamped.
+abbrev pub h264_is_off : Cvf → Bool
+h264_is_off v = ends_unit v.part && not v.header.tv
+
+-- a packet has a timestamp where it must not, or has none where it must: a packet of a clock has no rule
+abbrev pub stamp_is_off : AnyPacket → Bool
+stamp_is_off (OfIec v) = iec_is_off v
+stamp_is_off (OfAaf v) = aaf_is_off v
+stamp_is_off (OfH264 v) = h264_is_off v
+stamp_is_off (OfCrf v) = false
+stamp_is_off (OfOther subtype) = false

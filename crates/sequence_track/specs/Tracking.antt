@@ -1,0 +1,29 @@
+-- What a tracker keeps of the packets that it noted.
+use Rattle.std.specs.Prelude.{◌≡◌, ℕ, nat_lt, min, if◌then◌else◌, List, [], ◌∷◌, length, Option, Some, None}
+use Rattle.std.specs.Map.{lookup}
+use Rattle.sequence_track.specs.declared.seen.Seen.{Seen}
+use Rattle.sequence_track.specs.declared.stream.StreamKey.{StreamKey}
+use Rattle.sequence_track.specs.declared.stream.StreamState.{StreamState}
+use Rattle.sequence_track.specs.Findings.{same_stream, tracked, is_tracked, recent, stood, least_hold}
+
+-- for how many packets a value stood, as far as it tells, where it came by a change
+abbrev pub held_of : ℕ → ℕ → Option ℕ
+held_of packets all = if nat_lt packets all then Some (min packets least_hold) else None
+
+-- what is kept of a stream with these notes, the last of them first
+abbrev pub state_of : List Seen → Option StreamState
+state_of [] = None
+state_of (last ∷ older) = Some (record {
+  seq = last.seq;
+  mr = last.mr;
+  held = held_of (stood last.mr (last ∷ older)) (length (last ∷ older));
+})
+
+-- what is kept of a stream after these notes: nothing of one that is not tracked
+abbrev pub kept_of : List Seen → StreamKey → Option StreamState
+kept_of notes stream = if is_tracked stream notes then state_of (recent stream notes) else None
+
+-- A tracker, which shows what it keeps of each stream, has noted these packets so far.
+pub record StandsFor (tracker : List (StreamKey × StreamState)) (notes : List Seen) : Type 0 where
+  pub states : (stream : StreamKey) → lookup (same_stream stream) tracker ≡ kept_of notes stream
+  pub count : length tracker ≡ length (tracked notes)

@@ -1,0 +1,51 @@
+//! What is noted of a packet, and what is found in it.
+
+ghost use Rattle.std.specs.Prelude.{◌≡◌};
+ghost use Rattle.sequence_track.specs.Findings.{untracked_findings};
+
+/// What a tracker is told of a packet.
+#[derive(Clone, Copy, Debug, PartialEq, Eq)]
+pub struct Seen {
+    /// The stream id.
+    pub id: u64,
+    /// The subtype of the packet (IEEE 1722-2016, table 6).
+    pub subtype: u8,
+    /// The sequence number.
+    pub seq: u8,
+    /// The media clock restart.
+    pub mr: bool,
+    /// A reserved bit is set.
+    pub reserved: bool,
+    /// The packet is stamped where its format says that it is not, or not stamped where it has to be.
+    pub stamp_wrong: bool,
+}
+
+/// What is found in a packet.
+#[derive(Clone, Copy, Debug, PartialEq, Eq)]
+pub struct Findings {
+    /// A reserved bit is set.
+    pub reserved: bool,
+    /// The sequence number minus that of the stream's previous packet, modulo 256, where this is not 1.
+    pub step: Option<u8>,
+    /// For how many packets of the stream the media clock restart stood, where it changes again before it stood for 8.
+    pub hold: Option<u32>,
+    /// The packet is stamped where its format says that it is not, or not stamped where it has to be.
+    pub stamp: bool,
+    /// The stream came after as many others as are tracked.
+    pub untracked: bool,
+}
+
+impl Findings {
+    /// What is found in a packet of a stream that is not tracked.
+    pub(crate) fn of_untracked(seen: &Seen) -> Self
+        ensures { result ≡ untracked_findings seen.now }
+    {
+        Findings {
+            reserved: seen.reserved,
+            step: None,
+            hold: None,
+            stamp: false,
+            untracked: true,
+        }
+    }
+}

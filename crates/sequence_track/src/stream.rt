@@ -1,0 +1,118 @@
+//! A stream, and what is kept of it.
+
+ghost use Rattle.std.specs.Prelude.{◌≡◌, ◌∷◌, [], List, Some};
+ghost use Rattle.sequence_track.specs.Findings.{hold_after, step_after, stream_of, tracked_findings};
+ghost use Rattle.sequence_track.specs.Tracking.{state_of};
+ghost use Rattle.sequence_track.specs.declared.seen.Seen.{Seen as SeenValue};
+
+use crate::seen::{Findings, Seen};
+
+/// The packets for which a media clock restart stands at least.
+const LEAST_HOLD: u32 = 8;
+
+/// A stream, apart from what is noted of it.
+#[derive(Clone, Copy, Debug, PartialEq, Eq, Hash)]
+pub struct StreamKey {
+    pub subtype: u8,
+    pub id: u64,
+}
+
+impl Seen {
+    /// The stream of the packet.
+    pub(crate) fn stream(&self) -> StreamKey
+        ensures { result ≡ stream_of self.now }
+    {
+        StreamKey {
+            subtype: self.subtype,
+            id: self.id,
+        }
+    }
+}
+
+/// What is kept of a stream that has a packet.
+#[derive(Clone, Copy, Debug)]
+pub struct StreamState {
+    /// The sequence number of the last packet.
+    seq: u8,
+    /// The media clock restart of the last packet.
+    mr: bool,
+    /// For how many packets that has stood, at most 8, where it came by a change.
+    held: Option<u32>,
+}
+
+impl StreamState {
+    /// The state of a stream with its first packet.
+    pub fn first(seen: &Seen) -> Self
+        ensures { Some result ≡ state_of (seen.now ∷ []) }
+    {
+        StreamState {
+            seq: seen.seq,
+            mr: seen.mr,
+            held: None,
+        }
+    }
+
+    /// The state with one more packet.
+    pub fn after(&self, seen: &Seen) -> Self
+        ensures { (recent : List SeenValue) → state_of recent ≡ Some self.now → state_of (seen.now ∷ recent) ≡ Some result }
+    {
+        let held = if seen.mr == self.mr {
+            self.held
+                .map(|packets| packets.saturating_add(1).min(LEAST_HOLD))
+        } else {
+            Some(1)
+        };
+        StreamState {
+            seq: seen.seq,
+            mr: seen.mr,
+            held,
+        }
+    }
+
+    /// How far the next packet's sequence number is from the last one's, where it is not the next.
+    fn step(&self, seen: &Seen) -> Option<u8>
+        ensures { (recent : List SeenValue) → state_of recent ≡ Some self.now → result ≡ step_after recent seen.now }
+    {
+        let step = seen.seq.wrapping_sub(self.seq);
+        if step == 1 { None } else { Some(step) }
+    }
+
+    /// For how many packets the media clock restart stood, where it changes again too early.
+    fn hold(&self, seen: &Seen) -> Option<u32>
+        ensures { (recent : List SeenValue) → state_of recent ≡ Some self.now → result ≡ hold_after recent seen.now }
+    {
+        if seen.mr == self.mr {
+            return None;
+        }
+        match self.held {
+            Some(packets) if packets < LEAST_HOLD => Some(packets),
+            _ => None,
+        }
+    }
+
+    /// What is found in the next packet.
+    pub fn findings(&self, seen: &Seen) -> Findings
+        ensures { (recent : List SeenValue) → state_of recent ≡ Some self.now → result ≡ tracked_findings recent seen.now }
+    {
+        Findings {
+            reserved: seen.reserved,
+            step: self.step(seen),
+            hold: self.hold(seen),
+            stamp: seen.stamp_wrong,
+            untracked: false,
+        }
+    }
+}
+
+/// What is found in the first packet of a stream.
+pub fn first_findings(seen: &Seen) -> Findings
+    ensures { result ≡ tracked_findings [] seen.now }
+{
+    Findings {
+        reserved: seen.reserved,
+        step: None,
+        hold: None,
+        stamp: seen.stamp_wrong,
+        untracked: false,
+    }
+}
