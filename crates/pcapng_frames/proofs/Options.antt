@@ -1,0 +1,261 @@
+-- What is known of an option or a trailer stands, however the bytes go on.
+use Rattle.std.proofs.Common.{◌≡◌, ℕ, ◌⊎◌, ◌&&◌, not, ◌+◌, ◌-◌, ◌≤◌, ◌<◌, Bool, true, false, nat_lt, nat_eq, if◌then◌else◌, List, [], ◌∷◌, ◌++◌, length, drop, slice_index, Option, Some, None, refl, ap, sym, ◌∙◌, arith, inl, inr, length-append}
+use Rattle.std.proofs.lemmas.Bool.{cases_lt}
+use Rattle.std.proofs.lemmas.Bool.Decides.{nat_tests}
+use Rattle.std.proofs.lemmas.List.{get_or_append_left, drop_at}
+use Rattle.std.specs.Int.{cast_signed, w64}
+use Rattle.avtp_base.specs.declared.refusal.Refusal.{Refusal}
+use Rattle.avtp_base.specs.declared.field.Field.TheVariants.{BlockBody, BlockTrailer, OptionLength, IfTsresol, IfTsoffset}
+use Rattle.pcap_frames.specs.declared.style.Order.{Order}
+use Rattle.pcap_frames.specs.Layout.{number_at}
+use Rattle.pcap_frames.specs.Capture.{Record}
+use Rattle.pcap_frames.proofs.Append.{number_stays}
+use Rattle.pcapng_frames.specs.declared.block.Stage.{Stage}
+use Rattle.pcapng_frames.specs.declared.block.Stage.TheVariants as stage
+use Rattle.pcapng_frames.specs.declared.interface.Interface.{Interface}
+use Rattle.pcapng_frames.specs.Fields.{first_refused, padded, option_code, option_length, option_rows, Row, row, refusal_at, with_option}
+use Rattle.pcapng_frames.specs.Interface.{is_resolution}
+use Rattle.avtp_base.specs.declared.field.Field.{Field}
+use Rattle.pcapng_frames.specs.Blocks.{Place, order_or_little, described, size_of_option, size_here, next_place, next_by, refusal_here, option_refused, trailer_refused, refused_or, and_then, packet_by, cut_short, ends, short_at, after_trailer}
+use Rattle.pcapng_frames.specs.Reading.{IsResolved, option_need, value_need, contents_past, contents_at}
+use Rattle.pcapng_frames.proofs.Places.{unroll}
+use Rattle.pcapng_frames.proofs.Moves.{moves, stops, past_none}
+
+byte_stays : (n : ℕ) (bytes more : List ℕ) → n < length bytes → slice_index (bytes ++ more) n ≡ slice_index bytes n
+byte_stays n bytes more h = get_or_append_left bytes more _ n h
+
+code_stays : (order : Order) (bytes more : List ℕ) → 4 ≤ length bytes → option_code order (bytes ++ more) ≡ option_code order bytes
+code_stays order bytes more h = number_stays order 0 2 bytes more (omega arith)
+
+length_stays : (order : Order) (bytes more : List ℕ) → 4 ≤ length bytes → option_length order (bytes ++ more) ≡ option_length order bytes
+length_stays order bytes more h = number_stays order 2 2 bytes more (omega arith)
+
+by_place : (b : Bool) (r : Refusal) (f g x : Option Refusal) → (if b then Some r else f) ≡ x → (f ≡ x → g ≡ x) → (if b then Some r else g) ≡ x
+by_place true r f g x e h = e
+by_place false r f g x e h = h e
+
+four_whole : (n : ℕ) (y : Option Refusal) → 4 ≤ n → (if nat_lt n 4 then None else y) ≡ y
+four_whole n y h = grind (arith, nat_tests)
+
+-- a row that is judged with the option's header
+header_row : (field : Field) (b : Bool) (start len more : ℕ) (rows others : List Row) (x : Option Refusal) → 4 ≤ len → len ≤ more → first_refused start len (row field 0 4 b ∷ rows) ≡ x → (first_refused start len rows ≡ x → first_refused start more others ≡ x)
+    → first_refused start more (row field 0 4 b ∷ others) ≡ x
+header_row field b start len more rows others x long less e h =
+    four_whole more _ (omega arith) ∙ by_place b (refusal_at field (start + 0)) (first_refused start len rows) (first_refused start more others) x (sym (four_whole len _ long) ∙ e) h
+
+value_row : (field : Field) (b c : Bool) (start len more : ℕ) (x : Option Refusal) → len ≤ more → (5 ≤ len → b ≡ c) → (x ≡ None → (5 ≤ len) ⊎ (c ≡ false)) → first_refused start len (row field 0 5 b ∷ []) ≡ x → first_refused start more (row field 0 5 c ∷ []) ≡ x
+value_row field b true start len more x less same h e = grind (arith, nat_tests)
+value_row field b false start len more x less same h e = grind (arith, nat_tests)
+
+value_whole : (code len : ℕ) (c : Bool) → value_need code ≤ len → (5 ≤ len) ⊎ ((nat_eq code 9 && c) ≡ false)
+value_whole code len c h = elim (cases_lt len 5) [
+  | inl short ↦ inr (grind (arith, nat_tests))
+  | inr long ↦ inl long
+]
+
+rows_by : (b : Bool) (start len more : ℕ) (rows others : List Row) (x : Option Refusal) → first_refused start len (if b then [] else rows) ≡ x → (first_refused start len rows ≡ x → first_refused start more others ≡ x) → first_refused start more (if b then [] else others) ≡ x
+rows_by true start len more rows others x e h = e
+rows_by false start len more rows others x e h = h e
+
+abbrev value_rows : ℕ → List ℕ → List Row
+value_rows code bytes = row IfTsresol 0 5 (nat_eq code 9 && not (is_resolution (slice_index bytes 4))) ∷ []
+
+abbrev offset_rows : ℕ → ℕ → List ℕ → List Row
+offset_rows code len bytes = row IfTsoffset 0 4 (nat_eq code 14 && not (nat_eq len 8)) ∷ value_rows code bytes
+
+abbrev resolution_rows : ℕ → ℕ → List ℕ → List Row
+resolution_rows code len bytes = row IfTsresol 0 4 (nat_eq code 9 && not (nat_eq len 1)) ∷ offset_rows code len bytes
+
+abbrev length_rows : ℕ → ℕ → ℕ → List ℕ → List Row
+length_rows code len left bytes = row OptionLength 0 4 (nat_lt left (4 + padded len)) ∷ resolution_rows code len bytes
+
+rows_stay : (code len left start : ℕ) (bytes more : List ℕ) (x : Option Refusal) → 4 ≤ length bytes → first_refused start (length bytes) (option_rows code len left bytes) ≡ x → (x ≡ None → value_need code ≤ length bytes)
+    → first_refused start (length (bytes ++ more)) (option_rows code len left (bytes ++ more)) ≡ x
+rows_stay code len left start bytes more x long e h =
+    let less : length bytes ≤ length (bytes ++ more) = omega (arith, length-append bytes more) in
+    rows_by (nat_eq code 0) start (length bytes) (length (bytes ++ more)) (length_rows code len left bytes) (length_rows code len left (bytes ++ more)) x e
+    (λ e1. header_row OptionLength (nat_lt left (4 + padded len)) start (length bytes) (length (bytes ++ more)) (resolution_rows code len bytes) (resolution_rows code len (bytes ++ more)) x long less e1
+    (λ e2. header_row IfTsresol (nat_eq code 9 && not (nat_eq len 1)) start (length bytes) (length (bytes ++ more)) (offset_rows code len bytes) (offset_rows code len (bytes ++ more)) x long less e2
+    (λ e3. header_row IfTsoffset (nat_eq code 14 && not (nat_eq len 8)) start (length bytes) (length (bytes ++ more)) (value_rows code bytes) (value_rows code (bytes ++ more)) x long less e3
+    (λ e4. value_row IfTsresol (nat_eq code 9 && not (is_resolution (slice_index bytes 4))) (nat_eq code 9 && not (is_resolution (slice_index (bytes ++ more) 4))) start (length bytes) (length (bytes ++ more)) x less
+    (λ stands. ap (λ (n : ℕ). nat_eq code 9 && not (is_resolution n)) (sym (byte_stays 4 bytes more (omega (arith, stands)))))
+    (λ none. value_whole code (length bytes) (not (is_resolution (slice_index (bytes ++ more) 4))) (h none)) e4))))
+
+rows_none : (code len left start : ℕ) (bytes : List ℕ) → length bytes < 4 → first_refused start (length bytes) (option_rows code len left bytes) ≡ None
+rows_none code len left start bytes h = grind (arith, nat_tests)
+
+need_four : (code : ℕ) → 4 ≤ value_need code
+need_four code = grind (arith, nat_tests)
+
+pub need_of_four : (order : Order) (bytes : List ℕ) → 4 ≤ option_need order bytes
+unfolding option_need
+need_of_four order bytes = grind (arith, nat_tests, need_four (option_code order bytes))
+
+need_whole : (order : Order) (bytes : List ℕ) → 4 ≤ length bytes → option_need order bytes ≡ value_need (option_code order bytes)
+unfolding option_need
+need_whole order bytes h = grind (arith, nat_tests)
+
+-- what is refused in an option stays refused, and what is not, once what is read of it is whole
+pub option_stays : (order : Order) (left start : ℕ) (bytes more : List ℕ) (x : Option Refusal) → first_refused start (length bytes) (option_rows (option_code order bytes) (option_length order bytes) left bytes) ≡ x
+    → (x ≡ None → option_need order bytes ≤ length bytes)
+    → first_refused start (length (bytes ++ more)) (option_rows (option_code order (bytes ++ more)) (option_length order (bytes ++ more)) left (bytes ++ more)) ≡ x
+option_stays order left start bytes more x e h = elim (cases_lt (length bytes) 4) [
+  | inl short ↦ absurd (omega (arith, need_of_four order bytes, h (sym e ∙ rows_none _ _ left start bytes short)))
+  | inr long ↦ rw (code_stays order bytes more long, length_stays order bytes more long)
+      (rows_stay (option_code order bytes) (option_length order bytes) left start bytes more x long e (λ none. omega (arith, h none, need_whole order bytes long)))
+]
+
+size_of_stays : (order : Order) (left : ℕ) (bytes more : List ℕ) → 4 ≤ length bytes → size_of_option order left (bytes ++ more) ≡ size_of_option order left bytes
+size_of_stays order left bytes more h = rw (code_stays order bytes more h, length_stays order bytes more h) refl
+
+with_by : (b c : Bool) (order : Order) (interface : Interface) (bytes more : List ℕ) → 4 ≤ length bytes → (if b then 8 else if c then 12 else 4) ≤ length bytes
+    → (if b then record interface { resolution = slice_index (bytes ++ more) 4 } else if c then record interface { offset = cast_signed w64 (number_at order 4 8 (bytes ++ more)) } else interface)
+    ≡ (if b then record interface { resolution = slice_index bytes 4 } else if c then record interface { offset = cast_signed w64 (number_at order 4 8 bytes) } else interface)
+with_by true c order interface bytes more h need = rw (byte_stays 4 bytes more (omega arith)) refl
+with_by false true order interface bytes more h need = rw (number_stays order 4 8 bytes more (omega arith)) refl
+with_by false false order interface bytes more h need = refl
+
+described_stays : (order : Order) (interface : Option Interface) (bytes more : List ℕ) → 4 ≤ length bytes → value_need (option_code order bytes) ≤ length bytes
+    → described order (option_code order (bytes ++ more)) interface (bytes ++ more) ≡ described order (option_code order bytes) interface bytes
+described_stays order None bytes more h need = refl
+described_stays order (Some interface) bytes more h need =
+    rw (code_stays order bytes more h)
+    (ap Some (with_by (nat_eq (option_code order bytes) 9) (nat_eq (option_code order bytes) 14) order interface bytes more h need))
+
+pub at_option : (p : Place) (bytes : List ℕ) → p.stage ≡ stage.Option
+    → refusal_here p bytes ≡ first_refused (p.start + (p.total - 4 - p.left)) (length bytes) (option_rows (option_code (order_or_little p.order) bytes) (option_length (order_or_little p.order) bytes) p.left bytes)
+unfolding refusal_here option_refused
+at_option p bytes is = rw is refl
+
+pub at_option_place : (p : Place) (bytes : List ℕ) → p.stage ≡ stage.Option → refusal_here p bytes ≡ option_refused (order_or_little p.order) (p.start + (p.total - 4 - p.left)) p.left bytes
+unfolding refusal_here
+at_option_place p bytes is = rw is refl
+
+pub size_at_option : (p : Place) (bytes : List ℕ) → p.stage ≡ stage.Option → size_here p bytes ≡ size_of_option (order_or_little p.order) p.left bytes
+unfolding size_here
+size_at_option p bytes is = rw is refl
+
+next_at_option : (p : Place) (bytes : List ℕ) → p.stage ≡ stage.Option → next_place p bytes ≡ next_by stage.Option p bytes
+unfolding next_place
+next_at_option p bytes is = rw is refl
+
+none_in_option : (s : Stage) (packet : Option Record) → s ≡ stage.Option → packet_by s packet ≡ None
+none_in_option s packet is = rw is refl
+
+cut_option : (p : Place) (bytes : List ℕ) → p.stage ≡ stage.Option → cut_short p bytes ≡ ends (Some (short_at BlockBody (p.start + 8)))
+cut_option p bytes is = rw is refl
+
+next_stays : (p : Place) (bytes more : List ℕ) → 4 ≤ length bytes → value_need (option_code (order_or_little p.order) bytes) ≤ length bytes → next_by stage.Option p (bytes ++ more) ≡ next_by stage.Option p bytes
+next_stays p bytes more h need =
+    rw (described_stays (order_or_little p.order) p.interface bytes more h need, size_of_stays (order_or_little p.order) p.left bytes more h) refl
+
+-- what is read of an option came, and nothing in it is refused
+pub option_moves : (p q : Place) (part more : List ℕ) (skip : ℕ) → p.stage ≡ stage.Option → 4 ≤ length part → length part ≡ option_need (order_or_little p.order) part → refusal_here p part ≡ None
+    → next_by stage.Option p part ≡ q → size_of_option (order_or_little p.order) p.left part ≡ length part + skip → contents_past 0 p part more ≡ contents_past skip q [] more
+option_moves p q part more skip is long whole accepted next size =
+    let order = order_or_little p.order in
+    let need : value_need (option_code order part) ≤ length part = omega (arith, need_whole order part long) in
+    let start : q.start ≡ p.start = ap (λ (x : Place). x.start) (sym next) in
+    moves p q part more skip
+    (at_option p (part ++ more) is ∙ option_stays order p.left _ part more None (sym (at_option p part is) ∙ accepted) (λ e. omega arith))
+    (size_at_option p (part ++ more) is ∙ (size_of_stays order p.left part more long ∙ size))
+    (next_at_option p (part ++ more) is ∙ (next_stays p part more long need ∙ next))
+    (none_in_option p.stage p.packet is)
+    (cut_option p (part ++ more) is ∙ ap (λ (n : ℕ). ends (Some (short_at BlockBody (n + 8)))) (sym start))
+
+-- an option is refused
+pub option_stops : (p : Place) (part more : List ℕ) (r : Refusal) → p.stage ≡ stage.Option → refusal_here p part ≡ Some r → contents_past 0 p part more ≡ ends (Some (record { refusal = r; cut = false }))
+option_stops p part more r is e =
+    stops p part more r (at_option p (part ++ more) is ∙ option_stays (order_or_little p.order) p.left _ part more (Some r) (sym (at_option p part is) ∙ e) (λ h. absurd (cc)))
+
+trailer_stays : (order : Order) (total start : ℕ) (bytes more : List ℕ) (x : Option Refusal) → first_refused start (length bytes) (row BlockTrailer 0 4 (not (nat_eq (number_at order 0 4 bytes) total)) ∷ []) ≡ x → (x ≡ None → 4 ≤ length bytes)
+    → first_refused start (length (bytes ++ more)) (row BlockTrailer 0 4 (not (nat_eq (number_at order 0 4 (bytes ++ more)) total)) ∷ []) ≡ x
+trailer_stays order total start bytes more x e h = grind (arith, nat_tests, number_stays order 0 4 bytes more, length-append bytes more)
+
+pub at_trailer : (p : Place) (bytes : List ℕ) → p.stage ≡ stage.Trailer
+    → refusal_here p bytes ≡ first_refused (p.start + (p.total - 4)) (length bytes) (row BlockTrailer 0 4 (not (nat_eq (number_at (order_or_little p.order) 0 4 bytes) p.total)) ∷ [])
+unfolding refusal_here trailer_refused
+at_trailer p bytes is = rw is refl
+
+pub at_trailer_place : (p : Place) (bytes : List ℕ) → p.stage ≡ stage.Trailer → refusal_here p bytes ≡ trailer_refused (order_or_little p.order) (p.start + (p.total - 4)) p.total bytes
+unfolding refusal_here
+at_trailer_place p bytes is = rw is refl
+
+-- a trailer is refused
+pub trailer_stops : (p : Place) (part more : List ℕ) (r : Refusal) → p.stage ≡ stage.Trailer → refusal_here p part ≡ Some r → contents_past 0 p part more ≡ ends (Some (record { refusal = r; cut = false }))
+trailer_stops p part more r is e =
+    stops p part more r (at_trailer p (part ++ more) is ∙ trailer_stays (order_or_little p.order) p.total _ part more (Some r) (sym (at_trailer p part is) ∙ e) (λ h. absurd (cc)))
+
+pub size_at_trailer : (p : Place) (bytes : List ℕ) → p.stage ≡ stage.Trailer → size_here p bytes ≡ 4
+unfolding size_here
+size_at_trailer p bytes is = rw is refl
+
+next_at_trailer : (p : Place) (bytes : List ℕ) → p.stage ≡ stage.Trailer → next_place p bytes ≡ after_trailer p
+unfolding next_place
+next_at_trailer p bytes is = rw is refl
+
+packet_at_trailer : (s : Stage) (packet : Option Record) → s ≡ stage.Trailer → packet_by s packet ≡ packet
+packet_at_trailer s packet is = rw is refl
+
+not_cut : {X : Type 0} (n m : ℕ) (x y : X) → m ≤ n → (if nat_lt n m then x else y) ≡ y
+not_cut n m x y h = grind (arith, nat_tests)
+
+-- a trailer came, and is the total length
+pub trailer_moves : (p : Place) (part more : List ℕ) → p.stage ≡ stage.Trailer → length part ≡ 4 → refusal_here p part ≡ None → contents_past 0 p part more ≡ and_then p.packet (contents_at (after_trailer p) more)
+trailer_moves p part more is whole accepted =
+    let bytes : List ℕ = part ++ more in
+    let none : refusal_here p bytes ≡ None = at_trailer p bytes is ∙ trailer_stays (order_or_little p.order) p.total _ part more None (sym (at_trailer p part is) ∙ accepted) (λ e. omega arith) in
+    past_none p part more
+    ∙ (unroll p bytes
+    ∙ (ap (λ (x : Option Refusal). refused_or x (if nat_lt (length bytes) (size_here p bytes) then cut_short p bytes else and_then (packet_by p.stage p.packet) (contents_at (next_place p bytes) (drop (size_here p bytes) bytes)))) none
+    ∙ (not_cut (length bytes) (size_here p bytes) _ _ (omega (arith, size_at_trailer p bytes is, length-append part more))
+    ∙ (ap (λ (x : Option Record). and_then x (contents_at (next_place p bytes) (drop (size_here p bytes) bytes))) (packet_at_trailer p.stage p.packet is)
+    ∙ (ap (λ (x : Place). and_then p.packet (contents_at x (drop (size_here p bytes) bytes))) (next_at_trailer p bytes is)
+    ∙ (ap (λ (n : ℕ). and_then p.packet (contents_at (after_trailer p) (drop n bytes))) (size_at_trailer p bytes is)
+    ∙ ap (λ (b : List ℕ). and_then p.packet (contents_at (after_trailer p) b)) (drop_at part more 4 whole)))))))
+
+fits_by : (code len start left n : ℕ) (bytes : List ℕ) → 4 ≤ n → 4 ≤ left → n ≡ value_need code → first_refused start n (option_rows code len left bytes) ≡ None → n ≤ (if nat_eq code 0 then 4 + (left - 4) else 4 + padded len)
+fits_by code len start left n bytes long some whole h = grind (arith, nat_tests)
+
+resolved_nine : (code len start left n : ℕ) (bytes : List ℕ) → nat_eq code 9 ≡ true → 4 ≤ n → n ≡ value_need code → first_refused start n (option_rows code len left bytes) ≡ None → is_resolution (slice_index bytes 4) ≡ true
+resolved_nine code len start left n bytes nine long whole h = grind (arith, nat_tests)
+
+with_resolved : (b c : Bool) (order : Order) (interface : Interface) (bytes : List ℕ) → is_resolution interface.resolution ≡ true → (b ≡ true → is_resolution (slice_index bytes 4) ≡ true)
+    → is_resolution (if b then record interface { resolution = slice_index bytes 4 } else if c then record interface { offset = cast_signed w64 (number_at order 4 8 bytes) } else interface).resolution ≡ true
+with_resolved true c order interface bytes is h = h refl
+with_resolved false true order interface bytes is h = is
+with_resolved false false order interface bytes is h = is
+
+resolved_by : (code len start left n : ℕ) (order : Order) (interface : Interface) (bytes : List ℕ) → 4 ≤ n → n ≡ value_need code → first_refused start n (option_rows code len left bytes) ≡ None → is_resolution interface.resolution ≡ true → is_resolution (with_option order code interface bytes).resolution ≡ true
+resolved_by code len start left n order interface bytes long whole h is = with_resolved (nat_eq code 9) (nat_eq code 14) order interface bytes is (λ nine. resolved_nine code len start left n bytes nine long whole h)
+
+-- what is needed of an option that is not refused is in it
+pub option_fits : (order : Order) (start left : ℕ) (bytes : List ℕ) → 4 ≤ length bytes → 4 ≤ left → length bytes ≡ option_need order bytes → option_refused order start left bytes ≡ None
+    → length bytes ≤ size_of_option order left bytes
+unfolding option_refused
+option_fits order start left bytes long some whole h = fits_by (option_code order bytes) (option_length order bytes) start left (length bytes) bytes long some (whole ∙ need_whole order bytes long) h
+
+pub option_small : (order : Order) (bytes : List ℕ) → length bytes ≡ option_need order bytes → length bytes ≤ 12
+unfolding option_need
+option_small order bytes h = grind (arith, nat_tests)
+
+-- an option that is not refused leaves a resolution that is read
+pub option_resolved : (order : Order) (start left : ℕ) (interface : Option Interface) (bytes : List ℕ) → 4 ≤ length bytes → length bytes ≡ option_need order bytes → option_refused order start left bytes ≡ None
+    → IsResolved interface → IsResolved (described order (option_code order bytes) interface bytes)
+unfolding option_refused
+option_resolved order start left None bytes long whole h is = tt
+option_resolved order start left (Some interface) bytes long whole h is = resolved_by (option_code order bytes) (option_length order bytes) start left (length bytes) order interface bytes long (whole ∙ need_whole order bytes long) h is
+
+need_by_code : (code len start left n : ℕ) (bytes : List ℕ) → 4 ≤ n → 4 ≤ left → first_refused start n (option_rows code len left bytes) ≡ None → value_need code ≤ (if nat_eq code 0 then 4 + (left - 4) else 4 + padded len)
+need_by_code code len start left n bytes long some h = grind (arith, nat_tests)
+
+size_four : (order : Order) (left : ℕ) (bytes : List ℕ) → 4 ≤ size_of_option order left bytes
+size_four order left bytes = grind (arith, nat_tests)
+
+-- what has come of an option is less than all of it
+pub option_lacks : (order : Order) (at left : ℕ) (bytes : List ℕ) → 4 ≤ left → option_refused order at left bytes ≡ None → length bytes < option_need order bytes → length bytes < size_of_option order left bytes
+unfolding option_refused
+option_lacks order at left bytes some h partial = elim (cases_lt (length bytes) 4) [
+  | inl short ↦ omega (arith, size_four order left bytes)
+  | inr long ↦ omega (arith, need_whole order bytes long, need_by_code (option_code order bytes) (option_length order bytes) at left (length bytes) bytes long some h)
+]

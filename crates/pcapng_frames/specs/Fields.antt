@@ -1,0 +1,153 @@
+-- The fields of a pcapng capture's blocks, where they stand, and which values are refused (draft-ietf-opsawg-pcapng,
+-- sections 3 and 4).
+use Rattle.std.specs.Prelude.{◌≡◌, ℕ, ℤ, true, ◌+◌, ◌*◌, ◌/◌, ◌%◌, ◌^◌, Bool, not, ◌&&◌, ◌||◌, nat_lt, nat_le, nat_eq, false, if◌then◌else◌, List, [], ◌∷◌, length, slice_index, slice_index_or, Option, Some, None, is_none}
+use Rattle.std.specs.List.{All}
+use Rattle.std.specs.Int.{cast_signed, w64}
+use Rattle.avtp_base.specs.declared.field.Field.{Field}
+use Rattle.avtp_base.specs.declared.field.Field.TheVariants.{BlockLength, SectionVersion, Interfaces, LinkType, InterfaceId, TimestampRange, CapturedLength, OptionLength, IfTsresol, IfTsoffset}
+use Rattle.avtp_base.specs.declared.refusal.Refusal.{Refusal}
+use Rattle.pcap_frames.specs.declared.style.Order.{Order}
+use Rattle.pcap_frames.specs.declared.style.Order.TheVariants.{Little, Big}
+pub use Rattle.pcap_frames.specs.Layout.{number_at}
+use Rattle.pcapng_frames.specs.declared.block.Kind.{Kind}
+use Rattle.pcapng_frames.specs.declared.block.Kind.TheVariants as kind
+use Rattle.pcapng_frames.specs.declared.interface.Interface.{Interface}
+use Rattle.pcapng_frames.specs.Interface.{microseconds, is_resolution, arrival_of}
+
+-- the kind of a block, by its type
+abbrev pub kind_of : ℕ → Kind
+kind_of n =
+    if nat_eq n 0x0A0D0D0A then kind.Section
+    else if nat_eq n 1 then kind.Interface
+    else if nat_eq n 6 then kind.Packet
+    else kind.Other
+
+-- the byte order that a section's magic number, read as little-endian, tells
+abbrev pub order_of_magic : ℕ → Option Order
+order_of_magic n = if nat_eq n 0x1A2B3C4D then Some Little else if nat_eq n 0x4D3C2B1A then Some Big else None
+
+-- how many bytes at the front of a block are its fixed fields, as far as they are read
+abbrev pub head_size : Kind → ℕ
+head_size kind.Section = 16
+head_size kind.Interface = 16
+head_size kind.Packet = 28
+head_size kind.Other = 8
+
+-- the least total length of a block
+abbrev pub least_size : Kind → ℕ
+least_size kind.Section = 28
+least_size kind.Interface = 20
+least_size kind.Packet = 32
+least_size kind.Other = 12
+
+-- a number of bytes, padded to a multiple of 4
+abbrev pub padded : ℕ → ℕ
+padded n = (n + 3) / 4 * 4
+
+-- A field whose number is judged once the bytes up to `end` stand, and whether it is refused.
+pub record Row : Type 0 where
+  pub field : Field
+  pub offset : ℕ
+  pub end : ℕ
+  pub refuses : Bool
+
+abbrev pub row : Field → ℕ → ℕ → Bool → Row
+row field offset end refuses = record { field = field; offset = offset; end = end; refuses = refuses }
+
+-- a value that is refused
+abbrev pub refusal_at : Field → ℕ → Refusal
+refusal_at field at = record { field = field; at = at; short = false }
+
+-- The first row of a table that refuses, of those whose fields stand wholly in so many bytes. A table's rows are in the
+-- order in which their fields end, so that no row is judged after one that does not stand. The bytes begin at the offset
+-- `start` of the capture.
+abbrev pub first_refused : ℕ → ℕ → List Row → Option Refusal
+first_refused start len [] = None
+first_refused start len (r ∷ rows) =
+    if nat_lt len r.end then None
+    else if r.refuses then Some (refusal_at r.field (start + r.offset))
+    else first_refused start len rows
+
+-- a total length that is too small, or no multiple of 4
+abbrev pub bad_length : Kind → ℕ → Bool
+bad_length k total = nat_lt total (least_size k) || not (nat_eq (total % 4) 0)
+
+-- the fields of a section header, after its magic number
+abbrev pub section_rows : Order → List ℕ → List Row
+section_rows order bytes =
+    row BlockLength 4 12 (bad_length kind.Section (number_at order 4 4 bytes))
+    ∷ row SectionVersion 12 14 (not (nat_eq (number_at order 12 2 bytes) 1))
+    ∷ []
+
+-- the same of an interface description, in a section that has so many interfaces
+abbrev pub interface_rows : Order → ℕ → List ℕ → List Row
+interface_rows order count bytes =
+    row BlockLength 4 8 (bad_length kind.Interface (number_at order 4 4 bytes))
+    ∷ row Interfaces 0 8 (nat_le 256 count)
+    ∷ row LinkType 8 10 (not (nat_eq (number_at order 8 2 bytes) 1))
+    ∷ []
+
+-- the timestamp of a packet: its high half stands first, in either byte order
+unfoldable pub timestamp : Order → List ℕ → ℕ
+timestamp order bytes = number_at order 12 4 bytes * 2 ^ 32 + number_at order 16 4 bytes
+
+-- the interface of a section that has this number
+abbrev pub interface_at : List Interface → ℕ → Interface
+interface_at interfaces id = slice_index_or interfaces id microseconds
+
+-- the resolutions of all the interfaces are such as are read
+abbrev pub AllResolved : List Interface → Type 0
+AllResolved interfaces = All (λ (i : Interface). is_resolution i.resolution ≡ true) interfaces
+
+-- the arrival of a packet, where its timestamp is in range
+unfoldable pub packet_arrival : Order → List Interface → List ℕ → Option ℤ
+packet_arrival order interfaces bytes = arrival_of (interface_at interfaces (number_at order 8 4 bytes)) (timestamp order bytes)
+
+-- the fields of an enhanced packet, in a section with these interfaces
+abbrev pub packet_rows : Order → List Interface → List ℕ → List Row
+packet_rows order interfaces bytes =
+    let captured = number_at order 20 4 bytes in
+    let total = number_at order 4 4 bytes in
+    row BlockLength 4 8 (bad_length kind.Packet total)
+    ∷ row InterfaceId 8 12 (nat_le (length interfaces) (number_at order 8 4 bytes))
+    ∷ row TimestampRange 12 20 (is_none (packet_arrival order interfaces bytes))
+    ∷ row CapturedLength 20 24 (nat_lt 262144 captured || nat_lt total (32 + padded captured))
+    ∷ []
+
+-- a block that is passed unread
+abbrev pub other_rows : Order → List ℕ → List Row
+other_rows order bytes = row BlockLength 4 8 (bad_length kind.Other (number_at order 4 4 bytes)) ∷ []
+
+-- the codes of options that are read, and the code that ends the options
+abbrev pub end_of_options : ℕ
+end_of_options = 0
+
+abbrev pub if_tsresol : ℕ
+if_tsresol = 9
+
+abbrev pub if_tsoffset : ℕ
+if_tsoffset = 14
+
+-- The option that the bytes begin with: its code, the length of its value, and which lengths and values are refused,
+-- where so many bytes are left before the block's trailer.
+abbrev pub option_code : Order → List ℕ → ℕ
+option_code order bytes = number_at order 0 2 bytes
+
+abbrev pub option_length : Order → List ℕ → ℕ
+option_length order bytes = number_at order 2 2 bytes
+
+abbrev pub option_rows : ℕ → ℕ → ℕ → List ℕ → List Row
+option_rows code len left bytes =
+    if nat_eq code 0 then [] else
+    row OptionLength 0 4 (nat_lt left (4 + padded len))
+    ∷ row IfTsresol 0 4 (nat_eq code 9 && not (nat_eq len 1))
+    ∷ row IfTsoffset 0 4 (nat_eq code 14 && not (nat_eq len 8))
+    ∷ row IfTsresol 0 5 (nat_eq code 9 && not (is_resolution (slice_index bytes 4)))
+    ∷ []
+
+-- the interface once the option was read: of two equal options the last one counts
+abbrev pub with_option : Order → ℕ → Interface → List ℕ → Interface
+with_option order code interface bytes =
+    if nat_eq code 9 then record interface { resolution = slice_index bytes 4 }
+    else if nat_eq code 14 then record interface { offset = cast_signed w64 (number_at order 4 8 bytes) }
+    else interface

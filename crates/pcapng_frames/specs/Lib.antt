@@ -1,0 +1,4 @@
+pub mod Interface
+pub mod Fields
+pub mod Blocks
+pub mod Reading

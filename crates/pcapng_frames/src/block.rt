@@ -1,0 +1,72 @@
+//! What a pcapng capture is made of.
+
+use crate::interface::Interface;
+use pcap_frames::Order;
+
+/// The kinds of block that are told apart (draft-ietf-opsawg-pcapng, section 4).
+#[derive(Clone, Copy, Debug, PartialEq, Eq)]
+pub enum Kind {
+    /// A section header, which begins a section.
+    Section,
+    /// An interface description.
+    Interface,
+    /// An enhanced packet.
+    Packet,
+    /// A block that is passed unread.
+    Other,
+}
+
+/// What comes next in a capture.
+#[derive(Clone, Copy, Debug, PartialEq, Eq)]
+pub enum Stage {
+    /// A block.
+    Block,
+    /// An option of an interface description.
+    Option,
+    /// The trailer of a block: its total length again.
+    Trailer,
+}
+
+/// What the fixed fields of an enhanced packet say of it.
+#[derive(Clone, Copy, Debug, PartialEq, Eq)]
+pub struct PacketHead {
+    /// When the frame was captured, in nanoseconds from the epoch.
+    pub arrival: u64,
+    /// The length in bytes of the frame on the wire.
+    pub orig_len: u32,
+}
+
+/// Where a reader is in a capture.
+#[derive(Clone, Copy, Debug, PartialEq, Eq)]
+pub struct Cursor {
+    /// What comes next.
+    pub stage: Stage,
+    /// The section's byte order. None before the first section.
+    pub order: Option<Order>,
+    /// The interface that is being described.
+    pub interface: Option<Interface>,
+    /// The offset in the capture of the block.
+    pub start: u64,
+    /// The block's total length.
+    pub total: u32,
+    /// How many bytes of options are left.
+    pub left: u32,
+    /// How many bytes are passed before what comes next.
+    pub skip: u32,
+    /// The packet in the block.
+    pub packet: Option<PacketHead>,
+}
+
+impl Cursor {
+    /// The start of a capture.
+    pub const START: Cursor = Cursor {
+        stage: Stage::Block,
+        order: None,
+        interface: None,
+        start: 0,
+        total: 0,
+        left: 0,
+        skip: 0,
+        packet: None,
+    };
+}

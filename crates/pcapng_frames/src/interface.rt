@@ -1,0 +1,74 @@
+//! The clock of an interface.
+
+ghost use Rattle.std.specs.Prelude.{◌≡◌, ◌≤◌, ◌<◌, ◌^◌, true, pos, IfSome};
+ghost use Rattle.std.specs.Option.{option_map};
+ghost use Rattle.pcapng_frames.specs.Interface.{arrival_of, instant, is_resolution, units};
+
+/// How an interface counts time (draft-ietf-opsawg-pcapng, section 4.2).
+#[derive(Clone, Copy, Debug, PartialEq, Eq)]
+pub struct Interface {
+    /// The option `if_tsresol`: k for units of 10^-k seconds, 128 + k for units of 2^-k seconds.
+    pub resolution: u8,
+    /// The option `if_tsoffset`: seconds that are added to each timestamp.
+    pub offset: i64,
+}
+
+/// The nanoseconds in a second.
+const SECOND: u128 = 1_000_000_000;
+
+/// The first instant, in nanoseconds, that no arrival reaches.
+const ARRIVAL_LIMIT: i128 = 4_294_967_296_000_000_000;
+
+/// Units of microseconds from the epoch.
+pub const MICROSECONDS: Interface = Interface {
+    resolution: 6,
+    offset: 0,
+};
+
+/// Whether the resolution is one that is read: at most 10^-18 or 2^-63 seconds.
+pub fn resolved(resolution: u8) -> bool
+    ensures { result ≡ is_resolution resolution }
+{
+    if resolution < 128 {
+        resolution <= 18
+    } else {
+        resolution <= 191
+    }
+}
+
+/// The units in a second.
+#[tactic(auto, using(crate::proofs::Numbers::power_some))]
+fn units_in(resolution: u8) -> u64
+    requires { is_resolution resolution ≡ true }
+    ensures exact { result ≡ units resolution }
+    ensures some { 1 ≤ result }
+{
+    if resolution < 128 {
+        10u64.pow(u32::from(resolution))
+    } else {
+        2u64.pow(u32::from(resolution) - 128)
+    }
+}
+
+/// The instant of a timestamp, in nanoseconds, rounded down.
+#[tactic(auto, unfolding(crate::specs::Interface::instant))]
+fn instant_of(interface: Interface, timestamp: u64) -> i128
+    requires { is_resolution interface.resolution ≡ true }
+    ensures { result ≡ instant interface timestamp }
+{
+    let nanoseconds = u128::from(timestamp) * SECOND / u128::from(units_in(interface.resolution));
+    i128::from(interface.offset) * 1_000_000_000 + nanoseconds as i128
+}
+
+/// The arrival of a packet, in nanoseconds. None where it is not a time that a capture can have.
+pub fn arrival(interface: Interface, timestamp: u64) -> Option<u64>
+    requires { is_resolution interface.resolution ≡ true }
+    ensures exact { option_map pos result ≡ arrival_of interface timestamp }
+    ensures limit { IfSome result (λ t. t ≤ 2 ^ 62) }
+{
+    let instant = instant_of(interface, timestamp);
+    if instant < 0 || instant >= ARRIVAL_LIMIT {
+        return None;
+    }
+    Some(instant as u64)
+}

@@ -1,0 +1,12 @@
+//! Captures in the pcapng layout, in any pieces.
+#![tactic(auto)]
+
+mod block;
+mod interface;
+mod layout;
+mod reader;
+
+pub use reader::Ng;
+
+#[cfg(test)]
+mod tests;

@@ -1,0 +1,349 @@
+//! Packets from the bytes of a pcapng capture, in pieces of any length.
+
+ghost use Rattle.std.specs.Option.{option_map, option_to_list};
+ghost use Rattle.std.specs.Result.{result_err};
+ghost use Rattle.std.specs.Prelude.{ℕ, List, Err, IfSome, IsSome, ◌⊎◌, ◌↔◌, is_some, ◌≡◌, ◌+◌, ◌-◌, ◌<◌, ◌≤◌, ◌^◌, ◌++◌, false, true, length, take, min, None, Some, IfOk, IfErr, OnOk, OnErr, [], vec_capacity, drop};
+ghost use Rattle.pcap_frames.specs.Capture.{Record};
+ghost use Rattle.pcap_frames.specs.Layout.{IsRecordTime};
+ghost use Rattle.pcapng_frames.specs.declared.block.Stage.TheVariants as stage;
+ghost use Rattle.pcapng_frames.specs.Interface.{is_resolution, microseconds};
+ghost use Rattle.pcapng_frames.specs.Fields.{AllResolved};
+ghost use Rattle.pcapng_frames.specs.Blocks.{contents, whole_records, first_refusal, settled, after_trailer};
+ghost use Rattle.pcapng_frames.specs.Reading.{Reading, lacks, refused_after, Takes, Feeds, GoesOn, HasRead, held, need_by, nothing_read, rest_of, shown, taken};
+
+use crate::block::{Cursor, Kind, Stage};
+use crate::interface::Interface;
+use crate::layout;
+use avtp_base::{Field, NoMemory, Refusal};
+use pcap_frames::{Order, RecordView};
+use std::alloc::Global;
+use std::marker::Model;
+
+/// The most bytes of a block that are held: a packet's fixed fields and its bytes.
+const PART_ROOM: usize = 262_172;
+
+/// The most bytes of an option that are held: its header and the value of `if_tsoffset`.
+const TAIL_ROOM: usize = 12;
+
+/// Reads a pcapng capture (draft-ietf-opsawg-pcapng). It takes the capture's bytes in pieces of any length, and holds one
+/// packet at a time: feed a piece until all of it is taken, and look at the held packet and release it after each call.
+#[derive(Debug, Drop)]
+pub struct Ng {
+    cursor: Cursor,
+    /// The section's interfaces.
+    interfaces: Vec<Interface>,
+    /// The front of the block: its fixed fields, and the bytes of a packet.
+    part: Vec<u8>,
+    /// What has come of an option or a trailer.
+    tail: Vec<u8>,
+    /// Whether the block of a packet is whole.
+    whole: bool,
+    refusal: Option<Refusal>,
+}
+
+impl Model for Ng {
+    ghost use Rattle.std.specs.Prelude.{◌≡◌, ◌≤◌, ◌+◌, ◌^◌, length, vec_capacity, true};
+    ghost use Rattle.pcapng_frames.specs.Fields.{AllResolved};
+    ghost use Rattle.pcapng_frames.specs.Reading.{HasHead, Reading, IsReading, IsResolved, packet_of, part_at, place_of, taken_by};
+
+    ghost Value = { Reading };
+
+    ghost view = { λ r. record { place = place_of r.cursor r.interfaces.items r.part.items; skip = r.cursor.skip; part = part_at r.cursor.stage r.part.items r.tail.items; whole = r.whole; refusal = r.refusal } };
+
+    ghost invariant = { λ r. (262172 ≤ vec_capacity r.part) × (12 ≤ vec_capacity r.tail) × (256 ≤ vec_capacity r.interfaces) × (AllResolved r.interfaces.items) × (IsResolved r.cursor.interface) × (HasHead r.cursor.order r.cursor.packet r.part.items)
+        × (taken_by r.cursor.stage (place_of r.cursor r.interfaces.items r.part.items) r.cursor.skip (part_at r.cursor.stage r.part.items r.tail.items) ≤ 2 ^ 62)
+        × IsReading r.refusal r.whole (place_of r.cursor r.interfaces.items r.part.items) r.cursor.skip (part_at r.cursor.stage r.part.items r.tail.items) };
+}
+
+impl Ng {
+    /// A reader that has taken nothing. It reserves the memory of one packet and of 256 interfaces, and takes no more later.
+    pub fn new(alloc: Global) -> Result<Self, NoMemory>
+        ensures empty { IfOk result (λ reader. reader ≡ nothing_read) }
+        ensures read { IfOk result (λ reader. HasRead reader [] []) }
+    {
+        let Ok(interfaces) = Vec::with_capacity(alloc, layout::INTERFACE_LIMIT) else {
+            return Err(NoMemory);
+        };
+        let Ok(part) = Vec::with_capacity(alloc, PART_ROOM) else {
+            return Err(NoMemory);
+        };
+        let Ok(tail) = Vec::with_capacity(alloc, TAIL_ROOM) else {
+            return Err(NoMemory);
+        };
+        Ok(Ng {
+            cursor: Cursor::START,
+            interfaces,
+            part,
+            tail,
+            whole: false,
+            refusal: None,
+        })
+    }
+
+    /// Takes bytes up to the end of one packet's block or of the piece, and answers how many.
+    ///
+    /// A reader that is not refused answers `Ok(0)` exactly where the piece is empty or a whole packet is held.
+    /// The refusal is the capture's first, and comes as soon as the bytes so far show it; from then on every
+    /// `feed` and every `finish` answers it.
+    pub fn feed(&mut self, piece: &[u8]) -> Result<usize, Refusal>
+        requires { taken self.old + length piece.now ≤ 2 ^ 62 }
+        ensures within { IfOk result (λ n. n ≤ length piece.now) }
+        ensures nothing { IfOk result (λ n. (n ≡ 0) ↔ ((length piece.now ≡ 0) ⊎ IsSome (held self.old))) }
+        ensures end { IfOk result (λ n. n < length piece.now → IsSome (held self.new)) }
+        ensures read { IfOk result (λ n. GoesOn self.old (take n piece.now) self.new) }
+        ensures uncertain { IfOk result (λ n. (bytes : List ℕ) (records : List Record) → HasRead self.old bytes records → settled (contents (bytes ++ take n piece.now)).ending ≡ None) }
+        ensures refused { IfErr result (λ refusal. (bytes more : List ℕ) (records : List Record) → HasRead self.old bytes records → contents ((bytes ++ piece.now) ++ more) ≡ refused_after records refusal) }
+        ensures lasting { IfSome self.old.refusal (λ refusal. result ≡ Err refusal) }
+        ensures stays_refused { IfErr result (λ refusal. self.new.refusal ≡ Some refusal) }
+        ensures stays_accepted { OnOk result (self.new.refusal ≡ None) }
+        ensures stopped { OnErr result (GoesOn self.old piece.now self.new) }
+        ensures taken { IfOk result (λ n. taken self.new ≡ taken self.old + n) }
+        ensures bounded { taken self.new ≤ taken self.old + length piece.now }
+    {
+        if let Some(refusal) = self.refusal {
+            return Err(refusal);
+        }
+        let mut used = 0;
+        while used < piece.len() && !self.whole {
+            used += self.feed_place(&piece[used..])?;
+        }
+        Ok(used)
+    }
+
+    /// Takes bytes up to where more is known of what comes next.
+    fn feed_place(&mut self, piece: &[u8]) -> Result<usize, Refusal>
+        requires accepted { self.old.refusal ≡ None }
+        requires partial { self.old.whole ≡ false }
+        requires more { 0 < length piece.now }
+        requires bounded { taken self.old + length piece.now ≤ 2 ^ 62 }
+        ensures some { IfOk result (λ n. 0 < n) }
+        ensures fed { Feeds self.old piece.now result self.new }
+    {
+        if self.cursor.skip > 0 {
+            let taken = self.pass(piece);
+            return Ok(taken);
+        }
+        match self.cursor.stage {
+            Stage::Block => {
+                let taken = self.feed_block(piece)?;
+                Ok(taken)
+            }
+            Stage::Option => {
+                let taken = self.feed_option(piece)?;
+                Ok(taken)
+            }
+            Stage::Trailer => {
+                let taken = self.feed_trailer(piece)?;
+                Ok(taken)
+            }
+        }
+    }
+
+    /// Drops the held packet, so that the next can be taken. Answers whether there was one.
+    pub fn release(&mut self) -> bool
+        ensures answer { result ≡ is_some (held self.old) }
+        ensures given_up { (bytes : List ℕ) (records : List Record) → HasRead self.old bytes records → HasRead self.new bytes (records ++ option_to_list (held self.old)) }
+        ensures free { held self.new ≡ None }
+        ensures taken { taken self.new ≡ taken self.old }
+        ensures refusal { self.new.refusal ≡ self.old.refusal }
+    {
+        if self.refusal.is_some() || !self.whole {
+            return false;
+        }
+        layout::add_described(self.cursor.interface, &mut self.interfaces);
+        self.cursor = layout::after_trailer(self.cursor);
+        self.part.clear();
+        self.tail.clear();
+        self.whole = false;
+        true
+    }
+
+    /// Whether the bytes so far are a whole capture: whole blocks, of which the first is a section header.
+    ///
+    /// Otherwise it answers the earlier refusal, or what the bytes lack, mostly with `short`. It changes nothing: bytes
+    /// may follow.
+    pub fn finish(&self) -> Result<(), Refusal>
+        ensures records { (bytes : List ℕ) (records : List Record) → HasRead self.now bytes records → records ++ option_to_list (held self.now) ≡ whole_records bytes }
+        ensures refusal { (bytes : List ℕ) (records : List Record) → HasRead self.now bytes records → result_err result ≡ first_refusal bytes }
+        ensures lasting { IfSome self.now.refusal (λ refusal. result ≡ Err refusal) }
+    {
+        match self.refusal {
+            Some(refusal) => return Err(refusal),
+            None => {}
+        }
+        match self.missing() {
+            None => Ok(()),
+            Some(refusal) => Err(refusal),
+        }
+    }
+
+    /// What the bytes so far lack.
+    fn missing(&self) -> Option<Refusal>
+        requires accepted { self.now.refusal ≡ None }
+        ensures { result ≡ lacks self.now }
+    {
+        if self.whole {
+            return None;
+        }
+        let cursor = self.cursor;
+        match cursor.stage {
+            Stage::Block => layout::missing_of_block(
+                cursor.order,
+                self.interfaces.len(),
+                cursor.start,
+                self.part.as_slice(),
+            ),
+            _ => layout::short(Field::BlockBody, cursor.start + 8),
+        }
+    }
+
+    /// Passes bytes that are not read.
+    fn pass(&mut self, piece: &[u8]) -> usize
+        requires accepted { self.old.refusal ≡ None }
+        requires partial { self.old.whole ≡ false }
+        requires some { 0 < self.old.skip }
+        requires more { 0 < length piece.now }
+        requires bounded { taken self.old + length piece.now ≤ 2 ^ 62 }
+        ensures some { 0 < result }
+        ensures within { result ≤ length piece.now }
+        ensures counted { taken self.new ≡ taken self.old + result }
+        ensures takes { Takes self.old (take result piece.now) self.new }
+        ensures accepted { self.new.refusal ≡ None }
+    {
+        let taken = piece.len().min(self.cursor.skip as usize);
+        self.cursor.skip -= taken as u32;
+        taken
+    }
+
+    /// Takes bytes up to where more is known of a block.
+    fn feed_block(&mut self, piece: &[u8]) -> Result<usize, Refusal>
+        requires accepted { self.old.refusal ≡ None }
+        requires partial { self.old.whole ≡ false }
+        requires stage { self.old.place.stage ≡ stage.Block }
+        requires more { 0 < length piece.now }
+        requires bounded { taken self.old + length piece.now ≤ 2 ^ 62 }
+        ensures some { IfOk result (λ n. 0 < n) }
+        ensures fed { Feeds self.old piece.now result self.new }
+    {
+        let need = layout::block_need(self.cursor.order, self.part.as_slice());
+        let taken = gather(&mut self.part, need, piece);
+        let part = self.part.as_slice();
+        let interfaces = self.interfaces.as_slice();
+        let cursor = self.cursor;
+        let refusal = layout::block_refusal(cursor.order, interfaces, cursor.start, part);
+        match refusal {
+            Some(refusal) => {
+                self.refusal = Some(refusal);
+                return Err(refusal);
+            }
+            None => {}
+        }
+        if part.len() < layout::block_need(cursor.order, part) {
+            return Ok(taken);
+        }
+        let kind = layout::kind_at(cursor.order, part);
+        self.cursor = layout::after_block(cursor, interfaces, part);
+        layout::settle(kind, &mut self.interfaces);
+        self.tail.clear();
+        Ok(taken)
+    }
+
+    /// Takes bytes up to where more is known of an option.
+    fn feed_option(&mut self, piece: &[u8]) -> Result<usize, Refusal>
+        requires accepted { self.old.refusal ≡ None }
+        requires partial { self.old.whole ≡ false }
+        requires stage { self.old.place.stage ≡ stage.Option }
+        requires ready { self.old.skip ≡ 0 }
+        requires more { 0 < length piece.now }
+        requires bounded { taken self.old + length piece.now ≤ 2 ^ 62 }
+        ensures some { IfOk result (λ n. 0 < n) }
+        ensures fed { Feeds self.old piece.now result self.new }
+    {
+        let cursor = self.cursor;
+        let order = layout::order_or_little(cursor.order);
+        let need = layout::option_need(order, self.tail.as_slice());
+        let taken = gather(&mut self.tail, need, piece);
+        let tail = self.tail.as_slice();
+        let at = cursor.start + u64::from(cursor.total - 4 - cursor.left);
+        let refusal = layout::option_refusal(order, at, cursor.left, tail);
+        match refusal {
+            Some(refusal) => {
+                self.refusal = Some(refusal);
+                return Err(refusal);
+            }
+            None => {}
+        }
+        if tail.len() < layout::option_need(order, tail) {
+            return Ok(taken);
+        }
+        self.cursor = layout::after_option(cursor, at, tail);
+        self.tail.clear();
+        Ok(taken)
+    }
+
+    /// Takes bytes up to the end of a trailer.
+    fn feed_trailer(&mut self, piece: &[u8]) -> Result<usize, Refusal>
+        requires accepted { self.old.refusal ≡ None }
+        requires partial { self.old.whole ≡ false }
+        requires stage { self.old.place.stage ≡ stage.Trailer }
+        requires ready { self.old.skip ≡ 0 }
+        requires more { 0 < length piece.now }
+        requires bounded { taken self.old + length piece.now ≤ 2 ^ 62 }
+        ensures some { IfOk result (λ n. 0 < n) }
+        ensures fed { Feeds self.old piece.now result self.new }
+    {
+        let cursor = self.cursor;
+        let order = layout::order_or_little(cursor.order);
+        let taken = gather(&mut self.tail, 4, piece);
+        let tail = self.tail.as_slice();
+        let at = cursor.start + u64::from(cursor.total - 4);
+        let refusal = layout::trailer_refusal(order, at, cursor.total, tail);
+        match refusal {
+            Some(refusal) => {
+                self.refusal = Some(refusal);
+                return Err(refusal);
+            }
+            None => {}
+        }
+        if tail.len() < 4 {
+            return Ok(taken);
+        }
+        if cursor.packet.is_some() {
+            self.whole = true;
+            return Ok(taken);
+        }
+        layout::add_described(cursor.interface, &mut self.interfaces);
+        self.cursor = layout::after_trailer(cursor);
+        self.part.clear();
+        self.tail.clear();
+        Ok(taken)
+    }
+
+    /// The packet that was taken last, where its block is whole and it was not released.
+    pub fn held(&self) -> Option<RecordView<'_>>
+        ensures exact { option_map shown result ≡ held self.now }
+        ensures time { IfSome result (λ r. IsRecordTime r.arrival) }
+    {
+        if self.refusal.is_some() || !self.whole {
+            return None;
+        }
+        let packet = self.cursor.packet?;
+        Some(layout::view(packet, self.part.as_slice()))
+    }
+}
+
+/// Moves bytes from the front of the piece to the end of the part, until it has `end` bytes. Answers how many.
+fn gather(part: &mut Vec<u8>, end: usize, piece: &[u8]) -> usize
+    requires { end ≤ vec_capacity part.old }
+    ensures taken { result ≡ min (length piece.now) (end - length part.old.items) }
+    ensures within { result ≤ length piece.now }
+    ensures moved { part.new.items ≡ part.old.items ++ take result piece.now }
+    ensures grown { length part.new.items ≡ length part.old.items + result }
+    ensures capacity { vec_capacity part.old ≤ vec_capacity part.new }
+{
+    let taken = piece.len().min(end.saturating_sub(part.len()));
+    let Ok(()) = part.extend_from_slice(&piece[..taken]) else {
+        unreachable!()
+    };
+    taken
+}
