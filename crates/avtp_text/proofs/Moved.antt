@@ -1,7 +1,7 @@
 -- Bytes on their way from what waits to what a sink holds.
-use Rattle.std.proofs.Common.{◌≡◌, ℕ, ◌+◌, ◌-◌, List, ◌++◌, length, take, drop, Option, sym, arith, subst, length-drop, take-append-drop}
+use Rattle.std.proofs.Common.{◌≡◌, ℕ, ◌+◌, ◌-◌, List, length, take, drop, Option, sym, arith, subst, length-drop, take-append-drop}
 use Rattle.std.proofs.lemmas.List.{take_all}
-use Rattle.std.proofs.Math.Seq.{take-add, take-append_seam}
+use Rattle.std.proofs.Math.Seq.{take-add}
 use Rattle.avtp_base.proofs.Told.{append_known-moved, Appends-trans, Appends-nil}
 use Rattle.avtp_base.specs.Told.{Keeps, Appends}
 use Rattle.avtp_text.specs.Written.{written}
@@ -17,13 +17,9 @@ taken_more a b c bytes taken n first second =
     let rest : take (length bytes - taken) (drop taken bytes) ≡ drop taken bytes = take_all (length bytes - taken) (drop taken bytes) (simp length-drop (omega arith)) in
     rw (take-add taken n bytes) (Appends-trans a b c (take taken bytes) (take n (drop taken bytes)) first (subst (λ (l : List ℕ). Appends b c (take n l)) rest second))
 
--- what is left where the front of the bytes was turned behind the rest and then cut off
-rest_of : (bytes : List ℕ) (taken : ℕ) → take (length bytes - taken) (drop taken bytes ++ take taken bytes) ≡ drop taken bytes
-rest_of bytes taken = rw (← length-drop taken bytes) (take-append_seam (drop taken bytes) (take taken bytes))
-
 -- what a sink took is no longer what waits, and nothing else changed
 pub written_moved : (old new : Option (List ℕ)) (bytes : List ℕ) (taken : ℕ)
     → Appends old new (take taken bytes)
-    → Keeps (written old bytes) (written new (take (length bytes - taken) (drop taken bytes ++ take taken bytes)))
+    → Keeps (written old bytes) (written new (drop taken bytes))
 written_moved old new bytes taken took =
-    rw (rest_of bytes taken) (append_known-moved old new (take taken bytes) (drop taken bytes) bytes took (sym (take-append-drop taken bytes)))
+    append_known-moved old new (take taken bytes) (drop taken bytes) bytes took (sym (take-append-drop taken bytes))

@@ -5,12 +5,12 @@ ghost use Rattle.avtp_base.specs.Told.{Appends, Keeps};
 ghost use Rattle.avtp_base.specs.Faults.{IsCounted, Rose};
 ghost use Rattle.avtp_text.specs.Written.{written, Grows, Prints};
 
-use avtp_base::{Failed, NoMemory, Sink};
+use avtp_base::{Buffer, Failed, NoMemory, Sink};
 use std::alloc::Global;
 use std::marker::Model;
 
 /// The most bytes that a [`Text`] holds, and the longest piece that it takes.
-pub const ROOM: usize = 65_536;
+pub const ROOM: usize = Buffer::ROOM;
 
 /// Text that waits to be written to a sink, which contracts see as the list of its bytes: at most 65,536, for which
 /// the memory is reserved once.
@@ -20,17 +20,15 @@ pub const ROOM: usize = 65_536;
 /// a failure the same call may be made again.
 #[derive(Drop)]
 pub struct Text {
-    buffer: Vec<u8>,
+    buffer: Buffer,
 }
 
 impl Model for Text {
-    ghost use Rattle.std.specs.Prelude.{List, ℕ, ◌≤◌, vec_len, vec_capacity};
+    ghost use Rattle.std.specs.Prelude.{List, ℕ};
 
     ghost Value = { List ℕ };
 
-    ghost view = { λ text. text.buffer.items };
-
-    ghost invariant = { λ text. (vec_len text.buffer ≤ 65536) × (65536 ≤ vec_capacity text.buffer) };
+    ghost view = { λ text. text.buffer };
 }
 
 /// Writes the bytes to the sink until it has taken all or fails, and answers how many it took.
@@ -57,10 +55,8 @@ impl Text {
     pub fn new(alloc: Global) -> Result<Self, NoMemory>
         ensures { IfOk result (λ text. text ≡ []) }
     {
-        match Vec::with_capacity(alloc, ROOM) {
-            Ok(buffer) => Ok(Text { buffer }),
-            Err(_) => Err(NoMemory),
-        }
+        let buffer = Buffer::new(alloc)?;
+        Ok(Text { buffer })
     }
 
     /// Writes all that waits to the sink. Where the sink fails, what it has not taken still waits.
@@ -71,10 +67,9 @@ impl Text {
         ensures grows { Grows (S.held out.old) (S.held out.new) }
         ensures counted { IsCounted (S.faults out.old) (S.faults out.new) result }
     {
-        let waiting = self.buffer.len();
-        let taken = write_out(out, &self.buffer);
-        self.buffer.rotate_left(taken);
-        self.buffer.truncate(waiting - taken);
+        let waiting = self.buffer.waiting().len();
+        let taken = write_out(out, self.buffer.waiting());
+        self.buffer.drop_front(taken);
         if taken < waiting {
             return Err(Failed);
         }
@@ -83,17 +78,25 @@ impl Text {
 
     /// Makes room for a piece of so many bytes.
     #[tactic(auto, using(crate::proofs::Growth::grows_none))]
-    fn make_room<S: Sink>(&mut self, out: &mut S, len: usize) -> Result<(), Failed>
+    pub(crate) fn make_room<S: Sink>(&mut self, out: &mut S, len: usize) -> Result<(), Failed>
         requires { len ≤ ROOM }
         ensures written { Keeps (written (S.held out.old) self.old) (written (S.held out.new) self.new) }
         ensures room { OnOk result (length self.new + len ≤ ROOM) }
         ensures grows { Grows (S.held out.old) (S.held out.new) }
         ensures counted { IsCounted (S.faults out.old) (S.faults out.new) result }
     {
-        if ROOM - self.buffer.len() < len {
+        if self.buffer.room() < len {
             return self.flush(out);
         }
         Ok(())
+    }
+
+    /// Adds a piece of text. There must be room for it.
+    pub(crate) fn push(&mut self, piece: &[u8])
+        requires { length self.old + length piece.now ≤ ROOM }
+        ensures { self.new ≡ self.old ++ piece.now }
+    {
+        self.buffer.push(piece);
     }
 
     /// Adds a piece of text of at most [`ROOM`] bytes, whole, or nothing where the sink fails.
@@ -102,9 +105,7 @@ impl Text {
         ensures { Prints (S.held out.old) (S.held out.new) self.old self.new (S.faults out.old) (S.faults out.new) result piece.now }
     {
         self.make_room(out, piece.len())?;
-        let Ok(()) = self.buffer.extend_from_slice(piece) else {
-            unreachable!()
-        };
+        self.push(piece);
         Ok(())
     }
 }

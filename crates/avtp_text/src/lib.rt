@@ -2,6 +2,7 @@
 #![tactic(auto)]
 
 mod buffer;
+mod check;
 mod line;
 mod listen;
 mod notices;

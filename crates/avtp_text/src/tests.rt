@@ -12,6 +12,7 @@ use iec61883_format::{Cip, IecView};
 use listener::Counts;
 use pcap_frames::FrameView;
 use sample_schedule::Reason;
+use sequence_track::Findings;
 use std::alloc::Global;
 use std::test::Fail;
 use talker::TalkFault;
@@ -383,5 +384,108 @@ fn each_packet_is_printed_as_stated(rt: HostRuntime) -> Result<(), Fail> {
     let mut out = Trickle::new(rt.alloc(), 7, 0);
     every_packet(&mut text, &mut out).ok().ok_or("sink")?;
     assert_eq!(rt; out.bytes.as_slice(), EVERY_PACKET.as_bytes());
+    Ok(())
+}
+
+const NOTHING: Findings = Findings {
+    reserved: false,
+    step: None,
+    hold: None,
+    stamp: false,
+    untracked: false,
+};
+
+/// Writes each finding alone and all together, in the order of `EVERY_FINDING`.
+fn every_finding<S: Sink>(text: &mut Text, out: &mut S) -> Result<(), Failed> {
+    let cases = [
+        NOTHING,
+        Findings {
+            reserved: true,
+            ..NOTHING
+        },
+        Findings {
+            untracked: true,
+            ..NOTHING
+        },
+        Findings {
+            step: Some(0),
+            ..NOTHING
+        },
+        Findings {
+            hold: Some(1),
+            ..NOTHING
+        },
+        Findings {
+            stamp: true,
+            ..NOTHING
+        },
+        Findings {
+            reserved: true,
+            step: Some(2),
+            hold: Some(7),
+            stamp: true,
+            untracked: false,
+        },
+        Findings {
+            reserved: true,
+            untracked: true,
+            ..NOTHING
+        },
+    ];
+    for findings in &cases {
+        text.findings(out, 1, 0x0200_0000_0001_0001, findings)?;
+    }
+    let longest = Findings {
+        reserved: true,
+        step: Some(255),
+        hold: Some(u32::MAX),
+        stamp: true,
+        untracked: true,
+    };
+    text.findings(out, u64::MAX, 0xfedc_ba98_7654_3210, &longest)?;
+    for short in [false, true] {
+        let refusal = Refusal {
+            field: Field::ChannelsPerFrame,
+            at: 32,
+            short,
+        };
+        text.finding_malformed(out, 2, refusal)?;
+    }
+    text.end_check(out, 1, 1, 0)?;
+    text.end_check(out, 1, 1, 1)?;
+    text.end_check(out, 1_000_000, 1_024, 3)?;
+    text.flush(out)
+}
+
+const EVERY_FINDING: &str = "\
+finding frame 1 id 0200000000010001 reserved
+finding frame 1 id 0200000000010001 streams
+finding frame 1 id 0200000000010001 step 0
+finding frame 1 id 0200000000010001 hold 1
+finding frame 1 id 0200000000010001 stamp
+finding frame 1 id 0200000000010001 reserved
+finding frame 1 id 0200000000010001 step 2
+finding frame 1 id 0200000000010001 hold 7
+finding frame 1 id 0200000000010001 stamp
+finding frame 1 id 0200000000010001 reserved
+finding frame 1 id 0200000000010001 streams
+finding frame 18446744073709551615 id fedcba9876543210 reserved
+finding frame 18446744073709551615 id fedcba9876543210 streams
+finding frame 18446744073709551615 id fedcba9876543210 step 255
+finding frame 18446744073709551615 id fedcba9876543210 hold 4294967295
+finding frame 18446744073709551615 id fedcba9876543210 stamp
+finding frame 2 malformed channels_per_frame at 32
+finding frame 2 malformed channels_per_frame at 32 short
+end frames 1 streams 1 findings 0
+end frames 1 streams 1 findings 1
+end frames 1000000 streams 1024 findings 3
+";
+
+#[test]
+fn each_finding_is_printed_as_stated(rt: HostRuntime) -> Result<(), Fail> {
+    let mut text = Text::new(rt.alloc()).ok().ok_or("memory")?;
+    let mut out = Trickle::new(rt.alloc(), 7, 0);
+    every_finding(&mut text, &mut out).ok().ok_or("sink")?;
+    assert_eq!(rt; out.bytes.as_slice(), EVERY_FINDING.as_bytes());
     Ok(())
 }

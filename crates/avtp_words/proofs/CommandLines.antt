@@ -121,7 +121,7 @@ drop_before [] rest = refl
 drop_before (x ∷ before) rest = drop_before before rest
 
 -- what is left after the options
-left_is : (rows : List Row) (words : List (List ℕ)) (place : ℕ) (o : AreOptionsTo rows words place) → drop place words ≡ o.rest
+pub left_is : (rows : List Row) (words : List (List ℕ)) (place : ℕ) (o : AreOptionsTo rows words place) → drop place words ≡ o.rest
 left_is rows words place o = ap (λ n. drop n words) o.here ∙ ap (drop (length (flat_map words_of o.settings))) o.split ∙ drop_before (flat_map words_of o.settings) o.rest
 
 -- the first of a list is the first of its prefix and of what goes on from there

@@ -21,9 +21,9 @@ use Rattle.avtp_words.specs.Word.{texts, BeginsWithDash, IsName}
 use Rattle.avtp_words.specs.Limits as limits
 use Rattle.avtp_words.specs.Limits.{NumberOption, number}
 use Rattle.avtp_words.specs.Options.{Row, row_named, Setting, words_of, IsValue, IsSetting, stands_alone, value_in}
-use Rattle.avtp_words.specs.Grammar.{request_of, Request, Listening, Talking, show, listen, talk, Form, form_named, show_form, listen_form, talk_form, IsOf, IsGiven, IsGivenId, IsGivenIf, IsShow, IsListen, SaysKind, SaysTalk, LacksAaf, KeepsRules, IsCommandLine, IsLine, Begins, Stops, StopsAt, IsOffence, of_a_word, of_a_rule}
+use Rattle.avtp_words.specs.Grammar.{request_of, Request, Listening, Talking, show, check, listen, talk, Form, form_named, show_form, check_form, listen_form, talk_form, IsOf, IsGiven, IsGivenId, IsGivenIf, IsShow, IsCheck, IsListen, SaysKind, SaysTalk, LacksAaf, KeepsRules, IsCommandLine, IsLine, Begins, Stops, StopsAt, IsOffence, of_a_word, of_a_rule}
 use Rattle.avtp_words.proofs.Settings.{same-true}
-use Rattle.avtp_words.proofs.CommandLines.{same_line, value_is, value-after, number_given, number_given_if, id_given, format_given, same_number, same_number_if, same_id, same_id_given, same_format_given, options_to, beyond}
+use Rattle.avtp_words.proofs.CommandLines.{same_line, left_is, value_is, value-after, number_given, number_given_if, id_given, format_given, same_number, same_number_if, same_id, same_id_given, same_format_given, options_to, beyond}
 use Rattle.avtp_words.proofs.Operands.{names}
 use Rattle.avtp_words.proofs.Steps.{words_before, after_first}
 
@@ -62,8 +62,9 @@ offence_after form words position known b = of_a_word (b.place + 1) (omega (arit
   go (word ∷ rest) never = λ c. never (record { more = c.more; whole = rest_of_line form ((s.before ++ word ∷ []) ++ c.more) known c.whole })
 
 -- what a command asks for is told by a line
-line_of : (words : List (List ℕ)) (request : Request) → IsCommandLine words request → IsLine words
+abbrev line_of : (words : List (List ℕ)) (request : Request) → IsCommandLine words request → IsLine words
 line_of words (show limit file) s = record { form = show_form; known = refl; settings = s.settings; names = file ∷ []; line = s.line }
+line_of words (check limit files) s = record { form = check_form; known = refl; settings = s.settings; names = files; line = s.line }
 line_of words (listen asked) s = record { form = listen_form; known = refl; settings = s.settings; names = s.id ∷ asked.files; line = s.line }
 line_of words (talk asked) (s, rules) = record { form = talk_form; known = refl; settings = s.settings; names = asked.input ∷ asked.output ∷ []; line = s.line }
 
@@ -98,20 +99,23 @@ pub words_are : (words rest : List (String Global)) (command : String Global) (n
 words_are words rest command name e same = ap texts e ∙ ap (λ (first : List ℕ). first ∷ texts rest) same
 
 -- a word that is no command's has no form
-no_form : (word : List ℕ) → (word ≡ codes "show" → ⊥) → (word ≡ codes "listen" → ⊥) → (word ≡ codes "talk" → ⊥) → form_named word ≡ None
-no_form word not_show not_listen not_talk = elim (cases_Bool (bytes_eq (codes "show") word)) [
+no_form : (word : List ℕ) → (word ≡ codes "show" → ⊥) → (word ≡ codes "check" → ⊥) → (word ≡ codes "listen" → ⊥) → (word ≡ codes "talk" → ⊥) → form_named word ≡ None
+no_form word not_show not_check not_listen not_talk = elim (cases_Bool (bytes_eq (codes "show") word)) [
   | inl same ↦ absurd (not_show (sym (same-true (codes "show") word same)))
-  | inr shown ↦ elim (cases_Bool (bytes_eq (codes "listen") word)) [
-    | inl same ↦ absurd (not_listen (sym (same-true (codes "listen") word same)))
-    | inr heard ↦ elim (cases_Bool (bytes_eq (codes "talk") word)) [
-      | inl same ↦ absurd (not_talk (sym (same-true (codes "talk") word same)))
-      | inr said ↦ rw (shown, heard, said) refl
+  | inr shown ↦ elim (cases_Bool (bytes_eq (codes "check") word)) [
+    | inl same ↦ absurd (not_check (sym (same-true (codes "check") word same)))
+    | inr checked ↦ elim (cases_Bool (bytes_eq (codes "listen") word)) [
+      | inl same ↦ absurd (not_listen (sym (same-true (codes "listen") word same)))
+      | inr heard ↦ elim (cases_Bool (bytes_eq (codes "talk") word)) [
+        | inl same ↦ absurd (not_talk (sym (same-true (codes "talk") word same)))
+        | inr said ↦ rw (shown, checked, heard, said) refl
+      ]
     ]
   ]
 ]
 
-pub other_first : (words rest : List (String Global)) (command : String Global) → words ≡ command ∷ rest → (string_bytes command ≡ codes "show" → ⊥) → (string_bytes command ≡ codes "listen" → ⊥) → (string_bytes command ≡ codes "talk" → ⊥) → IsNoCommand (texts words)
-other_first words rest command e not_show not_listen not_talk = rw e (no_form (string_bytes command) not_show not_listen not_talk)
+pub other_first : (words rest : List (String Global)) (command : String Global) → words ≡ command ∷ rest → (string_bytes command ≡ codes "show" → ⊥) → (string_bytes command ≡ codes "check" → ⊥) → (string_bytes command ≡ codes "listen" → ⊥) → (string_bytes command ≡ codes "talk" → ⊥) → IsNoCommand (texts words)
+other_first words rest command e not_show not_check not_listen not_talk = rw e (no_form (string_bytes command) not_show not_check not_listen not_talk)
 
 pub none_first : (words : List (String Global)) → length words ≡ 0 → IsNoCommand (texts words)
 none_first [] e = tt
@@ -159,6 +163,17 @@ show_is words place file limit r here reads = go r.rest.names r.rest.spelled r.r
         limit_given = number_is show_form words place r limits.limit (2 ^ 40) (2 ^ 64) limit refl refl refl refl (omega arith) reads;
       }
   go (name ∷ more ∷ ns) spelled named first = absurd named.1
+
+-- ---- check
+
+pub check_is : (words : List (String Global)) (place limit : ℕ) (files : List (List ℕ)) → IsRestTo check_form.rows check_form.operands (texts words) place → drop place (texts words) ≡ files → IsRead (2 ^ 64) (2 ^ 40) (value_after (codes "--limit") (texts (take place words))) limit → IsCheck (codes "check" ∷ texts words) limit files
+check_is words place limit files r next reads =
+    let same : r.rest.names ≡ files = sym (left_is check_form.rows (texts words) place (options_to check_form.rows check_form.operands (texts words) place r)) ∙ next in
+    record {
+      settings = r.rest.settings;
+      line = record { spelled = ap (λ ws. codes "check" ∷ ws) (r.rest.spelled ∙ ap (λ ns. flat_map words_of r.rest.settings ++ ns) same); options = r.rest.options; operands = subst (AreOperands check_form.operands) same r.rest.named };
+      limit_given = number_is check_form words place r limits.limit (2 ^ 40) (2 ^ 64) limit refl refl refl refl (omega arith) reads;
+    }
 
 -- ---- listen
 
@@ -366,6 +381,22 @@ with_format words formats e told =
 same_command : (form other : Form) (words : List (List ℕ)) (gs hs : List Setting) (ns ms : List (List ℕ)) → IsOf form words gs ns → IsOf other words hs ms → form.command ≡ other.command
 same_command form other words gs hs ns ms p q = cc (p.spelled, q.spelled)
 
+-- two lines of the same words are of one command
+one_command : (words : List (List ℕ)) (r s : Request) (p : IsCommandLine words r) (q : IsCommandLine words s) → (line_of words r p).form.command ≡ (line_of words s q).form.command
+one_command words r s p q =
+    let l = line_of words r p in
+    let m = line_of words s q in
+    same_command l.form m.form words l.settings m.settings l.names m.names l.line m.line
+
+show_check : codes "show" ≡ codes "check" → ⊥
+show_check e = let first = ap (λ (word : List ℕ). get_or word 0 0) e in absurd (omega (arith, first))
+
+check_listen : codes "check" ≡ codes "listen" → ⊥
+check_listen e = let first = ap (λ (word : List ℕ). get_or word 0 0) e in absurd (omega (arith, first))
+
+check_talk : codes "check" ≡ codes "talk" → ⊥
+check_talk e = let first = ap (λ (word : List ℕ). get_or word 0 0) e in absurd (omega (arith, first))
+
 show_listen : codes "show" ≡ codes "listen" → ⊥
 show_listen e = let first = ap (λ (word : List ℕ). get_or word 0 0) e in absurd (omega (arith, first))
 
@@ -427,6 +458,7 @@ offence_of_rule words asked says breaks = of_a_rule refl
     (record { form = talk_form; known = refl; settings = says.settings; names = asked.input ∷ asked.output ∷ []; line = says.line }) none where
       none : (request : Request) → IsCommandLine words request → ⊥
       none (show limit file) s = show_talk (same_command show_form talk_form words s.settings says.settings (file ∷ []) (asked.input ∷ asked.output ∷ []) s.line says.line)
+      none (check limit files) s = check_talk (same_command check_form talk_form words s.settings says.settings files (asked.input ∷ asked.output ∷ []) s.line says.line)
       none (listen other) s = listen_talk (same_command listen_form talk_form words s.settings says.settings (s.id ∷ other.files) (asked.input ∷ asked.output ∷ []) s.line says.line)
       none (talk other) (s, rules) = breaks (subst (KeepsRules words) (same_talk words other asked s says) rules)
 
@@ -439,12 +471,22 @@ same_request words (show limit file) (show other name) p q =
     let files : file ≡ name = cc (both.1) in
     let limits : limit ≡ other = same_number limits.limit limit other q.settings (omega arith) (subst (λ gs. IsGiven limits.limit gs limit) both.0 p.limit_given) q.limit_given in
     ap (λ n. show n file) limits ∙ ap (show other) files
-same_request words (show limit file) (listen asked) p q = absurd (show_listen (same_command show_form listen_form words p.settings q.settings (file ∷ []) (q.id ∷ asked.files) p.line q.line))
-same_request words (show limit file) (talk asked) p (q, rules) = absurd (show_talk (same_command show_form talk_form words p.settings q.settings (file ∷ []) (asked.input ∷ asked.output ∷ []) p.line q.line))
-same_request words (listen asked) (show limit file) p q = absurd (show_listen (same_command show_form listen_form words q.settings p.settings (file ∷ []) (p.id ∷ asked.files) q.line p.line))
-same_request words (listen asked) (talk other) p (q, rules) = absurd (listen_talk (same_command listen_form talk_form words p.settings q.settings (p.id ∷ asked.files) (other.input ∷ other.output ∷ []) p.line q.line))
-same_request words (talk asked) (show limit file) (p, rules) q = absurd (show_talk (same_command show_form talk_form words q.settings p.settings (file ∷ []) (asked.input ∷ asked.output ∷ []) q.line p.line))
-same_request words (talk asked) (listen other) (p, rules) q = absurd (listen_talk (same_command listen_form talk_form words q.settings p.settings (q.id ∷ other.files) (asked.input ∷ asked.output ∷ []) q.line p.line))
+same_request words (check limit files) (check other names) p q =
+    let both = same_line check_form words p.settings q.settings files names p.line q.line in
+    let limits : limit ≡ other = same_number limits.limit limit other q.settings (omega arith) (subst (λ gs. IsGiven limits.limit gs limit) both.0 p.limit_given) q.limit_given in
+    ap (λ n. check n files) limits ∙ ap (check other) both.1
+same_request words (show limit file) (check other names) p q = absurd (show_check (one_command words (show limit file) (check other names) p q))
+same_request words (show limit file) (listen other) p q = absurd (show_listen (one_command words (show limit file) (listen other) p q))
+same_request words (show limit file) (talk other) p q = absurd (show_talk (one_command words (show limit file) (talk other) p q))
+same_request words (check limit files) (show other name) p q = absurd (show_check (one_command words (show other name) (check limit files) q p))
+same_request words (check limit files) (listen other) p q = absurd (check_listen (one_command words (check limit files) (listen other) p q))
+same_request words (check limit files) (talk other) p q = absurd (check_talk (one_command words (check limit files) (talk other) p q))
+same_request words (listen asked) (show other name) p q = absurd (show_listen (one_command words (show other name) (listen asked) q p))
+same_request words (listen asked) (check other names) p q = absurd (check_listen (one_command words (check other names) (listen asked) q p))
+same_request words (listen asked) (talk other) p q = absurd (listen_talk (one_command words (listen asked) (talk other) p q))
+same_request words (talk asked) (show other name) p q = absurd (show_talk (one_command words (show other name) (talk asked) q p))
+same_request words (talk asked) (check other names) p q = absurd (check_talk (one_command words (check other names) (talk asked) q p))
+same_request words (talk asked) (listen other) p q = absurd (listen_talk (one_command words (listen other) (talk asked) q p))
 same_request words (talk asked) (talk other) (p, rules) (q, others) = ap talk (same_talk words asked other p q)
 same_request words (listen asked) (listen other) p q =
     ap listen (same streams (number limits.buffer asked.buffer other.buffer (omega arith) p.buffer q.buffer) (number limits.room asked.room other.room (omega arith) p.room q.room) (number limits.listen_lead asked.lead other.lead (omega arith) p.lead q.lead) files) where

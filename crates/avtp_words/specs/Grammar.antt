@@ -7,7 +7,7 @@ use Rattle.aaf_format.specs.declared.aaf.AafFormat.TheVariants.{Int16}
 use Rattle.aaf_format.specs.Aaf.{rate_of, frame_size}
 use Rattle.iec61883_format.specs.Iec.{rate_of_fdf, syt_interval, block_size}
 use Rattle.avtp_words.specs.declared.command.Command.{Command}
-use Rattle.avtp_words.specs.declared.command.Command.TheVariants.{Show, Listen, Talk}
+use Rattle.avtp_words.specs.declared.command.Command.TheVariants.{Show, Check, Listen, Talk}
 use Rattle.avtp_words.specs.declared.command.Listen.{Listen as AskedListen}
 use Rattle.avtp_words.specs.declared.talk.Talk.{Talk as AskedTalk}
 use Rattle.avtp_words.specs.declared.talk.Kind.{Kind}
@@ -48,6 +48,7 @@ pub record Talking : Type 0 where
 
 pub data Request : Type 0 where
   show : (limit : ℕ) → (file : List ℕ) → Request
+  check : (limit : ℕ) → (files : List (List ℕ)) → Request
   listen : Listening → Request
   talk : Talking → Request
 
@@ -71,18 +72,21 @@ talking_of asked = record {
 
 abbrev pub request_of : Command → Request
 request_of (Show limit file) = show limit file.now
+request_of (Check limit files) = check limit (texts files.now)
 request_of (Listen asked) = listen (listening_of asked)
 request_of (Talk asked) = talk (talking_of asked)
 
 -- the files that are read, in order
 abbrev pub files_of : Request → List (List ℕ)
 files_of (show limit file) = file ∷ []
+files_of (check limit files) = files
 files_of (listen asked) = asked.files
 files_of (talk asked) = asked.input ∷ []
 
 -- the file that is written
 abbrev pub output_of : Request → Option (List ℕ)
 output_of (show limit file) = None
+output_of (check limit files) = None
 output_of (listen asked) = None
 output_of (talk asked) = Some asked.output
 
@@ -100,6 +104,14 @@ show_form = record {
   command = codes "show";
   rows = number limits.limit ∷ [];
   operands = operand.Name ∷ [];
+}
+
+-- check [options] FILE..
+abbrev pub check_form : Form
+check_form = record {
+  command = codes "check";
+  rows = number limits.limit ∷ [];
+  operands = operand.Names ∷ [];
 }
 
 -- listen [options] STREAM FILE..
@@ -130,7 +142,7 @@ talk_form = record {
 }
 
 abbrev pub forms : List Form
-forms = show_form ∷ listen_form ∷ talk_form ∷ []
+forms = show_form ∷ check_form ∷ listen_form ∷ talk_form ∷ []
 
 -- the form of the command of this word
 abbrev pub form_named : List ℕ → Option Form
@@ -164,6 +176,12 @@ IsGivenFormat name default settings format = MatchOption (value_in name settings
 pub record IsShow (words : List (List ℕ)) (limit : ℕ) (file : List ℕ) : Type 0 where
   pub settings : List Setting
   pub line : IsOf show_form words settings (file ∷ [])
+  pub limit_given : IsGiven limits.limit settings limit
+
+-- what `check` is asked for
+pub record IsCheck (words : List (List ℕ)) (limit : ℕ) (files : List (List ℕ)) : Type 0 where
+  pub settings : List Setting
+  pub line : IsOf check_form words settings files
   pub limit_given : IsGiven limits.limit settings limit
 
 -- what `listen` is asked for
@@ -236,6 +254,7 @@ pub record KeepsRules (words : List (List ℕ)) (asked : Talking) : Type 0 where
 -- the words are a command line, and this is what they ask for
 abbrev pub IsCommandLine : List (List ℕ) → Request → Type 0
 IsCommandLine words (show limit file) = IsShow words limit file
+IsCommandLine words (check limit files) = IsCheck words limit files
 IsCommandLine words (listen asked) = IsListen words asked
 IsCommandLine words (talk asked) = SaysTalk words asked × KeepsRules words asked
 

@@ -17,7 +17,7 @@ option name low high default = record { name = name; low = low; high = high; def
 abbrev pub number : NumberOption → Row
 number option = record { name = option.name; takes = Number option.low option.high }
 
--- show: the bytes of a capture that are read
+-- show and check: the bytes of a capture that are read
 abbrev pub limit : NumberOption
 limit = option (codes "--limit") 1 (2 ^ 40) (Some (2 ^ 40))
 

@@ -5,8 +5,8 @@ ghost use Rattle.avtp_words.specs.Grammar.{Request, request_of, IsCommandLine, I
 ghost use Rattle.avtp_words.specs.Word.{texts};
 
 use crate::limits::{
-    BUFFER, BUFFER_DEFAULT, LEAD_DEFAULT, LIMIT, LISTEN_LEAD, LISTEN_OPTIONS, MAX_LIMIT, ROOM,
-    ROOM_DEFAULT, SHOW_OPTIONS,
+    BUFFER, BUFFER_DEFAULT, CHECK_OPTIONS, LEAD_DEFAULT, LIMIT, LISTEN_LEAD, LISTEN_OPTIONS,
+    MAX_LIMIT, ROOM, ROOM_DEFAULT, SHOW_OPTIONS,
 };
 use crate::operand::{Operand, id_of, operands_at};
 use crate::option::word_at;
@@ -18,6 +18,9 @@ use crate::value::{number_after, small_number_after};
 pub enum Command<'a> {
     /// Print what each packet of the capture `file` holds, and read at most `limit` bytes of it.
     Show { limit: u64, file: &'a str },
+    /// Print what breaks the rules of a stream in each of the captures `files`, at least one, and read at most `limit`
+    /// bytes of each.
+    Check { limit: u64, files: &'a [String] },
     /// Print the presentation time of each sample of a stream.
     Listen(Listen<'a>),
     /// Make a capture of raw samples.
@@ -62,6 +65,8 @@ impl Offence {
 
 const SHOW_OPERANDS: [Operand; 1] = [Operand::Name];
 
+const CHECK_OPERANDS: [Operand; 1] = [Operand::Names];
+
 const LISTEN_OPERANDS: [Operand; 2] = [Operand::Id, Operand::Names];
 
 /// The command that the words ask for.
@@ -83,6 +88,7 @@ pub fn parse(words: &[String]) -> Result<Command<'_>, Offence>
     };
     match command.as_str() {
         "show" => read_show(rest),
+        "check" => read_check(rest),
         "listen" => read_listen(rest),
         "talk" => read_talk(rest),
         _ => Err(Offence { position: 1 }),
@@ -100,6 +106,17 @@ fn read_show(words: &[String]) -> Result<Command<'_>, Offence>
     };
     let limit = number_after(&words[..place], LIMIT.name, MAX_LIMIT);
     Ok(Command::Show { limit, file })
+}
+
+/// The words after `check`.
+fn read_check(words: &[String]) -> Result<Command<'_>, Offence>
+    ensures ok { IfOk result (λ command. IsCommandLine (codes "check" ∷ texts words.now) (request_of command)) }
+    ensures err { IfErr result (λ offence. IsOffence (codes "check" ∷ texts words.now) offence.position) }
+{
+    let place = operands_at(&CHECK_OPTIONS, &CHECK_OPERANDS, words)?;
+    let limit = number_after(&words[..place], LIMIT.name, MAX_LIMIT);
+    let files = &words[place..];
+    Ok(Command::Check { limit, files })
 }
 
 /// The words after `listen`.

@@ -9,6 +9,8 @@ pub const MAX_LIMIT: u64 = 1 << 40;
 
 pub const SHOW_OPTIONS: [OptionRow; 1] = [LIMIT];
 
+pub const CHECK_OPTIONS: [OptionRow; 1] = [LIMIT];
+
 pub const LIMIT: OptionRow = OptionRow {
     name: "--limit",
     takes: Takes::Number {

@@ -20,6 +20,10 @@ fn shows(limit: u64, file: &str) -> Result<Command<'_>, Offence> {
     Ok(Command::Show { limit, file })
 }
 
+fn checks(limit: u64, files: &[String]) -> Result<Command<'_>, Offence> {
+    Ok(Command::Check { limit, files })
+}
+
 /// What is asked for where no option is given.
 fn listens(files: &[String]) -> Listen<'_> {
     Listen {
@@ -121,6 +125,56 @@ fn show_offences(rt: HostRuntime) -> Result<(), AllocError> {
         (&["show", "c.pcap", "--limit", "1"], 3),
         (&["show", "--limit", "1"], 4),
         (&["show", "--limit", "1", "--limit", "1", "c.pcap"], 4),
+    ];
+    for (line, position) in cases {
+        let words = words_of(rt.alloc(), line)?;
+        assert_eq!(rt; parse(&words), stops(position));
+    }
+    Ok(())
+}
+
+/// All the words after the options of `check` are files, in their order.
+#[test]
+fn check_lines(rt: HostRuntime) -> Result<(), AllocError> {
+    let cases: [(&[&str], u64, &[&str]); 7] = [
+        (&["check", "a"], 1099511627776, &["a"]),
+        (&["check", "a", "a"], 1099511627776, &["a", "a"]),
+        (&["check", "b", "a", "b"], 1099511627776, &["b", "a", "b"]),
+        (&["check", "check", "5"], 1099511627776, &["check", "5"]),
+        (&["check", "--limit", "1", "a", "b-"], 1, &["a", "b-"]),
+        (&["check", "--limit", "106", "1"], 106, &["1"]),
+        (
+            &["check", "--limit", "1099511627776", "a"],
+            1099511627776,
+            &["a"],
+        ),
+    ];
+    for (line, limit, files) in cases {
+        let words = words_of(rt.alloc(), line)?;
+        let files = words_of(rt.alloc(), files)?;
+        assert_eq!(rt; parse(&words), checks(limit, &files));
+    }
+    Ok(())
+}
+
+/// Words after `check` of which one cannot stand or is missing.
+#[test]
+fn check_offences(rt: HostRuntime) -> Result<(), AllocError> {
+    let cases: [(&[&str], usize); 14] = [
+        (&["check"], 2),
+        (&["check", ""], 2),
+        (&["check", "-"], 2),
+        (&["check", "--limit=1", "a"], 2),
+        (&["check", "--look", "1", "a"], 2),
+        (&["check", "--limit"], 3),
+        (&["check", "--limit", "0", "a"], 3),
+        (&["check", "--limit", "1099511627777", "a"], 3),
+        (&["check", "a", "--limit", "5"], 3),
+        (&["check", "a", ""], 3),
+        (&["check", "--limit", "1"], 4),
+        (&["check", "--limit", "1", "--limit", "1", "a"], 4),
+        (&["check", "a", "b", "-c"], 4),
+        (&["check", "--limit", "1", "a", "--limit", "1"], 5),
     ];
     for (line, position) in cases {
         let words = words_of(rt.alloc(), line)?;

@@ -13,6 +13,16 @@ returns-in-show-clause-only_offence c =
     let all = words_are c.args.words.now c.in-Some.rest.now c.in-Some.command.now (codes "show") c.in-Some.ensures.cases.0 (sym c.as_str.ensures.value ∙ c.in-show.is) in
     rw all (answered_offence (codes "show" ∷ texts c.in-Some.rest.now) c.read_show.result c.read_show.ensures.ok c.read_show.ensures.err)
 
+pub returns-in-check-clause-only : goal.returns-in-check-clause-only
+returns-in-check-clause-only c =
+    let all = words_are c.args.words.now c.in-Some.rest.now c.in-Some.command.now (codes "check") c.in-Some.ensures.cases.0 (sym c.as_str.ensures.value ∙ c.in-check.is) in
+    rw all (answered_only (codes "check" ∷ texts c.in-Some.rest.now) c.read_check.result c.read_check.ensures.ok c.read_check.ensures.err)
+
+pub returns-in-check-clause-only_offence : goal.returns-in-check-clause-only_offence
+returns-in-check-clause-only_offence c =
+    let all = words_are c.args.words.now c.in-Some.rest.now c.in-Some.command.now (codes "check") c.in-Some.ensures.cases.0 (sym c.as_str.ensures.value ∙ c.in-check.is) in
+    rw all (answered_offence (codes "check" ∷ texts c.in-Some.rest.now) c.read_check.result c.read_check.ensures.ok c.read_check.ensures.err)
+
 pub returns-in-listen-clause-only : goal.returns-in-listen-clause-only
 returns-in-listen-clause-only c =
     let all = words_are c.args.words.now c.in-Some.rest.now c.in-Some.command.now (codes "listen") c.in-Some.ensures.cases.0 (sym c.as_str.ensures.value ∙ c.in-listen.is) in
@@ -42,7 +52,7 @@ returns-in_default-clause-only_offence c position offence = same_offence (texts 
 pub returns-in_default-as_str-clause-offence : goal.returns-in_default-as_str-clause-offence
 returns-in_default-as_str-clause-offence c =
     offence_of_command (texts c.args.words.now) (other_first c.args.words.now c.in-Some.rest.now c.in-Some.command.now c.in-Some.ensures.cases.0
-    (λ e. c.in_default-as_str.not-show (c.as_str.ensures.value ∙ e)) (λ e. c.in_default-as_str.not-listen (c.as_str.ensures.value ∙ e)) (λ e. c.in_default-as_str.not-talk (c.as_str.ensures.value ∙ e)))
+    (λ e. c.in_default-as_str.not-show (c.as_str.ensures.value ∙ e)) (λ e. c.in_default-as_str.not-check (c.as_str.ensures.value ∙ e)) (λ e. c.in_default-as_str.not-listen (c.as_str.ensures.value ∙ e)) (λ e. c.in_default-as_str.not-talk (c.as_str.ensures.value ∙ e)))
 
 pub returns-in_default-as_str-clause-only_offence : goal.returns-in_default-as_str-clause-only_offence
 returns-in_default-as_str-clause-only_offence c position offence = same_offence (texts c.args.words.now) 1 position (returns-in_default-as_str-clause-offence c) offence

@@ -1,0 +1,50 @@
+-- The lines of `check`: one for each finding, and one at the end of a capture.
+use Rattle.std.specs.Prelude.{List, ℕ, Bool, [], ◌∷◌, ◌++◌, flat_map, codes, decimal, if◌then◌else◌, Option, option_map, option_to_list}
+use Rattle.avtp_base.specs.declared.refusal.Refusal.{Refusal}
+use Rattle.sequence_track.specs.declared.seen.Findings.{Findings}
+use Rattle.avtp_text.specs.Pieces.{newline, id_text, refusal_text}
+
+-- how the line of a finding begins: the number of the frame, from 1
+unfoldable pub finding_start : ℕ → List ℕ
+finding_start number = codes "finding frame " ++ decimal number ++ codes " "
+
+-- a frame or a packet that cannot be accepted; the offset is in the frame
+unfoldable pub malformed_line : ℕ → Refusal → List ℕ
+malformed_line number r = finding_start number ++ codes "malformed " ++ refusal_text r ++ newline
+
+-- how the line of a finding in a packet begins: the frame, and the id of its stream
+unfoldable pub packet_start : ℕ → ℕ → List ℕ
+packet_start number id = finding_start number ++ codes "id " ++ id_text id ++ codes " "
+
+-- the line of a finding in a packet
+abbrev pub packet_line : ℕ → ℕ → List ℕ → List ℕ
+packet_line number id finding = packet_start number id ++ finding ++ newline
+
+-- a finding, where it is made
+abbrev pub found : Bool → List ℕ → List (List ℕ)
+found is_found name = if is_found then name ∷ [] else []
+
+-- a finding with its number, where it is made
+abbrev pub counted : Option ℕ → List ℕ → List (List ℕ)
+counted count label = option_to_list (option_map (λ n. label ++ decimal n) count)
+
+-- what is found in a packet, in the order in which it is printed
+abbrev pub finding_texts : Findings → List (List ℕ)
+finding_texts f =
+    found f.reserved (codes "reserved")
+    ++ found f.untracked (codes "streams")
+    ++ counted f.step (codes "step ")
+    ++ counted f.hold (codes "hold ")
+    ++ found f.stamp (codes "stamp")
+
+-- a line for each
+abbrev pub findings_lines : ℕ → ℕ → Findings → List ℕ
+findings_lines number id f = flat_map (packet_line number id) (finding_texts f)
+
+-- the end of a capture: its records, the streams that are tracked, and the findings
+unfoldable pub end_check_line : ℕ → ℕ → ℕ → List ℕ
+end_check_line frames streams findings =
+    codes "end frames " ++ decimal frames
+    ++ codes " streams " ++ decimal streams
+    ++ codes " findings " ++ decimal findings
+    ++ newline

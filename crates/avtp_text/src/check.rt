@@ -1,0 +1,133 @@
+//! The lines of `check`: one for each finding, and one at the end of a capture. The records are numbered from 1.
+
+ghost use Rattle.std.specs.Prelude.{◌≡◌, ◌+◌, ◌*◌, ◌≤◌, ◌++◌, flat_map, length};
+ghost use Rattle.avtp_text.specs.Check.{counted, end_check_line, finding_start, findings_lines, found, malformed_line, packet_line, packet_start};
+ghost use Rattle.avtp_text.specs.Written.{Prints};
+
+use crate::buffer::{ROOM, Text};
+use crate::line::{LONGEST, Line};
+use avtp_base::{Failed, Refusal, Sink};
+use sequence_track::Findings;
+
+/// Room for the line of a finding in a packet, in bytes.
+const FINDING: usize = 80;
+
+/// Room for the five findings that a packet may have.
+const FINDINGS: usize = 5 * FINDING;
+
+/// Puts before the line which frame it is about.
+#[tactic(auto, unfolding(crate::specs::Check::finding_start))]
+fn prepend_finding(line: &mut Line, number: u64)
+    requires { 35 + length line.old ≤ LONGEST }
+    ensures text { line.new ≡ finding_start number ++ line.old }
+    ensures len { length line.new ≤ 35 + length line.old }
+{
+    line.prepend(" ");
+    line.prepend_u64("finding frame ", number);
+}
+
+/// Puts before the line which packet it is about.
+#[tactic(auto, unfolding(crate::specs::Check::packet_start))]
+fn prepend_packet(line: &mut Line, number: u64, id: u64)
+    requires { 55 + length line.old ≤ LONGEST }
+    ensures text { line.new ≡ packet_start number id ++ line.old }
+    ensures len { length line.new ≤ 55 + length line.old }
+{
+    line.prepend(" ");
+    line.prepend_id("id ", id);
+    prepend_finding(line, number);
+}
+
+impl Text {
+    /// Adds a finding in a packet, where it is made. There is room for it.
+    fn push_found(&mut self, number: u64, id: u64, is_found: bool, name: &str)
+        requires short { length name.now ≤ 8 }
+        requires room { length self.old + FINDING ≤ ROOM }
+        ensures text { self.new ≡ self.old ++ flat_map (packet_line number id) (found is_found name.now) }
+        ensures len { length self.new ≤ length self.old + FINDING }
+    {
+        if is_found {
+            let mut line = Line::new();
+            line.prepend(name);
+            prepend_packet(&mut line, number, id);
+            self.push(line.as_slice());
+        }
+    }
+
+    /// Adds a finding that has a number in the same way.
+    fn push_counted(&mut self, number: u64, id: u64, count: Option<u32>, label: &str)
+        requires short { length label.now ≤ 8 }
+        requires room { length self.old + FINDING ≤ ROOM }
+        ensures text { self.new ≡ self.old ++ flat_map (packet_line number id) (counted count label.now) }
+        ensures len { length self.new ≤ length self.old + FINDING }
+    {
+        if let Some(count) = count {
+            let mut line = Line::new();
+            line.prepend_u32(label, count);
+            prepend_packet(&mut line, number, id);
+            self.push(line.as_slice());
+        }
+    }
+
+    /// Adds all that is found in a packet. There is room for it.
+    fn push_findings(&mut self, number: u64, id: u64, findings: &Findings)
+        requires { length self.old + FINDINGS ≤ ROOM }
+        ensures { self.new ≡ self.old ++ findings_lines number id findings.now }
+    {
+        self.push_found(number, id, findings.reserved, "reserved");
+        self.push_found(number, id, findings.untracked, "streams");
+        self.push_counted(number, id, findings.step.map(u32::from), "step ");
+        self.push_counted(number, id, findings.hold, "hold ");
+        self.push_found(number, id, findings.stamp, "stamp");
+    }
+
+    /// Says what is found in a packet of the stream with this id, on a line for each finding.
+    pub fn findings<S: Sink>(
+        &mut self,
+        out: &mut S,
+        number: u64,
+        id: u64,
+        findings: &Findings,
+    ) -> Result<(), Failed>
+        ensures { Prints (S.held out.old) (S.held out.new) self.old self.new (S.faults out.old) (S.faults out.new) result (findings_lines number id findings.now) }
+    {
+        self.make_room(out, FINDINGS)?;
+        self.push_findings(number, id, findings);
+        Ok(())
+    }
+
+    /// Says that a frame or its packet is malformed at a field, whose offset is in the frame.
+    #[tactic(auto, unfolding(crate::specs::Check::malformed_line))]
+    pub fn finding_malformed<S: Sink>(
+        &mut self,
+        out: &mut S,
+        number: u64,
+        refusal: Refusal,
+    ) -> Result<(), Failed>
+        ensures { Prints (S.held out.old) (S.held out.new) self.old self.new (S.faults out.old) (S.faults out.new) result (malformed_line number refusal) }
+    {
+        let mut line = Line::new();
+        line.prepend_refusal(refusal);
+        line.prepend("malformed ");
+        prepend_finding(&mut line, number);
+        self.print(out, line.as_slice())
+    }
+
+    /// Says that a capture ended after so many records, how many streams of it are tracked, and how many findings it has.
+    #[tactic(auto, unfolding(crate::specs::Check::end_check_line))]
+    pub fn end_check<S: Sink>(
+        &mut self,
+        out: &mut S,
+        frames: u64,
+        streams: u64,
+        findings: u64,
+    ) -> Result<(), Failed>
+        ensures { Prints (S.held out.old) (S.held out.new) self.old self.new (S.faults out.old) (S.faults out.new) result (end_check_line frames streams findings) }
+    {
+        let mut line = Line::new();
+        line.prepend_u64(" findings ", findings);
+        line.prepend_u64(" streams ", streams);
+        line.prepend_u64("end frames ", frames);
+        self.print(out, line.as_slice())
+    }
+}

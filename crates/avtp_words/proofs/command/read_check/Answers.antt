@@ -1,0 +1,15 @@
+use Rattle.std.proofs.Common.{sym, refl}
+use Rattle.std.proofs.lemmas.Result.{err_from_is_err_and}
+use Rattle.avtp_words.specs.Grammar.{check_form}
+use Rattle.avtp_words.specs.Word.{texts}
+use Rattle.avtp_words.proofs.CommandLines.{words_after}
+use Rattle.avtp_words.proofs.Commands.{offence_after, check_is}
+use Rattle.avtp_words.proofs.command.read_check.Goals as goal
+
+pub returns-in_err-place-clause-err : goal.returns-in_err-place-clause-err
+returns-in_err-place-clause-err c =
+    let p = err_from_is_err_and c.from_residual.result c.from_residual.ensures.1 in
+    rw (p.1, p.2) (offence_after check_form (texts c.args.words.now) c.in_err-place.field-0.0.position refl c.in_err-place.ensures.err)
+
+pub returns-clause-ok : goal.returns-clause-ok
+returns-clause-ok c = check_is c.args.words.now c.in_ok-place.place c.number_after-limit.result _ c.in_ok-place.ensures.ok (sym (words_after c.args.words.now c.in_ok-place.place)) c.number_after-limit.ensures
