@@ -3,6 +3,7 @@ use Rattle.std.proofs.Common.{◌≡◌, ℕ, ◌-◌, ◌≤◌, false, List, [
 use Rattle.std.specs.Prelude.{IfSome, IsSome, is_some, option_to_list}
 use Rattle.std.proofs.lemmas.List.{append-nil}
 use Rattle.avtp_base.specs.declared.refusal.Refusal.{Refusal}
+use Rattle.avtp_base.specs.Faults.{Rose}
 use Rattle.pcap_frames.specs.Capture.{Record, Holds, first_refusal, whole_records}
 use Rattle.pcap_frames.specs.Reading.{Reading, HasRead, GoesOn, IsReading, held}
 use Rattle.pcap_frames.proofs.Ends.{gives_up}
@@ -10,12 +11,13 @@ use Rattle.pcap_frames.proofs.Held.{records_are, uncertain}
 use Rattle.pcap_frames.proofs.Firsts.{records_first}
 use Rattle.pcap_frames.proofs.One.{holds_one}
 use Rattle.pcap_frames.proofs.Whole.{holds_whole}
+use Rattle.capture_io.specs.declared.end.End.{End}
 use Rattle.capture_io.specs.declared.end.End.TheVariants as end
 use Rattle.capture_io.specs.declared.end.Stop.TheVariants as stop
 use Rattle.capture_io.specs.Contents.{IsContents}
-use Rattle.capture_io.specs.Ends.{at_end}
+use Rattle.capture_io.specs.Ends.{CountsFault, at_end}
 use Rattle.capture_io.specs.Pieces.{Piecing, HasTaken}
-use Rattle.capture_io.specs.Source.{Sourcing, EndsAfter, HasFed, HasGiven, held_in}
+use Rattle.capture_io.specs.Source.{Sourcing, EndsAfter, HasFed, HasGiven, ReadsOn, held_in, slot_of}
 use Rattle.capture_io.proofs.Ending.{ends_limit, ends_refused, ends_whole, limited}
 
 -- a reader that is refused is not refused by a field that is short
@@ -110,6 +112,21 @@ pub holds_next : (limit : ℕ) (bytes : List ℕ) (remains : Option (List ℕ)) 
     → (next : Record) × (held_in source ≡ Some next) × HasGiven limit bytes remains source (records ++ next ∷ [])
 holds_next limit bytes remains source records some going fed = holds_next_by limit bytes remains source records (held_in source) refl some going fed
 
-pub if_some_is : {A : Type 0} (r : Option A) (x : A) (P : A → Type 0) → r ≡ Some x → P x → IfSome r P
-if_some_is None x P is p = absurd cc
-if_some_is (Some y) x P is p = let same : x ≡ y = cc in subst P same p
+-- ---- reading on
+
+-- the reading ended so
+pub ended_so : {remains remains' : Option (List ℕ)} {before after : ℕ} {old new : Sourcing} {result : Option End} (how : End) → result ≡ Some how
+    → ((limit : ℕ) (bytes : List ℕ) (records : List Record) → HasFed limit bytes remains old records → EndsAfter limit bytes (Rose before after) how records)
+    → CountsFault None (Some how) before after → slot_of new ≡ slot_of old → ReadsOn remains remains' before after old new result
+ended_so {remains} {remains'} {before} {after} {old} {new} how is ends counted slot =
+    subst (ReadsOn remains remains' before after old new) (sym is) (record { more = λ none. absurd cc; ends = ends; less = λ none. absurd cc; counted = counted; slot = slot })
+
+-- the end of a file is no fault of reading
+pub end_counted : {before after : ℕ} (x : Option Refusal) (how : End) → how ≡ at_end x → after ≡ before → CountsFault None (Some how) before after
+end_counted {before} {after} None how is same = subst (λ (h : End). CountsFault None (Some h) before after) (sym is) same
+end_counted {before} {after} (Some refusal) how is same = subst (λ (h : End). CountsFault None (Some h) before after) (sym is) same
+
+-- what is left in the slot, under the number that the slot has now, which is the same
+pub same_slot : (left : ℕ → Option (List ℕ)) {before after : ℕ} {old new : Sourcing} {result : Option End} → ReadsOn (left (slot_of old)) (left (slot_of old)) before after old new result
+    → ReadsOn (left (slot_of old)) (left (slot_of new)) before after old new result
+same_slot left {before} {after} {old} {new} {result} on = subst (λ (k : ℕ). ReadsOn (left (slot_of old)) (left k) before after old new result) (sym on.slot) on

@@ -1,25 +1,32 @@
 -- A file that is written piece by piece.
-use Rattle.std.proofs.Common.{◌≡◌, ℕ, List, [], ◌++◌, take, drop, Option, refl, sym, ap, subst, ◌∙◌, append_assoc, append-nil, take-append-drop}
-use Rattle.std.specs.Prelude.{Result, Ok, Err, OnErr, OnOk}
+use Rattle.std.proofs.Common.{◌≡◌, ℕ, arith, List, [], ◌++◌, take, drop, Option, refl, sym, ap, subst, ◌∙◌, append_assoc, append-nil, take-append-drop}
+use Rattle.std.specs.Prelude.{Result, Ok, Err, OnOk}
+use Rattle.avtp_base.specs.declared.failed.Failed.{Failed}
+use Rattle.avtp_base.specs.Faults.{IsCounted}
 use Rattle.avtp_base.specs.Files.{AppendsTo, Files, KeepsFiles, KeepsOtherFiles, PutsFile, Slots, name_in}
 use Rattle.avtp_base.proofs.Files.{KeepsOtherFiles-trans, PutsFile-appends, PutsFile-kept, named_as}
 use Rattle.capture_io.specs.Writing.{IsMadeIn, IsWriting, PutsPrefix, WritesSlot, Writing}
 
 -- ---- what is left of a slot
 
-pub writes_nothing : (slots : Slots) (reading : ℕ) (asked : List (List ℕ) → Type 0) (k : ℕ) → IsMadeIn slots k → WritesSlot slots slots reading reading asked asked k
-writes_nothing slots reading asked k made = record {
+pub writes_nothing : (slots : Slots) (reading writing : ℕ) (asked : List (List ℕ) → Type 0) (w : Writing) (ok : Unit) → IsMadeIn slots w.slot → WritesSlot slots slots reading reading writing writing asked asked w w (Ok ok)
+writes_nothing slots reading writing asked w ok made = record {
+  slot = refl;
   made = made;
   slots = record { same = λ j. refl; left = λ j differs. refl };
   reading = refl;
+  counted = record { never_falls = omega arith; ok = refl; failed = tt };
   asked = λ before stands. stands;
 }
 
-pub writes_then : (s t u : Slots) (r r' r'' : ℕ) (a b c : List (List ℕ) → Type 0) (k : ℕ) → WritesSlot s t r r' a b k → WritesSlot t u r' r'' b c k → WritesSlot s u r r'' a c k
-writes_then s t u r r' r'' a b c k first second = record {
-  made = second.made;
-  slots = KeepsOtherFiles-trans s t u k first.slots second.slots;
+pub writes_then : {s t u : Slots} {r r' r'' x x' x'' : ℕ} {a b c : List (List ℕ) → Type 0} {v v' v'' : Writing} {ok : Unit} {result : Result Unit Failed}
+    → WritesSlot s t r r' x x' a b v v' (Ok ok) → WritesSlot t u r' r'' x' x'' b c v' v'' result → WritesSlot s u r r'' x x'' a c v v'' result
+writes_then {s} {t} {u} {x'' = x''} {v = v} {result = result} first second = record {
+  slot = second.slot ∙ first.slot;
+  made = subst (IsMadeIn u) first.slot second.made;
+  slots = KeepsOtherFiles-trans s t u v.slot first.slots (subst (λ (k : ℕ). KeepsOtherFiles t u (name_in t k)) first.slot second.slots);
   reading = second.reading ∙ first.reading;
+  counted = subst (λ (n : ℕ). IsCounted n x'' result) first.counted.ok second.counted;
   asked = λ before stands. second.asked before (first.asked before stands);
 }
 
@@ -58,7 +65,3 @@ puts_prefix files a b slots s reading r w name all is keeps =
 pub ok_one : {T E : Type 0} (r : Result T E) (P Q : Type 0) → OnOk r P → (P → Q) → OnOk r Q
 ok_one (Ok x) P Q p make = make p
 ok_one (Err e) P Q p make = tt
-
-pub on_err : {T E : Type 0} (r : Result T E) (P : Type 0) → P → OnErr r P
-on_err (Ok x) P p = tt
-on_err (Err e) P p = p

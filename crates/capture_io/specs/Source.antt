@@ -1,9 +1,10 @@
 -- The records of a capture, one after the other.
-use Rattle.std.specs.Prelude.{◌≡◌, ◌++◌, ◌+◌, ◌*◌, ℕ, List, length, Option, Some, None, option_to_list}
+use Rattle.std.specs.Prelude.{◌≡◌, ◌++◌, ◌+◌, ◌*◌, ◌<◌, ℕ, List, length, IfSome, Option, Some, None, option_to_list}
+use Rattle.avtp_base.specs.Faults.{Rose}
 use Rattle.pcap_frames.specs.Capture.{Record, whole_records}
 use Rattle.pcap_frames.specs.Reading.{Reading, HasRead, held}
 use Rattle.capture_io.specs.declared.end.End.{End}
-use Rattle.capture_io.specs.Ends.{EndsAt}
+use Rattle.capture_io.specs.Ends.{CountsFault, EndsAt}
 use Rattle.capture_io.specs.Pieces.{Piecing, HasTaken}
 
 -- The file and its pieces, the reader that takes them, and how the reading ended, once it has.
@@ -44,3 +45,13 @@ pub record EndsAfter (limit : ℕ) (bytes : List ℕ) (fault : Type 0) (how : En
 -- how much may still be done: it falls with each piece that is read, and with each byte that is taken
 abbrev pub to_do : Sourcing → ℕ
 to_do source = 2 * source.pieces.left + length source.pieces.waiting
+
+-- A call that read on, or took what waits, left this. Where the reading goes on, the source has given up the same records of
+-- the same file, and less is to be done. Where it ended, it ended so after them. The count of reading faults rose where a
+-- fault ended it, and else is as it was.
+pub record ReadsOn (old_remains new_remains : Option (List ℕ)) (before after : ℕ) (old new : Sourcing) (result : Option End) : Type 0 where
+  pub more : result ≡ None → (limit : ℕ) (bytes : List ℕ) (records : List Record) → HasFed limit bytes old_remains old records → HasFed limit bytes new_remains new records
+  pub ends : IfSome result (λ how. (limit : ℕ) (bytes : List ℕ) (records : List Record) → HasFed limit bytes old_remains old records → EndsAfter limit bytes (Rose before after) how records)
+  pub less : result ≡ None → to_do new < to_do old
+  pub counted : CountsFault None result before after
+  pub slot : slot_of new ≡ slot_of old

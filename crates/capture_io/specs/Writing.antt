@@ -1,5 +1,7 @@
 -- A file that is written through a buffer.
-use Rattle.std.specs.Prelude.{◌≡◌, ◌≢◌, ◌⊎◌, ℕ, true, List, ◌++◌, Option, None, Some, IsSome, option_map}
+use Rattle.std.specs.Prelude.{◌≡◌, ◌≢◌, ◌⊎◌, ℕ, true, List, ◌++◌, Option, None, Some, IsSome, Result, option_map}
+use Rattle.avtp_base.specs.declared.failed.Failed.{Failed}
+use Rattle.avtp_base.specs.Faults.{IsCounted}
 use Rattle.avtp_base.specs.Files.{Files, Slots, file_of, left_in, name_in, KeepsFiles, KeepsOtherFiles, KeepsSlots, PutsFile}
 
 -- The slot of the file, and the bytes that wait to be written to it.
@@ -25,11 +27,14 @@ pub record IsWriting (old_files new_files : Option Files) (old_slots new_slots :
   pub left : IsSome old_files → (j : ℕ) → j ≢ writer.slot → name_in old_slots j ≢ Some name → left_in new_slots j ≡ left_in old_slots j
   pub reading : new_reading ≡ old_reading
 
--- The file of slot k was written, or not, and is still open; no reading fault was counted, and no name was asked for.
-pub record WritesSlot (old_slots new_slots : Slots) (old_reading new_reading : ℕ) (old_asked new_asked : List (List ℕ) → Type 0) (k : ℕ) : Type 0 where
-  pub made : IsMadeIn new_slots k
-  pub slots : KeepsOtherFiles old_slots new_slots (name_in old_slots k)
+-- The writer's file was written, or not, and is still open. The count of writing faults rose where the shelf failed; no reading
+-- fault was counted, and no name was asked for.
+pub record WritesSlot (old_slots new_slots : Slots) (old_reading new_reading old_writing new_writing : ℕ) (old_asked new_asked : List (List ℕ) → Type 0) (old new : Writing) (result : Result Unit Failed) : Type 0 where
+  pub slot : new.slot ≡ old.slot
+  pub made : IsMadeIn new_slots old.slot
+  pub slots : KeepsOtherFiles old_slots new_slots (name_in old_slots old.slot)
   pub reading : new_reading ≡ old_reading
+  pub counted : IsCounted old_writing new_writing result
   pub asked : (before : List (List ℕ)) → old_asked before → new_asked before
 
 -- ---- what is left
@@ -55,3 +60,11 @@ MakesPrefix old new name bytes = KeepsFiles old new ⊎ PutsPrefix old new name 
 pub record KeepsSlotsBut (files : Option Files) (old new : Slots) (name : List ℕ) : Type 0 where
   pub same : (j : ℕ) → option_map file_of (new j) ≡ option_map file_of (old j)
   pub left : IsSome files → (j : ℕ) → name_in old j ≢ Some name → left_in new j ≡ left_in old j
+
+-- The writer's file was closed, which has a prefix of all that was added. Every other file and slot is as it was; no reading
+-- fault was counted, and no name was asked for.
+pub record ClosesFile (old_files new_files : Option Files) (old_slots new_slots : Slots) (old_reading new_reading : ℕ) (old_asked new_asked : List (List ℕ) → Type 0) (writer : Writing) : Type 0 where
+  pub prefix : (files : Option Files) (slots : Slots) (reading : ℕ) (name all : List ℕ) → IsWriting files old_files slots old_slots reading old_reading writer name all → PutsPrefix files new_files name all
+  pub slots : (files : Option Files) (slots : Slots) (reading : ℕ) (name all : List ℕ) → IsWriting files old_files slots old_slots reading old_reading writer name all → KeepsSlotsBut files slots new_slots name
+  pub reading : new_reading ≡ old_reading
+  pub asked : (before : List (List ℕ)) → old_asked before → new_asked before

@@ -3,7 +3,7 @@
 ghost use Rattle.std.specs.Prelude.{◌≡◌, ◌≤◌, ◌++◌, ◌∷◌, ℕ, List, [], Option, length, IfOk, OnOk, OnErr, IsErrOf};
 ghost use Rattle.avtp_base.specs.Faults.{IsCounted, IsOpenCounted};
 ghost use Rattle.avtp_base.specs.Files.{Files, Slots, PutsFile};
-ghost use Rattle.capture_io.specs.Writing.{IsMadeIn, IsWriting, KeepsSlotsBut, NotMade, PutsPrefix, WritesSlot};
+ghost use Rattle.capture_io.specs.Writing.{ClosesFile, IsMadeIn, IsWriting, NotMade, WritesSlot};
 
 use avtp_base::{Buffer, Failed, OpenFault, Shelf, Slot};
 use std::marker::Model;
@@ -53,9 +53,8 @@ impl FileWriter {
         ensures kept { OnErr result ((files : Option Files) (slots : Slots) (reading : ℕ) (name all : List ℕ) →
             IsWriting files (F.files shelf.old) slots (F.slots shelf.old) reading (F.reading_faults shelf.old) self.old name all →
             IsWriting files (F.files shelf.new) slots (F.slots shelf.new) reading (F.reading_faults shelf.new) self.new name all) }
-        ensures counted { IsCounted (F.writing_faults shelf.old) (F.writing_faults shelf.new) result }
-        ensures writes { WritesSlot (F.slots shelf.old) (F.slots shelf.new) (F.reading_faults shelf.old) (F.reading_faults shelf.new) (F.asked shelf.old) (F.asked shelf.new) self.old.slot }
-        ensures slot { self.new.slot ≡ self.old.slot }
+        ensures writes { WritesSlot (F.slots shelf.old) (F.slots shelf.new) (F.reading_faults shelf.old) (F.reading_faults shelf.new) (F.writing_faults shelf.old) (F.writing_faults shelf.new)
+            (F.asked shelf.old) (F.asked shelf.new) self.old self.new result }
     {
         if self.buffer.room() < bytes.len() {
             self.flush(shelf)?;
@@ -71,9 +70,8 @@ impl FileWriter {
         ensures kept { (files : Option Files) (slots : Slots) (reading : ℕ) (name all : List ℕ) →
             IsWriting files (F.files shelf.old) slots (F.slots shelf.old) reading (F.reading_faults shelf.old) self.old name all →
             IsWriting files (F.files shelf.new) slots (F.slots shelf.new) reading (F.reading_faults shelf.new) self.new name all }
-        ensures counted { IsCounted (F.writing_faults shelf.old) (F.writing_faults shelf.new) result }
-        ensures writes { WritesSlot (F.slots shelf.old) (F.slots shelf.new) (F.reading_faults shelf.old) (F.reading_faults shelf.new) (F.asked shelf.old) (F.asked shelf.new) self.old.slot }
-        ensures slot { self.new.slot ≡ self.old.slot }
+        ensures writes { WritesSlot (F.slots shelf.old) (F.slots shelf.new) (F.reading_faults shelf.old) (F.reading_faults shelf.new) (F.writing_faults shelf.old) (F.writing_faults shelf.new)
+            (F.asked shelf.old) (F.asked shelf.new) self.old self.new result }
     {
         while !self.buffer.waiting().is_empty() {
             let count = shelf.write(self.slot, self.buffer.waiting())?;
@@ -87,13 +85,8 @@ impl FileWriter {
         requires made { IsMadeIn (F.slots shelf.old) self.slot }
         ensures put { OnOk result ((files : Option Files) (slots : Slots) (reading : ℕ) (name all : List ℕ) →
             IsWriting files (F.files shelf.old) slots (F.slots shelf.old) reading (F.reading_faults shelf.old) self name all → PutsFile files (F.files shelf.new) name all) }
-        ensures prefix { OnErr result ((files : Option Files) (slots : Slots) (reading : ℕ) (name all : List ℕ) →
-            IsWriting files (F.files shelf.old) slots (F.slots shelf.old) reading (F.reading_faults shelf.old) self name all → PutsPrefix files (F.files shelf.new) name all) }
-        ensures slots { (files : Option Files) (slots : Slots) (reading : ℕ) (name all : List ℕ) →
-            IsWriting files (F.files shelf.old) slots (F.slots shelf.old) reading (F.reading_faults shelf.old) self name all → KeepsSlotsBut files slots (F.slots shelf.new) name }
+        ensures closes { ClosesFile (F.files shelf.old) (F.files shelf.new) (F.slots shelf.old) (F.slots shelf.new) (F.reading_faults shelf.old) (F.reading_faults shelf.new) (F.asked shelf.old) (F.asked shelf.new) self }
         ensures counted { IsCounted (F.writing_faults shelf.old) (F.writing_faults shelf.new) result }
-        ensures reading { F.reading_faults shelf.new ≡ F.reading_faults shelf.old }
-        ensures asked { (names : List (List ℕ)) → F.asked shelf.old names → F.asked shelf.new names }
     {
         let mut writer = self;
         let written = writer.flush(shelf);
@@ -104,13 +97,8 @@ impl FileWriter {
     /// Closes the file, which has a prefix of what was added.
     pub fn abandon<F: Shelf>(self, shelf: &mut F)
         requires made { IsMadeIn (F.slots shelf.old) self.slot }
-        ensures prefix { (files : Option Files) (slots : Slots) (reading : ℕ) (name all : List ℕ) →
-            IsWriting files (F.files shelf.old) slots (F.slots shelf.old) reading (F.reading_faults shelf.old) self name all → PutsPrefix files (F.files shelf.new) name all }
-        ensures slots { (files : Option Files) (slots : Slots) (reading : ℕ) (name all : List ℕ) →
-            IsWriting files (F.files shelf.old) slots (F.slots shelf.old) reading (F.reading_faults shelf.old) self name all → KeepsSlotsBut files slots (F.slots shelf.new) name }
+        ensures closes { ClosesFile (F.files shelf.old) (F.files shelf.new) (F.slots shelf.old) (F.slots shelf.new) (F.reading_faults shelf.old) (F.reading_faults shelf.new) (F.asked shelf.old) (F.asked shelf.new) self }
         ensures writing { F.writing_faults shelf.new ≡ F.writing_faults shelf.old }
-        ensures reading { F.reading_faults shelf.new ≡ F.reading_faults shelf.old }
-        ensures asked { (names : List (List ℕ)) → F.asked shelf.old names → F.asked shelf.new names }
     {
         shelf.close_file(self.slot);
     }

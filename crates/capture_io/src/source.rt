@@ -8,11 +8,11 @@ ghost use Rattle.pcap_frames.specs.Layout.{IsRecordTime};
 ghost use Rattle.pcap_frames.specs.Reading.{held, shown};
 ghost use Rattle.capture_io.specs.Ends.{CountsFault};
 ghost use Rattle.capture_io.specs.Reads.{OnlyReads, ReadsSlot, OpensSlot, ClosesSlot};
-ghost use Rattle.capture_io.specs.Source.{EndsAfter, HasFed, HasGiven, held_in, slot_of, to_do};
+ghost use Rattle.capture_io.specs.Source.{EndsAfter, HasGiven, ReadsOn, held_in, slot_of, to_do};
 
 use crate::end::{End, Stop, whole_or};
 use crate::pieces::Pieces;
-use avtp_base::{OpenFault, Refusal, Shelf};
+use avtp_base::{OpenFault, Shelf};
 use pcap_frames::{Reader, RecordView};
 use std::alloc::Global;
 use std::marker::Model;
@@ -103,17 +103,10 @@ impl Source {
     fn read_on<F: Shelf>(&mut self, shelf: &mut F) -> Option<End>
         requires live { IsSome (F.slots shelf.old (slot_of self.old)) }
         requires free { held_in self.old ≡ None }
-        ensures more { result ≡ None → (limit : ℕ) (bytes : List ℕ) (records : List Record) →
-            HasFed limit bytes (left_in (F.slots shelf.old) (slot_of self.old)) self.old records → HasFed limit bytes (left_in (F.slots shelf.new) (slot_of self.new)) self.new records }
-        ensures ends { IfSome result (λ how. (limit : ℕ) (bytes : List ℕ) (records : List Record) →
-            HasFed limit bytes (left_in (F.slots shelf.old) (slot_of self.old)) self.old records →
-            EndsAfter limit bytes (Rose (F.reading_faults shelf.old) (F.reading_faults shelf.new)) how records) }
+        ensures on { ReadsOn (left_in (F.slots shelf.old) (slot_of self.old)) (left_in (F.slots shelf.new) (slot_of self.new)) (F.reading_faults shelf.old) (F.reading_faults shelf.new) self.old self.new result }
         ensures held { result ≡ None → IsSome (held_in self.new) }
-        ensures less { result ≡ None → to_do self.new < to_do self.old }
-        ensures counted { CountsFault None result (F.reading_faults shelf.old) (F.reading_faults shelf.new) }
         ensures reads { ReadsSlot (F.files shelf.old) (F.files shelf.new) (F.slots shelf.old) (F.slots shelf.new) (F.reading_faults shelf.old) (F.reading_faults shelf.new)
             (F.writing_faults shelf.old) (F.writing_faults shelf.new) (F.asked shelf.old) (F.asked shelf.new) (slot_of self.old) }
-        ensures slot { slot_of self.new ≡ slot_of self.old }
     {
         loop {
             if let Some(end) = self.step(shelf) {
@@ -129,24 +122,14 @@ impl Source {
     fn step<F: Shelf>(&mut self, shelf: &mut F) -> Option<End>
         requires live { IsSome (F.slots shelf.old (slot_of self.old)) }
         requires free { held_in self.old ≡ None }
-        ensures more { result ≡ None → (limit : ℕ) (bytes : List ℕ) (records : List Record) →
-            HasFed limit bytes (left_in (F.slots shelf.old) (slot_of self.old)) self.old records → HasFed limit bytes (left_in (F.slots shelf.new) (slot_of self.new)) self.new records }
-        ensures ends { IfSome result (λ how. (limit : ℕ) (bytes : List ℕ) (records : List Record) →
-            HasFed limit bytes (left_in (F.slots shelf.old) (slot_of self.old)) self.old records →
-            EndsAfter limit bytes (Rose (F.reading_faults shelf.old) (F.reading_faults shelf.new)) how records) }
-        ensures less { result ≡ None → to_do self.new < to_do self.old }
-        ensures counted { CountsFault None result (F.reading_faults shelf.old) (F.reading_faults shelf.new) }
+        ensures on { ReadsOn (left_in (F.slots shelf.old) (slot_of self.old)) (left_in (F.slots shelf.new) (slot_of self.new)) (F.reading_faults shelf.old) (F.reading_faults shelf.new) self.old self.new result }
         ensures reads { ReadsSlot (F.files shelf.old) (F.files shelf.new) (F.slots shelf.old) (F.slots shelf.new) (F.reading_faults shelf.old) (F.reading_faults shelf.new)
             (F.writing_faults shelf.old) (F.writing_faults shelf.new) (F.asked shelf.old) (F.asked shelf.new) (slot_of self.old) }
-        ensures slot { slot_of self.new ≡ slot_of self.old }
     {
         if self.pieces.waiting().is_empty() {
             return self.read_piece(shelf);
         }
-        match self.feed_piece() {
-            None => None,
-            Some(refusal) => Some(End::Refused(refusal)),
-        }
+        self.feed_piece()
     }
 
     /// Reads the next piece, where nothing waits.
@@ -154,16 +137,9 @@ impl Source {
         requires live { IsSome (F.slots shelf.old (slot_of self.old)) }
         requires free { held_in self.old ≡ None }
         requires none_waits { self.old.pieces.waiting ≡ [] }
-        ensures more { result ≡ None → (limit : ℕ) (bytes : List ℕ) (records : List Record) →
-            HasFed limit bytes (left_in (F.slots shelf.old) (slot_of self.old)) self.old records → HasFed limit bytes (left_in (F.slots shelf.new) (slot_of self.new)) self.new records }
-        ensures ends { IfSome result (λ how. (limit : ℕ) (bytes : List ℕ) (records : List Record) →
-            HasFed limit bytes (left_in (F.slots shelf.old) (slot_of self.old)) self.old records →
-            EndsAfter limit bytes (Rose (F.reading_faults shelf.old) (F.reading_faults shelf.new)) how records) }
-        ensures less { result ≡ None → to_do self.new < to_do self.old }
-        ensures counted { CountsFault None result (F.reading_faults shelf.old) (F.reading_faults shelf.new) }
+        ensures on { ReadsOn (left_in (F.slots shelf.old) (slot_of self.old)) (left_in (F.slots shelf.new) (slot_of self.new)) (F.reading_faults shelf.old) (F.reading_faults shelf.new) self.old self.new result }
         ensures reads { ReadsSlot (F.files shelf.old) (F.files shelf.new) (F.slots shelf.old) (F.slots shelf.new) (F.reading_faults shelf.old) (F.reading_faults shelf.new)
             (F.writing_faults shelf.old) (F.writing_faults shelf.new) (F.asked shelf.old) (F.asked shelf.new) (slot_of self.old) }
-        ensures slot { slot_of self.new ≡ slot_of self.old }
     {
         let Some(stop) = self.pieces.read(shelf) else {
             return None;
@@ -176,15 +152,10 @@ impl Source {
     }
 
     /// Feeds the reader what waits, up to the end of one record, or answers the refusal that ends the reading.
-    fn feed_piece(&mut self) -> Option<Refusal>
+    fn feed_piece(&mut self) -> Option<End>
         requires free { held_in self.old ≡ None }
         requires some { 0 < length self.old.pieces.waiting }
-        ensures more { result ≡ None → (limit : ℕ) (bytes : List ℕ) (remains : Option (List ℕ)) (records : List Record) →
-            HasFed limit bytes remains self.old records → HasFed limit bytes remains self.new records }
-        ensures refused { IfSome result (λ refusal. (limit : ℕ) (bytes : List ℕ) (remains : Option (List ℕ)) (records : List Record) →
-            HasFed limit bytes remains self.old records → EndsAfter limit bytes ⊥ (End.Refused refusal) records) }
-        ensures less { result ≡ None → to_do self.new < to_do self.old }
-        ensures slot { slot_of self.new ≡ slot_of self.old }
+        ensures { (remains : Option (List ℕ)) (reading : ℕ) → ReadsOn remains remains reading reading self.old self.new result }
     {
         match self.reader.feed(self.pieces.waiting()) {
             Ok(taken) => {
@@ -193,7 +164,7 @@ impl Source {
             }
             Err(refusal) => {
                 self.pieces.take_all();
-                Some(refusal)
+                Some(End::Refused(refusal))
             }
         }
     }

@@ -1,6 +1,6 @@
-use Rattle.std.proofs.Common.{ℕ, List, take, sym, subst, ◌∙◌}
+use Rattle.std.proofs.Common.{ℕ, List, refl, take, sym, subst}
 use Rattle.avtp_base.specs.Files.{AppendsTo, name_in}
-use Rattle.capture_io.specs.Writing.{IsWriting, WritesSlot}
+use Rattle.capture_io.specs.Writing.{IsWriting}
 use Rattle.capture_io.proofs.Making.{writes_then, writing_more}
 use Rattle.capture_io.proofs.file_writer.FileWriter.flush.Goals as goal
 
@@ -12,11 +12,7 @@ loop-self-preserved g c =
     let slots = g.F.Shelf.slots c.loop-self.shelf in
     let k : ℕ = c.loop-self.self-inside.slot.0 in
     record {
-      slot = before.slot;
-      quiet = wrote.writing.ok ∙ before.quiet;
-      writes = writes_then _ _ _ _ _ _ _ _ _ _ before.writes
-          (subst (WritesSlot slots (g.F.Shelf.slots c.write.new.self) _ _ (g.F.Shelf.asked c.loop-self.shelf) (g.F.Shelf.asked c.write.new.self)) before.slot
-          (record { made = wrote.live; slots = wrote.slots; reading = wrote.reading; asked = wrote.asked }));
+      writes = writes_then before.writes (record { slot = refl; made = wrote.live; slots = wrote.slots; reading = wrote.reading; counted = record { never_falls = wrote.writing.never_falls; ok = wrote.writing.ok; failed = tt }; asked = wrote.asked });
       kept = λ files first reading name all is.
           let more = subst (λ (l : List ℕ). AppendsTo (g.F.Shelf.files c.loop-self.shelf) (g.F.Shelf.files c.write.new.self) (name_in slots k) (take c.in_ok-count.count l)) piece wrote.appended in
           let written = writing_more files _ _ first _ _ reading _ _ _ name all c.in_ok-count.count (before.kept files first reading name all is) more wrote.live wrote.slots wrote.reading in

@@ -1,5 +1,9 @@
-use Rattle.capture_io.proofs.Ending.{after_weaker}
+use Rattle.avtp_base.specs.Files.{left_in}
+use Rattle.capture_io.specs.Source.{slot_of}
+use Rattle.capture_io.proofs.Giving.{same_slot}
 use Rattle.capture_io.proofs.source.Source.step.Goals as goal
 
-pub returns-in-Some-clause-ends : goal.returns-in-Some-clause-ends
-returns-in-Some-clause-ends g c limit bytes records fed = after_weaker limit bytes ⊥ _ _ records (λ no. absurd no) (c.in-Some.ensures.refused limit bytes _ records fed)
+pub returns-clause-on : goal.returns-clause-on
+returns-clause-on g c =
+    let left = left_in (g.F.Shelf.slots c.args.shelf.now) in
+    same_slot left (c.feed_piece.ensures (left (slot_of c.args.self.now)) (g.F.Shelf.reading_faults c.args.shelf.now))
