@@ -10,7 +10,7 @@ use Rattle.avtp_words.specs.declared.command.Command.{Command}
 use Rattle.avtp_words.specs.declared.command.Offence.{Offence}
 use Rattle.avtp_words.specs.declared.talk.Kind.{Kind}
 use Rattle.avtp_words.specs.declared.talk.Kind.TheVariants as words
-use Rattle.avtp_words.specs.Grammar.{FitsKind, IsCommandLine, Request, show, listen, talk, Talking}
+use Rattle.avtp_words.specs.Grammar.{FitsKind, IsCommandLine, Request, show, check, listen, talk, Talking}
 use Rattle.avtp_words.specs.Number.{IsNumber}
 use Rattle.avtp_words.specs.Options.{value_in}
 use Rattle.avtp_tool.specs.Run.{IsRequest}
@@ -50,6 +50,7 @@ is_talked words.Am824 = tt
 -- what words ask for is within its bounds
 pub requested : (words : List (List ℕ)) (request : Request) → IsCommandLine words request → IsRequest request
 requested words (show limit file) line = (given_within (value_in (codes "--limit") line.settings) 1 (2 ^ 40) (2 ^ 40) limit (omega arith) (omega arith) line.limit_given).1
+requested words (check limit names) line = (given_within (value_in (codes "--limit") line.settings) 1 (2 ^ 40) (2 ^ 40) limit (omega arith) (omega arith) line.limit_given).1
 requested words (listen asked) line =
     let buffer = given_within (value_in (codes "--buffer") line.settings) 1 65536 4096 asked.buffer (omega arith) (omega arith) line.buffer in
     let room = given_within (value_in (codes "--room") line.settings) 1 (2 ^ 30) (2 ^ 26) asked.room (omega arith) (omega arith) line.room in
@@ -74,7 +75,7 @@ requested words (talk asked) (line, rules) =
       some_lead = lead.0;
       lead = lead.1;
       restart = restarts (value_in (codes "--restart") line.settings) asked.restart asked.jump line.restart jump;
-      crf = refl;
+      crf = tt;
     }
 
 -- words that were read have no offence

@@ -18,20 +18,20 @@ use Rattle.capture_io.specs.Ends.{at_end, EndsAt, end_of}
 use Rattle.capture_io.proofs.Ending.{at_end_is}
 use Rattle.avtp_text.specs.Listen.{capture_line, list_lines}
 use Rattle.avtp_text.specs.Notices.{limit_line}
-use Rattle.avtp_words.specs.Grammar.{Listening, Request, show, listen, talk}
+use Rattle.avtp_words.specs.Grammar.{Listening, Request, show, check, listen, talk}
 use Rattle.avtp_tool.specs.declared.status.Status.{Status}
 use Rattle.avtp_tool.specs.declared.status.Status.TheVariants as status
-use Rattle.avtp_tool.specs.Listen.{counts_in, FileOutcome, file_status, file_text, HasHeadline, heard_limit, heard_lines, heard_text, last_line, listen_report, listen_status, no_clock, plan_of, PrintsHeadline, shown_in}
-use Rattle.avtp_tool.specs.Outcome.{InOrder, in_order_status, in_order_text, is_done}
-use Rattle.avtp_tool.specs.Run.{Outcome, report_for, status_for}
-use Rattle.avtp_tool.specs.Show.{ShowOutcome, show_report, show_status, show_text}
-use Rattle.avtp_tool.specs.Status.{status_of}
+use Rattle.avtp_tool.specs.Check.{check_plan}
+use Rattle.avtp_tool.specs.Listen.{HasHeadline, counts_in, heard_limit, heard_lines, heard_text, last_line, listen_plan, listen_report, listen_status, no_clock, plan_of, PrintsHeadline, shown_in}
+use Rattle.avtp_tool.specs.Outcome.{is_done}
+use Rattle.avtp_tool.specs.Reading.{FileOutcome, file_status, file_text, InOrder, in_order_read, in_order_status, in_order_text, joined, one_outcome, one_status, one_text, PlanOutcome, plan_read, plan_status, plan_text, ReadPlan, Report}
+use Rattle.avtp_tool.specs.Run.{came_for, Outcome, report_for, status_for, talk_came}
+use Rattle.avtp_tool.specs.Show.{show_plan}
 use Rattle.avtp_tool.specs.Talk.{line_by, status_by, TalkedOutcome, TalkOutcome, talk_plan, talk_report, talk_status}
-use Rattle.avtp_tool.proofs.Heard.{file_here}
-use Rattle.avtp_tool.proofs.InOrder.{not_done, order_here}
-use Rattle.avtp_tool.proofs.Shown.{show_here}
+use Rattle.avtp_tool.proofs.InOrder.{order_here, rest_done}
+use Rattle.avtp_tool.proofs.OneFile.{file_here}
 
--- ---- one capture
+-- ---- files
 
 by_end : (limit : ℕ) (bytes prefix : List ℕ) (fault : Type 0) (how : End) → (fault → ⊥) → EndsAt limit (Some bytes) fault how prefix → (how ≡ end_of limit bytes) × (prefix ≡ take limit bytes)
 by_end limit bytes prefix fault end.Whole none ends = ends
@@ -39,37 +39,38 @@ by_end limit bytes prefix fault (end.Refused refusal) none ends = ends
 by_end limit bytes prefix fault end.ReadFault none ends = absurd (none ends.0)
 by_end limit bytes prefix fault end.Limit none ends = ends
 
-complete_at : (text : List Record → End → List ℕ) (limit : ℕ) (bytes prefix : List ℕ) (how : End) (ended : Status) (printed : List ℕ) → (how ≡ end_of limit bytes) × (prefix ≡ take limit bytes) → ended ≡ status_of how → printed ≡ text (whole_records prefix) how
-    → (ended ≡ status_of (end_of limit bytes)) × (printed ≡ text (whole_records (take limit bytes)) (end_of limit bytes))
-complete_at text limit bytes prefix how ended printed (at, here) status is =
-    (status ∙ ap status_of at, is ∙ ap (λ (p : List ℕ). text (whole_records p) how) here ∙ ap (λ (h : End). text (whole_records (take limit bytes)) h) at)
-
-complete_show : (limit : ℕ) (told : Option (List ℕ)) (fault : Type 0) (ended : Status) (text : List ℕ) → (fault → ⊥) → ShowOutcome limit told fault ended text → (ended ≡ show_status limit told) × (text ≡ show_report limit told)
-complete_show limit None fault ended text none o =
-    (o.status ∙ ap status_of o.ends.0, o.printed ∙ ap (λ (p : List ℕ). show_text limit (whole_records p) o.how) o.ends.1 ∙ ap (λ (h : End). show_text limit (whole_records []) h) o.ends.0)
-complete_show limit (Some bytes) fault ended text none o = complete_at (show_text limit) limit bytes o.prefix o.how ended text (by_end limit bytes o.prefix fault o.how none o.ends) o.status o.printed
-
-complete_file : (asked : Listening) (told : Option (List ℕ)) (fault : Type 0) (name : List ℕ) (ended : Status) (text : List ℕ) → (fault → ⊥) → FileOutcome asked told fault name ended text → (ended ≡ file_status told) × (text ≡ file_text asked told name)
-complete_file asked None fault name ended text none o = o
-complete_file asked (Some bytes) fault name ended text none (inl heard) =
-    complete_at (heard_text asked name) heard_limit bytes heard.prefix heard.how ended text (by_end heard_limit bytes heard.prefix fault heard.how none heard.ends) heard.status heard.printed
-complete_file asked (Some bytes) fault name ended text none (inr unopened) = absurd (none unopened.0)
-
--- ---- captures in order
+complete_file : (report : Report) (limit : ℕ) (told : Option (List ℕ)) (fault : Type 0) (ended : Status) (text : List ℕ) → (fault → ⊥) → FileOutcome report limit told fault ended text → (ended ≡ file_status report limit told) × (text ≡ file_text report limit told)
+complete_file report limit None fault ended text none o = o
+complete_file report limit (Some bytes) fault ended text none (inl read) =
+    let at = by_end limit bytes read.prefix fault read.how none read.ends in (
+      read.status ∙ ap (λ (p : List ℕ). report.status (whole_records p) read.how) at.1 ∙ ap (λ (h : End). report.status (whole_records (take limit bytes)) h) at.0,
+      read.printed ∙ ap (λ (p : List ℕ). report.text (whole_records p) read.how) at.1 ∙ ap (λ (h : End). report.text (whole_records (take limit bytes)) h) at.0,
+    )
+complete_file report limit (Some bytes) fault ended text none (inr unopened) = absurd (none unopened.0)
 
 complete_order : (one : List ℕ → Status → List ℕ → Type 0) (ends : List ℕ → Status) (text : List ℕ → List ℕ) → ((name : List ℕ) (ended : Status) (printed : List ℕ) → one name ended printed → (ended ≡ ends name) × (printed ≡ text name))
-    → (names : List (List ℕ)) (ended : Status) (printed : List ℕ) → InOrder one names ended printed → (ended ≡ in_order_status ends names) × (printed ≡ in_order_text ends text names)
-unfolding InOrder in_order_status in_order_text
-complete_order one ends text each [] ended printed order = order
-complete_order one ends text each (name ∷ names) ended printed (inl (other, outcome)) =
+    → (names read : List (List ℕ)) (ended : Status) (printed : List ℕ) → InOrder one names read ended printed → (read ≡ in_order_read ends names) × (ended ≡ in_order_status ends names) × (printed ≡ in_order_text ends text names)
+unfolding InOrder in_order_read in_order_status in_order_text
+complete_order one ends text each [] read ended printed order = order
+complete_order one ends text each (name ∷ names) read ended printed (inl (stops, came, outcome)) =
     let same = each name ended printed outcome in
-    let stops : is_done (ends name) ≡ false = not_done (ends name) (λ done. other (same.0 ∙ done)) in
-    (rw stops same.0, rw stops (same.1 ∙ sym (append-nil (text name))))
-complete_order one ends text each (name ∷ names) ended printed (inr (first, rest, outcome, order, is)) =
-    let same = each name status.Done first outcome in
-    let goes_on : is_done (ends name) ≡ true = subst (λ (s : Status). is_done s ≡ true) same.0 refl in
-    let more = complete_order one ends text each names ended rest order in
-    (rw goes_on more.0, rw goes_on (is ∙ ap (λ (t : List ℕ). t ++ rest) same.1 ∙ ap (λ (t : List ℕ). text name ++ t) more.1))
+    let here : is_done (ends name) ≡ false = ap is_done (sym same.0) ∙ stops in
+    (rw here came, rw here same.0, rw here (same.1 ∙ sym (append-nil (text name))))
+complete_order one ends text each (name ∷ names) read ended printed (inr (others, first, rest, here, more, goes, outcome, order, came, is, all)) =
+    let same = each name first here outcome in
+    let on : is_done (ends name) ≡ true = ap is_done (sym same.0) ∙ goes in
+    let next = complete_order one ends text each names others rest more order in (
+      rw on (came ∙ ap (λ (ns : List (List ℕ)). name ∷ ns) next.0),
+      rw on (is ∙ ap (λ (s : Status). joined s rest) same.0 ∙ ap (λ (s : Status). joined (ends name) s) next.1),
+      rw on (all ∙ ap (λ (t : List ℕ). t ++ more) same.1 ∙ ap (λ (t : List ℕ). text name ++ t) next.2),
+    )
+
+plan_here : (plan : ReadPlan) (files : Files) (fault : Type 0) → PlanOutcome plan files fault (plan_read plan files) (plan_status plan files) (plan_text plan files)
+plan_here plan files fault = order_here (one_outcome plan files fault) (one_status plan files) (one_text plan files) (λ name. file_here (plan.report name) plan.limit (files name) fault) plan.names
+
+complete_plan : (plan : ReadPlan) (files : Files) (fault : Type 0) (came : List (List ℕ)) (ended : Status) (text : List ℕ) → (fault → ⊥) → PlanOutcome plan files fault came ended text → (came ≡ plan_read plan files) × (ended ≡ plan_status plan files) × (text ≡ plan_text plan files)
+complete_plan plan files fault came ended text none o =
+    complete_order (one_outcome plan files fault) (one_status plan files) (one_text plan files) (λ name s t outcome. complete_file (plan.report name) plan.limit (files name) fault s t none outcome) plan.names came ended text o
 
 -- ---- an input
 
@@ -115,36 +116,39 @@ complete_input plan (Some bytes) cause ended text unfaulty o = complete_talk pla
 
 -- ---- any request
 
-pub outcome_here : (request : Request) (files : Files) (cause : Type 0) → Outcome request files cause (status_for request files) (report_for request files)
-outcome_here (show limit file) files cause = show_here limit (files file) cause
-outcome_here (listen asked) files cause =
-    order_here (λ name. FileOutcome asked (files name) cause name) (λ name. file_status (files name)) (λ name. file_text asked (files name) name) (λ name. file_here asked (files name) cause name) asked.files
-outcome_here (talk asked) files cause = talk_here (talk_plan asked) (files asked.input) cause
+pub outcome_here : (request : Request) (files : Files) (cause : Type 0) → Outcome request files cause (came_for request files) (status_for request files) (report_for request files)
+outcome_here (show limit file) files cause = plan_here (show_plan limit file) files cause
+outcome_here (check limit names) files cause = plan_here (check_plan limit names) files cause
+outcome_here (listen asked) files cause = plan_here (listen_plan asked) files cause
+outcome_here (talk asked) files cause = (refl, talk_here (talk_plan asked) (files asked.input) cause)
 
-pub complete_of : (request : Request) (files : Files) (cause : Type 0) (ended : Status) (text : List ℕ) → (cause → ⊥) → Outcome request files cause ended text → (ended ≡ status_for request files) × (text ≡ report_for request files)
-complete_of (show limit file) files cause ended text none o = complete_show limit (files file) cause ended text none o
-complete_of (listen asked) files cause ended text none o =
-    complete_order (λ name. FileOutcome asked (files name) cause name) (λ name. file_status (files name)) (λ name. file_text asked (files name) name) (λ name e t outcome. complete_file asked (files name) cause name e t none outcome) asked.files ended text o
-complete_of (talk asked) files cause ended text none o = complete_input (talk_plan asked) (files asked.input) cause ended text none o
+pub complete_of : (request : Request) (files : Files) (cause : Type 0) (came : List (List ℕ)) (ended : Status) (text : List ℕ) → (cause → ⊥) → Outcome request files cause came ended text
+    → (came ≡ came_for request files) × (ended ≡ status_for request files) × (text ≡ report_for request files)
+complete_of (show limit file) files cause came ended text none o = complete_plan (show_plan limit file) files cause came ended text none o
+complete_of (check limit names) files cause came ended text none o = complete_plan (check_plan limit names) files cause came ended text none o
+complete_of (listen asked) files cause came ended text none o = complete_plan (listen_plan asked) files cause came ended text none o
+complete_of (talk asked) files cause came ended text none o =
+    let same = complete_input (talk_plan asked) (files asked.input) cause ended text none o.1 in
+    (o.0 ∙ ap (talk_came asked) same.0, same.0, same.1)
 
 -- ---- the headline
 
 -- the text of files that are read to their end, and of those after them
-text_split : (ends : List ℕ → Status) (text : List ℕ → List ℕ) (earlier more : List (List ℕ)) → in_order_status ends earlier ≡ status.Done → in_order_text ends text (earlier ++ more) ≡ in_order_text ends text earlier ++ in_order_text ends text more
+text_split : (ends : List ℕ → Status) (text : List ℕ → List ℕ) (earlier more : List (List ℕ)) → is_done (in_order_status ends earlier) ≡ true → in_order_text ends text (earlier ++ more) ≡ in_order_text ends text earlier ++ in_order_text ends text more
 unfolding in_order_status in_order_text
 text_split ends text [] more done = refl
 text_split ends text (name ∷ earlier) more done =
-    elim (is_done (ends name)) as (λ b. is_done (ends name) ≡ b → (if b then in_order_status ends earlier else ends name) ≡ status.Done
+    elim (is_done (ends name)) as (λ b. is_done (ends name) ≡ b → is_done (if b then joined (ends name) (in_order_status ends earlier) else ends name) ≡ true
     → text name ++ (if b then in_order_text ends text (earlier ++ more) else []) ≡ (text name ++ (if b then in_order_text ends text earlier else [])) ++ in_order_text ends text more) [
-      | true ↦ λ is all. ap (λ (t : List ℕ). text name ++ t) (text_split ends text earlier more all) ∙ sym (append_assoc (text name) (in_order_text ends text earlier) (in_order_text ends text more))
-      | false ↦ λ is all. absurd (let t : is_done (ends name) ≡ true = subst (λ (s : Status). is_done s ≡ true) (sym all) refl in cc)
+      | true ↦ λ is all. ap (λ (t : List ℕ). text name ++ t) (text_split ends text earlier more (rest_done (ends name) (in_order_status ends earlier) all)) ∙ sym (append_assoc (text name) (in_order_text ends text earlier) (in_order_text ends text more))
+      | false ↦ λ is all. absurd (let t : true ≡ false = sym all ∙ is in cc)
     ] refl done
 
 lines_at : (asked : Listening) (records : List Record) (refused : Option Refusal) → heard_lines (shown_in asked records) (counts_in asked records) (at_end refused) ≡ list_lines (shown_in asked records) ++ last_line (counts_in asked records) refused
 lines_at asked records None = refl
 lines_at asked records (Some refusal) = refl
 
-prints_headline : (asked : Listening) (name : List ℕ) (shift : ℤ) (p : PacketJournal) (bytes : List ℕ) → length bytes ≤ heard_limit → HearsTalker shift p (plan_of asked) bytes → PrintsHeadline asked name shift p bytes (file_text asked (Some bytes) name)
+prints_headline : (asked : Listening) (name : List ℕ) (shift : ℤ) (p : PacketJournal) (bytes : List ℕ) → length bytes ≤ heard_limit → HearsTalker shift p (plan_of asked) bytes → PrintsHeadline asked name shift p bytes (file_text (listen_report asked name) heard_limit (Some bytes))
 prints_headline asked name shift p bytes fits hears = record {
   shown = shown_in asked (whole_records bytes);
   keeps = headline no_clock shift p (plan_of asked) bytes hears;
@@ -157,17 +161,17 @@ rest_text : (ends : List ℕ → Status) (text : List ℕ → List ℕ) (name : 
 unfolding in_order_text
 rest_text ends text name later = (if is_done (ends name) then in_order_text ends text later else [], refl)
 
-pub has_headline : (asked : Listening) (files : Files) (earlier later : List (List ℕ)) (name bytes : List ℕ) (shift : ℤ) (p : PacketJournal) → asked.files ≡ earlier ++ name ∷ later → listen_status files earlier ≡ status.Done
-    → files name ≡ Some bytes → length bytes ≤ heard_limit → HearsTalker shift p (plan_of asked) bytes → HasHeadline asked name shift p bytes (listen_report asked files asked.files)
+pub has_headline : (asked : Listening) (files : Files) (earlier later : List (List ℕ)) (name bytes : List ℕ) (shift : ℤ) (p : PacketJournal) → asked.files ≡ earlier ++ name ∷ later → listen_status asked files earlier ≡ status.Done
+    → files name ≡ Some bytes → length bytes ≤ heard_limit → HearsTalker shift p (plan_of asked) bytes → HasHeadline asked name shift p bytes (plan_text (listen_plan asked) files)
 has_headline asked files earlier later name bytes shift p split done told fits hears =
-    let ends = λ (n : List ℕ). file_status (files n) in
-    let text = λ (n : List ℕ). file_text asked (files n) n in
+    let ends = one_status (listen_plan asked) files in
+    let text = one_text (listen_plan asked) files in
     let rest = rest_text ends text name later in
-    let here : text name ≡ file_text asked (Some bytes) name = ap (λ (t : Option (List ℕ)). file_text asked t name) told in
+    let here : text name ≡ file_text (listen_report asked name) heard_limit (Some bytes) = ap (file_text (listen_report asked name) heard_limit) told in
     record {
       before = in_order_text ends text earlier;
-      here = file_text asked (Some bytes) name;
+      here = file_text (listen_report asked name) heard_limit (Some bytes);
       after = rest.0;
       prints = prints_headline asked name shift p bytes fits hears;
-      split = ap (in_order_text ends text) split ∙ text_split ends text earlier (name ∷ later) done ∙ ap (λ (t : List ℕ). in_order_text ends text earlier ++ t) (rest.1 ∙ ap (λ (t : List ℕ). t ++ rest.0) here);
+      split = ap (in_order_text ends text) split ∙ text_split ends text earlier (name ∷ later) (ap is_done done) ∙ ap (λ (t : List ℕ). in_order_text ends text earlier ++ t) (rest.1 ∙ ap (λ (t : List ℕ). t ++ rest.0) here);
     }

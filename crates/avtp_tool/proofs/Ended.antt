@@ -1,5 +1,5 @@
 -- How a run ends whose text was written to its end, or not.
-use Rattle.std.proofs.Common.{◌≡◌, ◌≢◌, ℕ, List, Option, Some, None, Result, Ok, Err, refl, sym, ap, subst, ◌∙◌, arith}
+use Rattle.std.proofs.Common.{◌≡◌, ◌≢◌, ℕ, List, Option, Some, None, Result, Ok, Err, true, false, refl, sym, ap, subst, ◌∙◌, arith}
 use Rattle.std.specs.Prelude.{IfOk}
 use Rattle.std.proofs.lemmas.List.{append-nil}
 use Rattle.avtp_base.specs.declared.failed.Failed.{Failed}
@@ -8,11 +8,11 @@ use Rattle.avtp_base.specs.Files.{Files, KeepsFiles}
 use Rattle.avtp_base.specs.Told.{Appends}
 use Rattle.avtp_text.specs.Written.{AppendsPrefix, written}
 use Rattle.avtp_text.proofs.Printing.{prefix_none, prefix_whole}
-use Rattle.avtp_words.specs.Grammar.{output_of, Request, show, listen, talk, Talking}
+use Rattle.avtp_words.specs.Grammar.{output_of, Request, show, check, listen, talk, Talking}
 use Rattle.avtp_tool.specs.declared.status.Status.{Status}
 use Rattle.avtp_tool.specs.declared.status.Status.TheVariants as status
 use Rattle.avtp_tool.specs.Made.{KeepsFilesBut}
-use Rattle.avtp_tool.specs.Outcome.{AsksFor, EndsWith, Finishes, Tells}
+use Rattle.avtp_tool.specs.Outcome.{Asks, AsksFor, EndsWith, Finishes, is_done, IsDone, TellsRun}
 use Rattle.avtp_tool.specs.Run.{MakesFrom, MakesOf}
 use Rattle.avtp_tool.proofs.Outcomes.{ok_same}
 
@@ -22,12 +22,12 @@ pub quiet_not : (before after : ℕ) → IsQuiet before after → Rose before af
 quiet_not before after quiet rose = omega (arith, quiet, rose)
 
 -- the run ended with a status of its own, so the text is whole
-pub told_whole : {Outcome : Status → List ℕ → Type 0} {before now : Option (List ℕ)} {ended : Result Status Failed} (result : Status) → ended ≡ Ok result → result ≢ status.Memory → result ≢ status.WriteFault → Tells Outcome before now ended
-    → (text : List ℕ) × Outcome result text × Appends before now text
-told_whole {Outcome} {before} {now} result same memory write tells =
-    let t = subst (Tells Outcome before now) same tells in
+pub told_whole : {Outcome : List (List ℕ) → Status → List ℕ → Type 0} {a b : List (List ℕ) → Type 0} {before now : Option (List ℕ)} {ended : Result Status Failed} (result : Status) → ended ≡ Ok result → result ≢ status.Memory → result ≢ status.WriteFault
+    → TellsRun Outcome a b before now ended → (came : List (List ℕ)) × (text : List ℕ) × Outcome came result text × Appends before now text × Asks came a b
+told_whole {Outcome} {a} {b} {before} {now} result same memory write tells =
+    let t = subst (TellsRun Outcome a b before now) same tells in
     let whole = t.whole memory write in
-    (t.text, subst (λ (s : Status). Outcome s t.text) (sym whole.0) t.outcome, whole.1)
+    (t.came, t.text, subst (λ (s : Status). Outcome t.came s t.text) (sym whole.0) t.outcome, whole.1, whole.2)
 
 -- and so is its last line
 pub ends_whole : {h h' : Option (List ℕ)} {w w' : List ℕ} {f f' : ℕ} {ended : Result Status Failed} {s : Status} {line : List ℕ} (result : Status) → ended ≡ Ok result → EndsWith s h h' w w' f f' ended line
@@ -46,6 +46,12 @@ not_write result other is differs e = differs (sym is ∙ e)
 -- it ended with this status before, where that is no failed write
 pub ended_as : {h h' : Option (List ℕ)} {w w' : List ℕ} {f f' : ℕ} {ended : Result Status Failed} {result : Status} (other : Status) → other ≢ status.WriteFault → Finishes h h' w w' f f' ended result → result ≡ other → ended ≡ Ok other
 ended_as {result = result} other differs finishes is = (finishes.whole (not_write result other is differs)).0 ∙ ap (λ (s : Status). Ok s) is
+
+-- all was done before
+pub done_as : {h h' : Option (List ℕ)} {w w' : List ℕ} {f f' : ℕ} {ended : Result Status Failed} {result : Status} → Finishes h h' w w' f f' ended result → is_done result ≡ true → IsDone ended
+done_as {result = result} finishes done =
+    let other : result ≢ status.WriteFault = λ e. (let t : false ≡ true = ap is_done (sym e) ∙ done in cc) in
+    subst IsDone (sym (finishes.whole other).0) done
 
 -- it did not end with a failed write
 pub not_ended : {ended : Result Status Failed} (result other : Status) → ended ≡ Ok result → result ≢ other → ended ≡ Ok other → ⊥
@@ -73,6 +79,7 @@ untouched_from asked (Some bytes) f g result done write memory makes = makes.unt
 
 untouched_of : (request : Request) (all : Files) (f g : Option Files) (result : Status) → result ≢ status.Done → result ≢ status.WriteFault → result ≢ status.Memory → MakesOf request all f g (Ok result) → KeepsFiles f g
 untouched_of (show limit file) all f g result done write memory makes = makes
+untouched_of (check limit names) all f g result done write memory makes = makes
 untouched_of (listen asked) all f g result done write memory makes = makes
 untouched_of (talk asked) all f g result done write memory makes = untouched_from asked (all asked.input) f g result done write memory makes
 

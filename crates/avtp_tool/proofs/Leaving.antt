@@ -1,5 +1,5 @@
 -- What reading leaves, of calls that follow each other.
-use Rattle.std.proofs.Common.{◌≡◌, ℕ, List, [], ◌∷◌, Option, Some, None, Result, Ok, Err, sym, subst, refl, arith, inr, ◌∙◌}
+use Rattle.std.proofs.Common.{◌≡◌, ℕ, List, [], ◌∷◌, Option, Some, None, Result, Ok, Err, sym, subst, refl, arith, inl, inr, ◌∙◌}
 use Rattle.std.specs.Prelude.{◌⊎◌, ◌≢◌, IfOk}
 use Rattle.avtp_base.specs.declared.failed.Failed.{Failed}
 use Rattle.avtp_tool.specs.declared.status.Status.{Status}
@@ -71,3 +71,9 @@ end_words end.Limit = λ e. cc
 pub ends_no_words : (result : Result Status Failed) (how : End) → IfOk result (λ s. s ≡ status_of how) → result ≡ Ok status.Words → ⊥
 ends_no_words (Ok s) how is e = end_words how (let same : s ≡ status.Words = cc in sym is ∙ same)
 ends_no_words (Err f) how is e = absurd cc
+
+-- it ended for want of memory, or as its reading did
+pub heard_status : (result : Result Status Failed) (how : End) → IfOk result (λ s. (s ≡ status.Memory) ⊎ (s ≡ status_of how)) → IfOk result (λ s. (s ≢ status.WriteFault) × (s ≢ status.Words))
+heard_status (Ok s) how (inl memory) = (λ e. let t : status.Memory ≡ status.WriteFault = sym memory ∙ e in cc, λ e. let t : status.Memory ≡ status.Words = sym memory ∙ e in cc)
+heard_status (Ok s) how (inr is) = (λ e. end_writes how (sym is ∙ e), λ e. end_words how (sym is ∙ e))
+heard_status (Err e) how is = tt

@@ -1,9 +1,14 @@
 pub mod Outcomes
 pub mod Leaving
+pub mod OneFile
+pub mod DoesFile
+pub mod Lines
 pub mod Shown
+pub mod CheckedTo
 pub mod Heard
 pub mod InOrder
-pub mod Listened
+pub mod ReadFiles
+pub mod PlanRuns
 pub mod Finished
 pub mod Complete
 pub mod Asked

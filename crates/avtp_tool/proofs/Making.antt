@@ -1,6 +1,6 @@
 -- What a run leaves of the file that it makes.
-use Rattle.std.proofs.Common.{◌≡◌, ℕ, ◌≤◌, List, [], ◌∷◌, ◌++◌, Option, Some, None, Result, Ok, Err, true, false, inl, inr, refl, sym, ap, subst, ◌∙◌, append-nil, append_assoc, arith}
-use Rattle.std.specs.Prelude.{◌≢◌, IfOk, IsErr, is_err}
+use Rattle.std.proofs.Common.{◌≡◌, ℕ, ◌≤◌, take, if◌then◌else◌, List, [], ◌∷◌, ◌++◌, Option, Some, None, Result, Ok, Err, true, false, inl, inr, refl, sym, ap, subst, ◌∙◌, append-nil, append_assoc, arith}
+use Rattle.std.specs.Prelude.{◌≢◌, ◌⊎◌, IfOk, IsErr, IsOk, is_err}
 use Rattle.avtp_base.specs.declared.failed.Failed.{Failed}
 use Rattle.avtp_base.specs.declared.failed.OpenFault.{OpenFault}
 use Rattle.avtp_base.specs.declared.failed.OpenFault.TheVariants as open_fault
@@ -8,8 +8,8 @@ use Rattle.avtp_base.specs.Faults.{IsCounted, Rose}
 use Rattle.avtp_base.specs.Files.{Files, Slots, KeepsFiles, PutsFile}
 use Rattle.avtp_base.proofs.Files.{KeepsFiles-refl, KeepsFiles-puts, KeepsFiles-trans}
 use Rattle.capture_io.specs.Writing.{IsWriting, KeepsSlotsBut, MakesPrefix, PutsPrefix, Writing}
-use Rattle.avtp_tool.specs.Made.{IsWritingPart, KeepsFilesBut, Makes, MakesFile, unmade_as}
-use Rattle.avtp_tool.specs.Outcome.{AsksFor}
+use Rattle.avtp_tool.specs.Made.{CountsWriting, IsWritingPart, KeepsFilesBut, Makes, MakesFile, unmade_as}
+use Rattle.avtp_tool.specs.Outcome.{Asks, AsksFor, is_done, IsDone}
 use Rattle.avtp_tool.specs.Talk.{WritesOnly}
 use Rattle.avtp_tool.specs.declared.status.Status.{Status}
 use Rattle.avtp_tool.specs.declared.status.Status.TheVariants as status
@@ -121,14 +121,42 @@ makes_after {a} {b} {c} {name} {bytes} {result} keeps m = record {
 -- ---- all else that a run leaves
 
 -- the run never came to the file
-pub writes_none : {f : Option Files} {s : Slots} {r w : ℕ} {a : List (List ℕ) → Type 0} (name : List ℕ) (result : Result Status Failed) → (result ≡ Ok status.Done → ⊥) → (result ≡ Ok status.WriteFault → ⊥) → WritesOnly f f s s r r w w a a name result
+pub writes_none : {f : Option Files} {s : Slots} {r w : ℕ} {a : List (List ℕ) → Type 0} (name : List ℕ) (result : Result Status Failed) → (IsDone result → ⊥) → (result ≡ Ok status.WriteFault → ⊥) → WritesOnly f f s s r r w w a a name result
 writes_none {f} {s} {r} {w} {a} name result not_done not_failed = record {
   files = still f;
   slots = slots_still f s name;
   reading = refl;
   writing = record { never_falls = omega arith; failed = λ e. absurd (not_failed e); other = λ e. refl; unwritten = λ e. absurd cc };
   asked = asks_none a _ name not_done;
+  came = never result not_done;
 } where
   still : (files : Option Files) → KeepsFilesBut (Some name) files files
   still None = tt
   still (Some files) = λ other differs. refl
+
+  never : (x : Result Status Failed) → (IsDone x → ⊥) → IfOk x (λ s. s ≢ status.Memory → s ≢ status.WriteFault → Asks (if is_done s then name ∷ [] else []) a a)
+  never (Ok s) other = elim (is_done s) as (λ b. is_done s ≡ b → s ≢ status.Memory → s ≢ status.WriteFault → Asks (if b then name ∷ [] else []) a a) [
+    | true ↦ λ is. absurd (other is)
+    | false ↦ λ is memory write before stands. subst a (sym (append-nil before)) stands
+  ] refl
+  never (Err e) other = tt
+
+-- it came to the file, and all else is as it was
+pub writes_made : {f g : Option Files} {s t : Slots} {r q w x : ℕ} {a b : List (List ℕ) → Type 0} {bytes : List ℕ} (name : List ℕ) (made : Result Unit OpenFault) (result : Result Status Failed) → MakesFile f g s t r q w x a b name bytes made
+    → KeepsFilesBut (Some name) f g → CountsWriting (Some name) w x result → (IsDone result → IsOk made) → IfOk result (λ s. (s ≡ status.Memory) ⊎ ((s ≡ status.WriteFault) ⊎ (s ≡ status.Done))) → WritesOnly f g s t r q w x a b name result
+writes_made {a = a} {b} name made result makes files writing done ends = record {
+  files = files;
+  slots = makes.slots;
+  reading = makes.reading;
+  writing = writing;
+  asked = record { count = makes.asked.count; within = makes.asked.within; all = λ d. makes.asked.all (done d); asked = makes.asked.asked };
+  came = by_status result done ends;
+} where
+  asked_one : (count : ℕ) → count ≡ 1 → Asks (take count (name ∷ [])) a b → Asks (name ∷ []) a b
+  asked_one count is asks = subst (λ (n : ℕ). Asks (take n (name ∷ [])) a b) is asks
+
+  by_status : (x : Result Status Failed) → (IsDone x → IsOk made) → IfOk x (λ s. (s ≡ status.Memory) ⊎ ((s ≡ status.WriteFault) ⊎ (s ≡ status.Done))) → IfOk x (λ s. s ≢ status.Memory → s ≢ status.WriteFault → Asks (if is_done s then name ∷ [] else []) a b)
+  by_status (Ok s) done (inl is) = λ memory. absurd (memory is)
+  by_status (Ok s) done (inr (inl is)) = λ memory write. absurd (write is)
+  by_status (Ok s) done (inr (inr is)) = λ memory write. rw is (asked_one makes.asked.count (makes.asked.all (done (rw is refl))) makes.asked.asked)
+  by_status (Err e) done ends = tt

@@ -1,5 +1,5 @@
 -- What a run left of the text, in parts that follow each other.
-use Rattle.std.proofs.Common.{◌≡◌, ℕ, ◌≤◌, List, [], ◌∷◌, ◌++◌, Option, Some, None, Result, Ok, Err, inl, inr, refl, sym, subst, ◌∙◌, arith}
+use Rattle.std.proofs.Common.{◌≡◌, ℕ, ◌≤◌, List, [], ◌∷◌, ◌++◌, Option, Some, None, Result, Ok, Err, true, false, inl, inr, refl, sym, ap, subst, ◌∙◌, arith}
 use Rattle.std.specs.Prelude.{◌⊎◌, ◌≢◌, Contains, IfOk, IsErr, IsErrOf}
 use Rattle.avtp_base.specs.declared.failed.Failed.{Failed}
 use Rattle.avtp_base.specs.declared.failed.OpenFault.{OpenFault}
@@ -18,7 +18,7 @@ use Rattle.capture_io.specs.Ends.{CountsFault}
 use Rattle.avtp_tool.specs.Status.{status_of}
 use Rattle.avtp_tool.specs.declared.status.Status.{Status}
 use Rattle.avtp_tool.specs.declared.status.Status.TheVariants as status
-use Rattle.avtp_tool.specs.Outcome.{CountsReading, EndsUnopened, EndsWith, KeepsSink, Only, Tells}
+use Rattle.avtp_tool.specs.Outcome.{CountsReading, EndsUnopened, EndsWith, is_done, IsDone, KeepsSink, Only, Tells}
 
 -- ---- the sink
 
@@ -228,6 +228,22 @@ unopened_other {result = result} fault other no_memory no_fault ends e =
       by_fault : (r : Result Status Failed) → IfOk r (λ s. s ≡ status.ReadFault) → r ≡ Ok other → ⊥
       by_fault (Ok s) is e = no_fault (sym is ∙ ok_same (Ok s) s other refl e)
       by_fault (Err x) is e = absurd cc
+
+-- ---- runs in which not all was done
+
+pub undone_by : (result : Result Status Failed) (ended : Status) → is_done ended ≡ false → IfOk result (λ s. s ≡ ended) → IsDone result → ⊥
+undone_by (Ok s) ended stops is done = let t : true ≡ false = sym done ∙ (ap is_done is ∙ stops) in cc
+undone_by (Err e) ended stops is done = done
+
+pub undone_as : (result : Result Status Failed) (ended : Status) → is_done ended ≡ false → result ≡ Ok ended → IsDone result → ⊥
+undone_as result ended stops is = undone_by result ended stops (subst (λ (r : Result Status Failed). IfOk r (λ s. s ≡ ended)) (sym is) refl)
+
+pub unopened_undone : {h h' : Option (List ℕ)} {w w' : List ℕ} {f f' : ℕ} (fault : OpenFault) (result : Result Status Failed) → EndsUnopened fault h h' w w' f f' result → IsDone result → ⊥
+unopened_undone fault result ends =
+    elim (memory_or fault) [
+      | inl is ↦ undone_as result status.Memory refl (ends.memory is).0
+      | inr opened ↦ undone_by result status.ReadFault refl (ends.other opened).status
+    ]
 
 pub unopened_writes : {h h' : Option (List ℕ)} {w w' : List ℕ} {f f' : ℕ} {result : Result Status Failed} (fault : OpenFault) → EndsUnopened fault h h' w w' f f' result → result ≡ Ok status.WriteFault → ⊥
 unopened_writes fault ends e = unopened_other fault status.WriteFault (λ t. cc) (λ t. cc) ends e

@@ -1,11 +1,12 @@
 -- The run of `talk`, over an input that was opened or not.
-use Rattle.std.proofs.Common.{◌≡◌, ◌≢◌, ℕ, suc, List, [], ◌∷◌, ◌++◌, take, Option, Some, None, Result, Ok, Err, inl, refl, sym, ap, subst, ◌∙◌, append_assoc, arith}
+use Rattle.std.proofs.Common.{◌≡◌, ◌≢◌, ℕ, suc, List, [], ◌∷◌, ◌++◌, take, Option, Some, None, Result, Ok, Err, true, false, if◌then◌else◌, inl, refl, sym, ap, subst, ◌∙◌, append_assoc, arith}
 use Rattle.std.specs.Prelude.{IfOk, IsErrOf, IsSome}
 use Rattle.avtp_base.specs.declared.failed.Failed.{Failed}
 use Rattle.avtp_base.specs.declared.failed.OpenFault.{OpenFault}
 use Rattle.avtp_base.specs.declared.failed.OpenFault.TheVariants as open_fault
 use Rattle.avtp_base.specs.Faults.{Rose}
 use Rattle.avtp_base.specs.Files.{Files, Slots, IsMissing, KeepsFiles, KeepsSlots, name_in}
+use Rattle.avtp_base.specs.Told.{Appends}
 use Rattle.capture_io.specs.declared.contents.Contents.{Contents}
 use Rattle.capture_io.specs.declared.end.Stop.{Stop}
 use Rattle.capture_io.specs.declared.end.Stop.TheVariants as stop
@@ -20,13 +21,47 @@ use Rattle.avtp_words.specs.Grammar.{talk, Talking}
 use Rattle.avtp_tool.specs.declared.status.Status.{Status}
 use Rattle.avtp_tool.specs.declared.status.Status.TheVariants as status
 use Rattle.avtp_tool.specs.Made.{CountsWriting, KeepsFilesBut, Makes}
-use Rattle.avtp_tool.specs.Outcome.{AsksFor, EndsUnopened, Tells}
-use Rattle.avtp_tool.specs.Run.{MakesFrom, Runs}
+use Rattle.avtp_tool.specs.Outcome.{Asks, AsksFor, EndsUnopened, is_done, IsDone, Tells, TellsRun}
+use Rattle.avtp_tool.specs.Run.{MakesFrom, Runs, talk_came}
 use Rattle.avtp_tool.specs.Talk.{FaultStops, TalkedOutcome, TalkOutcome, talk_plan, talk_report, talk_status, WritesOnly}
 use Rattle.avtp_tool.proofs.Complete.{talk_here}
 use Rattle.avtp_tool.proofs.Making.{makes_after, makes_none}
-use Rattle.avtp_tool.proofs.Outcomes.{counts_unopened, tells_unopened, unopened_other, unopened_words, unopened_writes}
+use Rattle.avtp_tool.proofs.Outcomes.{counts_unopened, tells_unopened, unopened_other, unopened_undone, unopened_words, unopened_writes}
 use Rattle.avtp_tool.proofs.Talked.{read_counted, talks_unopened, tells_caused}
+
+-- ---- the names to which it came
+
+-- which names were asked for, by the status
+abbrev pub CameAs : Talking → Result Status Failed → (List (List ℕ) → Type 0) → (List (List ℕ) → Type 0) → Type 0
+CameAs asked result a b = IfOk result (λ s. s ≢ status.Memory → s ≢ status.WriteFault → Asks (talk_came asked s) a b)
+
+talk_tells : {a b : List (List ℕ) → Type 0} {before now : Option (List ℕ)} {result : Result Status Failed} (asked : Talking) (told : Option (List ℕ)) (fault : Type 0) → CameAs asked result a b → Tells (TalkOutcome (talk_plan asked) told fault) before now result
+    → TellsRun (λ came ended text. (came ≡ talk_came asked ended) × TalkOutcome (talk_plan asked) told fault ended text) a b before now result
+talk_tells {a} {b} {before} {now} {result} asked told fault came tells = record {
+  came = talk_came asked tells.ended;
+  ended = tells.ended;
+  text = tells.text;
+  outcome = (refl, tells.outcome);
+  whole = whole_at result came tells.whole;
+  part = tells.part;
+} where
+  whole_at : (r : Result Status Failed) → CameAs asked r a b → IfOk r (λ s. s ≢ status.Memory → s ≢ status.WriteFault → (s ≡ tells.ended) × Appends before now tells.text)
+      → IfOk r (λ s. s ≢ status.Memory → s ≢ status.WriteFault → (s ≡ tells.ended) × Appends before now tells.text × Asks (talk_came asked tells.ended) a b)
+  whole_at (Ok s) asks whole = λ memory write. let w = whole memory write in (w.0, w.1, subst (λ (x : Status). Asks (talk_came asked x) a b) w.0 (asks memory write))
+  whole_at (Err e) asks whole = tt
+
+came_unopened : (a b : List (List ℕ) → Type 0) (asked : Talking) (result : Result Status Failed) → Asks (asked.input ∷ []) a b → (IsDone result → ⊥) → CameAs asked result a b
+came_unopened a b asked (Ok s) asks not_done =
+    elim (is_done s) as (λ d. is_done s ≡ d → s ≢ status.Memory → s ≢ status.WriteFault → Asks (asked.input ∷ (if d then asked.output ∷ [] else [])) a b) [
+      | true ↦ λ is. absurd (not_done is)
+      | false ↦ λ is memory write. asks
+    ] refl
+came_unopened a b asked (Err e) asks not_done = tt
+
+came_opened : (a b c : List (List ℕ) → Type 0) (asked : Talking) (result : Result Status Failed) → Asks (asked.input ∷ []) a b → IfOk result (λ s. s ≢ status.Memory → s ≢ status.WriteFault → Asks (if is_done s then asked.output ∷ [] else []) b c) → CameAs asked result a c
+came_opened a b c asked (Ok s) first second = λ memory write before stands.
+    subst c (append_assoc before (asked.input ∷ []) (if is_done s then asked.output ∷ [] else [])) (second memory write (before ++ asked.input ∷ []) (first before stands))
+came_opened a b c asked (Err e) first second = tt
 
 -- ---- an input that was not opened
 
@@ -51,16 +86,16 @@ unopened_runs {f} {g} {s} {t} {r} {q} {w} {x} {a} {b} {h} {h'} {l} {l'} {n} {n'}
     let not_done = unopened_other why status.Done (λ e. cc) (λ e. cc) ends in
     let not_failed = unopened_writes why ends in
     record {
-      tells = λ all told some.
-          tells_unopened {T = Contents} {Outcome = TalkOutcome plan (all asked.input) (Rose r q)} why r q f asked.input (talk_status plan (all asked.input)) (talk_report plan (all asked.input)) (talk_here plan (all asked.input) (Rose r q))
-          (λ cause. talks_unopened plan r q f asked.input all told cause) (read_counted counts) missing ends;
+      tells = λ all told some. talk_tells asked (all asked.input) (Rose r q) (came_unopened a b asked result keeps.asked (unopened_undone why result ends))
+          (tells_unopened {T = Contents} {Outcome = TalkOutcome plan (all asked.input) (Rose r q)} why r q f asked.input (talk_status plan (all asked.input)) (talk_report plan (all asked.input)) (talk_here plan (all asked.input) (Rose r q))
+          (λ cause. talks_unopened plan r q f asked.input all told cause) (read_counted counts) missing ends);
       makes = λ all told. made_none asked (all asked.input) f g result keeps.files not_done;
       files = kept_but f g asked.output keeps.files;
       slots = slots_but g s t asked.output keeps.slots;
       counts = counts_unopened {T = Contents} why r q f asked.input (read_counted counts) missing ends;
       writing = record { never_falls = omega (arith, keeps.writing); failed = λ e. absurd (not_failed e); other = λ e. keeps.writing; unwritten = λ e. absurd cc };
       no_words = unopened_words why ends;
-      asks = record { count = 1; within = omega arith; all = λ e. absurd (not_done e); asked = keeps.asked };
+      asks = record { count = 1; within = omega arith; all = λ d. absurd (unopened_undone why result ends d); asked = keeps.asked };
     }
 
 -- ---- an input that was read
@@ -123,8 +158,9 @@ opened_runs {f} {g} {k} {s} {t} {u} {r} {q} {q'} {w} {x} {x'} {a} {b} {c} {befor
     record {
       tells = λ all told some.
           let input = read all told in
-          subst (λ (v : Option (List ℕ)). Tells (TalkOutcome plan v (Rose r q')) before now result) (sym input.1)
-          (tells_caused plan input.0 (contents.stop ≡ stop.Fault) (Rose r q') (rose_by contents.stop r q' counts) (tells input.0 input.2));
+          talk_tells asked (all asked.input) (Rose r q') (came_opened a b c asked result keeps.asked writes.came)
+          (subst (λ (v : Option (List ℕ)). Tells (TalkOutcome plan v (Rose r q')) before now result) (sym input.1)
+          (tells_caused plan input.0 (contents.stop ≡ stop.Fault) (Rose r q') (rose_by contents.stop r q' counts) (tells input.0 input.2)));
       makes = λ all told. let input = read all told in made_from asked (all asked.input) input.0 f g k result input.1 keeps.files (makes input.0 input.2);
       files = files_from f g k asked.output keeps.files writes.files;
       slots = slots_from g k s t u asked.output writes.files keeps.slots writes.slots;

@@ -21,16 +21,30 @@ use Rattle.capture_io.specs.declared.end.Stop.TheVariants as stop
 use Rattle.avtp_tool.specs.declared.status.Status.{Status}
 use Rattle.avtp_tool.specs.declared.status.Status.TheVariants as status
 use Rattle.avtp_tool.specs.Made.{unmade_as}
-use Rattle.avtp_tool.specs.Outcome.{EndsWith, Tells}
+use Rattle.avtp_tool.specs.Outcome.{EndsWith, IsDone, Tells}
 use Rattle.avtp_tool.specs.Talk.{EndsRefused, FaultStops, line_by, status_by, TalkedOutcome, TalkOutcome}
 use Rattle.avtp_tool.proofs.Complete.{talks_by}
-use Rattle.avtp_tool.proofs.Outcomes.{IsCut, missing_none, ok_same, tells_cut, tells_line, tells_weaker, Unopened}
+use Rattle.avtp_tool.proofs.Outcomes.{IsCut, missing_none, ok_same, tells_cut, tells_line, tells_weaker, undone_as, undone_by, Unopened}
 
 -- a file that could not be made cuts a run short
 pub unmade_cut : (why : OpenFault) → IsCut (Ok (unmade_as why))
 unmade_cut open_fault.Memory = inl refl
 unmade_cut open_fault.Missing = inr refl
 unmade_cut open_fault.Failed = inr refl
+
+pub cut_by : (why : OpenFault) (ended : Status) → ended ≡ unmade_as why → (ended ≡ status.Memory) ⊎ ((ended ≡ status.WriteFault) ⊎ (ended ≡ status.Done))
+cut_by open_fault.Memory ended is = inl is
+cut_by open_fault.Missing ended is = inr (inl is)
+cut_by open_fault.Failed ended is = inr (inl is)
+
+pub cut_undone : (why : OpenFault) (ended : Status) → ended ≡ unmade_as why → IsDone (Ok ended) → ⊥
+cut_undone open_fault.Memory ended is = undone_by (Ok ended) status.Memory refl is
+cut_undone open_fault.Missing ended is = undone_by (Ok ended) status.WriteFault refl is
+cut_undone open_fault.Failed ended is = undone_by (Ok ended) status.WriteFault refl is
+
+pub sent_done : (result : Result Status Failed) → IfOk result (λ s. s ≡ status.Done) → IfOk result (λ s. (s ≡ status.Memory) ⊎ ((s ≡ status.WriteFault) ⊎ (s ≡ status.Done)))
+sent_done (Ok s) is = inr (inr is)
+sent_done (Err e) is = tt
 
 -- ---- an input that makes no stream
 
@@ -69,6 +83,13 @@ refused_not {result = result} why other no_memory no_input ends e =
     elim (memory_or why) [
       | inl is ↦ no_memory (ok_same result status.Memory other (ends.memory is).0 e)
       | inr differs ↦ ends_not other no_input (ends.other differs) e
+    ]
+
+pub refused_undone : {h h' : Option (List ℕ)} {w w' : List ℕ} {f f' : ℕ} (result : Result Status Failed) (why : TalkFault) → EndsRefused why h h' w w' f f' result → IsDone result → ⊥
+refused_undone result why ends =
+    elim (memory_or why) [
+      | inl is ↦ undone_as result status.Memory refl (ends.memory is).0
+      | inr differs ↦ undone_by result status.TalkInput refl (ends.other differs).status
     ]
 
 -- ---- an input that was read

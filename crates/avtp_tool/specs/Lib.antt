@@ -1,8 +1,12 @@
 pub mod Status
 pub mod Record
 pub mod Outcome
+pub mod Reading
 pub mod Made
+pub mod Lines
 pub mod Show
+pub mod Check
 pub mod Listen
 pub mod Talk
 pub mod Run
+pub mod Files

@@ -1,5 +1,5 @@
 -- What `listen` prints and how it ends.
-use Rattle.std.specs.Prelude.{◌≡◌, ◌⊎◌, ℕ, ℤ, List, ◌++◌, Option, None, Some, pos, take, Result, Ok, Err}
+use Rattle.std.specs.Prelude.{◌≡◌, ℕ, ℤ, List, ◌++◌, Option, None, Some, pos, Result, Ok, Err}
 use Rattle.avtp_base.specs.declared.refusal.Refusal.{Refusal}
 use Rattle.avtp_base.specs.Files.{Files}
 use Rattle.pcap_frames.specs.Capture.{Record, first_refusal, whole_records}
@@ -15,14 +15,13 @@ use Rattle.avtp_text.specs.Listen.{capture_line, list_lines, end_listen_line}
 use Rattle.avtp_text.specs.Notices.{capture_refused_line, read_fault_line, limit_line}
 use Rattle.capture_io.specs.declared.end.End.{End}
 use Rattle.capture_io.specs.declared.end.End.TheVariants as end
-use Rattle.capture_io.specs.Ends.{CountsFault, EndsAt, end_of}
+use Rattle.capture_io.specs.Ends.{CountsFault}
 use Rattle.capture_io.specs.Source.{EndsAfter}
 use Rattle.avtp_base.specs.declared.failed.NoMemory.{NoMemory}
 use Rattle.listener.specs.Collected.{StandsFor}
 use Rattle.avtp_tool.specs.declared.listen.Gathered.{Gathered}
 use Rattle.avtp_tool.specs.declared.status.Status.{Status}
-use Rattle.avtp_tool.specs.declared.status.Status.TheVariants as status
-use Rattle.avtp_tool.specs.Outcome.{end_told, InOrder, in_order_status, in_order_text}
+use Rattle.avtp_tool.specs.Reading.{in_order_status, one_status, ReadPlan, Report}
 use Rattle.avtp_tool.specs.Status.{status_of}
 
 -- the most bytes of a capture that `listen` reads: 16 MiB
@@ -56,43 +55,16 @@ heard_lines shown counts end.Limit = limit_line heard_limit
 abbrev pub heard_text : Listening → List ℕ → List Record → End → List ℕ
 heard_text asked name records how = capture_line name ++ heard_lines (shown_in asked records) (counts_in asked records) how
 
--- ---- one file
+-- what `listen` makes of a file of this name
+abbrev pub listen_report : Listening → List ℕ → Report
+listen_report asked name = record { status = λ records how. status_of how; text = heard_text asked name }
 
--- A file of these bytes was opened.
-pub record HeardOutcome (asked : Listening) (name bytes : List ℕ) (fault : Type 0) (ended : Status) (text : List ℕ) : Type 0 where
-  pub how : End
-  pub prefix : List ℕ
-  pub ends : EndsAt heard_limit (Some bytes) fault how prefix
-  pub status : ended ≡ status_of how
-  pub printed : text ≡ heard_text asked name (whole_records prefix) how
+abbrev pub listen_plan : Listening → ReadPlan
+listen_plan asked = record { names = asked.files; limit = heard_limit; report = listen_report asked }
 
--- A file of this name, which a shelf tells so, can end with this status and give this text. One that could not be opened
--- gives the fault alone.
-abbrev pub FileOutcome : Listening → Option (List ℕ) → Type 0 → List ℕ → Status → List ℕ → Type 0
-FileOutcome asked None fault name ended text = (ended ≡ status.ReadFault) × (text ≡ read_fault_line)
-FileOutcome asked (Some bytes) fault name ended text =
-    HeardOutcome asked name bytes fault ended text ⊎ (fault × (ended ≡ status.ReadFault) × (text ≡ read_fault_line))
-
--- the same as functions, where no fault of reading comes
-abbrev pub file_status : Option (List ℕ) → Status
-file_status told = status_of (end_told heard_limit told)
-
-abbrev pub file_text : Listening → Option (List ℕ) → List ℕ → List ℕ
-file_text asked None name = read_fault_line
-file_text asked (Some bytes) name = heard_text asked name (whole_records (take heard_limit bytes)) (end_of heard_limit bytes)
-
--- ---- all files
-
--- `listen` over the files that a shelf tells so can end with this status and print this text. What a fault of reading needs
--- is `fault`.
-abbrev pub ListenOutcome : Listening → Files → Type 0 → Status → List ℕ → Type 0
-ListenOutcome asked files fault ended text = InOrder (λ name. FileOutcome asked (files name) fault name) asked.files ended text
-
-abbrev pub listen_status : Files → List (List ℕ) → Status
-listen_status files names = in_order_status (λ name. file_status (files name)) names
-
-abbrev pub listen_report : Listening → Files → List (List ℕ) → List ℕ
-listen_report asked files names = in_order_text (λ name. file_status (files name)) (λ name. file_text asked (files name) name) names
+-- the status with which these files end, where no fault of reading comes
+abbrev pub listen_status : Listening → Files → List (List ℕ) → Status
+listen_status asked files names = in_order_status (one_status (listen_plan asked) files) names
 
 -- ---- a talker that keeps the rules
 

@@ -1,6 +1,6 @@
 -- What a command's run may come to: the status that it ends with and the text that it prints; and how much of that stands
 -- where it is cut short.
-use Rattle.std.specs.Prelude.{◌≡◌, ◌≢◌, ◌⊎◌, ℕ, ◌≤◌, List, [], ◌∷◌, ◌++◌, length, take, Option, Some, None, Result, Ok, IfOk, if◌then◌else◌, Bool, true, false, Contains, IsErr, MatchResult}
+use Rattle.std.specs.Prelude.{◌≡◌, ◌≢◌, ◌⊎◌, ℕ, ◌≤◌, List, [], ◌++◌, length, take, Option, Result, Ok, Err, IfOk, Bool, true, false, Contains, IsErr, MatchResult}
 use Rattle.avtp_base.specs.declared.failed.Failed.{Failed}
 use Rattle.avtp_base.specs.declared.failed.OpenFault.{OpenFault}
 use Rattle.avtp_base.specs.declared.failed.OpenFault.TheVariants as open_fault
@@ -9,49 +9,20 @@ use Rattle.avtp_base.specs.Faults.{IsCounted, Rose}
 use Rattle.avtp_base.specs.Files.{Files, IsMissing}
 use Rattle.avtp_base.specs.Told.{Appends, Keeps}
 use Rattle.avtp_text.specs.Written.{AppendsPrefix, Grows, written}
-use Rattle.capture_io.specs.declared.end.End.{End}
-use Rattle.capture_io.specs.declared.end.End.TheVariants as end
-use Rattle.capture_io.specs.Ends.{end_of}
 use Rattle.avtp_tool.specs.declared.status.Status.{Status}
 use Rattle.avtp_tool.specs.declared.status.Status.TheVariants as status
 
--- ---- a file, where no fault of reading comes
+-- ---- what a run left
 
--- How the reading ends of a file that a shelf tells so. One that is missing counts as a fault of reading before its first
--- byte.
-abbrev pub end_told : ℕ → Option (List ℕ) → End
-end_told limit None = end.ReadFault
-end_told limit (Some bytes) = end_of limit bytes
-
--- the bytes of it that are read
-abbrev pub read_told : ℕ → Option (List ℕ) → List ℕ
-read_told limit None = []
-read_told limit (Some bytes) = take limit bytes
-
--- ---- files in order
-
+-- all was done that a command does, and it is whole: whether anything was found in it is another matter
 abbrev pub is_done : Status → Bool
 is_done status.Done = true
+is_done status.Findings = true
 is_done ended = false
 
--- Files are read in order, each to its end, up to the first that ends otherwise and with it the run. `One` says of a file
--- of a name with which status and which text it can end.
-unfoldable pub InOrder : (List ℕ → Status → List ℕ → Type 0) → List (List ℕ) → Status → List ℕ → Type 0
-InOrder One [] ended text = (ended ≡ status.Done) × (text ≡ [])
-InOrder One (name ∷ names) ended text =
-    ((ended ≢ status.Done) × One name ended text)
-    ⊎ ((first : List ℕ) × (rest : List ℕ) × One name status.Done first × InOrder One names ended rest × (text ≡ first ++ rest))
-
--- the same as functions, where the status and the text of a file are functions of its name
-unfoldable pub in_order_status : (List ℕ → Status) → List (List ℕ) → Status
-in_order_status one [] = status.Done
-in_order_status one (name ∷ names) = if is_done (one name) then in_order_status one names else one name
-
-unfoldable pub in_order_text : (List ℕ → Status) → (List ℕ → List ℕ) → List (List ℕ) → List ℕ
-in_order_text one text [] = []
-in_order_text one text (name ∷ names) = text name ++ (if is_done (one name) then in_order_text one text names else [])
-
--- ---- what a run left
+abbrev pub IsDone : Result Status Failed → Type 0
+IsDone (Ok ended) = is_done ended ≡ true
+IsDone (Err e) = ⊥
 
 -- Known bytes grew from `before` to `now` by the text of one of the outcomes that there can be. Where the run ended with a
 -- status of its own, it is the outcome's, and the text is whole; where memory or a write failed, a prefix of it stands.
@@ -60,6 +31,20 @@ pub record Tells (Outcome : Status → List ℕ → Type 0) (before now : Option
   pub text : List ℕ
   pub outcome : Outcome ended text
   pub whole : IfOk result (λ s. s ≢ status.Memory → s ≢ status.WriteFault → (s ≡ ended) × Appends before now text)
+  pub part : AppendsPrefix before now text
+
+-- A shelf was asked for exactly these names, in this order.
+abbrev pub Asks : List (List ℕ) → (List (List ℕ) → Type 0) → (List (List ℕ) → Type 0) → Type 0
+Asks names old_asked new_asked = (before : List (List ℕ)) → old_asked before → new_asked (before ++ names)
+
+-- The same of a whole run, of which the files belong to an outcome to which it came: where it ended with a status of its own,
+-- the shelf was asked for these and no other.
+pub record TellsRun (Outcome : List (List ℕ) → Status → List ℕ → Type 0) (old_asked new_asked : List (List ℕ) → Type 0) (before now : Option (List ℕ)) (result : Result Status Failed) : Type 0 where
+  pub came : List (List ℕ)
+  pub ended : Status
+  pub text : List ℕ
+  pub outcome : Outcome came ended text
+  pub whole : IfOk result (λ s. s ≢ status.Memory → s ≢ status.WriteFault → (s ≡ ended) × Appends before now text × Asks came old_asked new_asked)
   pub part : AppendsPrefix before now text
 
 -- one outcome and no other

@@ -5,21 +5,20 @@ use Rattle.avtp_text.specs.Notices.{capture_refused_line, read_fault_line, limit
 use Rattle.avtp_text.specs.Show.{frame_line, end_frames_line}
 use Rattle.capture_io.specs.declared.end.End.{End}
 use Rattle.capture_io.specs.declared.end.End.TheVariants as end
-use Rattle.capture_io.specs.Ends.{CountsFault, EndsAt}
+use Rattle.capture_io.specs.Ends.{CountsFault}
 use Rattle.capture_io.specs.Source.{EndsAfter}
 use Rattle.avtp_base.specs.declared.failed.Failed.{Failed}
 use Rattle.avtp_base.specs.Told.{Appends}
 use Rattle.avtp_text.specs.Written.{AppendsPrefix}
 use Rattle.avtp_tool.specs.declared.show.Printed.{Printed}
-use Rattle.avtp_tool.specs.declared.status.Status.{Status}
-use Rattle.avtp_tool.specs.Outcome.{end_told, read_told}
+use Rattle.avtp_tool.specs.Lines.{of_each}
+use Rattle.avtp_tool.specs.Reading.{ReadPlan, Report}
 use Rattle.avtp_tool.specs.Record.{record_content}
 use Rattle.avtp_tool.specs.Status.{status_of}
 
--- a line for each record, numbered from n on
-unfoldable pub lines_from : ℕ → List Record → List ℕ
-lines_from n [] = []
-lines_from n (r ∷ records) = frame_line n r.arrival (record_content r.bytes) ++ lines_from (n + 1) records
+-- the line of a record, which has the next number
+abbrev pub show_line : List Record → Record → List ℕ
+show_line earlier r = frame_line (length earlier + 1) r.arrival (record_content r.bytes)
 
 -- the last line, where `frames` records were printed
 abbrev pub end_line : ℕ → ℕ → End → List ℕ
@@ -31,23 +30,14 @@ end_line limit frames end.Limit = limit_line limit
 -- The text of a capture whose reading ends so after these records: a line for each of them, numbered from 1, and the last
 -- line.
 abbrev pub show_text : ℕ → List Record → End → List ℕ
-show_text limit records how = lines_from 1 records ++ end_line limit (length records) how
+show_text limit records how = of_each show_line records ++ end_line limit (length records) how
 
--- `show` of a file that a shelf tells so can end with this status and print this text. What a fault of reading needs is
--- `fault`.
-pub record ShowOutcome (limit : ℕ) (told : Option (List ℕ)) (fault : Type 0) (ended : Status) (text : List ℕ) : Type 0 where
-  pub how : End
-  pub prefix : List ℕ
-  pub ends : EndsAt limit told fault how prefix
-  pub status : ended ≡ status_of how
-  pub printed : text ≡ show_text limit (whole_records prefix) how
+-- what `show` makes of a file
+abbrev pub show_report : ℕ → Report
+show_report limit = record { status = λ records how. status_of how; text = show_text limit }
 
--- the same as functions, where no fault of reading comes
-abbrev pub show_status : ℕ → Option (List ℕ) → Status
-show_status limit told = status_of (end_told limit told)
-
-abbrev pub show_report : ℕ → Option (List ℕ) → List ℕ
-show_report limit told = show_text limit (whole_records (read_told limit told)) (end_told limit told)
+abbrev pub show_plan : ℕ → List ℕ → ReadPlan
+show_plan limit file = record { names = file ∷ []; limit = limit; report = λ name. show_report limit }
 
 -- ---- the records of a capture
 
@@ -56,12 +46,12 @@ pub record HasPrinted (limit : ℕ) (bytes : List ℕ) (fault : Type 0) (printed
   pub records : List Record
   pub ends : EndsAfter limit bytes fault printed.end records
   pub counted : printed.frames ≡ length records
-  pub lines : Appends before now (lines_from 1 records)
+  pub lines : Appends before now (of_each show_line records)
 
 -- They were printed, or where the sink failed a prefix of their lines was.
 abbrev pub PrintsRecords : ℕ → List ℕ → Type 0 → Option (List ℕ) → Option (List ℕ) → Result Printed Failed → Type 0
 PrintsRecords limit bytes fault before now (Ok printed) = HasPrinted limit bytes fault printed before now
-PrintsRecords limit bytes fault before now (Err e) = AppendsPrefix before now (lines_from 1 (whole_records (take limit bytes)))
+PrintsRecords limit bytes fault before now (Err e) = AppendsPrefix before now (of_each show_line (whole_records (take limit bytes)))
 
 -- The count of reading faults rose where one ended the reading, and else it is as it was.
 abbrev pub CountsPrinted : ℕ → ℕ → Result Printed Failed → Type 0

@@ -20,7 +20,7 @@ use Rattle.avtp_text.specs.Talk.{talk_input_line, talk_line}
 use Rattle.avtp_tool.specs.declared.status.Status.{Status}
 use Rattle.avtp_tool.specs.declared.status.Status.TheVariants as status
 use Rattle.avtp_tool.specs.Made.{CountsWriting, KeepsFilesBut}
-use Rattle.avtp_tool.specs.Outcome.{AsksFor, EndsWith, KeepsSink}
+use Rattle.avtp_tool.specs.Outcome.{Asks, AsksFor, EndsWith, is_done, IsDone, KeepsSink}
 use Rattle.talker.specs.declared.fault.TalkFault.TheVariants as fault
 use Rattle.avtp_base.specs.Told.{Keeps}
 use Rattle.avtp_text.specs.Written.{written}
@@ -98,7 +98,8 @@ pub record WritesOnly (old_files new_files : Option Files) (old_slots new_slots 
   pub slots : KeepsSlotsBut old_files old_slots new_slots name
   pub reading : new_reading ≡ old_reading
   pub writing : CountsWriting (Some name) old_writing new_writing result
-  pub asked : AsksFor (name ∷ []) old_asked new_asked (result ≡ Ok status.Done)
+  pub asked : AsksFor (name ∷ []) old_asked new_asked (IsDone result)
+  pub came : IfOk result (λ s. s ≢ status.Memory → s ≢ status.WriteFault → Asks (if is_done s then name ∷ [] else []) old_asked new_asked)
 
 -- A run ends since the input makes no stream: for want of memory with that status and nothing printed, and else with the line
 -- that says why.

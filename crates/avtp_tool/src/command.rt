@@ -1,6 +1,6 @@
 //! The command `avtp`, over the outside that it is given.
 
-ghost use Rattle.std.specs.Prelude.{◌≡◌, ◌≢◌, ◌≤◌, ◌⊎◌, ◌++◌, ◌∷◌, ℕ, ℤ, List, Ok, Some, None, IsSome, length, IfOk};
+ghost use Rattle.std.specs.Prelude.{◌≡◌, ◌≢◌, ◌≤◌, ◌⊎◌, ◌++◌, ◌∷◌, ℕ, ℤ, List, Ok, Some, None, true, IsSome, length, IfOk};
 ghost use Rattle.avtp_base.specs.Faults.{IsQuiet, Rose};
 ghost use Rattle.avtp_base.specs.Files.{Files, KeepsFiles, PutsFile};
 ghost use Rattle.avtp_base.specs.Told.{Appends};
@@ -14,11 +14,11 @@ ghost use Rattle.avtp_words.specs.Grammar.{files_of, IsCommandLine, IsOffence, l
 ghost use Rattle.avtp_words.specs.Word.{texts};
 ghost use Rattle.avtp_tool.specs.Listen.{HasHeadline, heard_limit, listen_status, plan_of};
 ghost use Rattle.avtp_tool.specs.Made.{KeepsFilesBut, KeepsSlotsFor};
-ghost use Rattle.avtp_tool.specs.Outcome.{AsksFor, EndsUnopened, EndsWith, Finishes, IsOneMissing, KeepsSink};
-ghost use Rattle.avtp_tool.specs.Run.{IsAsked, names_of, Outcome, report_for, Runs, status_for};
+ghost use Rattle.avtp_tool.specs.Outcome.{Asks, AsksFor, EndsUnopened, EndsWith, Finishes, is_done, IsOneMissing, KeepsSink};
+ghost use Rattle.avtp_tool.specs.Run.{came_for, IsAsked, names_of, Outcome, report_for, Runs, status_for};
 ghost use Rattle.avtp_tool.specs.Talk.{talk_plan};
 
-use crate::listen::listen;
+use crate::files::{Reading, read_files};
 use crate::show::show;
 use crate::status::Status;
 use crate::talk::talk;
@@ -29,16 +29,18 @@ use std::alloc::Global;
 
 /// Does what the words ask for: reads and writes the files that they name, writes the text, and answers how that ended.
 pub fn run<F: Shelf, S: Sink>(alloc: Global, words: &[String], shelf: &mut F, out: &mut S) -> Status
-    // What is printed is the report of the files that the words name.
+    // What is printed is the report of the files to which the run came, and it came to these alone.
     ensures shown { result ≢ Status.Memory → result ≢ Status.WriteFault → (request : Request) (files : Files) →
         IsCommandLine (texts words.now) request → F.files shelf.old ≡ Some files → IsSome (F.files shelf.new) →
-        (text : List ℕ) × Outcome request files (Rose (F.reading_faults shelf.old) (F.reading_faults shelf.new)) result text × Appends (S.held out.old) (S.held out.new) text }
+        (came : List (List ℕ)) × (text : List ℕ) × Outcome request files (Rose (F.reading_faults shelf.old) (F.reading_faults shelf.new)) came result text
+        × Appends (S.held out.old) (S.held out.new) text × Asks came (F.asked shelf.old) (F.asked shelf.new) }
 
     // Where no fault of reading comes, the whole report is printed.
     ensures complete { result ≢ Status.Memory → result ≢ Status.WriteFault → (request : Request) (files : Files) →
         IsCommandLine (texts words.now) request → F.files shelf.old ≡ Some files → IsSome (F.files shelf.new) →
         IsQuiet (F.reading_faults shelf.old) (F.reading_faults shelf.new) →
-        (result ≡ status_for request files) × Appends (S.held out.old) (S.held out.new) (report_for request files) }
+        (result ≡ status_for request files) × Appends (S.held out.old) (S.held out.new) (report_for request files)
+        × Asks (came_for request files) (F.asked shelf.old) (F.asked shelf.new) }
 
     // What `listen` prints of a talker that keeps the rules, whatever its capture lost, repeats or reorders: of each file to
     // which the run came, with a journal of its own.
@@ -46,7 +48,7 @@ pub fn run<F: Shelf, S: Sink>(alloc: Global, words: &[String], shelf: &mut F, ou
         (asked : Listening) (files : Files) (earlier later : List (List ℕ)) (name bytes : List ℕ) (shift : ℤ) (p : PacketJournal) →
         IsCommandLine (texts words.now) (listen_request asked) → F.files shelf.old ≡ Some files → IsSome (F.files shelf.new) →
         IsQuiet (F.reading_faults shelf.old) (F.reading_faults shelf.new) →
-        asked.files ≡ earlier ++ name ∷ later → listen_status files earlier ≡ Status.Done → files name ≡ Some bytes →
+        asked.files ≡ earlier ++ name ∷ later → listen_status asked files earlier ≡ Status.Done → files name ≡ Some bytes →
         length bytes ≤ heard_limit → HearsTalker shift p (plan_of asked) bytes →
         (text : List ℕ) × HasHeadline asked name shift p bytes text × Appends (S.held out.old) (S.held out.new) text }
 
@@ -60,7 +62,8 @@ pub fn run<F: Shelf, S: Sink>(alloc: Global, words: &[String], shelf: &mut F, ou
     ensures grows { Grows (S.held out.old) (S.held out.new) }
     ensures part { (request : Request) (files : Files) →
         IsCommandLine (texts words.now) request → F.files shelf.old ≡ Some files → IsSome (F.files shelf.new) →
-        (ended : Status) × (text : List ℕ) × Outcome request files (Rose (F.reading_faults shelf.old) (F.reading_faults shelf.new)) ended text × AppendsPrefix (S.held out.old) (S.held out.new) text }
+        (came : List (List ℕ)) × (ended : Status) × (text : List ℕ) × Outcome request files (Rose (F.reading_faults shelf.old) (F.reading_faults shelf.new)) came ended text
+        × AppendsPrefix (S.held out.old) (S.held out.new) text }
     ensures part_complete { (request : Request) (files : Files) →
         IsCommandLine (texts words.now) request → F.files shelf.old ≡ Some files → IsSome (F.files shelf.new) →
         IsQuiet (F.reading_faults shelf.old) (F.reading_faults shelf.new) → AppendsPrefix (S.held out.old) (S.held out.new) (report_for request files) }
@@ -87,7 +90,7 @@ pub fn run<F: Shelf, S: Sink>(alloc: Global, words: &[String], shelf: &mut F, ou
     ensures untouched { result ≢ Status.Done → result ≢ Status.WriteFault → result ≢ Status.Memory → KeepsFiles (F.files shelf.old) (F.files shelf.new) }
 
     // No name but those of the words is asked for, and these in their order: all of them where all was done.
-    ensures asks { (request : Request) → IsCommandLine (texts words.now) request → AsksFor (names_of request) (F.asked shelf.old) (F.asked shelf.new) (result ≡ Status.Done) }
+    ensures asks { (request : Request) → IsCommandLine (texts words.now) request → AsksFor (names_of request) (F.asked shelf.old) (F.asked shelf.new) (is_done result ≡ true) }
 
     // Every other file is as it was, and each that was opened is closed.
     ensures files { (request : Request) → IsCommandLine (texts words.now) request →
@@ -124,7 +127,22 @@ fn execute<F: Shelf, S: Sink>(
 {
     match parse(words) {
         Ok(Command::Show { limit, file }) => show(alloc, limit, file, shelf, text, out),
-        Ok(Command::Listen(asked)) => listen(alloc, &asked, shelf, text, out),
+        Ok(Command::Check { limit, files }) => read_files(
+            alloc,
+            &Reading::Check { limit },
+            files,
+            shelf,
+            text,
+            out,
+        ),
+        Ok(Command::Listen(asked)) => read_files(
+            alloc,
+            &Reading::Listen(&asked),
+            asked.files,
+            shelf,
+            text,
+            out,
+        ),
         Ok(Command::Talk(asked)) => talk(alloc, &asked, shelf, text, out),
         Err(offence) => print_offence(text, out, offence.position as u64),
     }

@@ -1,7 +1,10 @@
 //! What the command `avtp` does with its words: the captures' bytes become text and a status.
 #![tactic(auto)]
 
+mod check;
+mod checked;
 mod command;
+mod files;
 mod listen;
 mod record;
 mod show;

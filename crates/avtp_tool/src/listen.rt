@@ -1,17 +1,18 @@
 //! The command `listen`: when each sample of a stream is due.
 
-ghost use Rattle.std.specs.Prelude.{◌≡◌, ◌≢◌, ◌≤◌, ◌^◌, ◌*◌, ◌∷◌, ◌++◌, ℕ, List, [], All, Some, None, IsSome, IfOk, ◌⊎◌};
+ghost use Rattle.std.specs.Prelude.{◌≡◌, ◌≤◌, ◌^◌, ◌++◌, ℕ, List, [], All, Some, None, IsSome, IfOk, ◌⊎◌};
 ghost use Rattle.avtp_base.specs.Faults.{Rose};
-ghost use Rattle.avtp_base.specs.Files.{Files, left_in};
-ghost use Rattle.avtp_words.specs.Grammar.{listen as listen_request, listening_of};
+ghost use Rattle.avtp_base.specs.Files.{left_in};
+ghost use Rattle.avtp_words.specs.Grammar.{listening_of};
 ghost use Rattle.avtp_text.specs.Listen.{capture_line};
 ghost use Rattle.avtp_text.specs.Written.{written, PrintsPart};
 ghost use Rattle.pcap_frames.specs.Capture.{Record};
-ghost use Rattle.capture_io.specs.Reads.{OnlyReads, ReadsSlot};
+ghost use Rattle.capture_io.specs.Reads.{ReadsSlot};
 ghost use Rattle.capture_io.specs.Source.{HasGiven, slot_of, to_do};
-ghost use Rattle.avtp_tool.specs.Listen.{CountsGathered, FileOutcome, HasGathered, heard_lines, heard_text, plan_of};
-ghost use Rattle.avtp_tool.specs.Outcome.{CountsReading, KeepsSink, Only, Tells};
-ghost use Rattle.avtp_tool.specs.Run.{IsListening, Runs};
+ghost use Rattle.avtp_tool.specs.Listen.{CountsGathered, HasGathered, heard_limit, heard_lines, heard_text, listen_report, plan_of};
+ghost use Rattle.avtp_tool.specs.Outcome.{KeepsSink, Only, Tells};
+ghost use Rattle.avtp_tool.specs.Reading.{DoesFile};
+ghost use Rattle.avtp_tool.specs.Run.{IsListening};
 ghost use Rattle.avtp_tool.specs.Status.{status_of};
 ghost use Rattle.listener.specs.Collected.{StandsFor};
 ghost use Rattle.sample_schedule.specs.Limits.{IsEntry};
@@ -43,32 +44,8 @@ fn plan(asked: &Listen<'_>) -> ListenPlan
     }
 }
 
-/// Prints of each capture in order what of the stream is presented, at which instants, and why the rest is not. The first
-/// that cannot be read whole ends it.
+/// Prints of a capture what of the stream is presented, at which instants, and why the rest is not.
 pub fn listen<F: Shelf, S: Sink>(
-    alloc: Global,
-    asked: &Listen<'_>,
-    shelf: &mut F,
-    text: &mut Text,
-    out: &mut S,
-) -> Result<Status, Failed>
-    requires { IsListening (listening_of asked.now) }
-    ensures runs { Runs (listen_request (listening_of asked.now)) (F.files shelf.old) (F.files shelf.new) (F.slots shelf.old) (F.slots shelf.new) (F.reading_faults shelf.old) (F.reading_faults shelf.new)
-        (F.writing_faults shelf.old) (F.writing_faults shelf.new) (F.asked shelf.old) (F.asked shelf.new)
-        (written (S.held out.old) text.old) (written (S.held out.new) text.new) result }
-    ensures sink { KeepsSink (S.held out.old) (S.held out.new) (S.faults out.old) (S.faults out.new) result }
-{
-    for file in asked.files {
-        match listen_file(alloc, asked, file, shelf, text, out)? {
-            Status::Done => {}
-            ended => return Ok(ended),
-        }
-    }
-    Ok(Status::Done)
-}
-
-/// Reads a capture, and prints what is heard of it.
-fn listen_file<F: Shelf, S: Sink>(
     alloc: Global,
     asked: &Listen<'_>,
     file: &str,
@@ -77,12 +54,8 @@ fn listen_file<F: Shelf, S: Sink>(
     out: &mut S,
 ) -> Result<Status, Failed>
     requires { IsListening (listening_of asked.now) }
-    ensures tells { (files : Files) → F.files shelf.old ≡ Some files →
-        Tells (FileOutcome (listening_of asked.now) (files file.now) (Rose (F.reading_faults shelf.old) (F.reading_faults shelf.new)) file.now) (written (S.held out.old) text.old) (written (S.held out.new) text.new) result }
-    ensures keeps { OnlyReads (F.files shelf.old) (F.files shelf.new) (F.slots shelf.old) (F.slots shelf.new) (F.reading_faults shelf.old) (F.reading_faults shelf.new)
-        (F.writing_faults shelf.old) (F.writing_faults shelf.new) (F.asked shelf.old) (F.asked shelf.new) (file.now ∷ []) }
-    ensures own { IfOk result (λ ended. (ended ≢ Status.WriteFault) × (ended ≢ Status.Words)) }
-    ensures counts { CountsReading (file.now ∷ []) (F.files shelf.old) (F.reading_faults shelf.old) (F.reading_faults shelf.new) result }
+    ensures does { DoesFile (listen_report (listening_of asked.now) file.now) heard_limit file.now (F.files shelf.old) (F.files shelf.new) (F.slots shelf.old) (F.slots shelf.new) (F.reading_faults shelf.old) (F.reading_faults shelf.new)
+        (F.writing_faults shelf.old) (F.writing_faults shelf.new) (F.asked shelf.old) (F.asked shelf.new) (written (S.held out.old) text.old) (written (S.held out.new) text.new) result }
     ensures sink { KeepsSink (S.held out.old) (S.held out.new) (S.faults out.old) (S.faults out.new) result }
 {
     let mut source = match Source::open(alloc, LIMIT, shelf, file) {

@@ -6,12 +6,10 @@ ghost use Rattle.avtp_text.specs.Written.{Prints};
 ghost use Rattle.avtp_tool.specs.Record.{record_content, packet_content, inside};
 
 use avtp_base::{Failed, Refusal, Sink};
+use avtp_header::ETHERTYPE;
 use avtp_packet::{Packet, read_packet};
 use avtp_text::Text;
 use pcap_frames::{FrameView, RecordView, read_frame};
-
-/// The EtherType of AVTP (IEEE 1722-2016, 4.2).
-const AVTP: u16 = 0x22F0;
 
 /// Prints what a record holds, under its number in the capture, from 1.
 #[tactic(auto, unfolding(crate::specs::Record::record_content, crate::specs::Record::frame_content))]
@@ -25,7 +23,7 @@ pub fn print_record<S: Sink>(
 {
     match read_frame(held.bytes) {
         Err(refusal) => text.frame_refused(out, number, held.arrival, refusal),
-        Ok(frame) if frame.ethertype != AVTP => text.frame_ethertype(
+        Ok(frame) if frame.ethertype != ETHERTYPE => text.frame_ethertype(
             out,
             number,
             held.arrival,
@@ -58,7 +56,7 @@ fn print_packet<S: Sink>(
 }
 
 /// The refusal of a frame's packet, with its offset in the frame.
-fn in_frame(frame: &FrameView<'_>, refusal: Refusal) -> Refusal
+pub fn in_frame(frame: &FrameView<'_>, refusal: Refusal) -> Refusal
     requires { refusal.at + frame.now.start < 2 ^ 64 }
     ensures { result ≡ inside frame.now.start refusal }
 {

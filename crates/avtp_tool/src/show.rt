@@ -3,13 +3,12 @@
 ghost use Rattle.std.specs.Prelude.{◌≡◌, ◌*◌, ◌^◌, ◌≤◌, ℕ, List, None, [], IsSome};
 ghost use Rattle.avtp_base.specs.Faults.{Rose};
 ghost use Rattle.avtp_base.specs.Files.{left_in};
-ghost use Rattle.avtp_words.specs.Grammar.{show as show_request};
 ghost use Rattle.avtp_text.specs.Written.{written, Prints};
 ghost use Rattle.capture_io.specs.Reads.{ReadsSlot};
 ghost use Rattle.capture_io.specs.Source.{HasGiven, slot_of, to_do};
 ghost use Rattle.avtp_tool.specs.Outcome.{EndsWith, KeepsSink};
-ghost use Rattle.avtp_tool.specs.Run.{Runs};
-ghost use Rattle.avtp_tool.specs.Show.{CountsPrinted, end_line, PrintsRecords};
+ghost use Rattle.avtp_tool.specs.Reading.{DoesFile};
+ghost use Rattle.avtp_tool.specs.Show.{CountsPrinted, end_line, PrintsRecords, show_report};
 ghost use Rattle.avtp_tool.specs.Status.{status_of};
 
 use crate::command::print_unopened;
@@ -37,9 +36,8 @@ pub fn show<F: Shelf, S: Sink>(
     out: &mut S,
 ) -> Result<Status, Failed>
     requires { limit ≤ 2 ^ 40 }
-    ensures runs { Runs (show_request limit file.now) (F.files shelf.old) (F.files shelf.new) (F.slots shelf.old) (F.slots shelf.new) (F.reading_faults shelf.old) (F.reading_faults shelf.new)
-        (F.writing_faults shelf.old) (F.writing_faults shelf.new) (F.asked shelf.old) (F.asked shelf.new)
-        (written (S.held out.old) text.old) (written (S.held out.new) text.new) result }
+    ensures does { DoesFile (show_report limit) limit file.now (F.files shelf.old) (F.files shelf.new) (F.slots shelf.old) (F.slots shelf.new) (F.reading_faults shelf.old) (F.reading_faults shelf.new)
+        (F.writing_faults shelf.old) (F.writing_faults shelf.new) (F.asked shelf.old) (F.asked shelf.new) (written (S.held out.old) text.old) (written (S.held out.new) text.new) result }
     ensures sink { KeepsSink (S.held out.old) (S.held out.new) (S.faults out.old) (S.faults out.new) result }
 {
     let mut source = match Source::open(alloc, limit, shelf, file) {

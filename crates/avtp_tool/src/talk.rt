@@ -231,9 +231,8 @@ fn write_capture<F: Shelf>(
     ensures written { (files : Option Files) (slots : Slots) (reading : ℕ) (name : List ℕ) →
         IsWriting files (F.files shelf.old) slots (F.slots shelf.old) reading (F.reading_faults shelf.old) writer.old name [] →
         IsWritingPart files (F.files shelf.new) slots (F.slots shelf.new) reading (F.reading_faults shelf.new) writer.new name (capture talker.old.plan talker.old.input) result }
-    ensures counted { IsCounted (F.writing_faults shelf.old) (F.writing_faults shelf.new) result }
-    ensures writes { WritesSlot (F.slots shelf.old) (F.slots shelf.new) (F.reading_faults shelf.old) (F.reading_faults shelf.new) (F.asked shelf.old) (F.asked shelf.new) writer.old.slot }
-    ensures slot { writer.new.slot ≡ writer.old.slot }
+    ensures writes { WritesSlot (F.slots shelf.old) (F.slots shelf.new) (F.reading_faults shelf.old) (F.reading_faults shelf.new) (F.writing_faults shelf.old) (F.writing_faults shelf.new)
+        (F.asked shelf.old) (F.asked shelf.new) writer.old writer.new result }
 {
     let mut room = [0; RECORD];
     let size = put_header(&mut room);

@@ -4,6 +4,8 @@
 #[cfg(test)]
 mod am824;
 #[cfg(test)]
+mod check;
+#[cfg(test)]
 mod files;
 #[cfg(test)]
 mod listen;

@@ -1,42 +1,9 @@
 //! Captures that lose, repeat and reorder a talker's packets: what is presented stands at the talker's instants.
 
-use crate::runs::{STREAM, noise, run_over, talk_over};
-use avtp_base::NoMemory;
+use crate::runs::{RECORD, STREAM, records_of, run_over, talked};
 use avtp_tool::Status;
 use std::alloc::Global;
 use std::test::Fail;
-
-/// The file header of a capture, and each record of a packet of six stereo sample frames of 16 bits.
-const HEADER: usize = 24;
-
-const RECORD: u16 = 82;
-
-/// The capture of a talker of an input of so many bytes.
-fn talked(alloc: Global, options: &[&str], len: usize) -> Result<Vec<u8>, Fail> {
-    let mut line = Vec::new(alloc);
-    line.push("talk")?;
-    line.extend_from_slice(options)?;
-    line.extend_from_slice(&["a.raw", "c.pcap"])?;
-    let (_, made) = talk_over(alloc, &line, noise(alloc, len)?, &[], &[])?;
-    Ok(made.ok_or("no capture")?)
-}
-
-/// The records of these packets, in this order. All are of the same size.
-fn records_of(
-    alloc: Global,
-    capture: &[u8],
-    size: u16,
-    packets: &[u16],
-) -> Result<Vec<u8>, NoMemory> {
-    let size = usize::from(size);
-    let mut picked = Vec::new(alloc);
-    picked.extend_from_slice(capture.get(..HEADER).unwrap_or(&[]))?;
-    for n in packets {
-        let at = HEADER + usize::from(*n) * size;
-        picked.extend_from_slice(capture.get(at..at + size).unwrap_or(&[]))?;
-    }
-    Ok(picked)
-}
 
 /// What `listen` prints of a capture.
 fn heard(alloc: Global, capture: Vec<u8>) -> Result<String, Fail> {

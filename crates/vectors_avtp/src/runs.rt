@@ -3,6 +3,7 @@
 use avtp_base::{MemoryShelf, MemorySink, NoMemory};
 use avtp_tool::{Status, run};
 use std::alloc::Global;
+use std::test::Fail;
 
 /// The id of the stream in the first vector, and of a talker that is asked for no other.
 pub const STREAM: &str = "0200000000010001";
@@ -98,4 +99,37 @@ pub fn changed(
         bytes.push(0)?;
     }
     Ok(bytes)
+}
+
+/// The bytes of a capture's file header.
+const HEADER: usize = 24;
+
+/// The bytes of the record of a packet of six stereo sample frames of 16 bits.
+pub const RECORD: u16 = 82;
+
+/// The capture of a talker of an input of so many bytes.
+pub fn talked(alloc: Global, options: &[&str], len: usize) -> Result<Vec<u8>, Fail> {
+    let mut line = Vec::new(alloc);
+    line.push("talk")?;
+    line.extend_from_slice(options)?;
+    line.extend_from_slice(&["a.raw", "c.pcap"])?;
+    let (_, made) = talk_over(alloc, &line, noise(alloc, len)?, &[], &[])?;
+    Ok(made.ok_or("no capture")?)
+}
+
+/// The records of these packets, in this order. All are of the same size.
+pub fn records_of(
+    alloc: Global,
+    capture: &[u8],
+    size: u16,
+    packets: &[u16],
+) -> Result<Vec<u8>, NoMemory> {
+    let size = usize::from(size);
+    let mut picked = Vec::new(alloc);
+    picked.extend_from_slice(capture.get(..HEADER).unwrap_or(&[]))?;
+    for n in packets {
+        let at = HEADER + usize::from(*n) * size;
+        picked.extend_from_slice(capture.get(at..at + size).unwrap_or(&[]))?;
+    }
+    Ok(picked)
 }

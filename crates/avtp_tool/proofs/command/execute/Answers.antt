@@ -1,7 +1,11 @@
 use Rattle.std.proofs.Common.{refl}
-use Rattle.avtp_words.specs.Grammar.{talk, talking_of}
+use Rattle.avtp_words.specs.Grammar.{check, listen, listening_of, show, talk, talking_of}
 use Rattle.avtp_words.specs.Word.{texts}
+use Rattle.avtp_tool.specs.Check.{check_plan}
+use Rattle.avtp_tool.specs.Listen.{listen_plan}
+use Rattle.avtp_tool.specs.Show.{show_plan}
 use Rattle.avtp_tool.proofs.Asked.{not_offence, requested}
+use Rattle.avtp_tool.proofs.PlanRuns.{one_file, plan_runs}
 use Rattle.avtp_tool.proofs.command.execute.Goals as goal
 
 pub talk-requires-after_bounds : goal.talk-requires-after_bounds
@@ -18,3 +22,26 @@ returns-in-Ok-Talk-clause-words g c position offence = absurd (not_offence c.par
 
 pub returns-in-Err-clause-words : goal.returns-in-Err-clause-words
 returns-in-Err-clause-words g c position offence = (refl, rw (c.in-Err.ensures.only_offence position offence) at c.print_offence.ensures)
+
+pub returns-in-Ok-Show-clause-runs : goal.returns-in-Ok-Show-clause-runs
+returns-in-Ok-Show-clause-runs g c request line =
+    let limit = c.in-Ok-Show.limit in
+    let file = c.in-Ok-Show.file.now in
+    let same = rw c.in-Ok-Show.field-0-is at (c.in-Ok-Show.ensures.only request line) in
+    plan_runs (show limit file) (show_plan limit file) request same (λ all fault came ended text o. o) refl refl (λ all keeps. keeps) (one_file (show_plan limit file) file refl c.show.ensures.does)
+
+pub returns-in-Ok-Check-clause-runs : goal.returns-in-Ok-Check-clause-runs
+returns-in-Ok-Check-clause-runs g c request line =
+    let limit = c.in-Ok-Check.limit in
+    let names = texts c.in-Ok-Check.files.now in
+    let same = rw c.in-Ok-Check.field-0-is at (c.in-Ok-Check.ensures.only request line) in
+    plan_runs (check limit names) (check_plan limit names) request same (λ all fault came ended text o. o) refl refl (λ all keeps. keeps) c.read_files.ensures.does
+
+pub returns-in-Ok-Check-clause-words : goal.returns-in-Ok-Check-clause-words
+returns-in-Ok-Check-clause-words g c position offence = absurd (not_offence c.parse.result _ position (c.parse.ensures.only_offence position offence) c.in-Ok-Check.is)
+
+pub returns-in-Ok-Listen-clause-runs : goal.returns-in-Ok-Listen-clause-runs
+returns-in-Ok-Listen-clause-runs g c request line =
+    let asked = listening_of c.in-Ok-Listen.asked in
+    let same = rw c.in-Ok-Listen.field-0-is at (c.in-Ok-Listen.ensures.only request line) in
+    plan_runs (listen asked) (listen_plan asked) request same (λ all fault came ended text o. o) refl refl (λ all keeps. keeps) c.read_files-in-Ok-Listen.ensures.does

@@ -1,4 +1,4 @@
-use Rattle.std.proofs.Common.{inl, inr, ap, subst, ◌∙◌, arith}
+use Rattle.std.proofs.Common.{ℕ, List, inl, inr, ap, subst, ◌∙◌, arith}
 use Rattle.avtp_base.proofs.Files.{KeepsFiles-refl}
 use Rattle.avtp_base.proofs.Told.{Keeps-refl}
 use Rattle.avtp_text.specs.Notices.{words_line}
@@ -7,18 +7,20 @@ use Rattle.avtp_text.proofs.Growth.{grows_further}
 use Rattle.avtp_text.proofs.Printing.{prefix_none}
 use Rattle.avtp_words.specs.Grammar.{listen, talk}
 use Rattle.avtp_tool.specs.declared.status.Status.TheVariants as status
-use Rattle.avtp_tool.specs.Listen.{listen_report}
-use Rattle.avtp_tool.specs.Run.{MakesFrom, names_of, report_for, status_for}
+use Rattle.avtp_tool.specs.Listen.{listen_plan}
+use Rattle.avtp_tool.specs.Outcome.{Asks}
+use Rattle.avtp_tool.specs.Reading.{plan_text}
+use Rattle.avtp_tool.specs.Run.{came_for, MakesFrom, names_of, report_for, status_for}
 use Rattle.avtp_base.specs.Told.{Appends}
 use Rattle.avtp_tool.proofs.Complete.{complete_of, has_headline, outcome_here}
-use Rattle.avtp_tool.proofs.Ended.{asks_nothing, asks_same, ended_as, ends_prefix, ends_whole, not_ended, offence_ends, quiet_if, quiet_not, told_whole, untouched_by}
+use Rattle.avtp_tool.proofs.Ended.{asks_nothing, asks_same, done_as, ended_as, ends_prefix, ends_whole, not_ended, offence_ends, quiet_if, quiet_not, told_whole, untouched_by}
 use Rattle.avtp_tool.proofs.Finished.{flushed, gains_prefix, rose_later}
 use Rattle.avtp_tool.proofs.command.run.Goals as goal
 
 -- ---- no memory was found for the text
 
 pub returns-in_default-clause-part : goal.returns-in_default-clause-part
-returns-in_default-clause-part g c request files line told some = (status_for request files, report_for request files, outcome_here request files _, prefix_none _ _ _ (Keeps-refl _))
+returns-in_default-clause-part g c request files line told some = (came_for request files, status_for request files, report_for request files, outcome_here request files _, prefix_none _ _ _ (Keeps-refl _))
 
 pub returns-in_default-clause-part_complete : goal.returns-in_default-clause-part_complete
 returns-in_default-clause-part_complete g c request files line told some quiet = prefix_none _ _ _ (Keeps-refl _)
@@ -35,18 +37,18 @@ pub returns-clause-shown : goal.returns-clause-shown
 returns-clause-shown g c memory write request files line told some =
     let done = c.finish.ensures.whole write in
     let all = told_whole c.finish.result done.0 memory write ((c.execute-ended.ensures.runs request line).tells files told some) in
-    (all.0, all.1, flushed _ _ _ _ _ all.0 c.in-Ok.ensures done.1 all.2 c.finish.ensures.kept)
+    (all.0, all.1, all.2, flushed _ _ _ _ _ all.1 c.in-Ok.ensures done.1 all.3 c.finish.ensures.kept, all.4)
 
 pub returns-clause-complete : goal.returns-clause-complete
 returns-clause-complete g c memory write request files line told some quiet =
     let all = returns-clause-shown g c memory write request files line told some in
-    let same = complete_of request files _ c.finish.result all.0 (quiet_not _ _ quiet) all.1 in
-    (same.0, subst (Appends (g.S.Sink.held c.args.out.now) (g.S.Sink.held c.finish.new.out)) same.1 all.2)
+    let same = complete_of request files _ all.0 c.finish.result all.1 (quiet_not _ _ quiet) all.2 in
+    (same.1, subst (Appends (g.S.Sink.held c.args.out.now) (g.S.Sink.held c.finish.new.out)) same.2 all.3, subst (λ (ns : List (List ℕ)). Asks ns (g.F.Shelf.asked c.args.shelf.now) (g.F.Shelf.asked c.execute-ended.new.shelf)) same.0 all.4)
 
 pub returns-clause-headline : goal.returns-clause-headline
 returns-clause-headline g c memory write asked files earlier later name bytes shift p line told some quiet split done has fits hears =
     let printed = returns-clause-complete g c memory write (listen asked) files line told some quiet in
-    (listen_report asked files asked.files, has_headline asked files earlier later name bytes shift p split done has fits hears, printed.1)
+    (plan_text (listen_plan asked) files, has_headline asked files earlier later name bytes shift p split done has fits hears, printed.1)
 
 pub returns-clause-words : goal.returns-clause-words
 returns-clause-words g c memory write position offence =
@@ -71,13 +73,13 @@ pub returns-clause-part : goal.returns-clause-part
 returns-clause-part g c request files line told some =
     let tells = (c.execute-ended.ensures.runs request line).tells files told some in
     let grown = grows_further _ _ _ c.execute-ended.ensures.sink.grows c.finish.ensures.grows in
-    (tells.ended, tells.text, tells.outcome, gains_prefix _ _ _ _ _ tells.text c.in-Ok.ensures tells.part c.finish.ensures.kept grown)
+    (tells.came, tells.ended, tells.text, tells.outcome, gains_prefix _ _ _ _ _ tells.text c.in-Ok.ensures tells.part c.finish.ensures.kept grown)
 
 pub returns-clause-part_complete : goal.returns-clause-part_complete
 returns-clause-part_complete g c request files line told some quiet =
     let part = returns-clause-part g c request files line told some in
-    let same = complete_of request files _ part.0 part.1 (quiet_not _ _ quiet) part.2 in
-    subst (AppendsPrefix (g.S.Sink.held c.args.out.now) (g.S.Sink.held c.finish.new.out)) same.1 part.3
+    let same = complete_of request files _ part.0 part.1 part.2 (quiet_not _ _ quiet) part.3 in
+    subst (AppendsPrefix (g.S.Sink.held c.args.out.now) (g.S.Sink.held c.finish.new.out)) same.2 part.4
 
 pub returns-clause-part_words : goal.returns-clause-part_words
 returns-clause-part_words g c position offence =
@@ -174,7 +176,7 @@ returns-clause-untouched g c done write memory =
     ]
 
 pub returns-clause-asks : goal.returns-clause-asks
-returns-clause-asks g c request line = asks_same (names_of request) (ended_as status.Done (λ e. cc) c.finish.ensures) (c.execute-ended.ensures.runs request line).asks
+returns-clause-asks g c request line = asks_same (names_of request) (done_as c.finish.ensures) (c.execute-ended.ensures.runs request line).asks
 
 pub returns-clause-files : goal.returns-clause-files
 returns-clause-files g c request line = (c.execute-ended.ensures.runs request line).files

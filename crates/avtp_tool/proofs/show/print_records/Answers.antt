@@ -4,7 +4,8 @@ use Rattle.capture_io.proofs.Ending.{after_weaker}
 use Rattle.capture_io.proofs.Leaving.{reads_nothing}
 use Rattle.avtp_tool.proofs.Leaving.{none_left, quiet_next, reads_on, some_same}
 use Rattle.avtp_tool.proofs.Outcomes.{sink_failed, sink_printed, sink_still, sink_then}
-use Rattle.avtp_tool.proofs.Shown.{none_printed, one_printed, prefix_kept, records_failed, some_printed}
+use Rattle.avtp_tool.proofs.Lines.{prefix_kept}
+use Rattle.avtp_tool.proofs.Shown.{none_printed, one_printed, records_failed, some_printed}
 use Rattle.avtp_tool.proofs.show.print_records.Goals as goal
 
 pub loop-end-preserved : goal.loop-end-preserved

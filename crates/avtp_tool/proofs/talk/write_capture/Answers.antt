@@ -1,5 +1,5 @@
 use Rattle.std.proofs.Common.{ℕ, List, [], refl, ap, subst, ◌∙◌}
-use Rattle.capture_io.specs.Writing.{IsWriting, WritesSlot}
+use Rattle.capture_io.specs.Writing.{IsWriting}
 use Rattle.capture_io.proofs.Making.{writes_then}
 use Rattle.talker.specs.Frames.{capture}
 use Rattle.avtp_tool.proofs.Making.{wrote_part, wrote_to_end}
@@ -33,11 +33,9 @@ loop-sent-preserved g c =
       room = c.put_record-size.auto.room ∙ before.room;
       plan = ap (λ (t : _). t.plan) on ∙ before.plan;
       input = ap (λ (t : _). t.input) on ∙ before.input;
-      slot = added.slot ∙ before.slot;
       put = λ files slots reading name making.
           subst (IsWriting files _ slots _ reading _ c.add-in-Some.new.self name) (rw c.put_record-size.ensures.text more) (added.added files slots reading name _ (before.put files slots reading name making));
-      writes = writes_then _ _ _ _ _ _ _ _ _ _ before.writes (subst (WritesSlot _ _ _ _ _ _) before.slot added.writes);
-      writing = added.counted.ok ∙ before.writing;
+      writes = writes_then before.writes added.writes;
     }
 
 pub returns-in_err-add-2-clause-written : goal.returns-in_err-add-2-clause-written

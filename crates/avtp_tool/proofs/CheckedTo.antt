@@ -1,0 +1,172 @@
+-- The records of a capture that were checked so far.
+use Rattle.std.proofs.Common.{◌≡◌, ℕ, ◌+◌, ◌≤◌, Bool, true, false, if◌then◌else◌, inl, inr, List, [], ◌∷◌, ◌++◌, length, map, take, Option, Some, None, Result, Ok, Err, refl, sym, ap, subst, ◌∙◌, append_assoc, append-nil, arith, length-append}
+use Rattle.std.specs.Prelude.{◌⊎◌, ◌==◌, flat_map, IfOk, IsErr}
+use Rattle.std.proofs.lemmas.Grind.{flat_map-append}
+use Rattle.avtp_base.specs.declared.failed.Failed.{Failed}
+use Rattle.avtp_base.specs.Told.{Appends}
+use Rattle.avtp_base.proofs.Told.{Appends-trans}
+use Rattle.pcap_frames.specs.Capture.{Record, whole_records}
+use Rattle.sequence_track.specs.declared.seen.Seen.{Seen}
+use Rattle.sequence_track.specs.declared.stream.StreamKey.{StreamKey}
+use Rattle.sequence_track.specs.declared.stream.StreamState.{StreamState}
+use Rattle.sequence_track.specs.Tracking.{StandsFor}
+use Rattle.avtp_text.specs.Listen.{capture_line}
+use Rattle.avtp_text.specs.Written.{AppendsPrefix, written}
+use Rattle.avtp_text.proofs.Printing.{prefix_before}
+use Rattle.avtp_base.specs.Files.{Files}
+use Rattle.capture_io.specs.declared.end.End.{End}
+use Rattle.capture_io.specs.declared.end.End.TheVariants as end
+use Rattle.capture_io.specs.Ends.{CountsFault}
+use Rattle.capture_io.specs.Source.{HasGiven, Sourcing}
+use Rattle.capture_io.proofs.Giving.{given_first}
+use Rattle.avtp_tool.specs.declared.check.Total.{Total}
+use Rattle.avtp_tool.specs.declared.status.Status.{Status}
+use Rattle.avtp_tool.specs.declared.status.Status.TheVariants as status
+use Rattle.avtp_tool.specs.Check.{check_lines, check_report, check_status, checked_record, ChecksRecords, found_lines, HasChecked, joined_lines, noted, notes_of, PrintsFound, total_line}
+use Rattle.avtp_tool.specs.Lines.{of_each}
+use Rattle.avtp_tool.specs.Outcome.{CountsReading, EndsWith}
+use Rattle.avtp_tool.specs.Reading.{file_text, IsReadingStatus}
+use Rattle.avtp_tool.proofs.DoesFile.{IsReadAndTold}
+use Rattle.avtp_tool.proofs.Lines.{each_first, each_more, each_none}
+use Rattle.avtp_tool.proofs.Leaving.{heard_status}
+use Rattle.avtp_tool.proofs.Outcomes.{counts_ended, counts_failed, ok_same, tells_end}
+
+-- ---- lists
+
+-- lines that were made one by one
+pub flat_lines : {A : Type 0} (line : A → List ℕ) (xs : List A) → joined_lines (map line xs) ≡ flat_map line xs
+flat_lines line [] = refl
+flat_lines line (x ∷ xs) = ap (λ rest. line x ++ rest) (flat_lines line xs)
+
+notes_more : (records : List Record) (r : Record) → notes_of (records ++ r ∷ []) ≡ notes_of records ++ noted (checked_record r.bytes)
+notes_more records r = flat_map-append (λ (x : Record). noted (checked_record x.bytes)) records (r ∷ []) ∙ ap (λ (rest : List Seen). notes_of records ++ rest) (append-nil (noted (checked_record r.bytes)))
+
+-- ---- the text
+
+abbrev pub text_of : List ℕ → List Record → List ℕ
+text_of name records = capture_line name ++ joined_lines (of_each check_lines records)
+
+text_none : (name : List ℕ) → text_of name [] ≡ capture_line name
+text_none name = ap (λ (lines : List (List ℕ)). capture_line name ++ joined_lines lines) (each_none check_lines) ∙ append-nil (capture_line name)
+
+text_more : (name : List ℕ) (records : List Record) (r : Record) → text_of name (records ++ r ∷ []) ≡ text_of name records ++ joined_lines (check_lines records r)
+text_more name records r =
+    ap (λ (lines : List (List ℕ)). capture_line name ++ joined_lines lines) (each_more check_lines records r)
+    ∙ ap (λ (t : List ℕ). capture_line name ++ t) (flat_map-append (λ (line : List ℕ). line) (of_each check_lines records) (check_lines records r))
+    ∙ sym (append_assoc (capture_line name) (joined_lines (of_each check_lines records)) (joined_lines (check_lines records r)))
+
+text_first : (name : List ℕ) (records others : List Record) → (rest : List ℕ) × (text_of name (records ++ others) ≡ text_of name records ++ rest)
+text_first name records others =
+    let first = each_first check_lines records others in (
+      joined_lines first.0,
+      ap (λ (lines : List (List ℕ)). capture_line name ++ joined_lines lines) first.1
+          ∙ ap (λ (t : List ℕ). capture_line name ++ t) (flat_map-append (λ (line : List ℕ). line) (of_each check_lines records) first.0)
+          ∙ sym (append_assoc (capture_line name) (joined_lines (of_each check_lines records)) (joined_lines first.0)),
+    )
+
+-- ---- so far
+
+pub record IsCheckedTo (limit : ℕ) (name bytes : List ℕ) (remains : Option (List ℕ)) (source : Sourcing) (tracker : List (StreamKey × StreamState)) (frames found : ℕ) (before now : Option (List ℕ)) : Type 0 where
+  pub records : List Record
+  pub given : HasGiven limit bytes remains source records
+  pub stands : StandsFor tracker (notes_of records)
+  pub counted : frames ≡ length records
+  pub total : found ≡ length (of_each check_lines records)
+  pub lines : Appends before now (text_of name records)
+
+pub none_checked : {limit : ℕ} {bytes : List ℕ} {remains : Option (List ℕ)} {source : Sourcing} {tracker : List (StreamKey × StreamState)} {before now : Option (List ℕ)} (name : List ℕ) → HasGiven limit bytes remains source [] → StandsFor tracker []
+    → Appends before now (capture_line name) → IsCheckedTo limit name bytes remains source tracker 0 0 before now
+none_checked {before = before} {now} name given stands line = record {
+  records = [];
+  given = given;
+  stands = stands;
+  counted = refl;
+  total = sym (ap (λ (lines : List (List ℕ)). length lines) (each_none check_lines));
+  lines = subst (Appends before now) (sym (text_none name)) line;
+}
+
+-- one record more
+pub one_checked : {limit : ℕ} {name bytes : List ℕ} {remains remains' : Option (List ℕ)} {source source' : Sourcing} {tracker tracker' : List (StreamKey × StreamState)} {frames found n : ℕ} {before : Option (List ℕ)} {h h' : Option (List ℕ)} {w w' : List ℕ} {f f' : ℕ} (r : Record)
+    → (to : IsCheckedTo limit name bytes remains source tracker frames found before (written h w)) → HasGiven limit bytes remains' source' (to.records ++ r ∷ [])
+    → ((notes : List Seen) → StandsFor tracker notes → StandsFor tracker' (notes ++ noted (checked_record r.bytes)))
+    → ((notes : List Seen) → StandsFor tracker notes → PrintsFound h h' w w' f f' (Ok n) (found_lines (frames + 1) notes (checked_record r.bytes)))
+    → IsCheckedTo limit name bytes remains' source' tracker' (frames + 1) (found + n) before (written h' w')
+one_checked {name = name} {tracker' = tracker'} {frames} {found} {n} {before} {h} {h'} {w} {w'} r to given stands prints =
+    let records = to.records in
+    let here = prints (notes_of records) to.stands in
+    let lines : found_lines (frames + 1) (notes_of records) (checked_record r.bytes) ≡ check_lines records r = ap (λ (k : ℕ). found_lines (k + 1) (notes_of records) (checked_record r.bytes)) to.counted in
+    let more : length (of_each check_lines (records ++ r ∷ [])) ≡ length (of_each check_lines records) + length (check_lines records r) =
+    ap (λ (ls : List (List ℕ)). length ls) (each_more check_lines records r) ∙ length-append (of_each check_lines records) (check_lines records r) in
+    let counted : n ≡ length (check_lines records r) = here.counted ∙ ap (λ (ls : List (List ℕ)). length ls) lines in
+    let count = to.counted in
+    let sum = to.total in
+    record {
+      records = records ++ r ∷ [];
+      given = given;
+      stands = subst (StandsFor tracker') (sym (notes_more records r)) (stands (notes_of records) to.stands);
+      counted = simp length-append (omega (arith, count));
+      total = omega (arith, more, counted, sum);
+      lines = subst (Appends before (written h' w')) (sym (text_more name records r))
+          (Appends-trans before (written h w) (written h' w') (text_of name records) (joined_lines (check_lines records r)) to.lines (subst (λ (ls : List (List ℕ)). Appends (written h w) (written h' w') (joined_lines ls)) lines here.written));
+    }
+
+-- ---- cut short
+
+-- of the first records a prefix of the lines was printed, so it was of all
+pub some_checked : {limit : ℕ} {bytes : List ℕ} {remains : Option (List ℕ)} {source : Sourcing} {before now : Option (List ℕ)} (name : List ℕ) (records : List Record) → HasGiven limit bytes remains source records → AppendsPrefix before now (text_of name records)
+    → AppendsPrefix before now (text_of name (whole_records (take limit bytes)))
+some_checked {limit} {bytes} {remains} {source} {before} {now} name records given prefix =
+    let first = given_first limit bytes remains source records given in
+    let after = text_first name records first.0 in
+    subst (AppendsPrefix before now) (sym (ap (text_of name) first.1 ∙ after.1)) (prefix_before before now (text_of name records) after.0 prefix)
+
+-- the capture's name is the beginning of every text
+pub name_checked : {before now : Option (List ℕ)} (limit : ℕ) (bytes name : List ℕ) → AppendsPrefix before now (capture_line name) → AppendsPrefix before now (text_of name (whole_records (take limit bytes)))
+name_checked {before} {now} limit bytes name prefix = prefix_before before now (capture_line name) (joined_lines (of_each check_lines (whole_records (take limit bytes)))) prefix
+
+pub checks_failed : (limit : ℕ) (name bytes : List ℕ) (fault : Type 0) (before now : Option (List ℕ)) (result : Result Total Failed) → IsErr result → AppendsPrefix before now (text_of name (whole_records (take limit bytes))) → ChecksRecords limit name bytes fault before now result
+checks_failed limit name bytes fault before now (Ok total) err prefix = absurd cc
+checks_failed limit name bytes fault before now (Err e) err prefix = prefix
+
+-- ---- what `check` makes of a file
+
+pub check_told : {h h' : Option (List ℕ)} {w w' : List ℕ} {n n' : ℕ} {result : Result Status Failed} (limit : ℕ) (name bytes : List ℕ) (fault : Type 0) (total : Total) (before : Option (List ℕ)) → HasChecked limit name bytes fault total before (written h w)
+    → EndsWith (check_status total.findings total.end) h h' w w' n n' result (total_line limit total.frames total.streams total.findings total.end) → IsReadAndTold (check_report limit name) limit bytes fault total.end before (written h' w') result
+check_told limit name bytes fault total before c ends = record {
+  records = c.records;
+  ends = c.ends;
+  tells = tells_end (text_of name c.records) (ap (λ (k : ℕ). check_status k total.end) c.found, rw (c.frames, c.streams, c.found) refl) c.lines ends;
+}
+
+pub some_lines : (limit : ℕ) (name bytes : List ℕ) (before now : Option (List ℕ)) → AppendsPrefix before now (text_of name (whole_records (take limit bytes))) → AppendsPrefix before now (file_text (check_report limit name) limit (Some bytes))
+some_lines limit name bytes before now prefix = prefix_before before now (text_of name (whole_records (take limit bytes))) _ prefix
+
+-- with findings or without, a run over a capture that was read to its end counted no fault of reading
+found_done : (found : ℕ) → (check_status found end.Whole ≡ status.Done) ⊎ (check_status found end.Whole ≡ status.Findings)
+found_done found =
+    elim (found == 0) as (λ (b : Bool). ((if b then status.Done else status.Findings) ≡ status.Done) ⊎ ((if b then status.Done else status.Findings) ≡ status.Findings)) [ true ↦ inl refl | false ↦ inr refl ]
+
+pub counts_checked : {before after : ℕ} {names : List (List ℕ)} {files : Option Files} (found : ℕ) (how : End) (result : Result Status Failed) → before ≤ after → CountsFault None (Some how) before after
+    → IfOk result (λ s. s ≡ check_status found how) → CountsReading names files before after result
+counts_checked found how (Err e) falls counts is = counts_failed e falls
+counts_checked found end.Whole (Ok s) falls counts is = record {
+  never_falls = falls;
+  fault = λ e. absurd (elim (found_done found) [
+    | inl done ↦ (let t : status.ReadFault ≡ status.Done = sym (ok_same (Ok s) s status.ReadFault refl e) ∙ (is ∙ done) in cc)
+    | inr findings ↦ (let t : status.ReadFault ≡ status.Findings = sym (ok_same (Ok s) s status.ReadFault refl e) ∙ (is ∙ findings) in cc)
+  ]);
+  quiet = λ fault memory write. counts;
+}
+counts_checked found (end.Refused refusal) (Ok s) falls counts is = counts_ended (end.Refused refusal) (Ok s) falls counts (inr is)
+counts_checked found end.ReadFault (Ok s) falls counts is = counts_ended end.ReadFault (Ok s) falls counts (inr is)
+counts_checked found end.Limit (Ok s) falls counts is = counts_ended end.Limit (Ok s) falls counts (inr is)
+
+pub own_checked : (found : ℕ) (how : End) (result : Result Status Failed) → IfOk result (λ s. s ≡ check_status found how) → IsReadingStatus result
+own_checked found how (Err e) is = tt
+own_checked found end.Whole (Ok s) is = elim (found_done found) [
+  | inl done ↦ (λ e. (let t : status.Done ≡ status.WriteFault = sym done ∙ (sym is ∙ e) in cc), λ e. (let t : status.Done ≡ status.Words = sym done ∙ (sym is ∙ e) in cc))
+  | inr findings ↦ (λ e. (let t : status.Findings ≡ status.WriteFault = sym findings ∙ (sym is ∙ e) in cc), λ e. (let t : status.Findings ≡ status.Words = sym findings ∙ (sym is ∙ e) in cc))
+]
+own_checked found (end.Refused refusal) (Ok s) is = heard_status (Ok s) (end.Refused refusal) (inr is)
+own_checked found end.ReadFault (Ok s) is = heard_status (Ok s) end.ReadFault (inr is)
+own_checked found end.Limit (Ok s) is = heard_status (Ok s) end.Limit (inr is)

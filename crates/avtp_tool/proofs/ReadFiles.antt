@@ -1,0 +1,221 @@
+-- Files that are read one after the other, from the first to the last of a run.
+use Rattle.std.proofs.Common.{◌≡◌, ℕ, zero, suc, ◌+◌, ◌<◌, ◌≤◌, List, [], ◌∷◌, ◌++◌, length, take, drop, get_or, Option, Some, None, Result, Ok, Err, true, false, inl, inr, refl, sym, ap, subst, ◌∙◌, arith}
+use Rattle.std.specs.Prelude.{◌≢◌, Contains, IfOk, IsErr, IsSome, String, string_bytes}
+use Rattle.std.specs.declared.alloc.Global.{Global}
+use Rattle.std.proofs.lemmas.List.{take_all}
+use Rattle.std.proofs.lemmas.List.Elements.{Contains-append_left, Contains-append_right}
+use Rattle.avtp_base.proofs.Told.{Appends-nil}
+use Rattle.avtp_text.proofs.Printing.{prefix_whole}
+use Rattle.avtp_base.specs.declared.failed.Failed.{Failed}
+use Rattle.avtp_base.specs.Faults.{Rose}
+use Rattle.avtp_base.specs.Files.{Files, Slots, IsMissing, KeepsFiles}
+use Rattle.avtp_base.specs.Told.{Appends}
+use Rattle.avtp_words.specs.Word.{texts}
+use Rattle.capture_io.specs.Reads.{OnlyReads}
+use Rattle.capture_io.proofs.Leaving.{only_reads_nothing, only_reads_then}
+use Rattle.avtp_tool.specs.declared.status.Status.{Status}
+use Rattle.avtp_tool.specs.declared.status.Status.TheVariants as status
+use Rattle.avtp_tool.specs.Outcome.{CountsReading, is_done, IsDone, Tells}
+use Rattle.avtp_tool.specs.Reading.{DoesFile, DoesFiles, InOrder, joined, one_outcome, one_status, one_text, ReadPlan, Report}
+use Rattle.avtp_tool.proofs.InOrder.{all_done, none_read, order_weaker, tells_done, tells_stopped}
+use Rattle.avtp_tool.proofs.OneFile.{file_here, file_weaker}
+use Rattle.avtp_tool.proofs.Outcomes.{counts_err, tells_err}
+
+-- ---- names
+
+names_split : (files : List (String Global)) (i : ℕ) (d : String Global) → i < length files → texts files ≡ take i (texts files) ++ string_bytes (get_or files i d) ∷ drop (suc i) (texts files)
+names_split [] i d lt = absurd (omega (arith, lt))
+names_split (x ∷ files) zero d lt = refl
+names_split (x ∷ files) (suc i) d lt = ap (λ (ns : List (List ℕ)). string_bytes x ∷ ns) (names_split files i d (omega (arith, lt)))
+
+names_more : (files : List (String Global)) (i : ℕ) (d : String Global) → i < length files → take i (texts files) ++ string_bytes (get_or files i d) ∷ [] ≡ take (i + 1) (texts files)
+names_more [] i d lt = absurd (omega (arith, lt))
+names_more (x ∷ files) zero d lt = refl
+names_more (x ∷ files) (suc i) d lt =
+    let more : suc (i + 1) ≡ suc i + 1 = omega arith in
+    ap (λ (ns : List (List ℕ)). string_bytes x ∷ ns) (names_more files i d (omega (arith, lt))) ∙ ap (λ (n : ℕ). take n (texts (x ∷ files))) more
+
+names_count : (files : List (String Global)) → length (texts files) ≡ length files
+names_count [] = refl
+names_count (x ∷ files) = let rest = names_count files in omega (arith, rest)
+
+split_named : (files : List (String Global)) (i : ℕ) (d : String Global) (name : List ℕ) → i < length files → string_bytes (get_or files i d) ≡ name → texts files ≡ take i (texts files) ++ name ∷ drop (suc i) (texts files)
+split_named files i d name within is = names_split files i d within ∙ ap (λ (n : List ℕ). take i (texts files) ++ n ∷ drop (suc i) (texts files)) is
+
+more_named : (files : List (String Global)) (i : ℕ) (d : String Global) (name : List ℕ) → i < length files → string_bytes (get_or files i d) ≡ name → take i (texts files) ++ name ∷ [] ≡ take (i + 1) (texts files)
+more_named files i d name within is = ap (λ (n : List ℕ). take i (texts files) ++ n ∷ []) (sym is) ∙ names_more files i d within
+
+-- ---- what is told
+
+told_still : (b c : Option Files) → KeepsFiles b c → IsSome c → IsSome b
+told_still None None keeps some = some
+told_still None (Some c) keeps some = absurd keeps
+told_still (Some b) c keeps some = refl
+
+told_later : (a b : Option Files) (all : Files) → a ≡ Some all → KeepsFiles a b → IsSome b → (later : Files) × (b ≡ Some later) × ((name : List ℕ) → later name ≡ all name)
+told_later None b all is keeps some = absurd cc
+told_later (Some a) None all is keeps some = absurd cc
+told_later (Some a) (Some b) all is keeps some = let same : a ≡ all = cc in (b, refl, λ name. keeps name ∙ ap (λ (m : Files). m name) same)
+
+missing_before : (a b : Option Files) (name : List ℕ) → KeepsFiles a b → IsMissing b name → IsMissing a name
+missing_before None None name keeps missing = missing
+missing_before None (Some b) name keeps missing = absurd keeps
+missing_before (Some a) None name keeps missing = absurd missing
+missing_before (Some a) (Some b) name keeps missing = sym (keeps name) ∙ missing
+
+-- ---- so far
+
+-- The first files of a plan were read to their end, one after the other.
+pub record IsReadTo (plan : ReadPlan) (all : Files) (before after : ℕ) (names : List (List ℕ)) (ended : Status) (old now : Option (List ℕ)) : Type 0 where
+  pub text : List ℕ
+  pub order : InOrder (one_outcome plan all (Rose before after)) names names ended text
+  pub appends : Appends old now text
+
+-- the same where the files are told, and all else that a run so far left
+pub record ReadsTo (plan : ReadPlan) (names : List (List ℕ)) (ended : Status) (old_files new_files : Option Files) (old_slots new_slots : Slots) (old_reading new_reading old_writing new_writing : ℕ)
+    (old_asked new_asked : List (List ℕ) → Type 0) (old now : Option (List ℕ)) : Type 0 where
+  pub done : is_done ended ≡ true
+  pub reading : new_reading ≡ old_reading
+  pub keeps : OnlyReads old_files new_files old_slots new_slots old_reading new_reading old_writing new_writing old_asked new_asked names
+  pub tells : (all : Files) → old_files ≡ Some all → IsSome new_files → IsReadTo plan all old_reading new_reading names ended old now
+
+pub reads_none : {f : Option Files} {s : Slots} {r w : ℕ} {a : List (List ℕ) → Type 0} {now : Option (List ℕ)} (plan : ReadPlan) → ReadsTo plan [] status.Done f f s s r r w w a a now now
+reads_none {f} {s} {r} {w} {a} {now} plan = record {
+  done = refl;
+  reading = refl;
+  keeps = only_reads_nothing f s r w a;
+  tells = λ all told some. record { text = []; order = none_read (one_outcome plan all (Rose r r)); appends = Appends-nil now };
+}
+
+-- ---- one file more
+
+not_done : (s other : Status) → is_done s ≡ true → is_done other ≡ false → s ≢ other
+not_done s other goes stops e = let t : false ≡ true = sym stops ∙ (ap is_done (sym e) ∙ goes) in cc
+
+-- its count of reading faults, as that of the run
+counts_step : {f h : Option Files} {r q r' : ℕ} (result : Result Status Failed) (names earlier later : List (List ℕ)) (name : List ℕ) → names ≡ earlier ++ name ∷ later → KeepsFiles f h → q ≡ r
+    → CountsReading (name ∷ []) h q r' result → CountsReading names f r r' result
+counts_step {f} {h} {r} {q} {r'} result names earlier later name split keeps same counts = record {
+  never_falls = subst (λ (n : ℕ). n ≤ r') same counts.never_falls;
+  fault = λ e. elim (counts.fault e) [
+    | inl rose ↦ inl (subst (λ (n : ℕ). Rose n r') same rose)
+    | inr one ↦ inr (record {
+      name = one.name;
+      one = subst (λ (ns : List (List ℕ)). Contains ns one.name) (sym split) (Contains-append_right earlier (name ∷ later) one.name (Contains-append_left (name ∷ []) later one.name one.one));
+      missing = missing_before f h one.name keeps one.missing;
+    })
+  ];
+  quiet = quiet_at result counts.quiet;
+} where
+  quiet_at : (x : Result Status Failed) → IfOk x (λ s. s ≢ status.ReadFault → s ≢ status.Memory → s ≢ status.WriteFault → r' ≡ q) → IfOk x (λ s. s ≢ status.ReadFault → s ≢ status.Memory → s ≢ status.WriteFault → r' ≡ r)
+  quiet_at (Ok s) quiet = λ fault memory write. quiet fault memory write ∙ same
+  quiet_at (Err e) quiet = tt
+
+-- what a file tells, in the words of the run
+tells_step : (q r r' : ℕ) {mid now : Option (List ℕ)} {result : Result Status Failed} (plan : ReadPlan) (all later : Files) (name : List ℕ) → later name ≡ all name → q ≡ r
+    → Tells (one_outcome plan later (Rose q r') name) mid now result → Tells (one_outcome plan all (Rose r r') name) mid now result
+tells_step q r r' {mid} {now} {result} plan all later name is same tells =
+    subst (λ (n : ℕ). Tells (one_outcome plan all (Rose n r') name) mid now result) same
+    (subst (λ (t : Option (List ℕ)). Tells (one_outcome plan (λ (n : List ℕ). t) (Rose q r') name) mid now result) is tells)
+
+-- the files before it, when the count may have risen since
+order_step : (r q r' : ℕ) (ended : Status) (text : List ℕ) (plan : ReadPlan) (all : Files) (names : List (List ℕ)) → q ≡ r → r ≤ r' → InOrder (one_outcome plan all (Rose r q)) names names ended text → InOrder (one_outcome plan all (Rose r r')) names names ended text
+order_step r q r' ended text plan all names same falls order =
+    order_weaker (one_outcome plan all (Rose r q)) (one_outcome plan all (Rose r r'))
+    (λ name s t outcome. file_weaker (plan.report name) plan.limit (all name) (Rose r q) (Rose r r') s t (λ rose. omega (arith, rose, same, falls)) outcome) names names ended text order
+
+keeps_more : {f g h : Option Files} {s t u : Slots} {r r' r'' w w' w'' : ℕ} {a b c : List (List ℕ) → Type 0} (files : List (String Global)) (i : ℕ) (d : String Global) (name : List ℕ) → i < length files → string_bytes (get_or files i d) ≡ name
+    → OnlyReads f g s t r r' w w' a b (take i (texts files)) → OnlyReads g h t u r' r'' w' w'' b c (name ∷ []) → OnlyReads f h s u r r'' w w'' a c (take (i + 1) (texts files))
+keeps_more {f} {g} {h} {s} {t} {u} {r} {r'} {r''} {w} {w'} {w''} {a} {b} {c} files i d name within is first second =
+    subst (OnlyReads f h s u r r'' w w'' a c) (more_named files i d name within is)
+    (only_reads_then f g h s t u r r' r'' w w' w'' a b c (take i (texts files)) (name ∷ []) first second)
+
+-- it was read to its end
+pub reads_more : {f h g : Option Files} {s t u : Slots} {r q r' w x w' : ℕ} {a b c : List (List ℕ) → Type 0} {before mid now : Option (List ℕ)} {so_far : Status} {result : Result Status Failed} (plan : ReadPlan) (files : List (String Global)) (i : ℕ) (d : String Global) (name : List ℕ)
+    (ended : Status) → i < length files → string_bytes (get_or files i d) ≡ name → is_done ended ≡ true → result ≡ Ok ended → ReadsTo plan (take i (texts files)) so_far f h s t r q w x a b before mid
+    → DoesFile (plan.report name) plan.limit name h g t u q r' x w' b c mid now result → ReadsTo plan (take (i + 1) (texts files)) (joined so_far ended) f g s u r r' w w' a c before now
+reads_more {f} {h} {g} {s} {t} {u} {r} {q} {r'} {w} {x} {w'} {a} {b} {c} {before} {mid} {now} {so_far} {result} plan files i d name ended within is goes same first second =
+    let keeps = keeps_more files i d name within is first.keeps second.keeps in
+    let here = subst (λ (x : Result Status Failed). IfOk x (λ s. s ≢ status.ReadFault → s ≢ status.Memory → s ≢ status.WriteFault → r' ≡ q)) same second.counts.quiet in
+    record {
+      done = all_done so_far ended first.done goes;
+      reading = here (not_done ended status.ReadFault goes refl) (not_done ended status.Memory goes refl) (not_done ended status.WriteFault goes refl) ∙ first.reading;
+      keeps = keeps;
+      tells = λ all told still.
+          let some = told_still h g second.keeps.files still in
+          let later = told_later f h all told first.keeps.files some in
+          let to = first.tells all told some in
+          let tells = subst (λ (x : Result Status Failed). Tells (one_outcome plan all (Rose r r') name) mid now x) same (tells_step q r r' plan all later.0 name (later.2 name) first.reading (second.tells later.0 later.1)) in
+          let more = tells_done before mid now (one_outcome plan all (Rose r r')) (take i (texts files)) name to.text so_far ended first.done goes (order_step r q r' so_far to.text plan all (take i (texts files)) first.reading keeps.reading to.order) to.appends tells in
+          subst (λ (ns : List (List ℕ)). IsReadTo plan all r r' ns (joined so_far ended) before now) (more_named files i d name within is) (record { text = more.0; order = more.1; appends = more.2 });
+    }
+
+-- it ended the run
+pub reads_stopped : {f h g : Option Files} {s t u : Slots} {r q r' w x w' : ℕ} {a b c : List (List ℕ) → Type 0} {before mid now : Option (List ℕ)} {so_far : Status} {result : Result Status Failed} (plan : ReadPlan) (files : List (String Global)) (i : ℕ) (d : String Global) (name : List ℕ)
+    → plan.names ≡ texts files → i < length files → string_bytes (get_or files i d) ≡ name → (IsDone result → ⊥) → ReadsTo plan (take i (texts files)) so_far f h s t r q w x a b before mid
+    → DoesFile (plan.report name) plan.limit name h g t u q r' x w' b c mid now result → DoesFiles plan f g s u r r' w w' a c before now result
+reads_stopped {f} {h} {g} {s} {t} {u} {r} {q} {r'} {w} {x} {w'} {a} {b} {c} {before} {mid} {now} {so_far} {result} plan files i d name named within is stopped first second =
+    let earlier = take i (texts files) in
+    let rest = drop (suc i) (texts files) in
+    let split = named ∙ split_named files i d name within is in
+    let keeps = keeps_more files i d name within is first.keeps second.keeps in
+    let all_names = names_count files in
+    record {
+      tells = λ all told still.
+          let some = told_still h g second.keeps.files still in
+          let later = told_later f h all told first.keeps.files some in
+          let to = first.tells all told some in
+          tells_stopped (one_outcome plan all (Rose r r')) (one_status plan all) (one_text plan all) (λ n. file_here (plan.report n) plan.limit (all n) (Rose r r')) earlier rest plan.names name to.text so_far split first.done
+          (order_step r q r' so_far to.text plan all earlier first.reading keeps.reading to.order) to.appends (tells_step q r r' plan all later.0 name (later.2 name) first.reading (second.tells later.0 later.1)) stopped
+          (λ names stands. subst (λ (ns : List (List ℕ)). c (names ++ ns)) (sym (more_named files i d name within is)) (keeps.asked names stands));
+      count = i + 1;
+      within = subst (λ (ns : List (List ℕ)). i + 1 ≤ length ns) (sym named) (omega (arith, within, all_names));
+      all = λ done. absurd (stopped done);
+      keeps = subst (λ (ns : List (List ℕ)). OnlyReads f g s u r r' w w' a c (take (i + 1) ns)) (sym named) keeps;
+      counts = counts_step result plan.names earlier rest name split first.keeps.files first.reading second.counts;
+      own = second.own;
+    }
+
+-- no file was left
+pub reads_all : {f g : Option Files} {s t : Slots} {r r' w w' : ℕ} {a b : List (List ℕ) → Type 0} {before now : Option (List ℕ)} (plan : ReadPlan) (files : List (String Global)) (i : ℕ) (ended : Status) → plan.names ≡ texts files → length files ≤ i
+    → ReadsTo plan (take i (texts files)) ended f g s t r r' w w' a b before now → DoesFiles plan f g s t r r' w w' a b before now (Ok ended)
+reads_all {f} {g} {s} {t} {r} {r'} {w} {w'} {a} {b} {before} {now} plan files i ended named past to =
+    let count = names_count files in
+    let whole : take i (texts files) ≡ plan.names = take_all i (texts files) (omega (arith, count, past)) ∙ sym named in
+    let keeps = subst (OnlyReads f g s t r r' w w' a b) whole to.keeps in
+    record {
+      tells = λ all told still.
+          let read = subst (λ (ns : List (List ℕ)). IsReadTo plan all r r' ns ended before now) whole (to.tells all told still) in
+          record { came = plan.names; ended = ended; text = read.text; outcome = read.order; whole = λ memory write. (refl, read.appends, keeps.asked); part = prefix_whole before now read.text read.appends };
+      count = length plan.names;
+      within = omega arith;
+      all = λ done. refl;
+      keeps = subst (OnlyReads f g s t r r' w w' a b) (sym (take_all (length plan.names) plan.names (omega arith))) keeps;
+      counts = record { never_falls = omega (arith, to.reading); fault = λ e. absurd (not_done ended status.ReadFault to.done refl cc); quiet = λ fault memory write. to.reading };
+      own = (not_done ended status.WriteFault to.done refl, not_done ended status.Words to.done refl);
+    }
+
+-- ---- a failed write
+
+pub never_done : (result : Result Status Failed) → IsErr result → IsDone result → ⊥
+never_done (Ok s) err done = absurd cc
+never_done (Err e) err done = done
+
+-- a run that ends with a status of another kind is not done
+pub other_ends : (s : Status) → s ≢ status.Done → s ≢ status.Findings → IsDone (Ok s) → ⊥
+other_ends status.Done done findings is = done refl
+other_ends status.Findings done findings is = findings refl
+other_ends status.Words done findings is = absurd cc
+other_ends status.Refused done findings is = absurd cc
+other_ends status.ReadFault done findings is = absurd cc
+other_ends status.WriteFault done findings is = absurd cc
+other_ends status.Memory done findings is = absurd cc
+other_ends status.Limit done findings is = absurd cc
+other_ends status.DeviceFault done findings is = absurd cc
+other_ends status.TalkInput done findings is = absurd cc
+
+-- it is one whatever was to be answered
+pub does_failed : {report : Report} {limit : ℕ} {name : List ℕ} {f g : Option Files} {s t : Slots} {r r' w w' : ℕ} {a b : List (List ℕ) → Type 0} {before now : Option (List ℕ)} {e : Failed} (result : Result Status Failed) → IsErr result
+    → DoesFile report limit name f g s t r r' w w' a b before now (Err e) → DoesFile report limit name f g s t r r' w w' a b before now result
+does_failed (Ok s) err does = absurd cc
+does_failed (Err e') err does = record { tells = λ all told. tells_err err (does.tells all told); keeps = does.keeps; counts = counts_err (Err e') err does.keeps.reading; own = tt }

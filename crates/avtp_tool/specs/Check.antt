@@ -1,0 +1,156 @@
+-- What `check` prints and how it ends. Its rules are this project's own.
+use Rattle.std.specs.Prelude.{◌≡◌, ◌==◌, ℕ, ◌+◌, Bool, false, if◌then◌else◌, List, [], ◌∷◌, ◌++◌, flat_map, length, map, take, Option, Some, None, MatchResult, IfOk, Result, Ok, Err}
+use Rattle.std.specs.Option.{option_map}
+use Rattle.avtp_base.specs.declared.failed.Failed.{Failed}
+use Rattle.avtp_base.specs.declared.refusal.Refusal.{Refusal}
+use Rattle.avtp_base.specs.Told.{Appends, Keeps}
+use Rattle.pcap_frames.specs.Capture.{Record, whole_records}
+use Rattle.pcap_frames.specs.Frame.{Frame, frame_refusal, frame_of}
+use Rattle.packet_journal.specs.Deliveries.{avtp_ethertype}
+use Rattle.avtp_packet.specs.declared.packet_stream.PacketStream.{PacketStream}
+use Rattle.avtp_packet.specs.Packet.{AnyPacket, packet_of, packet_refusal}
+use Rattle.avtp_packet.specs.PacketStream.{has_reserved, stream_of}
+use Rattle.avtp_packet.specs.StampPattern.{stamp_is_off}
+use Rattle.sequence_track.specs.declared.seen.Findings.{Findings}
+use Rattle.sequence_track.specs.declared.seen.Seen.{Seen}
+use Rattle.sequence_track.specs.Findings.{findings, tracked}
+use Rattle.avtp_text.specs.Check.{end_check_line, finding_texts, malformed_line, packet_line}
+use Rattle.avtp_text.specs.Listen.{capture_line}
+use Rattle.avtp_text.specs.Notices.{capture_refused_line, limit_line, read_fault_line}
+use Rattle.avtp_text.specs.Written.{AppendsPrefix, written}
+use Rattle.capture_io.specs.declared.end.End.{End}
+use Rattle.capture_io.specs.declared.end.End.TheVariants as end
+use Rattle.capture_io.specs.Ends.{CountsFault}
+use Rattle.capture_io.specs.Source.{EndsAfter}
+use Rattle.avtp_tool.specs.declared.check.Total.{Total}
+use Rattle.avtp_tool.specs.declared.checked.Checked.{Checked}
+use Rattle.avtp_tool.specs.declared.checked.Checked.TheVariants.{Passed, Malformed, Unmarked, Marked}
+use Rattle.avtp_tool.specs.declared.status.Status.{Status}
+use Rattle.avtp_tool.specs.declared.status.Status.TheVariants as status
+use Rattle.avtp_tool.specs.Lines.{of_each}
+use Rattle.avtp_tool.specs.Outcome.{KeepsSink}
+use Rattle.avtp_tool.specs.Reading.{ReadPlan, Report}
+use Rattle.avtp_tool.specs.Record.{inside}
+use Rattle.avtp_tool.specs.Status.{status_of}
+
+-- ---- a record by itself
+
+abbrev pub malformed_or : Option Refusal → Checked → Checked
+malformed_or (Some refusal) checked = Malformed refusal
+malformed_or None checked = checked
+
+-- what is noted of a packet
+abbrev pub seen_of : PacketStream → AnyPacket → Seen
+seen_of stream packet = record {
+  id = stream.id;
+  subtype = stream.subtype;
+  seq = stream.seq;
+  mr = stream.mr;
+  reserved = has_reserved packet;
+  stamp_wrong = stamp_is_off packet;
+}
+
+-- A packet is noted where its stream id is valid. One of another format is passed.
+abbrev pub checked_stream : Option PacketStream → AnyPacket → Checked
+checked_stream None packet = Passed
+checked_stream (Some stream) packet =
+    if stream.sv then Marked (seen_of stream packet) else Unmarked stream.id (has_reserved packet)
+
+-- a packet of AVTP, which begins at this offset of its frame
+unfoldable pub checked_packet : ℕ → List ℕ → Checked
+checked_packet start pdu =
+    malformed_or (option_map (inside start) (packet_refusal pdu)) (checked_stream (stream_of (packet_of pdu)) (packet_of pdu))
+
+-- a frame that was read; one of another EtherType is passed
+unfoldable pub checked_frame : Frame → Checked
+checked_frame frame = if frame.ethertype == avtp_ethertype then checked_packet frame.start frame.payload else Passed
+
+-- the bytes of a record
+unfoldable pub checked_record : List ℕ → Checked
+checked_record bytes = malformed_or (frame_refusal bytes) (checked_frame (frame_of bytes))
+
+-- ---- a record after others
+
+-- what it adds to the packets that are noted
+abbrev pub noted : Checked → List Seen
+noted (Marked seen) = seen ∷ []
+noted checked = []
+
+-- the packets that are noted of these records, in order
+abbrev pub notes_of : List Record → List Seen
+notes_of records = flat_map (λ r. noted (checked_record r.bytes)) records
+
+-- what is found in a packet without a valid stream id
+abbrev pub unmarked_findings : Bool → Findings
+unmarked_findings reserved = record { reserved = reserved; step = None; hold = None; stamp = false; untracked = false }
+
+-- a line for each finding in a record of this number, after these notes
+abbrev pub found_lines : ℕ → List Seen → Checked → List (List ℕ)
+found_lines number notes Passed = []
+found_lines number notes (Malformed refusal) = malformed_line number refusal ∷ []
+found_lines number notes (Unmarked id reserved) = map (packet_line number id) (finding_texts (unmarked_findings reserved))
+found_lines number notes (Marked seen) = map (packet_line number seen.id) (finding_texts (findings notes seen))
+
+-- the same of a record after others: it has the next number
+abbrev pub check_lines : List Record → Record → List (List ℕ)
+check_lines earlier r = found_lines (length earlier + 1) (notes_of earlier) (checked_record r.bytes)
+
+-- ---- a capture
+
+abbrev pub joined_lines : List (List ℕ) → List ℕ
+joined_lines lines = flat_map (λ line. line) lines
+
+-- the last line, by how many records were read, streams are tracked and findings were made
+abbrev pub total_line : ℕ → ℕ → ℕ → ℕ → End → List ℕ
+total_line limit frames streams found end.Whole = end_check_line frames streams found
+total_line limit frames streams found (end.Refused refusal) = capture_refused_line refusal
+total_line limit frames streams found end.ReadFault = read_fault_line
+total_line limit frames streams found end.Limit = limit_line limit
+
+abbrev pub check_text : ℕ → List ℕ → List Record → End → List ℕ
+check_text limit name records how =
+    (capture_line name ++ joined_lines (of_each check_lines records))
+    ++ total_line limit (length records) (length (tracked (notes_of records))) (length (of_each check_lines records)) how
+
+-- A capture that was read to its end has findings or none; any other ends as its reading did.
+abbrev pub check_status : ℕ → End → Status
+check_status found end.Whole = if found == 0 then status.Done else status.Findings
+check_status found how = status_of how
+
+-- what `check` makes of a file of this name
+abbrev pub check_report : ℕ → List ℕ → Report
+check_report limit name = record {
+  status = λ records how. check_status (length (of_each check_lines records)) how;
+  text = check_text limit name;
+}
+
+abbrev pub check_plan : ℕ → List (List ℕ) → ReadPlan
+check_plan limit names = record { names = names; limit = limit; report = check_report limit }
+
+-- ---- what is done
+
+-- The lines of the findings in a record were printed, and counted; or where the sink failed, none of them.
+pub record PrintsFound (held held' : Option (List ℕ)) (waits waits' : List ℕ) (faults faults' : ℕ) (result : Result ℕ Failed) (lines : List (List ℕ)) : Type 0 where
+  pub written : MatchResult result (λ _. Appends (written held waits) (written held' waits') (joined_lines lines)) (λ _. Keeps (written held waits) (written held' waits'))
+  pub counted : IfOk result (λ n. n ≡ length lines)
+  pub sink : KeepsSink held held' faults faults' result
+
+-- The records of a file of these bytes, as far as it could be read, were checked and counted, and its reading ended so.
+pub record HasChecked (limit : ℕ) (name bytes : List ℕ) (fault : Type 0) (total : Total) (before now : Option (List ℕ)) : Type 0 where
+  pub records : List Record
+  pub ends : EndsAfter limit bytes fault total.end records
+  pub frames : total.frames ≡ length records
+  pub streams : total.streams ≡ length (tracked (notes_of records))
+  pub found : total.findings ≡ length (of_each check_lines records)
+  pub lines : Appends before now (capture_line name ++ joined_lines (of_each check_lines records))
+
+-- They were checked, or where the sink failed a prefix of their lines was printed.
+abbrev pub ChecksRecords : ℕ → List ℕ → List ℕ → Type 0 → Option (List ℕ) → Option (List ℕ) → Result Total Failed → Type 0
+ChecksRecords limit name bytes fault before now (Ok total) = HasChecked limit name bytes fault total before now
+ChecksRecords limit name bytes fault before now (Err e) =
+    AppendsPrefix before now (capture_line name ++ joined_lines (of_each check_lines (whole_records (take limit bytes))))
+
+-- The count of reading faults rose where one ended the reading, and else it is as it was.
+abbrev pub CountsChecked : ℕ → ℕ → Result Total Failed → Type 0
+CountsChecked before after (Ok total) = CountsFault None (Some total.end) before after
+CountsChecked before after (Err e) = after ≡ before

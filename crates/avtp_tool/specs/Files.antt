@@ -1,0 +1,24 @@
+-- What is done with each file of a command that reads several.
+use Rattle.std.specs.Prelude.{ℕ, ◌^◌, ◌≤◌, List}
+use Rattle.avtp_words.specs.Grammar.{listening_of}
+use Rattle.avtp_tool.specs.declared.files.Reading.{Reading}
+use Rattle.avtp_tool.specs.declared.files.Reading.TheVariants.{Check, Listen}
+use Rattle.avtp_tool.specs.Check.{check_report}
+use Rattle.avtp_tool.specs.Listen.{heard_limit, listen_report}
+use Rattle.avtp_tool.specs.Reading.{ReadPlan, Report}
+use Rattle.avtp_tool.specs.Run.{IsListening}
+
+abbrev pub report_for : Reading → List ℕ → Report
+report_for (Check limit) name = check_report limit name
+report_for (Listen asked) name = listen_report (listening_of asked.now) name
+
+abbrev pub limit_for : Reading → ℕ
+limit_for (Check limit) = limit
+limit_for (Listen asked) = heard_limit
+
+abbrev pub plan_for : Reading → List (List ℕ) → ReadPlan
+plan_for reading names = record { names = names; limit = limit_for reading; report = report_for reading }
+
+abbrev pub IsReading : Reading → Type 0
+IsReading (Check limit) = limit ≤ 2 ^ 40
+IsReading (Listen asked) = IsListening (listening_of asked.now)

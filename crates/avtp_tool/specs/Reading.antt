@@ -1,0 +1,132 @@
+-- Files that a command reads in order: what may become of each, and of all.
+use Rattle.std.specs.Prelude.{◌≡◌, ◌≢◌, ◌⊎◌, ℕ, ◌≤◌, List, [], ◌∷◌, ◌++◌, length, take, Option, Some, None, IfOk, IsSome, Result, if◌then◌else◌, true, false}
+use Rattle.avtp_base.specs.declared.failed.Failed.{Failed}
+use Rattle.avtp_base.specs.Faults.{Rose}
+use Rattle.avtp_base.specs.Files.{Files, Slots}
+use Rattle.pcap_frames.specs.Capture.{Record, whole_records}
+use Rattle.avtp_text.specs.Notices.{read_fault_line}
+use Rattle.capture_io.specs.declared.end.End.{End}
+use Rattle.capture_io.specs.Ends.{EndsAt, end_of}
+use Rattle.capture_io.specs.Reads.{OnlyReads}
+use Rattle.avtp_tool.specs.declared.status.Status.{Status}
+use Rattle.avtp_tool.specs.declared.status.Status.TheVariants as status
+use Rattle.avtp_tool.specs.Outcome.{CountsReading, is_done, IsDone, Tells, TellsRun}
+
+-- ---- one file
+
+-- What a command makes of a file that it has read: a status and a text, by the records before the place where the reading
+-- ended, and how it ended.
+pub record Report : Type 0 where
+  pub status : List Record → End → Status
+  pub text : List Record → End → List ℕ
+
+-- A file of these bytes was opened, and at most `limit` of them were read.
+pub record ReadOutcome (report : Report) (limit : ℕ) (bytes : List ℕ) (fault : Type 0) (ended : Status) (text : List ℕ) : Type 0 where
+  pub how : End
+  pub prefix : List ℕ
+  pub ends : EndsAt limit (Some bytes) fault how prefix
+  pub status : ended ≡ report.status (whole_records prefix) how
+  pub printed : text ≡ report.text (whole_records prefix) how
+
+-- A file that a shelf tells so can end with this status and give this text. One that is missing or could not be opened gives
+-- a fault of reading alone; what that needs otherwise is `fault`.
+abbrev pub FileOutcome : Report → ℕ → Option (List ℕ) → Type 0 → Status → List ℕ → Type 0
+FileOutcome report limit None fault ended text = (ended ≡ status.ReadFault) × (text ≡ read_fault_line)
+FileOutcome report limit (Some bytes) fault ended text =
+    ReadOutcome report limit bytes fault ended text ⊎ (fault × (ended ≡ status.ReadFault) × (text ≡ read_fault_line))
+
+-- the same as functions, where no fault of reading comes
+abbrev pub file_status : Report → ℕ → Option (List ℕ) → Status
+file_status report limit None = status.ReadFault
+file_status report limit (Some bytes) = report.status (whole_records (take limit bytes)) (end_of limit bytes)
+
+abbrev pub file_text : Report → ℕ → Option (List ℕ) → List ℕ
+file_text report limit None = read_fault_line
+file_text report limit (Some bytes) = report.text (whole_records (take limit bytes)) (end_of limit bytes)
+
+-- ---- files in order
+
+-- the status of a run whose first file ended so, and the rest of it so
+abbrev pub joined : Status → Status → Status
+joined first status.Done = first
+joined first rest = rest
+
+-- Files are read in order, each to its end, up to the first that ends otherwise and with it the run. `One` says of a file
+-- of a name with which status and which text it can end. `read` are those to which the run came.
+unfoldable pub InOrder : (List ℕ → Status → List ℕ → Type 0) → List (List ℕ) → List (List ℕ) → Status → List ℕ → Type 0
+InOrder One [] read ended text = (read ≡ []) × (ended ≡ status.Done) × (text ≡ [])
+InOrder One (name ∷ names) read ended text =
+    ((is_done ended ≡ false) × (read ≡ name ∷ []) × One name ended text)
+    ⊎ ((others : List (List ℕ)) × (first : Status) × (rest : Status) × (here : List ℕ) × (more : List ℕ)
+    × (is_done first ≡ true) × One name first here × InOrder One names others rest more
+    × (read ≡ name ∷ others) × (ended ≡ joined first rest) × (text ≡ here ++ more))
+
+-- the same as functions, where the status and the text of a file are functions of its name
+unfoldable pub in_order_read : (List ℕ → Status) → List (List ℕ) → List (List ℕ)
+in_order_read one [] = []
+in_order_read one (name ∷ names) = name ∷ (if is_done (one name) then in_order_read one names else [])
+
+unfoldable pub in_order_status : (List ℕ → Status) → List (List ℕ) → Status
+in_order_status one [] = status.Done
+in_order_status one (name ∷ names) = if is_done (one name) then joined (one name) (in_order_status one names) else one name
+
+unfoldable pub in_order_text : (List ℕ → Status) → (List ℕ → List ℕ) → List (List ℕ) → List ℕ
+in_order_text one text [] = []
+in_order_text one text (name ∷ names) = text name ++ (if is_done (one name) then in_order_text one text names else [])
+
+-- ---- a command
+
+-- Which files a command reads, in order, at most how many bytes of each, and what it makes of each.
+pub record ReadPlan : Type 0 where
+  pub names : List (List ℕ)
+  pub limit : ℕ
+  pub report : List ℕ → Report
+
+-- the file of a name, as a shelf tells its files
+abbrev pub one_outcome : ReadPlan → Files → Type 0 → List ℕ → Status → List ℕ → Type 0
+one_outcome plan files fault name ended text = FileOutcome (plan.report name) plan.limit (files name) fault ended text
+
+-- It can come to these files, end with this status and print this text.
+abbrev pub PlanOutcome : ReadPlan → Files → Type 0 → List (List ℕ) → Status → List ℕ → Type 0
+PlanOutcome plan files fault read ended text = InOrder (one_outcome plan files fault) plan.names read ended text
+
+-- the same as functions, where no fault of reading comes
+abbrev pub one_status : ReadPlan → Files → List ℕ → Status
+one_status plan files name = file_status (plan.report name) plan.limit (files name)
+
+abbrev pub one_text : ReadPlan → Files → List ℕ → List ℕ
+one_text plan files name = file_text (plan.report name) plan.limit (files name)
+
+abbrev pub plan_read : ReadPlan → Files → List (List ℕ)
+plan_read plan files = in_order_read (one_status plan files) plan.names
+
+abbrev pub plan_status : ReadPlan → Files → Status
+plan_status plan files = in_order_status (one_status plan files) plan.names
+
+abbrev pub plan_text : ReadPlan → Files → List ℕ
+plan_text plan files = in_order_text (one_status plan files) (one_text plan files) plan.names
+
+-- ---- what was done
+
+-- A run that only reads ends with a status that tells of no failed write and of no words.
+abbrev pub IsReadingStatus : Result Status Failed → Type 0
+IsReadingStatus result = IfOk result (λ s. (s ≢ status.WriteFault) × (s ≢ status.Words))
+
+-- The file of a name was read, of which `limit` bytes may be, and nothing else was done.
+pub record DoesFile (report : Report) (limit : ℕ) (name : List ℕ) (old_files new_files : Option Files) (old_slots new_slots : Slots) (old_reading new_reading old_writing new_writing : ℕ)
+    (old_asked new_asked : List (List ℕ) → Type 0) (before now : Option (List ℕ)) (result : Result Status Failed) : Type 0 where
+  pub tells : (all : Files) → old_files ≡ Some all → Tells (FileOutcome report limit (all name) (Rose old_reading new_reading)) before now result
+  pub keeps : OnlyReads old_files new_files old_slots new_slots old_reading new_reading old_writing new_writing old_asked new_asked (name ∷ [])
+  pub counts : CountsReading (name ∷ []) old_files old_reading new_reading result
+  pub own : IsReadingStatus result
+
+-- The files of a plan were read in order, as far as the run came, and nothing else was done.
+pub record DoesFiles (plan : ReadPlan) (old_files new_files : Option Files) (old_slots new_slots : Slots) (old_reading new_reading old_writing new_writing : ℕ)
+    (old_asked new_asked : List (List ℕ) → Type 0) (before now : Option (List ℕ)) (result : Result Status Failed) : Type 0 where
+  pub tells : (all : Files) → old_files ≡ Some all → IsSome new_files → TellsRun (PlanOutcome plan all (Rose old_reading new_reading)) old_asked new_asked before now result
+  pub count : ℕ
+  pub within : count ≤ length plan.names
+  pub all : IsDone result → count ≡ length plan.names
+  pub keeps : OnlyReads old_files new_files old_slots new_slots old_reading new_reading old_writing new_writing old_asked new_asked (take count plan.names)
+  pub counts : CountsReading plan.names old_files old_reading new_reading result
+  pub own : IsReadingStatus result

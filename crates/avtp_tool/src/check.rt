@@ -1,0 +1,197 @@
+//! The command `check`: what breaks the rules of a stream.
+
+ghost use Rattle.std.specs.Prelude.{◌≡◌, ◌==◌, ◌*◌, ◌+◌, ◌++◌, ◌^◌, ◌≤◌, ℕ, List, None, [], IsSome, IfOk, map};
+ghost use Rattle.avtp_base.specs.Faults.{Rose};
+ghost use Rattle.avtp_base.specs.Files.{left_in};
+ghost use Rattle.sequence_track.specs.declared.seen.Seen.{Seen as SeenValue};
+ghost use Rattle.sequence_track.specs.Tracking.{StandsFor};
+ghost use Rattle.avtp_text.specs.Check.{finding_texts, packet_line};
+ghost use Rattle.avtp_text.specs.Written.{written, Prints};
+ghost use Rattle.capture_io.specs.Reads.{ReadsSlot};
+ghost use Rattle.capture_io.specs.Source.{HasGiven, slot_of, to_do};
+ghost use Rattle.avtp_tool.specs.Check.{check_report, check_status, ChecksRecords, CountsChecked, found_lines, noted, PrintsFound, total_line, unmarked_findings};
+ghost use Rattle.avtp_tool.specs.Outcome.{EndsWith, KeepsSink};
+ghost use Rattle.avtp_tool.specs.Reading.{DoesFile};
+
+use crate::checked::{Checked, checked_record, count};
+use crate::command::print_unopened;
+use crate::status::Status;
+use avtp_base::{Failed, Shelf, Sink};
+use avtp_text::Text;
+use capture_io::{End, Source};
+use sequence_track::{Findings, Tracker};
+use std::alloc::Global;
+
+/// What was counted of a capture, and how its reading ended.
+#[derive(Clone, Copy, Debug, PartialEq, Eq)]
+pub struct Total {
+    pub frames: u64,
+    pub streams: u32,
+    pub findings: u64,
+    pub end: End,
+}
+
+/// Prints a capture's name, what is found in it, and its numbers. At most `limit` bytes of it are read.
+pub fn check<F: Shelf, S: Sink>(
+    alloc: Global,
+    limit: u64,
+    file: &str,
+    shelf: &mut F,
+    text: &mut Text,
+    out: &mut S,
+) -> Result<Status, Failed>
+    requires { limit ≤ 2 ^ 40 }
+    ensures does { DoesFile (check_report limit file.now) limit file.now (F.files shelf.old) (F.files shelf.new) (F.slots shelf.old) (F.slots shelf.new) (F.reading_faults shelf.old) (F.reading_faults shelf.new)
+        (F.writing_faults shelf.old) (F.writing_faults shelf.new) (F.asked shelf.old) (F.asked shelf.new) (written (S.held out.old) text.old) (written (S.held out.new) text.new) result }
+    ensures sink { KeepsSink (S.held out.old) (S.held out.new) (S.faults out.old) (S.faults out.new) result }
+{
+    let mut source = match Source::open(alloc, limit, shelf, file) {
+        Ok(source) => source,
+        Err(fault) => return print_unopened(text, out, fault),
+    };
+    let Ok(tracker) = Tracker::begin(alloc) else {
+        source.close(shelf);
+        return Ok(Status::Memory);
+    };
+    let checked = check_records(file, tracker, &mut source, shelf, text, out);
+    source.close(shelf);
+    match checked {
+        Ok(total) => print_total(text, out, limit, total),
+        Err(Failed) => Err(Failed),
+    }
+}
+
+/// Prints a capture's name and what is found in each of its records, in order, as far as it can be read.
+fn check_records<F: Shelf, S: Sink>(
+    file: &str,
+    mut tracker: Tracker,
+    source: &mut Source,
+    shelf: &mut F,
+    text: &mut Text,
+    out: &mut S,
+) -> Result<Total, Failed>
+    requires begun { (source.old.ended ≡ None) × IsSome (F.slots shelf.old (slot_of source.old)) }
+    requires limit { to_do source.old ≤ 2 ^ 41 }
+    requires stands { StandsFor tracker [] }
+    ensures checked { (limit : ℕ) (bytes : List ℕ) → HasGiven limit bytes (left_in (F.slots shelf.old) (slot_of source.old)) source.old [] →
+        ChecksRecords limit file.now bytes (Rose (F.reading_faults shelf.old) (F.reading_faults shelf.new)) (written (S.held out.old) text.old) (written (S.held out.new) text.new) result }
+    ensures reads { ReadsSlot (F.files shelf.old) (F.files shelf.new) (F.slots shelf.old) (F.slots shelf.new) (F.reading_faults shelf.old) (F.reading_faults shelf.new)
+        (F.writing_faults shelf.old) (F.writing_faults shelf.new) (F.asked shelf.old) (F.asked shelf.new) (slot_of source.old) }
+    ensures slot { slot_of source.new ≡ slot_of source.old }
+    ensures counts { CountsChecked (F.reading_faults shelf.old) (F.reading_faults shelf.new) result }
+    ensures sink { KeepsSink (S.held out.old) (S.held out.new) (S.faults out.old) (S.faults out.new) result }
+{
+    text.capture(out, file)?;
+    let mut frames = 0;
+    let mut findings = 0;
+    loop {
+        if let Some(end) = source.next(shelf) {
+            return Ok(Total {
+                frames,
+                streams: tracker.streams(),
+                findings,
+                end,
+            });
+        }
+        frames += 1;
+        let checked = checked_record(source.record().bytes);
+        findings += print_checked(&mut tracker, text, out, frames, checked)?;
+    }
+}
+
+/// Notes the packet of a record, and prints a line for each finding in it. Answers how many they are.
+fn print_checked<S: Sink>(
+    tracker: &mut Tracker,
+    text: &mut Text,
+    out: &mut S,
+    number: u64,
+    checked: Checked,
+) -> Result<u64, Failed>
+    ensures stands { (notes : List SeenValue) → StandsFor tracker.old notes → StandsFor tracker.new (notes ++ noted checked) }
+    ensures prints { (notes : List SeenValue) → StandsFor tracker.old notes →
+        PrintsFound (S.held out.old) (S.held out.new) text.old text.new (S.faults out.old) (S.faults out.new) result (found_lines number notes checked) }
+    ensures few { IfOk result (λ n. n ≤ 5) }
+    ensures sink { KeepsSink (S.held out.old) (S.held out.new) (S.faults out.old) (S.faults out.new) result }
+{
+    match checked {
+        Checked::Passed => Ok(0),
+        Checked::Malformed(refusal) => {
+            text.finding_malformed(out, number, refusal)?;
+            Ok(1)
+        }
+        Checked::Unmarked { id, reserved } => {
+            print_findings(text, out, number, id, &of_unmarked(reserved))
+        }
+        Checked::Marked(seen) => {
+            let findings = tracker.note(seen);
+            print_findings(text, out, number, seen.id, &findings)
+        }
+    }
+}
+
+/// What is found in a packet whose stream id is not valid.
+fn of_unmarked(reserved: bool) -> Findings
+    ensures { result ≡ unmarked_findings reserved }
+{
+    Findings {
+        reserved,
+        step: None,
+        hold: None,
+        stamp: false,
+        untracked: false,
+    }
+}
+
+/// Prints a line for each finding in a packet. Answers how many they are.
+fn print_findings<S: Sink>(
+    text: &mut Text,
+    out: &mut S,
+    number: u64,
+    id: u64,
+    findings: &Findings,
+) -> Result<u64, Failed>
+    ensures prints { PrintsFound (S.held out.old) (S.held out.new) text.old text.new (S.faults out.old) (S.faults out.new) result (map (packet_line number id) (finding_texts findings.now)) }
+    ensures few { IfOk result (λ n. n ≤ 5) }
+{
+    text.findings(out, number, id, findings)?;
+    Ok(count(findings))
+}
+
+/// Prints a capture's numbers, or why it was not read to its end.
+fn print_total<S: Sink>(
+    text: &mut Text,
+    out: &mut S,
+    limit: u64,
+    total: Total,
+) -> Result<Status, Failed>
+    ensures { EndsWith (check_status total.findings total.end) (S.held out.old) (S.held out.new) text.old text.new (S.faults out.old) (S.faults out.new) result (total_line limit total.frames total.streams total.findings total.end) }
+{
+    print_total_line(text, out, limit, total)?;
+    Ok(status_of(total))
+}
+
+fn print_total_line<S: Sink>(
+    text: &mut Text,
+    out: &mut S,
+    limit: u64,
+    total: Total,
+) -> Result<(), Failed>
+    ensures { Prints (S.held out.old) (S.held out.new) text.old text.new (S.faults out.old) (S.faults out.new) result (total_line limit total.frames total.streams total.findings total.end) }
+{
+    match total.end {
+        End::Whole => text.end_check(out, total.frames, u64::from(total.streams), total.findings),
+        End::Refused(refusal) => text.capture_refused(out, refusal),
+        End::ReadFault => text.read_fault(out),
+        End::Limit => text.limit(out, limit),
+    }
+}
+
+/// How a run ends with a capture of these numbers.
+fn status_of(total: Total) -> Status
+    ensures { result ≡ check_status total.findings total.end }
+{
+    match total.end {
+        End::Whole if total.findings > 0 => Status::Findings,
+        end => Status::of(end),
+    }
+}
