@@ -2,6 +2,7 @@
 //! frames each. Packet n arrives at 1 s + n * 125 us, has the sequence number n mod 256, and is due 2 ms after its arrival.
 //!
 //! - `capture OUT COUNT`: so many packets, in little-endian nanoseconds.
+//! - `capture OUT COUNT STREAMS`: the same, of so many streams in turn, whose packets have numbers of their own.
 //! - `capture OUT COUNT STYLE`: the same in `le-ns`, `le-us`, `be-ns` or `be-us`. Half of the packets are damaged, of every
 //!   2,048 the latter 1,024 are sparse, which leaves one timestamp in eight, and one in 16 comes twice. Then come a frame of
 //!   the greatest length and a record that is cut off.
@@ -18,9 +19,10 @@ const FRAME: [u8; 66] = [
     0xfa,
 ];
 
-/// Where `tv`, the sequence number, the timestamp and `sp` stand in the frame.
+/// Where `tv`, the sequence number, the end of the stream id, the timestamp and `sp` stand in the frame.
 const TV: usize = 19;
 const SEQUENCE_NUM: usize = 20;
+const STREAM_ID_END: usize = 30;
 const TIMESTAMP: usize = 30;
 const SP: usize = 40;
 
@@ -90,6 +92,14 @@ fn packet(n: u64) -> [u8; 66] {
     frame
 }
 
+/// The packet with this number of all, of one of so many streams.
+fn packet_of(n: u64, streams: u64) -> [u8; 66] {
+    let mut frame = packet(n);
+    frame[SEQUENCE_NUM] = (n / streams) as u8;
+    frame[STREAM_ID_END - 2..STREAM_ID_END].copy_from_slice(&((n % streams) as u16).to_be_bytes());
+    frame
+}
+
 /// The same packet of a sparse stream.
 fn sparse_packet(n: u64) -> [u8; 66] {
     let mut frame = packet(n);
@@ -118,10 +128,11 @@ fn damaged(mut frame: [u8; 66], noise: &mut u64) -> Vec<u8> {
 fn main() -> io::Result<()> {
     let words: Vec<String> = env::args().skip(1).collect();
     let [path, count, style @ ..] = words.as_slice() else {
-        return Err(Error::other("capture OUT COUNT [STYLE]"));
+        return Err(Error::other("capture OUT COUNT [STREAMS or STYLE]"));
     };
     let count: u64 = count.parse().map_err(Error::other)?;
-    let style = style.first();
+    let streams: Option<u64> = style.first().and_then(|word| word.parse().ok());
+    let style = style.first().filter(|_| streams.is_none());
     let mut capture = Capture {
         out: BufWriter::new(File::create(path)?),
         big_endian: style.is_some_and(|style| style.starts_with("be")),
@@ -136,6 +147,10 @@ fn main() -> io::Result<()> {
         capture.damaged_packets(count)?;
         capture.record(count, &[0; LONGEST])?;
         capture.numbers(&[0, 0, 66])?;
+    } else if let Some(streams) = streams {
+        for n in 0..count {
+            capture.record(n, &packet_of(n, streams))?;
+        }
     } else {
         for n in 0..count {
             capture.record(n, &packet(n))?;
