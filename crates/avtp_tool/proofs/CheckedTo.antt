@@ -5,7 +5,8 @@ use Rattle.std.proofs.lemmas.Grind.{flat_map-append}
 use Rattle.avtp_base.specs.declared.failed.Failed.{Failed}
 use Rattle.avtp_base.specs.Told.{Appends}
 use Rattle.avtp_base.proofs.Told.{Appends-trans}
-use Rattle.pcap_frames.specs.Capture.{Record, whole_records}
+use Rattle.pcap_frames.specs.Capture.{Record}
+use Rattle.capture_io.specs.Formats.{records_in}
 use Rattle.sequence_track.specs.declared.seen.Seen.{Seen}
 use Rattle.sequence_track.specs.declared.stream.StreamKey.{StreamKey}
 use Rattle.sequence_track.specs.declared.stream.StreamState.{StreamState}
@@ -114,17 +115,17 @@ one_checked {name = name} {tracker' = tracker'} {frames} {found} {n} {before} {h
 
 -- of the first records a prefix of the lines was printed, so it was of all
 pub some_checked : {limit : ℕ} {bytes : List ℕ} {remains : Option (List ℕ)} {source : Sourcing} {before now : Option (List ℕ)} (name : List ℕ) (records : List Record) → HasGiven limit bytes remains source records → AppendsPrefix before now (text_of name records)
-    → AppendsPrefix before now (text_of name (whole_records (take limit bytes)))
+    → AppendsPrefix before now (text_of name (records_in (take limit bytes)))
 some_checked {limit} {bytes} {remains} {source} {before} {now} name records given prefix =
     let first = given_first limit bytes remains source records given in
     let after = text_first name records first.0 in
     subst (AppendsPrefix before now) (sym (ap (text_of name) first.1 ∙ after.1)) (prefix_before before now (text_of name records) after.0 prefix)
 
 -- the capture's name is the beginning of every text
-pub name_checked : {before now : Option (List ℕ)} (limit : ℕ) (bytes name : List ℕ) → AppendsPrefix before now (capture_line name) → AppendsPrefix before now (text_of name (whole_records (take limit bytes)))
-name_checked {before} {now} limit bytes name prefix = prefix_before before now (capture_line name) (joined_lines (of_each check_lines (whole_records (take limit bytes)))) prefix
+pub name_checked : {before now : Option (List ℕ)} (limit : ℕ) (bytes name : List ℕ) → AppendsPrefix before now (capture_line name) → AppendsPrefix before now (text_of name (records_in (take limit bytes)))
+name_checked {before} {now} limit bytes name prefix = prefix_before before now (capture_line name) (joined_lines (of_each check_lines (records_in (take limit bytes)))) prefix
 
-pub checks_failed : (limit : ℕ) (name bytes : List ℕ) (fault : Type 0) (before now : Option (List ℕ)) (result : Result Total Failed) → IsErr result → AppendsPrefix before now (text_of name (whole_records (take limit bytes))) → ChecksRecords limit name bytes fault before now result
+pub checks_failed : (limit : ℕ) (name bytes : List ℕ) (fault : Type 0) (before now : Option (List ℕ)) (result : Result Total Failed) → IsErr result → AppendsPrefix before now (text_of name (records_in (take limit bytes))) → ChecksRecords limit name bytes fault before now result
 checks_failed limit name bytes fault before now (Ok total) err prefix = absurd cc
 checks_failed limit name bytes fault before now (Err e) err prefix = prefix
 
@@ -138,8 +139,8 @@ check_told limit name bytes fault total before c ends = record {
   tells = tells_end (text_of name c.records) (ap (λ (k : ℕ). check_status k total.end) c.found, rw (c.frames, c.streams, c.found) refl) c.lines ends;
 }
 
-pub some_lines : (limit : ℕ) (name bytes : List ℕ) (before now : Option (List ℕ)) → AppendsPrefix before now (text_of name (whole_records (take limit bytes))) → AppendsPrefix before now (file_text (check_report limit name) limit (Some bytes))
-some_lines limit name bytes before now prefix = prefix_before before now (text_of name (whole_records (take limit bytes))) _ prefix
+pub some_lines : (limit : ℕ) (name bytes : List ℕ) (before now : Option (List ℕ)) → AppendsPrefix before now (text_of name (records_in (take limit bytes))) → AppendsPrefix before now (file_text (check_report limit name) limit (Some bytes))
+some_lines limit name bytes before now prefix = prefix_before before now (text_of name (records_in (take limit bytes))) _ prefix
 
 -- with findings or without, a run over a capture that was read to its end counted no fault of reading
 found_done : (found : ℕ) → (check_status found end.Whole ≡ status.Done) ⊎ (check_status found end.Whole ≡ status.Findings)

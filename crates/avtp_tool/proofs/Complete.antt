@@ -4,7 +4,9 @@ use Rattle.std.proofs.lemmas.Bool.{cases_lt, le-leb, lt-leb}
 use Rattle.std.proofs.lemmas.List.{append-nil, take_all}
 use Rattle.avtp_base.specs.declared.refusal.Refusal.{Refusal}
 use Rattle.avtp_base.specs.Files.{Files}
-use Rattle.pcap_frames.specs.Capture.{first_refusal, Record, whole_records}
+use Rattle.pcap_frames.specs.Capture.{Record}
+use Rattle.capture_io.proofs.Formats.{classic_records}
+use Rattle.capture_io.specs.Formats.{is_pcapng, refusal_in, records_in}
 use Rattle.packet_journal.specs.Packets.{PacketJournal}
 use Rattle.listener.specs.Laws.{HearsTalker}
 use Rattle.listener.proofs.TrueHeadline.{headline}
@@ -23,6 +25,7 @@ use Rattle.avtp_tool.specs.declared.status.Status.{Status}
 use Rattle.avtp_tool.specs.declared.status.Status.TheVariants as status
 use Rattle.avtp_tool.specs.Check.{check_plan}
 use Rattle.avtp_tool.specs.Listen.{HasHeadline, counts_in, heard_limit, heard_lines, heard_text, last_line, listen_plan, listen_report, listen_status, no_clock, plan_of, PrintsHeadline, shown_in}
+use Rattle.listener.specs.Headline.{KeepsHeadline}
 use Rattle.avtp_tool.specs.Outcome.{is_done}
 use Rattle.avtp_tool.specs.Reading.{FileOutcome, file_status, file_text, InOrder, in_order_read, in_order_status, in_order_text, joined, one_outcome, one_status, one_text, PlanOutcome, plan_read, plan_status, plan_text, ReadPlan, Report}
 use Rattle.avtp_tool.specs.Run.{came_for, Outcome, report_for, status_for, talk_came}
@@ -43,8 +46,8 @@ complete_file : (report : Report) (limit : ℕ) (told : Option (List ℕ)) (faul
 complete_file report limit None fault ended text none o = o
 complete_file report limit (Some bytes) fault ended text none (inl read) =
     let at = by_end limit bytes read.prefix fault read.how none read.ends in (
-      read.status ∙ ap (λ (p : List ℕ). report.status (whole_records p) read.how) at.1 ∙ ap (λ (h : End). report.status (whole_records (take limit bytes)) h) at.0,
-      read.printed ∙ ap (λ (p : List ℕ). report.text (whole_records p) read.how) at.1 ∙ ap (λ (h : End). report.text (whole_records (take limit bytes)) h) at.0,
+      read.status ∙ ap (λ (p : List ℕ). report.status (records_in p) read.how) at.1 ∙ ap (λ (h : End). report.status (records_in (take limit bytes)) h) at.0,
+      read.printed ∙ ap (λ (p : List ℕ). report.text (records_in p) read.how) at.1 ∙ ap (λ (h : End). report.text (records_in (take limit bytes)) h) at.0,
     )
 complete_file report limit (Some bytes) fault ended text none (inr unopened) = absurd (none unopened.0)
 
@@ -148,13 +151,13 @@ lines_at : (asked : Listening) (records : List Record) (refused : Option Refusal
 lines_at asked records None = refl
 lines_at asked records (Some refusal) = refl
 
-prints_headline : (asked : Listening) (name : List ℕ) (shift : ℤ) (p : PacketJournal) (bytes : List ℕ) → length bytes ≤ heard_limit → HearsTalker shift p (plan_of asked) bytes → PrintsHeadline asked name shift p bytes (file_text (listen_report asked name) heard_limit (Some bytes))
-prints_headline asked name shift p bytes fits hears = record {
-  shown = shown_in asked (whole_records bytes);
-  keeps = headline no_clock shift p (plan_of asked) bytes hears;
-  printed = ap (λ (prefix : List ℕ). heard_text asked name (whole_records prefix) (end_of heard_limit bytes)) (take_all heard_limit bytes fits)
-      ∙ ap (heard_text asked name (whole_records bytes)) (at_end_is heard_limit bytes fits)
-      ∙ ap (λ (t : List ℕ). capture_line name ++ t) (lines_at asked (whole_records bytes) (first_refusal bytes));
+prints_headline : (asked : Listening) (name : List ℕ) (shift : ℤ) (p : PacketJournal) (bytes : List ℕ) → length bytes ≤ heard_limit → is_pcapng bytes ≡ false → HearsTalker shift p (plan_of asked) bytes → PrintsHeadline asked name shift p bytes (file_text (listen_report asked name) heard_limit (Some bytes))
+prints_headline asked name shift p bytes fits classic hears = record {
+  shown = shown_in asked (records_in bytes);
+  keeps = subst (λ (rs : List Record). KeepsHeadline no_clock shift p (plan_of asked) bytes (shown_in asked rs)) (sym (classic_records bytes classic)) (headline no_clock shift p (plan_of asked) bytes hears);
+  printed = ap (λ (prefix : List ℕ). heard_text asked name (records_in prefix) (end_of heard_limit bytes)) (take_all heard_limit bytes fits)
+      ∙ ap (heard_text asked name (records_in bytes)) (at_end_is heard_limit bytes fits)
+      ∙ ap (λ (t : List ℕ). capture_line name ++ t) (lines_at asked (records_in bytes) (refusal_in bytes));
 }
 
 rest_text : (ends : List ℕ → Status) (text : List ℕ → List ℕ) (name : List ℕ) (later : List (List ℕ)) → (rest : List ℕ) × (in_order_text ends text (name ∷ later) ≡ text name ++ rest)
@@ -162,8 +165,8 @@ unfolding in_order_text
 rest_text ends text name later = (if is_done (ends name) then in_order_text ends text later else [], refl)
 
 pub has_headline : (asked : Listening) (files : Files) (earlier later : List (List ℕ)) (name bytes : List ℕ) (shift : ℤ) (p : PacketJournal) → asked.files ≡ earlier ++ name ∷ later → listen_status asked files earlier ≡ status.Done
-    → files name ≡ Some bytes → length bytes ≤ heard_limit → HearsTalker shift p (plan_of asked) bytes → HasHeadline asked name shift p bytes (plan_text (listen_plan asked) files)
-has_headline asked files earlier later name bytes shift p split done told fits hears =
+    → files name ≡ Some bytes → length bytes ≤ heard_limit → is_pcapng bytes ≡ false → HearsTalker shift p (plan_of asked) bytes → HasHeadline asked name shift p bytes (plan_text (listen_plan asked) files)
+has_headline asked files earlier later name bytes shift p split done told fits classic hears =
     let ends = one_status (listen_plan asked) files in
     let text = one_text (listen_plan asked) files in
     let rest = rest_text ends text name later in
@@ -172,6 +175,6 @@ has_headline asked files earlier later name bytes shift p split done told fits h
       before = in_order_text ends text earlier;
       here = file_text (listen_report asked name) heard_limit (Some bytes);
       after = rest.0;
-      prints = prints_headline asked name shift p bytes fits hears;
+      prints = prints_headline asked name shift p bytes fits classic hears;
       split = ap (in_order_text ends text) split ∙ text_split ends text earlier (name ∷ later) (ap is_done done) ∙ ap (λ (t : List ℕ). in_order_text ends text earlier ++ t) (rest.1 ∙ ap (λ (t : List ℕ). t ++ rest.0) here);
     }

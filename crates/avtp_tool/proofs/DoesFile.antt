@@ -14,7 +14,7 @@ use Rattle.capture_io.specs.Source.{EndsAfter, HasGiven, Sourcing}
 use Rattle.avtp_text.specs.Written.{AppendsPrefix, written}
 use Rattle.avtp_tool.specs.declared.status.Status.{Status}
 use Rattle.avtp_tool.specs.declared.status.Status.TheVariants as status
-use Rattle.avtp_tool.specs.Outcome.{CountsReading, EndsUnopened, Only, Tells}
+use Rattle.avtp_tool.specs.Outcome.{CountsReading, EndsUnopened, KeepsSink, Only, Tells}
 use Rattle.avtp_tool.specs.Reading.{DoesFile, file_status, file_text, IsReadingStatus, Report}
 use Rattle.avtp_tool.proofs.OneFile.{file_fault, file_here, file_read}
 use Rattle.avtp_tool.proofs.Outcomes.{counts_unopened, IsCut, missing_none, tells_cut, tells_unopened, tells_weaker, unopened_words, unopened_writes}
@@ -26,7 +26,7 @@ own_of (Err e) write words = tt
 -- it could not be opened
 pub does_unopened : {T : Type 0} {f g : Option Files} {s t : Slots} {r q w x : ℕ} {a b : List (List ℕ) → Type 0} {h h' : Option (List ℕ)} {l l' : List ℕ} {n n' : ℕ} {result : Result Status Failed} (report : Report) (limit : ℕ) (fault : OpenFault) (name : List ℕ)
     → IsOpenCounted {T = T} r q (Err fault) → (IsErrOf {T = T} (Err fault) open_fault.Missing → IsMissing f name) → OnlyReads f g s t r q w x a b (name ∷ []) → EndsUnopened fault h h' l l' n n' result
-    → DoesFile report limit name f g s t r q w x a b (written h l) (written h' l') result
+    → DoesFile report limit name f g s t r q w x a b h h' l l' n n' result
 does_unopened {T} {f} {r = r} {q} {result = result} report limit fault name counts missing keeps ends = record {
   tells = λ all told.
       tells_unopened {T = T} fault r q f name (file_status report limit (all name)) (file_text report limit (all name)) (file_here report limit (all name) (Rose r q))
@@ -34,6 +34,7 @@ does_unopened {T} {f} {r = r} {q} {result = result} report limit fault name coun
   keeps = keeps;
   counts = counts_unopened {T = T} fault r q f name counts missing ends;
   own = own_of result (unopened_writes fault ends) (unopened_words fault ends);
+  sink = ends.sink;
 }
 
 -- what is begun where a file was opened whose bytes are told
@@ -47,10 +48,10 @@ pub record IsReadAndTold (report : Report) (limit : ℕ) (bytes : List ℕ) (fau
   pub tells : Tells (Only (report.status records how) (report.text records how)) before now result
 
 -- it was opened, read, closed and told
-pub does_read : {f g : Option Files} {s t : Slots} {r r' q' q w x : ℕ} {a b : List (List ℕ) → Type 0} {before now : Option (List ℕ)} {remains : Option (List ℕ)} {source : Sourcing} (report : Report) (limit : ℕ) (name : List ℕ) (how : End) (result : Result Status Failed)
-    → IsBegun limit name f remains source → ((bytes : List ℕ) → HasGiven limit bytes remains source [] → IsReadAndTold report limit bytes (Rose r' q') how before now result)
-    → r' ≡ r → q ≡ q' → OnlyReads f g s t r q w x a b (name ∷ []) → CountsReading (name ∷ []) f r q result → IsReadingStatus result → DoesFile report limit name f g s t r q w x a b before now result
-does_read {f} {r = r} {r'} {q'} {q} report limit name how result begun told first last keeps counts own = record {
+pub does_read : {f g : Option Files} {s t : Slots} {r r' q' q w x : ℕ} {a b : List (List ℕ) → Type 0} {h h' : Option (List ℕ)} {l l' : List ℕ} {n n' : ℕ} {remains : Option (List ℕ)} {source : Sourcing} (report : Report) (limit : ℕ) (name : List ℕ) (how : End) (result : Result Status Failed)
+    → IsBegun limit name f remains source → ((bytes : List ℕ) → HasGiven limit bytes remains source [] → IsReadAndTold report limit bytes (Rose r' q') how (written h l) (written h' l') result)
+    → r' ≡ r → q ≡ q' → OnlyReads f g s t r q w x a b (name ∷ []) → CountsReading (name ∷ []) f r q result → IsReadingStatus result → KeepsSink h h' n n' result → DoesFile report limit name f g s t r q w x a b h h' l l' n n' result
+does_read {f} {r = r} {r'} {q'} {q} report limit name how result begun told first last keeps counts own sink = record {
   tells = λ all is.
       let bytes = begun all is in
       let read = told bytes.0 bytes.2 in
@@ -59,6 +60,7 @@ does_read {f} {r = r} {r'} {q'} {q} report limit name how result begun told firs
   keeps = keeps;
   counts = counts;
   own = own;
+  sink = sink;
 }
 
 -- the counts of faults of a file whose reading ended so
@@ -68,15 +70,16 @@ counts_read {r} {r'} {q'} {q} how result first last counts make =
     make (subst (λ (n : ℕ). CountsFault None (Some how) n q) first (subst (λ (n : ℕ). CountsFault None (Some how) r' n) (sym last) counts))
 
 -- it was opened and read, and telling it was cut short
-pub does_cut : {f g : Option Files} {s t : Slots} {r q w x : ℕ} {a b : List (List ℕ) → Type 0} {before now : Option (List ℕ)} {remains : Option (List ℕ)} {source : Sourcing} (report : Report) (limit : ℕ) (name : List ℕ) (result : Result Status Failed)
-    → IsBegun limit name f remains source → ((bytes : List ℕ) → HasGiven limit bytes remains source [] → AppendsPrefix before now (file_text report limit (Some bytes))) → IsCut result
-    → OnlyReads f g s t r q w x a b (name ∷ []) → CountsReading (name ∷ []) f r q result → IsReadingStatus result → DoesFile report limit name f g s t r q w x a b before now result
-does_cut {f} {r = r} {q} {before = before} {now} report limit name result begun prefix cut keeps counts own = record {
+pub does_cut : {f g : Option Files} {s t : Slots} {r q w x : ℕ} {a b : List (List ℕ) → Type 0} {h h' : Option (List ℕ)} {l l' : List ℕ} {n n' : ℕ} {remains : Option (List ℕ)} {source : Sourcing} (report : Report) (limit : ℕ) (name : List ℕ) (result : Result Status Failed)
+    → IsBegun limit name f remains source → ((bytes : List ℕ) → HasGiven limit bytes remains source [] → AppendsPrefix (written h l) (written h' l') (file_text report limit (Some bytes))) → IsCut result
+    → OnlyReads f g s t r q w x a b (name ∷ []) → CountsReading (name ∷ []) f r q result → IsReadingStatus result → KeepsSink h h' n n' result → DoesFile report limit name f g s t r q w x a b h h' l l' n n' result
+does_cut {f} {r = r} {q} {h = h} {h'} {l} {l'} report limit name result begun prefix cut keeps counts own sink = record {
   tells = λ all is.
       let bytes = begun all is in
-      let text = subst (λ (told : Option (List ℕ)). AppendsPrefix before now (file_text report limit told)) (sym bytes.1) (prefix bytes.0 bytes.2) in
+      let text = subst (λ (told : Option (List ℕ)). AppendsPrefix (written h l) (written h' l') (file_text report limit told)) (sym bytes.1) (prefix bytes.0 bytes.2) in
       tells_cut (file_status report limit (all name)) (file_text report limit (all name)) (file_here report limit (all name) (Rose r q)) cut text;
   keeps = keeps;
   counts = counts;
   own = own;
+  sink = sink;
 }

@@ -1,10 +1,11 @@
 -- What reading leaves, of calls that follow each other.
 use Rattle.std.proofs.Common.{◌≡◌, ℕ, List, [], ◌∷◌, Option, Some, None, Result, Ok, Err, sym, subst, refl, arith, inl, inr, ◌∙◌}
-use Rattle.std.specs.Prelude.{◌⊎◌, ◌≢◌, IfOk}
+use Rattle.std.specs.Prelude.{◌⊎◌, ◌≢◌, IfOk, IsErr}
 use Rattle.avtp_base.specs.declared.failed.Failed.{Failed}
 use Rattle.avtp_tool.specs.declared.status.Status.{Status}
 use Rattle.avtp_tool.specs.declared.status.Status.TheVariants as status
 use Rattle.avtp_tool.specs.Made.{CountsWriting}
+use Rattle.avtp_tool.specs.Reading.{ended_in, ReadsCapture}
 use Rattle.avtp_tool.specs.Status.{status_of}
 use Rattle.avtp_base.specs.Files.{Files, Slots}
 use Rattle.capture_io.specs.declared.end.End.{End}
@@ -13,24 +14,38 @@ use Rattle.capture_io.specs.Ends.{CountsFault}
 use Rattle.capture_io.specs.Reads.{ClosesSlot, OnlyReads, OpensSlot, ReadsSlot}
 use Rattle.capture_io.proofs.Leaving.{closes_as, only_reads_closed, opens_then, reads_then}
 
-pub reads_on : {f g h : Option Files} {s t u : Slots} {r r' r'' w w' w'' : ℕ} {a b c : List (List ℕ) → Type 0} {k j : ℕ} → j ≡ k → ReadsSlot f g s t r r' w w' a b k → ReadsSlot g h t u r' r'' w' w'' b c j
-    → ReadsSlot f h s u r r'' w w'' a c k
-reads_on {f} {g} {h} {s} {t} {u} {r} {r'} {r''} {w} {w'} {w''} {a} {b} {c} {k} {j} same first second =
-    reads_then f g h s t u r r' r'' w w' w'' a b c k first (subst (ReadsSlot g h t u r' r'' w' w'' b c) same second)
+pub reads_on : {f g h : Option Files} {s t u : Slots} {r r' r'' w w' w'' : ℕ} {a b c : List (List ℕ) → Type 0} {k j i : ℕ} → ReadsSlot f g s t r r' w w' a b k j → ReadsSlot g h t u r' r'' w' w'' b c j i → ReadsSlot f h s u r r'' w w'' a c k i
+reads_on {f} {g} {h} {s} {t} {u} {r} {r'} {r''} {w} {w'} {w''} {a} {b} {c} {k} {j} {i} first second = reads_then f g h s t u r r' r'' w w' w'' a b c k j i first second
 
 -- a file was opened, read and closed
-pub read_through : {f g h i : Option Files} {s t u v : Slots} {r r' r'' q w w' w'' x : ℕ} {a b c d : List (List ℕ) → Type 0} {name : List ℕ} {k j : ℕ} → j ≡ k
-    → OpensSlot f g s t r r' w w' a b name k → ReadsSlot g h t u r' r'' w' w'' b c k → ClosesSlot h i u v r'' q w'' x c d j → OnlyReads f i s v r q w x a d (name ∷ [])
-read_through {f} {g} {h} {i} {s} {t} {u} {v} {r} {r'} {r''} {q} {w} {w'} {w''} {x} {a} {b} {c} {d} {name} {k} {j} same opens reads closes =
-    only_reads_closed f h i s u v r r'' q w w'' x a c d name k (opens_then f g h s t u r r' r'' w w' w'' a b c name k opens reads) (closes_as h i u v r'' q w'' x c d j k same closes)
-
--- a record more was read, so no fault was counted
-pub quiet_next : (ended result : Option End) (before after : ℕ) → ended ≡ None → result ≡ None → CountsFault ended result before after → after ≡ before
-quiet_next ended result before after none more counts = subst (λ (r : Option End). CountsFault None r before after) more (subst (λ (e : Option End). CountsFault e result before after) none counts)
+pub read_through : {f g h i : Option Files} {s t u v : Slots} {r r' r'' q w w' w'' x : ℕ} {a b c d : List (List ℕ) → Type 0} {name : List ℕ} {k j : ℕ}
+    → OpensSlot f g s t r r' w w' a b name k → ReadsSlot g h t u r' r'' w' w'' b c k j → ClosesSlot h i u v r'' q w'' x c d j → OnlyReads f i s v r q w x a d (name ∷ [])
+read_through {f} {g} {h} {i} {s} {t} {u} {v} {r} {r'} {r''} {q} {w} {w'} {w''} {x} {a} {b} {c} {d} {name} {k} {j} opens reads closes =
+    only_reads_closed f h i s u v r r'' q w w'' x a c d name k (opens_then f g h s t u r r' r'' w w' w'' a b c name k j opens reads) (closes_as h i u v r'' q w'' x c d j k reads.slot closes)
 
 -- the reading ended
 pub ended_so : (ended : Option End) (how : End) (before after : ℕ) → ended ≡ None → CountsFault ended (Some how) before after → CountsFault None (Some how) before after
 ended_so ended how before after none counts = subst (λ (e : Option End). CountsFault e (Some how) before after) none counts
+
+-- a capture was read, and the reading ended so
+pub capture_ended : {f g h : Option Files} {s t u : Slots} {r r' r'' w w' w'' : ℕ} {a b c : List (List ℕ) → Type 0} {k j i : ℕ} {ended : Option End} (how : End) → ReadsSlot f g s t r r' w w' a b k j → ReadsSlot g h t u r' r'' w' w'' b c j i → r' ≡ r → ended ≡ None
+    → CountsFault ended (Some how) r' r'' → ReadsCapture f h s u r r'' w w'' a c k i (Some how)
+capture_ended {r = r} {r'' = r''} {ended = ended} how first second same none counts = record {
+  reads = reads_on first second;
+  counted = subst (λ (n : ℕ). CountsFault None (Some how) n r'') same (ended_so ended how _ _ none counts);
+}
+
+-- it was read, and what is done with its records was cut short
+pub capture_cut : {f g : Option Files} {s t : Slots} {r r' w w' : ℕ} {a b : List (List ℕ) → Type 0} {k j : ℕ} (how : Option End) → how ≡ None → ReadsSlot f g s t r r' w w' a b k j → r' ≡ r → ReadsCapture f g s t r r' w w' a b k j how
+capture_cut {r = r} {r'} how none reads same = record { reads = reads; counted = subst (λ (h : Option End). CountsFault None h r r') (sym none) same }
+
+pub none_ended : {T E : Type 0} (end : T → End) (result : Result T E) → IsErr result → ended_in end result ≡ None
+none_ended end (Ok x) err = absurd cc
+none_ended end (Err e) err = refl
+
+-- a record more was read, so no fault was counted
+pub quiet_next : (ended result : Option End) (before after : ℕ) → ended ≡ None → result ≡ None → CountsFault ended result before after → after ≡ before
+quiet_next ended result before after none more counts = subst (λ (r : Option End). CountsFault None r before after) more (subst (λ (e : Option End). CountsFault e result before after) none counts)
 
 pub some_same : {A : Type 0} (o : Option A) (x y : A) → o ≡ Some x → o ≡ Some y → x ≡ y
 some_same o x y first second = cc

@@ -36,6 +36,9 @@ pub sink_failed : {T U : Type 0} {h h' : Option (List ℕ)} {f f' : ℕ} {e : Fa
 sink_failed {result = Ok x} err first = absurd cc
 sink_failed {result = Err e'} err first = record { grows = first.grows; counted = record { never_falls = first.counted.never_falls; ok = tt; failed = first.counted.failed } }
 
+pub sink_err : {T U : Type 0} {h h' : Option (List ℕ)} {f f' : ℕ} {e : Failed} → KeepsSink {T = T} h h' f f' (Err e) → KeepsSink {T = U} h h' f f' (Err e)
+sink_err kept = record { grows = kept.grows; counted = record { never_falls = kept.counted.never_falls; ok = tt; failed = kept.counted.failed } }
+
 pub sink_printed : {h h' : Option (List ℕ)} {w w' : List ℕ} {f f' : ℕ} {result : Result Unit Failed} {text : List ℕ} → Prints h h' w w' f f' result text → KeepsSink h h' f f' result
 sink_printed prints = record { grows = prints.grows; counted = prints.counted }
 

@@ -8,6 +8,7 @@ use Rattle.avtp_base.specs.Faults.{Rose}
 use Rattle.avtp_base.specs.Files.{Files, Slots, KeepsFiles}
 use Rattle.avtp_base.specs.Told.{Appends}
 use Rattle.capture_io.specs.Reads.{OnlyReads}
+use Rattle.avtp_text.specs.Written.{written}
 use Rattle.avtp_words.specs.Grammar.{files_of, output_of, Request}
 use Rattle.avtp_tool.specs.declared.status.Status.{Status}
 use Rattle.avtp_tool.specs.declared.status.Status.TheVariants as status
@@ -35,17 +36,18 @@ single {a} {b} {before} {now} {result} one name t asked = record {
   whole_at (Ok s) whole = λ memory write. let w = whole memory write in (w.0, w.1, asked)
   whole_at (Err e) whole = tt
 
-pub one_file : {f g : Option Files} {s t : Slots} {r r' w w' : ℕ} {a b : List (List ℕ) → Type 0} {before now : Option (List ℕ)} {result : Result Status Failed} (plan : ReadPlan) (name : List ℕ) → plan.names ≡ name ∷ []
-    → DoesFile (plan.report name) plan.limit name f g s t r r' w w' a b before now result → DoesFiles plan f g s t r r' w w' a b before now result
-one_file {f} {g} {s} {t} {r} {r'} {w} {w'} {a} {b} {before} {now} {result} plan name named does = record {
+pub one_file : {f g : Option Files} {s t : Slots} {r r' w w' : ℕ} {a b : List (List ℕ) → Type 0} {h h' : Option (List ℕ)} {l l' : List ℕ} {n n' : ℕ} {result : Result Status Failed} (plan : ReadPlan) (name : List ℕ) → plan.names ≡ name ∷ []
+    → DoesFile (plan.report name) plan.limit name f g s t r r' w w' a b h h' l l' n n' result → DoesFiles plan f g s t r r' w w' a b h h' l l' n n' result
+one_file {f} {g} {s} {t} {r} {r'} {w} {w'} {a} {b} {h} {h'} {l} {l'} {result = result} plan name named does = record {
   tells = λ all told still.
-      subst (λ (ns : List (List ℕ)). TellsRun (InOrder (one_outcome plan all (Rose r r')) ns) a b before now result) (sym named) (single (one_outcome plan all (Rose r r')) name (does.tells all told) does.keeps.asked);
+      subst (λ (ns : List (List ℕ)). TellsRun (InOrder (one_outcome plan all (Rose r r')) ns) a b (written h l) (written h' l') result) (sym named) (single (one_outcome plan all (Rose r r')) name (does.tells all told) does.keeps.asked);
   count = length plan.names;
   within = omega arith;
   all = λ done. refl;
   keeps = subst (λ (ns : List (List ℕ)). OnlyReads f g s t r r' w w' a b (take (length ns) ns)) (sym named) does.keeps;
   counts = subst (λ (ns : List (List ℕ)). CountsReading ns f r r' result) (sym named) does.counts;
   own = does.own;
+  sink = does.sink;
 }
 
 -- ---- a command
@@ -62,9 +64,9 @@ never_words (Err e) own is = absurd cc
 abbrev pub IsPlanOf : Request → ReadPlan → Type 1
 IsPlanOf request plan = (all : Files) (fault : Type 0) (came : List (List ℕ)) (ended : Status) (text : List ℕ) → PlanOutcome plan all fault came ended text → Outcome request all fault came ended text
 
-pub plan_runs : {f g : Option Files} {s t : Slots} {r r' w w' : ℕ} {a b : List (List ℕ) → Type 0} {before now : Option (List ℕ)} {result : Result Status Failed} (request : Request) (plan : ReadPlan) (other : Request) → request ≡ other → IsPlanOf request plan → files_of request ≡ plan.names → output_of request ≡ None
-    → ((all : Files) → KeepsFiles f g → MakesOf request all f g result) → DoesFiles plan f g s t r r' w w' a b before now result → Runs other f g s t r r' w w' a b before now result
-plan_runs {f} {g} {s} {t} {r} {r'} {w} {w'} {a} {b} {before} {now} {result} request plan other same is named none makes does = subst (λ (q : Request). Runs q f g s t r r' w w' a b before now result) same (record {
+pub plan_runs : {f g : Option Files} {s t : Slots} {r r' w w' : ℕ} {a b : List (List ℕ) → Type 0} {h h' : Option (List ℕ)} {l l' : List ℕ} {n n' : ℕ} {result : Result Status Failed} (request : Request) (plan : ReadPlan) (other : Request) → request ≡ other → IsPlanOf request plan → files_of request ≡ plan.names → output_of request ≡ None
+    → ((all : Files) → KeepsFiles f g → MakesOf request all f g result) → DoesFiles plan f g s t r r' w w' a b h h' l l' n n' result → Runs other f g s t r r' w w' a b h h' l l' n n' result
+plan_runs {f} {g} {s} {t} {r} {r'} {w} {w'} {a} {b} {h} {h'} {l} {l'} {n} {n'} {result} request plan other same is named none makes does = subst (λ (q : Request). Runs q f g s t r r' w w' a b h h' l l' n n' result) same (record {
   tells = λ all told still.
       let to = does.tells all told still in
       record { came = to.came; ended = to.ended; text = to.text; outcome = is all (Rose r r') to.came to.ended to.text to.outcome; whole = to.whole; part = to.part };
@@ -75,4 +77,5 @@ plan_runs {f} {g} {s} {t} {r} {r'} {w} {w'} {a} {b} {before} {now} {result} requ
   writing = subst (λ (o : Option (List ℕ)). CountsWriting o w w' result) (sym none) (only_read does.keeps.writing (never_write result does.own));
   no_words = never_words result does.own;
   asks = subst (λ (ns : List (List ℕ)). AsksFor ns a b (IsDone result)) (sym (rw (named, none) (append-nil plan.names))) (record { count = does.count; within = does.within; all = does.all; asked = does.keeps.asked });
+  sink = does.sink;
 })

@@ -10,16 +10,17 @@ use Rattle.avtp_base.specs.declared.failed.Failed.{Failed}
 use Rattle.avtp_base.specs.Faults.{Rose}
 use Rattle.avtp_base.specs.Files.{Files, Slots, IsMissing, KeepsFiles}
 use Rattle.avtp_base.specs.Told.{Appends}
+use Rattle.avtp_text.specs.Written.{written}
 use Rattle.avtp_words.specs.Word.{texts}
 use Rattle.capture_io.specs.Reads.{OnlyReads}
 use Rattle.capture_io.proofs.Leaving.{only_reads_nothing, only_reads_then}
 use Rattle.avtp_tool.specs.declared.status.Status.{Status}
 use Rattle.avtp_tool.specs.declared.status.Status.TheVariants as status
-use Rattle.avtp_tool.specs.Outcome.{CountsReading, is_done, IsDone, Tells}
+use Rattle.avtp_tool.specs.Outcome.{CountsReading, is_done, IsDone, KeepsSink, Tells}
 use Rattle.avtp_tool.specs.Reading.{DoesFile, DoesFiles, InOrder, joined, one_outcome, one_status, one_text, ReadPlan, Report}
 use Rattle.avtp_tool.proofs.InOrder.{all_done, none_read, order_weaker, tells_done, tells_stopped}
 use Rattle.avtp_tool.proofs.OneFile.{file_here, file_weaker}
-use Rattle.avtp_tool.proofs.Outcomes.{counts_err, tells_err}
+use Rattle.avtp_tool.proofs.Outcomes.{counts_err, sink_failed, sink_ok, sink_then, tells_err}
 
 -- ---- names
 
@@ -131,10 +132,10 @@ keeps_more {f} {g} {h} {s} {t} {u} {r} {r'} {r''} {w} {w'} {w''} {a} {b} {c} fil
     (only_reads_then f g h s t u r r' r'' w w' w'' a b c (take i (texts files)) (name ∷ []) first second)
 
 -- it was read to its end
-pub reads_more : {f h g : Option Files} {s t u : Slots} {r q r' w x w' : ℕ} {a b c : List (List ℕ) → Type 0} {before mid now : Option (List ℕ)} {so_far : Status} {result : Result Status Failed} (plan : ReadPlan) (files : List (String Global)) (i : ℕ) (d : String Global) (name : List ℕ)
-    (ended : Status) → i < length files → string_bytes (get_or files i d) ≡ name → is_done ended ≡ true → result ≡ Ok ended → ReadsTo plan (take i (texts files)) so_far f h s t r q w x a b before mid
-    → DoesFile (plan.report name) plan.limit name h g t u q r' x w' b c mid now result → ReadsTo plan (take (i + 1) (texts files)) (joined so_far ended) f g s u r r' w w' a c before now
-reads_more {f} {h} {g} {s} {t} {u} {r} {q} {r'} {w} {x} {w'} {a} {b} {c} {before} {mid} {now} {so_far} {result} plan files i d name ended within is goes same first second =
+pub reads_more : {f h g : Option Files} {s t u : Slots} {r q r' w x w' : ℕ} {a b c : List (List ℕ) → Type 0} {before : Option (List ℕ)} {h' h'' : Option (List ℕ)} {l' l'' : List ℕ} {n' n'' : ℕ} {so_far : Status} {result : Result Status Failed} (plan : ReadPlan) (files : List (String Global)) (i : ℕ) (d : String Global) (name : List ℕ)
+    (ended : Status) → i < length files → string_bytes (get_or files i d) ≡ name → is_done ended ≡ true → result ≡ Ok ended → ReadsTo plan (take i (texts files)) so_far f h s t r q w x a b before (written h' l')
+    → DoesFile (plan.report name) plan.limit name h g t u q r' x w' b c h' h'' l' l'' n' n'' result → ReadsTo plan (take (i + 1) (texts files)) (joined so_far ended) f g s u r r' w w' a c before (written h'' l'')
+reads_more {f} {h} {g} {s} {t} {u} {r} {q} {r'} {w} {x} {w'} {a} {b} {c} {before} {h'} {h''} {l'} {l''} {so_far = so_far} {result} plan files i d name ended within is goes same first second =
     let keeps = keeps_more files i d name within is first.keeps second.keeps in
     let here = subst (λ (x : Result Status Failed). IfOk x (λ s. s ≢ status.ReadFault → s ≢ status.Memory → s ≢ status.WriteFault → r' ≡ q)) same second.counts.quiet in
     record {
@@ -145,16 +146,16 @@ reads_more {f} {h} {g} {s} {t} {u} {r} {q} {r'} {w} {x} {w'} {a} {b} {c} {before
           let some = told_still h g second.keeps.files still in
           let later = told_later f h all told first.keeps.files some in
           let to = first.tells all told some in
-          let tells = subst (λ (x : Result Status Failed). Tells (one_outcome plan all (Rose r r') name) mid now x) same (tells_step q r r' plan all later.0 name (later.2 name) first.reading (second.tells later.0 later.1)) in
-          let more = tells_done before mid now (one_outcome plan all (Rose r r')) (take i (texts files)) name to.text so_far ended first.done goes (order_step r q r' so_far to.text plan all (take i (texts files)) first.reading keeps.reading to.order) to.appends tells in
-          subst (λ (ns : List (List ℕ)). IsReadTo plan all r r' ns (joined so_far ended) before now) (more_named files i d name within is) (record { text = more.0; order = more.1; appends = more.2 });
+          let tells = subst (λ (x : Result Status Failed). Tells (one_outcome plan all (Rose r r') name) (written h' l') (written h'' l'') x) same (tells_step q r r' plan all later.0 name (later.2 name) first.reading (second.tells later.0 later.1)) in
+          let more = tells_done before (written h' l') (written h'' l'') (one_outcome plan all (Rose r r')) (take i (texts files)) name to.text so_far ended first.done goes (order_step r q r' so_far to.text plan all (take i (texts files)) first.reading keeps.reading to.order) to.appends tells in
+          subst (λ (ns : List (List ℕ)). IsReadTo plan all r r' ns (joined so_far ended) before (written h'' l'')) (more_named files i d name within is) (record { text = more.0; order = more.1; appends = more.2 });
     }
 
 -- it ended the run
-pub reads_stopped : {f h g : Option Files} {s t u : Slots} {r q r' w x w' : ℕ} {a b c : List (List ℕ) → Type 0} {before mid now : Option (List ℕ)} {so_far : Status} {result : Result Status Failed} (plan : ReadPlan) (files : List (String Global)) (i : ℕ) (d : String Global) (name : List ℕ)
-    → plan.names ≡ texts files → i < length files → string_bytes (get_or files i d) ≡ name → (IsDone result → ⊥) → ReadsTo plan (take i (texts files)) so_far f h s t r q w x a b before mid
-    → DoesFile (plan.report name) plan.limit name h g t u q r' x w' b c mid now result → DoesFiles plan f g s u r r' w w' a c before now result
-reads_stopped {f} {h} {g} {s} {t} {u} {r} {q} {r'} {w} {x} {w'} {a} {b} {c} {before} {mid} {now} {so_far} {result} plan files i d name named within is stopped first second =
+pub reads_stopped : {f h g : Option Files} {s t u : Slots} {r q r' w x w' : ℕ} {a b c : List (List ℕ) → Type 0} {k h' h'' : Option (List ℕ)} {l l' l'' : List ℕ} {n n' n'' : ℕ} {so_far : Status} {result : Result Status Failed} (plan : ReadPlan) (files : List (String Global)) (i : ℕ) (d : String Global) (name : List ℕ)
+    → plan.names ≡ texts files → i < length files → string_bytes (get_or files i d) ≡ name → (IsDone result → ⊥) → ReadsTo plan (take i (texts files)) so_far f h s t r q w x a b (written k l) (written h' l')
+    → KeepsSink {T = Unit} k h' n n' (Ok tt) → DoesFile (plan.report name) plan.limit name h g t u q r' x w' b c h' h'' l' l'' n' n'' result → DoesFiles plan f g s u r r' w w' a c k h'' l l'' n n'' result
+reads_stopped {f} {h} {g} {s} {t} {u} {r} {q} {r'} {w} {x} {w'} {a} {b} {c} {so_far = so_far} {result} plan files i d name named within is stopped first sink second =
     let earlier = take i (texts files) in
     let rest = drop (suc i) (texts files) in
     let split = named ∙ split_named files i d name within is in
@@ -174,25 +175,27 @@ reads_stopped {f} {h} {g} {s} {t} {u} {r} {q} {r'} {w} {x} {w'} {a} {b} {c} {bef
       keeps = subst (λ (ns : List (List ℕ)). OnlyReads f g s u r r' w w' a c (take (i + 1) ns)) (sym named) keeps;
       counts = counts_step result plan.names earlier rest name split first.keeps.files first.reading second.counts;
       own = second.own;
+      sink = sink_then sink second.sink;
     }
 
 -- no file was left
-pub reads_all : {f g : Option Files} {s t : Slots} {r r' w w' : ℕ} {a b : List (List ℕ) → Type 0} {before now : Option (List ℕ)} (plan : ReadPlan) (files : List (String Global)) (i : ℕ) (ended : Status) → plan.names ≡ texts files → length files ≤ i
-    → ReadsTo plan (take i (texts files)) ended f g s t r r' w w' a b before now → DoesFiles plan f g s t r r' w w' a b before now (Ok ended)
-reads_all {f} {g} {s} {t} {r} {r'} {w} {w'} {a} {b} {before} {now} plan files i ended named past to =
+pub reads_all : {f g : Option Files} {s t : Slots} {r r' w w' : ℕ} {a b : List (List ℕ) → Type 0} {h h' : Option (List ℕ)} {l l' : List ℕ} {n n' : ℕ} (plan : ReadPlan) (files : List (String Global)) (i : ℕ) (ended : Status) → plan.names ≡ texts files → length files ≤ i
+    → ReadsTo plan (take i (texts files)) ended f g s t r r' w w' a b (written h l) (written h' l') → KeepsSink {T = Unit} h h' n n' (Ok tt) → DoesFiles plan f g s t r r' w w' a b h h' l l' n n' (Ok ended)
+reads_all {f} {g} {s} {t} {r} {r'} {w} {w'} {a} {b} {h} {h'} {l} {l'} plan files i ended named past to sink =
     let count = names_count files in
     let whole : take i (texts files) ≡ plan.names = take_all i (texts files) (omega (arith, count, past)) ∙ sym named in
     let keeps = subst (OnlyReads f g s t r r' w w' a b) whole to.keeps in
     record {
       tells = λ all told still.
-          let read = subst (λ (ns : List (List ℕ)). IsReadTo plan all r r' ns ended before now) whole (to.tells all told still) in
-          record { came = plan.names; ended = ended; text = read.text; outcome = read.order; whole = λ memory write. (refl, read.appends, keeps.asked); part = prefix_whole before now read.text read.appends };
+          let read = subst (λ (ns : List (List ℕ)). IsReadTo plan all r r' ns ended (written h l) (written h' l')) whole (to.tells all told still) in
+          record { came = plan.names; ended = ended; text = read.text; outcome = read.order; whole = λ memory write. (refl, read.appends, keeps.asked); part = prefix_whole (written h l) (written h' l') read.text read.appends };
       count = length plan.names;
       within = omega arith;
       all = λ done. refl;
       keeps = subst (OnlyReads f g s t r r' w w' a b) (sym (take_all (length plan.names) plan.names (omega arith))) keeps;
       counts = record { never_falls = omega (arith, to.reading); fault = λ e. absurd (not_done ended status.ReadFault to.done refl cc); quiet = λ fault memory write. to.reading };
       own = (not_done ended status.WriteFault to.done refl, not_done ended status.Words to.done refl);
+      sink = sink_ok ended sink;
     }
 
 -- ---- a failed write
@@ -215,7 +218,7 @@ other_ends status.DeviceFault done findings is = absurd cc
 other_ends status.TalkInput done findings is = absurd cc
 
 -- it is one whatever was to be answered
-pub does_failed : {report : Report} {limit : ℕ} {name : List ℕ} {f g : Option Files} {s t : Slots} {r r' w w' : ℕ} {a b : List (List ℕ) → Type 0} {before now : Option (List ℕ)} {e : Failed} (result : Result Status Failed) → IsErr result
-    → DoesFile report limit name f g s t r r' w w' a b before now (Err e) → DoesFile report limit name f g s t r r' w w' a b before now result
+pub does_failed : {report : Report} {limit : ℕ} {name : List ℕ} {f g : Option Files} {s t : Slots} {r r' w w' : ℕ} {a b : List (List ℕ) → Type 0} {h h' : Option (List ℕ)} {l l' : List ℕ} {n n' : ℕ} {e : Failed} (result : Result Status Failed) → IsErr result
+    → DoesFile report limit name f g s t r r' w w' a b h h' l l' n n' (Err e) → DoesFile report limit name f g s t r r' w w' a b h h' l l' n n' result
 does_failed (Ok s) err does = absurd cc
-does_failed (Err e') err does = record { tells = λ all told. tells_err err (does.tells all told); keeps = does.keeps; counts = counts_err (Err e') err does.keeps.reading; own = tt }
+does_failed (Err e') err does = record { tells = λ all told. tells_err err (does.tells all told); keeps = does.keeps; counts = counts_err (Err e') err does.keeps.reading; own = tt; sink = sink_failed err does.sink }

@@ -2,7 +2,8 @@
 use Rattle.std.proofs.Common.{◌≡◌, ℕ, ◌+◌, List, [], ◌∷◌, ◌++◌, length, take, Option, Some, Result, Ok, Err, refl, sym, ap, subst, ◌∙◌, arith, length-append}
 use Rattle.avtp_base.specs.Told.{Appends}
 use Rattle.avtp_base.proofs.Told.{Appends-nil, Appends-trans}
-use Rattle.pcap_frames.specs.Capture.{Record, whole_records}
+use Rattle.pcap_frames.specs.Capture.{Record}
+use Rattle.capture_io.specs.Formats.{records_in}
 use Rattle.avtp_text.specs.Show.{frame_line}
 use Rattle.avtp_text.specs.Written.{AppendsPrefix}
 use Rattle.avtp_text.proofs.Printing.{prefix_before}
@@ -51,13 +52,13 @@ one_printed limit bytes remains source records r frames before mid now given cou
 
 -- nothing or a part of it was: so a prefix of all lines
 pub some_printed : (limit : ℕ) (bytes : List ℕ) (remains : Option (List ℕ)) (source : Sourcing) (records : List Record) (before now : Option (List ℕ))
-    → HasGiven limit bytes remains source records → AppendsPrefix before now (of_each show_line records) → AppendsPrefix before now (of_each show_line (whole_records (take limit bytes)))
+    → HasGiven limit bytes remains source records → AppendsPrefix before now (of_each show_line records) → AppendsPrefix before now (of_each show_line (records_in (take limit bytes)))
 some_printed limit bytes remains source records before now given prefix =
     let first = given_first limit bytes remains source records given in
     let after = each_first show_line records first.0 in
     subst (AppendsPrefix before now) (sym (ap (of_each show_line) first.1 ∙ after.1)) (prefix_before before now (of_each show_line records) after.0 prefix)
 
-pub records_failed : (limit : ℕ) (bytes : List ℕ) (fault : Type 0) (before now : Option (List ℕ)) (result : Result Printed Failed) → IsErr result → AppendsPrefix before now (of_each show_line (whole_records (take limit bytes)))
+pub records_failed : (limit : ℕ) (bytes : List ℕ) (fault : Type 0) (before now : Option (List ℕ)) (result : Result Printed Failed) → IsErr result → AppendsPrefix before now (of_each show_line (records_in (take limit bytes)))
     → PrintsRecords limit bytes fault before now result
 records_failed limit bytes fault before now (Ok p) err prefix = absurd cc
 records_failed limit bytes fault before now (Err e) err prefix = prefix
@@ -74,5 +75,5 @@ show_told limit bytes fault printed before p ends = record {
 }
 
 -- a part of its lines was
-pub some_lines : (limit : ℕ) (bytes : List ℕ) (before now : Option (List ℕ)) → AppendsPrefix before now (of_each show_line (whole_records (take limit bytes))) → AppendsPrefix before now (file_text (show_report limit) limit (Some bytes))
-some_lines limit bytes before now prefix = prefix_before before now _ (end_line limit (length (whole_records (take limit bytes))) (end_of limit bytes)) prefix
+pub some_lines : (limit : ℕ) (bytes : List ℕ) (before now : Option (List ℕ)) → AppendsPrefix before now (of_each show_line (records_in (take limit bytes))) → AppendsPrefix before now (file_text (show_report limit) limit (Some bytes))
+some_lines limit bytes before now prefix = prefix_before before now _ (end_line limit (length (records_in (take limit bytes))) (end_of limit bytes)) prefix

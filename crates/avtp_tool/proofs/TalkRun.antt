@@ -21,7 +21,7 @@ use Rattle.avtp_words.specs.Grammar.{talk, Talking}
 use Rattle.avtp_tool.specs.declared.status.Status.{Status}
 use Rattle.avtp_tool.specs.declared.status.Status.TheVariants as status
 use Rattle.avtp_tool.specs.Made.{CountsWriting, KeepsFilesBut, Makes}
-use Rattle.avtp_tool.specs.Outcome.{Asks, AsksFor, EndsUnopened, is_done, IsDone, Tells, TellsRun}
+use Rattle.avtp_tool.specs.Outcome.{Asks, AsksFor, EndsUnopened, is_done, IsDone, KeepsSink, Tells, TellsRun}
 use Rattle.avtp_tool.specs.Run.{MakesFrom, Runs, talk_came}
 use Rattle.avtp_tool.specs.Talk.{FaultStops, TalkedOutcome, TalkOutcome, talk_plan, talk_report, talk_status, WritesOnly}
 use Rattle.avtp_tool.proofs.Complete.{talk_here}
@@ -80,7 +80,7 @@ made_none asked (Some bytes) f g result keeps never = makes_after keeps (makes_n
 
 pub unopened_runs : {f g : Option Files} {s t : Slots} {r q w x : ℕ} {a b : List (List ℕ) → Type 0} {h h' : Option (List ℕ)} {l l' : List ℕ} {n n' : ℕ} {result : Result Status Failed} (asked : Talking) (why : OpenFault)
     → (IsErrOf {T = Contents} (Err why) open_fault.Missing → IsMissing f asked.input) → IsReadCounted r q (Err why) → OnlyReads f g s t r q w x a b (asked.input ∷ []) → EndsUnopened why h h' l l' n n' result
-    → Runs (talk asked) f g s t r q w x a b (written h l) (written h' l') result
+    → Runs (talk asked) f g s t r q w x a b h h' l l' n n' result
 unopened_runs {f} {g} {s} {t} {r} {q} {w} {x} {a} {b} {h} {h'} {l} {l'} {n} {n'} {result} asked why missing counts keeps ends =
     let plan = talk_plan asked in
     let not_done = unopened_other why status.Done (λ e. cc) (λ e. cc) ends in
@@ -96,6 +96,7 @@ unopened_runs {f} {g} {s} {t} {r} {q} {w} {x} {a} {b} {h} {h'} {l} {l'} {n} {n'}
       writing = record { never_falls = omega (arith, keeps.writing); failed = λ e. absurd (not_failed e); other = λ e. keeps.writing; unwritten = λ e. absurd cc };
       no_words = unopened_words why ends;
       asks = record { count = 1; within = omega arith; all = λ d. absurd (unopened_undone why result ends d); asked = keeps.asked };
+      sink = ends.sink;
     }
 
 -- ---- an input that was read
@@ -147,19 +148,19 @@ IsInput files name contents = (all : Files) → files ≡ Some all → (bytes : 
 made_from : (asked : Talking) (told : Option (List ℕ)) (bytes : List ℕ) (f g k : Option Files) (result : Result Status Failed) → told ≡ Some bytes → KeepsFiles f g → Makes asked.output (capture (talk_plan asked) bytes) g k result → MakesFrom asked told f k result
 made_from asked told bytes f g k result is keeps makes = subst (λ (t : Option (List ℕ)). MakesFrom asked t f k result) (sym is) (makes_after keeps makes)
 
-pub opened_runs : {f g k : Option Files} {s t u : Slots} {r q q' w x x' : ℕ} {a b c : List (List ℕ) → Type 0} {before now : Option (List ℕ)} {result : Result Status Failed} (asked : Talking) (contents : Contents)
+pub opened_runs : {f g k : Option Files} {s t u : Slots} {r q q' w x x' : ℕ} {a b c : List (List ℕ) → Type 0} {h h' : Option (List ℕ)} {l l' : List ℕ} {n n' : ℕ} {result : Result Status Failed} (asked : Talking) (contents : Contents)
     → IsInput f asked.input contents → CountsStop (Some contents.stop) r q → OnlyReads f g s t r q w x a b (asked.input ∷ [])
-    → ((bytes : List ℕ) → IsContents most_input bytes contents.stop contents.bytes.items → Tells (TalkedOutcome (talk_plan asked) bytes (contents.stop ≡ stop.Fault)) before now result)
+    → ((bytes : List ℕ) → IsContents most_input bytes contents.stop contents.bytes.items → Tells (TalkedOutcome (talk_plan asked) bytes (contents.stop ≡ stop.Fault)) (written h l) (written h' l') result)
     → ((bytes : List ℕ) → IsContents most_input bytes contents.stop contents.bytes.items → Makes asked.output (capture (talk_plan asked) bytes) g k result)
-    → WritesOnly g k t u q q' x x' b c asked.output result → FaultStops contents.stop result → Runs (talk asked) f k s u r q' w x' a c before now result
-opened_runs {f} {g} {k} {s} {t} {u} {r} {q} {q'} {w} {x} {x'} {a} {b} {c} {before} {now} {result} asked contents read counted keeps tells makes writes stops =
+    → WritesOnly g k t u q q' x x' b c asked.output result → FaultStops contents.stop result → KeepsSink h h' n n' result → Runs (talk asked) f k s u r q' w x' a c h h' l l' n n' result
+opened_runs {f} {g} {k} {s} {t} {u} {r} {q} {q'} {w} {x} {x'} {a} {b} {c} {h} {h'} {l} {l'} {result = result} asked contents read counted keeps tells makes writes stops sink =
     let plan = talk_plan asked in
     let counts : CountsStop (Some contents.stop) r q' = subst (λ (n : ℕ). CountsStop (Some contents.stop) r n) (sym writes.reading) counted in
     record {
       tells = λ all told some.
           let input = read all told in
           talk_tells asked (all asked.input) (Rose r q') (came_opened a b c asked result keeps.asked writes.came)
-          (subst (λ (v : Option (List ℕ)). Tells (TalkOutcome plan v (Rose r q')) before now result) (sym input.1)
+          (subst (λ (v : Option (List ℕ)). Tells (TalkOutcome plan v (Rose r q')) (written h l) (written h' l') result) (sym input.1)
           (tells_caused plan input.0 (contents.stop ≡ stop.Fault) (Rose r q') (rose_by contents.stop r q' counts) (tells input.0 input.2)));
       makes = λ all told. let input = read all told in made_from asked (all asked.input) input.0 f g k result input.1 keeps.files (makes input.0 input.2);
       files = files_from f g k asked.output keeps.files writes.files;
@@ -168,4 +169,5 @@ opened_runs {f} {g} {k} {s} {t} {u} {r} {q} {q'} {w} {x} {x'} {a} {b} {c} {befor
       writing = subst (λ (n : ℕ). CountsWriting (Some asked.output) n x' result) keeps.writing writes.writing;
       no_words = stops.no_words;
       asks = asks_from asked.input asked.output keeps.asked writes.asked;
+      sink = sink;
     }

@@ -4,7 +4,8 @@ use Rattle.std.specs.Option.{option_map}
 use Rattle.avtp_base.specs.declared.failed.Failed.{Failed}
 use Rattle.avtp_base.specs.declared.refusal.Refusal.{Refusal}
 use Rattle.avtp_base.specs.Told.{Appends, Keeps}
-use Rattle.pcap_frames.specs.Capture.{Record, whole_records}
+use Rattle.pcap_frames.specs.Capture.{Record}
+use Rattle.capture_io.specs.Formats.{records_in}
 use Rattle.pcap_frames.specs.Frame.{Frame, frame_refusal, frame_of}
 use Rattle.packet_journal.specs.Deliveries.{avtp_ethertype}
 use Rattle.avtp_packet.specs.declared.packet_stream.PacketStream.{PacketStream}
@@ -20,7 +21,6 @@ use Rattle.avtp_text.specs.Notices.{capture_refused_line, limit_line, read_fault
 use Rattle.avtp_text.specs.Written.{AppendsPrefix, written}
 use Rattle.capture_io.specs.declared.end.End.{End}
 use Rattle.capture_io.specs.declared.end.End.TheVariants as end
-use Rattle.capture_io.specs.Ends.{CountsFault}
 use Rattle.capture_io.specs.Source.{EndsAfter}
 use Rattle.avtp_tool.specs.declared.check.Total.{Total}
 use Rattle.avtp_tool.specs.declared.checked.Checked.{Checked}
@@ -148,9 +148,4 @@ pub record HasChecked (limit : ℕ) (name bytes : List ℕ) (fault : Type 0) (to
 abbrev pub ChecksRecords : ℕ → List ℕ → List ℕ → Type 0 → Option (List ℕ) → Option (List ℕ) → Result Total Failed → Type 0
 ChecksRecords limit name bytes fault before now (Ok total) = HasChecked limit name bytes fault total before now
 ChecksRecords limit name bytes fault before now (Err e) =
-    AppendsPrefix before now (capture_line name ++ joined_lines (of_each check_lines (whole_records (take limit bytes))))
-
--- The count of reading faults rose where one ended the reading, and else it is as it was.
-abbrev pub CountsChecked : ℕ → ℕ → Result Total Failed → Type 0
-CountsChecked before after (Ok total) = CountsFault None (Some total.end) before after
-CountsChecked before after (Err e) = after ≡ before
+    AppendsPrefix before now (capture_line name ++ joined_lines (of_each check_lines (records_in (take limit bytes))))

@@ -1,8 +1,9 @@
 -- What `listen` prints and how it ends.
-use Rattle.std.specs.Prelude.{◌≡◌, ℕ, ℤ, List, ◌++◌, Option, None, Some, pos, Result, Ok, Err}
+use Rattle.std.specs.Prelude.{◌≡◌, ℕ, ℤ, List, ◌++◌, Option, None, Some, pos}
 use Rattle.avtp_base.specs.declared.refusal.Refusal.{Refusal}
 use Rattle.avtp_base.specs.Files.{Files}
-use Rattle.pcap_frames.specs.Capture.{Record, first_refusal, whole_records}
+use Rattle.pcap_frames.specs.Capture.{Record}
+use Rattle.capture_io.specs.Formats.{refusal_in, records_in}
 use Rattle.packet_journal.specs.Packets.{PacketJournal}
 use Rattle.sample_schedule.specs.declared.shown.Shown.{Shown}
 use Rattle.sample_schedule.specs.Verdicts.{Clock}
@@ -15,9 +16,7 @@ use Rattle.avtp_text.specs.Listen.{capture_line, list_lines, end_listen_line}
 use Rattle.avtp_text.specs.Notices.{capture_refused_line, read_fault_line, limit_line}
 use Rattle.capture_io.specs.declared.end.End.{End}
 use Rattle.capture_io.specs.declared.end.End.TheVariants as end
-use Rattle.capture_io.specs.Ends.{CountsFault}
 use Rattle.capture_io.specs.Source.{EndsAfter}
-use Rattle.avtp_base.specs.declared.failed.NoMemory.{NoMemory}
 use Rattle.listener.specs.Collected.{StandsFor}
 use Rattle.avtp_tool.specs.declared.listen.Gathered.{Gathered}
 use Rattle.avtp_tool.specs.declared.status.Status.{Status}
@@ -77,7 +76,7 @@ last_line counts (Some refusal) = capture_refused_line refusal
 pub record PrintsHeadline (asked : Listening) (name : List ℕ) (shift : ℤ) (p : PacketJournal) (bytes text : List ℕ) : Type 0 where
   pub shown : List Shown
   pub keeps : KeepsHeadline no_clock shift p (plan_of asked) bytes shown
-  pub printed : text ≡ capture_line name ++ (list_lines shown ++ last_line (counts_in asked (whole_records bytes)) (first_refusal bytes))
+  pub printed : text ≡ capture_line name ++ (list_lines shown ++ last_line (counts_in asked (records_in bytes)) (refusal_in bytes))
 
 -- Somewhere in it the text has one that keeps the headline.
 pub record HasHeadline (asked : Listening) (name : List ℕ) (shift : ℤ) (p : PacketJournal) (bytes text : List ℕ) : Type 0 where
@@ -95,8 +94,3 @@ pub record HasGathered (limit : ℕ) (bytes : List ℕ) (fault : Type 0) (stream
   pub records : List Record
   pub ends : EndsAfter limit bytes fault gathered.end records
   pub stands : StandsFor stream records gathered.collected
-
--- The count of reading faults rose where one ended the reading, and else it is as it was.
-abbrev pub CountsGathered : ℕ → ℕ → Result Gathered NoMemory → Type 0
-CountsGathered before after (Ok gathered) = CountsFault None (Some gathered.end) before after
-CountsGathered before after (Err e) = after ≡ before

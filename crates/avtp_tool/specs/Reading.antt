@@ -1,16 +1,36 @@
 -- Files that a command reads in order: what may become of each, and of all.
-use Rattle.std.specs.Prelude.{◌≡◌, ◌≢◌, ◌⊎◌, ℕ, ◌≤◌, List, [], ◌∷◌, ◌++◌, length, take, Option, Some, None, IfOk, IsSome, Result, if◌then◌else◌, true, false}
+use Rattle.std.specs.Prelude.{◌≡◌, ◌≢◌, ◌⊎◌, ℕ, ◌^◌, ◌≤◌, List, [], ◌∷◌, ◌++◌, length, take, Option, Some, None, IfOk, IsSome, Result, Ok, Err, if◌then◌else◌, true, false}
 use Rattle.avtp_base.specs.declared.failed.Failed.{Failed}
 use Rattle.avtp_base.specs.Faults.{Rose}
 use Rattle.avtp_base.specs.Files.{Files, Slots}
-use Rattle.pcap_frames.specs.Capture.{Record, whole_records}
+use Rattle.pcap_frames.specs.Capture.{Record}
+use Rattle.capture_io.specs.Formats.{records_in}
 use Rattle.avtp_text.specs.Notices.{read_fault_line}
+use Rattle.avtp_text.specs.Written.{written}
 use Rattle.capture_io.specs.declared.end.End.{End}
-use Rattle.capture_io.specs.Ends.{EndsAt, end_of}
-use Rattle.capture_io.specs.Reads.{OnlyReads}
+use Rattle.capture_io.specs.Ends.{CountsFault, EndsAt, end_of}
+use Rattle.capture_io.specs.Reads.{OnlyReads, ReadsSlot}
+use Rattle.capture_io.specs.Source.{Sourcing, slot_of, to_do}
 use Rattle.avtp_tool.specs.declared.status.Status.{Status}
 use Rattle.avtp_tool.specs.declared.status.Status.TheVariants as status
-use Rattle.avtp_tool.specs.Outcome.{CountsReading, is_done, IsDone, Tells, TellsRun}
+use Rattle.avtp_tool.specs.Outcome.{CountsReading, is_done, IsDone, KeepsSink, Tells, TellsRun}
+
+-- ---- an open capture
+
+-- It may be read, up to so many bytes, and its reading has not ended.
+abbrev pub IsOpen : Slots → Sourcing → Type 0
+IsOpen slots source = (source.ended ≡ None) × IsSome (slots (slot_of source)) × (to_do source ≤ 2 ^ 41)
+
+-- how its reading ended, where all was done with its records
+abbrev pub ended_in : {T E : Type 0} → (T → End) → Result T E → Option End
+ended_in end (Ok x) = Some (end x)
+ended_in end (Err e) = None
+
+-- It was read, and is still open; all else is as it was. The count of reading faults rose where a fault ended the reading, and
+-- else it is as it was.
+pub record ReadsCapture (old_files new_files : Option Files) (old_slots new_slots : Slots) (old_reading new_reading old_writing new_writing : ℕ) (old_asked new_asked : List (List ℕ) → Type 0) (k now : ℕ) (how : Option End) : Type 0 where
+  pub reads : ReadsSlot old_files new_files old_slots new_slots old_reading new_reading old_writing new_writing old_asked new_asked k now
+  pub counted : CountsFault None how old_reading new_reading
 
 -- ---- one file
 
@@ -25,8 +45,8 @@ pub record ReadOutcome (report : Report) (limit : ℕ) (bytes : List ℕ) (fault
   pub how : End
   pub prefix : List ℕ
   pub ends : EndsAt limit (Some bytes) fault how prefix
-  pub status : ended ≡ report.status (whole_records prefix) how
-  pub printed : text ≡ report.text (whole_records prefix) how
+  pub status : ended ≡ report.status (records_in prefix) how
+  pub printed : text ≡ report.text (records_in prefix) how
 
 -- A file that a shelf tells so can end with this status and give this text. One that is missing or could not be opened gives
 -- a fault of reading alone; what that needs otherwise is `fault`.
@@ -38,11 +58,11 @@ FileOutcome report limit (Some bytes) fault ended text =
 -- the same as functions, where no fault of reading comes
 abbrev pub file_status : Report → ℕ → Option (List ℕ) → Status
 file_status report limit None = status.ReadFault
-file_status report limit (Some bytes) = report.status (whole_records (take limit bytes)) (end_of limit bytes)
+file_status report limit (Some bytes) = report.status (records_in (take limit bytes)) (end_of limit bytes)
 
 abbrev pub file_text : Report → ℕ → Option (List ℕ) → List ℕ
 file_text report limit None = read_fault_line
-file_text report limit (Some bytes) = report.text (whole_records (take limit bytes)) (end_of limit bytes)
+file_text report limit (Some bytes) = report.text (records_in (take limit bytes)) (end_of limit bytes)
 
 -- ---- files in order
 
@@ -114,19 +134,21 @@ IsReadingStatus result = IfOk result (λ s. (s ≢ status.WriteFault) × (s ≢ 
 
 -- The file of a name was read, of which `limit` bytes may be, and nothing else was done.
 pub record DoesFile (report : Report) (limit : ℕ) (name : List ℕ) (old_files new_files : Option Files) (old_slots new_slots : Slots) (old_reading new_reading old_writing new_writing : ℕ)
-    (old_asked new_asked : List (List ℕ) → Type 0) (before now : Option (List ℕ)) (result : Result Status Failed) : Type 0 where
-  pub tells : (all : Files) → old_files ≡ Some all → Tells (FileOutcome report limit (all name) (Rose old_reading new_reading)) before now result
+    (old_asked new_asked : List (List ℕ) → Type 0) (held held' : Option (List ℕ)) (waits waits' : List ℕ) (faults faults' : ℕ) (result : Result Status Failed) : Type 0 where
+  pub tells : (all : Files) → old_files ≡ Some all → Tells (FileOutcome report limit (all name) (Rose old_reading new_reading)) (written held waits) (written held' waits') result
   pub keeps : OnlyReads old_files new_files old_slots new_slots old_reading new_reading old_writing new_writing old_asked new_asked (name ∷ [])
   pub counts : CountsReading (name ∷ []) old_files old_reading new_reading result
   pub own : IsReadingStatus result
+  pub sink : KeepsSink held held' faults faults' result
 
 -- The files of a plan were read in order, as far as the run came, and nothing else was done.
 pub record DoesFiles (plan : ReadPlan) (old_files new_files : Option Files) (old_slots new_slots : Slots) (old_reading new_reading old_writing new_writing : ℕ)
-    (old_asked new_asked : List (List ℕ) → Type 0) (before now : Option (List ℕ)) (result : Result Status Failed) : Type 0 where
-  pub tells : (all : Files) → old_files ≡ Some all → IsSome new_files → TellsRun (PlanOutcome plan all (Rose old_reading new_reading)) old_asked new_asked before now result
+    (old_asked new_asked : List (List ℕ) → Type 0) (held held' : Option (List ℕ)) (waits waits' : List ℕ) (faults faults' : ℕ) (result : Result Status Failed) : Type 0 where
+  pub tells : (all : Files) → old_files ≡ Some all → IsSome new_files → TellsRun (PlanOutcome plan all (Rose old_reading new_reading)) old_asked new_asked (written held waits) (written held' waits') result
   pub count : ℕ
   pub within : count ≤ length plan.names
   pub all : IsDone result → count ≡ length plan.names
   pub keeps : OnlyReads old_files new_files old_slots new_slots old_reading new_reading old_writing new_writing old_asked new_asked (take count plan.names)
   pub counts : CountsReading plan.names old_files old_reading new_reading result
   pub own : IsReadingStatus result
+  pub sink : KeepsSink held held' faults faults' result

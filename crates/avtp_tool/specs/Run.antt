@@ -5,13 +5,14 @@ use Rattle.avtp_base.specs.Faults.{Rose}
 use Rattle.avtp_base.specs.Files.{Files, Slots, KeepsFiles}
 use Rattle.talker.specs.Frames.{capture}
 use Rattle.talker.specs.Plan.{IsPlan}
+use Rattle.avtp_text.specs.Written.{written}
 use Rattle.avtp_words.specs.Grammar.{files_of, IsCommandLine, IsOffence, output_of, Request, show, check, listen, talk, Listening, Talking}
 use Rattle.avtp_tool.specs.declared.status.Status.{Status}
 use Rattle.avtp_tool.specs.declared.status.Status.TheVariants as status
 use Rattle.avtp_tool.specs.Check.{check_plan}
 use Rattle.avtp_tool.specs.Listen.{listen_plan}
 use Rattle.avtp_tool.specs.Made.{CountsWriting, KeepsFilesBut, KeepsSlotsFor, Makes}
-use Rattle.avtp_tool.specs.Outcome.{AsksFor, CountsReading, is_done, IsDone, TellsRun}
+use Rattle.avtp_tool.specs.Outcome.{AsksFor, CountsReading, is_done, IsDone, KeepsSink, TellsRun}
 use Rattle.avtp_tool.specs.Reading.{PlanOutcome, plan_read, plan_status, plan_text}
 use Rattle.avtp_tool.specs.Show.{show_plan}
 use Rattle.avtp_tool.specs.Talk.{TalkOutcome, talk_plan, talk_report, talk_status}
@@ -70,8 +71,9 @@ MakesOf (talk asked) all files files' result = MakesFrom asked (all asked.input)
 
 -- A run of the request left this: of the text, of the files and slots, of the counts of faults, and of the names that were
 -- asked for.
-pub record Runs (request : Request) (old_files new_files : Option Files) (old_slots new_slots : Slots) (old_reading new_reading old_writing new_writing : ℕ) (old_asked new_asked : List (List ℕ) → Type 0) (before now : Option (List ℕ)) (result : Result Status Failed) : Type 0 where
-  pub tells : (all : Files) → old_files ≡ Some all → IsSome new_files → TellsRun (Outcome request all (Rose old_reading new_reading)) old_asked new_asked before now result
+pub record Runs (request : Request) (old_files new_files : Option Files) (old_slots new_slots : Slots) (old_reading new_reading old_writing new_writing : ℕ) (old_asked new_asked : List (List ℕ) → Type 0)
+    (held held' : Option (List ℕ)) (waits waits' : List ℕ) (faults faults' : ℕ) (result : Result Status Failed) : Type 0 where
+  pub tells : (all : Files) → old_files ≡ Some all → IsSome new_files → TellsRun (Outcome request all (Rose old_reading new_reading)) old_asked new_asked (written held waits) (written held' waits') result
   pub makes : (all : Files) → old_files ≡ Some all → MakesOf request all old_files new_files result
   pub files : KeepsFilesBut (output_of request) old_files new_files
   pub slots : KeepsSlotsFor (output_of request) new_files old_slots new_slots
@@ -79,6 +81,7 @@ pub record Runs (request : Request) (old_files new_files : Option Files) (old_sl
   pub writing : CountsWriting (output_of request) old_writing new_writing result
   pub no_words : result ≢ Ok status.Words
   pub asks : AsksFor (names_of request) old_asked new_asked (IsDone result)
+  pub sink : KeepsSink held held' faults faults' result
 
 -- the words are a command line, or have an offence
 abbrev pub IsAsked : List (List ℕ) → Type 0

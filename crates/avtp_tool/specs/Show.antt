@@ -1,11 +1,11 @@
 -- What `show` prints and how it ends.
-use Rattle.std.specs.Prelude.{◌≡◌, ℕ, ◌+◌, List, [], ◌∷◌, ◌++◌, length, take, Option, Some, None, Result, Ok, Err}
-use Rattle.pcap_frames.specs.Capture.{Record, whole_records}
+use Rattle.std.specs.Prelude.{◌≡◌, ℕ, ◌+◌, List, [], ◌∷◌, ◌++◌, length, take, Option, Result, Ok, Err}
+use Rattle.pcap_frames.specs.Capture.{Record}
+use Rattle.capture_io.specs.Formats.{records_in}
 use Rattle.avtp_text.specs.Notices.{capture_refused_line, read_fault_line, limit_line}
 use Rattle.avtp_text.specs.Show.{frame_line, end_frames_line}
 use Rattle.capture_io.specs.declared.end.End.{End}
 use Rattle.capture_io.specs.declared.end.End.TheVariants as end
-use Rattle.capture_io.specs.Ends.{CountsFault}
 use Rattle.capture_io.specs.Source.{EndsAfter}
 use Rattle.avtp_base.specs.declared.failed.Failed.{Failed}
 use Rattle.avtp_base.specs.Told.{Appends}
@@ -51,9 +51,4 @@ pub record HasPrinted (limit : ℕ) (bytes : List ℕ) (fault : Type 0) (printed
 -- They were printed, or where the sink failed a prefix of their lines was.
 abbrev pub PrintsRecords : ℕ → List ℕ → Type 0 → Option (List ℕ) → Option (List ℕ) → Result Printed Failed → Type 0
 PrintsRecords limit bytes fault before now (Ok printed) = HasPrinted limit bytes fault printed before now
-PrintsRecords limit bytes fault before now (Err e) = AppendsPrefix before now (of_each show_line (whole_records (take limit bytes)))
-
--- The count of reading faults rose where one ended the reading, and else it is as it was.
-abbrev pub CountsPrinted : ℕ → ℕ → Result Printed Failed → Type 0
-CountsPrinted before after (Ok printed) = CountsFault None (Some printed.end) before after
-CountsPrinted before after (Err e) = after ≡ before
+PrintsRecords limit bytes fault before now (Err e) = AppendsPrefix before now (of_each show_line (records_in (take limit bytes)))

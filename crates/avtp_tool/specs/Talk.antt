@@ -1,7 +1,9 @@
 -- What `talk` prints and how it ends.
-use Rattle.std.specs.Prelude.{◌≡◌, ◌≢◌, ℕ, ◌≤◌, ◌<◌, nat_le, List, [], ◌∷◌, length, Option, Some, None, Result, Ok, IfOk, if◌then◌else◌}
+use Rattle.std.specs.Prelude.{◌≡◌, ◌≢◌, ℕ, ◌≤◌, ◌<◌, nat_le, List, [], ◌∷◌, length, take, Option, Some, None, Result, Ok, IfOk, if◌then◌else◌}
 use Rattle.avtp_base.specs.declared.failed.Failed.{Failed}
 use Rattle.avtp_base.specs.Files.{Files, Slots}
+use Rattle.capture_io.specs.declared.contents.Contents.{Contents}
+use Rattle.capture_io.specs.Contents.{IsContents}
 use Rattle.capture_io.specs.declared.end.Stop.{Stop}
 use Rattle.capture_io.specs.declared.end.Stop.TheVariants as stop
 use Rattle.capture_io.specs.Writing.{KeepsSlotsBut}
@@ -12,15 +14,15 @@ use Rattle.avtp_words.specs.declared.talk.Kind.{Kind}
 use Rattle.avtp_words.specs.declared.talk.Kind.TheVariants as words
 use Rattle.talker.specs.declared.plan.TalkPlan.{TalkPlan}
 use Rattle.talker.specs.Faults.{fault_of}
-use Rattle.talker.specs.Frames.{clock_frames, stream_frames}
+use Rattle.talker.specs.Frames.{capture, clock_frames, stream_frames}
 use Rattle.talker.specs.Talking.{most_input}
 use Rattle.avtp_words.specs.Grammar.{Talking}
 use Rattle.avtp_text.specs.Notices.{limit_line, read_fault_line}
 use Rattle.avtp_text.specs.Talk.{talk_input_line, talk_line}
 use Rattle.avtp_tool.specs.declared.status.Status.{Status}
 use Rattle.avtp_tool.specs.declared.status.Status.TheVariants as status
-use Rattle.avtp_tool.specs.Made.{CountsWriting, KeepsFilesBut}
-use Rattle.avtp_tool.specs.Outcome.{Asks, AsksFor, EndsWith, is_done, IsDone, KeepsSink}
+use Rattle.avtp_tool.specs.Made.{CountsWriting, KeepsFilesBut, Makes}
+use Rattle.avtp_tool.specs.Outcome.{Asks, AsksFor, EndsWith, is_done, IsDone, KeepsSink, Tells}
 use Rattle.talker.specs.declared.fault.TalkFault.TheVariants as fault
 use Rattle.avtp_base.specs.Told.{Keeps}
 use Rattle.avtp_text.specs.Written.{written}
@@ -100,6 +102,29 @@ pub record WritesOnly (old_files new_files : Option Files) (old_slots new_slots 
   pub writing : CountsWriting (Some name) old_writing new_writing result
   pub asked : AsksFor (name ∷ []) old_asked new_asked (IsDone result)
   pub came : IfOk result (λ s. s ≢ status.Memory → s ≢ status.WriteFault → Asks (if is_done s then name ∷ [] else []) old_asked new_asked)
+
+-- A call that makes the file of this name of these bytes told one of the outcomes that there can be; it wrote the file, and left
+-- all else as it was.
+pub record Talks (Outcome : Status → List ℕ → Type 0) (name bytes : List ℕ) (old_files new_files : Option Files) (old_slots new_slots : Slots) (old_reading new_reading old_writing new_writing : ℕ) (old_asked new_asked : List (List ℕ) → Type 0)
+    (held held' : Option (List ℕ)) (waits waits' : List ℕ) (faults faults' : ℕ) (result : Result Status Failed) : Type 0 where
+  pub tells : Tells Outcome (written held waits) (written held' waits') result
+  pub makes : Makes name bytes old_files new_files result
+  pub writes : WritesOnly old_files new_files old_slots new_slots old_reading new_reading old_writing new_writing old_asked new_asked name result
+  pub sink : KeepsSink held held' faults faults' result
+
+-- The same of the capture of an input, by what was read of it.
+pub record TalksContents (plan : TalkPlan) (contents : Contents) (name : List ℕ) (old_files new_files : Option Files) (old_slots new_slots : Slots) (old_reading new_reading old_writing new_writing : ℕ) (old_asked new_asked : List (List ℕ) → Type 0)
+    (held held' : Option (List ℕ)) (waits waits' : List ℕ) (faults faults' : ℕ) (result : Result Status Failed) : Type 0 where
+  pub tells : (bytes : List ℕ) → IsContents most_input bytes contents.stop contents.bytes.items → Tells (TalkedOutcome plan bytes (contents.stop ≡ stop.Fault)) (written held waits) (written held' waits') result
+  pub makes : (bytes : List ℕ) → IsContents most_input bytes contents.stop contents.bytes.items → Makes name (capture plan bytes) old_files new_files result
+  pub writes : WritesOnly old_files new_files old_slots new_slots old_reading new_reading old_writing new_writing old_asked new_asked name result
+  pub counts : FaultStops contents.stop result
+  pub sink : KeepsSink held held' faults faults' result
+
+-- A front of the room, of so many bytes, is what was spelled.
+pub record Puts (spelling room : List ℕ) (count : ℕ) : Type 0 where
+  pub text : take count room ≡ spelling
+  pub size : count ≤ 1534
 
 -- A run ends since the input makes no stream: for want of memory with that status and nothing printed, and else with the line
 -- that says why.

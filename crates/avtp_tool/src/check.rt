@@ -7,11 +7,10 @@ ghost use Rattle.sequence_track.specs.declared.seen.Seen.{Seen as SeenValue};
 ghost use Rattle.sequence_track.specs.Tracking.{StandsFor};
 ghost use Rattle.avtp_text.specs.Check.{finding_texts, packet_line};
 ghost use Rattle.avtp_text.specs.Written.{written, Prints};
-ghost use Rattle.capture_io.specs.Reads.{ReadsSlot};
-ghost use Rattle.capture_io.specs.Source.{HasGiven, slot_of, to_do};
-ghost use Rattle.avtp_tool.specs.Check.{check_report, check_status, ChecksRecords, CountsChecked, found_lines, noted, PrintsFound, total_line, unmarked_findings};
+ghost use Rattle.capture_io.specs.Source.{HasGiven, slot_of};
+ghost use Rattle.avtp_tool.specs.Check.{check_report, check_status, ChecksRecords, found_lines, noted, PrintsFound, total_line, unmarked_findings};
 ghost use Rattle.avtp_tool.specs.Outcome.{EndsWith, KeepsSink};
-ghost use Rattle.avtp_tool.specs.Reading.{DoesFile};
+ghost use Rattle.avtp_tool.specs.Reading.{DoesFile, ended_in, IsOpen, ReadsCapture};
 
 use crate::checked::{Checked, checked_record, count};
 use crate::command::print_unopened;
@@ -41,9 +40,8 @@ pub fn check<F: Shelf, S: Sink>(
     out: &mut S,
 ) -> Result<Status, Failed>
     requires { limit ≤ 2 ^ 40 }
-    ensures does { DoesFile (check_report limit file.now) limit file.now (F.files shelf.old) (F.files shelf.new) (F.slots shelf.old) (F.slots shelf.new) (F.reading_faults shelf.old) (F.reading_faults shelf.new)
-        (F.writing_faults shelf.old) (F.writing_faults shelf.new) (F.asked shelf.old) (F.asked shelf.new) (written (S.held out.old) text.old) (written (S.held out.new) text.new) result }
-    ensures sink { KeepsSink (S.held out.old) (S.held out.new) (S.faults out.old) (S.faults out.new) result }
+    ensures { DoesFile (check_report limit file.now) limit file.now (F.files shelf.old) (F.files shelf.new) (F.slots shelf.old) (F.slots shelf.new) (F.reading_faults shelf.old) (F.reading_faults shelf.new)
+        (F.writing_faults shelf.old) (F.writing_faults shelf.new) (F.asked shelf.old) (F.asked shelf.new) (S.held out.old) (S.held out.new) text.old text.new (S.faults out.old) (S.faults out.new) result }
 {
     let mut source = match Source::open(alloc, limit, shelf, file) {
         Ok(source) => source,
@@ -70,15 +68,12 @@ fn check_records<F: Shelf, S: Sink>(
     text: &mut Text,
     out: &mut S,
 ) -> Result<Total, Failed>
-    requires begun { (source.old.ended ≡ None) × IsSome (F.slots shelf.old (slot_of source.old)) }
-    requires limit { to_do source.old ≤ 2 ^ 41 }
+    requires open { IsOpen (F.slots shelf.old) source.old }
     requires stands { StandsFor tracker [] }
     ensures checked { (limit : ℕ) (bytes : List ℕ) → HasGiven limit bytes (left_in (F.slots shelf.old) (slot_of source.old)) source.old [] →
         ChecksRecords limit file.now bytes (Rose (F.reading_faults shelf.old) (F.reading_faults shelf.new)) (written (S.held out.old) text.old) (written (S.held out.new) text.new) result }
-    ensures reads { ReadsSlot (F.files shelf.old) (F.files shelf.new) (F.slots shelf.old) (F.slots shelf.new) (F.reading_faults shelf.old) (F.reading_faults shelf.new)
-        (F.writing_faults shelf.old) (F.writing_faults shelf.new) (F.asked shelf.old) (F.asked shelf.new) (slot_of source.old) }
-    ensures slot { slot_of source.new ≡ slot_of source.old }
-    ensures counts { CountsChecked (F.reading_faults shelf.old) (F.reading_faults shelf.new) result }
+    ensures reads { ReadsCapture (F.files shelf.old) (F.files shelf.new) (F.slots shelf.old) (F.slots shelf.new) (F.reading_faults shelf.old) (F.reading_faults shelf.new)
+        (F.writing_faults shelf.old) (F.writing_faults shelf.new) (F.asked shelf.old) (F.asked shelf.new) (slot_of source.old) (slot_of source.new) (ended_in (λ t. t.end) result) }
     ensures sink { KeepsSink (S.held out.old) (S.held out.new) (S.faults out.old) (S.faults out.new) result }
 {
     text.capture(out, file)?;

@@ -1,9 +1,10 @@
 //! The command `avtp`, over the outside that it is given.
 
-ghost use Rattle.std.specs.Prelude.{◌≡◌, ◌≢◌, ◌≤◌, ◌⊎◌, ◌++◌, ◌∷◌, ℕ, ℤ, List, Ok, Some, None, true, IsSome, length, IfOk};
+ghost use Rattle.std.specs.Prelude.{◌≡◌, ◌≢◌, ◌≤◌, ◌⊎◌, ◌++◌, ◌∷◌, ℕ, ℤ, List, Ok, Some, None, true, false, IsSome, length, IfOk};
 ghost use Rattle.avtp_base.specs.Faults.{IsQuiet, Rose};
 ghost use Rattle.avtp_base.specs.Files.{Files, KeepsFiles, PutsFile};
 ghost use Rattle.avtp_base.specs.Told.{Appends};
+ghost use Rattle.capture_io.specs.Formats.{is_pcapng};
 ghost use Rattle.capture_io.specs.Writing.{MakesPrefix};
 ghost use Rattle.listener.specs.Laws.{HearsTalker};
 ghost use Rattle.packet_journal.specs.Packets.{PacketJournal};
@@ -49,7 +50,7 @@ pub fn run<F: Shelf, S: Sink>(alloc: Global, words: &[String], shelf: &mut F, ou
         IsCommandLine (texts words.now) (listen_request asked) → F.files shelf.old ≡ Some files → IsSome (F.files shelf.new) →
         IsQuiet (F.reading_faults shelf.old) (F.reading_faults shelf.new) →
         asked.files ≡ earlier ++ name ∷ later → listen_status asked files earlier ≡ Status.Done → files name ≡ Some bytes →
-        length bytes ≤ heard_limit → HearsTalker shift p (plan_of asked) bytes →
+        length bytes ≤ heard_limit → is_pcapng bytes ≡ false → HearsTalker shift p (plan_of asked) bytes →
         (text : List ℕ) × HasHeadline asked name shift p bytes text × Appends (S.held out.old) (S.held out.new) text }
 
     // Words that are no command line are told by the first that cannot stand.
@@ -119,7 +120,7 @@ fn execute<F: Shelf, S: Sink>(
 ) -> Result<Status, Failed>
     ensures runs { (request : Request) → IsCommandLine (texts words.now) request → Runs request (F.files shelf.old) (F.files shelf.new) (F.slots shelf.old) (F.slots shelf.new) (F.reading_faults shelf.old) (F.reading_faults shelf.new)
         (F.writing_faults shelf.old) (F.writing_faults shelf.new) (F.asked shelf.old) (F.asked shelf.new)
-        (written (S.held out.old) text.old) (written (S.held out.new) text.new) result }
+        (S.held out.old) (S.held out.new) text.old text.new (S.faults out.old) (S.faults out.new) result }
     ensures words { (position : ℕ) → IsOffence (texts words.now) position →
         (shelf.new ≡ shelf.old) × EndsWith Status.Words (S.held out.old) (S.held out.new) text.old text.new (S.faults out.old) (S.faults out.new) result (words_line position) }
     ensures either { IsAsked (texts words.now) }

@@ -34,9 +34,8 @@ pub fn read_files<F: Shelf, S: Sink>(
     out: &mut S,
 ) -> Result<Status, Failed>
     requires { IsReading reading.now }
-    ensures does { DoesFiles (plan_for reading.now (texts files.now)) (F.files shelf.old) (F.files shelf.new) (F.slots shelf.old) (F.slots shelf.new) (F.reading_faults shelf.old) (F.reading_faults shelf.new)
-        (F.writing_faults shelf.old) (F.writing_faults shelf.new) (F.asked shelf.old) (F.asked shelf.new) (written (S.held out.old) text.old) (written (S.held out.new) text.new) result }
-    ensures sink { KeepsSink (S.held out.old) (S.held out.new) (S.faults out.old) (S.faults out.new) result }
+    ensures { DoesFiles (plan_for reading.now (texts files.now)) (F.files shelf.old) (F.files shelf.new) (F.slots shelf.old) (F.slots shelf.new) (F.reading_faults shelf.old) (F.reading_faults shelf.new)
+        (F.writing_faults shelf.old) (F.writing_faults shelf.new) (F.asked shelf.old) (F.asked shelf.new) (S.held out.old) (S.held out.new) text.old text.new (S.faults out.old) (S.faults out.new) result }
 {
     let mut ended = Status::Done;
     for file in files {
@@ -59,9 +58,8 @@ fn read_file<F: Shelf, S: Sink>(
     out: &mut S,
 ) -> Result<Status, Failed>
     requires { IsReading reading.now }
-    ensures does { DoesFile (report_for reading.now file.now) (limit_for reading.now) file.now (F.files shelf.old) (F.files shelf.new) (F.slots shelf.old) (F.slots shelf.new) (F.reading_faults shelf.old) (F.reading_faults shelf.new)
-        (F.writing_faults shelf.old) (F.writing_faults shelf.new) (F.asked shelf.old) (F.asked shelf.new) (written (S.held out.old) text.old) (written (S.held out.new) text.new) result }
-    ensures sink { KeepsSink (S.held out.old) (S.held out.new) (S.faults out.old) (S.faults out.new) result }
+    ensures { DoesFile (report_for reading.now file.now) (limit_for reading.now) file.now (F.files shelf.old) (F.files shelf.new) (F.slots shelf.old) (F.slots shelf.new) (F.reading_faults shelf.old) (F.reading_faults shelf.new)
+        (F.writing_faults shelf.old) (F.writing_faults shelf.new) (F.asked shelf.old) (F.asked shelf.new) (S.held out.old) (S.held out.new) text.old text.new (S.faults out.old) (S.faults out.new) result }
 {
     match reading {
         Reading::Check { limit } => check(alloc, *limit, file, shelf, text, out),

@@ -5,6 +5,7 @@ mod check;
 mod checked;
 mod command;
 mod files;
+mod law;
 mod listen;
 mod record;
 mod show;
@@ -12,4 +13,5 @@ mod status;
 mod talk;
 
 pub use command::run;
+pub use law::pcapng_reports;
 pub use status::Status;

@@ -7,11 +7,10 @@ ghost use Rattle.avtp_words.specs.Grammar.{listening_of};
 ghost use Rattle.avtp_text.specs.Listen.{capture_line};
 ghost use Rattle.avtp_text.specs.Written.{written, PrintsPart};
 ghost use Rattle.pcap_frames.specs.Capture.{Record};
-ghost use Rattle.capture_io.specs.Reads.{ReadsSlot};
-ghost use Rattle.capture_io.specs.Source.{HasGiven, slot_of, to_do};
-ghost use Rattle.avtp_tool.specs.Listen.{CountsGathered, HasGathered, heard_limit, heard_lines, heard_text, listen_report, plan_of};
+ghost use Rattle.capture_io.specs.Source.{HasGiven, slot_of};
+ghost use Rattle.avtp_tool.specs.Listen.{HasGathered, heard_limit, heard_lines, heard_text, listen_report, plan_of};
 ghost use Rattle.avtp_tool.specs.Outcome.{KeepsSink, Only, Tells};
-ghost use Rattle.avtp_tool.specs.Reading.{DoesFile};
+ghost use Rattle.avtp_tool.specs.Reading.{DoesFile, ended_in, IsOpen, ReadsCapture};
 ghost use Rattle.avtp_tool.specs.Run.{IsListening};
 ghost use Rattle.avtp_tool.specs.Status.{status_of};
 ghost use Rattle.listener.specs.Collected.{StandsFor};
@@ -54,9 +53,8 @@ pub fn listen<F: Shelf, S: Sink>(
     out: &mut S,
 ) -> Result<Status, Failed>
     requires { IsListening (listening_of asked.now) }
-    ensures does { DoesFile (listen_report (listening_of asked.now) file.now) heard_limit file.now (F.files shelf.old) (F.files shelf.new) (F.slots shelf.old) (F.slots shelf.new) (F.reading_faults shelf.old) (F.reading_faults shelf.new)
-        (F.writing_faults shelf.old) (F.writing_faults shelf.new) (F.asked shelf.old) (F.asked shelf.new) (written (S.held out.old) text.old) (written (S.held out.new) text.new) result }
-    ensures sink { KeepsSink (S.held out.old) (S.held out.new) (S.faults out.old) (S.faults out.new) result }
+    ensures { DoesFile (listen_report (listening_of asked.now) file.now) heard_limit file.now (F.files shelf.old) (F.files shelf.new) (F.slots shelf.old) (F.slots shelf.new) (F.reading_faults shelf.old) (F.reading_faults shelf.new)
+        (F.writing_faults shelf.old) (F.writing_faults shelf.new) (F.asked shelf.old) (F.asked shelf.new) (S.held out.old) (S.held out.new) text.old text.new (S.faults out.old) (S.faults out.new) result }
 {
     let mut source = match Source::open(alloc, LIMIT, shelf, file) {
         Ok(source) => source,
@@ -84,15 +82,12 @@ fn gather<F: Shelf>(
     source: &mut Source,
     shelf: &mut F,
 ) -> Result<Gathered, NoMemory>
-    requires begun { (source.old.ended ≡ None) × IsSome (F.slots shelf.old (slot_of source.old)) }
-    requires limit { to_do source.old ≤ 2 ^ 41 }
+    requires open { IsOpen (F.slots shelf.old) source.old }
     ensures gathered { IfOk result (λ all. (limit : ℕ) (bytes : List ℕ) → HasGiven limit bytes (left_in (F.slots shelf.old) (slot_of source.old)) source.old [] →
         HasGathered limit bytes (Rose (F.reading_faults shelf.old) (F.reading_faults shelf.new)) stream all) }
     ensures fits { IfOk result (λ all. All IsEntry all.collected.entries.items) }
-    ensures reads { ReadsSlot (F.files shelf.old) (F.files shelf.new) (F.slots shelf.old) (F.slots shelf.new) (F.reading_faults shelf.old) (F.reading_faults shelf.new)
-        (F.writing_faults shelf.old) (F.writing_faults shelf.new) (F.asked shelf.old) (F.asked shelf.new) (slot_of source.old) }
-    ensures slot { slot_of source.new ≡ slot_of source.old }
-    ensures counts { CountsGathered (F.reading_faults shelf.old) (F.reading_faults shelf.new) result }
+    ensures reads { ReadsCapture (F.files shelf.old) (F.files shelf.new) (F.slots shelf.old) (F.slots shelf.new) (F.reading_faults shelf.old) (F.reading_faults shelf.new)
+        (F.writing_faults shelf.old) (F.writing_faults shelf.new) (F.asked shelf.old) (F.asked shelf.new) (slot_of source.old) (slot_of source.new) (ended_in (λ all. all.end) result) }
 {
     let mut collected = Collected::new(alloc);
     loop {

@@ -4,11 +4,10 @@ ghost use Rattle.std.specs.Prelude.{◌≡◌, ◌*◌, ◌^◌, ◌≤◌, ℕ,
 ghost use Rattle.avtp_base.specs.Faults.{Rose};
 ghost use Rattle.avtp_base.specs.Files.{left_in};
 ghost use Rattle.avtp_text.specs.Written.{written, Prints};
-ghost use Rattle.capture_io.specs.Reads.{ReadsSlot};
-ghost use Rattle.capture_io.specs.Source.{HasGiven, slot_of, to_do};
+ghost use Rattle.capture_io.specs.Source.{HasGiven, slot_of};
 ghost use Rattle.avtp_tool.specs.Outcome.{EndsWith, KeepsSink};
-ghost use Rattle.avtp_tool.specs.Reading.{DoesFile};
-ghost use Rattle.avtp_tool.specs.Show.{CountsPrinted, end_line, PrintsRecords, show_report};
+ghost use Rattle.avtp_tool.specs.Reading.{DoesFile, ended_in, IsOpen, ReadsCapture};
+ghost use Rattle.avtp_tool.specs.Show.{end_line, PrintsRecords, show_report};
 ghost use Rattle.avtp_tool.specs.Status.{status_of};
 
 use crate::command::print_unopened;
@@ -36,9 +35,8 @@ pub fn show<F: Shelf, S: Sink>(
     out: &mut S,
 ) -> Result<Status, Failed>
     requires { limit ≤ 2 ^ 40 }
-    ensures does { DoesFile (show_report limit) limit file.now (F.files shelf.old) (F.files shelf.new) (F.slots shelf.old) (F.slots shelf.new) (F.reading_faults shelf.old) (F.reading_faults shelf.new)
-        (F.writing_faults shelf.old) (F.writing_faults shelf.new) (F.asked shelf.old) (F.asked shelf.new) (written (S.held out.old) text.old) (written (S.held out.new) text.new) result }
-    ensures sink { KeepsSink (S.held out.old) (S.held out.new) (S.faults out.old) (S.faults out.new) result }
+    ensures { DoesFile (show_report limit) limit file.now (F.files shelf.old) (F.files shelf.new) (F.slots shelf.old) (F.slots shelf.new) (F.reading_faults shelf.old) (F.reading_faults shelf.new)
+        (F.writing_faults shelf.old) (F.writing_faults shelf.new) (F.asked shelf.old) (F.asked shelf.new) (S.held out.old) (S.held out.new) text.old text.new (S.faults out.old) (S.faults out.new) result }
 {
     let mut source = match Source::open(alloc, limit, shelf, file) {
         Ok(source) => source,
@@ -59,14 +57,11 @@ fn print_records<F: Shelf, S: Sink>(
     text: &mut Text,
     out: &mut S,
 ) -> Result<Printed, Failed>
-    requires begun { (source.old.ended ≡ None) × IsSome (F.slots shelf.old (slot_of source.old)) }
-    requires limit { to_do source.old ≤ 2 ^ 41 }
+    requires open { IsOpen (F.slots shelf.old) source.old }
     ensures printed { (limit : ℕ) (bytes : List ℕ) → HasGiven limit bytes (left_in (F.slots shelf.old) (slot_of source.old)) source.old [] →
         PrintsRecords limit bytes (Rose (F.reading_faults shelf.old) (F.reading_faults shelf.new)) (written (S.held out.old) text.old) (written (S.held out.new) text.new) result }
-    ensures reads { ReadsSlot (F.files shelf.old) (F.files shelf.new) (F.slots shelf.old) (F.slots shelf.new) (F.reading_faults shelf.old) (F.reading_faults shelf.new)
-        (F.writing_faults shelf.old) (F.writing_faults shelf.new) (F.asked shelf.old) (F.asked shelf.new) (slot_of source.old) }
-    ensures slot { slot_of source.new ≡ slot_of source.old }
-    ensures counts { CountsPrinted (F.reading_faults shelf.old) (F.reading_faults shelf.new) result }
+    ensures reads { ReadsCapture (F.files shelf.old) (F.files shelf.new) (F.slots shelf.old) (F.slots shelf.new) (F.reading_faults shelf.old) (F.reading_faults shelf.new)
+        (F.writing_faults shelf.old) (F.writing_faults shelf.new) (F.asked shelf.old) (F.asked shelf.new) (slot_of source.old) (slot_of source.new) (ended_in (λ p. p.end) result) }
     ensures sink { KeepsSink (S.held out.old) (S.held out.new) (S.faults out.old) (S.faults out.new) result }
 {
     let mut frames = 0;

@@ -10,14 +10,11 @@ ghost use Rattle.talker.specs.Talking.{most_input};
 ghost use Rattle.avtp_words.specs.Grammar.{talk as talk_request, talking_of};
 ghost use Rattle.avtp_text.specs.Talk.{talk_input_line, talk_line};
 ghost use Rattle.avtp_text.specs.Notices.{limit_line};
-ghost use Rattle.avtp_text.specs.Written.{written};
-ghost use Rattle.capture_io.specs.Contents.{IsContents};
 ghost use Rattle.capture_io.specs.Writing.{IsMadeIn, IsWriting, WritesSlot};
-ghost use Rattle.capture_io.specs.declared.end.Stop.TheVariants as stop;
-ghost use Rattle.avtp_tool.specs.Made.{IsWritingPart, Makes, MakesFile, unmade_as};
-ghost use Rattle.avtp_tool.specs.Outcome.{EndsWith, KeepsSink, Only, Tells};
+ghost use Rattle.avtp_tool.specs.Made.{IsWritingPart, MakesFile, unmade_as};
+ghost use Rattle.avtp_tool.specs.Outcome.{EndsWith, Only};
 ghost use Rattle.avtp_tool.specs.Run.{Runs};
-ghost use Rattle.avtp_tool.specs.Talk.{EndsRefused, FaultStops, sent_line, talk_kind, talk_plan, TalkedOutcome, WritesOnly};
+ghost use Rattle.avtp_tool.specs.Talk.{EndsRefused, Puts, sent_line, talk_kind, talk_plan, TalkedOutcome, Talks, TalksContents};
 
 use crate::command::{print_fault, print_unopened};
 use crate::status::Status;
@@ -78,10 +75,9 @@ pub fn talk<F: Shelf, S: Sink>(
     out: &mut S,
 ) -> Result<Status, Failed>
     requires { IsPlan (talk_plan (talking_of asked.now)) }
-    ensures runs { Runs (talk_request (talking_of asked.now)) (F.files shelf.old) (F.files shelf.new) (F.slots shelf.old) (F.slots shelf.new) (F.reading_faults shelf.old) (F.reading_faults shelf.new)
+    ensures { Runs (talk_request (talking_of asked.now)) (F.files shelf.old) (F.files shelf.new) (F.slots shelf.old) (F.slots shelf.new) (F.reading_faults shelf.old) (F.reading_faults shelf.new)
         (F.writing_faults shelf.old) (F.writing_faults shelf.new) (F.asked shelf.old) (F.asked shelf.new)
-        (written (S.held out.old) text.old) (written (S.held out.new) text.new) result }
-    ensures sink { KeepsSink (S.held out.old) (S.held out.new) (S.faults out.old) (S.faults out.new) result }
+        (S.held out.old) (S.held out.new) text.old text.new (S.faults out.old) (S.faults out.new) result }
 {
     match read_contents(alloc, LIMIT, shelf, asked.input) {
         Ok(contents) => talk_contents(
@@ -109,14 +105,8 @@ fn talk_contents<F: Shelf, S: Sink>(
 ) -> Result<Status, Failed>
     requires plan { IsPlan plan }
     requires bounded { length contents.now.bytes.items ≤ most_input }
-    ensures tells { (bytes : List ℕ) → IsContents most_input bytes contents.now.stop contents.now.bytes.items →
-        Tells (TalkedOutcome plan bytes (contents.now.stop ≡ stop.Fault)) (written (S.held out.old) text.old) (written (S.held out.new) text.new) result }
-    ensures makes { (bytes : List ℕ) → IsContents most_input bytes contents.now.stop contents.now.bytes.items →
-        Makes output.now (capture plan bytes) (F.files shelf.old) (F.files shelf.new) result }
-    ensures writes { WritesOnly (F.files shelf.old) (F.files shelf.new) (F.slots shelf.old) (F.slots shelf.new) (F.reading_faults shelf.old) (F.reading_faults shelf.new)
-        (F.writing_faults shelf.old) (F.writing_faults shelf.new) (F.asked shelf.old) (F.asked shelf.new) output.now result }
-    ensures counts { FaultStops contents.now.stop result }
-    ensures sink { KeepsSink (S.held out.old) (S.held out.new) (S.faults out.old) (S.faults out.new) result }
+    ensures { TalksContents plan contents.now output.now (F.files shelf.old) (F.files shelf.new) (F.slots shelf.old) (F.slots shelf.new) (F.reading_faults shelf.old) (F.reading_faults shelf.new)
+        (F.writing_faults shelf.old) (F.writing_faults shelf.new) (F.asked shelf.old) (F.asked shelf.new) (S.held out.old) (S.held out.new) text.old text.new (S.faults out.old) (S.faults out.new) result }
 {
     match contents.stop {
         Stop::End => talk_input(
@@ -145,11 +135,8 @@ fn talk_input<F: Shelf, S: Sink>(
 ) -> Result<Status, Failed>
     requires plan { IsPlan plan }
     requires limit { length input.now ≤ most_input }
-    ensures tells { Tells (TalkedOutcome plan input.now ⊥) (written (S.held out.old) text.old) (written (S.held out.new) text.new) result }
-    ensures makes { Makes output.now (capture plan input.now) (F.files shelf.old) (F.files shelf.new) result }
-    ensures writes { WritesOnly (F.files shelf.old) (F.files shelf.new) (F.slots shelf.old) (F.slots shelf.new) (F.reading_faults shelf.old) (F.reading_faults shelf.new)
-        (F.writing_faults shelf.old) (F.writing_faults shelf.new) (F.asked shelf.old) (F.asked shelf.new) output.now result }
-    ensures sink { KeepsSink (S.held out.old) (S.held out.new) (S.faults out.old) (S.faults out.new) result }
+    ensures { Talks (TalkedOutcome plan input.now ⊥) output.now (capture plan input.now) (F.files shelf.old) (F.files shelf.new) (F.slots shelf.old) (F.slots shelf.new) (F.reading_faults shelf.old) (F.reading_faults shelf.new)
+        (F.writing_faults shelf.old) (F.writing_faults shelf.new) (F.asked shelf.old) (F.asked shelf.new) (S.held out.old) (S.held out.new) text.old text.new (S.faults out.old) (S.faults out.new) result }
 {
     match Talker::begin(alloc, plan, input) {
         Ok(mut talker) => send(alloc, &mut talker, output, shelf, text, out),
@@ -167,11 +154,8 @@ fn send<F: Shelf, S: Sink>(
     out: &mut S,
 ) -> Result<Status, Failed>
     requires begun { talker.old.given ≡ 0 }
-    ensures tells { Tells (Only Status.Done (sent_line talker.old.plan talker.old.input)) (written (S.held out.old) text.old) (written (S.held out.new) text.new) result }
-    ensures makes { Makes output.now (capture talker.old.plan talker.old.input) (F.files shelf.old) (F.files shelf.new) result }
-    ensures writes { WritesOnly (F.files shelf.old) (F.files shelf.new) (F.slots shelf.old) (F.slots shelf.new) (F.reading_faults shelf.old) (F.reading_faults shelf.new)
-        (F.writing_faults shelf.old) (F.writing_faults shelf.new) (F.asked shelf.old) (F.asked shelf.new) output.now result }
-    ensures sink { KeepsSink (S.held out.old) (S.held out.new) (S.faults out.old) (S.faults out.new) result }
+    ensures { Talks (Only Status.Done (sent_line talker.old.plan talker.old.input)) output.now (capture talker.old.plan talker.old.input) (F.files shelf.old) (F.files shelf.new) (F.slots shelf.old) (F.slots shelf.new) (F.reading_faults shelf.old) (F.reading_faults shelf.new)
+        (F.writing_faults shelf.old) (F.writing_faults shelf.new) (F.asked shelf.old) (F.asked shelf.new) (S.held out.old) (S.held out.new) text.old text.new (S.faults out.old) (S.faults out.new) result }
 {
     let packets = talker.packets();
     let clocks = talker.clocks();
@@ -247,8 +231,7 @@ fn write_capture<F: Shelf>(
 /// Puts a capture's header at the front of the room, and answers its length.
 fn put_header(room: &mut [u8]) -> usize
     requires { RECORD ≤ length room.old }
-    ensures text { take result room.new ≡ header_spelling capture_style }
-    ensures size { result ≤ RECORD }
+    ensures { Puts (header_spelling capture_style) room.new result }
 {
     let Ok(size) = write_header(room, STYLE) else {
         unreachable!()
@@ -261,8 +244,7 @@ fn put_record(room: &mut [u8], sent: &Sent<'_>) -> usize
     requires fits { HasSpelling capture_style (record_of (sent_frame sent.now)) }
     requires size { length sent.now.bytes.now ≤ 1518 }
     requires room { RECORD ≤ length room.old }
-    ensures text { take result room.new ≡ record_spelling capture_style (record_of (sent_frame sent.now)) }
-    ensures size { result ≤ RECORD }
+    ensures { Puts (record_spelling capture_style (record_of (sent_frame sent.now))) room.new result }
 {
     let Ok(size) = write_record(
         room,

@@ -26,8 +26,9 @@ only_reads_then f g h s t u r r' r'' w w' w'' a b c names more first second = re
 }
 
 -- a slot in which nothing was read
-pub reads_nothing : (files : Option Files) (slots : Slots) (reading writing : ℕ) (asked : List (List ℕ) → Type 0) (k : ℕ) → IsSome (slots k) → ReadsSlot files files slots slots reading reading writing writing asked asked k
+pub reads_nothing : (files : Option Files) (slots : Slots) (reading writing : ℕ) (asked : List (List ℕ) → Type 0) (k : ℕ) → IsSome (slots k) → ReadsSlot files files slots slots reading reading writing writing asked asked k k
 reads_nothing files slots reading writing asked k live = record {
+  slot = refl;
   files = KeepsFiles-refl files;
   live = live;
   others = λ j differs. refl;
@@ -36,9 +37,14 @@ reads_nothing files slots reading writing asked k live = record {
   asked = λ before stands. stands;
 }
 
-pub reads_then : (f g h : Option Files) (s t u : Slots) (r r' r'' w w' w'' : ℕ) (a b c : List (List ℕ) → Type 0) (k : ℕ)
-    → ReadsSlot f g s t r r' w w' a b k → ReadsSlot g h t u r' r'' w' w'' b c k → ReadsSlot f h s u r r'' w w'' a c k
-reads_then f g h s t u r r' r'' w w' w'' a b c k first second = record {
+-- nor was it, under the number that the slot has now
+pub reads_still : (files : Option Files) (slots : Slots) (reading writing : ℕ) (asked : List (List ℕ) → Type 0) (k j : ℕ) → j ≡ k → IsSome (slots k) → ReadsSlot files files slots slots reading reading writing writing asked asked k j
+reads_still files slots reading writing asked k j same live = subst (ReadsSlot files files slots slots reading reading writing writing asked asked k) (sym same) (reads_nothing files slots reading writing asked k live)
+
+reads_then_here : (f g h : Option Files) (s t u : Slots) (r r' r'' w w' w'' : ℕ) (a b c : List (List ℕ) → Type 0) (k : ℕ)
+    → ReadsSlot f g s t r r' w w' a b k k → ReadsSlot g h t u r' r'' w' w'' b c k k → ReadsSlot f h s u r r'' w w'' a c k k
+reads_then_here f g h s t u r r' r'' w w' w'' a b c k first second = record {
+  slot = refl;
   files = KeepsFiles-trans f g h first.files second.files;
   live = second.live;
   others = KeepsOthers-trans s t u k first.others second.others;
@@ -47,9 +53,19 @@ reads_then f g h s t u r r' r'' w w' w'' a b c k first second = record {
   asked = λ before stands. second.asked before (first.asked before stands);
 }
 
-pub opens_then : (f g h : Option Files) (s t u : Slots) (r r' r'' w w' w'' : ℕ) (a b c : List (List ℕ) → Type 0) (name : List ℕ) (k : ℕ)
-    → OpensSlot f g s t r r' w w' a b name k → ReadsSlot g h t u r' r'' w' w'' b c k → OpensSlot f h s u r r'' w w'' a c name k
-opens_then f g h s t u r r' r'' w w' w'' a b c name k first second = record {
+reads_at : (f g : Option Files) (s t : Slots) (r r' w w' : ℕ) (a b : List (List ℕ) → Type 0) (k j i : ℕ) → j ≡ k → ReadsSlot f g s t r r' w w' a b j i → ReadsSlot f g s t r r' w w' a b k k
+reads_at f g s t r r' w w' a b k j i same reads =
+    subst (λ (n : ℕ). ReadsSlot f g s t r r' w w' a b k n) (reads.slot ∙ same) (subst (λ (n : ℕ). ReadsSlot f g s t r r' w w' a b n i) same reads)
+
+pub reads_then : (f g h : Option Files) (s t u : Slots) (r r' r'' w w' w'' : ℕ) (a b c : List (List ℕ) → Type 0) (k j i : ℕ)
+    → ReadsSlot f g s t r r' w w' a b k j → ReadsSlot g h t u r' r'' w' w'' b c j i → ReadsSlot f h s u r r'' w w'' a c k i
+reads_then f g h s t u r r' r'' w w' w'' a b c k j i first second =
+    subst (λ (n : ℕ). ReadsSlot f h s u r r'' w w'' a c k n) (sym (second.slot ∙ first.slot))
+    (reads_then_here f g h s t u r r' r'' w w' w'' a b c k (reads_at f g s t r r' w w' a b k k j refl first) (reads_at g h t u r' r'' w' w'' b c k j i first.slot second))
+
+pub opens_then : (f g h : Option Files) (s t u : Slots) (r r' r'' w w' w'' : ℕ) (a b c : List (List ℕ) → Type 0) (name : List ℕ) (k j : ℕ)
+    → OpensSlot f g s t r r' w w' a b name k → ReadsSlot g h t u r' r'' w' w'' b c k j → OpensSlot f h s u r r'' w w'' a c name k
+opens_then f g h s t u r r' r'' w w' w'' a b c name k j first second = record {
   free = first.free;
   files = KeepsFiles-trans f g h first.files second.files;
   live = second.live;

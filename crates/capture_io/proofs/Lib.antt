@@ -1,3 +1,6 @@
+pub mod Formats
+pub mod Reader
+pub mod Respelled
 pub mod Leaving
 pub mod Ending
 pub mod Taking

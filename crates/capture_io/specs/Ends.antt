@@ -2,8 +2,7 @@
 use Rattle.std.specs.Prelude.{◌≡◌, ℕ, ◌≤◌, nat_le, if◌then◌else◌, List, [], ◌++◌, length, take, Option, Some, None}
 use Rattle.avtp_base.specs.Faults.{Rose}
 use Rattle.avtp_base.specs.declared.refusal.Refusal.{Refusal}
-use Rattle.pcap_frames.specs.Layout.{certain}
-use Rattle.pcap_frames.specs.Capture.{first_refusal}
+use Rattle.capture_io.specs.Formats.{refusal_in, certain_in}
 use Rattle.capture_io.specs.declared.end.End.{End}
 use Rattle.capture_io.specs.declared.end.End.TheVariants as end
 use Rattle.capture_io.specs.declared.end.Stop.{Stop}
@@ -22,8 +21,8 @@ at_limit (Some refusal) = end.Refused refusal
 unfoldable pub end_of : ℕ → List ℕ → End
 end_of limit bytes =
     if nat_le (length bytes) limit
-    then at_end (first_refusal bytes)
-    else at_limit (certain (first_refusal (take limit bytes)))
+    then at_end (refusal_in bytes)
+    else at_limit (certain_in (take limit bytes))
 
 -- How the reading of a file ends of which `limit` bytes may be read, and the bytes before that place. `told` is what the
 -- shelf holds under the name: where it is None no file has the name, which counts as a fault of reading before the first
@@ -31,21 +30,14 @@ end_of limit bytes =
 abbrev pub EndsAt : ℕ → Option (List ℕ) → Type 0 → End → List ℕ → Type 0
 EndsAt limit None fault how prefix = (how ≡ end.ReadFault) × (prefix ≡ [])
 EndsAt limit (Some bytes) fault end.ReadFault prefix =
-    fault × ((rest : List ℕ) × (bytes ≡ prefix ++ rest) × (length prefix ≤ limit) × (certain (first_refusal prefix) ≡ None))
+    fault × ((rest : List ℕ) × (bytes ≡ prefix ++ rest) × (length prefix ≤ limit) × (certain_in prefix ≡ None))
 EndsAt limit (Some bytes) fault how prefix = (how ≡ end_of limit bytes) × (prefix ≡ take limit bytes)
 
--- ---- from where the reading stopped
-
-abbrev pub certain_or : Option Refusal → End → End
-certain_or None other = other
-certain_or (Some refusal) other = if refusal.short then other else end.Refused refusal
-
--- How a capture ends whose reading stopped so, where this is the first refusal of what was read. A field that is whole
--- is refused wherever the reading stopped after it; one that is cut off, only at the end of the file.
+-- How a capture ends of which nothing was refused and whose reading stopped so; where the file ends, this is what it lacks.
 abbrev pub end_at : Stop → Option Refusal → End
-end_at stop.End refused = at_end refused
-end_at stop.Fault refused = certain_or refused end.ReadFault
-end_at stop.Limit refused = certain_or refused end.Limit
+end_at stop.End lack = at_end lack
+end_at stop.Fault lack = end.ReadFault
+end_at stop.Limit lack = end.Limit
 
 -- ---- the count of reading faults
 

@@ -1,3 +1,5 @@
+pub mod Formats
+pub mod Reader
 pub mod Reads
 pub mod Ends
 pub mod Contents

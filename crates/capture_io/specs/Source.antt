@@ -1,16 +1,18 @@
 -- The records of a capture, one after the other.
-use Rattle.std.specs.Prelude.{◌≡◌, ◌++◌, ◌+◌, ◌*◌, ◌<◌, ℕ, List, length, IfSome, Option, Some, None, option_to_list}
+use Rattle.std.specs.Prelude.{◌≡◌, ◌++◌, ◌+◌, ◌*◌, ◌<◌, ℕ, List, [], ◌∷◌, length, IfSome, IsSome, Option, Some, None, option_to_list}
 use Rattle.avtp_base.specs.Faults.{Rose}
-use Rattle.pcap_frames.specs.Capture.{Record, whole_records}
-use Rattle.pcap_frames.specs.Reading.{Reading, HasRead, held}
+use Rattle.avtp_base.specs.Files.{Slots}
+use Rattle.pcap_frames.specs.Capture.{Record}
 use Rattle.capture_io.specs.declared.end.End.{End}
 use Rattle.capture_io.specs.Ends.{CountsFault, EndsAt}
+use Rattle.capture_io.specs.Formats.{records_in}
 use Rattle.capture_io.specs.Pieces.{Piecing, HasTaken}
+use Rattle.capture_io.specs.Reader.{CaptureReading, HasRead, held, refusal_of}
 
 -- The file and its pieces, the reader that takes them, and how the reading ended, once it has.
 pub record Sourcing : Type 0 where
   pub pieces : Piecing
-  pub reader : Reading
+  pub reader : CaptureReading
   pub ended : Option End
 
 -- the slot of the file
@@ -25,7 +27,7 @@ held_in source = held source.reader
 pub record HasFed (limit : ℕ) (bytes : List ℕ) (remains : Option (List ℕ)) (source : Sourcing) (records : List Record) : Type 0 where
   pub prefix : List ℕ
   pub taken : HasTaken limit bytes remains source.pieces prefix
-  pub accepted : source.reader.refusal ≡ None
+  pub accepted : refusal_of source.reader ≡ None
   pub read : HasRead source.reader prefix records
 
 -- Of a file of these bytes, of which `limit` may be read and the slot has `remains` left, these records were given, the
@@ -40,7 +42,7 @@ pub record HasGiven (limit : ℕ) (bytes : List ℕ) (remains : Option (List ℕ
 pub record EndsAfter (limit : ℕ) (bytes : List ℕ) (fault : Type 0) (how : End) (records : List Record) : Type 0 where
   pub prefix : List ℕ
   pub ends : EndsAt limit (Some bytes) fault how prefix
-  pub whole : whole_records prefix ≡ records
+  pub whole : records_in prefix ≡ records
 
 -- how much may still be done: it falls with each piece that is read, and with each byte that is taken
 abbrev pub to_do : Sourcing → ℕ
@@ -55,3 +57,19 @@ pub record ReadsOn (old_remains new_remains : Option (List ℕ)) (before after :
   pub less : result ≡ None → to_do new < to_do old
   pub counted : CountsFault None result before after
   pub slot : slot_of new ≡ slot_of old
+
+-- the file is open, and no record is held
+abbrev pub IsReady : Slots → Sourcing → Type 0
+IsReady slots source = IsSome (slots (slot_of source)) × (held_in source ≡ None)
+
+-- The next record was read, and is held now; or the reading ended so after the records that were given, and the count of
+-- reading faults rose where a fault ended it. A reading that had ended answers the same again.
+pub record GivesNext (old_remains new_remains : Option (List ℕ)) (before after : ℕ) (old new : Sourcing) (result : Option End) : Type 0 where
+  pub given : result ≡ None → (limit : ℕ) (bytes : List ℕ) (records : List Record) → HasGiven limit bytes old_remains old records
+      → (next : Record) × (held_in new ≡ Some next) × HasGiven limit bytes new_remains new (records ++ next ∷ [])
+  pub ends : IfSome result (λ how. (limit : ℕ) (bytes : List ℕ) (records : List Record) → HasGiven limit bytes old_remains old records → EndsAfter limit bytes (Rose before after) how records)
+  pub held : result ≡ None → IsSome (held_in new)
+  pub less : result ≡ None → to_do new < to_do old
+  pub ended : new.ended ≡ result
+  pub lasting : IfSome old.ended (λ how. result ≡ Some how)
+  pub counted : CountsFault old.ended result before after

@@ -1,7 +1,9 @@
 -- A file that is written through a buffer.
-use Rattle.std.specs.Prelude.{◌≡◌, ◌≢◌, ◌⊎◌, ℕ, true, List, ◌++◌, Option, None, Some, IsSome, Result, option_map}
+use Rattle.std.specs.Prelude.{◌≡◌, ◌≢◌, ◌⊎◌, ℕ, true, List, [], ◌∷◌, ◌++◌, Option, None, Some, IfOk, IsErrOf, IsSome, OnErr, Result, option_map}
 use Rattle.avtp_base.specs.declared.failed.Failed.{Failed}
-use Rattle.avtp_base.specs.Faults.{IsCounted}
+use Rattle.avtp_base.specs.declared.failed.OpenFault.{OpenFault}
+use Rattle.avtp_base.specs.declared.failed.OpenFault.TheVariants as open_fault
+use Rattle.avtp_base.specs.Faults.{IsCounted, IsOpenCounted}
 use Rattle.avtp_base.specs.Files.{Files, Slots, file_of, left_in, name_in, KeepsFiles, KeepsOtherFiles, KeepsSlots, PutsFile}
 
 -- The slot of the file, and the bytes that wait to be written to it.
@@ -45,6 +47,15 @@ pub record NotMade (old_files new_files : Option Files) (old_slots new_slots : S
   pub slots : KeepsSlots old_slots new_slots
   pub reading : new_reading ≡ old_reading
 
+-- A file of this name was made, and is written through a buffer in which nothing waits; or it was not made, and the count of
+-- writing faults rose where the shelf failed. The name was asked for.
+pub record CreatesFile (old_files new_files : Option Files) (old_slots new_slots : Slots) (old_reading new_reading old_writing new_writing : ℕ) (old_asked new_asked : List (List ℕ) → Type 0) (name : List ℕ) (result : Result Writing OpenFault) : Type 0 where
+  pub begun : IfOk result (λ writer. IsWriting old_files new_files old_slots new_slots old_reading new_reading writer name [])
+  pub not_made : OnErr result (NotMade old_files new_files old_slots new_slots old_reading new_reading)
+  pub not_missing : IsErrOf result open_fault.Missing → ⊥
+  pub counted : IsOpenCounted old_writing new_writing result
+  pub asked : (names : List (List ℕ)) → old_asked names → new_asked (names ++ name ∷ [])
+
 -- the file has a prefix of these bytes now, and all other files that are told stay as they were
 pub record PutsPrefix (old new : Option Files) (name bytes : List ℕ) : Type 0 where
   pub prefix : List ℕ
@@ -61,10 +72,11 @@ pub record KeepsSlotsBut (files : Option Files) (old new : Slots) (name : List �
   pub same : (j : ℕ) → option_map file_of (new j) ≡ option_map file_of (old j)
   pub left : IsSome files → (j : ℕ) → name_in old j ≢ Some name → left_in new j ≡ left_in old j
 
--- The writer's file was closed, which has a prefix of all that was added. Every other file and slot is as it was; no reading
--- fault was counted, and no name was asked for.
-pub record ClosesFile (old_files new_files : Option Files) (old_slots new_slots : Slots) (old_reading new_reading : ℕ) (old_asked new_asked : List (List ℕ) → Type 0) (writer : Writing) : Type 0 where
+-- The writer's file was closed, which has a prefix of all that was added. Every other file and slot is as it was; the count of
+-- writing faults rose where the shelf failed, no reading fault was counted, and no name was asked for.
+pub record ClosesFile (old_files new_files : Option Files) (old_slots new_slots : Slots) (old_reading new_reading old_writing new_writing : ℕ) (old_asked new_asked : List (List ℕ) → Type 0) (writer : Writing) (result : Result Unit Failed) : Type 0 where
   pub prefix : (files : Option Files) (slots : Slots) (reading : ℕ) (name all : List ℕ) → IsWriting files old_files slots old_slots reading old_reading writer name all → PutsPrefix files new_files name all
   pub slots : (files : Option Files) (slots : Slots) (reading : ℕ) (name all : List ℕ) → IsWriting files old_files slots old_slots reading old_reading writer name all → KeepsSlotsBut files slots new_slots name
   pub reading : new_reading ≡ old_reading
+  pub counted : IsCounted old_writing new_writing result
   pub asked : (before : List (List ℕ)) → old_asked before → new_asked before

@@ -2,7 +2,7 @@
 
 ghost use Rattle.std.specs.Prelude.{◌≡◌, ◌≤◌, ◌∷◌, ℕ, List, [], Some, length, IsSome, IfOk, OnErr, IsErrOf};
 ghost use Rattle.avtp_base.specs.Files.{Files, left_in, IsMissing};
-ghost use Rattle.capture_io.specs.Contents.{IsContents, IsReadCounted};
+ghost use Rattle.capture_io.specs.Contents.{IsContents, IsReadCounted, stop_of};
 ghost use Rattle.capture_io.specs.Ends.{CountsStop};
 ghost use Rattle.capture_io.specs.Pieces.{HasTaken};
 ghost use Rattle.capture_io.specs.Reads.{OnlyReads, ReadsSlot};
@@ -55,11 +55,9 @@ fn join<F: Shelf>(alloc: Global, pieces: &mut Pieces, shelf: &mut F) -> Result<C
     ensures read { IfOk result (λ contents. (limit : ℕ) (bytes : List ℕ) →
         HasTaken limit bytes (left_in (F.slots shelf.old) pieces.old.slot) pieces.old [] → IsContents limit bytes contents.stop contents.bytes.items) }
     ensures bounded { IfOk result (λ contents. length contents.bytes.items ≤ pieces.old.left) }
-    ensures counted { IfOk result (λ contents. CountsStop (Some contents.stop) (F.reading_faults shelf.old) (F.reading_faults shelf.new)) }
-    ensures uncounted { OnErr result (F.reading_faults shelf.new ≡ F.reading_faults shelf.old) }
+    ensures counted { CountsStop (stop_of result) (F.reading_faults shelf.old) (F.reading_faults shelf.new) }
     ensures reads { ReadsSlot (F.files shelf.old) (F.files shelf.new) (F.slots shelf.old) (F.slots shelf.new) (F.reading_faults shelf.old) (F.reading_faults shelf.new)
-        (F.writing_faults shelf.old) (F.writing_faults shelf.new) (F.asked shelf.old) (F.asked shelf.new) pieces.old.slot }
-    ensures slot { pieces.new.slot ≡ pieces.old.slot }
+        (F.writing_faults shelf.old) (F.writing_faults shelf.new) (F.asked shelf.old) (F.asked shelf.new) pieces.old.slot pieces.new.slot }
 {
     let mut bytes = Vec::new(alloc);
     loop {

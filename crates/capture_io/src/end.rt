@@ -1,7 +1,7 @@
 //! How the reading of a capture ends.
 
 ghost use Rattle.std.specs.Prelude.{◌≡◌};
-ghost use Rattle.capture_io.specs.Ends.{at_end, certain_or, end_at};
+ghost use Rattle.capture_io.specs.Ends.{end_at};
 
 use avtp_base::Refusal;
 
@@ -30,37 +30,16 @@ pub enum Stop {
 }
 
 impl Stop {
-    /// How a capture ends whose reading stopped here, where this is the first refusal of what was read.
-    pub fn end(self, refused: Option<Refusal>) -> End
-        ensures { result ≡ end_at self refused }
+    /// How a capture ends of which nothing was refused and whose reading stopped here. Where the file ends, `lack` is what it
+    /// lacks.
+    pub fn end(self, lack: Option<Refusal>) -> End
+        ensures { result ≡ end_at self lack }
     {
-        match self {
-            Stop::End => whole_or(refused),
-            Stop::Fault => refused_or(refused, End::ReadFault),
-            Stop::Limit => refused_or(refused, End::Limit),
+        match (self, lack) {
+            (Stop::End, None) => End::Whole,
+            (Stop::End, Some(refusal)) => End::Refused(refusal),
+            (Stop::Fault, _) => End::ReadFault,
+            (Stop::Limit, _) => End::Limit,
         }
     }
-}
-
-/// The end of a file that was read whole, where this is its first refusal.
-pub fn whole_or(refused: Option<Refusal>) -> End
-    ensures { result ≡ at_end refused }
-{
-    match refused {
-        Some(refusal) => End::Refused(refusal),
-        None => End::Whole,
-    }
-}
-
-/// The refusal of a field that is whole, and else another end.
-fn refused_or(refused: Option<Refusal>, end: End) -> End
-    ensures { result ≡ certain_or refused end }
-{
-    let Some(refusal) = refused else {
-        return end;
-    };
-    if refusal.short {
-        return end;
-    }
-    End::Refused(refusal)
 }

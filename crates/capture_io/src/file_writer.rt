@@ -1,9 +1,8 @@
 //! A file that is written through a buffer.
 
-ghost use Rattle.std.specs.Prelude.{◌≡◌, ◌≤◌, ◌++◌, ◌∷◌, ℕ, List, [], Option, length, IfOk, OnOk, OnErr, IsErrOf};
-ghost use Rattle.avtp_base.specs.Faults.{IsCounted, IsOpenCounted};
+ghost use Rattle.std.specs.Prelude.{◌≡◌, ◌≤◌, ◌++◌, ℕ, List, [], Ok, Option, length, OnOk, OnErr};
 ghost use Rattle.avtp_base.specs.Files.{Files, Slots, PutsFile};
-ghost use Rattle.capture_io.specs.Writing.{ClosesFile, IsMadeIn, IsWriting, NotMade, WritesSlot};
+ghost use Rattle.capture_io.specs.Writing.{ClosesFile, CreatesFile, IsMadeIn, IsWriting, WritesSlot};
 
 use avtp_base::{Buffer, Failed, OpenFault, Shelf, Slot};
 use std::marker::Model;
@@ -33,11 +32,8 @@ impl FileWriter {
     /// never answers `Missing`.
     pub fn create<F: Shelf>(buffer: Buffer, shelf: &mut F, name: &str) -> Result<Self, OpenFault>
         requires none_waits { buffer ≡ [] }
-        ensures begun { IfOk result (λ writer. IsWriting (F.files shelf.old) (F.files shelf.new) (F.slots shelf.old) (F.slots shelf.new) (F.reading_faults shelf.old) (F.reading_faults shelf.new) writer name.now []) }
-        ensures not_made { OnErr result (NotMade (F.files shelf.old) (F.files shelf.new) (F.slots shelf.old) (F.slots shelf.new) (F.reading_faults shelf.old) (F.reading_faults shelf.new)) }
-        ensures not_missing { IsErrOf result OpenFault.Missing → ⊥ }
-        ensures counted { IsOpenCounted (F.writing_faults shelf.old) (F.writing_faults shelf.new) result }
-        ensures asked { (names : List (List ℕ)) → F.asked shelf.old names → F.asked shelf.new (names ++ name.now ∷ []) }
+        ensures { CreatesFile (F.files shelf.old) (F.files shelf.new) (F.slots shelf.old) (F.slots shelf.new) (F.reading_faults shelf.old) (F.reading_faults shelf.new)
+            (F.writing_faults shelf.old) (F.writing_faults shelf.new) (F.asked shelf.old) (F.asked shelf.new) name.now result }
     {
         let slot = shelf.create_file(name)?;
         Ok(FileWriter { slot, buffer })
@@ -85,8 +81,8 @@ impl FileWriter {
         requires made { IsMadeIn (F.slots shelf.old) self.slot }
         ensures put { OnOk result ((files : Option Files) (slots : Slots) (reading : ℕ) (name all : List ℕ) →
             IsWriting files (F.files shelf.old) slots (F.slots shelf.old) reading (F.reading_faults shelf.old) self name all → PutsFile files (F.files shelf.new) name all) }
-        ensures closes { ClosesFile (F.files shelf.old) (F.files shelf.new) (F.slots shelf.old) (F.slots shelf.new) (F.reading_faults shelf.old) (F.reading_faults shelf.new) (F.asked shelf.old) (F.asked shelf.new) self }
-        ensures counted { IsCounted (F.writing_faults shelf.old) (F.writing_faults shelf.new) result }
+        ensures closes { ClosesFile (F.files shelf.old) (F.files shelf.new) (F.slots shelf.old) (F.slots shelf.new) (F.reading_faults shelf.old) (F.reading_faults shelf.new)
+            (F.writing_faults shelf.old) (F.writing_faults shelf.new) (F.asked shelf.old) (F.asked shelf.new) self result }
     {
         let mut writer = self;
         let written = writer.flush(shelf);
@@ -97,8 +93,8 @@ impl FileWriter {
     /// Closes the file, which has a prefix of what was added.
     pub fn abandon<F: Shelf>(self, shelf: &mut F)
         requires made { IsMadeIn (F.slots shelf.old) self.slot }
-        ensures closes { ClosesFile (F.files shelf.old) (F.files shelf.new) (F.slots shelf.old) (F.slots shelf.new) (F.reading_faults shelf.old) (F.reading_faults shelf.new) (F.asked shelf.old) (F.asked shelf.new) self }
-        ensures writing { F.writing_faults shelf.new ≡ F.writing_faults shelf.old }
+        ensures { ClosesFile (F.files shelf.old) (F.files shelf.new) (F.slots shelf.old) (F.slots shelf.new) (F.reading_faults shelf.old) (F.reading_faults shelf.new)
+            (F.writing_faults shelf.old) (F.writing_faults shelf.new) (F.asked shelf.old) (F.asked shelf.new) self (Ok tt) }
     {
         shelf.close_file(self.slot);
     }

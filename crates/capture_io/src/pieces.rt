@@ -1,12 +1,11 @@
 //! A file that is read in pieces, up to a limit.
 
-ghost use Rattle.std.specs.Prelude.{◌≡◌, ◌≤◌, ◌∷◌, ℕ, List, [], Some, None, length, drop, IsSome, IfSome, IfOk, OnErr, IsErrOf};
-ghost use Rattle.avtp_base.specs.Faults.{IsOpenCounted};
-ghost use Rattle.avtp_base.specs.Files.{Files, left_in, IsMissing};
+ghost use Rattle.std.specs.Prelude.{◌≡◌, ◌≤◌, ◌∷◌, ℕ, List, [], Some, None, length, drop, IsSome, IfSome, IfOk};
+ghost use Rattle.avtp_base.specs.Files.{Files, left_in};
 ghost use Rattle.capture_io.specs.Contents.{IsContents};
 ghost use Rattle.capture_io.specs.Ends.{CountsStop};
 ghost use Rattle.capture_io.specs.Pieces.{HasTaken, ReadsPiece};
-ghost use Rattle.capture_io.specs.Reads.{OnlyReads, ReadsSlot, OpensSlot, ClosesSlot};
+ghost use Rattle.capture_io.specs.Reads.{TriesOpen, ReadsSlot, OpensSlot, ClosesSlot};
 
 use crate::end::Stop;
 use avtp_base::{Failed, OpenFault, Shelf, Slot};
@@ -56,10 +55,8 @@ impl Pieces {
         ensures nothing { IfOk result (λ pieces. (pieces.waiting ≡ []) × (pieces.left ≡ limit)) }
         ensures opened { IfOk result (λ pieces. OpensSlot (F.files shelf.old) (F.files shelf.new) (F.slots shelf.old) (F.slots shelf.new) (F.reading_faults shelf.old) (F.reading_faults shelf.new)
             (F.writing_faults shelf.old) (F.writing_faults shelf.new) (F.asked shelf.old) (F.asked shelf.new) name.now pieces.slot) }
-        ensures refused { OnErr result (OnlyReads (F.files shelf.old) (F.files shelf.new) (F.slots shelf.old) (F.slots shelf.new) (F.reading_faults shelf.old) (F.reading_faults shelf.new)
-            (F.writing_faults shelf.old) (F.writing_faults shelf.new) (F.asked shelf.old) (F.asked shelf.new) (name.now ∷ [])) }
-        ensures missing { IsErrOf result OpenFault.Missing → IsMissing (F.files shelf.old) name.now }
-        ensures counted { IsOpenCounted (F.reading_faults shelf.old) (F.reading_faults shelf.new) result }
+        ensures tries { TriesOpen (F.files shelf.old) (F.files shelf.new) (F.slots shelf.old) (F.slots shelf.new) (F.reading_faults shelf.old) (F.reading_faults shelf.new)
+            (F.writing_faults shelf.old) (F.writing_faults shelf.new) (F.asked shelf.old) (F.asked shelf.new) name.now result }
     {
         let slot = shelf.open_file(name)?;
         let Ok(piece) = vec![in alloc; 0u8; PIECE] else {
@@ -86,7 +83,7 @@ impl Pieces {
             HasTaken limit bytes (left_in (F.slots shelf.old) self.old.slot) self.old prefix → IsContents limit bytes stop prefix) }
         ensures piece { ReadsPiece self.old self.new result }
         ensures reads { ReadsSlot (F.files shelf.old) (F.files shelf.new) (F.slots shelf.old) (F.slots shelf.new) (F.reading_faults shelf.old) (F.reading_faults shelf.new)
-            (F.writing_faults shelf.old) (F.writing_faults shelf.new) (F.asked shelf.old) (F.asked shelf.new) self.old.slot }
+            (F.writing_faults shelf.old) (F.writing_faults shelf.new) (F.asked shelf.old) (F.asked shelf.new) self.old.slot self.new.slot }
         ensures counted { CountsStop result (F.reading_faults shelf.old) (F.reading_faults shelf.new) }
     {
         if self.over {

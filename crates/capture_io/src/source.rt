@@ -1,19 +1,18 @@
 //! A capture that is read record by record.
 
-ghost use Rattle.std.specs.Prelude.{◌≡◌, ◌≤◌, ◌<◌, ◌∷◌, ◌++◌, ◌^◌, ℕ, List, [], Some, None, length, Option, IsSome, IfSome, IfOk, OnErr, IsErrOf, ◌*◌};
-ghost use Rattle.avtp_base.specs.Faults.{IsOpenCounted, Rose};
-ghost use Rattle.avtp_base.specs.Files.{Files, left_in, IsMissing};
+ghost use Rattle.std.specs.Prelude.{◌≡◌, ◌≤◌, ◌<◌, ◌∷◌, ◌++◌, ◌^◌, ℕ, List, [], Some, None, length, Option, IsSome, IfSome, IfOk, ◌*◌};
+ghost use Rattle.avtp_base.specs.Files.{Files, left_in};
 ghost use Rattle.pcap_frames.specs.Capture.{Record};
 ghost use Rattle.pcap_frames.specs.Layout.{IsRecordTime};
-ghost use Rattle.pcap_frames.specs.Reading.{held, shown};
-ghost use Rattle.capture_io.specs.Ends.{CountsFault};
-ghost use Rattle.capture_io.specs.Reads.{OnlyReads, ReadsSlot, OpensSlot, ClosesSlot};
-ghost use Rattle.capture_io.specs.Source.{EndsAfter, HasGiven, ReadsOn, held_in, slot_of, to_do};
+ghost use Rattle.pcap_frames.specs.Reading.{shown};
+ghost use Rattle.capture_io.specs.Reads.{TriesOpen, ReadsSlot, OpensSlot, ClosesSlot};
+ghost use Rattle.capture_io.specs.Source.{GivesNext, HasGiven, IsReady, ReadsOn, held_in, slot_of, to_do};
 
-use crate::end::{End, Stop, whole_or};
+use crate::capture_reader::CaptureReader;
+use crate::end::End;
 use crate::pieces::Pieces;
 use avtp_base::{OpenFault, Shelf};
-use pcap_frames::{Reader, RecordView};
+use pcap_frames::RecordView;
 use std::alloc::Global;
 use std::marker::Model;
 
@@ -22,13 +21,13 @@ use std::marker::Model;
 #[derive(Drop)]
 pub struct Source {
     pieces: Pieces,
-    reader: Reader,
+    reader: CaptureReader,
     ended: Option<End>,
 }
 
 impl Model for Source {
     ghost use Rattle.std.specs.Prelude.{◌≤◌, ◌+◌, ◌^◌, length};
-    ghost use Rattle.pcap_frames.specs.Reading.{taken};
+    ghost use Rattle.capture_io.specs.Reader.{taken};
     ghost use Rattle.capture_io.specs.Source.{Sourcing};
 
     ghost Value = { Sourcing };
@@ -55,13 +54,11 @@ impl Source {
         ensures going { IfOk result (λ source. (source.ended ≡ None) × (to_do source ≤ 2 * limit)) }
         ensures opened { IfOk result (λ source. OpensSlot (F.files shelf.old) (F.files shelf.new) (F.slots shelf.old) (F.slots shelf.new) (F.reading_faults shelf.old) (F.reading_faults shelf.new)
             (F.writing_faults shelf.old) (F.writing_faults shelf.new) (F.asked shelf.old) (F.asked shelf.new) name.now (slot_of source)) }
-        ensures refused { OnErr result (OnlyReads (F.files shelf.old) (F.files shelf.new) (F.slots shelf.old) (F.slots shelf.new) (F.reading_faults shelf.old) (F.reading_faults shelf.new)
-            (F.writing_faults shelf.old) (F.writing_faults shelf.new) (F.asked shelf.old) (F.asked shelf.new) (name.now ∷ [])) }
-        ensures missing { IsErrOf result OpenFault.Missing → IsMissing (F.files shelf.old) name.now }
-        ensures counted { IsOpenCounted (F.reading_faults shelf.old) (F.reading_faults shelf.new) result }
+        ensures tries { TriesOpen (F.files shelf.old) (F.files shelf.new) (F.slots shelf.old) (F.slots shelf.new) (F.reading_faults shelf.old) (F.reading_faults shelf.new)
+            (F.writing_faults shelf.old) (F.writing_faults shelf.new) (F.asked shelf.old) (F.asked shelf.new) name.now result }
     {
         let pieces = Pieces::open(alloc, limit, shelf, name)?;
-        let Ok(reader) = Reader::new(alloc) else {
+        let Ok(reader) = CaptureReader::new(alloc) else {
             pieces.close(shelf);
             return Err(OpenFault::Memory);
         };
@@ -76,37 +73,25 @@ impl Source {
     /// ended. Once it has ended, each further call answers the same and reads nothing.
     pub fn next<F: Shelf>(&mut self, shelf: &mut F) -> Option<End>
         requires live { IsSome (F.slots shelf.old (slot_of self.old)) }
-        ensures given { result ≡ None → (limit : ℕ) (bytes : List ℕ) (records : List Record) →
-            HasGiven limit bytes (left_in (F.slots shelf.old) (slot_of self.old)) self.old records →
-            (next : Record) × (held_in self.new ≡ Some next) × HasGiven limit bytes (left_in (F.slots shelf.new) (slot_of self.new)) self.new (records ++ next ∷ []) }
-        ensures ends { IfSome result (λ how. (limit : ℕ) (bytes : List ℕ) (records : List Record) →
-            HasGiven limit bytes (left_in (F.slots shelf.old) (slot_of self.old)) self.old records →
-            EndsAfter limit bytes (Rose (F.reading_faults shelf.old) (F.reading_faults shelf.new)) how records) }
-        ensures held { result ≡ None → IsSome (held_in self.new) }
-        ensures less { result ≡ None → to_do self.new < to_do self.old }
-        ensures ended { self.new.ended ≡ result }
-        ensures lasting { IfSome self.old.ended (λ how. result ≡ Some how) }
-        ensures counted { CountsFault self.old.ended result (F.reading_faults shelf.old) (F.reading_faults shelf.new) }
+        ensures gives { GivesNext (left_in (F.slots shelf.old) (slot_of self.old)) (left_in (F.slots shelf.new) (slot_of self.new)) (F.reading_faults shelf.old) (F.reading_faults shelf.new) self.old self.new result }
         ensures reads { ReadsSlot (F.files shelf.old) (F.files shelf.new) (F.slots shelf.old) (F.slots shelf.new) (F.reading_faults shelf.old) (F.reading_faults shelf.new)
-            (F.writing_faults shelf.old) (F.writing_faults shelf.new) (F.asked shelf.old) (F.asked shelf.new) (slot_of self.old) }
-        ensures slot { slot_of self.new ≡ slot_of self.old }
+            (F.writing_faults shelf.old) (F.writing_faults shelf.new) (F.asked shelf.old) (F.asked shelf.new) (slot_of self.old) (slot_of self.new) }
     {
         if self.ended.is_some() {
             return self.ended;
         }
-        let _ = self.reader.release();
+        self.reader.release();
         self.ended = self.read_on(shelf);
         self.ended
     }
 
     /// Reads on until a record is held, or the reading ends.
     fn read_on<F: Shelf>(&mut self, shelf: &mut F) -> Option<End>
-        requires live { IsSome (F.slots shelf.old (slot_of self.old)) }
-        requires free { held_in self.old ≡ None }
+        requires ready { IsReady (F.slots shelf.old) self.old }
         ensures on { ReadsOn (left_in (F.slots shelf.old) (slot_of self.old)) (left_in (F.slots shelf.new) (slot_of self.new)) (F.reading_faults shelf.old) (F.reading_faults shelf.new) self.old self.new result }
         ensures held { result ≡ None → IsSome (held_in self.new) }
         ensures reads { ReadsSlot (F.files shelf.old) (F.files shelf.new) (F.slots shelf.old) (F.slots shelf.new) (F.reading_faults shelf.old) (F.reading_faults shelf.new)
-            (F.writing_faults shelf.old) (F.writing_faults shelf.new) (F.asked shelf.old) (F.asked shelf.new) (slot_of self.old) }
+            (F.writing_faults shelf.old) (F.writing_faults shelf.new) (F.asked shelf.old) (F.asked shelf.new) (slot_of self.old) (slot_of self.new) }
     {
         loop {
             if let Some(end) = self.step(shelf) {
@@ -120,11 +105,10 @@ impl Source {
 
     /// Feeds the reader what waits, or where nothing waits reads the next piece.
     fn step<F: Shelf>(&mut self, shelf: &mut F) -> Option<End>
-        requires live { IsSome (F.slots shelf.old (slot_of self.old)) }
-        requires free { held_in self.old ≡ None }
+        requires ready { IsReady (F.slots shelf.old) self.old }
         ensures on { ReadsOn (left_in (F.slots shelf.old) (slot_of self.old)) (left_in (F.slots shelf.new) (slot_of self.new)) (F.reading_faults shelf.old) (F.reading_faults shelf.new) self.old self.new result }
         ensures reads { ReadsSlot (F.files shelf.old) (F.files shelf.new) (F.slots shelf.old) (F.slots shelf.new) (F.reading_faults shelf.old) (F.reading_faults shelf.new)
-            (F.writing_faults shelf.old) (F.writing_faults shelf.new) (F.asked shelf.old) (F.asked shelf.new) (slot_of self.old) }
+            (F.writing_faults shelf.old) (F.writing_faults shelf.new) (F.asked shelf.old) (F.asked shelf.new) (slot_of self.old) (slot_of self.new) }
     {
         if self.pieces.waiting().is_empty() {
             return self.read_piece(shelf);
@@ -134,21 +118,14 @@ impl Source {
 
     /// Reads the next piece, where nothing waits.
     fn read_piece<F: Shelf>(&mut self, shelf: &mut F) -> Option<End>
-        requires live { IsSome (F.slots shelf.old (slot_of self.old)) }
-        requires free { held_in self.old ≡ None }
+        requires ready { IsReady (F.slots shelf.old) self.old }
         requires none_waits { self.old.pieces.waiting ≡ [] }
         ensures on { ReadsOn (left_in (F.slots shelf.old) (slot_of self.old)) (left_in (F.slots shelf.new) (slot_of self.new)) (F.reading_faults shelf.old) (F.reading_faults shelf.new) self.old self.new result }
         ensures reads { ReadsSlot (F.files shelf.old) (F.files shelf.new) (F.slots shelf.old) (F.slots shelf.new) (F.reading_faults shelf.old) (F.reading_faults shelf.new)
-            (F.writing_faults shelf.old) (F.writing_faults shelf.new) (F.asked shelf.old) (F.asked shelf.new) (slot_of self.old) }
+            (F.writing_faults shelf.old) (F.writing_faults shelf.new) (F.asked shelf.old) (F.asked shelf.new) (slot_of self.old) (slot_of self.new) }
     {
-        let Some(stop) = self.pieces.read(shelf) else {
-            return None;
-        };
-        match stop {
-            Stop::End => Some(whole_or(self.reader.finish().err())),
-            Stop::Fault => Some(End::ReadFault),
-            Stop::Limit => Some(End::Limit),
-        }
+        let stop = self.pieces.read(shelf)?;
+        Some(stop.end(self.reader.finish().err()))
     }
 
     /// Feeds the reader what waits, up to the end of one record, or answers the refusal that ends the reading.

@@ -1,4 +1,4 @@
-ghost use Rattle.std.specs.Prelude.{◌<◌, ◌≤◌, length};
+ghost use Rattle.std.specs.Prelude.{◌≤◌, length};
 
 use crate::{End, FileWriter, Source, Stop, read_contents};
 use avtp_base::{Buffer, Field, MemoryShelf, OpenFault, Refusal, Shelf};
@@ -19,13 +19,11 @@ fn shelf_over(
     bytes: &[u8],
     most: usize,
     fails: u64,
-) -> Result<MemoryShelf, AllocError>
-    requires { 0 < most }
-{
+) -> Result<MemoryShelf, AllocError> {
     let mut files = Vec::new(alloc);
     files.push((String::from_str(alloc, "a")?, bytes.to_vec(alloc)?))?;
     let fails = vec![in alloc; fails]?;
-    Ok(MemoryShelf::over(alloc, files, fails).at_most(most))
+    Ok(MemoryShelf::over(alloc, files, fails).at_most(most.max(1)))
 }
 
 /// The records come in order, however the file is cut, and then the end, which is told as often as it is asked for.

@@ -1,6 +1,6 @@
 //! The command `check`, from its words and the captures' bytes to its text and status.
 
-use crate::runs::{changed, run_over};
+use crate::runs::{RECORD, changed, records_of, run_over, talked};
 use crate::vector;
 use avtp_tool::Status;
 use std::test::Fail;
@@ -143,5 +143,47 @@ fn in_their_order(rt: HostRuntime) -> Result<(), Fail> {
         assert_eq!(rt; ran.text.as_slice(), text.as_bytes());
         assert_eq!(rt; ran.status, status);
     }
+    Ok(())
+}
+
+/// Whether this is what is found in these packets of a talker.
+fn finds(
+    rt: &HostRuntime,
+    options: &[&str],
+    packets: &[u16],
+    findings: &str,
+) -> Result<bool, Fail> {
+    let alloc = rt.alloc();
+    let capture = talked(alloc, options, 480)?;
+    let picked = records_of(alloc, &capture, RECORD, packets)?;
+    let ran = run_over(alloc, &["check", "c.pcap"], picked, &[], &[])?;
+    let frames = packets.len();
+    let found = findings.lines().count();
+    let text = format!(in alloc;
+        "capture c.pcap\n{findings}end frames {frames} streams 1 findings {found}\n"
+    )?;
+    Ok(ran.text.as_slice() == text.as_bytes())
+}
+
+/// Packets of a talker as they were sent, dense or sparse; one that is lost, and one that comes again; a restart too soon after
+/// the one before; and a capture that begins anywhere.
+#[test]
+fn streams(rt: HostRuntime) -> Result<(), Fail> {
+    let ten = [0, 1, 2, 3, 4, 5, 6, 7, 8, 9];
+    assert!(rt; finds(&rt, &[], &ten, "")?);
+    assert!(rt; finds(&rt, &["--sparse"], &ten, "")?);
+    let lost = "\
+finding frame 3 id 0200000000010001 step 2
+finding frame 4 id 0200000000010001 step 0
+";
+    assert!(rt; finds(&rt, &[], &[0, 1, 3, 3, 4], lost)?);
+    let soon = "\
+finding frame 14 id 0200000000010001 step 4
+finding frame 14 id 0200000000010001 hold 5
+";
+    let restart = ["--restart", "8"];
+    let gap = [0, 1, 2, 3, 4, 5, 6, 7, 8, 9, 10, 11, 12, 16];
+    assert!(rt; finds(&rt, &restart, &gap, soon)?);
+    assert!(rt; finds(&rt, &restart, &[6, 7, 8, 9], "")?);
     Ok(())
 }

@@ -12,6 +12,8 @@ mod listen;
 #[cfg(test)]
 mod losses;
 #[cfg(test)]
+mod pcapng;
+#[cfg(test)]
 mod runs;
 #[cfg(test)]
 mod show;

@@ -18,12 +18,11 @@ returns-in_err-capture-clause-checked g c limit bytes given = checks_failed limi
 
 pub loop-end-init : goal.loop-end-init
 loop-end-init g c = record {
-  slot = refl;
-  going = c.requires.begun.0;
-  bounded = omega (arith, c.requires.limit);
+  going = c.requires.open.0;
+  bounded = omega (arith, c.requires.open.2);
   few = omega arith;
   reading = refl;
-  reads = reads_nothing _ _ _ _ _ _ c.requires.begun.1;
+  reads = reads_nothing _ _ _ _ _ _ c.requires.open.1;
   sink = sink_ok tt (sink_part c.in_ok-capture.ensures);
   checked = λ limit bytes given. none_checked c.args.file.now given c.requires.stands c.in_ok-capture.ensures.written;
 }
@@ -31,16 +30,15 @@ loop-end-init g c = record {
 pub loop-end-preserved : goal.loop-end-preserved
 loop-end-preserved g c =
     let before = c.loop-end.invariant in
-    let next = c.next.ensures in
+    let next = c.next.ensures.gives in
     let none = none_left c.next.result c.in_default.not-Some in
     let here = rw c.checked_record-checked.ensures at c.in_ok-findings.ensures in
     record {
-      slot = next.slot ∙ before.slot;
       going = next.ended ∙ none;
       bounded = omega (arith, next.less none, before.bounded);
       few = omega (arith, before.few, here.few);
       reading = quiet_next _ _ _ _ before.going none next.counted ∙ before.reading;
-      reads = reads_on before.slot before.reads next.reads;
+      reads = reads_on before.reads c.next.ensures.reads;
       sink = sink_ok tt (sink_then before.sink here.sink);
       checked = λ limit bytes given.
           let to = before.checked limit bytes given in
@@ -55,7 +53,7 @@ returns-in-Some-clause-checked g c limit bytes given =
     let to = c.loop-end.invariant.checked limit bytes given in
     record {
       records = to.records;
-      ends = after_weaker limit bytes _ _ c.in-Some.end to.records (λ rose. subst (λ (n : ℕ). Rose n (g.F.Shelf.reading_faults c.next.new.shelf)) c.loop-end.invariant.reading rose) (c.in-Some.ensures.ends limit bytes to.records to.given);
+      ends = after_weaker limit bytes _ _ c.in-Some.end to.records (λ rose. subst (λ (n : ℕ). Rose n (g.F.Shelf.reading_faults c.next.new.shelf)) c.loop-end.invariant.reading rose) (c.in-Some.ensures.gives.ends limit bytes to.records to.given);
       frames = to.counted;
       streams = c.streams.ensures (notes_of to.records) to.stands;
       found = to.total;

@@ -28,14 +28,14 @@ returns-in-Ok-Show-clause-runs g c request line =
     let limit = c.in-Ok-Show.limit in
     let file = c.in-Ok-Show.file.now in
     let same = rw c.in-Ok-Show.field-0-is at (c.in-Ok-Show.ensures.only request line) in
-    plan_runs (show limit file) (show_plan limit file) request same (λ all fault came ended text o. o) refl refl (λ all keeps. keeps) (one_file (show_plan limit file) file refl c.show.ensures.does)
+    plan_runs (show limit file) (show_plan limit file) request same (λ all fault came ended text o. o) refl refl (λ all keeps. keeps) (one_file (show_plan limit file) file refl c.show.ensures)
 
 pub returns-in-Ok-Check-clause-runs : goal.returns-in-Ok-Check-clause-runs
 returns-in-Ok-Check-clause-runs g c request line =
     let limit = c.in-Ok-Check.limit in
     let names = texts c.in-Ok-Check.files.now in
     let same = rw c.in-Ok-Check.field-0-is at (c.in-Ok-Check.ensures.only request line) in
-    plan_runs (check limit names) (check_plan limit names) request same (λ all fault came ended text o. o) refl refl (λ all keeps. keeps) c.read_files.ensures.does
+    plan_runs (check limit names) (check_plan limit names) request same (λ all fault came ended text o. o) refl refl (λ all keeps. keeps) c.read_files.ensures
 
 pub returns-in-Ok-Check-clause-words : goal.returns-in-Ok-Check-clause-words
 returns-in-Ok-Check-clause-words g c position offence = absurd (not_offence c.parse.result _ position (c.parse.ensures.only_offence position offence) c.in-Ok-Check.is)
@@ -44,4 +44,4 @@ pub returns-in-Ok-Listen-clause-runs : goal.returns-in-Ok-Listen-clause-runs
 returns-in-Ok-Listen-clause-runs g c request line =
     let asked = listening_of c.in-Ok-Listen.asked in
     let same = rw c.in-Ok-Listen.field-0-is at (c.in-Ok-Listen.ensures.only request line) in
-    plan_runs (listen asked) (listen_plan asked) request same (λ all fault came ended text o. o) refl refl (λ all keeps. keeps) c.read_files-in-Ok-Listen.ensures.does
+    plan_runs (listen asked) (listen_plan asked) request same (λ all fault came ended text o. o) refl refl (λ all keeps. keeps) c.read_files-in-Ok-Listen.ensures

@@ -5,7 +5,7 @@ use Rattle.avtp_tool.specs.declared.status.Status.TheVariants as status
 use Rattle.avtp_tool.specs.declared.status.Status.{Status}
 use Rattle.avtp_tool.specs.Files.{plan_for}
 use Rattle.avtp_tool.specs.Outcome.{is_done}
-use Rattle.avtp_tool.proofs.Outcomes.{sink_failed, sink_ok, sink_still, sink_then}
+use Rattle.avtp_tool.proofs.Outcomes.{sink_ok, sink_still, sink_then}
 use Rattle.avtp_tool.proofs.ReadFiles.{does_failed, never_done, other_ends, reads_all, reads_more, reads_none, reads_stopped}
 use Rattle.avtp_tool.proofs.files.read_files.Goals as goal
 use Rattle.avtp_tool.proofs.files.read_files.Goals.{in-Done, in-Findings}
@@ -13,26 +13,20 @@ use Rattle.avtp_tool.proofs.files.read_files.Goals.{in-Done, in-Findings}
 pub loop-file-init : goal.loop-file-init
 loop-file-init g c = record { sink = sink_still _ _ tt; reads = reads_none (plan_for c.args.reading.now (texts c.args.files.now)) }
 
-pub returns-in_err-other-clause-sink : goal.returns-in_err-other-clause-sink
-returns-in_err-other-clause-sink g c = sink_failed c.from_residual.ensures.0 (sink_then c.loop-file.invariant.sink c.in_err-other.ensures.sink)
-
-pub returns-in_err-other-clause-does : goal.returns-in_err-other-clause-does
-returns-in_err-other-clause-does g c =
+pub returns-in_err-other : goal.returns-in_err-other
+returns-in_err-other g c =
     let files = c.args.files.now in
     let d = c.file-item.result in
     let is : string_bytes (get_or files c.loop-file.file-index d) ≡ c.deref.result.now = ap string_bytes (sym c.file-item.is) ∙ sym c.deref.ensures in
     let err = c.from_residual.ensures.0 in
-    reads_stopped (plan_for c.args.reading.now (texts files)) files c.loop-file.file-index d c.deref.result.now refl c.loop-file-test.true is (never_done _ err) c.loop-file.invariant.reads (does_failed _ err c.in_err-other.ensures.does)
+    reads_stopped (plan_for c.args.reading.now (texts files)) files c.loop-file.file-index d c.deref.result.now refl c.loop-file-test.true is (never_done _ err) c.loop-file.invariant.reads c.loop-file.invariant.sink (does_failed _ err c.in_err-other.ensures)
 
 pub returns-in_default : goal.returns-in_default
 returns-in_default g c =
     let files = c.args.files.now in
     let d = c.file-item.result in
     let is : string_bytes (get_or files c.loop-file.file-index d) ≡ c.deref.result.now = ap string_bytes (sym c.file-item.is) ∙ sym c.deref.ensures in
-    record {
-      does = reads_stopped (plan_for c.args.reading.now (texts files)) files c.loop-file.file-index d c.deref.result.now refl c.loop-file-test.true is (other_ends _ c.in_default.not-Done c.in_default.not-Findings) c.loop-file.invariant.reads c.in_ok-other.ensures.does;
-      sink = sink_then c.loop-file.invariant.sink c.in_ok-other.ensures.sink;
-    }
+    reads_stopped (plan_for c.args.reading.now (texts files)) files c.loop-file.file-index d c.deref.result.now refl c.loop-file-test.true is (other_ends _ c.in_default.not-Done c.in_default.not-Findings) c.loop-file.invariant.reads c.loop-file.invariant.sink c.in_ok-other.ensures
 
 pub loop-file-preserved : goal.loop-file-preserved
 loop-file-preserved g c =
@@ -40,7 +34,7 @@ loop-file-preserved g c =
     let d = c.file-item.result in
     let is : string_bytes (get_or files c.loop-file.file-index d) ≡ c.deref.result.now = ap string_bytes (sym c.file-item.is) ∙ sym c.deref.ensures in
     let more = λ (ended : Status) (goes : is_done ended ≡ true) (same : c.in_ok-other.other ≡ ended).
-    reads_more (plan_for c.args.reading.now (texts files)) files c.loop-file.file-index d c.deref.result.now ended c.loop-file-test.true is goes (ap (λ (s : Status). Ok s) same) c.loop-file.invariant.reads c.in_ok-other.ensures.does in
+    reads_more (plan_for c.args.reading.now (texts files)) files c.loop-file.file-index d c.deref.result.now ended c.loop-file-test.true is goes (ap (λ (s : Status). Ok s) same) c.loop-file.invariant.reads c.in_ok-other.ensures in
     record {
       sink = sink_ok tt (sink_then c.loop-file.invariant.sink c.in_ok-other.ensures.sink);
       reads = elim c.match-branch-2.branch [
@@ -49,6 +43,6 @@ loop-file-preserved g c =
       ];
     }
 
-pub returns-clause-does : goal.returns-clause-does
-returns-clause-does g c =
-    reads_all (plan_for c.args.reading.now (texts c.args.files.now)) c.args.files.now c.loop-file.file-index c.loop-file.ended refl c.loop-file-test.false c.loop-file.invariant.reads
+pub returns : goal.returns
+returns g c =
+    reads_all (plan_for c.args.reading.now (texts c.args.files.now)) c.args.files.now c.loop-file.file-index c.loop-file.ended refl c.loop-file-test.false c.loop-file.invariant.reads c.loop-file.invariant.sink

@@ -11,14 +11,13 @@ use Rattle.avtp_tool.proofs.show.print_records.Goals as goal
 pub loop-end-preserved : goal.loop-end-preserved
 loop-end-preserved g c =
     let before = c.loop-end.invariant in
-    let next = c.next.ensures in
+    let next = c.next.ensures.gives in
     let none = none_left c.next.result c.in_default.not-Some in
     record {
-      slot = next.slot ∙ before.slot;
       going = next.ended ∙ none;
       bounded = omega (arith, next.less none, before.bounded);
       reading = quiet_next _ _ _ _ before.going none next.counted ∙ before.reading;
-      reads = reads_on before.slot before.reads next.reads;
+      reads = reads_on before.reads c.next.ensures.reads;
       sink = sink_then before.sink (sink_printed c.in_ok-print_record.ensures);
       printed = λ limit bytes given.
           let to = before.printed limit bytes given in
@@ -29,11 +28,10 @@ loop-end-preserved g c =
 
 pub loop-end-init : goal.loop-end-init
 loop-end-init g c = record {
-  slot = refl;
-  going = c.requires.begun.0;
-  bounded = omega (arith, c.requires.limit);
+  going = c.requires.open.0;
+  bounded = omega (arith, c.requires.open.2);
   reading = refl;
-  reads = reads_nothing _ _ _ _ _ _ c.requires.begun.1;
+  reads = reads_nothing _ _ _ _ _ _ c.requires.open.1;
   sink = sink_still _ _ tt;
   printed = λ limit bytes given. none_printed limit bytes _ _ _ given;
 }
@@ -43,7 +41,7 @@ returns-in-Some-clause-printed g c limit bytes given =
     let to = c.loop-end.invariant.printed limit bytes given in
     record {
       records = to.records;
-      ends = after_weaker limit bytes _ _ c.in-Some.end to.records (λ rose. subst (λ (n : ℕ). Rose n (g.F.Shelf.reading_faults c.next.new.shelf)) c.loop-end.invariant.reading rose) (c.in-Some.ensures.ends limit bytes to.records to.given);
+      ends = after_weaker limit bytes _ _ c.in-Some.end to.records (λ rose. subst (λ (n : ℕ). Rose n (g.F.Shelf.reading_faults c.next.new.shelf)) c.loop-end.invariant.reading rose) (c.in-Some.ensures.gives.ends limit bytes to.records to.given);
       counted = to.counted;
       lines = to.lines;
     }

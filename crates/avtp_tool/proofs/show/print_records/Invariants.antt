@@ -10,12 +10,11 @@ use Rattle.avtp_tool.proofs.show.print_records.Given as goal
 abbrev pub invariant-loop-end : goal.invariant-loop-end
 invariant-loop-end g l =
     record {
-      slot : slot_of l.source ≡ slot_of l.fn.source;
       going : l.source.ended ≡ None;
       bounded : l.frames + to_do l.source ≤ 2 ^ 41;
       reading : g.F.Shelf.reading_faults l.shelf ≡ g.F.Shelf.reading_faults l.fn.shelf;
       reads : ReadsSlot (g.F.Shelf.files l.fn.shelf) (g.F.Shelf.files l.shelf) (g.F.Shelf.slots l.fn.shelf) (g.F.Shelf.slots l.shelf) (g.F.Shelf.reading_faults l.fn.shelf) (g.F.Shelf.reading_faults l.shelf)
-          (g.F.Shelf.writing_faults l.fn.shelf) (g.F.Shelf.writing_faults l.shelf) (g.F.Shelf.asked l.fn.shelf) (g.F.Shelf.asked l.shelf) (slot_of l.fn.source);
+          (g.F.Shelf.writing_faults l.fn.shelf) (g.F.Shelf.writing_faults l.shelf) (g.F.Shelf.asked l.fn.shelf) (g.F.Shelf.asked l.shelf) (slot_of l.fn.source) (slot_of l.source);
       sink : KeepsSink {T = Unit} (g.S.Sink.held l.fn.out) (g.S.Sink.held l.out) (g.S.Sink.faults l.fn.out) (g.S.Sink.faults l.out) (Ok tt);
       printed : (limit : ℕ) (bytes : List ℕ) → HasGiven limit bytes (left_in (g.F.Shelf.slots l.fn.shelf) (slot_of l.fn.source)) l.fn.source []
           → IsPrintedTo limit bytes (left_in (g.F.Shelf.slots l.shelf) (slot_of l.source)) l.source l.frames (written (g.S.Sink.held l.fn.out) l.fn.text) (written (g.S.Sink.held l.out) l.text);

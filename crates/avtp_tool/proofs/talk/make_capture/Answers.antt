@@ -13,9 +13,9 @@ returns-then-is_err g c =
     let failed : is_err c.write_capture-written.result ≡ true = sym c.is_err.ensures.value ∙ c.if-is_err.true in
     let rose = failed_counted c.write_capture-written.result _ _ failed written.writes.counted in
     let part = written.written _ _ _ name created.begun in
-    unmade_part name (capture c.args.talker.now.plan c.args.talker.now.input) (prefix_further part.rest part.split (closed.closes.prefix _ _ _ _ _ part.writing)) (closed.closes.slots _ _ _ _ _ part.writing) (closed.closes.reading ∙ part.writing.reading)
-    (omega (arith, created.counted.ok, written.writes.counted.never_falls, closed.writing)) (omega (arith, created.counted.ok, rose, closed.writing))
-    (λ names stands. closed.closes.asked _ (written.writes.asked _ (created.asked names stands)))
+    unmade_part name (capture c.args.talker.now.plan c.args.talker.now.input) (prefix_further part.rest part.split (closed.prefix _ _ _ _ _ part.writing)) (closed.slots _ _ _ _ _ part.writing) (closed.reading ∙ part.writing.reading)
+    (omega (arith, created.counted.ok, written.writes.counted.never_falls, closed.counted.ok)) (omega (arith, created.counted.ok, rose, closed.counted.ok))
+    (λ names stands. closed.asked _ (written.writes.asked _ (created.asked names stands)))
 
 pub returns-in-Ok-finish : goal.returns-in-Ok-finish
 returns-in-Ok-finish g c =
@@ -27,7 +27,7 @@ returns-in-Ok-finish g c =
     let still = still_counted c.write_capture-written.result _ _ went_on written.writes.counted in
     let writing = wrote_all c.write_capture-written.result went_on (written.written _ _ _ name created.begun) in
     made_all name (capture c.args.talker.now.plan c.args.talker.now.input) _ (closed.put _ _ _ _ _ writing) (closed.closes.slots _ _ _ _ _ writing) (closed.closes.reading ∙ writing.reading)
-    (closed.counted.ok ∙ (still ∙ created.counted.ok)) (λ names stands. closed.closes.asked _ (written.writes.asked _ (created.asked names stands)))
+    (closed.closes.counted.ok ∙ (still ∙ created.counted.ok)) (λ names stands. closed.closes.asked _ (written.writes.asked _ (created.asked names stands)))
 
 pub returns-in-Err : goal.returns-in-Err
 returns-in-Err g c =
@@ -39,5 +39,5 @@ returns-in-Err g c =
     let still = still_counted c.write_capture-written.result _ _ went_on written.writes.counted in
     let writing = wrote_all c.write_capture-written.result went_on (written.written _ _ _ name created.begun) in
     unmade_part name (capture c.args.talker.now.plan c.args.talker.now.input) (closed.closes.prefix _ _ _ _ _ writing) (closed.closes.slots _ _ _ _ _ writing) (closed.closes.reading ∙ writing.reading)
-    (omega (arith, created.counted.ok, still, closed.counted.never_falls)) (omega (arith, created.counted.ok, still, closed.counted.failed))
+    (omega (arith, created.counted.ok, still, closed.closes.counted.never_falls)) (omega (arith, created.counted.ok, still, closed.closes.counted.failed))
     (λ names stands. closed.closes.asked _ (written.writes.asked _ (created.asked names stands)))

@@ -3,25 +3,27 @@ use Rattle.avtp_base.proofs.Told.{Keeps-refl}
 use Rattle.avtp_text.proofs.Printing.{prefix_none}
 use Rattle.avtp_tool.specs.declared.status.Status.{Status}
 use Rattle.avtp_tool.specs.declared.status.Status.TheVariants as status
+use Rattle.talker.specs.Frames.{capture}
+use Rattle.avtp_tool.specs.Made.{Makes}
 use Rattle.avtp_tool.specs.Talk.{sent_line}
-use Rattle.avtp_tool.proofs.Making.{makes_whole, writes_made}
+use Rattle.avtp_tool.proofs.Making.{makes_part, makes_whole, writes_made}
 use Rattle.avtp_tool.proofs.Outcomes.{IsCut, tells_cut, tells_line}
 use Rattle.avtp_tool.proofs.Talked.{cut_by, cut_undone, sent_done, unmade_cut}
 use Rattle.avtp_tool.proofs.talk.send.Goals as goal
 
-pub returns-in-Ok-clause-tells : goal.returns-in-Ok-clause-tells
-returns-in-Ok-clause-tells g c = tells_line (refl, rw (c.packets-packets.ensures, c.clocks-clocks.ensures) refl) c.print_sent.ensures
+pub returns-in-Ok : goal.returns-in-Ok
+returns-in-Ok g c = record {
+  tells = tells_line (refl, rw (c.packets-packets.ensures, c.clocks-clocks.ensures) refl) c.print_sent.ensures;
+  makes = makes_whole c.print_sent.result c.in-Ok.ensures.made c.print_sent.ensures.status;
+  writes = writes_made c.args.output.now (Ok tt) c.print_sent.result c.in-Ok.ensures (search rules) (search rules) (λ done. refl) (sent_done c.print_sent.result c.print_sent.ensures.status);
+  sink = (search rules);
+}
 
-pub returns-in-Ok-clause-makes : goal.returns-in-Ok-clause-makes
-returns-in-Ok-clause-makes g c = makes_whole c.print_sent.result c.in-Ok.ensures.made c.print_sent.ensures.status
-
-pub returns-in-Err-clause-tells : goal.returns-in-Err-clause-tells
-returns-in-Err-clause-tells g c =
-    let cut = subst (λ (s : Status). IsCut (Ok s)) (sym c.unmade.ensures) (unmade_cut c.in-Err.fault) in
-    tells_cut status.Done (sent_line c.args.talker.now.plan c.args.talker.now.input) (refl, refl) cut (prefix_none _ _ _ (Keeps-refl _))
-
-pub returns-in-Ok-clause-writes : goal.returns-in-Ok-clause-writes
-returns-in-Ok-clause-writes g c = writes_made c.args.output.now (Ok tt) c.print_sent.result c.in-Ok.ensures (search rules) (search rules) (λ done. refl) (sent_done c.print_sent.result c.print_sent.ensures.status)
-
-pub returns-in-Err-clause-writes : goal.returns-in-Err-clause-writes
-returns-in-Err-clause-writes g c = writes_made c.args.output.now (Err c.in-Err.fault) (Ok c.unmade.result) c.in-Err.ensures (search rules) (search rules) (λ done. absurd (cut_undone c.in-Err.fault _ c.unmade.ensures done)) (cut_by c.in-Err.fault _ c.unmade.ensures)
+pub returns-in-Err : goal.returns-in-Err
+returns-in-Err g c = record {
+  tells = (let cut = subst (λ (s : Status). IsCut (Ok s)) (sym c.unmade.ensures) (unmade_cut c.in-Err.fault) in
+      tells_cut status.Done (sent_line c.args.talker.now.plan c.args.talker.now.input) (refl, refl) cut (prefix_none _ _ _ (Keeps-refl _)));
+  makes = subst (λ (s : Status). Makes c.args.output.now (capture c.args.talker.now.plan c.args.talker.now.input) (g.F.Shelf.files c.args.shelf.now) (g.F.Shelf.files c.make_capture.new.shelf) (Ok s)) (sym c.unmade.ensures) (makes_part c.in-Err.fault c.in-Err.ensures.part);
+  writes = writes_made c.args.output.now (Err c.in-Err.fault) (Ok c.unmade.result) c.in-Err.ensures (search rules) (search rules) (λ done. absurd (cut_undone c.in-Err.fault _ c.unmade.ensures done)) (cut_by c.in-Err.fault _ c.unmade.ensures);
+  sink = (search rules);
+}

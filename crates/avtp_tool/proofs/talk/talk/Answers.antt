@@ -2,13 +2,13 @@ use Rattle.avtp_words.specs.Grammar.{talking_of}
 use Rattle.avtp_tool.proofs.TalkRun.{opened_runs, unopened_runs}
 use Rattle.avtp_tool.proofs.talk.talk.Goals as goal
 
-pub returns-in-Ok-clause-runs : goal.returns-in-Ok-clause-runs
-returns-in-Ok-clause-runs g c =
+pub returns-in-Ok : goal.returns-in-Ok
+returns-in-Ok g c =
     let read = c.in-Ok.ensures in
     let made = rw c.plan.ensures at c.talk_contents.ensures in
-    opened_runs (talking_of c.args.asked.now) c.in-Ok.contents read.read read.counted.stopped read.keeps made.tells made.makes made.writes made.counts
+    opened_runs (talking_of c.args.asked.now) c.in-Ok.contents read.read read.counted.stopped read.keeps made.tells made.makes made.writes made.counts made.sink
 
-pub returns-in-Err-clause-runs : goal.returns-in-Err-clause-runs
-returns-in-Err-clause-runs g c =
+pub returns-in-Err : goal.returns-in-Err
+returns-in-Err g c =
     let read = c.in-Err.ensures in
     unopened_runs (talking_of c.args.asked.now) c.in-Err.fault read.missing read.counted read.keeps c.print_unopened.ensures

@@ -1,4 +1,5 @@
-use Rattle.std.proofs.Common.{rules, ◌∙◌}
+use Rattle.std.proofs.Common.{ℕ, rules, sym, subst, ◌∙◌}
+use Rattle.avtp_base.specs.Faults.{IsCounted}
 use Rattle.capture_io.proofs.Making.{ok_one, puts_all, puts_prefix}
 use Rattle.capture_io.proofs.file_writer.FileWriter.finish.Goals as goal
 
@@ -15,5 +16,6 @@ returns-clause-closes g c =
       prefix = λ files slots reading name all is. puts_prefix files _ _ slots _ reading _ _ name all (wrote.kept files slots reading name all is) shut.files;
       slots = λ files slots reading name all is. (search rules);
       reading = shut.reading ∙ wrote.writes.reading;
+      counted = subst (λ (n : ℕ). IsCounted (g.F.Shelf.writing_faults c.args.shelf.now) n c.flush-written.result) (sym shut.writing) wrote.writes.counted;
       asked = λ names stands. shut.asked names (wrote.writes.asked names stands);
     }

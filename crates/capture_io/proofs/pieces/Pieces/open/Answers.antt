@@ -18,7 +18,7 @@ returns-clause-opened g c =
       asked = did.asked;
     }
 
-pub returns-clause-counted : goal.returns-clause-counted
-returns-clause-counted g c =
+pub returns-clause-tries : goal.returns-clause-tries
+returns-clause-tries g c =
     let count = c.in_ok-slot.ensures.reading in
-    record { never_falls = count.never_falls; ok = count.ok; missing = λ e. absurd cc; memory = λ e. absurd cc; failed = λ e. absurd cc }
+    record { refused = tt; missing = λ e. absurd cc; counted = record { never_falls = count.never_falls; ok = count.ok; missing = λ e. absurd cc; memory = λ e. absurd cc; failed = λ e. absurd cc } }

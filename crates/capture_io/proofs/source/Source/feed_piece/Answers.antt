@@ -7,4 +7,4 @@ pub returns-in-Err : goal.returns-in-Err
 returns-in-Err c remains reading =
     ended_so _ refl (λ limit bytes records fed.
     let here = subst (λ (s : Sourcing). HasFed limit bytes remains s records) (sym c.self.view_is) fed in
-    refused_end limit bytes remains _ records _ c.in-Err.refusal c.waiting.result.now _ here c.waiting.ensures c.in-Err.ensures.refused c.in-Err.ensures.stopped c.in-Err.ensures.stays_refused) refl (search rules)
+    refused_end limit bytes remains _ records _ c.in-Err.refusal c.waiting.result.now here c.waiting.ensures c.in-Err.ensures.refused) refl (search rules)

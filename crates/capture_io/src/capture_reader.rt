@@ -1,0 +1,163 @@
+//! Captures in either layout, classic pcap or pcapng, in any pieces.
+
+ghost use Rattle.std.specs.Prelude.{◌≡◌, ◌+◌, ◌≤◌, ◌^◌, ℕ, List, length, None, IfOk, IfSome};
+ghost use Rattle.std.specs.Option.{option_map};
+ghost use Rattle.std.specs.Result.{result_err};
+ghost use Rattle.pcap_frames.specs.Capture.{Record};
+ghost use Rattle.pcap_frames.specs.Layout.{IsRecordTime};
+ghost use Rattle.pcap_frames.specs.Reading.{shown};
+ghost use Rattle.capture_io.specs.Reader.{EndsHere, Feeds, HasRead, Releases, format_in, held, nothing_read, taken};
+
+use avtp_base::{Field, NoMemory, Refusal};
+use byteorder::{ByteOrder, LittleEndian};
+use pcap_frames::{Reader, RecordView};
+use pcapng_frames::Ng;
+use std::alloc::Global;
+use std::marker::Model;
+
+/// The layout of a capture.
+#[derive(Clone, Copy, Debug, PartialEq, Eq)]
+pub enum Format {
+    /// Classic pcap (draft-ietf-opsawg-pcap).
+    Classic,
+    /// pcapng (draft-ietf-opsawg-pcapng).
+    Pcapng,
+}
+
+/// The first four bytes of a pcapng capture, which read alike in either byte order.
+const SECTION_HEADER: u32 = 0x0A0D_0D0A;
+
+/// How many bytes tell the layout.
+const FRONT: usize = 4;
+
+/// Reads a capture in either layout, with the calls of [`Reader`]. The first four bytes are held back until they are all
+/// there, and tell the layout.
+#[derive(Drop)]
+pub struct CaptureReader {
+    format: Option<Format>,
+    /// The bytes that came before the layout was known.
+    front: Vec<u8>,
+    classic: Reader,
+    ng: Ng,
+}
+
+impl Model for CaptureReader {
+    ghost use Rattle.std.specs.Prelude.{◌≤◌, vec_capacity};
+    ghost use Rattle.capture_io.specs.Reader.{CaptureReading, IsFront};
+
+    ghost Value = { CaptureReading };
+
+    ghost view = { λ r. record { format = r.format; front = r.front.items; classic = r.classic; ng = r.ng } };
+
+    ghost invariant = { λ r. (4 ≤ vec_capacity r.front) × IsFront r.format r.front.items r.classic r.ng };
+}
+
+impl CaptureReader {
+    /// A reader that has taken nothing. It reserves the memory of a reader of each layout, and takes no more later.
+    pub fn new(alloc: Global) -> Result<Self, NoMemory>
+        ensures { IfOk result (λ reader. reader ≡ nothing_read) }
+    {
+        let Ok(front) = Vec::with_capacity(alloc, FRONT) else {
+            return Err(NoMemory);
+        };
+        let classic = Reader::new(alloc)?;
+        let ng = Ng::new(alloc)?;
+        Ok(CaptureReader {
+            format: None,
+            front,
+            classic,
+            ng,
+        })
+    }
+
+    /// Takes bytes of the piece, up to the end of one record at most, and answers how many; or answers the capture's first
+    /// refusal, as soon as the bytes so far show it.
+    pub fn feed(&mut self, piece: &[u8]) -> Result<usize, Refusal>
+        requires { taken self.old + length piece.now ≤ 2 ^ 62 }
+        ensures { Feeds self.old piece.now result self.new }
+    {
+        let Some(format) = self.format else {
+            return self.feed_front(piece);
+        };
+        match format {
+            Format::Classic => self.classic.feed(piece),
+            Format::Pcapng => self.ng.feed(piece),
+        }
+    }
+
+    /// Holds bytes back until there are four, and hands these to the reader of their layout.
+    fn feed_front(&mut self, piece: &[u8]) -> Result<usize, Refusal>
+        requires front { self.old.format ≡ None }
+        ensures { Feeds self.old piece.now result self.new }
+    {
+        let taken = piece.len().min(FRONT - self.front.len());
+        let Ok(()) = self.front.extend_from_slice(&piece[..taken]) else {
+            unreachable!()
+        };
+        if self.front.len() < FRONT {
+            return Ok(taken);
+        }
+        let format = format_of(self.front.as_slice());
+        self.format = Some(format);
+        match format {
+            Format::Classic => self.classic.feed(self.front.as_slice())?,
+            Format::Pcapng => self.ng.feed(self.front.as_slice())?,
+        };
+        Ok(taken)
+    }
+
+    /// The record that was taken last, where it is whole and was not released.
+    pub fn held(&self) -> Option<RecordView<'_>>
+        ensures exact { option_map shown result ≡ held self.now }
+        ensures time { IfSome result (λ r. IsRecordTime r.arrival) }
+    {
+        match self.format? {
+            Format::Classic => self.classic.held(),
+            Format::Pcapng => self.ng.held(),
+        }
+    }
+
+    /// Drops the held record, so that the next can be taken.
+    pub fn release(&mut self)
+        ensures { Releases self.old self.new }
+    {
+        let Some(format) = self.format else {
+            return;
+        };
+        let _ = match format {
+            Format::Classic => self.classic.release(),
+            Format::Pcapng => self.ng.release(),
+        };
+    }
+
+    /// Whether the bytes so far are a whole capture; otherwise it answers their first refusal. It changes nothing: bytes may
+    /// follow. Where fewer than four came, the magic number of a classic capture is what they lack.
+    pub fn finish(&self) -> Result<(), Refusal>
+        ensures { (bytes : List ℕ) (records : List Record) → HasRead self.now bytes records → EndsHere self.now bytes records (result_err result) }
+    {
+        match self.format {
+            None => Err(Refusal {
+                field: Field::Magic,
+                at: 0,
+                short: true,
+            }),
+            Some(format) => match format {
+                Format::Classic => self.classic.finish(),
+                Format::Pcapng => self.ng.finish(),
+            },
+        }
+    }
+}
+
+/// The layout of a capture with these first four bytes.
+#[tactic(auto, unfolding(crate::specs::Formats::is_pcapng, pcap_frames::specs::Layout::number_at))]
+fn format_of(front: &[u8]) -> Format
+    requires { 4 ≤ length front.now }
+    ensures { result ≡ format_in front.now }
+{
+    if LittleEndian::read_u32(front) == SECTION_HEADER {
+        Format::Pcapng
+    } else {
+        Format::Classic
+    }
+}
