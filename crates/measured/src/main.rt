@@ -1,26 +1,33 @@
 //! Parts of the library by themselves, so that `bench/run` can measure them: `measured rounds CAPACITY ITEMS` hands items
 //! through a ring from one thread to another, and `measured lines TIMESTAMPS LOOK-UPS` asks a media clock whose window is full
-//! of packets of so many timestamps. Both print how many items or lines they had.
+//! of packets of so many timestamps. Both print how many items or lines they had. `measured judge ORDER WAITING LOOK CLOCK
+//! ITEMS` judges so many packets, which come in an order of their instants (rising, falling, random, middle or equal), with a
+//! look-ahead and with a clock or none. It prints how many are presented, and in how many nanoseconds all were judged.
 #![tactic(auto)]
 
+mod judge;
 mod lines;
 mod rounds;
+mod stream;
 
+use crate::judge::judge;
 use crate::lines::lines;
 use crate::rounds::rounds;
+use crate::stream::{Order, Stream};
 use std::alloc::Global;
 use std::env;
 use std::process::ExitCode;
 use std::thread::Threads;
+use std::time::Clock;
 
 fn main(rt: HostRuntime) -> ExitCode {
     let Some(words) = words_of(&rt) else {
         return ExitCode::FAILURE;
     };
-    let Some(count) = measured(&rt, rt.alloc(), &words) else {
+    let Some(text) = measured(&rt, rt.alloc(), &words) else {
         return ExitCode::FAILURE;
     };
-    match println!(rt; "{count}") {
+    match println!(rt; "{text}") {
         Ok(()) => ExitCode::SUCCESS,
         Err(_) => ExitCode::FAILURE,
     }
@@ -32,13 +39,47 @@ fn words_of(rt: &HostRuntime) -> Option<Vec<String>> {
 }
 
 /// Does what the words ask for. `None` comes where they ask for nothing that is measured, or memory is not found.
-fn measured<T: Threads + Sync>(rt: &T, alloc: Global, words: &[String]) -> Option<u64> {
+fn measured<T: Threads + Sync + Clock>(rt: &T, alloc: Global, words: &[String]) -> Option<String> {
+    if words.get(0)?.as_str() == "judge" {
+        return judged(rt, alloc, words);
+    }
+    let count = counted(rt, alloc, words)?;
+    format!(in alloc; "{count}").ok()
+}
+
+fn counted<T: Threads + Sync>(rt: &T, alloc: Global, words: &[String]) -> Option<u64> {
     let what = words.get(0)?;
     let size: u32 = words.get(1)?.parse().ok()?;
     let count: u32 = words.get(2)?.parse().ok()?;
     match what.as_str() {
         "rounds" if size >= 1 && size <= 256 => rounds(rt, alloc, size, count),
         "lines" if size >= 1 && size <= 8_191 => lines(alloc, size, count),
+        _ => None,
+    }
+}
+
+fn judged<C: Clock>(clock: &C, alloc: Global, words: &[String]) -> Option<String> {
+    let stream = Stream {
+        order: order_of(words.get(1)?)?,
+        waiting: words.get(2)?.parse().ok()?,
+        clock: words.get(4)?.as_str() == "clock",
+    };
+    let look: u32 = words.get(3)?.parse().ok()?;
+    let count: u32 = words.get(5)?.parse().ok()?;
+    if stream.waiting == 0 || stream.waiting > 65_536 || look > 64 {
+        return None;
+    }
+    let judged = judge(clock, alloc, &stream, look, count)?;
+    format!(in alloc; "{} {}", judged.presented, judged.nanoseconds).ok()
+}
+
+fn order_of(word: &str) -> Option<Order> {
+    match word {
+        "rising" => Some(Order::Rising),
+        "falling" => Some(Order::Falling),
+        "random" => Some(Order::Random),
+        "middle" => Some(Order::Middle),
+        "equal" => Some(Order::Equal),
         _ => None,
     }
 }

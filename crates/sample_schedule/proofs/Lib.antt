@@ -11,4 +11,5 @@ pub mod JudgeSound
 pub mod JudgeLemmas
 pub mod GivenLemmas
 pub mod Growing
+pub mod BlockLemmas
 pub mod Keys

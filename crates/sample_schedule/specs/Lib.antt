@@ -10,4 +10,5 @@ pub mod Judge
 pub mod Laws
 pub mod Devices
 pub mod MemoryDevice
+pub mod Keys
 pub mod Waiting

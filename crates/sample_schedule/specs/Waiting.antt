@@ -1,9 +1,9 @@
 -- The batches that wait for their instant, and how their keys stand for them.
-use Rattle.std.specs.Prelude.{◌≡◌, ◌≢◌, ◌≤◌, ⊤, ℕ, ℤ, ◌≤ℤ◌, ◌<ℤ◌, List, [], ◌∷◌, length, take, drop, Option, Some}
+use Rattle.std.specs.Prelude.{◌≡◌, ◌≢◌, ⊤, ℕ, List, [], ◌∷◌, length, Option, Some}
 use Rattle.std.specs.List.{AllByRecursion, filter_map}
 use Rattle.slab.specs.Slab.{Slab, get, slab_len}
 use Rattle.sample_schedule.specs.declared.accepted.Accepted.{Accepted}
-use Rattle.sample_schedule.specs.declared.waiting_room.Key.{Key}
+use Rattle.sample_schedule.specs.declared.sorted_keys.Key.{Key}
 use Rattle.sample_schedule.specs.Verdicts.{total_bytes}
 
 -- what waits, by first instant and then by place, and how many batches find room in the memory that is reserved
@@ -23,27 +23,16 @@ pub record IsKey (batches : Slab Accepted) (key : Key) : Type 0 where
   pub batch : Accepted
   pub there : batch_of batches key ≡ Some batch
   pub instant : batch.instant ≡ key.instant
+  pub seq : batch.batch.seq ≡ key.seq
 
 -- no two keys have one slot
 abbrev pub HaveOwnSlots : List Key → Type 0
 HaveOwnSlots [] = ⊤
 HaveOwnSlots (key ∷ rest) = AllByRecursion (λ other. other.slot ≢ key.slot) rest × HaveOwnSlots rest
 
--- none is earlier than one before it
-abbrev pub KeysAreInOrder : List Key → Type 0
-KeysAreInOrder [] = ⊤
-KeysAreInOrder (key ∷ rest) = AllByRecursion (λ other. key.instant ≤ℤ other.instant) rest × KeysAreInOrder rest
-
--- the keys of the batches that are kept, in order, and the bytes of these
+-- the keys of the batches that are kept, and the bytes of these
 pub record IsWaiting (keys : List Key) (batches : Slab Accepted) (bytes : ℕ) : Type 0 where
   pub there : AllByRecursion (IsKey batches) keys
   pub own : HaveOwnSlots keys
-  pub in_order : KeysAreInOrder keys
   pub total : bytes ≡ total_bytes (held batches keys)
   pub count : slab_len batches ≡ length keys
-
--- so many keys are not later than an instant, and those after them are
-pub record IsPlace (instant : ℤ) (keys : List Key) (place : ℕ) : Type 0 where
-  pub within : place ≤ length keys
-  pub not_later : AllByRecursion (λ key. key.instant ≤ℤ instant) (take place keys)
-  pub later : AllByRecursion (λ key. instant <ℤ key.instant) (drop place keys)

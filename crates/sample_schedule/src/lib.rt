@@ -14,6 +14,7 @@ mod noted;
 mod pending;
 mod plan;
 mod shown;
+mod sorted_keys;
 mod timing;
 mod verdicts;
 mod waiting_room;

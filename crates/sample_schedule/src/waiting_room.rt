@@ -1,27 +1,18 @@
 //! What is accepted and waits for its instant.
 
-ghost use Rattle.std.specs.Prelude.{◌≡◌, ◌+◌, ◌^◌, ◌<◌, ◌≤◌, ◌<ℤ◌, ◌++◌, ◌∷◌, [], false, insert, length, IfNone, IfOk, IfSome, List};
+ghost use Rattle.std.specs.Prelude.{◌≡◌, ◌+◌, ◌^◌, ◌<◌, ◌≤◌, ◌<ℤ◌, ◌++◌, [], false, length, IfNone, IfOk, IfSome};
 ghost use Rattle.std.specs.List.{list_any};
 ghost use Rattle.std.specs.Option.{option_to_list};
-ghost use Rattle.std.specs.VecDeque.{deque_capacity};
 ghost use Rattle.sample_schedule.specs.Order.{put_behind as put_behind_of, starts_due};
 ghost use Rattle.sample_schedule.specs.Verdicts.{is_copy as is_copy_of, is_full as is_full_of, total_bytes};
-ghost use Rattle.sample_schedule.specs.Waiting.{IsPlace, KeysAreInOrder};
 
 use crate::accepted::Accepted;
 use crate::plan::SchedulePlan;
+use crate::sorted_keys::{Key, SortedKeys};
 use avtp_base::NoMemory;
 use slab::Slab;
 use std::alloc::Global;
-use std::collections::VecDeque;
 use std::marker::Model;
-
-/// Stands for a batch: the instant of its first sample, and the slot in which it is kept.
-#[derive(Clone, Copy)]
-struct Key {
-    instant: i64,
-    slot: usize,
-}
 
 fn sequence_number(accepted: &Accepted) -> u8
     ensures { result ≡ accepted.now.batch.seq }
@@ -36,38 +27,11 @@ fn size(accepted: &Accepted) -> u64
     accepted.batch.bytes.as_slice().len() as u64
 }
 
-/// How many of the keys, in their order, are not later than an instant.
-fn place_behind(keys: &VecDeque<Key>, instant: i64) -> usize
-    requires { KeysAreInOrder keys.now.items }
-    ensures { IsPlace instant keys.now.items result }
-{
-    let Some(last) = keys.back() else {
-        return 0;
-    };
-    if instant < last.instant {
-        keys.partition_point(|key| key.instant <= instant)
-    } else {
-        // Most packets come in the order of their instants.
-        keys.len()
-    }
-}
-
-fn insert_key(keys: &mut VecDeque<Key>, place: usize, key: Key)
-    requires place { place ≤ length keys.old.items }
-    requires room { length keys.old.items < deque_capacity keys.old }
-    ensures items { keys.new.items ≡ insert keys.old.items place key }
-    ensures capacity { deque_capacity keys.old ≤ deque_capacity keys.new }
-{
-    let Ok(()) = keys.insert(place, key) else {
-        unreachable!()
-    };
-}
-
 /// What is accepted and waits for its instant, by first instant and then by place. Small keys are in that order; the
 /// batches stand in slots, and are not moved while they wait.
 #[derive(Drop)]
 pub struct Waiting {
-    keys: VecDeque<Key>,
+    keys: SortedKeys,
     batches: Slab<Accepted>,
     /// The bytes of all that wait.
     bytes: u64,
@@ -75,14 +39,13 @@ pub struct Waiting {
 
 impl Model for Waiting {
     ghost use Rattle.std.specs.Prelude.{min};
-    ghost use Rattle.std.specs.VecDeque.{deque_capacity};
     ghost use Rattle.sample_schedule.specs.Waiting.{Held, IsWaiting, held};
 
     ghost Value = { Held };
 
-    ghost view = { λ w. record { list = held w.batches w.keys.items; room = min (deque_capacity w.keys) w.batches.capacity } };
+    ghost view = { λ w. record { list = held w.batches w.keys.list; room = min w.keys.room w.batches.capacity } };
 
-    ghost invariant = { λ w. IsWaiting w.keys.items w.batches w.bytes };
+    ghost invariant = { λ w. IsWaiting w.keys.list w.batches w.bytes };
 }
 
 impl Waiting {
@@ -91,7 +54,7 @@ impl Waiting {
         ensures none { IfOk result (λ waiting. waiting.list ≡ []) }
         ensures room { IfOk result (λ waiting. batches ≤ waiting.room) }
     {
-        let keys = VecDeque::with_capacity(alloc, batches as usize)?;
+        let keys = SortedKeys::with_room(alloc, batches)?;
         let batches = Slab::with_capacity(alloc, batches as usize)?;
         Ok(Waiting {
             keys,
@@ -104,7 +67,7 @@ impl Waiting {
     pub fn len(&self) -> usize
         ensures { result ≡ length self.now.list }
     {
-        self.keys.len()
+        self.batches.len()
     }
 
     /// The number of their sample bytes.
@@ -118,18 +81,7 @@ impl Waiting {
     pub fn has_copy(&self, instant: i64, seq: u8) -> bool
         ensures { result ≡ list_any (is_copy_of instant seq) self.now.list }
     {
-        let mut end = place_behind(&self.keys, instant);
-        while end > 0 {
-            let key = self.keys[end - 1];
-            if key.instant != instant {
-                return false;
-            }
-            if sequence_number(&self.batches[key.slot]) == seq {
-                return true;
-            }
-            end -= 1;
-        }
-        false
+        self.keys.has(instant, seq)
     }
 
     /// So many batches wait as the buffer takes, or their bytes and so many more are more than its room.
@@ -150,17 +102,17 @@ impl Waiting {
         ensures room { self.old.room ≤ self.new.room }
     {
         let instant = accepted.instant;
-        let place = place_behind(&self.keys, instant);
+        let seq = sequence_number(&accepted);
         self.bytes += size(&accepted);
         let slot = self.batches.insert_reserved(accepted);
-        insert_key(&mut self.keys, place, Key { instant, slot });
+        self.keys.put(Key { instant, seq, slot });
     }
 
     /// The first has an instant before `now`.
     pub fn is_due(&self, now: i64) -> bool
         ensures { result ≡ starts_due now self.now.list }
     {
-        match self.keys.front() {
+        match self.keys.first() {
             Some(first) => first.instant < now,
             None => false,
         }
@@ -172,7 +124,7 @@ impl Waiting {
         ensures none { IfNone result (self.old.list ≡ []) }
         ensures room { self.new.room ≡ self.old.room }
     {
-        let Some(key) = self.keys.pop_front() else {
+        let Some(key) = self.keys.take_first() else {
             return None;
         };
         let first = self.batches.remove(key.slot);

@@ -1,4 +1,4 @@
-//! Batches that wait, beside a plain list that is sorted again and again.
+//! Batches that wait, beside a plain list that is looked through from its front.
 
 ghost use Rattle.std.specs.Prelude.{◌≤◌, ◌<◌};
 
@@ -10,8 +10,8 @@ use std::alloc::Global;
 use std::process::Abort;
 use time_unfold::Line;
 
-/// So many batches wait at most.
-const BUFFER: u32 = 64;
+/// So many batches wait at most: several blocks of keys.
+const BUFFER: u32 = 2_048;
 
 /// Numbers that look random.
 #[derive(Clone, Copy)]
@@ -69,22 +69,22 @@ fn put_both(
     list: &mut Vec<Plain>,
     plain: Plain,
 ) -> Result<(), NoMemory>
-    requires { 64 ≤ waiting.old.room }
-    ensures { 64 ≤ waiting.new.room }
+    requires { 2048 ≤ waiting.old.room }
+    ensures { 2048 ≤ waiting.new.room }
 {
     if waiting.len() < BUFFER as usize && waiting.bytes() < 1 << 32 {
         let unit = accepted(alloc, plain)?;
         waiting.put_behind(unit);
-        list.push(plain)?;
-        list.sort_by_key(|p: &Plain| p.instant)?;
+        let behind = list.iter().position(|p: &Plain| p.instant > plain.instant);
+        list.insert(behind.unwrap_or(list.len()), plain)?;
     }
     Ok(())
 }
 
 /// The first that waits is the first of the list, or both are empty.
 fn take_both(rt: &impl Abort, waiting: &mut Waiting, list: &mut Vec<Plain>)
-    requires { 64 ≤ waiting.old.room }
-    ensures { 64 ≤ waiting.new.room }
+    requires { 2048 ≤ waiting.old.room }
+    ensures { 2048 ≤ waiting.new.room }
 {
     let taken = match waiting.take_first() {
         Some(first) => Some((first.place, first.instant, first.batch.seq)),
@@ -107,14 +107,14 @@ fn bytes_of(list: &[Plain]) -> u64 {
     bytes
 }
 
-/// 400 units are drawn, of so many instants, and about one of three is taken at once.
+/// 4,000 units are drawn, of so many instants, and about one of three is taken at once.
 fn run(rt: &impl Abort, alloc: Global, instants: u32) -> Result<(), NoMemory>
     requires { 1 ≤ instants }
 {
     let mut draw = Draw { state: instants };
     let mut waiting = Waiting::with_room(alloc, BUFFER)?;
     let mut list = Vec::new(alloc);
-    for place in 0..400 {
+    for place in 0..4_000 {
         let plain = Plain {
             place,
             instant: draw.below(instants),

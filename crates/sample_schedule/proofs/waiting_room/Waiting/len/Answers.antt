@@ -5,5 +5,5 @@ use Rattle.sample_schedule.proofs.waiting_room.Waiting.len.Goals as goal
 
 pub returns : goal.returns
 returns c =
-    let keys : c.len.result ≡ length c.self.inside.keys.items = search rules in
-    keys ∙ sym (held-length c.self.inside.batches c.self.inside.keys.items c.self.invariant.there) ∙ ap (λ (h : Held). length h.list) c.self.view_is
+    let count : c.len.result ≡ length c.self.inside.keys.list = search rules in
+    count ∙ sym (held-length c.self.inside.batches c.self.inside.keys.list c.self.invariant.there) ∙ ap (λ (h : Held). length h.list) c.self.view_is

@@ -1,19 +1,19 @@
 -- The first key stands for the first batch.
 use Rattle.std.proofs.Common.{◌-◌, ℕ, List, ap, sym, ◌∙◌, subst}
-use Rattle.sample_schedule.specs.declared.waiting_room.Key.{Key}
+use Rattle.sample_schedule.specs.declared.sorted_keys.Key.{Key}
 use Rattle.sample_schedule.specs.Waiting.{Held, IsWaiting, held}
 use Rattle.sample_schedule.proofs.Keys.{take-list, take-waiting}
 use Rattle.sample_schedule.proofs.waiting_room.Waiting.take_first.Goals as goal
 
 pub invariant_of-self-2 : goal.invariant_of-self-2
 invariant_of-self-2 c =
-    let w = subst (λ (l : List Key). IsWaiting l c.self.inside.batches c.self.inside.bytes) c.in-Some.ensures.items c.self.invariant in
-    subst (λ (n : ℕ). IsWaiting c.pop_front.new.self.items c.remove-first.new.self (c.self.inside.bytes - n)) (sym c.size.ensures)
-    (take-waiting c.self.inside.batches c.remove-first.new.self c.in-Some.key c.pop_front.new.self.items c.remove-first.result c.self.inside.bytes w c.remove-first.ensures.value c.remove-first.ensures.updates c.remove-first.ensures.len)
+    let w = subst (λ (l : List Key). IsWaiting l c.self.inside.batches c.self.inside.bytes) c.in-Some.ensures.taken c.self.invariant in
+    subst (λ (n : ℕ). IsWaiting c.take_first.new.self.list c.remove-first.new.self (c.self.inside.bytes - n)) (sym c.size.ensures)
+    (take-waiting c.self.inside.batches c.remove-first.new.self c.in-Some.key c.take_first.new.self.list c.remove-first.result c.self.inside.bytes w c.remove-first.ensures.value c.remove-first.ensures.updates c.remove-first.ensures.len)
 
 pub returns-clause-taken : goal.returns-clause-taken
 returns-clause-taken c =
-    let w = subst (λ (l : List Key). IsWaiting l c.self.inside.batches c.self.inside.bytes) c.in-Some.ensures.items c.self.invariant in
+    let w = subst (λ (l : List Key). IsWaiting l c.self.inside.batches c.self.inside.bytes) c.in-Some.ensures.taken c.self.invariant in
     ap (λ (h : Held). h.list) (sym c.self.view_is)
-    ∙ ap (λ (l : List Key). held c.self.inside.batches l) c.in-Some.ensures.items
-    ∙ take-list c.self.inside.batches c.remove-first.new.self c.in-Some.key c.pop_front.new.self.items c.remove-first.result c.self.inside.bytes w c.remove-first.ensures.value c.remove-first.ensures.updates
+    ∙ ap (λ (l : List Key). held c.self.inside.batches l) c.in-Some.ensures.taken
+    ∙ take-list c.self.inside.batches c.remove-first.new.self c.in-Some.key c.take_first.new.self.list c.remove-first.result c.self.inside.bytes w c.remove-first.ensures.value c.remove-first.ensures.updates

@@ -3,8 +3,8 @@ use Rattle.std.proofs.Common.{◌≡◌, ◌≤◌, ◌≤ℤ◌, ◌-◌, lengt
 use Rattle.std.specs.Prelude.{int_le}
 use Rattle.std.proofs.lemmas.Int.{ints}
 use Rattle.std.proofs.lemmas.List.Sorted.{IsPartitionPoint-from_clause}
-use Rattle.sample_schedule.proofs.Keys.{partitioned, place-end, place-found}
-use Rattle.sample_schedule.proofs.waiting_room.place_behind.Goals as goal
+use Rattle.sample_schedule.proofs.BlockLemmas.{partitioned, place-end, place-found}
+use Rattle.sample_schedule.proofs.sorted_keys.place_behind.Goals as goal
 
 pub returns-then-instant-last : goal.returns-then-instant-last
 returns-then-instant-last c =

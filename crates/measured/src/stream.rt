@@ -1,0 +1,156 @@
+//! The entries of a stream in several orders.
+
+ghost use Rattle.std.specs.Prelude.{◌≡◌, ◌≤◌, ◌<◌, ◌^◌, All, IfOk, OnOk};
+ghost use Rattle.sample_schedule.specs.Limits.{IsEntry};
+
+use avtp_base::{Bytes, NoMemory};
+use clock_track::ClockRow;
+use sample_schedule::{Entry, HeadRule, Item, Packet};
+use std::alloc::Global;
+
+/// The order of the instants of packets that come one after the other.
+#[derive(Clone, Copy)]
+pub enum Order {
+    Rising,
+    Falling,
+    Random,
+    /// The earliest one, the latest one, the second, the last but one, and so on.
+    Middle,
+    /// All have one instant.
+    Equal,
+}
+
+/// A stream of packets of 6 samples each, and its clock.
+#[derive(Clone, Copy)]
+pub struct Stream {
+    pub order: Order,
+    /// How many packets wait for their instants at once, 1 to 65,536.
+    pub waiting: u32,
+    /// Each sixteenth packet is preceded by one of the clock.
+    pub clock: bool,
+}
+
+/// A number of 16 bits for each of 16 bits, all different, without order.
+fn scrambled(n: u32) -> u32 {
+    let first = n.wrapping_mul(40_503) % 65_536;
+    let second = (first ^ (first >> 8)).wrapping_mul(46_387) % 65_536;
+    second ^ (second >> 7)
+}
+
+impl Stream {
+    /// The time between two arrivals, in nanoseconds.
+    fn step(&self) -> u64
+        ensures { result ≤ 125000 }
+    {
+        if self.waiting > 4_096 { 1_000 } else { 125_000 }
+    }
+
+    /// The place of packet n among those that wait with it, by their instants.
+    fn place(&self, n: u32) -> u32
+        requires { 1 ≤ self.now.waiting }
+        ensures { result < self.now.waiting }
+    {
+        let i = n % self.waiting;
+        match self.order {
+            Order::Rising => i,
+            Order::Falling => self.waiting - 1 - i,
+            Order::Random => scrambled(i) % self.waiting,
+            Order::Middle if i % 2 == 0 => i / 2,
+            Order::Middle => self.waiting - 1 - i / 2,
+            Order::Equal => 0,
+        }
+    }
+
+    fn arrival(&self, n: u64) -> u64
+        requires { n < 2 ^ 33 }
+        ensures { result < 2 ^ 52 }
+    {
+        1_000_000_000 + n * self.step()
+    }
+
+    /// As many packets as wait at once have their instants while the next ones come.
+    fn instant(&self, n: u32) -> u64
+        requires some { 1 ≤ self.now.waiting }
+        requires most { self.now.waiting ≤ 65536 }
+    {
+        let waiting = u64::from(self.waiting);
+        let first = (u64::from(n) / waiting + 1) * waiting;
+        self.arrival(first + u64::from(self.place(n)))
+            .saturating_sub(1)
+    }
+
+    fn packet(&self, alloc: Global, n: u32) -> Result<Entry, NoMemory>
+        requires some { 1 ≤ self.now.waiting }
+        requires most { self.now.waiting ≤ 65536 }
+        ensures { IfOk result IsEntry }
+    {
+        let bytes = vec![in alloc; (n % 256) as u8; 24]?;
+        Ok(Entry::Item(Item::Packet(Packet {
+            frame: u64::from(n) + 1,
+            arrival: self.arrival(u64::from(n)) as i64,
+            seq: (n % 256) as u8,
+            mr: false,
+            tu: false,
+            stamp: Some((self.instant(n) % (1 << 32)) as u32),
+            rule: HeadRule::Own,
+            rate: 48_000,
+            count: 6,
+            bytes: Bytes::over(bytes),
+        })))
+    }
+
+    /// A packet of the clock, whose timestamp is the instant of packet n.
+    fn clock_packet(&self, alloc: Global, n: u32) -> Result<Entry, NoMemory>
+        requires some { 1 ≤ self.now.waiting }
+        requires most { self.now.waiting ≤ 65536 }
+        ensures { IfOk result IsEntry }
+    {
+        let mut payload = Vec::new(alloc);
+        payload.extend_from_slice(self.instant(n).to_be_bytes().as_slice())?;
+        Ok(Entry::Clock {
+            arrival: self.arrival(u64::from(n)) as i64,
+            row: ClockRow {
+                usable: true,
+                seq: (n / 16 % 256) as u8,
+                mr: false,
+                base_frequency: 48_000,
+                pull: 0,
+                interval: 96,
+                payload: Bytes::over(payload),
+            },
+        })
+    }
+
+    /// Puts the packet of the clock that precedes packet n behind others, where there is one.
+    fn put_clock_packet(
+        &self,
+        alloc: Global,
+        entries: &mut Vec<Entry>,
+        n: u32,
+    ) -> Result<(), NoMemory>
+        requires some { 1 ≤ self.now.waiting }
+        requires most { self.now.waiting ≤ 65536 }
+        requires entries { All IsEntry entries.old.items }
+        ensures { OnOk result (All IsEntry entries.new.items) }
+    {
+        if !self.clock || n % 16 != 0 {
+            return Ok(());
+        }
+        entries.push(self.clock_packet(alloc, n)?)?;
+        Ok(())
+    }
+
+    /// So many packets, and those of the clock.
+    pub fn entries(&self, alloc: Global, count: u32) -> Result<Vec<Entry>, NoMemory>
+        requires some { 1 ≤ self.now.waiting }
+        requires most { self.now.waiting ≤ 65536 }
+        ensures { IfOk result (λ v. All IsEntry v.items) }
+    {
+        let mut entries = Vec::new(alloc);
+        for n in 0..count {
+            self.put_clock_packet(alloc, &mut entries, n)?;
+            entries.push(self.packet(alloc, n)?)?;
+        }
+        Ok(entries)
+    }
+}
