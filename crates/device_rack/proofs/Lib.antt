@@ -1,1 +1,6 @@
+pub mod Carried
+pub mod Outputs
+pub mod Silences
+pub mod Taken
 pub mod Walks
+pub mod Writings

@@ -1,1 +1,4 @@
+pub mod Laws
+pub mod Output
 pub mod Racks
+pub mod Written

@@ -1,11 +1,23 @@
-//! Devices side by side: each is handed what a listener shows until it fails.
+//! Devices side by side, each of which is handed what a listener shows until it fails, and the devices that write files.
 #![tactic(auto)]
 
+mod annex_b;
+pub mod laws;
 mod place;
+mod previous;
 mod rack;
+mod raw;
+mod silence;
+mod unit;
+mod writing;
 
+pub use annex_b::AnnexBDevice;
 pub use place::Place;
 pub use rack::Rack;
+pub use raw::RawDevice;
+pub use silence::Silence;
 
+#[cfg(test)]
+mod file_tests;
 #[cfg(test)]
 mod tests;

@@ -1,5 +1,5 @@
 -- What is known of a block, an option or a trailer stands, however the bytes go on.
-use Rattle.std.proofs.Common.{◌≡◌, ℕ, ℤ, zero, suc, ◌+◌, ◌≤◌, ◌<◌, Bool, true, false, nat_lt, if◌then◌else◌, List, [], ◌++◌, length, drop, Option, Some, None, refl, ap, sym, ◌∙◌, arith, inl, inr, length-append, length-drop}
+use Rattle.std.proofs.Common.{◌≡◌, ℕ, ℤ, zero, suc, ◌+◌, ◌≤◌, ◌<◌, false, nat_lt, if◌then◌else◌, List, [], ◌++◌, length, drop, Option, Some, None, refl, ap, sym, ◌∙◌, arith, inl, inr, length-append, length-drop}
 use Rattle.std.proofs.lemmas.Bool.{cases_lt}
 use Rattle.std.proofs.lemmas.Bool.Decides.{nat_tests}
 use Rattle.std.proofs.lemmas.List.{drop-append-le, take-append-le}
@@ -18,6 +18,7 @@ use Rattle.pcap_frames.specs.Capture.{Record}
 use Rattle.pcapng_frames.specs.declared.block.Stage.{Stage}
 use Rattle.pcapng_frames.specs.declared.block.Stage.TheVariants as stage
 use Rattle.pcapng_frames.specs.Reading.{block_need, head_need, contents_past}
+use Rattle.pcapng_frames.proofs.Choices.{by_place, long_enough}
 use Rattle.pcapng_frames.proofs.Moves.{moves, stops}
 use Rattle.pcapng_frames.proofs.Heads.{head_known, packet_known}
 use Rattle.pcapng_frames.proofs.Stay.{arrival_stays, interface_stays, packet_stays, other_stays}
@@ -58,13 +59,6 @@ kind_rows_stay kind.Interface order interfaces start bytes more x e h = interfac
 kind_rows_stay kind.Packet order interfaces start bytes more x e h = packet_stays (order_or_little order) interfaces start bytes more x e (λ none. omega (arith, h none))
 kind_rows_stay kind.Other order interfaces start bytes more x e h = other_stays (order_or_little order) start bytes more x e h
 
-by_place : (b : Bool) (r : Refusal) (f g x : Option Refusal) → (if b then Some r else f) ≡ x → (f ≡ x → g ≡ x) → (if b then Some r else g) ≡ x
-by_place true r f g x e h = e
-by_place false r f g x e h = h e
-
-four_whole : (n : ℕ) (y : Option Refusal) → 4 ≤ n → (if nat_lt n 4 then None else y) ≡ y
-four_whole n y h = grind (arith, nat_tests)
-
 four_short : (n : ℕ) (y : Option Refusal) → n < 4 → (if nat_lt n 4 then None else y) ≡ None
 four_short n y h = grind (arith, nat_tests)
 
@@ -77,9 +71,9 @@ rows_long kind.Other = omega arith
 block_stays_by : (k : Kind) (order : Option Order) (interfaces : List Interface) (start : ℕ) (bytes more : List ℕ) (x : Option Refusal) → 4 ≤ length bytes → first_refused start (length bytes) (block_rows k order interfaces bytes) ≡ x
     → (x ≡ None → head_size k ≤ length bytes) → first_refused start (length (bytes ++ more)) (block_rows k order interfaces (bytes ++ more)) ≡ x
 block_stays_by k order interfaces start bytes more x long e h =
-    four_whole (length (bytes ++ more)) _ (omega (arith, length-append bytes more))
+    long_enough (length (bytes ++ more)) 4 _ _ (omega (arith, length-append bytes more))
     ∙ by_place (is_misplaced order k) (refusal_at BlockType (start + 0)) (first_refused start (length bytes) (kind_rows k (order_at k order bytes) interfaces bytes)) _ x
-    (sym (four_whole (length bytes) _ long) ∙ e)
+    (sym (long_enough (length bytes) 4 _ _ long) ∙ e)
     (λ f. kind_rows_stay k order interfaces start bytes more x f h)
 
 -- what is refused in a block stays refused, and what is not, once its front is whole

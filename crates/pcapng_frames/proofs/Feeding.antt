@@ -12,7 +12,7 @@ use Rattle.pcapng_frames.specs.declared.block.Stage.TheVariants as stage
 use Rattle.pcapng_frames.specs.declared.interface.Interface.{Interface}
 use Rattle.pcap_frames.specs.declared.style.Order.{Order}
 use Rattle.pcapng_frames.specs.Blocks.{Place, Contents, refusal_here, refusal_by, order_or_little, block_refused, option_refused, trailer_refused, ends, after_any, size_of_any, and_then, after_trailer}
-use Rattle.pcapng_frames.specs.Reading.{Reading, HasRead, passed_by, held_by, after_all, Takes, IsReading, IsWhole, IsPart, IsAhead, IsFree, IsUnpacked, HasHead, is_inside, place_of, packet_of, part_at, need_by, block_need, option_need, contents_past, contents_at, rest_of, rest_by}
+use Rattle.pcapng_frames.specs.Reading.{Reading, HasRead, passed_by, held_by, after_all, Takes, HasEntered, IsReading, IsWhole, IsPart, IsAhead, IsFree, IsUnpacked, HasHead, is_inside, place_of, packet_of, part_at, need_by, block_need, option_need, contents_past, contents_at, rest_of, rest_by}
 use Rattle.pcapng_frames.proofs.Moves.{reading, going, gathered, past_none}
 use Rattle.pcapng_frames.proofs.Options.{at_option_place, at_trailer_place, trailer_moves}
 use Rattle.pcapng_frames.proofs.Blocks.{at_block, block_moves, block_stops}
@@ -52,7 +52,7 @@ no_packet (Some head) part e = absurd (cc)
 pub part_in_block : (s : Stage) (part tail : List ℕ) → s ≡ stage.Block → part_at s part tail ≡ part
 part_in_block s part tail is = rw is refl
 
-need_in_block : (s : Stage) (order : Option Order) (part : List ℕ) → s ≡ stage.Block → need_by s order part ≡ block_need order part
+pub need_in_block : (s : Stage) (order : Option Order) (part : List ℕ) → s ≡ stage.Block → need_by s order part ≡ block_need order part
 need_in_block s order part is = rw is refl
 
 pub block_part : (c : Cursor) (interfaces : List Interface) (part tail : List ℕ) → c.stage ≡ stage.Block → IsPart (place_of c interfaces part) c.skip (part_at c.stage part tail) → IsBlockPart c interfaces part
@@ -196,17 +196,17 @@ block_ends c d interfaces others part tail front next clear whole refusal none p
 }
 
 -- the reader is before an option or a trailer, of which nothing has come
-pub inside_part : (d : Cursor) (others : List Interface) (next clear : List ℕ) → is_inside d.stage ≡ true → IsAhead d.stage d.skip d.left d.total → IsUnpacked d.stage d.packet → IfSome d.interface (λ i. length others < 256) → clear ≡ []
+pub inside_part : (d : Cursor) (others : List Interface) (next clear front : List ℕ) (passed : ℕ) → HasEntered d front passed → IfSome d.interface (λ i. length others < 256) → clear ≡ []
     → IsPart (place_of d others next) d.skip (part_at d.stage next clear)
-inside_part d others next clear inside ahead unpacked room empty =
+inside_part d others next clear front passed entered room empty =
     let p : Place = place_of d others next in
-    let none : part_at d.stage next clear ≡ [] = part_inside d.stage next clear inside ∙ empty in
+    let none : part_at d.stage next clear ≡ [] = part_inside d.stage next clear entered.inside ∙ empty in
     record {
       accepted = ap (refusal_here p) none ∙ none_refused p;
       partial = omega (arith, ap length none, ap (need_by d.stage d.order) none, need_some d.stage d.order);
-      ahead = ahead;
+      ahead = entered.ahead;
       room = room;
-      free = inside_free d.stage d.packet next d.interface inside unpacked;
+      free = inside_free d.stage d.packet next d.interface entered.inside entered.unpacked;
     }
 
 pub room_less : (interface : Option Interface) (n m : ℕ) → m ≤ n → IfSome interface (λ i. n < 256) → IfSome interface (λ i. m < 256)
@@ -288,7 +288,7 @@ free_option stage.Trailer packet interface is h = absurd (cc)
 pub part_in_option : (s : Stage) (part tail : List ℕ) → s ≡ stage.Option → part_at s part tail ≡ tail
 part_in_option s part tail is = rw is refl
 
-need_in_option : (s : Stage) (order : Option Order) (part : List ℕ) → s ≡ stage.Option → need_by s order part ≡ option_need (order_or_little order) part
+pub need_in_option : (s : Stage) (order : Option Order) (part : List ℕ) → s ≡ stage.Option → need_by s order part ≡ option_need (order_or_little order) part
 need_in_option s order part is = rw is refl
 
 pub option_part : (c : Cursor) (interfaces : List Interface) (part tail : List ℕ) → c.stage ≡ stage.Option → IsPart (place_of c interfaces part) c.skip (part_at c.stage part tail) → IsOptionPart c interfaces tail
@@ -329,11 +329,6 @@ room_same None b n e h = tt
 room_same (Some i) None n e h = absurd (cc)
 room_same (Some i) (Some j) n e h = omega arith
 
-pub unpacked_none : (s : Stage) (packet : Option PacketHead) → packet ≡ None → IsUnpacked s packet
-unpacked_none stage.Block packet e = tt
-unpacked_none stage.Option packet e = e
-unpacked_none stage.Trailer packet e = tt
-
 -- What has come of a trailer.
 pub record IsTrailerPart (c : Cursor) (interfaces : List Interface) (tail : List ℕ) : Type 0 where
   pub partial : length tail < 4
@@ -348,7 +343,7 @@ ahead_trailer stage.Trailer skip left total is h = h
 pub part_in_trailer : (s : Stage) (part tail : List ℕ) → s ≡ stage.Trailer → part_at s part tail ≡ tail
 part_in_trailer s part tail is = rw is refl
 
-need_in_trailer : (s : Stage) (order : Option Order) (part : List ℕ) → s ≡ stage.Trailer → need_by s order part ≡ 4
+pub need_in_trailer : (s : Stage) (order : Option Order) (part : List ℕ) → s ≡ stage.Trailer → need_by s order part ≡ 4
 need_in_trailer s order part is = rw is refl
 
 pub trailer_part : (c : Cursor) (interfaces : List Interface) (part tail : List ℕ) → c.stage ≡ stage.Trailer → IsPart (place_of c interfaces part) c.skip (part_at c.stage part tail) → IsTrailerPart c interfaces tail

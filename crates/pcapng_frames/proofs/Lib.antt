@@ -1,3 +1,4 @@
+pub mod Choices
 pub mod Numbers
 pub mod Stay
 pub mod Places

@@ -1,6 +1,7 @@
 -- How many bytes are needed before more is known.
-use Rattle.std.proofs.Common.{◌≡◌, ℕ, ◌+◌, ◌-◌, ◌≤◌, ◌<◌, nat_lt, if◌then◌else◌, List, ◌++◌, length, Option, None, refl, ap, arith, inl, inr, length-append}
+use Rattle.std.proofs.Common.{◌≡◌, ℕ, ◌+◌, ◌-◌, ◌≤◌, ◌<◌, nat_lt, if◌then◌else◌, List, ◌++◌, length, take, min, Option, None, refl, ap, arith, inl, inr, length-append}
 use Rattle.std.proofs.lemmas.Bool.{cases_lt}
+use Rattle.std.proofs.lemmas.List.{length-take-le}
 use Rattle.std.proofs.lemmas.Bool.Decides.{nat_tests}
 use Rattle.pcap_frames.specs.declared.style.Order.{Order}
 use Rattle.pcap_frames.specs.Layout.{number_at}
@@ -12,8 +13,7 @@ use Rattle.pcapng_frames.specs.Fields.{first_refused, padded}
 use Rattle.pcapng_frames.specs.Blocks.{kind_at, order_at, kind_rows, block_refused, block_size, size_of_any, order_or_little}
 use Rattle.pcapng_frames.specs.Reading.{block_need, head_need, option_need, value_need}
 use Rattle.pcapng_frames.proofs.Blocks.{kind_stays}
-use Rattle.pcapng_frames.specs.Fields.{option_code}
-use Rattle.pcapng_frames.proofs.Options.{need_of_four}
+use Rattle.pcapng_frames.proofs.Options.{need_of_four, need_whole}
 use Rattle.pcapng_frames.proofs.Heads.{kind_accepted}
 
 head_eight : (k : Kind) (order : Order) (bytes : List ℕ) → 8 ≤ head_need k order bytes
@@ -78,17 +78,13 @@ option_short : (order : Order) (bytes : List ℕ) → length bytes < 4 → optio
 unfolding option_need
 option_short order bytes h = grind (arith, nat_tests)
 
-option_long : (order : Order) (bytes : List ℕ) → 4 ≤ length bytes → option_need order bytes ≡ value_need (option_code order bytes)
-unfolding option_need
-option_long order bytes h = grind (arith, nat_tests)
-
 -- what was taken of an option does not go past what is needed
 pub option_keeps : (order : Order) (bytes more : List ℕ) → length bytes < option_need order bytes → length more ≤ option_need order bytes - length bytes → length (bytes ++ more) ≤ option_need order (bytes ++ more)
 option_keeps order bytes more h room = elim (cases_lt (length bytes) 4) [
   | inl short ↦ omega (arith, option_short order bytes short, need_of_four order (bytes ++ more), length-append bytes more)
   | inr long ↦
-      let here = option_long order bytes long in
-      let there = option_long order (bytes ++ more) (omega (arith, length-append bytes more)) in
+      let here = need_whole order bytes long in
+      let there = need_whole order (bytes ++ more) (omega (arith, length-append bytes more)) in
       let same = ap value_need (number_stays order 0 2 bytes more (omega arith)) in
       omega (arith, length-append bytes more)
 ]
@@ -131,3 +127,21 @@ block_lacks order interfaces start bytes h partial = elim (cases_lt (length byte
   | inl short ↦ omega (arith, size_eight (kind_at order bytes) (number_at (order_at (kind_at order bytes) order bytes) 4 4 bytes))
   | inr long ↦ head_lacks (kind_at order bytes) order interfaces start bytes (kind_accepted (kind_at order bytes) order interfaces start bytes refl (omega arith) h) (omega (arith, need_long order bytes long))
 ]
+
+-- all that is needed of a block came, in a piece
+pub block_came : (order : Option Order) (part piece next : List ℕ) (n : ℕ) → length part < block_need order part → n ≡ min (length piece) (block_need order part - length part) → next ≡ part ++ take n piece → block_need order next ≤ length next
+    → (8 ≤ length next) × (length next ≡ block_need order next)
+block_came order part piece next n partial is grown came =
+    let within : n ≤ length piece = omega (arith, is) in
+    let keeps = block_keeps order part (take n piece) partial (omega (arith, length-take-le n piece within, is)) in
+    let kept = rw (← grown) at keeps in
+    (omega (arith, kept, need_eight order next), omega (arith, kept))
+
+-- all that is needed of an option
+pub option_came : (order : Order) (part piece next : List ℕ) (n : ℕ) → length part < option_need order part → n ≡ min (length piece) (option_need order part - length part) → next ≡ part ++ take n piece → option_need order next ≤ length next
+    → (4 ≤ length next) × (length next ≡ option_need order next)
+option_came order part piece next n partial is grown came =
+    let within : n ≤ length piece = omega (arith, is) in
+    let keeps = option_keeps order part (take n piece) partial (omega (arith, length-take-le n piece within, is)) in
+    let kept = rw (← grown) at keeps in
+    (omega (arith, kept, need_of_four order next), omega (arith, kept))

@@ -18,6 +18,7 @@ use Rattle.pcapng_frames.specs.Interface.{is_resolution}
 use Rattle.avtp_base.specs.declared.field.Field.{Field}
 use Rattle.pcapng_frames.specs.Blocks.{Place, order_or_little, described, size_of_option, size_here, next_place, next_by, refusal_here, option_refused, trailer_refused, refused_or, and_then, packet_by, cut_short, ends, short_at, after_trailer}
 use Rattle.pcapng_frames.specs.Reading.{IsResolved, option_need, value_need, contents_past, contents_at}
+use Rattle.pcapng_frames.proofs.Choices.{by_place, long_enough}
 use Rattle.pcapng_frames.proofs.Places.{unroll}
 use Rattle.pcapng_frames.proofs.Moves.{moves, stops, past_none}
 
@@ -30,18 +31,11 @@ code_stays order bytes more h = number_stays order 0 2 bytes more (omega arith)
 length_stays : (order : Order) (bytes more : List ℕ) → 4 ≤ length bytes → option_length order (bytes ++ more) ≡ option_length order bytes
 length_stays order bytes more h = number_stays order 2 2 bytes more (omega arith)
 
-by_place : (b : Bool) (r : Refusal) (f g x : Option Refusal) → (if b then Some r else f) ≡ x → (f ≡ x → g ≡ x) → (if b then Some r else g) ≡ x
-by_place true r f g x e h = e
-by_place false r f g x e h = h e
-
-four_whole : (n : ℕ) (y : Option Refusal) → 4 ≤ n → (if nat_lt n 4 then None else y) ≡ y
-four_whole n y h = grind (arith, nat_tests)
-
 -- a row that is judged with the option's header
 header_row : (field : Field) (b : Bool) (start len more : ℕ) (rows others : List Row) (x : Option Refusal) → 4 ≤ len → len ≤ more → first_refused start len (row field 0 4 b ∷ rows) ≡ x → (first_refused start len rows ≡ x → first_refused start more others ≡ x)
     → first_refused start more (row field 0 4 b ∷ others) ≡ x
 header_row field b start len more rows others x long less e h =
-    four_whole more _ (omega arith) ∙ by_place b (refusal_at field (start + 0)) (first_refused start len rows) (first_refused start more others) x (sym (four_whole len _ long) ∙ e) h
+    long_enough more 4 _ _ (omega arith) ∙ by_place b (refusal_at field (start + 0)) (first_refused start len rows) (first_refused start more others) x (sym (long_enough len 4 _ _ long) ∙ e) h
 
 value_row : (field : Field) (b c : Bool) (start len more : ℕ) (x : Option Refusal) → len ≤ more → (5 ≤ len → b ≡ c) → (x ≡ None → (5 ≤ len) ⊎ (c ≡ false)) → first_refused start len (row field 0 5 b ∷ []) ≡ x → first_refused start more (row field 0 5 c ∷ []) ≡ x
 value_row field b true start len more x less same h e = grind (arith, nat_tests)
@@ -91,7 +85,7 @@ pub need_of_four : (order : Order) (bytes : List ℕ) → 4 ≤ option_need orde
 unfolding option_need
 need_of_four order bytes = grind (arith, nat_tests, need_four (option_code order bytes))
 
-need_whole : (order : Order) (bytes : List ℕ) → 4 ≤ length bytes → option_need order bytes ≡ value_need (option_code order bytes)
+pub need_whole : (order : Order) (bytes : List ℕ) → 4 ≤ length bytes → option_need order bytes ≡ value_need (option_code order bytes)
 unfolding option_need
 need_whole order bytes h = grind (arith, nat_tests)
 
@@ -197,9 +191,6 @@ next_at_trailer p bytes is = rw is refl
 packet_at_trailer : (s : Stage) (packet : Option Record) → s ≡ stage.Trailer → packet_by s packet ≡ packet
 packet_at_trailer s packet is = rw is refl
 
-not_cut : {X : Type 0} (n m : ℕ) (x y : X) → m ≤ n → (if nat_lt n m then x else y) ≡ y
-not_cut n m x y h = grind (arith, nat_tests)
-
 -- a trailer came, and is the total length
 pub trailer_moves : (p : Place) (part more : List ℕ) → p.stage ≡ stage.Trailer → length part ≡ 4 → refusal_here p part ≡ None → contents_past 0 p part more ≡ and_then p.packet (contents_at (after_trailer p) more)
 trailer_moves p part more is whole accepted =
@@ -208,7 +199,7 @@ trailer_moves p part more is whole accepted =
     past_none p part more
     ∙ (unroll p bytes
     ∙ (ap (λ (x : Option Refusal). refused_or x (if nat_lt (length bytes) (size_here p bytes) then cut_short p bytes else and_then (packet_by p.stage p.packet) (contents_at (next_place p bytes) (drop (size_here p bytes) bytes)))) none
-    ∙ (not_cut (length bytes) (size_here p bytes) _ _ (omega (arith, size_at_trailer p bytes is, length-append part more))
+    ∙ (long_enough (length bytes) (size_here p bytes) _ _ (omega (arith, size_at_trailer p bytes is, length-append part more))
     ∙ (ap (λ (x : Option Record). and_then x (contents_at (next_place p bytes) (drop (size_here p bytes) bytes))) (packet_at_trailer p.stage p.packet is)
     ∙ (ap (λ (x : Place). and_then p.packet (contents_at x (drop (size_here p bytes) bytes))) (next_at_trailer p bytes is)
     ∙ (ap (λ (n : ℕ). and_then p.packet (contents_at (after_trailer p) (drop n bytes))) (size_at_trailer p bytes is)

@@ -16,13 +16,14 @@ use Rattle.pcapng_frames.specs.declared.interface.Interface.{Interface}
 use Rattle.pcapng_frames.specs.declared.block.Stage.{Stage}
 use Rattle.pcapng_frames.specs.declared.block.Stage.TheVariants as stage
 use Rattle.pcapng_frames.specs.Blocks.{Place, Contents, Ending, short_at, is_interface, kind_at, contents, settled, whole_records, first_refusal, refusal_of, refusal_here, size_here, refused_or, and_then, packet_by, next_place, cut_short, cut_by, ends_at, ends, after_trailer, order_or_little}
-use Rattle.pcapng_frames.specs.Reading.{Reading, HasRead, IsReading, IsPart, IsAhead, block_need, option_need, need_by, contents_at, contents_past, rest_of, after_all, refused_after, lacks_by, held_by, HasHead, packet_of, place_of}
+use Rattle.pcapng_frames.specs.Reading.{Reading, HasRead, IsReading, IsPart, IsAhead, contents_at, contents_past, rest_of, after_all, refused_after, lacks_by, held_by, HasHead, packet_of, place_of}
 use Rattle.pcapng_frames.proofs.Places.{unroll, size_some}
 use Rattle.pcapng_frames.proofs.Moves.{reading}
 use Rattle.pcapng_frames.proofs.Blocks.{at_block, size_at_block}
 use Rattle.pcapng_frames.proofs.Options.{at_option_place, option_lacks, size_at_option, size_at_trailer}
 use Rattle.pcapng_frames.proofs.Needs.{block_lacks}
-use Rattle.pcapng_frames.proofs.Feeding.{none_refused, refused_rest, is_whole}
+use Rattle.pcapng_frames.proofs.Choices.{long_enough}
+use Rattle.pcapng_frames.proofs.Feeding.{need_in_block, need_in_option, need_in_trailer, none_refused, refused_rest, is_whole}
 
 settled_if : (b : Bool) (e : Ending) → e.cut ≡ true → settled (if b then ends None else ends (Some e)).ending ≡ None
 settled_if true e h = refl
@@ -46,24 +47,12 @@ settled_cut p bytes = settled_if (ends_at p.stage p.order p.start (length bytes)
 less_true : {X : Type 0} (n m : ℕ) (x y : X) → n < m → (if nat_lt n m then x else y) ≡ x
 less_true n m x y h = grind (arith, nat_tests)
 
-not_less : {X : Type 0} (n m : ℕ) (x y : X) → m ≤ n → (if nat_lt n m then x else y) ≡ y
-not_less n m x y h = grind (arith, nat_tests)
-
 -- a place that the end of the bytes cuts off
 pub cut_at : (p : Place) (bytes : List ℕ) → refusal_here p bytes ≡ None → length bytes < size_here p bytes → contents_at p bytes ≡ cut_short p bytes
 cut_at p bytes none short =
     unroll p bytes
     ∙ (ap (λ (x : Option Refusal). refused_or x (if nat_lt (length bytes) (size_here p bytes) then cut_short p bytes else and_then (packet_by p.stage p.packet) (contents_at (next_place p bytes) (drop (size_here p bytes) bytes)))) none
     ∙ less_true (length bytes) (size_here p bytes) _ _ short)
-
-need_block : (s : Stage) (order : Option Order) (bytes : List ℕ) → s ≡ stage.Block → need_by s order bytes ≡ block_need order bytes
-need_block s order bytes is = rw is refl
-
-need_option : (s : Stage) (order : Option Order) (bytes : List ℕ) → s ≡ stage.Option → need_by s order bytes ≡ option_need (order_or_little order) bytes
-need_option s order bytes is = rw is refl
-
-need_trailer : (s : Stage) (order : Option Order) (bytes : List ℕ) → s ≡ stage.Trailer → need_by s order bytes ≡ 4
-need_trailer s order bytes is = rw is refl
 
 four_left : (s : Stage) (skip left total : ℕ) → s ≡ stage.Option → IsAhead s skip left total → 4 ≤ left
 four_left stage.Block skip left total is h = absurd (cc)
@@ -72,13 +61,13 @@ four_left stage.Trailer skip left total is h = absurd (cc)
 
 lacks_by_stage : (s : Stage) (p : Place) (skip : ℕ) (bytes : List ℕ) → p.stage ≡ s → IsPart p skip bytes → length bytes < size_here p bytes
 lacks_by_stage stage.Block p skip bytes is h =
-    let need = need_block p.stage p.order bytes is in
+    let need = need_in_block p.stage p.order bytes is in
     omega (arith, size_at_block p bytes is, block_lacks p.order p.interfaces p.start bytes (sym (at_block p bytes is) ∙ h.accepted) (omega (arith, h.partial, need)))
 lacks_by_stage stage.Option p skip bytes is h =
-    let need = need_option p.stage p.order bytes is in
+    let need = need_in_option p.stage p.order bytes is in
     let left = four_left p.stage skip p.left p.total is h.ahead in
     omega (arith, size_at_option p bytes is, option_lacks (order_or_little p.order) _ p.left bytes left (sym (at_option_place p bytes is) ∙ h.accepted) (omega (arith, h.partial, need)))
-lacks_by_stage stage.Trailer p skip bytes is h = omega (arith, size_at_trailer p bytes is, h.partial, need_trailer p.stage p.order bytes is)
+lacks_by_stage stage.Trailer p skip bytes is h = omega (arith, size_at_trailer p bytes is, h.partial, need_in_trailer p.stage p.order bytes is)
 
 -- what has come of a place is less than all of it
 pub lacks_some : (p : Place) (skip : ℕ) (bytes : List ℕ) → IsPart p skip bytes → length bytes < size_here p bytes
@@ -148,7 +137,7 @@ end_past p skip part h = elim (cases_lt 0 skip) [
     refusal = ap (λ (x : Contents). refusal_of x.ending) (less_true 0 skip _ _ some) ∙ sym (skip_inside p.stage p skip part some h.ahead);
   }
   | inr none ↦
-      let same : contents_past skip p part [] ≡ cut_short p part = not_less 0 skip _ _ none ∙ (none_follow p skip part ∙ cut_at p part h.accepted (lacks_some p skip part h)) in
+      let same : contents_past skip p part [] ≡ cut_short p part = long_enough 0 skip _ _ none ∙ (none_follow p skip part ∙ cut_at p part h.accepted (lacks_some p skip part h)) in
       let e = end_cut p part in
       record {
         records = ap (λ (x : Contents). x.records) same ∙ e.records;

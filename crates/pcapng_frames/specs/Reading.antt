@@ -209,6 +209,23 @@ IsUnpacked stage.Block packet = ⊤
 IsUnpacked stage.Option packet = packet ≡ None
 IsUnpacked stage.Trailer packet = ⊤
 
+-- A cursor has entered a block, or gone on in it: it stands before an option or the trailer, these bytes of the block's front
+-- are held, and so many of its bytes have come.
+pub record HasEntered (c : Cursor) (front : List ℕ) (count : ℕ) : Type 0 where
+  pub head : HasHead c.order c.packet front
+  pub resolved : IsResolved c.interface
+  pub ahead : IsAhead c.stage c.skip c.left c.total
+  pub inside : is_inside c.stage ≡ true
+  pub unpacked : IsUnpacked c.stage c.packet
+  pub passed : passed_by c.stage c.skip c.left c.total ≡ count
+
+-- A reader takes bytes of a piece: it is not refused, and holds no packet.
+pub record CanFeed (r : Reading) (piece : List ℕ) : Type 0 where
+  pub accepted : r.refusal ≡ None
+  pub partial : r.whole ≡ false
+  pub more : 0 < length piece
+  pub bounded : taken r + length piece ≤ 2 ^ 62
+
 -- the refusal comes after these packets
 abbrev pub refused_after : List Record → Refusal → Contents
 refused_after records refusal = record { records = records; ending = Some (record { refusal = refusal; cut = false }) }

@@ -5,6 +5,8 @@ mod block;
 mod interface;
 mod layout;
 mod reader;
+mod refusals;
+mod steps;
 
 pub use reader::Ng;
 

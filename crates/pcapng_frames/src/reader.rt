@@ -9,11 +9,11 @@ ghost use Rattle.pcapng_frames.specs.declared.block.Stage.TheVariants as stage;
 ghost use Rattle.pcapng_frames.specs.Interface.{is_resolution, microseconds};
 ghost use Rattle.pcapng_frames.specs.Fields.{AllResolved};
 ghost use Rattle.pcapng_frames.specs.Blocks.{contents, whole_records, first_refusal, settled, after_trailer};
-ghost use Rattle.pcapng_frames.specs.Reading.{Reading, lacks, refused_after, Takes, Feeds, GoesOn, HasRead, held, need_by, nothing_read, rest_of, shown, taken};
+ghost use Rattle.pcapng_frames.specs.Reading.{CanFeed, Reading, lacks, refused_after, Takes, Feeds, GoesOn, HasRead, held, need_by, nothing_read, rest_of, shown, taken};
 
 use crate::block::{Cursor, Kind, Stage};
 use crate::interface::Interface;
-use crate::layout;
+use crate::{layout, refusals, steps};
 use avtp_base::{Field, NoMemory, Refusal};
 use pcap_frames::{Order, RecordView};
 use std::alloc::Global;
@@ -112,10 +112,7 @@ impl Ng {
 
     /// Takes bytes up to where more is known of what comes next.
     fn feed_place(&mut self, piece: &[u8]) -> Result<usize, Refusal>
-        requires accepted { self.old.refusal ≡ None }
-        requires partial { self.old.whole ≡ false }
-        requires more { 0 < length piece.now }
-        requires bounded { taken self.old + length piece.now ≤ 2 ^ 62 }
+        requires can { CanFeed self.old piece.now }
         ensures some { IfOk result (λ n. 0 < n) }
         ensures fed { Feeds self.old piece.now result self.new }
     {
@@ -150,8 +147,8 @@ impl Ng {
         if self.refusal.is_some() || !self.whole {
             return false;
         }
-        layout::add_described(self.cursor.interface, &mut self.interfaces);
-        self.cursor = layout::after_trailer(self.cursor);
+        steps::add_described(self.cursor.interface, &mut self.interfaces);
+        self.cursor = steps::after_trailer(self.cursor);
         self.part.clear();
         self.tail.clear();
         self.whole = false;
@@ -187,23 +184,20 @@ impl Ng {
         }
         let cursor = self.cursor;
         match cursor.stage {
-            Stage::Block => layout::missing_of_block(
+            Stage::Block => refusals::missing_of_block(
                 cursor.order,
                 self.interfaces.len(),
                 cursor.start,
                 self.part.as_slice(),
             ),
-            _ => layout::short(Field::BlockBody, cursor.start + 8),
+            _ => refusals::short(Field::BlockBody, cursor.start + 8),
         }
     }
 
     /// Passes bytes that are not read.
     fn pass(&mut self, piece: &[u8]) -> usize
-        requires accepted { self.old.refusal ≡ None }
-        requires partial { self.old.whole ≡ false }
+        requires can { CanFeed self.old piece.now }
         requires some { 0 < self.old.skip }
-        requires more { 0 < length piece.now }
-        requires bounded { taken self.old + length piece.now ≤ 2 ^ 62 }
         ensures some { 0 < result }
         ensures within { result ≤ length piece.now }
         ensures counted { taken self.new ≡ taken self.old + result }
@@ -217,20 +211,17 @@ impl Ng {
 
     /// Takes bytes up to where more is known of a block.
     fn feed_block(&mut self, piece: &[u8]) -> Result<usize, Refusal>
-        requires accepted { self.old.refusal ≡ None }
-        requires partial { self.old.whole ≡ false }
+        requires can { CanFeed self.old piece.now }
         requires stage { self.old.place.stage ≡ stage.Block }
-        requires more { 0 < length piece.now }
-        requires bounded { taken self.old + length piece.now ≤ 2 ^ 62 }
         ensures some { IfOk result (λ n. 0 < n) }
         ensures fed { Feeds self.old piece.now result self.new }
     {
-        let need = layout::block_need(self.cursor.order, self.part.as_slice());
+        let need = steps::block_need(self.cursor.order, self.part.as_slice());
         let taken = gather(&mut self.part, need, piece);
         let part = self.part.as_slice();
         let interfaces = self.interfaces.as_slice();
         let cursor = self.cursor;
-        let refusal = layout::block_refusal(cursor.order, interfaces, cursor.start, part);
+        let refusal = refusals::block_refusal(cursor.order, interfaces, cursor.start, part);
         match refusal {
             Some(refusal) => {
                 self.refusal = Some(refusal);
@@ -238,34 +229,31 @@ impl Ng {
             }
             None => {}
         }
-        if part.len() < layout::block_need(cursor.order, part) {
+        if part.len() < steps::block_need(cursor.order, part) {
             return Ok(taken);
         }
         let kind = layout::kind_at(cursor.order, part);
-        self.cursor = layout::after_block(cursor, interfaces, part);
-        layout::settle(kind, &mut self.interfaces);
+        self.cursor = steps::after_block(cursor, interfaces, part);
+        steps::settle(kind, &mut self.interfaces);
         self.tail.clear();
         Ok(taken)
     }
 
     /// Takes bytes up to where more is known of an option.
     fn feed_option(&mut self, piece: &[u8]) -> Result<usize, Refusal>
-        requires accepted { self.old.refusal ≡ None }
-        requires partial { self.old.whole ≡ false }
+        requires can { CanFeed self.old piece.now }
         requires stage { self.old.place.stage ≡ stage.Option }
         requires ready { self.old.skip ≡ 0 }
-        requires more { 0 < length piece.now }
-        requires bounded { taken self.old + length piece.now ≤ 2 ^ 62 }
         ensures some { IfOk result (λ n. 0 < n) }
         ensures fed { Feeds self.old piece.now result self.new }
     {
         let cursor = self.cursor;
         let order = layout::order_or_little(cursor.order);
-        let need = layout::option_need(order, self.tail.as_slice());
+        let need = steps::option_need(order, self.tail.as_slice());
         let taken = gather(&mut self.tail, need, piece);
         let tail = self.tail.as_slice();
         let at = cursor.start + u64::from(cursor.total - 4 - cursor.left);
-        let refusal = layout::option_refusal(order, at, cursor.left, tail);
+        let refusal = refusals::option_refusal(order, at, cursor.left, tail);
         match refusal {
             Some(refusal) => {
                 self.refusal = Some(refusal);
@@ -273,22 +261,19 @@ impl Ng {
             }
             None => {}
         }
-        if tail.len() < layout::option_need(order, tail) {
+        if tail.len() < steps::option_need(order, tail) {
             return Ok(taken);
         }
-        self.cursor = layout::after_option(cursor, at, tail);
+        self.cursor = steps::after_option(cursor, at, tail);
         self.tail.clear();
         Ok(taken)
     }
 
     /// Takes bytes up to the end of a trailer.
     fn feed_trailer(&mut self, piece: &[u8]) -> Result<usize, Refusal>
-        requires accepted { self.old.refusal ≡ None }
-        requires partial { self.old.whole ≡ false }
+        requires can { CanFeed self.old piece.now }
         requires stage { self.old.place.stage ≡ stage.Trailer }
         requires ready { self.old.skip ≡ 0 }
-        requires more { 0 < length piece.now }
-        requires bounded { taken self.old + length piece.now ≤ 2 ^ 62 }
         ensures some { IfOk result (λ n. 0 < n) }
         ensures fed { Feeds self.old piece.now result self.new }
     {
@@ -297,7 +282,7 @@ impl Ng {
         let taken = gather(&mut self.tail, 4, piece);
         let tail = self.tail.as_slice();
         let at = cursor.start + u64::from(cursor.total - 4);
-        let refusal = layout::trailer_refusal(order, at, cursor.total, tail);
+        let refusal = refusals::trailer_refusal(order, at, cursor.total, tail);
         match refusal {
             Some(refusal) => {
                 self.refusal = Some(refusal);
@@ -312,8 +297,8 @@ impl Ng {
             self.whole = true;
             return Ok(taken);
         }
-        layout::add_described(cursor.interface, &mut self.interfaces);
-        self.cursor = layout::after_trailer(cursor);
+        steps::add_described(cursor.interface, &mut self.interfaces);
+        self.cursor = steps::after_trailer(cursor);
         self.part.clear();
         self.tail.clear();
         Ok(taken)

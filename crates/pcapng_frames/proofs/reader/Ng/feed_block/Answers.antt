@@ -1,23 +1,22 @@
 use Rattle.std.proofs.Common.{arith, take, ◌∙◌, length, refl, ap}
-use Rattle.std.proofs.lemmas.List.{length-take-le}
 use Rattle.pcapng_frames.specs.Blocks.{interfaces_after}
 use Rattle.pcapng_frames.specs.Reading.{place_of}
-use Rattle.pcapng_frames.proofs.Needs.{block_bound, block_keeps, need_eight}
+use Rattle.pcapng_frames.proofs.Needs.{block_bound, block_came}
 use Rattle.pcapng_frames.proofs.Feeding.{is_part, is_reading, block_part, part_block, head_none, block_takes, block_refuses, block_ends, inside_part, inside_size, room_less}
 use Rattle.pcapng_frames.proofs.reader.Ng.feed_block.Goals as goal
 
 pub gather-taken-requires : goal.gather-taken-requires
 gather-taken-requires c =
-    let none = rw (← c.self.view_is) at c.requires.accepted in
-    let partial = rw (← c.self.view_is) at c.requires.partial in
+    let none = rw (← c.self.view_is) at c.requires.can.accepted in
+    let partial = rw (← c.self.view_is) at c.requires.can.partial in
     let is = rw (← c.self.view_is) at c.requires.stage in
     let b = block_part c.self.inside.cursor c.self.inside.interfaces.items c.self.inside.part.items c.self.inside.tail.items is (is_part _ _ _ _ _ none partial c.self.invariant.7) in
     rw (c.block_need-need.ensures, c.as_slice.ensures.value) (omega (arith, block_bound _ _ _ _ b.accepted, c.self.invariant.0))
 
 pub returns-in-Some-clause-fed : goal.returns-in-Some-clause-fed
 returns-in-Some-clause-fed c =
-    let none = rw (← c.self.view_is) at c.requires.accepted in
-    let partial = rw (← c.self.view_is) at c.requires.partial in
+    let none = rw (← c.self.view_is) at c.requires.can.accepted in
+    let partial = rw (← c.self.view_is) at c.requires.can.partial in
     let is = rw (← c.self.view_is) at c.requires.stage in
     let b = block_part c.self.inside.cursor c.self.inside.interfaces.items c.self.inside.part.items c.self.inside.tail.items is (is_part _ _ _ _ _ none partial c.self.invariant.7) in
     let some = c.in-Some.is in
@@ -34,8 +33,8 @@ returns-in-Some-clause-fed c =
 
 pub invariant_of-self-then-part-block_need : goal.invariant_of-self-then-part-block_need
 invariant_of-self-then-part-block_need c =
-    let none = rw (← c.self.view_is) at c.requires.accepted in
-    let partial = rw (← c.self.view_is) at c.requires.partial in
+    let none = rw (← c.self.view_is) at c.requires.can.accepted in
+    let partial = rw (← c.self.view_is) at c.requires.can.partial in
     let is = rw (← c.self.view_is) at c.requires.stage in
     let b = block_part c.self.inside.cursor c.self.inside.interfaces.items c.self.inside.part.items c.self.inside.tail.items is (is_part _ _ _ _ _ none partial c.self.invariant.7) in
     let absent = c.in-None.is in
@@ -43,7 +42,7 @@ invariant_of-self-then-part-block_need c =
     let needed = c.block_need.ensures in
     let need = rw c.as_slice-part.ensures.value at needed in
     let slice = ap length c.as_slice-part.ensures.value in
-    let bounded = rw (← c.self.view_is, is) at c.requires.bounded in (
+    let bounded = rw (← c.self.view_is, is) at c.requires.can.bounded in (
       omega (arith, c.self.invariant.0, c.gather-taken.ensures.capacity),
       c.self.invariant.1,
       c.self.invariant.2,
@@ -57,8 +56,8 @@ invariant_of-self-then-part-block_need c =
 
 pub returns-then-part-block_need-clause-fed : goal.returns-then-part-block_need-clause-fed
 returns-then-part-block_need-clause-fed c =
-    let none = rw (← c.self.view_is) at c.requires.accepted in
-    let partial = rw (← c.self.view_is) at c.requires.partial in
+    let none = rw (← c.self.view_is) at c.requires.can.accepted in
+    let partial = rw (← c.self.view_is) at c.requires.can.partial in
     let is = rw (← c.self.view_is) at c.requires.stage in
     let b = block_part c.self.inside.cursor c.self.inside.interfaces.items c.self.inside.part.items c.self.inside.tail.items is (is_part _ _ _ _ _ none partial c.self.invariant.7) in
     record {
@@ -73,65 +72,50 @@ returns-then-part-block_need-clause-fed c =
 
 pub kind_at-kind-requires : goal.kind_at-kind-requires
 kind_at-kind-requires c =
-    let none = rw (← c.self.view_is) at c.requires.accepted in
-    let partial = rw (← c.self.view_is) at c.requires.partial in
+    let none = rw (← c.self.view_is) at c.requires.can.accepted in
+    let partial = rw (← c.self.view_is) at c.requires.can.partial in
     let is = rw (← c.self.view_is) at c.requires.stage in
     let b = block_part c.self.inside.cursor c.self.inside.interfaces.items c.self.inside.part.items c.self.inside.tail.items is (is_part _ _ _ _ _ none partial c.self.invariant.7) in
-    let absent = c.in-None.is in
-    let accepted = rw (c.block_refusal-refusal.ensures, c.as_slice-part.ensures.value, c.as_slice-interfaces.ensures.value) at absent in
     let needed = c.block_need.ensures in
     let need = rw c.as_slice-part.ensures.value at needed in
     let slice = ap length c.as_slice-part.ensures.value in
-    let first = c.block_need-need.ensures in
-    let before = rw c.as_slice.ensures.value at first in
-    let taken = length-take-le c.gather-taken.result c.args.piece.now c.gather-taken.ensures.within in
-    let keeps = block_keeps c.self.inside.cursor.order c.self.inside.part.items (take c.gather-taken.result c.args.piece.now) b.partial (omega (arith, taken, before, c.gather-taken.ensures.taken)) in
-    let kept = rw (← c.gather-taken.ensures.moved) at keeps in
-    let least = need_eight c.self.inside.cursor.order c.gather-taken.new.part.items in
-    omega (arith, need, slice, kept, least, c.if-part-block_need.false)
+    let first = rw c.as_slice.ensures.value at c.block_need-need.ensures in
+    let came = block_came c.self.inside.cursor.order c.self.inside.part.items c.args.piece.now c.gather-taken.new.part.items c.gather-taken.result b.partial (rw first at c.gather-taken.ensures.taken) c.gather-taken.ensures.moved
+    (omega (arith, need, slice, c.if-part-block_need.false)) in
+    omega (arith, slice, came.0)
 
 pub after_block-self-inside-requires-clause-long : goal.after_block-self-inside-requires-clause-long
 after_block-self-inside-requires-clause-long c =
-    let none = rw (← c.self.view_is) at c.requires.accepted in
-    let partial = rw (← c.self.view_is) at c.requires.partial in
+    let none = rw (← c.self.view_is) at c.requires.can.accepted in
+    let partial = rw (← c.self.view_is) at c.requires.can.partial in
     let is = rw (← c.self.view_is) at c.requires.stage in
     let b = block_part c.self.inside.cursor c.self.inside.interfaces.items c.self.inside.part.items c.self.inside.tail.items is (is_part _ _ _ _ _ none partial c.self.invariant.7) in
-    let absent = c.in-None.is in
-    let accepted = rw (c.block_refusal-refusal.ensures, c.as_slice-part.ensures.value, c.as_slice-interfaces.ensures.value) at absent in
     let needed = c.block_need.ensures in
     let need = rw c.as_slice-part.ensures.value at needed in
     let slice = ap length c.as_slice-part.ensures.value in
-    let first = c.block_need-need.ensures in
-    let before = rw c.as_slice.ensures.value at first in
-    let taken = length-take-le c.gather-taken.result c.args.piece.now c.gather-taken.ensures.within in
-    let keeps = block_keeps c.self.inside.cursor.order c.self.inside.part.items (take c.gather-taken.result c.args.piece.now) b.partial (omega (arith, taken, before, c.gather-taken.ensures.taken)) in
-    let kept = rw (← c.gather-taken.ensures.moved) at keeps in
-    let least = need_eight c.self.inside.cursor.order c.gather-taken.new.part.items in
-    omega (arith, need, slice, kept, least, c.if-part-block_need.false)
+    let first = rw c.as_slice.ensures.value at c.block_need-need.ensures in
+    let came = block_came c.self.inside.cursor.order c.self.inside.part.items c.args.piece.now c.gather-taken.new.part.items c.gather-taken.result b.partial (rw first at c.gather-taken.ensures.taken) c.gather-taken.ensures.moved
+    (omega (arith, need, slice, c.if-part-block_need.false)) in
+    omega (arith, slice, came.0)
 
 pub after_block-self-inside-requires-clause-whole : goal.after_block-self-inside-requires-clause-whole
 after_block-self-inside-requires-clause-whole c =
-    let none = rw (← c.self.view_is) at c.requires.accepted in
-    let partial = rw (← c.self.view_is) at c.requires.partial in
+    let none = rw (← c.self.view_is) at c.requires.can.accepted in
+    let partial = rw (← c.self.view_is) at c.requires.can.partial in
     let is = rw (← c.self.view_is) at c.requires.stage in
     let b = block_part c.self.inside.cursor c.self.inside.interfaces.items c.self.inside.part.items c.self.inside.tail.items is (is_part _ _ _ _ _ none partial c.self.invariant.7) in
-    let absent = c.in-None.is in
-    let accepted = rw (c.block_refusal-refusal.ensures, c.as_slice-part.ensures.value, c.as_slice-interfaces.ensures.value) at absent in
     let needed = c.block_need.ensures in
     let need = rw c.as_slice-part.ensures.value at needed in
     let slice = ap length c.as_slice-part.ensures.value in
-    let first = c.block_need-need.ensures in
-    let before = rw c.as_slice.ensures.value at first in
-    let taken = length-take-le c.gather-taken.result c.args.piece.now c.gather-taken.ensures.within in
-    let keeps = block_keeps c.self.inside.cursor.order c.self.inside.part.items (take c.gather-taken.result c.args.piece.now) b.partial (omega (arith, taken, before, c.gather-taken.ensures.taken)) in
-    let kept = rw (← c.gather-taken.ensures.moved) at keeps in
-    let least = need_eight c.self.inside.cursor.order c.gather-taken.new.part.items in
-    rw c.as_slice-part.ensures.value (omega (arith, need, slice, kept, least, c.if-part-block_need.false))
+    let first = rw c.as_slice.ensures.value at c.block_need-need.ensures in
+    let came = block_came c.self.inside.cursor.order c.self.inside.part.items c.args.piece.now c.gather-taken.new.part.items c.gather-taken.result b.partial (rw first at c.gather-taken.ensures.taken) c.gather-taken.ensures.moved
+    (omega (arith, need, slice, c.if-part-block_need.false)) in
+    rw c.as_slice-part.ensures.value came.1
 
 pub returns-clause-fed : goal.returns-clause-fed
 returns-clause-fed c =
-    let none = rw (← c.self.view_is) at c.requires.accepted in
-    let partial = rw (← c.self.view_is) at c.requires.partial in
+    let none = rw (← c.self.view_is) at c.requires.can.accepted in
+    let partial = rw (← c.self.view_is) at c.requires.can.partial in
     let is = rw (← c.self.view_is) at c.requires.stage in
     let b = block_part c.self.inside.cursor c.self.inside.interfaces.items c.self.inside.part.items c.self.inside.tail.items is (is_part _ _ _ _ _ none partial c.self.invariant.7) in
     let absent = c.in-None.is in
@@ -139,12 +123,9 @@ returns-clause-fed c =
     let needed = c.block_need.ensures in
     let need = rw c.as_slice-part.ensures.value at needed in
     let slice = ap length c.as_slice-part.ensures.value in
-    let first = c.block_need-need.ensures in
-    let before = rw c.as_slice.ensures.value at first in
-    let taken = length-take-le c.gather-taken.result c.args.piece.now c.gather-taken.ensures.within in
-    let keeps = block_keeps c.self.inside.cursor.order c.self.inside.part.items (take c.gather-taken.result c.args.piece.now) b.partial (omega (arith, taken, before, c.gather-taken.ensures.taken)) in
-    let kept = rw (← c.gather-taken.ensures.moved) at keeps in
-    let least = need_eight c.self.inside.cursor.order c.gather-taken.new.part.items in
+    let first = rw c.as_slice.ensures.value at c.block_need-need.ensures in
+    let came = block_came c.self.inside.cursor.order c.self.inside.part.items c.args.piece.now c.gather-taken.new.part.items c.gather-taken.result b.partial (rw first at c.gather-taken.ensures.taken) c.gather-taken.ensures.moved
+    (omega (arith, need, slice, c.if-part-block_need.false)) in
     let d = c.after_block-self-inside.ensures in
     let after = d.next in
     let next = rw (c.as_slice-part.ensures.value, c.as_slice-interfaces.ensures.value) at after in
@@ -153,15 +134,15 @@ returns-clause-fed c =
     let kinds = c.kind_at-kind.ensures in
     let of_kind = rw c.as_slice-part.ensures.value at kinds in
     let others = c.settle.ensures.exact ∙ ap (λ k. interfaces_after k c.self.inside.interfaces.items) of_kind in
-    let passed = d.passed in
-    let zero = inside_size c.after_block-self-inside.result c.gather-taken.new.part.items c.clear.new.self.items d.inside c.clear.ensures.items in
+    let passed = d.entered.passed in
+    let zero = inside_size c.after_block-self-inside.result c.gather-taken.new.part.items c.clear.new.self.items d.entered.inside c.clear.ensures.items in
     record {
       within = c.gather-taken.ensures.within;
       counted = rw (← c.self.view_is, is) (omega (arith, c.gather-taken.ensures.grown, passed, slice, zero, d.same));
       bounded = rw (← c.self.view_is, is) (omega (arith, c.gather-taken.ensures.grown, c.gather-taken.ensures.within, passed, slice, zero, d.same));
       takes = rw (← c.self.view_is) (block_ends c.self.inside.cursor c.after_block-self-inside.result c.self.inside.interfaces.items c.settle.new.interfaces.items c.self.inside.part.items c.self.inside.tail.items (take c.gather-taken.result c.args.piece.now) c.gather-taken.new.part.items c.clear.new.self.items _ _ none partial is b.none b.packet c.gather-taken.ensures.moved
-          (omega (arith, need, slice, kept, least, c.if-part-block_need.false)) (omega (arith, need, slice, kept, least, c.if-part-block_need.false)) accepted
-          (ap (λ z. place_of c.after_block-self-inside.result z c.gather-taken.new.part.items) others ∙ next) size d.inside c.clear.ensures.items);
+          came.0 came.1 accepted
+          (ap (λ z. place_of c.after_block-self-inside.result z c.gather-taken.new.part.items) others ∙ next) size d.entered.inside c.clear.ensures.items);
       accepted = none;
       refused = tt;
       stopped = tt;
@@ -169,35 +150,25 @@ returns-clause-fed c =
 
 pub invariant_of-self-2 : goal.invariant_of-self-2
 invariant_of-self-2 c =
-    let none = rw (← c.self.view_is) at c.requires.accepted in
-    let partial = rw (← c.self.view_is) at c.requires.partial in
+    let none = rw (← c.self.view_is) at c.requires.can.accepted in
+    let partial = rw (← c.self.view_is) at c.requires.can.partial in
     let is = rw (← c.self.view_is) at c.requires.stage in
     let b = block_part c.self.inside.cursor c.self.inside.interfaces.items c.self.inside.part.items c.self.inside.tail.items is (is_part _ _ _ _ _ none partial c.self.invariant.7) in
-    let absent = c.in-None.is in
-    let accepted = rw (c.block_refusal-refusal.ensures, c.as_slice-part.ensures.value, c.as_slice-interfaces.ensures.value) at absent in
-    let needed = c.block_need.ensures in
-    let need = rw c.as_slice-part.ensures.value at needed in
     let slice = ap length c.as_slice-part.ensures.value in
-    let first = c.block_need-need.ensures in
-    let before = rw c.as_slice.ensures.value at first in
-    let taken = length-take-le c.gather-taken.result c.args.piece.now c.gather-taken.ensures.within in
-    let keeps = block_keeps c.self.inside.cursor.order c.self.inside.part.items (take c.gather-taken.result c.args.piece.now) b.partial (omega (arith, taken, before, c.gather-taken.ensures.taken)) in
-    let kept = rw (← c.gather-taken.ensures.moved) at keeps in
-    let least = need_eight c.self.inside.cursor.order c.gather-taken.new.part.items in
     let d = c.after_block-self-inside.ensures in
-    let bounded = rw (← c.self.view_is, is) at c.requires.bounded in
-    let headed = d.head in
+    let bounded = rw (← c.self.view_is, is) at c.requires.can.bounded in
+    let headed = d.entered.head in
     let head = rw c.as_slice-part.ensures.value at headed in
     let interfaces = ap length c.as_slice-interfaces.ensures.value in
-    let passed = d.passed in
-    let zero = inside_size c.after_block-self-inside.result c.gather-taken.new.part.items c.clear.new.self.items d.inside c.clear.ensures.items in (
+    let passed = d.entered.passed in
+    let zero = inside_size c.after_block-self-inside.result c.gather-taken.new.part.items c.clear.new.self.items d.entered.inside c.clear.ensures.items in (
       omega (arith, c.self.invariant.0, c.gather-taken.ensures.capacity),
       omega (arith, c.self.invariant.1, c.clear.ensures.capacity),
       omega (arith, c.self.invariant.2, c.settle.ensures.capacity),
       c.settle.ensures.resolved,
-      d.resolved,
+      d.entered.resolved,
       head,
       omega (arith, c.gather-taken.ensures.grown, c.gather-taken.ensures.within, passed, slice, zero, d.same),
-      is_reading _ _ _ _ _ none partial (inside_part c.after_block-self-inside.result c.settle.new.interfaces.items c.gather-taken.new.part.items c.clear.new.self.items d.inside d.ahead d.unpacked
+      is_reading _ _ _ _ _ none partial (inside_part c.after_block-self-inside.result c.settle.new.interfaces.items c.gather-taken.new.part.items c.clear.new.self.items _ _ d.entered
           (room_less _ _ _ (omega (arith, interfaces, c.settle.ensures.fewer)) d.room) c.clear.ensures.items),
     )

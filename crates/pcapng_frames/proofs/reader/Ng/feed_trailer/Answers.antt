@@ -7,8 +7,8 @@ use Rattle.pcapng_frames.proofs.reader.Ng.feed_trailer.Goals as goal
 
 pub returns-in-Some-clause-fed : goal.returns-in-Some-clause-fed
 returns-in-Some-clause-fed c =
-    let none = rw (← c.self.view_is) at c.requires.accepted in
-    let partial = rw (← c.self.view_is) at c.requires.partial in
+    let none = rw (← c.self.view_is) at c.requires.can.accepted in
+    let partial = rw (← c.self.view_is) at c.requires.can.partial in
     let is = rw (← c.self.view_is) at c.requires.stage in
     let zero = rw (← c.self.view_is) at c.requires.ready in
     let b = trailer_part c.self.inside.cursor c.self.inside.interfaces.items c.self.inside.part.items c.self.inside.tail.items is (is_part _ _ _ _ _ none partial c.self.invariant.7) in
@@ -30,15 +30,15 @@ returns-in-Some-clause-fed c =
 
 pub invariant_of-self-then-tail-lt4 : goal.invariant_of-self-then-tail-lt4
 invariant_of-self-then-tail-lt4 c =
-    let none = rw (← c.self.view_is) at c.requires.accepted in
-    let partial = rw (← c.self.view_is) at c.requires.partial in
+    let none = rw (← c.self.view_is) at c.requires.can.accepted in
+    let partial = rw (← c.self.view_is) at c.requires.can.partial in
     let is = rw (← c.self.view_is) at c.requires.stage in
     let zero = rw (← c.self.view_is) at c.requires.ready in
     let b = trailer_part c.self.inside.cursor c.self.inside.interfaces.items c.self.inside.part.items c.self.inside.tail.items is (is_part _ _ _ _ _ none partial c.self.invariant.7) in
     let absent = c.in-None.is in
     let accepted = rw (c.trailer_refusal-refusal.ensures, c.order_or_little-order.ensures, c.from.ensures, c.as_slice-tail.ensures.value) at absent in
     let slice = ap length c.as_slice-tail.ensures.value in
-    let bounded = rw (← c.self.view_is, is) at c.requires.bounded in (
+    let bounded = rw (← c.self.view_is, is) at c.requires.can.bounded in (
       c.self.invariant.0,
       omega (arith, c.self.invariant.1, c.gather-taken.ensures.capacity),
       c.self.invariant.2,
@@ -52,8 +52,8 @@ invariant_of-self-then-tail-lt4 c =
 
 pub returns-then-tail-lt4-clause-fed : goal.returns-then-tail-lt4-clause-fed
 returns-then-tail-lt4-clause-fed c =
-    let none = rw (← c.self.view_is) at c.requires.accepted in
-    let partial = rw (← c.self.view_is) at c.requires.partial in
+    let none = rw (← c.self.view_is) at c.requires.can.accepted in
+    let partial = rw (← c.self.view_is) at c.requires.can.partial in
     let is = rw (← c.self.view_is) at c.requires.stage in
     let zero = rw (← c.self.view_is) at c.requires.ready in
     let b = trailer_part c.self.inside.cursor c.self.inside.interfaces.items c.self.inside.part.items c.self.inside.tail.items is (is_part _ _ _ _ _ none partial c.self.invariant.7) in
@@ -73,8 +73,8 @@ returns-then-tail-lt4-clause-fed c =
 
 pub returns-then-is_some-clause-fed : goal.returns-then-is_some-clause-fed
 returns-then-is_some-clause-fed c =
-    let none = rw (← c.self.view_is) at c.requires.accepted in
-    let partial = rw (← c.self.view_is) at c.requires.partial in
+    let none = rw (← c.self.view_is) at c.requires.can.accepted in
+    let partial = rw (← c.self.view_is) at c.requires.can.partial in
     let is = rw (← c.self.view_is) at c.requires.stage in
     let zero = rw (← c.self.view_is) at c.requires.ready in
     let b = trailer_part c.self.inside.cursor c.self.inside.interfaces.items c.self.inside.part.items c.self.inside.tail.items is (is_part _ _ _ _ _ none partial c.self.invariant.7) in
@@ -99,8 +99,8 @@ returns-then-is_some-clause-fed c =
 
 pub returns-clause-fed : goal.returns-clause-fed
 returns-clause-fed c =
-    let none = rw (← c.self.view_is) at c.requires.accepted in
-    let partial = rw (← c.self.view_is) at c.requires.partial in
+    let none = rw (← c.self.view_is) at c.requires.can.accepted in
+    let partial = rw (← c.self.view_is) at c.requires.can.partial in
     let is = rw (← c.self.view_is) at c.requires.stage in
     let zero = rw (← c.self.view_is) at c.requires.ready in
     let b = trailer_part c.self.inside.cursor c.self.inside.interfaces.items c.self.inside.part.items c.self.inside.tail.items is (is_part _ _ _ _ _ none partial c.self.invariant.7) in
@@ -131,13 +131,13 @@ returns-clause-fed c =
 
 pub invariant_of-self-2 : goal.invariant_of-self-2
 invariant_of-self-2 c =
-    let none = rw (← c.self.view_is) at c.requires.accepted in
-    let partial = rw (← c.self.view_is) at c.requires.partial in
+    let none = rw (← c.self.view_is) at c.requires.can.accepted in
+    let partial = rw (← c.self.view_is) at c.requires.can.partial in
     let is = rw (← c.self.view_is) at c.requires.stage in
     let zero = rw (← c.self.view_is) at c.requires.ready in
     let b = trailer_part c.self.inside.cursor c.self.inside.interfaces.items c.self.inside.part.items c.self.inside.tail.items is (is_part _ _ _ _ _ none partial c.self.invariant.7) in
     let d = c.after_trailer-self-inside.ensures in
-    let bounded = rw (← c.self.view_is, is, zero) at c.requires.bounded in
+    let bounded = rw (← c.self.view_is, is, zero) at c.requires.can.bounded in
     let slice = ap length c.as_slice-tail.ensures.value in (
       omega (arith, c.self.invariant.0, c.clear.ensures.capacity),
       omega (arith, c.self.invariant.1, c.gather-taken.ensures.capacity, c.clear-2.ensures.capacity),
@@ -151,12 +151,12 @@ invariant_of-self-2 c =
 
 pub invariant_of-self-then-is_some : goal.invariant_of-self-then-is_some
 invariant_of-self-then-is_some c =
-    let none = rw (← c.self.view_is) at c.requires.accepted in
-    let partial = rw (← c.self.view_is) at c.requires.partial in
+    let none = rw (← c.self.view_is) at c.requires.can.accepted in
+    let partial = rw (← c.self.view_is) at c.requires.can.partial in
     let is = rw (← c.self.view_is) at c.requires.stage in
     let zero = rw (← c.self.view_is) at c.requires.ready in
     let b = trailer_part c.self.inside.cursor c.self.inside.interfaces.items c.self.inside.part.items c.self.inside.tail.items is (is_part _ _ _ _ _ none partial c.self.invariant.7) in
-    let bounded = rw (← c.self.view_is, is) at c.requires.bounded in
+    let bounded = rw (← c.self.view_is, is) at c.requires.can.bounded in
     let slice = ap length c.as_slice-tail.ensures.value in (
       c.self.invariant.0,
       omega (arith, c.self.invariant.1, c.gather-taken.ensures.capacity),

@@ -1,7 +1,7 @@
 use Rattle.std.proofs.Common.{sym, ◌∙◌, arith}
 use Rattle.pcapng_frames.specs.declared.block.Kind.TheVariants as kind
 use Rattle.pcapng_frames.proofs.Heads.{head_known, packet_known, packet_opened, kind_accepted}
-use Rattle.pcapng_frames.proofs.layout.after_block.Goals as goal
+use Rattle.pcapng_frames.proofs.steps.after_block.Goals as goal
 
 pub after_section-requires-clause-whole : goal.after_section-requires-clause-whole
 after_section-requires-clause-whole c = head_known kind.Section c.args.cursor.order c.args.part.now c.requires.long c.requires.whole (sym c.kind_at.ensures ∙ c.in-Section.is)

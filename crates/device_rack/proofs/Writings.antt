@@ -1,0 +1,79 @@
+-- Bytes that a sink took, one piece after the other.
+use Rattle.std.proofs.Common.{◌≡◌, ℕ, ◌+◌, ◌-◌, List, ◌++◌, length, take, drop, Option, refl, sym, ap, subst, ◌∙◌, append_assoc, arith, length-drop, take-append-drop}
+use Rattle.std.proofs.lemmas.List.{take_all}
+use Rattle.std.proofs.Math.Seq.{take-add}
+use Rattle.std.specs.Prelude.{Result, Ok, Err, IsErr}
+use Rattle.avtp_base.proofs.Told.{Appends-trans, Appends-kept}
+use Rattle.avtp_base.specs.declared.failed.Failed.{Failed}
+use Rattle.avtp_base.specs.Told.{Appends, Keeps}
+use Rattle.avtp_base.specs.Faults.{IsCounted}
+use Rattle.device_rack.specs.Written.{AppendsPrefix, HasWritten}
+
+-- a sink took the front of the bytes, and then more of them
+pub taken_more : (a b c : Option (List ℕ)) (bytes : List ℕ) (taken n : ℕ)
+    → Appends a b (take taken bytes) → Appends b c (take n (take (length bytes - taken) (drop taken bytes)))
+    → Appends a c (take (taken + n) bytes)
+taken_more a b c bytes taken n first second =
+    let rest : take (length bytes - taken) (drop taken bytes) ≡ drop taken bytes = take_all (length bytes - taken) (drop taken bytes) (simp length-drop (omega arith)) in
+    rw (take-add taken n bytes) (Appends-trans a b c (take taken bytes) (take n (drop taken bytes)) first (subst (λ (l : List ℕ). Appends b c (take n l)) rest second))
+
+-- what it took of the first bytes is a part of all
+prefix_of_all : (a b : Option (List ℕ)) (xs ys : List ℕ) → AppendsPrefix a b xs → AppendsPrefix a b (xs ++ ys)
+prefix_of_all a b xs ys taken =
+    let part = taken.0 in
+    let rest = taken.1.0 in
+    let is : part ++ rest ≡ xs = taken.1.1 in
+    (part, (rest ++ ys, sym (append_assoc part rest ys) ∙ ap (λ (zs : List ℕ). zs ++ ys) is), taken.2)
+
+-- all of the first bytes, and a part of the next
+prefix_behind : (a b c : Option (List ℕ)) (xs ys : List ℕ) → Appends a b xs → AppendsPrefix b c ys → AppendsPrefix a c (xs ++ ys)
+prefix_behind a b c xs ys first taken =
+    let part = taken.0 in
+    let rest = taken.1.0 in
+    let is : part ++ rest ≡ ys = taken.1.1 in
+    (xs ++ part, (rest, append_assoc xs part rest ∙ ap (λ (zs : List ℕ). xs ++ zs) is), Appends-trans a b c xs part first taken.2)
+
+-- a count that stayed, and then the count of a call
+counted-then : {T U : Type 0} (f g h : ℕ) (e e' : Failed) → g ≡ f → IsCounted {T = T} g h (Err e) → IsCounted {T = U} f h (Err e')
+counted-then f g h e e' quiet counted = record {
+  never_falls = rw (← quiet) counted.never_falls;
+  ok = tt;
+  failed = rw (← quiet) counted.failed;
+}
+
+-- bytes were written, and then more
+pub HasWritten-then : {T : Type 0} (a b c : Option (List ℕ)) (f g h : ℕ) (r : Result T Failed) (xs ys : List ℕ)
+    → Appends a b xs → g ≡ f → HasWritten b c g h r ys → HasWritten a c f h r (xs ++ ys)
+HasWritten-then {T} a b c f g h (Ok x) xs ys first quiet written = record {
+  whole = Appends-trans a b c xs ys first written.whole;
+  part = tt;
+  counted = subst (λ (k : ℕ). IsCounted {T = T} k h (Ok x)) quiet written.counted;
+}
+HasWritten-then {T} a b c f g h (Err e) xs ys first quiet written = record {
+  whole = tt;
+  part = prefix_behind a b c xs ys first written.part;
+  counted = counted-then f g h e e quiet written.counted;
+}
+
+-- the sink failed before the rest came
+pub HasWritten-cut : {T U : Type 0} (a b : Option (List ℕ)) (f g : ℕ) (e : Failed) (r : Result U Failed) (xs ys : List ℕ)
+    → HasWritten {T = T} a b f g (Err e) xs → IsErr r → HasWritten a b f g r (xs ++ ys)
+HasWritten-cut a b f g e (Ok x) xs ys written fails = absurd cc
+HasWritten-cut a b f g e (Err e') xs ys written is = record {
+  whole = tt;
+  part = prefix_of_all a b xs ys written.part;
+  counted = counted-then f f g e e' refl written.counted;
+}
+
+-- the sink took the front of the bytes, and failed
+pub HasWritten-stopped : {T U : Type 0} (a b c : Option (List ℕ)) (f g h : ℕ) (e : Failed) (r : Result U Failed) (bytes : List ℕ) (taken : ℕ)
+    → Appends a b (take taken bytes) → g ≡ f → Keeps b c → IsCounted {T = T} g h (Err e) → IsErr r → HasWritten a c f h r bytes
+HasWritten-stopped a b c f g h e (Ok x) bytes taken first quiet kept counted fails = absurd cc
+HasWritten-stopped a b c f g h e (Err e') bytes taken first quiet kept counted is = record {
+  whole = tt;
+  part = (take taken bytes, (drop taken bytes, take-append-drop taken bytes), Appends-kept a b c (take taken bytes) first kept);
+  counted = counted-then f g h e e' quiet counted;
+}
+
+pub HasWritten-same : {T : Type 0} (a b : Option (List ℕ)) (f g : ℕ) (r : Result T Failed) (xs ys : List ℕ) → xs ≡ ys → HasWritten a b f g r xs → HasWritten a b f g r ys
+HasWritten-same {T} a b f g r xs ys same written = subst (λ (zs : List ℕ). HasWritten {T = T} a b f g r zs) same written

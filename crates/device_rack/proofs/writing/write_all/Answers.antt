@@ -1,0 +1,19 @@
+use Rattle.std.proofs.Common.{arith, rules, length-take, length-drop}
+use Rattle.device_rack.proofs.Writings.{HasWritten-stopped, taken_more}
+use Rattle.device_rack.proofs.writing.write_all.Goals as goal
+
+pub loop-written-preserved : goal.loop-written-preserved
+loop-written-preserved g c = record {
+  within = let more = simp (length-take, length-drop) at c.in_ok-written.ensures.within in omega arith;
+  took = taken_more (g.S.Output.held c.args.sink.now) (g.S.Output.held c.loop-written.sink) (g.S.Output.held c.write_some.new.self)
+      c.args.bytes.now c.loop-written.written c.in_ok-written.field-0 c.loop-written.invariant.took c.in_ok-written.ensures.appends;
+  quiet = search rules;
+}
+
+pub returns-in_err-written : goal.returns-in_err-written
+returns-in_err-written g c =
+    let was = c.loop-written.invariant in
+    HasWritten-stopped (g.S.Output.held c.args.sink.now) (g.S.Output.held c.loop-written.sink) (g.S.Output.held c.write_some.new.self)
+    (g.S.Output.faults c.args.sink.now) (g.S.Output.faults c.loop-written.sink) (g.S.Output.faults c.write_some.new.self)
+    c.in_err-written.field-0.0 c.from_residual.result c.args.bytes.now c.loop-written.written
+    was.took was.quiet c.in_err-written.ensures.appends c.in_err-written.ensures.counted c.from_residual.ensures.0

@@ -1,0 +1,17 @@
+-- What the NAL units of a byte stream are.
+use Rattle.std.specs.Prelude.{◌≢◌, ℕ, ◌-◌, ◌<◌, List, length, map, slice_index}
+use Rattle.std.specs.List.{slice_range}
+use Rattle.memchr.specs.Find.{OccursAt}
+use Rattle.cvf_format.specs.AnnexB.{nal_units, start_code, three_zeros}
+
+-- A byte stream can carry these bytes as one unit: there are some, no start code and no three zeros stand among them, and
+-- the last is not zero.
+pub record IsCarried (bytes : List ℕ) : Type 0 where
+  pub some : 0 < length bytes
+  pub no_start_code : (k : ℕ) → ¬ OccursAt bytes start_code k
+  pub no_three_zeros : (k : ℕ) → ¬ OccursAt bytes three_zeros k
+  pub last : slice_index bytes (length bytes - 1) ≢ 0
+
+-- the NAL units of a byte stream, as their bytes
+abbrev pub nal_units_of : List ℕ → List (List ℕ)
+nal_units_of bytes = map (λ (range : ℕ × ℕ). slice_range bytes range.0 range.1) (nal_units bytes)

@@ -1,0 +1,66 @@
+-- What a device leaves in its sink.
+use Rattle.std.specs.Prelude.{◌≡◌, ℕ, Bool, false, List, ◌++◌, ⊤, Option, None, Some, Result, OnOk, OnErr}
+use Rattle.std.specs.List.{last_or}
+use mathlib.Core.List.{IsPrefix}
+use Rattle.avtp_base.specs.declared.failed.Failed.{Failed}
+use Rattle.avtp_base.specs.Faults.{IsCounted}
+use Rattle.avtp_base.specs.Told.{Appends}
+use Rattle.sample_schedule.specs.Batches.{Presented, sample_instant}
+use Rattle.sample_schedule.specs.declared.shown.Shown.{Shown}
+use Rattle.device_rack.specs.declared.annex_b.AnnexBDevice.{AnnexBDevice}
+use Rattle.device_rack.specs.declared.previous.Previous.{Previous}
+use Rattle.device_rack.specs.declared.raw.RawDevice.{RawDevice}
+use Rattle.device_rack.specs.declared.silence.Silence.{Silence}
+use Rattle.device_rack.specs.Output.{annexb, raw, sample_batches, sample_size}
+
+-- told bytes grow by a prefix of bs
+abbrev pub AppendsPrefix : Option (List ℕ) → Option (List ℕ) → List ℕ → Type 0
+AppendsPrefix before after bs = (part : List ℕ) × IsPrefix part bs × Appends before after part
+
+-- A sink was given bytes: it took all of them at Ok, and a prefix where it failed, and its count rose there alone.
+pub record HasWritten {T : Type 0} (held held' : Option (List ℕ)) (faults faults' : ℕ) (result : Result T Failed) (bytes : List ℕ) : Type 0 where
+  pub whole : OnOk result (Appends held held' bytes)
+  pub part : OnErr result (AppendsPrefix held held' bytes)
+  pub counted : IsCounted faults faults' result
+
+-- what is kept of a batch: its line, the instant behind its last sample, and the bytes of one sample
+pub record IsPrevious (previous : Previous) (batch : Presented) : Type 0 where
+  pub line : previous.line ≡ batch.line
+  pub end : previous.end ≡ sample_instant batch batch.count
+  pub size : previous.size ≡ sample_size batch
+
+abbrev pub IsPreviousOf : Option Previous → Option Presented → Type 0
+IsPreviousOf None None = ⊤
+IsPreviousOf None (Some batch) = ⊥
+IsPreviousOf (Some previous) None = ⊥
+IsPreviousOf (Some previous) (Some batch) = IsPrevious previous batch
+
+-- what a device shows: its sink, whether it has failed, what stands for missing samples
+module _ {S : Type 0} where
+  abbrev pub raw_sink : RawDevice S → S
+  raw_sink device = device.sink
+
+  abbrev pub raw_failed : RawDevice S → Bool
+  raw_failed device = device.failed
+
+  abbrev pub silence_in : RawDevice S → Silence
+  silence_in device = device.silence
+
+  abbrev pub annexb_sink : AnnexBDevice S → S
+  annexb_sink device = device.sink
+
+  abbrev pub annexb_failed : AnnexBDevice S → Bool
+  annexb_failed device = device.failed
+
+  -- The device has taken these items, in this order, since its sink held `start`: the sink holds their output behind that,
+  -- as long as the device has not failed.
+  pub record HasTakenRaw (held : S → Option (List ℕ)) (start : Option (List ℕ)) (device : RawDevice S) (items : List Shown) : Type 0 where
+    pub previous : IsPreviousOf device.previous (last_or None (sample_batches items))
+    pub holds : raw_failed device ≡ false → Appends start (held (raw_sink device)) (raw (silence_in device) items)
+
+  abbrev pub HasTakenUnits : (S → Option (List ℕ)) → Option (List ℕ) → AnnexBDevice S → List Shown → Type 0
+  HasTakenUnits held start device items = annexb_failed device ≡ false → Appends start (held (annexb_sink device)) (annexb items)
+
+-- told bytes grow by all of bs and then by a part, and both are a prefix of more
+abbrev pub AppendsUpTo : Option (List ℕ) → Option (List ℕ) → List ℕ → List ℕ → Type 0
+AppendsUpTo before after bs more = (part : List ℕ) × IsPrefix (bs ++ part) more × Appends before after (bs ++ part)

@@ -1,0 +1,75 @@
+//! A byte stream of H.264 units.
+
+use crate::unit::is_unit;
+use crate::writing::write_unit;
+use avtp_base::{Failed, Sink};
+use sample_schedule::{Device, Shown};
+
+/// Writes the units that it takes to a sink, in the order in which they come, each after a start code (ITU-T H.264,
+/// annex B). Samples and flags add nothing.
+///
+/// As long as no `take` has failed, the sink holds what it held at first and then all of it. The first `take` that fails
+/// leaves a prefix of what its item adds.
+#[derive(Drop)]
+pub struct AnnexBDevice<S> {
+    sink: S,
+    failed: bool,
+}
+
+impl<S: Sink + Drop> AnnexBDevice<S> {
+    ghost use Rattle.std.specs.Prelude.{◌≡◌, [], false};
+    ghost use Rattle.device_rack.specs.Written.{HasTakenUnits, annexb_failed, annexb_sink};
+
+    /// A device that has taken nothing. Takes no memory, and writes nothing.
+    pub fn over(sink: S) -> Self
+        ensures new { HasTakenUnits S.held (S.held sink) result [] }
+        ensures sink { annexb_sink result ≡ sink }
+        ensures failed { annexb_failed result ≡ false }
+    {
+        AnnexBDevice {
+            sink,
+            failed: false,
+        }
+    }
+
+    /// What it writes to.
+    pub fn sink(&self) -> &S
+        ensures { result.now ≡ annexb_sink self.now }
+    {
+        &self.sink
+    }
+}
+
+impl<S: Sink + Drop> Device for AnnexBDevice<S> {
+    ghost use Rattle.std.specs.Prelude.{◌≡◌, ◌++◌, [], ◌∷◌, ◌||◌, List, ℕ, false, None, Option, OnOk, OnErr, is_err};
+    ghost use Rattle.avtp_base.specs.Faults.{IsCounted};
+    ghost use Rattle.sample_schedule.specs.declared.shown.Shown.{Shown as ShownValue};
+    ghost use Rattle.device_rack.specs.Output.{annexb};
+    ghost use Rattle.device_rack.specs.Written.{AppendsUpTo, HasTakenUnits, annexb_sink, annexb_failed};
+
+    ghost took = { λ device items. (start : Option (List ℕ)) × HasTakenUnits S.held start device items };
+
+    ghost faults = { λ device. S.faults (annexb_sink device) };
+
+    ghost failing = { λ device. None };
+
+    fn take(&mut self, shown: &Shown) -> Result<(), Failed>
+        ensures took { OnOk result ((start : Option (List ℕ)) (items : List ShownValue) → HasTakenUnits S.held start self.old items → HasTakenUnits S.held start self.new (items ++ shown.now ∷ [])) }
+        ensures refused { OnErr result ((start : Option (List ℕ)) (items : List ShownValue) → HasTakenUnits S.held start self.old items → HasTakenUnits S.held start self.new items) }
+        ensures part { OnErr result (annexb_failed self.old ≡ false → (start : Option (List ℕ)) (items : List ShownValue) → HasTakenUnits S.held start self.old items → AppendsUpTo start (S.held (annexb_sink self.new)) (annexb items) (annexb (items ++ shown.now ∷ []))) }
+        ensures failed { annexb_failed self.new ≡ (annexb_failed self.old || is_err result) }
+        ensures counted { IsCounted (S.faults (annexb_sink self.old)) (S.faults (annexb_sink self.new)) result }
+    {
+        match shown {
+            Shown::Present(batch) if is_unit(batch) => {
+                let written = write_unit(&mut self.sink, batch.bytes.as_slice());
+                match written {
+                    Ok(()) => {}
+                    Err(Failed) => self.failed = true,
+                }
+                written
+            }
+            _ => Ok(()),
+        }
+    }
+}

@@ -1,0 +1,91 @@
+//! A file of raw samples.
+
+use crate::previous::Previous;
+use crate::silence::Silence;
+use crate::unit::is_unit;
+use crate::writing::write_samples;
+use avtp_base::{Failed, Sink};
+use sample_schedule::{Device, Shown};
+
+/// Writes the samples that it takes to a sink, in the order in which they come, with silence where some are missing.
+///
+/// Units and flags add nothing. Between two batches of samples stands silence from the end of the first up to the
+/// beginning of the second, to the nearest whole sample of the first's line, and of at most 16,777,216 bytes; where they
+/// overlap there is none. As long as no `take` has failed, the sink holds what it held at first and then all of it. The
+/// first `take` that fails leaves a prefix of what its item adds.
+#[derive(Drop)]
+pub struct RawDevice<S> {
+    sink: S,
+    silence: Silence,
+    previous: Option<Previous>,
+    failed: bool,
+}
+
+impl<S: Sink + Drop> RawDevice<S> {
+    ghost use Rattle.std.specs.Prelude.{◌≡◌, [], false};
+    ghost use Rattle.device_rack.specs.Written.{HasTakenRaw, raw_failed, raw_sink, silence_in};
+
+    /// A device that has taken nothing. Takes no memory, and writes nothing.
+    pub fn over(sink: S, silence: Silence) -> Self
+        ensures new { HasTakenRaw S.held (S.held sink) result [] }
+        ensures sink { raw_sink result ≡ sink }
+        ensures silence { silence_in result ≡ silence }
+        ensures failed { raw_failed result ≡ false }
+    {
+        RawDevice {
+            sink,
+            silence,
+            previous: None,
+            failed: false,
+        }
+    }
+
+    /// What it writes to.
+    pub fn sink(&self) -> &S
+        ensures { result.now ≡ raw_sink self.now }
+    {
+        &self.sink
+    }
+}
+
+impl<S: Sink + Drop> Device for RawDevice<S> {
+    ghost use Rattle.std.specs.Prelude.{◌≡◌, ◌++◌, [], ◌∷◌, ◌||◌, List, ℕ, false, None, Option, OnOk, OnErr, IfSome, is_err};
+    ghost use Rattle.avtp_base.specs.Faults.{IsCounted};
+    ghost use Rattle.sample_schedule.specs.Devices.{FailsAsTold};
+    ghost use Rattle.sample_schedule.specs.declared.shown.Shown.{Shown as ShownValue};
+    ghost use Rattle.device_rack.specs.Output.{raw};
+    ghost use Rattle.device_rack.specs.Written.{AppendsUpTo, HasTakenRaw, raw_sink, raw_failed, silence_in};
+
+    ghost took = { λ device items. (start : Option (List ℕ)) × HasTakenRaw S.held start device items };
+
+    ghost faults = { λ device. S.faults (raw_sink device) };
+
+    ghost failing = { λ device. None };
+
+    fn take(&mut self, shown: &Shown) -> Result<(), Failed>
+        ensures took { OnOk result ((start : Option (List ℕ)) (items : List ShownValue) → HasTakenRaw S.held start self.old items → HasTakenRaw S.held start self.new (items ++ shown.now ∷ [])) }
+        ensures refused { OnErr result ((start : Option (List ℕ)) (items : List ShownValue) → HasTakenRaw S.held start self.old items → HasTakenRaw S.held start self.new items) }
+        ensures part { OnErr result (raw_failed self.old ≡ false → (start : Option (List ℕ)) (items : List ShownValue) → HasTakenRaw S.held start self.old items → AppendsUpTo start (S.held (raw_sink self.new)) (raw (silence_in self.old) items) (raw (silence_in self.old) (items ++ shown.now ∷ []))) }
+        ensures failed { raw_failed self.new ≡ (raw_failed self.old || is_err result) }
+        ensures silence { silence_in self.new ≡ silence_in self.old }
+        ensures counted { IsCounted (S.faults (raw_sink self.old)) (S.faults (raw_sink self.new)) result }
+    {
+        match shown {
+            Shown::Present(batch) if !is_unit(batch) => {
+                let silent = Previous::silent_before(&self.previous, batch);
+                let written = write_samples(
+                    &mut self.sink,
+                    self.silence,
+                    silent,
+                    batch.bytes.as_slice(),
+                );
+                match written {
+                    Ok(()) => self.previous = Some(Previous::of(batch)),
+                    Err(Failed) => self.failed = true,
+                }
+                written
+            }
+            _ => Ok(()),
+        }
+    }
+}

@@ -1,0 +1,42 @@
+//! What stands for samples that are missing.
+
+/// What stands for samples that are missing.
+#[derive(Clone, Copy, Debug, PartialEq, Eq)]
+pub enum Silence {
+    /// Bytes of 0.
+    Zero,
+    /// AM824 quadlets (IEC 61883-6) of the value 0: 40 00 00 00.
+    Am824,
+}
+
+/// The label of an AM824 quadlet of linear audio, which is its first byte.
+const LABEL: u8 = 0x40;
+
+impl Silence {
+    ghost use Rattle.std.specs.Prelude.{◌≡◌};
+    ghost use Rattle.device_rack.specs.Output.{silent_byte, silence_of};
+
+    /// How many bytes a piece of silence has, in whole quadlets.
+    pub(crate) const PIECE: usize = 1024;
+
+    /// Byte `j` of silence.
+    fn byte(self, j: usize) -> u8
+        ensures { result ≡ silent_byte self j }
+    {
+        match self {
+            Silence::Zero => 0,
+            Silence::Am824 => { if j % 4 == 0 { LABEL } else { 0 } }
+        }
+    }
+
+    /// A piece of silence.
+    pub(crate) fn piece(self) -> [u8; 1024]
+        ensures { result ≡ silence_of self Self.PIECE }
+    {
+        let mut bytes = [0; 1024];
+        for (j, byte) in bytes.iter_mut().enumerate() {
+            *byte = self.byte(j);
+        }
+        bytes
+    }
+}

@@ -1,0 +1,86 @@
+//! Bytes that go to a sink.
+
+ghost use Rattle.std.specs.Prelude.{◌++◌, ◌∷◌, ◌<◌, ◌≤◌, length, IfOk};
+ghost use Rattle.avtp_base.specs.Faults.{IsCounted};
+ghost use Rattle.avtp_base.specs.Told.{WriteAppends};
+ghost use Rattle.device_rack.specs.Output.{silence_of};
+ghost use Rattle.device_rack.specs.Written.{HasWritten};
+
+use crate::silence::Silence;
+use avtp_base::{Failed, Sink};
+
+/// A sink, without leave to go to another thread: what a body in a trait asks of a type parameter.
+pub trait Output {
+    ghost use Rattle.std.specs.Prelude.{List, ℕ, Option};
+
+    ghost held: { Self → Option (List ℕ) };
+
+    ghost faults: { Self → ℕ };
+
+    /// Appends a prefix of the piece, as `Sink::write` does.
+    fn write_some(&mut self, piece: &[u8]) -> Result<usize, Failed>
+        requires { 0 < length piece.now }
+        ensures some { IfOk result (λ n. 0 < n) }
+        ensures within { IfOk result (λ n. n ≤ length piece.now) }
+        ensures appends { WriteAppends (held self.old) (held self.new) result piece.now }
+        ensures counted { IsCounted (faults self.old) (faults self.new) result };
+}
+
+impl<S: Sink> Output for S {
+    ghost held = { λ sink. S.held sink };
+
+    ghost faults = { λ sink. S.faults sink };
+
+    fn write_some(&mut self, piece: &[u8]) -> Result<usize, Failed> {
+        self.write(piece)
+    }
+}
+
+/// What stands before each unit of a byte stream.
+const START_CODE: [u8; 4] = [0, 0, 0, 1];
+
+/// Writes all the bytes. Where the sink fails it has taken a prefix of them.
+fn write_all<S: Output>(sink: &mut S, bytes: &[u8]) -> Result<(), Failed>
+    ensures { HasWritten (S.held sink.old) (S.held sink.new) (S.faults sink.old) (S.faults sink.new) result bytes.now }
+{
+    let mut written = 0;
+    while written < bytes.len() {
+        written += sink.write_some(&bytes[written..])?;
+    }
+    Ok(())
+}
+
+/// Writes so many bytes of silence, as `write_all` does.
+fn write_silence<S: Output>(sink: &mut S, silence: Silence, count: usize) -> Result<(), Failed>
+    ensures { HasWritten (S.held sink.old) (S.held sink.new) (S.faults sink.old) (S.faults sink.new) result (silence_of silence count) }
+{
+    if count == 0 {
+        return Ok(());
+    }
+    let piece = silence.piece();
+    for _ in 0..count / Silence::PIECE {
+        write_all(sink, &piece)?;
+    }
+    write_all(sink, &piece[..count % Silence::PIECE])
+}
+
+/// Writes samples after so many bytes of silence, as `write_all` does.
+pub fn write_samples<S: Output>(
+    sink: &mut S,
+    silence: Silence,
+    silent: usize,
+    bytes: &[u8],
+) -> Result<(), Failed>
+    ensures { HasWritten (S.held sink.old) (S.held sink.new) (S.faults sink.old) (S.faults sink.new) result (silence_of silence silent ++ bytes.now) }
+{
+    write_silence(sink, silence, silent)?;
+    write_all(sink, bytes)
+}
+
+/// Writes a unit after a start code, as `write_all` does.
+pub fn write_unit<S: Output>(sink: &mut S, bytes: &[u8]) -> Result<(), Failed>
+    ensures { HasWritten (S.held sink.old) (S.held sink.new) (S.faults sink.old) (S.faults sink.new) result (0 ∷ 0 ∷ 0 ∷ 1 ∷ bytes.now) }
+{
+    write_all(sink, &START_CODE)?;
+    write_all(sink, bytes)
+}

@@ -1,0 +1,272 @@
+//! Which fields of blocks are refused, row by row (draft-ietf-opsawg-pcapng, sections 3 and 4).
+
+ghost use Rattle.std.specs.Prelude.{false, [], ◌≡◌, ◌<◌, ◌^◌, length, Some};
+ghost use Rattle.pcapng_frames.specs.Reading.{lacks_by};
+ghost use Rattle.pcapng_frames.specs.Fields.{AllResolved, bad_length as is_bad_length, first_refused, interface_rows, other_rows, packet_rows, refusal_at, section_rows};
+ghost use Rattle.pcapng_frames.specs.Blocks.{Place, short_at, block_refused as refused_in_block, option_refused as refused_in_option, trailer_refused as refused_in_trailer, is_misplaced, kind_rows, order_at as order_in};
+ghost use Rattle.pcapng_frames.specs.declared.block.Kind.TheVariants as kind;
+ghost use Rattle.pcapng_frames.specs.declared.block.Stage.TheVariants as stage;
+
+use crate::block::Kind;
+use crate::interface::{self, Interface};
+use crate::layout::{
+    END_OF_OPTIONS, IF_TSOFFSET, IF_TSRESOL, INTERFACE_LIMIT, PACKET_LIMIT, kind_at,
+    order_of_magic, order_or_little, packet_arrival, padded, u16_at, u32_at,
+};
+use avtp_base::{Field, Refusal};
+use pcap_frames::Order;
+
+/// A field whose value is refused.
+fn refused(field: Field, at: u64) -> Option<Refusal>
+    ensures { result ≡ Some (refusal_at field at) }
+{
+    Some(Refusal {
+        field,
+        at,
+        short: false,
+    })
+}
+
+/// A part that the end of the bytes cuts off.
+pub fn short(field: Field, at: u64) -> Option<Refusal>
+    ensures { result ≡ Some (short_at field at).refusal }
+{
+    Some(Refusal {
+        field,
+        at,
+        short: true,
+    })
+}
+
+/// Whether a total length is too small for the kind of block, or no multiple of 4.
+fn bad_length(kind: Kind, total: u32) -> bool
+    ensures { result ≡ is_bad_length kind total }
+{
+    let least = match kind {
+        Kind::Section => 28,
+        Kind::Interface => 20,
+        Kind::Packet => 32,
+        Kind::Other => 12,
+    };
+    total < least || total % 4 != 0
+}
+
+/// The first refused field of a section header, after its magic number, that stands in these bytes.
+pub fn section_refusal(order: Order, start: u64, bytes: &[u8]) -> Option<Refusal>
+    requires { start < 2 ^ 63 }
+    ensures { result ≡ first_refused start (length bytes.now) (section_rows order bytes.now) }
+{
+    if bytes.len() < 12 {
+        return None;
+    }
+    if bad_length(Kind::Section, u32_at(order, bytes, 4)) {
+        return refused(Field::BlockLength, start + 4);
+    }
+    if bytes.len() >= 14 && u16_at(order, bytes, 12) != 1 {
+        return refused(Field::SectionVersion, start + 12);
+    }
+    None
+}
+
+/// The same of an interface description, in a section that has so many interfaces.
+pub fn interface_refusal(order: Order, count: usize, start: u64, bytes: &[u8]) -> Option<Refusal>
+    requires { start < 2 ^ 63 }
+    ensures { result ≡ first_refused start (length bytes.now) (interface_rows order count bytes.now) }
+{
+    if bytes.len() < 8 {
+        return None;
+    }
+    if bad_length(Kind::Interface, u32_at(order, bytes, 4)) {
+        return refused(Field::BlockLength, start + 4);
+    }
+    if count >= INTERFACE_LIMIT {
+        return refused(Field::Interfaces, start);
+    }
+    if bytes.len() >= 10 && u16_at(order, bytes, 8) != 1 {
+        return refused(Field::LinkType, start + 8);
+    }
+    None
+}
+
+/// The same of an enhanced packet, in a section with these interfaces.
+pub fn packet_refusal(
+    order: Order,
+    interfaces: &[Interface],
+    start: u64,
+    bytes: &[u8],
+) -> Option<Refusal>
+    requires begins { start < 2 ^ 63 }
+    requires resolved { AllResolved interfaces.now }
+    ensures { result ≡ first_refused start (length bytes.now) (packet_rows order interfaces.now bytes.now) }
+{
+    let len = bytes.len();
+    if len < 8 {
+        return None;
+    }
+    let total = u32_at(order, bytes, 4);
+    if bad_length(Kind::Packet, total) {
+        return refused(Field::BlockLength, start + 4);
+    }
+    if len < 12 {
+        return None;
+    }
+    if u32_at(order, bytes, 8) as usize >= interfaces.len() {
+        return refused(Field::InterfaceId, start + 8);
+    }
+    if len < 20 {
+        return None;
+    }
+    if packet_arrival(order, interfaces, bytes).is_none() {
+        return refused(Field::TimestampRange, start + 12);
+    }
+    if len < 24 {
+        return None;
+    }
+    let captured = u32_at(order, bytes, 20);
+    if captured > PACKET_LIMIT || u64::from(total) < 32 + padded(captured) {
+        return refused(Field::CapturedLength, start + 20);
+    }
+    None
+}
+
+/// The same of a block that is passed unread.
+pub fn other_refusal(order: Order, start: u64, bytes: &[u8]) -> Option<Refusal>
+    requires { start < 2 ^ 63 }
+    ensures { result ≡ first_refused start (length bytes.now) (other_rows order bytes.now) }
+{
+    if bytes.len() >= 8 && bad_length(Kind::Other, u32_at(order, bytes, 4)) {
+        return refused(Field::BlockLength, start + 4);
+    }
+    None
+}
+
+/// The same of an option that begins at an offset of the capture, where so many bytes are left before the trailer.
+#[tactic(auto, unfolding(crate::specs::Blocks::option_refused))]
+pub fn option_refusal(order: Order, at: u64, left: u32, bytes: &[u8]) -> Option<Refusal>
+    ensures { result ≡ refused_in_option order at left bytes.now }
+{
+    if bytes.len() < 4 {
+        return None;
+    }
+    let code = u16_at(order, bytes, 0);
+    if code == END_OF_OPTIONS {
+        return None;
+    }
+    let len = u16_at(order, bytes, 2);
+    if u64::from(left) < 4 + padded(u32::from(len)) {
+        return refused(Field::OptionLength, at);
+    }
+    match code {
+        IF_TSRESOL if len != 1 => refused(Field::IfTsresol, at),
+        IF_TSRESOL if bytes.len() >= 5 && !interface::resolved(bytes[4]) => {
+            refused(Field::IfTsresol, at)
+        }
+        IF_TSOFFSET if len != 8 => refused(Field::IfTsoffset, at),
+        _ => None,
+    }
+}
+
+/// The first refused field of a block of this kind that stands in these bytes.
+fn kind_refusal(
+    kind: Kind,
+    order: Option<Order>,
+    interfaces: &[Interface],
+    start: u64,
+    bytes: &[u8],
+) -> Option<Refusal>
+    requires begins { start < 2 ^ 63 }
+    requires resolved { AllResolved interfaces.now }
+    ensures { result ≡ first_refused start (length bytes.now) (kind_rows kind (order_in kind order bytes.now) interfaces.now bytes.now) }
+{
+    match kind {
+        Kind::Section => whole_section_refusal(start, bytes),
+        Kind::Interface => {
+            interface_refusal(order_or_little(order), interfaces.len(), start, bytes)
+        }
+        Kind::Packet => packet_refusal(order_or_little(order), interfaces, start, bytes),
+        Kind::Other => other_refusal(order_or_little(order), start, bytes),
+    }
+}
+
+/// The same of a section header.
+fn whole_section_refusal(start: u64, bytes: &[u8]) -> Option<Refusal>
+    requires { start < 2 ^ 63 }
+    ensures { result ≡ first_refused start (length bytes.now) (kind_rows kind.Section (order_in kind.Section None bytes.now) [] bytes.now) }
+{
+    if bytes.len() < 12 {
+        return None;
+    }
+    match order_of_magic(u32_at(Order::Little, bytes, 8)) {
+        None => refused(Field::ByteOrderMagic, start + 8),
+        Some(order) => section_refusal(order, start, bytes),
+    }
+}
+
+/// Whether the first block of a capture is of another kind than a section header.
+fn misplaced(kind: Kind, order: Option<Order>) -> bool
+    ensures { result ≡ is_misplaced order kind }
+{
+    match (kind, order) {
+        (Kind::Section, _) => false,
+        (_, order) => order.is_none(),
+    }
+}
+
+/// The first refused field of a block that stands in these bytes.
+#[tactic(auto, unfolding(crate::specs::Blocks::block_refused))]
+pub fn block_refusal(
+    order: Option<Order>,
+    interfaces: &[Interface],
+    start: u64,
+    bytes: &[u8],
+) -> Option<Refusal>
+    requires begins { start < 2 ^ 63 }
+    requires resolved { AllResolved interfaces.now }
+    ensures { result ≡ refused_in_block order interfaces.now start bytes.now }
+{
+    if bytes.len() < 4 {
+        return None;
+    }
+    let kind = kind_at(order, bytes);
+    if misplaced(kind, order) {
+        return refused(Field::BlockType, start);
+    }
+    kind_refusal(kind, order, interfaces, start, bytes)
+}
+
+/// Whether a trailer is refused: it stands, and is not the total length.
+#[tactic(auto, unfolding(crate::specs::Blocks::trailer_refused))]
+pub fn trailer_refusal(order: Order, at: u64, total: u32, tail: &[u8]) -> Option<Refusal>
+    ensures { result ≡ refused_in_trailer order at total tail.now }
+{
+    if tail.len() >= 4 && u32_at(order, tail, 0) != total {
+        return refused(Field::BlockTrailer, at);
+    }
+    None
+}
+
+/// What a block lacks that the end of the bytes cuts off, in a section with so many interfaces. After a whole block that
+/// is nothing.
+pub fn missing_of_block(
+    order: Option<Order>,
+    count: usize,
+    start: u64,
+    part: &[u8],
+) -> Option<Refusal>
+    requires { start < 2 ^ 63 }
+    ensures { (p : Place) → p.order ≡ order → length p.interfaces ≡ count → p.start ≡ start → p.stage ≡ stage.Block → result ≡ lacks_by false p part.now }
+{
+    if part.is_empty() && order.is_some() {
+        return None;
+    }
+    if part.len() < 4 {
+        return short(Field::BlockType, start);
+    }
+    if part.len() >= 8 {
+        return short(Field::BlockBody, start + 8);
+    }
+    match kind_at(order, part) {
+        Kind::Interface if count >= INTERFACE_LIMIT => refused(Field::Interfaces, start),
+        _ => short(Field::BlockLength, start + 4),
+    }
+}
