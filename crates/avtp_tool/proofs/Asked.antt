@@ -1,6 +1,6 @@
 -- What words ask for.
-use Rattle.std.proofs.Common.{◌≡◌, ℕ, ◌*◌, ℤ, pos, ◌≤ℤ◌, List, ◌≤◌, Option, Some, None, Result, Ok, Err, refl, sym, subst, arith}
-use Rattle.std.specs.Prelude.{◌^◌, codes, IsErrAnd, IsSome, IsSomeAnd, MatchOption}
+use Rattle.std.proofs.Common.{◌≡◌, ℕ, ◌*◌, ℤ, pos, negsuc, ◌≤ℤ◌, List, ◌≤◌, Option, Some, None, Result, Ok, Err, refl, sym, subst, arith}
+use Rattle.std.specs.Prelude.{◌^◌, neg_ℤ, unsigned_abs, codes, IsErrAnd, IsSome, IsSomeAnd, MatchOption}
 use Rattle.std.proofs.lemmas.Int.{ints}
 use Rattle.iec61883_format.specs.Iec.{block_size, rate_of_fdf, syt_interval}
 use Rattle.talker.specs.declared.plan.TalkPlan.{TalkPlan}
@@ -11,7 +11,7 @@ use Rattle.avtp_words.specs.declared.command.Offence.{Offence}
 use Rattle.avtp_words.specs.declared.talk.Kind.{Kind}
 use Rattle.avtp_words.specs.declared.talk.Kind.TheVariants as words
 use Rattle.avtp_words.specs.Grammar.{FitsKind, IsCommandLine, Request, show, check, listen, talk, Talking}
-use Rattle.avtp_words.specs.Number.{IsNumber}
+use Rattle.avtp_words.specs.Number.{IsNumber, IsSigned}
 use Rattle.avtp_words.specs.Options.{value_in}
 use Rattle.avtp_tool.specs.Run.{IsRequest}
 use Rattle.avtp_tool.specs.Talk.{talk_kind, talk_plan}
@@ -47,15 +47,30 @@ is_talked : (kind : Kind) → IsTalked (talk_kind kind)
 is_talked (words.Aaf format sparse) = tt
 is_talked words.Am824 = tt
 
+-- a shift that words give
+small_shift : (z : ℤ) → unsigned_abs z ≤ 10 ^ 9 → (neg_ℤ (pos 1000000000) ≤ℤ z) × (z ≤ℤ pos 1000000000)
+small_shift (pos n) small = (omega (arith, ints), omega (arith, ints, small))
+small_shift (negsuc n) small = (omega (arith, ints, small), omega (arith, ints))
+
+shift_within : (o : Option (List ℕ)) (z : ℤ) → MatchOption o (z ≡ pos 0) (λ word. IsSigned (10 ^ 9) word z) → (neg_ℤ (pos 1000000000) ≤ℤ z) × (z ≤ℤ pos 1000000000)
+shift_within None z given = rw given (omega (arith, ints), omega (arith, ints))
+shift_within (Some word) z given = small_shift z given.size
+
 -- what words ask for is within its bounds
 pub requested : (words : List (List ℕ)) (request : Request) → IsCommandLine words request → IsRequest request
 requested words (show limit file) line = (given_within (value_in (codes "--limit") line.settings) 1 (2 ^ 40) (2 ^ 40) limit (omega arith) (omega arith) line.limit_given).1
 requested words (check limit names) line = (given_within (value_in (codes "--limit") line.settings) 1 (2 ^ 40) (2 ^ 40) limit (omega arith) (omega arith) line.limit_given).1
 requested words (listen asked) line =
+    let limit = given_within (value_in (codes "--limit") line.settings) 1 (2 ^ 40) (2 ^ 40) asked.limit (omega arith) (omega arith) line.limit in
     let buffer = given_within (value_in (codes "--buffer") line.settings) 1 65536 4096 asked.buffer (omega arith) (omega arith) line.buffer in
     let room = given_within (value_in (codes "--room") line.settings) 1 (2 ^ 30) (2 ^ 26) asked.room (omega arith) (omega arith) line.room in
+    let look = given_within (value_in (codes "--look") line.settings) 0 64 0 asked.look (omega arith) (omega arith) line.look in
     let lead = given_within (value_in (codes "--lead") line.settings) 0 (10 ^ 9) 2000000 asked.lead (omega arith) (omega arith) line.lead in
-    record { some_buffer = buffer.0; buffer = buffer.1; some_room = room.0; room = room.1; lead = lead.1 }
+    let shift = shift_within (value_in (codes "--crf-shift") line.settings) asked.shift line.shift in
+    record {
+      limit = limit.1;
+      plan = record { some_buffer = buffer.0; buffer = buffer.1; some_room = room.0; room = omega (arith, room.1); look = look.1; lead = lead.1; shift_from = shift.0; shift_to = shift.1 };
+    }
 requested words (talk asked) (line, rules) =
     let channels = given_within (value_in (codes "--channels") line.settings) 1 1023 2 asked.channels (omega arith) (omega arith) line.channels in
     let count = given_within (value_in (codes "--count") line.settings) 1 1476 6 asked.count (omega arith) (omega arith) line.count in

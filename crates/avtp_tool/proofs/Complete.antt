@@ -5,9 +5,9 @@ use Rattle.std.proofs.lemmas.List.{append-nil, take_all}
 use Rattle.avtp_base.specs.declared.refusal.Refusal.{Refusal}
 use Rattle.avtp_base.specs.Files.{Files}
 use Rattle.pcap_frames.specs.Capture.{Record}
-use Rattle.capture_io.proofs.Formats.{classic_records}
-use Rattle.capture_io.specs.Formats.{is_pcapng, refusal_in, records_in}
+use Rattle.capture_io.specs.Formats.{refusal_in, records_in}
 use Rattle.packet_journal.specs.Packets.{PacketJournal}
+use Rattle.listener.specs.Heard.{counts_of, shown_of}
 use Rattle.listener.specs.Laws.{HearsTalker}
 use Rattle.listener.proofs.TrueHeadline.{headline}
 use Rattle.talker.specs.declared.fault.TalkFault.{TalkFault}
@@ -24,8 +24,7 @@ use Rattle.avtp_words.specs.Grammar.{Listening, Request, show, check, listen, ta
 use Rattle.avtp_tool.specs.declared.status.Status.{Status}
 use Rattle.avtp_tool.specs.declared.status.Status.TheVariants as status
 use Rattle.avtp_tool.specs.Check.{check_plan}
-use Rattle.avtp_tool.specs.Listen.{HasHeadline, counts_in, heard_limit, heard_lines, heard_text, last_line, listen_plan, listen_report, listen_status, no_clock, plan_of, PrintsHeadline, shown_in}
-use Rattle.listener.specs.Headline.{KeepsHeadline}
+use Rattle.avtp_tool.specs.Listen.{HasHeadline, end_line, heard_text, listen_plan, listen_report, listen_status, plan_of, PrintsHeadline, shown_text}
 use Rattle.avtp_tool.specs.Outcome.{is_done}
 use Rattle.avtp_tool.specs.Reading.{FileOutcome, file_status, file_text, InOrder, in_order_read, in_order_status, in_order_text, joined, one_outcome, one_status, one_text, PlanOutcome, plan_read, plan_status, plan_text, ReadPlan, Report}
 use Rattle.avtp_tool.specs.Run.{came_for, Outcome, report_for, status_for, talk_came}
@@ -147,17 +146,18 @@ text_split ends text (name ∷ earlier) more done =
       | false ↦ λ is all. absurd (let t : true ≡ false = sym all ∙ is in cc)
     ] refl done
 
-lines_at : (asked : Listening) (records : List Record) (refused : Option Refusal) → heard_lines (shown_in asked records) (counts_in asked records) (at_end refused) ≡ list_lines (shown_in asked records) ++ last_line (counts_in asked records) refused
-lines_at asked records None = refl
-lines_at asked records (Some refusal) = refl
+lines_at : (asked : Listening) (name : List ℕ) (records : List Record) (refused : Option Refusal)
+    → heard_text asked name records (at_end refused) ≡ shown_text name (shown_of (plan_of asked) records) ++ end_line (counts_of (plan_of asked) records (shown_of (plan_of asked) records)) refused
+lines_at asked name records None = refl
+lines_at asked name records (Some refusal) = refl
 
-prints_headline : (asked : Listening) (name : List ℕ) (shift : ℤ) (p : PacketJournal) (bytes : List ℕ) → length bytes ≤ heard_limit → is_pcapng bytes ≡ false → HearsTalker shift p (plan_of asked) bytes → PrintsHeadline asked name shift p bytes (file_text (listen_report asked name) heard_limit (Some bytes))
-prints_headline asked name shift p bytes fits classic hears = record {
-  shown = shown_in asked (records_in bytes);
-  keeps = subst (λ (rs : List Record). KeepsHeadline no_clock shift p (plan_of asked) bytes (shown_in asked rs)) (sym (classic_records bytes classic)) (headline no_clock shift p (plan_of asked) bytes hears);
-  printed = ap (λ (prefix : List ℕ). heard_text asked name (records_in prefix) (end_of heard_limit bytes)) (take_all heard_limit bytes fits)
-      ∙ ap (heard_text asked name (records_in bytes)) (at_end_is heard_limit bytes fits)
-      ∙ ap (λ (t : List ℕ). capture_line name ++ t) (lines_at asked (records_in bytes) (refusal_in bytes));
+prints_headline : (asked : Listening) (name : List ℕ) (shift : ℤ) (p : PacketJournal) (bytes : List ℕ) → length bytes ≤ asked.limit → HearsTalker shift p (plan_of asked) (records_in bytes) → PrintsHeadline asked name shift p bytes (file_text (listen_report asked name) asked.limit (Some bytes))
+prints_headline asked name shift p bytes fits hears = record {
+  shown = shown_of (plan_of asked) (records_in bytes);
+  keeps = headline shift p (plan_of asked) (records_in bytes) hears;
+  printed = ap (λ (prefix : List ℕ). heard_text asked name (records_in prefix) (end_of asked.limit bytes)) (take_all asked.limit bytes fits)
+      ∙ ap (heard_text asked name (records_in bytes)) (at_end_is asked.limit bytes fits)
+      ∙ lines_at asked name (records_in bytes) (refusal_in bytes);
 }
 
 rest_text : (ends : List ℕ → Status) (text : List ℕ → List ℕ) (name : List ℕ) (later : List (List ℕ)) → (rest : List ℕ) × (in_order_text ends text (name ∷ later) ≡ text name ++ rest)
@@ -165,16 +165,16 @@ unfolding in_order_text
 rest_text ends text name later = (if is_done (ends name) then in_order_text ends text later else [], refl)
 
 pub has_headline : (asked : Listening) (files : Files) (earlier later : List (List ℕ)) (name bytes : List ℕ) (shift : ℤ) (p : PacketJournal) → asked.files ≡ earlier ++ name ∷ later → listen_status asked files earlier ≡ status.Done
-    → files name ≡ Some bytes → length bytes ≤ heard_limit → is_pcapng bytes ≡ false → HearsTalker shift p (plan_of asked) bytes → HasHeadline asked name shift p bytes (plan_text (listen_plan asked) files)
-has_headline asked files earlier later name bytes shift p split done told fits classic hears =
+    → files name ≡ Some bytes → length bytes ≤ asked.limit → HearsTalker shift p (plan_of asked) (records_in bytes) → HasHeadline asked name shift p bytes (plan_text (listen_plan asked) files)
+has_headline asked files earlier later name bytes shift p split done told fits hears =
     let ends = one_status (listen_plan asked) files in
     let text = one_text (listen_plan asked) files in
     let rest = rest_text ends text name later in
-    let here : text name ≡ file_text (listen_report asked name) heard_limit (Some bytes) = ap (file_text (listen_report asked name) heard_limit) told in
+    let here : text name ≡ file_text (listen_report asked name) asked.limit (Some bytes) = ap (file_text (listen_report asked name) asked.limit) told in
     record {
       before = in_order_text ends text earlier;
-      here = file_text (listen_report asked name) heard_limit (Some bytes);
+      here = file_text (listen_report asked name) asked.limit (Some bytes);
       after = rest.0;
-      prints = prints_headline asked name shift p bytes fits classic hears;
+      prints = prints_headline asked name shift p bytes fits hears;
       split = ap (in_order_text ends text) split ∙ text_split ends text earlier (name ∷ later) (ap is_done done) ∙ ap (λ (t : List ℕ). in_order_text ends text earlier ++ t) (rest.1 ∙ ap (λ (t : List ℕ). t ++ rest.0) here);
     }

@@ -5,7 +5,8 @@ pub mod DoesFile
 pub mod Lines
 pub mod Shown
 pub mod CheckedTo
-pub mod Heard
+pub mod DueTo
+pub mod HeardTo
 pub mod InOrder
 pub mod ReadFiles
 pub mod PlanRuns

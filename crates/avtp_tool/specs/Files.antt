@@ -4,7 +4,7 @@ use Rattle.avtp_words.specs.Grammar.{listening_of}
 use Rattle.avtp_tool.specs.declared.files.Reading.{Reading}
 use Rattle.avtp_tool.specs.declared.files.Reading.TheVariants.{Check, Listen}
 use Rattle.avtp_tool.specs.Check.{check_report}
-use Rattle.avtp_tool.specs.Listen.{heard_limit, listen_report}
+use Rattle.avtp_tool.specs.Listen.{listen_report}
 use Rattle.avtp_tool.specs.Reading.{ReadPlan, Report}
 use Rattle.avtp_tool.specs.Run.{IsListening}
 
@@ -14,7 +14,7 @@ report_for (Listen asked) name = listen_report (listening_of asked.now) name
 
 abbrev pub limit_for : Reading → ℕ
 limit_for (Check limit) = limit
-limit_for (Listen asked) = heard_limit
+limit_for (Listen asked) = asked.now.limit
 
 abbrev pub plan_for : Reading → List (List ℕ) → ReadPlan
 plan_for reading names = record { names = names; limit = limit_for reading; report = report_for reading }

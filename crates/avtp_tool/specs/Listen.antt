@@ -1,65 +1,66 @@
 -- What `listen` prints and how it ends.
-use Rattle.std.specs.Prelude.{◌≡◌, ℕ, ℤ, List, ◌++◌, Option, None, Some, pos}
+use Rattle.std.specs.Prelude.{◌≡◌, ◌≢◌, ℕ, ℤ, false, List, [], ◌++◌, drop, length, Option, None, Some, Result, Ok, Err}
+use Rattle.avtp_base.specs.declared.failed.Failed.{Failed}
 use Rattle.avtp_base.specs.declared.refusal.Refusal.{Refusal}
 use Rattle.avtp_base.specs.Files.{Files}
+use Rattle.avtp_base.specs.Told.{Appends}
 use Rattle.pcap_frames.specs.Capture.{Record}
-use Rattle.capture_io.specs.Formats.{refusal_in, records_in}
+use Rattle.capture_io.specs.Formats.{records_in, refusal_in}
 use Rattle.packet_journal.specs.Packets.{PacketJournal}
 use Rattle.sample_schedule.specs.declared.shown.Shown.{Shown}
-use Rattle.sample_schedule.specs.Verdicts.{Clock}
 use Rattle.listener.specs.declared.heard.Counts.{Counts}
 use Rattle.listener.specs.declared.plan.ListenPlan.{ListenPlan}
 use Rattle.listener.specs.Headline.{KeepsHeadline}
-use Rattle.listener.specs.Heard.{counts_of, shown_of}
+use Rattle.listener.specs.Heard.{counts_of, due_of, shown_of}
+use Rattle.listener.specs.Listening.{IsIdle, ListenState, StandsFor, is_closed}
 use Rattle.avtp_words.specs.Grammar.{Listening}
 use Rattle.avtp_text.specs.Listen.{capture_line, list_lines, end_listen_line}
 use Rattle.avtp_text.specs.Notices.{capture_refused_line, read_fault_line, limit_line}
+use Rattle.avtp_text.specs.Written.{AppendsPrefix}
 use Rattle.capture_io.specs.declared.end.End.{End}
 use Rattle.capture_io.specs.declared.end.End.TheVariants as end
 use Rattle.capture_io.specs.Source.{EndsAfter}
-use Rattle.listener.specs.Collected.{StandsFor}
-use Rattle.avtp_tool.specs.declared.listen.Gathered.{Gathered}
+use Rattle.avtp_tool.specs.declared.listen.Heard.{Heard}
+use Rattle.avtp_tool.specs.declared.listen.Heard.TheVariants.{Ended, NoMemory}
 use Rattle.avtp_tool.specs.declared.status.Status.{Status}
-use Rattle.avtp_tool.specs.Reading.{in_order_status, one_status, ReadPlan, Report}
+use Rattle.avtp_tool.specs.Reading.{file_text, in_order_status, one_status, ReadPlan, Report}
 use Rattle.avtp_tool.specs.Status.{status_of}
 
--- the most bytes of a capture that `listen` reads: 16 MiB
-abbrev pub heard_limit : ℕ
-heard_limit = 16777216
-
--- a listener without a clock, which judges each packet as it comes
+-- the listener that the words ask for
 abbrev pub plan_of : Listening → ListenPlan
-plan_of asked = record { stream = asked.stream; clock = None; buffer = asked.buffer; room = asked.room; look = 0; lead = asked.lead; shift = pos 0 }
+plan_of asked = record { stream = asked.stream; clock = asked.clock; buffer = asked.buffer; room = asked.room; look = asked.look; lead = asked.lead; shift = asked.shift }
 
--- a clock that is never asked
-abbrev pub no_clock : Clock
-no_clock rows shift instant rate = None
+-- What is shown of these records, where the reading of their capture ended so: all of it at the capture's end or at a field
+-- that is refused, and what was due so far where the reading was cut short.
+abbrev pub shown_by : ListenPlan → List Record → End → List Shown
+shown_by plan records end.Whole = shown_of plan records
+shown_by plan records (end.Refused refusal) = shown_of plan records
+shown_by plan records end.ReadFault = due_of plan records
+shown_by plan records end.Limit = due_of plan records
 
--- what is shown of a list of records, and the numbers of these
-abbrev pub shown_in : Listening → List Record → List Shown
-shown_in asked records = shown_of no_clock (plan_of asked) records
+-- the last line, by the numbers of what was read and shown
+abbrev pub last_line : ℕ → Counts → End → List ℕ
+last_line limit counts end.Whole = end_listen_line counts
+last_line limit counts (end.Refused refusal) = capture_refused_line refusal
+last_line limit counts end.ReadFault = read_fault_line
+last_line limit counts end.Limit = limit_line limit
 
-abbrev pub counts_in : Listening → List Record → Counts
-counts_in asked records = counts_of (plan_of asked) records (shown_in asked records)
-
--- What is printed after the capture's name: all that is shown and the last line; or the last line alone, where the capture
--- was not read to its end.
-abbrev pub heard_lines : List Shown → Counts → End → List ℕ
-heard_lines shown counts end.Whole = list_lines shown ++ end_listen_line counts
-heard_lines shown counts (end.Refused refusal) = list_lines shown ++ capture_refused_line refusal
-heard_lines shown counts end.ReadFault = read_fault_line
-heard_lines shown counts end.Limit = limit_line heard_limit
+-- the capture's name, and the lines of what is shown of it
+abbrev pub shown_text : List ℕ → List Shown → List ℕ
+shown_text name shown = capture_line name ++ list_lines shown
 
 -- the text of a capture of this name that was opened and whose reading ends so after these records
 abbrev pub heard_text : Listening → List ℕ → List Record → End → List ℕ
-heard_text asked name records how = capture_line name ++ heard_lines (shown_in asked records) (counts_in asked records) how
+heard_text asked name records how =
+    shown_text name (shown_by (plan_of asked) records how)
+    ++ last_line asked.limit (counts_of (plan_of asked) records (shown_by (plan_of asked) records how)) how
 
 -- what `listen` makes of a file of this name
 abbrev pub listen_report : Listening → List ℕ → Report
 listen_report asked name = record { status = λ records how. status_of how; text = heard_text asked name }
 
 abbrev pub listen_plan : Listening → ReadPlan
-listen_plan asked = record { names = asked.files; limit = heard_limit; report = listen_report asked }
+listen_plan asked = record { names = asked.files; limit = asked.limit; report = listen_report asked }
 
 -- the status with which these files end, where no fault of reading comes
 abbrev pub listen_status : Listening → Files → List (List ℕ) → Status
@@ -68,15 +69,15 @@ listen_status asked files names = in_order_status (one_status (listen_plan asked
 -- ---- a talker that keeps the rules
 
 -- the last line of a capture that was read to its end
-abbrev pub last_line : Counts → Option Refusal → List ℕ
-last_line counts None = end_listen_line counts
-last_line counts (Some refusal) = capture_refused_line refusal
+abbrev pub end_line : Counts → Option Refusal → List ℕ
+end_line counts None = end_listen_line counts
+end_line counts (Some refusal) = capture_refused_line refusal
 
--- The text is the capture's name, the lines of what is shown of the bytes, which keeps the headline, and the last line.
+-- The text is the capture's name, the lines of what is shown of the records, which keeps the headline, and the last line.
 pub record PrintsHeadline (asked : Listening) (name : List ℕ) (shift : ℤ) (p : PacketJournal) (bytes text : List ℕ) : Type 0 where
   pub shown : List Shown
-  pub keeps : KeepsHeadline no_clock shift p (plan_of asked) bytes shown
-  pub printed : text ≡ capture_line name ++ (list_lines shown ++ last_line (counts_in asked (records_in bytes)) (refusal_in bytes))
+  pub keeps : KeepsHeadline shift p (plan_of asked) (records_in bytes) shown
+  pub printed : text ≡ shown_text name shown ++ end_line (counts_of (plan_of asked) (records_in bytes) shown) (refusal_in bytes)
 
 -- Somewhere in it the text has one that keeps the headline.
 pub record HasHeadline (asked : Listening) (name : List ℕ) (shift : ℤ) (p : PacketJournal) (bytes text : List ℕ) : Type 0 where
@@ -88,9 +89,49 @@ pub record HasHeadline (asked : Listening) (name : List ℕ) (shift : ℤ) (p : 
 
 -- ---- the records of a capture
 
--- Of the records of a file of these bytes, as far as it could be read, those of the stream were collected, and its reading
--- ended so.
-pub record HasGathered (limit : ℕ) (bytes : List ℕ) (fault : Type 0) (stream : ℕ) (gathered : Gathered) : Type 0 where
+-- The records of a file of these bytes, as far as it could be read, were heard, its reading ended so, and what is shown of them
+-- then was printed and counted.
+pub record HasHeard (asked : Listening) (name bytes : List ℕ) (fault : Type 0) (how : End) (counts : Counts) (before now : Option (List ℕ)) : Type 0 where
   pub records : List Record
-  pub ends : EndsAfter limit bytes fault gathered.end records
-  pub stands : StandsFor stream records gathered.collected
+  pub ends : EndsAfter asked.limit bytes fault how records
+  pub counted : counts ≡ counts_of (plan_of asked) records (shown_by (plan_of asked) records how)
+  pub lines : Appends before now (shown_text name (shown_by (plan_of asked) records how))
+
+-- They were heard; or where no memory was found or the sink failed, a prefix of the file's text was printed.
+abbrev pub HearsRecords : Listening → List ℕ → List ℕ → Type 0 → Option (List ℕ) → Option (List ℕ) → Result Heard Failed → Type 0
+HearsRecords asked name bytes fault before now (Ok (Ended how counts)) = HasHeard asked name bytes fault how counts before now
+HearsRecords asked name bytes fault before now (Ok NoMemory) = AppendsPrefix before now (file_text (listen_report asked name) asked.limit (Some bytes))
+HearsRecords asked name bytes fault before now (Err e) = AppendsPrefix before now (file_text (listen_report asked name) asked.limit (Some bytes))
+
+-- a listener that was given nothing
+pub record HasBegun (listener : ListenState) : Type 0 where
+  pub stands : StandsFor [] 0 listener
+  pub going : is_closed listener ≡ false
+  pub idle : IsIdle listener
+  pub none : listener.counts.frames ≡ 0
+
+-- how many items were shown of these records before their reading ended
+abbrev pub due_count : ListenState → List Record → ℕ
+due_count listener records = length (due_of listener.plan records)
+
+-- what is left to show of them
+abbrev pub left_by : ListenState → List Record → End → List Shown
+left_by listener records how = drop (due_count listener records) (shown_by listener.plan records how)
+
+-- The reading of the records that the listener was given ended so, and what was left to show of them was printed and counted; or
+-- where the sink failed, a prefix of it was printed. (At a fault of reading nothing is left to show, so nothing fails.)
+pub record ShowsRest (how : End) (listener : ListenState) (before now : Option (List ℕ)) (counts : Counts) (records : List Record) : Type 0 where
+  pub lines : Appends before now (list_lines (left_by listener records how))
+  pub counted : counts ≡ counts_of listener.plan records (shown_by listener.plan records how)
+
+abbrev pub HasEnded : End → ListenState → Option (List ℕ) → Option (List ℕ) → Result Heard Failed → Type 0
+HasEnded how listener before now (Ok (Ended ended counts)) = (ended ≡ how) × ((records : List Record) → StandsFor records (due_count listener records) listener → ShowsRest how listener before now counts records)
+HasEnded how listener before now (Ok NoMemory) = ⊥
+HasEnded how listener before now (Err e) =
+    (how ≢ end.ReadFault) × ((records : List Record) → StandsFor records (due_count listener records) listener → AppendsPrefix before now (list_lines (left_by listener records how)))
+
+-- how the reading of the records ended, where it did
+abbrev pub heard_end : Result Heard Failed → Option End
+heard_end (Ok (Ended how counts)) = Some how
+heard_end (Ok NoMemory) = None
+heard_end (Err e) = None

@@ -5,12 +5,14 @@ use Rattle.avtp_base.specs.Faults.{Rose}
 use Rattle.avtp_base.specs.Files.{Files, Slots, KeepsFiles}
 use Rattle.talker.specs.Frames.{capture}
 use Rattle.talker.specs.Plan.{IsPlan}
+use Rattle.sample_schedule.specs.Limits.{IsPlan as IsSchedulePlan}
+use Rattle.listener.specs.Heard.{schedule_plan}
 use Rattle.avtp_text.specs.Written.{written}
 use Rattle.avtp_words.specs.Grammar.{files_of, IsCommandLine, IsOffence, output_of, Request, show, check, listen, talk, Listening, Talking}
 use Rattle.avtp_tool.specs.declared.status.Status.{Status}
 use Rattle.avtp_tool.specs.declared.status.Status.TheVariants as status
 use Rattle.avtp_tool.specs.Check.{check_plan}
-use Rattle.avtp_tool.specs.Listen.{listen_plan}
+use Rattle.avtp_tool.specs.Listen.{listen_plan, plan_of}
 use Rattle.avtp_tool.specs.Made.{CountsWriting, KeepsFilesBut, KeepsSlotsFor, Makes}
 use Rattle.avtp_tool.specs.Outcome.{AsksFor, CountsReading, is_done, IsDone, KeepsSink, TellsRun}
 use Rattle.avtp_tool.specs.Reading.{PlanOutcome, plan_read, plan_status, plan_text}
@@ -90,11 +92,8 @@ IsAsked words = ((request : Request) × IsCommandLine words request) ⊎ ((posit
 -- ---- what the words keep within bounds
 
 pub record IsListening (asked : Listening) : Type 0 where
-  pub some_buffer : 1 ≤ asked.buffer
-  pub buffer : asked.buffer ≤ 65536
-  pub some_room : 1 ≤ asked.room
-  pub room : asked.room ≤ 2 ^ 30
-  pub lead : asked.lead ≤ 1000000000
+  pub limit : asked.limit ≤ 2 ^ 40
+  pub plan : IsSchedulePlan (schedule_plan (plan_of asked))
 
 abbrev pub IsRequest : Request → Type 0
 IsRequest (show limit file) = limit ≤ 2 ^ 40

@@ -1,10 +1,10 @@
 //! The command `avtp`, over the outside that it is given.
 
-ghost use Rattle.std.specs.Prelude.{◌≡◌, ◌≢◌, ◌≤◌, ◌⊎◌, ◌++◌, ◌∷◌, ℕ, ℤ, List, Ok, Some, None, true, false, IsSome, length, IfOk};
+ghost use Rattle.std.specs.Prelude.{◌≡◌, ◌≢◌, ◌≤◌, ◌⊎◌, ◌++◌, ◌∷◌, ℕ, ℤ, List, Ok, Some, None, true, IsSome, length, IfOk};
 ghost use Rattle.avtp_base.specs.Faults.{IsQuiet, Rose};
 ghost use Rattle.avtp_base.specs.Files.{Files, KeepsFiles, PutsFile};
 ghost use Rattle.avtp_base.specs.Told.{Appends};
-ghost use Rattle.capture_io.specs.Formats.{is_pcapng};
+ghost use Rattle.capture_io.specs.Formats.{records_in};
 ghost use Rattle.capture_io.specs.Writing.{MakesPrefix};
 ghost use Rattle.listener.specs.Laws.{HearsTalker};
 ghost use Rattle.packet_journal.specs.Packets.{PacketJournal};
@@ -13,7 +13,7 @@ ghost use Rattle.avtp_text.specs.Notices.{read_fault_line, words_line};
 ghost use Rattle.avtp_text.specs.Written.{written, AppendsPrefix, Grows};
 ghost use Rattle.avtp_words.specs.Grammar.{files_of, IsCommandLine, IsOffence, listen as listen_request, Listening, output_of, Request, talk as talk_request, Talking};
 ghost use Rattle.avtp_words.specs.Word.{texts};
-ghost use Rattle.avtp_tool.specs.Listen.{HasHeadline, heard_limit, listen_status, plan_of};
+ghost use Rattle.avtp_tool.specs.Listen.{HasHeadline, listen_status, plan_of};
 ghost use Rattle.avtp_tool.specs.Made.{KeepsFilesBut, KeepsSlotsFor};
 ghost use Rattle.avtp_tool.specs.Outcome.{Asks, AsksFor, EndsUnopened, EndsWith, Finishes, is_done, IsOneMissing, KeepsSink};
 ghost use Rattle.avtp_tool.specs.Run.{came_for, IsAsked, names_of, Outcome, report_for, Runs, status_for};
@@ -50,7 +50,7 @@ pub fn run<F: Shelf, S: Sink>(alloc: Global, words: &[String], shelf: &mut F, ou
         IsCommandLine (texts words.now) (listen_request asked) → F.files shelf.old ≡ Some files → IsSome (F.files shelf.new) →
         IsQuiet (F.reading_faults shelf.old) (F.reading_faults shelf.new) →
         asked.files ≡ earlier ++ name ∷ later → listen_status asked files earlier ≡ Status.Done → files name ≡ Some bytes →
-        length bytes ≤ heard_limit → is_pcapng bytes ≡ false → HearsTalker shift p (plan_of asked) bytes →
+        length bytes ≤ asked.limit → HearsTalker shift p (plan_of asked) (records_in bytes) →
         (text : List ℕ) × HasHeadline asked name shift p bytes text × Appends (S.held out.old) (S.held out.new) text }
 
     // Words that are no command line are told by the first that cannot stand.

@@ -1,5 +1,5 @@
 -- Command lines of every command, and where words stop being one.
-use Rattle.std.proofs.Common.{◌≡◌, ℕ, suc, ◌+◌, ◌-◌, ◌<◌, ◌≤◌, ◌^◌, inl, inr, true, false, List, [], ◌∷◌, ◌++◌, flat_map, length, take, drop, Option, Some, None, slice_get, IsSomeAnd, IfSome, MatchOption, option_to_list, get_or, ◌==◌, if◌then◌else◌, arith, sym, subst, ap, ◌∙◌, refl, append_assoc, length-append, All, string_bytes, String}
+use Rattle.std.proofs.Common.{◌≡◌, ℕ, suc, ◌+◌, ◌-◌, ◌<◌, ◌≤◌, ◌^◌, inl, inr, true, false, List, [], ◌∷◌, ◌++◌, flat_map, length, take, drop, Option, Some, None, slice_get, IsSomeAnd, IfSome, MatchOption, option_to_list, get_or, ◌==◌, if◌then◌else◌, arith, sym, subst, ap, ◌∙◌, refl, append_assoc, length-append, All, string_bytes, String, ℤ}
 use Rattle.std.specs.Str.{bytes_eq}
 use Rattle.std.specs.declared.alloc.Global.{Global}
 use Rattle.std.proofs.lemmas.Bool.{cases_Bool}
@@ -13,14 +13,15 @@ use Rattle.aaf_format.specs.declared.aaf.AafFormat.TheVariants.{Float32, Int32, 
 use Rattle.avtp_words.specs.declared.operand.Operand.{Operand}
 use Rattle.avtp_words.specs.declared.option.Takes.TheVariants as takes
 use Rattle.avtp_words.specs.declared.option.Takes.TheVariants.{Number}
-use Rattle.avtp_words.specs.Number.{IsNumber}
-use Rattle.avtp_words.specs.Limits.{NumberOption}
+use Rattle.avtp_words.specs.Number.{IsNumber, IsSigned}
+use Rattle.avtp_words.specs.Limits.{NumberOption, SignedOption}
 use Rattle.avtp_words.specs.Operands.{IsId, AreOperands}
-use Rattle.avtp_words.specs.Reading.{are_sound, value_after, IsTail, IsRest, IsRestTo, AreOptionsTo, EndsOptions, StopsOptions, IsRead, IsReadId, IsReadIf, IsReadFormat}
+use Rattle.avtp_words.specs.Reading.{are_sound, begins_with_dashes, value_after, IsTail, IsRest, IsRestTo, AreOptionsTo, EndsOptions, StopsOptions, IsRead, IsReadId, IsReadIdIf, IsReadIf, IsReadSigned, IsReadFormat}
 use Rattle.avtp_words.specs.Word.{texts, BeginsWithDash, IsName}
 use Rattle.avtp_words.specs.Options.{Row, row_named, Setting, words_of, IsValue, IsTaken, stands_alone, format_name, IsSetting, value_in}
-use Rattle.avtp_words.specs.Grammar.{Form, IsOf, IsGiven, IsGivenId, IsGivenIf, IsGivenFormat, Stops, StopsAt}
-use Rattle.avtp_words.proofs.Settings.{name-dash, same-true, setting-value, same_first}
+use Rattle.avtp_words.specs.Grammar.{Form, IsOf, IsGiven, IsGivenId, IsGivenIdIf, IsGivenIf, IsGivenSigned, IsGivenFormat, Stops, StopsAt}
+use Rattle.avtp_words.proofs.Numbers.{same_spelled}
+use Rattle.avtp_words.proofs.Settings.{name-dash, same-true, found-dashes, setting-value, same_first}
 use Rattle.avtp_words.proofs.Operands.{names, samples, sampled}
 
 -- the value of an option is one that its row takes
@@ -38,14 +39,14 @@ value_is rows name row (g ∷ gs) is_row each =
       valued (Some word) taken = taken
 
 -- the word after the name of an option that takes a value is its value
-pub value-after : (rows : List Row) (gs : List Setting) (name : List ℕ) (row : Row) → are_sound rows ≡ true → All (IsSetting rows) gs → BeginsWithDash name → row_named rows name ≡ Some row → stands_alone row.takes ≡ false → value_after name (flat_map words_of gs) ≡ value_in name gs
-value-after rows [] name row sound each dash is_row wanted = refl
-value-after rows (g ∷ gs) name row sound each dash is_row wanted =
+pub value-after : (rows : List Row) (gs : List Setting) (name : List ℕ) (row : Row) → are_sound rows ≡ true → All (IsSetting rows) gs → row_named rows name ≡ Some row → stands_alone row.takes ≡ false → value_after name (flat_map words_of gs) ≡ value_in name gs
+value-after rows [] name row sound each is_row wanted = refl
+value-after rows (g ∷ gs) name row sound each is_row wanted =
     elim (cases_Bool (bytes_eq g.name name)) [
       | inl same ↦ (
           let takes : row_named rows g.name ≡ Some row = ap (row_named rows) (same-true g.name name same) ∙ is_row in
           rw same (valued g.value (subst (λ found. IsSomeAnd found (λ row. IsTaken row.takes g.value)) takes (All-head (IsSetting rows) g gs each).value)))
-      | inr other ↦ rw other (skipped g.value refl (value-after rows gs name row sound (All-tail (IsSetting rows) g gs each) dash is_row wanted))
+      | inr other ↦ rw other (skipped g.value refl (value-after rows gs name row sound (All-tail (IsSetting rows) g gs each) is_row wanted))
     ] where
       valued : (value : Option (List ℕ)) → IsTaken row.takes value → slice_get (option_to_list value ++ flat_map words_of gs) 0 ≡ value
       valued None taken = absurd (let no : true ≡ false = sym taken ∙ wanted in cc)
@@ -54,7 +55,7 @@ value-after rows (g ∷ gs) name row sound each dash is_row wanted =
       skipped : (value : Option (List ℕ)) → g.value ≡ value → value_after name (flat_map words_of gs) ≡ value_in name gs → value_after name (option_to_list value ++ flat_map words_of gs) ≡ value_in name gs
       skipped None e later = later
       skipped (Some word) e later = elim (cases_Bool (bytes_eq word name)) [
-        | inl same ↦ absurd (setting-value rows g word sound (All-head (IsSetting rows) g gs each) e (subst BeginsWithDash (sym (same-true word name same)) dash))
+        | inl same ↦ absurd (setting-value rows g word sound (All-head (IsSetting rows) g gs each) e (subst (λ (n : List ℕ). begins_with_dashes n ≡ true) (sym (same-true word name same)) (found-dashes rows name row sound is_row)))
         | inr different ↦ rw different later
       ]
 
@@ -207,6 +208,14 @@ pub id_given : (default n : ℕ) (v : Option (List ℕ)) → IfSome v (IsValue t
 id_given default n None is reads = reads.absent
 id_given default n (Some word) (id, is) reads = subst (IsId word) (sym (reads.read id is)) is
 
+pub id_given_if : (given : Option ℕ) (v : Option (List ℕ)) → IfSome v (IsValue takes.Id) → IsReadIdIf v given → MatchOption v (given ≡ None) (λ word. (id : ℕ) × (given ≡ Some id) × IsId word id)
+id_given_if given None is reads = reads.absent
+id_given_if given (Some word) (id, is) reads = (id, reads.read id is, is)
+
+pub signed_given : (most : ℕ) (default z : ℤ) (v : Option (List ℕ)) → most < 2 ^ 63 → IfSome v (IsValue (takes.Signed most)) → IsReadSigned default v z → MatchOption v (z ≡ default) (λ word. IsSigned most word z)
+signed_given most default z None small is reads = reads.absent
+signed_given most default z (Some word) small (k, is) reads = subst (IsSigned most word) (sym (reads.read k (omega (arith, is.size, small)) is.spelled)) is
+
 pub format_given : (default format : AafFormat) (v : Option (List ℕ)) → IfSome v (IsValue takes.Format) → IsReadFormat default v format → MatchOption v (format ≡ default) (λ word. word ≡ format_name format)
 format_given default format None is reads = reads.absent
 format_given default format (Some word) (named, is) reads = is ∙ ap format_name (sym (reads.read named is))
@@ -249,6 +258,18 @@ same_id_given name default m n gs p q = go (value_in name gs) p q where
   go : (v : Option (List ℕ)) → MatchOption v (m ≡ default) (λ word. IsId word m) → MatchOption v (n ≡ default) (λ word. IsId word n) → m ≡ n
   go None p q = p ∙ sym q
   go (Some word) p q = same_id word m n p q
+
+pub same_id_given_if : (name : List ℕ) (a b : Option ℕ) (gs : List Setting) → IsGivenIdIf name gs a → IsGivenIdIf name gs b → a ≡ b
+same_id_given_if name a b gs p q = go (value_in name gs) p q where
+  go : (v : Option (List ℕ)) → MatchOption v (a ≡ None) (λ word. (id : ℕ) × (a ≡ Some id) × IsId word id) → MatchOption v (b ≡ None) (λ word. (id : ℕ) × (b ≡ Some id) × IsId word id) → a ≡ b
+  go None p q = p ∙ sym q
+  go (Some word) (m, p, first) (n, q, second) = p ∙ ap Some (same_id word m n first second) ∙ sym q
+
+pub same_signed : (option : SignedOption) (y z : ℤ) (gs : List Setting) → option.most < 2 ^ 63 → IsGivenSigned option gs y → IsGivenSigned option gs z → y ≡ z
+same_signed option y z gs small p q = go (value_in option.name gs) p q where
+  go : (v : Option (List ℕ)) → MatchOption v (y ≡ option.default) (λ word. IsSigned option.most word y) → MatchOption v (z ≡ option.default) (λ word. IsSigned option.most word z) → y ≡ z
+  go None p q = p ∙ sym q
+  go (Some word) p q = same_spelled word y z (omega (arith, p.size, small)) (omega (arith, q.size, small)) p.spelled q.spelled
 
 -- formats differ in the fourth letter of their words
 by_fourth : ℕ → AafFormat

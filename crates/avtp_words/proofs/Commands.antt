@@ -16,14 +16,14 @@ use Rattle.avtp_words.specs.declared.talk.Kind.{Kind}
 use Rattle.avtp_words.specs.declared.talk.Kind.TheVariants.{Aaf, Am824}
 use Rattle.avtp_words.specs.declared.command.Offence.{Offence}
 use Rattle.avtp_words.specs.Operands.{IsId, AreOperands}
-use Rattle.avtp_words.specs.Reading.{IsRest, IsRestTo, StopsAfter, are_sound, value_after, IsRead, IsReadId, IsReadIf, IsReadFormat, IsReadKind, AreRead}
+use Rattle.avtp_words.specs.Reading.{IsRest, IsRestTo, StopsAfter, are_sound, value_after, IsRead, IsReadId, IsReadIdIf, IsReadIf, IsReadSigned, IsReadFormat, IsReadKind, AreHeard, AreRead}
 use Rattle.avtp_words.specs.Word.{texts, BeginsWithDash, IsName}
 use Rattle.avtp_words.specs.Limits as limits
-use Rattle.avtp_words.specs.Limits.{NumberOption, number}
+use Rattle.avtp_words.specs.Limits.{NumberOption, number, signed}
 use Rattle.avtp_words.specs.Options.{Row, row_named, Setting, words_of, IsValue, IsSetting, stands_alone, value_in}
-use Rattle.avtp_words.specs.Grammar.{request_of, Request, Listening, Talking, show, check, listen, talk, Form, form_named, show_form, check_form, listen_form, talk_form, IsOf, IsGiven, IsGivenId, IsGivenIf, IsShow, IsCheck, IsListen, SaysKind, SaysTalk, LacksAaf, KeepsRules, IsCommandLine, IsLine, Begins, Stops, StopsAt, IsOffence, of_a_word, of_a_rule}
+use Rattle.avtp_words.specs.Grammar.{request_of, Request, Listening, Talking, show, check, listen, talk, Form, form_named, show_form, check_form, listen_form, talk_form, IsOf, IsGiven, IsGivenId, IsGivenIdIf, IsGivenIf, IsGivenSigned, IsShow, IsCheck, IsListen, SaysKind, SaysTalk, LacksAaf, KeepsRules, IsCommandLine, IsLine, Begins, Stops, StopsAt, IsOffence, of_a_word, of_a_rule}
 use Rattle.avtp_words.proofs.Settings.{same-true}
-use Rattle.avtp_words.proofs.CommandLines.{same_line, left_is, value_is, value-after, number_given, number_given_if, id_given, format_given, same_number, same_number_if, same_id, same_id_given, same_format_given, options_to, beyond}
+use Rattle.avtp_words.proofs.CommandLines.{same_line, left_is, value_is, value-after, number_given, number_given_if, id_given, id_given_if, signed_given, format_given, same_number, same_number_if, same_id, same_id_given, same_id_given_if, same_signed, same_format_given, options_to, beyond}
 use Rattle.avtp_words.proofs.Operands.{names}
 use Rattle.avtp_words.proofs.Steps.{words_before, after_first}
 
@@ -124,13 +124,13 @@ none_first (word ∷ words) e = absurd (omega (arith, e))
 -- ---- what the code has read
 
 -- the word after the name of an option that takes a value is its value
-after_options : (form : Form) (words : List (String Global)) (place : ℕ) (r : IsRestTo form.rows form.operands (texts words) place) (name : List ℕ) (row : Row) → are_sound form.rows ≡ true → BeginsWithDash name → row_named form.rows name ≡ Some row → stands_alone row.takes ≡ false → value_after name (texts (take place words)) ≡ value_in name r.rest.settings
-after_options form words place r name row sound dash is_row wanted = ap (value_after name) (words_before form.rows words place (options_to form.rows form.operands (texts words) place r)) ∙ value-after form.rows r.rest.settings name row sound r.rest.options.each dash is_row wanted
+after_options : (form : Form) (words : List (String Global)) (place : ℕ) (r : IsRestTo form.rows form.operands (texts words) place) (name : List ℕ) (row : Row) → are_sound form.rows ≡ true → row_named form.rows name ≡ Some row → stands_alone row.takes ≡ false → value_after name (texts (take place words)) ≡ value_in name r.rest.settings
+after_options form words place r name row sound is_row wanted = ap (value_after name) (words_before form.rows words place (options_to form.rows form.operands (texts words) place r)) ∙ value-after form.rows r.rest.settings name row sound r.rest.options.each is_row wanted
 
-number_is : (form : Form) (words : List (String Global)) (place : ℕ) (r : IsRestTo form.rows form.operands (texts words) place) (option : NumberOption) (default bound n : ℕ) → are_sound form.rows ≡ true → BeginsWithDash option.name → row_named form.rows option.name ≡ Some (number option) → option.default ≡ Some default → option.high < bound → IsRead bound default (value_after option.name (texts (take place words))) n → IsGiven option r.rest.settings n
-number_is form words place r option default bound n sound dash is_row has small reads =
+number_is : (form : Form) (words : List (String Global)) (place : ℕ) (r : IsRestTo form.rows form.operands (texts words) place) (option : NumberOption) (default bound n : ℕ) → are_sound form.rows ≡ true → row_named form.rows option.name ≡ Some (number option) → option.default ≡ Some default → option.high < bound → IsRead bound default (value_after option.name (texts (take place words))) n → IsGiven option r.rest.settings n
+number_is form words place r option default bound n sound is_row has small reads =
     number_given option default bound n (value_in option.name r.rest.settings) has small (value_is form.rows option.name (number option) r.rest.settings is_row r.rest.options.each)
-    (subst (λ v. IsRead bound default v n) (after_options form words place r option.name (number option) sound dash is_row refl) reads)
+    (subst (λ v. IsRead bound default v n) (after_options form words place r option.name (number option) sound is_row refl) reads)
 
 -- the words after the options are the operands
 operand_at : (form : Form) (words : List (List ℕ)) (place k : ℕ) (r : IsRestTo form.rows form.operands words place) → slice_get words (place + k) ≡ slice_get r.rest.names k
@@ -160,7 +160,7 @@ show_is words place file limit r here reads = go r.rest.names r.rest.spelled r.r
       record {
         settings = gs;
         line = record { spelled = ap (λ ws. codes "show" ∷ ws) (spelled ∙ ap (λ (n : List ℕ). flat_map words_of gs ++ n ∷ []) same); options = r.rest.options; operands = subst (λ n. AreOperands show_form.operands (n ∷ [])) same named };
-        limit_given = number_is show_form words place r limits.limit (2 ^ 40) (2 ^ 64) limit refl refl refl refl (omega arith) reads;
+        limit_given = number_is show_form words place r limits.limit (2 ^ 40) (2 ^ 64) limit refl refl refl (omega arith) reads;
       }
   go (name ∷ more ∷ ns) spelled named first = absurd named.1
 
@@ -172,7 +172,7 @@ check_is words place limit files r next reads =
     record {
       settings = r.rest.settings;
       line = record { spelled = ap (λ ws. codes "check" ∷ ws) (r.rest.spelled ∙ ap (λ ns. flat_map words_of r.rest.settings ++ ns) same); options = r.rest.options; operands = subst (AreOperands check_form.operands) same r.rest.named };
-      limit_given = number_is check_form words place r limits.limit (2 ^ 40) (2 ^ 64) limit refl refl refl refl (omega arith) reads;
+      limit_given = number_is check_form words place r limits.limit (2 ^ 40) (2 ^ 64) limit refl refl refl (omega arith) reads;
     }
 
 -- ---- listen
@@ -229,21 +229,32 @@ some_file words asked s = go asked.files s.line.operands where
 pub files_named : (words : List (List ℕ)) (asked : Listening) → IsListen words asked → All IsName asked.files
 files_named words asked s = names (operand.Names ∷ []) asked.files s.line.operands.1
 
-pub listen_is : (words : List (String Global)) (place : ℕ) (id : List ℕ) (files : List (List ℕ)) (stream buffer room lead : ℕ) → IsRestTo listen_form.rows listen_form.operands (texts words) place
-    → slice_get (texts words) place ≡ Some id → IsId id stream → drop (place + 1) (texts words) ≡ files
-    → IsRead (2 ^ 32) 4096 (value_after (codes "--buffer") (texts (take place words))) buffer
-    → IsRead (2 ^ 32) (2 ^ 26) (value_after (codes "--room") (texts (take place words))) room
-    → IsRead (2 ^ 32) 2000000 (value_after (codes "--lead") (texts (take place words))) lead
-    → IsListen (codes "listen" ∷ texts words) (record { stream = stream; buffer = buffer; room = room; lead = lead; files = files })
-listen_is words place id files stream buffer room lead r here is next buffer_reads room_reads lead_reads = record {
-  settings = r.rest.settings;
+pub listen_is : (words : List (String Global)) (place : ℕ) (id : List ℕ) (asked : Listening) → IsRestTo listen_form.rows listen_form.operands (texts words) place
+    → slice_get (texts words) place ≡ Some id → IsId id asked.stream → drop (place + 1) (texts words) ≡ asked.files
+    → AreHeard (texts (take place words)) asked → IsListen (codes "listen" ∷ texts words) asked
+listen_is words place id asked r here is next read = record {
+  settings = gs;
   id = id;
-  line = listen_line (texts words) place r.rest.settings (id_and_names (texts words) place r) id files here next;
+  line = listen_line (texts words) place gs (id_and_names (texts words) place r) id asked.files here next;
   stream = is;
-  buffer = number_is listen_form words place r limits.buffer 4096 (2 ^ 32) buffer refl refl refl refl (omega arith) buffer_reads;
-  room = number_is listen_form words place r limits.room (2 ^ 26) (2 ^ 32) room refl refl refl refl (omega arith) room_reads;
-  lead = number_is listen_form words place r limits.listen_lead 2000000 (2 ^ 32) lead refl refl refl refl (omega arith) lead_reads;
-}
+  limit = number_is listen_form words place r limits.limit (2 ^ 40) (2 ^ 64) asked.limit refl refl refl (omega arith) read.limit;
+  buffer = number_is listen_form words place r limits.buffer 4096 (2 ^ 32) asked.buffer refl refl refl (omega arith) read.buffer;
+  room = number_is listen_form words place r limits.room (2 ^ 26) (2 ^ 32) asked.room refl refl refl (omega arith) read.room;
+  look = number_is listen_form words place r limits.look 0 (2 ^ 32) asked.look refl refl refl (omega arith) read.look;
+  lead = number_is listen_form words place r limits.listen_lead 2000000 (2 ^ 32) asked.lead refl refl refl (omega arith) read.lead;
+  clock = id_given_if asked.clock (value_in clock.name gs) (value_is listen_form.rows clock.name clock gs refl r.rest.options.each)
+      (subst (λ v. IsReadIdIf v asked.clock) (after_options listen_form words place r clock.name clock refl refl refl) read.clock);
+  shift = signed_given limits.crf_shift.most limits.crf_shift.default asked.shift (value_in shift.name gs) (omega arith) (value_is listen_form.rows shift.name shift gs refl r.rest.options.each)
+      (subst (λ v. IsReadSigned limits.crf_shift.default v asked.shift) (after_options listen_form words place r shift.name shift refl refl refl) read.shift);
+} where
+  gs : List Setting
+  gs = r.rest.settings
+
+  clock : Row
+  clock = record { name = codes "--clock"; takes = takes.Id }
+
+  shift : Row
+  shift = signed limits.crf_shift
 
 -- ---- talk
 
@@ -300,18 +311,18 @@ talk_says words place tells asked r here next sparse read = record {
   settings = gs;
   line = line_at (texts words) place gs (two_names (texts words) place r) asked.input asked.output here next;
   kind = kind_says asked.kind read.kind;
-  rate = number_of limits.rate 48000 (2 ^ 32) asked.rate refl refl refl (omega arith) read.rate;
-  channels = number_of limits.channels 2 (2 ^ 16) asked.channels refl refl refl (omega arith) read.channels;
-  count = number_of limits.count 6 (2 ^ 32) asked.count refl refl refl (omega arith) read.count;
+  rate = number_of limits.rate 48000 (2 ^ 32) asked.rate refl refl (omega arith) read.rate;
+  channels = number_of limits.channels 2 (2 ^ 16) asked.channels refl refl (omega arith) read.channels;
+  count = number_of limits.count 6 (2 ^ 32) asked.count refl refl (omega arith) read.count;
   id = id_given limits.talk_id asked.id (value_in (codes "--id") gs) (given (row (codes "--id") takes.Id) refl)
-      (subst (λ v. IsReadId limits.talk_id v asked.id) (after (row (codes "--id") takes.Id) refl refl refl) read.id);
+      (subst (λ v. IsReadId limits.talk_id v asked.id) (after (row (codes "--id") takes.Id) refl refl) read.id);
   start_at = read.start.0;
-  start = number_of limits.start (10 ^ 9) (2 ^ 63) read.start.0 refl refl refl (omega arith) read.start.2;
+  start = number_of limits.start (10 ^ 9) (2 ^ 63) read.start.0 refl refl (omega arith) read.start.2;
   start_is = read.start.1;
-  lead = number_of limits.talk_lead 2000000 (2 ^ 32) asked.lead refl refl refl (omega arith) read.lead;
+  lead = number_of limits.talk_lead 2000000 (2 ^ 32) asked.lead refl refl (omega arith) read.lead;
   restart = number_given_if limits.restart.low limits.restart.high (2 ^ 32) asked.restart (value_in limits.restart.name gs) (omega arith) (given (number limits.restart) refl)
-      (subst (λ v. IsReadIf (2 ^ 32) v asked.restart) (after (number limits.restart) refl refl refl) read.restart);
-  jump = number_of limits.jump 1000000 (2 ^ 32) asked.jump refl refl refl (omega arith) read.jump;
+      (subst (λ v. IsReadIf (2 ^ 32) v asked.restart) (after (number limits.restart) refl refl) read.restart);
+  jump = number_of limits.jump 1000000 (2 ^ 32) asked.jump refl refl (omega arith) read.jump;
 } where
   gs : List Setting
   gs = r.rest.settings
@@ -322,11 +333,11 @@ talk_says words place tells asked r here next sparse read = record {
   given : (taken : Row) → row_named talk_form.rows taken.name ≡ Some taken → IfSome (value_in taken.name gs) (IsValue taken.takes)
   given taken is_row = value_is talk_form.rows taken.name taken gs is_row r.rest.options.each
 
-  after : (taken : Row) → BeginsWithDash taken.name → row_named talk_form.rows taken.name ≡ Some taken → stands_alone taken.takes ≡ false → value_after taken.name (texts (take place words)) ≡ value_in taken.name gs
-  after taken dash is_row wanted = after_options talk_form words place r taken.name taken refl dash is_row wanted
+  after : (taken : Row) → row_named talk_form.rows taken.name ≡ Some taken → stands_alone taken.takes ≡ false → value_after taken.name (texts (take place words)) ≡ value_in taken.name gs
+  after taken is_row wanted = after_options talk_form words place r taken.name taken refl is_row wanted
 
-  number_of : (option : NumberOption) (default bound n : ℕ) → BeginsWithDash option.name → row_named talk_form.rows option.name ≡ Some (number option) → option.default ≡ Some default → option.high < bound → IsRead bound default (value_after option.name (texts (take place words))) n → IsGiven option gs n
-  number_of option default bound n dash is_row has small reads = number_is talk_form words place r option default bound n refl dash is_row has small reads
+  number_of : (option : NumberOption) (default bound n : ℕ) → row_named talk_form.rows option.name ≡ Some (number option) → option.default ≡ Some default → option.high < bound → IsRead bound default (value_after option.name (texts (take place words))) n → IsGiven option gs n
+  number_of option default bound n is_row has small reads = number_is talk_form words place r option default bound n refl is_row has small reads
 
   aaf_of : (v : Option (List ℕ)) → IfSome v (IsValue takes.Kind) → IfSome v (λ word. word ≢ codes "am824") → IfSome v (λ word. word ≡ codes "aaf")
   aaf_of None is other = tt
@@ -335,12 +346,12 @@ talk_says words place tells asked r here next sparse read = record {
 
   kind_says : (kind : Kind) → IsReadKind (texts (take place words)) tells kind → SaysKind (codes "talk" ∷ texts words) gs kind
   kind_says (Aaf format is_sparse) read = record {
-    kind = aaf_of (value_in (codes "--kind") gs) (given (row (codes "--kind") takes.Kind) refl) (subst (λ v. IfSome v (λ word. word ≢ codes "am824")) (after (row (codes "--kind") takes.Kind) refl refl refl) read.other);
+    kind = aaf_of (value_in (codes "--kind") gs) (given (row (codes "--kind") takes.Kind) refl) (subst (λ v. IfSome v (λ word. word ≢ codes "am824")) (after (row (codes "--kind") takes.Kind) refl refl) read.other);
     format_given = format_given Int16 format (value_in (codes "--format") gs) (given (row (codes "--format") takes.Format) refl)
-        (subst (λ v. IsReadFormat Int16 v format) (after (row (codes "--format") takes.Format) refl refl refl) read.format_read);
+        (subst (λ v. IsReadFormat Int16 v format) (after (row (codes "--format") takes.Format) refl refl) read.format_read);
     sparse_given = after_talk (codes "--sparse") is_sparse (texts words) refl (subst (λ is. IsTrue is ↔ Contains (texts words) (codes "--sparse")) (sym read.sparse_read) sparse);
   }
-  kind_says Am824 read = sym (after (row (codes "--kind") takes.Kind) refl refl refl) ∙ read
+  kind_says Am824 read = sym (after (row (codes "--kind") takes.Kind) refl refl) ∙ read
 
 -- words with no jump need no restart
 pub without_jump : (words : List (List ℕ)) (jumps : Bool) → jumps ≡ false → IsTrue jumps ↔ Contains words (codes "--jump") → IsTrue (not jumps) ↔ (Contains (codes "talk" ∷ words) (codes "--jump") → Contains (codes "talk" ∷ words) (codes "--restart"))
@@ -464,6 +475,33 @@ offence_of_rule words asked says breaks = of_a_rule refl
 
 -- ---- each line asks for one thing, and words have one offence
 
+-- words of `listen` ask for one thing
+same_listen : (words : List (List ℕ)) (a b : Listening) → IsListen words a → IsListen words b → a ≡ b
+same_listen words a b p q = same
+    (same_id q.id a.stream b.stream (subst (λ word. IsId word a.stream) ids p.stream) q.stream)
+    (number limits.limit a.limit b.limit (omega arith) p.limit q.limit)
+    (number limits.buffer a.buffer b.buffer (omega arith) p.buffer q.buffer)
+    (number limits.room a.room b.room (omega arith) p.room q.room)
+    (number limits.look a.look b.look (omega arith) p.look q.look)
+    (number limits.listen_lead a.lead b.lead (omega arith) p.lead q.lead)
+    (same_id_given_if (codes "--clock") a.clock b.clock q.settings (subst (λ gs. IsGivenIdIf (codes "--clock") gs a.clock) both.0 p.clock) q.clock)
+    (same_signed limits.crf_shift a.shift b.shift q.settings (omega arith) (subst (λ gs. IsGivenSigned limits.crf_shift gs a.shift) both.0 p.shift) q.shift)
+    files where
+      both : (p.settings ≡ q.settings) × ((p.id ∷ a.files) ≡ (q.id ∷ b.files))
+      both = same_line listen_form words p.settings q.settings (p.id ∷ a.files) (q.id ∷ b.files) p.line q.line
+
+      files : a.files ≡ b.files
+      files = cc (both.1)
+
+      ids : p.id ≡ q.id
+      ids = cc (both.1)
+
+      number : (option : NumberOption) (m n : ℕ) → option.high < 2 ^ 64 → IsGiven option p.settings m → IsGiven option q.settings n → m ≡ n
+      number option m n small first second = same_number option m n q.settings small (subst (λ gs. IsGiven option gs m) both.0 first) second
+
+      same : a.stream ≡ b.stream → a.limit ≡ b.limit → a.buffer ≡ b.buffer → a.room ≡ b.room → a.look ≡ b.look → a.lead ≡ b.lead → a.clock ≡ b.clock → a.shift ≡ b.shift → a.files ≡ b.files → a ≡ b
+      same streams limits buffers rooms looks leads clocks shifts files = rw (streams, limits, buffers, rooms, looks, leads, clocks, shifts, files) refl
+
 -- words ask for one thing
 pub same_request : (words : List (List ℕ)) (r s : Request) → IsCommandLine words r → IsCommandLine words s → r ≡ s
 same_request words (show limit file) (show other name) p q =
@@ -488,25 +526,7 @@ same_request words (talk asked) (show other name) p q = absurd (show_talk (one_c
 same_request words (talk asked) (check other names) p q = absurd (check_talk (one_command words (check other names) (talk asked) q p))
 same_request words (talk asked) (listen other) p q = absurd (listen_talk (one_command words (listen other) (talk asked) q p))
 same_request words (talk asked) (talk other) (p, rules) (q, others) = ap talk (same_talk words asked other p q)
-same_request words (listen asked) (listen other) p q =
-    ap listen (same streams (number limits.buffer asked.buffer other.buffer (omega arith) p.buffer q.buffer) (number limits.room asked.room other.room (omega arith) p.room q.room) (number limits.listen_lead asked.lead other.lead (omega arith) p.lead q.lead) files) where
-      both : (p.settings ≡ q.settings) × ((p.id ∷ asked.files) ≡ (q.id ∷ other.files))
-      both = same_line listen_form words p.settings q.settings (p.id ∷ asked.files) (q.id ∷ other.files) p.line q.line
-
-      files : asked.files ≡ other.files
-      files = cc (both.1)
-
-      ids : p.id ≡ q.id
-      ids = cc (both.1)
-
-      streams : asked.stream ≡ other.stream
-      streams = same_id q.id asked.stream other.stream (subst (λ word. IsId word asked.stream) ids p.stream) q.stream
-
-      number : (option : NumberOption) (m n : ℕ) → option.high < 2 ^ 64 → IsGiven option p.settings m → IsGiven option q.settings n → m ≡ n
-      number option m n small first second = same_number option m n q.settings small (subst (λ gs. IsGiven option gs m) both.0 first) second
-
-      same : asked.stream ≡ other.stream → asked.buffer ≡ other.buffer → asked.room ≡ other.room → asked.lead ≡ other.lead → asked.files ≡ other.files → asked ≡ other
-      same streams buffers rooms leads files = rw (streams, buffers, rooms, leads, files) refl
+same_request words (listen asked) (listen other) p q = ap listen (same_listen words asked other p q)
 
 -- where words stop being a line they are none
 stopped : (words : List (List ℕ)) (place : ℕ) → StopsAt IsLine words place → IsLine words → ⊥

@@ -1,13 +1,17 @@
 -- A word that spells a number: what `parse` reads of it, and what `{n}` writes.
-use Rattle.std.proofs.Common.{◌≡◌, ◌≢◌, ℕ, zero, suc, ◌^◌, ◌<◌, ◌≤◌, List, length, get_or, Result, Ok, Err, Option, Some, None, IfSome, IfNone, unwrap_or, arith, sym, ap, ◌∙◌, decimal, nat_le, IsTrue, ◌↔◌, refl, ℤ, pos, w64, FitsSigned}
+use Rattle.std.proofs.Common.{◌≡◌, ◌≢◌, ℕ, zero, suc, ◌^◌, ◌<◌, ◌≤◌, List, [], ◌∷◌, drop, length, get_or, Result, Ok, Err, Option, Some, None, IfSome, IfNone, unwrap_or, arith, sym, subst, ap, ◌∙◌, decimal, nat_le, nat_eq, true, IsTrue, ◌↔◌, refl, ℤ, pos, negsuc, unsigned_abs, w64, FitsSigned}
 use Rattle.std.specs.Result.{result_ok}
 use Rattle.std.specs.Str.Parse.{ParsesUnsigned, AllDigits, digits_value}
 use Rattle.std.proofs.lemmas.Str.Parse.{IsNumeralModel, numerals_by_value, tells_digits, parse_plain, digit_at}
-use Rattle.std.proofs.lemmas.Fmt.{decimal_is_IsNumeral, parse-decimal, decimal_nonempty, first_decimal, decimal_digit, decimal-digits_value, decimal_injective}
+use Rattle.std.proofs.lemmas.Fmt.{decimal_is_IsNumeral, parse-decimal, decimal_nonempty, first_decimal, decimal_digit, decimal-digits_value, decimal_injective, signed_decimal_injective}
+use lib.Signed.{mag}
+use Rattle.std.specs.Fmt.{signed_decimal}
 use Rattle.std.proofs.lemmas.Bool.{leb-true, le-leb}
+use Rattle.std.proofs.lemmas.Bool.Decides.{nat_tests}
 use Rattle.std.specs.Result.{OkIff, result_unwrap_or}
-use Rattle.avtp_words.specs.Number.{BeginsAsNumber, IsNumber}
-use Rattle.avtp_words.specs.Reading.{IsRead, IsReadIf}
+use Rattle.avtp_words.specs.Number.{BeginsAsNumber, IsNumber, IsSigned}
+use Rattle.avtp_words.specs.Reading.{IsRead, IsReadIf, IsReadSigned, begins_with_dashes}
+use Rattle.avtp_words.specs.Word.{BeginsWithDash}
 
 own : IsNumeralModel (AllDigits 10) (digits_value 10)
 own = numerals_by_value _ tells_digits
@@ -43,6 +47,80 @@ begins-decimal bytes n small e = rw e (record {
   high = (first_digit n small).1;
   zero = alone n small;
 })
+
+-- no number begins with a dash
+pub no_dash : (word : List ℕ) (n : ℕ) → n < 2 ^ 64 → word ≡ decimal n → BeginsWithDash word → ⊥
+no_dash [] n small e dash = dash
+no_dash (first ∷ more) n small e dash = let begins : BeginsAsNumber (first ∷ more) = begins-decimal (first ∷ more) n small e in omega (arith, begins.low, dash)
+
+-- what begins with two dashes begins with one, and then with another
+pub one_dash : (word : List ℕ) → begins_with_dashes word ≡ true → BeginsWithDash word
+one_dash [] e = absurd cc
+one_dash (first ∷ []) e = absurd cc
+one_dash (first ∷ second ∷ more) e = grind (arith, nat_tests)
+
+second_dash : (first second : ℕ) (more : List ℕ) → begins_with_dashes (first ∷ second ∷ more) ≡ true → second ≡ 45
+second_dash first second more e = grind (arith, nat_tests)
+
+-- a number that may be below 0 begins with one dash at most
+pub no_dashes : (word : List ℕ) (z : ℤ) → unsigned_abs z < 2 ^ 63 → word ≡ signed_decimal z → begins_with_dashes word ≡ true → ⊥
+no_dashes word (pos n) small e both = no_dash word n (omega (arith, small)) e (one_dash word both)
+no_dashes [] (negsuc n) small e both = absurd cc
+no_dashes (first ∷ []) (negsuc n) small e both = absurd cc
+no_dashes (first ∷ second ∷ more) (negsuc n) small e both = no_dash (second ∷ more) (suc n) (omega (arith, small)) (ap (drop 1) e) (second_dash first second more both)
+
+-- digits of no number above 0 are those of no number below 0
+pub below_none : (digits : List ℕ) → ((n : ℕ) → 0 < n → n < 2 ^ 63 → digits ≢ decimal n) → (z : ℤ) → unsigned_abs z < 2 ^ 63 → (45 ∷ digits) ≢ signed_decimal z
+below_none digits none (pos n) small e = no_dash (45 ∷ digits) n (omega (arith, small)) e refl
+below_none digits none (negsuc n) small e = none (suc n) (omega arith) small (ap (drop 1) e)
+
+-- a word without a dash is no number below 0
+pub above_none : (word : List ℕ) → ((rest : List ℕ) → word ≢ 45 ∷ rest) → ((n : ℕ) → n < 2 ^ 63 → word ≢ decimal n) → (z : ℤ) → unsigned_abs z < 2 ^ 63 → word ≢ signed_decimal z
+above_none word plain none (pos n) small e = none n small e
+above_none word plain none (negsuc n) small e = plain (decimal (suc n)) e
+
+mag_below : (z : ℤ) → unsigned_abs z < 2 ^ 63 → mag z < 2 ^ 63
+mag_below (pos n) small = small
+mag_below (negsuc n) small = omega (arith, small)
+
+-- a word is one number, also below 0
+pub same_spelled : (word : List ℕ) (y z : ℤ) → unsigned_abs y < 2 ^ 63 → unsigned_abs z < 2 ^ 63 → word ≡ signed_decimal y → word ≡ signed_decimal z → y ≡ z
+same_spelled word y z small smaller p q = signed_decimal_injective y z (mag_below y small) (mag_below z smaller) (sym p ∙ q)
+
+-- a word that spells a number is one in range exactly if that number is
+pub signed_is : (most : ℕ) (y : ℤ) (word : List ℕ) → unsigned_abs y < 2 ^ 63 → most < 2 ^ 63 → word ≡ signed_decimal y → IsTrue (nat_le (unsigned_abs y) most) ↔ ((z : ℤ) × IsSigned most word z)
+signed_is most y word small fits spelled = (
+  (λ t. (y, record { size = leb-true (unsigned_abs y) most t; spelled = spelled })),
+  λ (z, is).
+      let same : z ≡ y = same_spelled word z y (omega (arith, is.size)) small is.spelled spelled in
+      le-leb (unsigned_abs y) most (subst (λ x. unsigned_abs x ≤ most) same is.size),
+)
+
+-- a number less than 2^63 away from 0 has 64 bits
+pub fits_mag : (z : ℤ) → mag z < 2 ^ 63 → FitsSigned w64 z
+fits_mag (pos n) small = omega (arith, small)
+fits_mag (negsuc n) small = omega (arith, small)
+
+pub fits : (z : ℤ) → unsigned_abs z < 2 ^ 63 → FitsSigned w64 z
+fits z small = fits_mag z (mag_below z small)
+
+pub fits_after : (o : Option ℤ) (default : ℤ) → mag default < 2 ^ 63 → IfSome o (λ z. unsigned_abs z < 2 ^ 63) → FitsSigned w64 (unwrap_or o default)
+fits_after None default is small = fits_mag default is
+fits_after (Some z) default is small = fits z small
+
+-- the number that a word spells is the one that is read of it
+pub signed_read_of : (word : List ℕ) (o : Option ℤ) (default : ℤ) → IfSome o (λ z. word ≡ signed_decimal z) → IfSome o (λ z. unsigned_abs z < 2 ^ 63) → IfNone o ((z : ℤ) → unsigned_abs z < 2 ^ 63 → word ≢ signed_decimal z) → IsReadSigned default (Some word) (unwrap_or o default)
+signed_read_of word (Some y) default spells small none = record { absent = tt; read = λ z below e. same_spelled word y z small below spells e }
+signed_read_of word None default spells small none = record { absent = tt; read = λ z below e. absurd (none z below e) }
+
+-- what holds of any answer holds where there is none
+pub where_none : {X : Type 0} {P : Type 0} (answer : Option X) → P → IfNone answer P
+where_none None holds = holds
+where_none (Some x) holds = tt
+
+-- a word spells one number
+pub spells_one : (word : List ℕ) (m n : ℕ) → m < 2 ^ 64 → n < 2 ^ 64 → word ≡ decimal n → word ≡ decimal m → m ≡ n
+spells_one word m n small smaller e f = decimal_injective m n small smaller (sym f ∙ e)
 
 -- a word that spells a number is a number in range exactly if that number is
 pub is_number-then : (low high n : ℕ) (word : List ℕ) (least : low ≤ n) (spells : word ≡ decimal n) → n < 2 ^ 64 → high < 2 ^ 64 → IsTrue (nat_le n high) ↔ ((m : ℕ) × IsNumber low high word m)
@@ -85,3 +163,10 @@ read_if {E = E} word n r given small spells tried is = record { absent = tt; rea
   go : (r : Result ℕ E) → OkIff r (n < 2 ^ 32) n → (k : ℕ) → k < 2 ^ 32 → k ≡ n → result_ok r ≡ Some k
   go (Ok x) (fits, x_is) k below same = ap Some (x_is ∙ sym same)
   go (Err e) large k below same = absurd (large (omega (arith, below, same)))
+
+-- a word without a dash that spells a number of 2^63 or more is no number below that
+pub unfit : {E : Type 0} (word : List ℕ) (n : ℕ) (r : Result ℤ E) (given : Option ℤ) → n < 2 ^ 64 → word ≡ decimal n → OkIff r (FitsSigned w64 (pos n)) (pos n) → given ≡ result_ok r → ((rest : List ℕ) → word ≢ 45 ∷ rest) → IfNone given ((z : ℤ) → unsigned_abs z < 2 ^ 63 → word ≢ signed_decimal z)
+unfit {E = E} word n r given small spells tried is plain = rw is (go r tried) where
+  go : (r : Result ℤ E) → OkIff r (FitsSigned w64 (pos n)) (pos n) → IfNone (result_ok r) ((z : ℤ) → unsigned_abs z < 2 ^ 63 → word ≢ signed_decimal z)
+  go (Ok z) tried = tt
+  go (Err e) large = above_none word plain (λ k below e. let same : k ≡ n = spells_one word k n (omega (arith, below)) small spells e in absurd (large (omega (arith, same, below))))

@@ -9,12 +9,11 @@ use Rattle.std.proofs.lemmas.Slice.Eq.{bytes_eq-Decides}
 use Rattle.aaf_format.specs.declared.aaf.AafFormat.{AafFormat}
 use Rattle.aaf_format.specs.declared.aaf.AafFormat.TheVariants.{Float32, Int32, Int24, Int16}
 use Rattle.avtp_words.specs.declared.option.Takes.{Takes}
-use Rattle.avtp_words.specs.declared.option.Takes.TheVariants.{Number, Id, Kind, Format, Nothing}
-use Rattle.avtp_words.specs.Number.{BeginsAsNumber}
-use Rattle.avtp_words.specs.Reading.{is_sound, are_sound}
+use Rattle.avtp_words.specs.declared.option.Takes.TheVariants.{Number, Signed, Id, Kind, Format, Nothing}
+use Rattle.avtp_words.specs.Reading.{is_sound, are_sound, begins_with_dashes}
 use Rattle.avtp_words.specs.Word.{BeginsWithDash, IsName}
 use Rattle.avtp_words.specs.Options.{Row, row_named, Setting, words_of, IsValue, IsTaken, stands_alone, format_name, IsSetting, AreSettings}
-use Rattle.avtp_words.proofs.Numbers.{begins-decimal}
+use Rattle.avtp_words.proofs.Numbers.{no_dash, one_dash, no_dashes}
 use Rattle.avtp_words.proofs.Operands.{id_name}
 
 -- no name begins as an option
@@ -32,64 +31,80 @@ pub both : (a b : Bool) → (a && b) ≡ true → (a ≡ true) × (b ≡ true)
 both true b e = (refl, e)
 both false b e = absurd (cc)
 
--- no value begins with a dash
-pub value-dash : (takes : Takes) (word : List ℕ) → is_sound takes ≡ true → IsValue takes word → BeginsWithDash word → ⊥
-value-dash (Number low high) [] sound (n, is) dash = dash
-value-dash (Number low high) (first ∷ more) sound (n, is) dash =
+plain : false ≡ true → ⊥
+plain e = absurd cc
+
+-- no value begins with two dashes
+pub value-dashes : (takes : Takes) (word : List ℕ) → is_sound takes ≡ true → IsValue takes word → begins_with_dashes word ≡ true → ⊥
+value-dashes (Number low high) word sound (n, is) dashes =
     let bound : high < 2 ^ 64 = ltb-true high (2 ^ 64) (both _ _ sound).1 in
-    let small : n < 2 ^ 64 = omega (arith, is.most) in
-    let begins : BeginsAsNumber (first ∷ more) = begins-decimal (first ∷ more) n small is.spelled in omega (arith, begins.low, dash)
-value-dash Id word sound (id, is) dash = name-dash word (id_name word id is) dash
-value-dash Kind word sound (inl is) dash = no_dash_aaf (subst BeginsWithDash is dash) where
-  no_dash_aaf : BeginsWithDash (codes "aaf") → ⊥
-  no_dash_aaf dash = absurd (omega (arith, dash))
-value-dash Kind word sound (inr is) dash = no_dash_am824 (subst BeginsWithDash is dash) where
-  no_dash_am824 : BeginsWithDash (codes "am824") → ⊥
-  no_dash_am824 dash = absurd (omega (arith, dash))
-value-dash Format word sound (format, is) dash = named format (subst BeginsWithDash is dash) where
-  named : (format : AafFormat) → BeginsWithDash (format_name format) → ⊥
-  named Int16 dash = absurd (omega (arith, dash))
-  named Int24 dash = absurd (omega (arith, dash))
-  named Int32 dash = absurd (omega (arith, dash))
-  named Float32 dash = absurd (omega (arith, dash))
-value-dash Nothing word sound is dash = is
+    no_dash word n (omega (arith, is.most)) is.spelled (one_dash word dashes)
+value-dashes (Signed most) word sound (z, is) dashes =
+    let bound : most < 2 ^ 63 = ltb-true most (2 ^ 63) sound in
+    no_dashes word z (omega (arith, is.size)) is.spelled dashes
+value-dashes Id word sound (id, is) dashes = name-dash word (id_name word id is) (one_dash word dashes)
+value-dashes Kind word sound (inl is) dashes = plain (subst (λ w. begins_with_dashes w ≡ true) is dashes)
+value-dashes Kind word sound (inr is) dashes = plain (subst (λ w. begins_with_dashes w ≡ true) is dashes)
+value-dashes Format word sound (format, is) dashes = named format (subst (λ w. begins_with_dashes w ≡ true) is dashes) where
+  named : (format : AafFormat) → begins_with_dashes (format_name format) ≡ true → ⊥
+  named Int16 found = plain found
+  named Int24 found = plain found
+  named Int32 found = plain found
+  named Float32 found = plain found
+value-dashes Nothing word sound is dashes = is
 
 -- an option that stands alone has no value
 alone : (takes : Takes) (word : List ℕ) → IsTrue (stands_alone takes) → IsValue takes word → ⊥
 alone (Number low high) word stands is = absurd cc
+alone (Signed most) word stands is = absurd cc
 alone Id word stands is = absurd cc
 alone Kind word stands is = absurd cc
 alone Format word stands is = absurd cc
 alone Nothing word stands is = is
 
--- the row that a name finds is sound if all are
+-- the row that a name finds is sound if all are, and the name begins with two dashes
 pub found-sound : (rows : List Row) (name : List ℕ) (row : Row) → are_sound rows ≡ true → row_named rows name ≡ Some row → is_sound row.takes ≡ true
 found-sound [] name row sound found = cc
 found-sound (r ∷ rows) name row sound found =
     elim (cases_Bool (bytes_eq r.name name)) [
-      | inl here ↦ (let same : r ≡ row = (let e : Some r ≡ Some row = rw here at found in cc) in subst (λ (x : Row). is_sound x.takes ≡ true) same (both _ _ sound).0)
+      | inl here ↦ (let same : r ≡ row = (let e : Some r ≡ Some row = rw here at found in cc) in subst (λ (x : Row). is_sound x.takes ≡ true) same (both _ _ (both _ _ sound).0).1)
       | inr other ↦ found-sound rows name row (both _ _ sound).1 (rw other at found)
     ]
 
-pub setting-value : (rows : List Row) (s : Setting) (value : List ℕ) → are_sound rows ≡ true → IsSetting rows s → s.value ≡ Some value → BeginsWithDash value → ⊥
+pub found-dashes : (rows : List Row) (name : List ℕ) (row : Row) → are_sound rows ≡ true → row_named rows name ≡ Some row → begins_with_dashes name ≡ true
+found-dashes [] name row sound found = cc
+found-dashes (r ∷ rows) name row sound found =
+    elim (cases_Bool (bytes_eq r.name name)) [
+      | inl here ↦ subst (λ (n : List ℕ). begins_with_dashes n ≡ true) (same-true r.name name here) (both _ _ (both _ _ sound).0).0
+      | inr other ↦ found-dashes rows name row (both _ _ sound).1 (rw other at found)
+    ]
+
+-- the name of an option begins with two dashes, and its value does not
+pub setting-dashes : (rows : List Row) (s : Setting) → are_sound rows ≡ true → IsSetting rows s → begins_with_dashes s.name ≡ true
+setting-dashes rows s sound is = go (row_named rows s.name) refl is.value where
+  go : (found : Option Row) → row_named rows s.name ≡ found → IsSomeAnd found (λ row. IsTaken row.takes s.value) → begins_with_dashes s.name ≡ true
+  go None e taken = absurd taken
+  go (Some row) e taken = found-dashes rows s.name row sound e
+
+pub setting-value : (rows : List Row) (s : Setting) (value : List ℕ) → are_sound rows ≡ true → IsSetting rows s → s.value ≡ Some value → begins_with_dashes value ≡ true → ⊥
 setting-value rows s value sound is valued = setting_value (row_named rows s.name) refl (subst (λ v. IsSomeAnd (row_named rows s.name) (λ row. IsTaken row.takes v)) valued is.value) where
-  setting_value : (found : Option Row) → row_named rows s.name ≡ found → IsSomeAnd found (λ row. IsValue row.takes value) → BeginsWithDash value → ⊥
-  setting_value None e taken dash = taken
-  setting_value (Some row) e taken dash = value-dash row.takes value (found-sound rows s.name row sound e) taken dash
+  setting_value : (found : Option Row) → row_named rows s.name ≡ found → IsSomeAnd found (λ row. IsValue row.takes value) → begins_with_dashes value ≡ true → ⊥
+  setting_value None e taken dashes = taken
+  setting_value (Some row) e taken dashes = value-dashes row.takes value (found-sound rows s.name row sound e) taken dashes
 
 -- a name that is not among the words is no option's
 pub fresh : (gs : List Setting) (name : List ℕ) → (Contains (flat_map words_of gs) name → ⊥) → All (λ s. s.name ≢ name) gs
 fresh [] name absent = All-nil (λ s. s.name ≢ name)
 fresh (g ∷ gs) name absent = All-cons (λ s. s.name ≢ name) g gs (λ e. absent (0, omega arith, e)) (fresh gs name (λ within. absent (Contains-append_right (words_of g) (flat_map words_of gs) name within)))
 
--- one that begins as an option is among the words only as an option's
-pub taken : (rows : List Row) (gs : List Setting) (name : List ℕ) → are_sound rows ≡ true → All (IsSetting rows) gs → All (λ s. s.name ≢ name) gs → BeginsWithDash name → Contains (flat_map words_of gs) name → ⊥
-taken rows [] name sound each apart dash (k, lt, e) = absurd (omega (arith, lt))
-taken rows (g ∷ gs) name sound each apart dash within =
-    elim (Contains-append_cases (words_of g) (flat_map words_of gs) name within) [ inl here ↦ here_ here | inr later ↦ taken rows gs name sound (All-tail (IsSetting rows) g gs each) (All-tail (λ s. s.name ≢ name) g gs apart) dash later ] where
+-- one that begins with two dashes is among the words only as an option's
+pub taken : (rows : List Row) (gs : List Setting) (name : List ℕ) → are_sound rows ≡ true → All (IsSetting rows) gs → All (λ s. s.name ≢ name) gs → begins_with_dashes name ≡ true → Contains (flat_map words_of gs) name → ⊥
+taken rows [] name sound each apart dashes (k, lt, e) = absurd (omega (arith, lt))
+taken rows (g ∷ gs) name sound each apart dashes within =
+    elim (Contains-append_cases (words_of g) (flat_map words_of gs) name within) [ inl here ↦ here_ here | inr later ↦ taken rows gs name sound (All-tail (IsSetting rows) g gs each) (All-tail (λ s. s.name ≢ name) g gs apart) dashes later ] where
       valued : (v : Option (List ℕ)) → g.value ≡ v → Contains (option_to_list v) name → ⊥
       valued None e (k, lt, at_k) = absurd (omega (arith, lt))
-      valued (Some value) e (zero, lt, same) = setting-value rows g value sound (All-head (IsSetting rows) g gs each) e (subst BeginsWithDash (sym same) dash)
+      valued (Some value) e (zero, lt, same) = setting-value rows g value sound (All-head (IsSetting rows) g gs each) e (subst (λ (n : List ℕ). begins_with_dashes n ≡ true) (sym same) dashes)
       valued (Some value) e (suc k, lt, at_k) = absurd (omega (arith, lt))
 
       here_ : Contains (words_of g) name → ⊥

@@ -1,5 +1,5 @@
 -- A step through the options: on to the next one, or to the word that cannot stand.
-use Rattle.std.proofs.Common.{◌≡◌, ◌≢◌, ℕ, zero, suc, ◌+◌, ◌<◌, inl, inr, true, false, List, [], ◌∷◌, ◌++◌, map, flat_map, length, take, Option, Some, None, option_map, slice_get, IsSomeAnd, IfSome, option_to_list, codes, ◌≤◌, arith, add-one, sym, subst, ap, ◌∙◌, refl, append_assoc, length-append, All, AllPairs, Contains, Bool, IsTrue, ◌↔◌, decimal, string_bytes, String}
+use Rattle.std.proofs.Common.{◌≡◌, ◌≢◌, ℕ, zero, suc, ◌+◌, ◌<◌, inl, inr, true, false, List, [], ◌∷◌, ◌++◌, map, flat_map, length, take, Option, Some, None, option_map, slice_get, IsSomeAnd, IfSome, option_to_list, codes, ◌≤◌, arith, add-one, sym, subst, ap, ◌∙◌, refl, append_assoc, length-append, All, AllPairs, Contains, Bool, IsTrue, ◌↔◌, decimal, pos, string_bytes, String}
 use Rattle.std.specs.List.{find, list_any}
 use Rattle.std.specs.Str.{bytes_eq}
 use Rattle.std.specs.declared.alloc.Global.{Global}
@@ -12,13 +12,13 @@ use Rattle.std.proofs.Math.Seq.{take-append_seam}
 use Rattle.hex.specs.Hex.{decode_pairs}
 use Rattle.aaf_format.specs.declared.aaf.AafFormat.TheVariants.{Int16}
 use Rattle.avtp_words.specs.declared.option.Takes.{Takes}
-use Rattle.avtp_words.specs.declared.option.Takes.TheVariants.{Number, Id, Kind, Format, Nothing}
+use Rattle.avtp_words.specs.declared.option.Takes.TheVariants.{Number, Signed, Id, Kind, Format, Nothing}
 use Rattle.avtp_words.specs.declared.option.OptionRow.{OptionRow}
 use Rattle.avtp_words.specs.Reading.{row_of, rows_of, is_sound, are_sound, IsTail, AreOptionsTo, StopsOptions, IsTakenAt, LacksValue}
 use Rattle.avtp_words.specs.Word.{texts, BeginsWithDash}
 use Rattle.avtp_words.specs.Options.{Row, row_named, Setting, words_of, IsValue, IsTaken, stands_alone, IsSetting, AreSettings}
 use Rattle.avtp_words.specs.Grammar.{Stops}
-use Rattle.avtp_words.proofs.Settings.{same-true, same-false, both, found-sound, apart, push, next, fresh, taken}
+use Rattle.avtp_words.proofs.Settings.{same-true, same-false, both, found-sound, setting-dashes, apart, push, next, fresh, taken}
 
 -- the word after others
 pub at : (before rest : List (List ℕ)) (word : List ℕ) → slice_get (before ++ rest) (length before) ≡ Some word → (more : List (List ℕ)) × (rest ≡ word ∷ more)
@@ -120,6 +120,7 @@ stops_here rows words place o word e dash none =
 sample : (takes : Takes) → is_sound takes ≡ true → (value : Option (List ℕ)) × IsTaken takes value
 unfolding decode_pairs
 sample (Number low high) sound = (Some (decimal low), (low, record { least = omega arith; most = leb-true low high (both _ _ sound).0; spelled = refl }))
+sample (Signed most) sound = (Some (decimal 0), (pos 0, record { size = omega arith; spelled = refl }))
 sample Id sound = (Some (codes "0000000000000000"), (0, record { fits = omega arith; digits = refl }))
 sample Kind sound = (Some (codes "aaf"), inl refl)
 sample Format sound = (Some (codes "int16"), (Int16, refl))
@@ -211,7 +212,7 @@ pub repeated : (rows : List OptionRow) (words : List (String Global)) (place : �
 repeated rows words place o name sound e dash given = stops_here (rows_of rows) (texts words) place o name e dash (λ s is new same.
     let within : Contains (flat_map words_of o.settings) name = subst (λ ws. Contains ws name) (words_before (rows_of rows) words place o) (present (take place words) name given) in
     let within' : Contains (flat_map words_of o.settings) s.name = subst (Contains (flat_map words_of o.settings)) same within in
-    taken (rows_of rows) o.settings s.name sound o.options.each new is.dash within')
+    taken (rows_of rows) o.settings s.name sound o.options.each new (setting-dashes (rows_of rows) s sound is) within')
 
 -- it does not
 pub first : (rows : List OptionRow) (words : List (String Global)) (place : ℕ) (o : AreOptionsTo (rows_of rows) (texts words) place) (name : List ℕ) → list_any (λ word. bytes_eq (string_bytes word) name) (take place words) ≡ false → All (λ s. s.name ≢ name) o.settings

@@ -8,28 +8,32 @@ use Rattle.aaf_format.specs.Aaf.{rate_of, frame_size}
 use Rattle.iec61883_format.specs.Iec.{rate_of_fdf, syt_interval, block_size}
 use Rattle.avtp_words.specs.declared.command.Command.{Command}
 use Rattle.avtp_words.specs.declared.command.Command.TheVariants.{Show, Check, Listen, Talk}
-use Rattle.avtp_words.specs.declared.command.Listen.{Listen as AskedListen}
+use Rattle.avtp_words.specs.declared.listen.Listen.{Listen as AskedListen}
 use Rattle.avtp_words.specs.declared.talk.Talk.{Talk as AskedTalk}
 use Rattle.avtp_words.specs.declared.talk.Kind.{Kind}
 use Rattle.avtp_words.specs.declared.talk.Kind.TheVariants.{Aaf, Am824}
 use Rattle.avtp_words.specs.declared.operand.Operand.{Operand}
 use Rattle.avtp_words.specs.declared.operand.Operand.TheVariants as operand
 use Rattle.avtp_words.specs.declared.option.Takes.TheVariants as takes
-use Rattle.avtp_words.specs.Number.{IsNumber}
+use Rattle.avtp_words.specs.Number.{IsNumber, IsSigned}
 use Rattle.avtp_words.specs.Limits as limits
-use Rattle.avtp_words.specs.Limits.{NumberOption, number}
+use Rattle.avtp_words.specs.Limits.{NumberOption, SignedOption, number, signed}
 use Rattle.avtp_words.specs.Operands.{AreOperands, IsId}
 use Rattle.avtp_words.specs.Word.{texts}
 use Rattle.avtp_words.specs.Options.{Row, Setting, words_of, AreSettings, value_in, format_name}
 
 -- ---- what a command line asks for, without where its names lie in memory
 
--- the stream to listen to, within these bounds, and the captures, in order
+-- the stream to listen to, within these bounds, its media clock, if it has one, with a shift, and the captures, in order
 pub record Listening : Type 0 where
   pub stream : ℕ
+  pub limit : ℕ
   pub buffer : ℕ
   pub room : ℕ
+  pub look : ℕ
   pub lead : ℕ
+  pub clock : Option ℕ
+  pub shift : ℤ
   pub files : List (List ℕ)
 
 -- the samples to make a capture of, and how they are sent
@@ -53,7 +57,17 @@ pub data Request : Type 0 where
   talk : Talking → Request
 
 abbrev pub listening_of : AskedListen → Listening
-listening_of asked = record { stream = asked.stream; buffer = asked.buffer; room = asked.room; lead = asked.lead; files = texts asked.files.now }
+listening_of asked = record {
+  stream = asked.stream;
+  limit = asked.limit;
+  buffer = asked.buffer;
+  room = asked.room;
+  look = asked.look;
+  lead = asked.lead;
+  clock = asked.clock;
+  shift = asked.shift;
+  files = texts asked.files.now;
+}
 
 abbrev pub talking_of : AskedTalk → Talking
 talking_of asked = record {
@@ -118,7 +132,14 @@ check_form = record {
 abbrev pub listen_form : Form
 listen_form = record {
   command = codes "listen";
-  rows = number limits.buffer ∷ number limits.room ∷ number limits.listen_lead ∷ [];
+  rows =
+      number limits.limit ∷
+      number limits.buffer ∷
+      number limits.room ∷
+      number limits.look ∷
+      number limits.listen_lead ∷
+      record { name = codes "--clock"; takes = takes.Id } ∷
+      signed limits.crf_shift ∷ [];
   operands = operand.Id ∷ operand.Names ∷ [];
 }
 
@@ -168,6 +189,14 @@ IsGivenIf option settings given = MatchOption (value_in option.name settings) (g
 abbrev pub IsGivenId : List ℕ → ℕ → List Setting → ℕ → Type 0
 IsGivenId name default settings id = MatchOption (value_in name settings) (id ≡ default) (λ word. IsId word id)
 
+-- the same of a stream id without a default
+abbrev pub IsGivenIdIf : List ℕ → List Setting → Option ℕ → Type 0
+IsGivenIdIf name settings given = MatchOption (value_in name settings) (given ≡ None) (λ word. (id : ℕ) × (given ≡ Some id) × IsId word id)
+
+-- the same of a number that may be below 0
+abbrev pub IsGivenSigned : SignedOption → List Setting → ℤ → Type 0
+IsGivenSigned option settings z = MatchOption (value_in option.name settings) (z ≡ option.default) (λ word. IsSigned option.most word z)
+
 -- the same of a format
 abbrev pub IsGivenFormat : List ℕ → AafFormat → List Setting → AafFormat → Type 0
 IsGivenFormat name default settings format = MatchOption (value_in name settings) (format ≡ default) (λ word. word ≡ format_name format)
@@ -190,9 +219,13 @@ pub record IsListen (words : List (List ℕ)) (asked : Listening) : Type 0 where
   pub id : List ℕ
   pub line : IsOf listen_form words settings (id ∷ asked.files)
   pub stream : IsId id asked.stream
+  pub limit : IsGiven limits.limit settings asked.limit
   pub buffer : IsGiven limits.buffer settings asked.buffer
   pub room : IsGiven limits.room settings asked.room
+  pub look : IsGiven limits.look settings asked.look
   pub lead : IsGiven limits.listen_lead settings asked.lead
+  pub clock : IsGivenIdIf (codes "--clock") settings asked.clock
+  pub shift : IsGivenSigned limits.crf_shift settings asked.shift
 
 -- An AAF stream: of this format of samples, and sparse or not.
 pub record SaysAaf (words : List (List ℕ)) (settings : List Setting) (format : AafFormat) (sparse : Bool) : Type 0 where

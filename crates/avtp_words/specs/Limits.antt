@@ -1,7 +1,7 @@
 -- The limits of the words in one table: of each option that takes a number its name, the least and the most that may be
 -- given, and what stands where the option is not given, if anything does.
-use Rattle.std.specs.Prelude.{ℕ, ◌*◌, ◌^◌, List, Option, Some, None, codes}
-use Rattle.avtp_words.specs.declared.option.Takes.TheVariants.{Number}
+use Rattle.std.specs.Prelude.{ℕ, ℤ, pos, ◌*◌, ◌^◌, List, Option, Some, None, codes}
+use Rattle.avtp_words.specs.declared.option.Takes.TheVariants.{Number, Signed}
 use Rattle.avtp_words.specs.Options.{Row}
 
 pub record NumberOption : Type 0 where
@@ -17,7 +17,16 @@ option name low high default = record { name = name; low = low; high = high; def
 abbrev pub number : NumberOption → Row
 number option = record { name = option.name; takes = Number option.low option.high }
 
--- show and check: the bytes of a capture that are read
+-- an option whose number may be below 0: its name, how far from 0 the number may be, and what stands where it is not given
+pub record SignedOption : Type 0 where
+  pub name : List ℕ
+  pub most : ℕ
+  pub default : ℤ
+
+abbrev pub signed : SignedOption → Row
+signed option = record { name = option.name; takes = Signed option.most }
+
+-- show, check and listen: the bytes of a capture that are read
 abbrev pub limit : NumberOption
 limit = option (codes "--limit") 1 (2 ^ 40) (Some (2 ^ 40))
 
@@ -27,6 +36,14 @@ buffer = option (codes "--buffer") 1 65536 (Some 4096)
 
 abbrev pub room : NumberOption
 room = option (codes "--room") 1 (2 ^ 30) (Some (2 ^ 26))
+
+-- how many further items an item waits for before it is judged
+abbrev pub look : NumberOption
+look = option (codes "--look") 0 64 (Some 0)
+
+-- what is added to each timestamp of the media clock, in nanoseconds
+abbrev pub crf_shift : SignedOption
+crf_shift = record { name = codes "--crf-shift"; most = 10 ^ 9; default = pos 0 }
 
 -- the max transit time in nanoseconds, of listen and of talk
 abbrev pub listen_lead : NumberOption

@@ -1,10 +1,16 @@
-use Rattle.std.specs.Prelude.{◌≡◌, ℕ, ◌<◌, ◌≤◌, List, length, slice_index, decimal}
+use Rattle.std.specs.Prelude.{◌≡◌, ℕ, ℤ, ◌<◌, ◌≤◌, List, length, slice_index, decimal, unsigned_abs}
+use Rattle.std.specs.Fmt.{signed_decimal}
 
 -- The word is the number in decimal digits, without a sign and without leading zeros, and the number is in range.
 pub record IsNumber (low high : ℕ) (word : List ℕ) (n : ℕ) : Type 0 where
   pub least : low ≤ n
   pub most : n ≤ high
   pub spelled : word ≡ decimal n
+
+-- The same of a number that may be below 0: one `-` stands before its digits then, and at no other time.
+pub record IsSigned (most : ℕ) (word : List ℕ) (z : ℤ) : Type 0 where
+  pub size : unsigned_abs z ≤ most
+  pub spelled : word ≡ signed_decimal z
 
 -- the first byte is a digit, and it is 0 only where it stands alone
 pub record BeginsAsNumber (bytes : List ℕ) : Type 0 where

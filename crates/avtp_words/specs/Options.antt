@@ -1,12 +1,12 @@
 -- The options of a command: what it knows, what was given, and when the two meet.
-use Rattle.std.specs.Prelude.{◌≡◌, ◌≢◌, ℕ, List, ◌∷◌, Bool, true, false, IsTrue, Option, Some, None, option_to_list, option_and_then, IsSomeAnd, All, AllPairs, codes, ◌⊎◌}
+use Rattle.std.specs.Prelude.{◌≡◌, ◌≢◌, ℕ, ℤ, List, ◌∷◌, Bool, true, false, IsTrue, Option, Some, None, option_to_list, option_and_then, IsSomeAnd, All, AllPairs, codes, ◌⊎◌}
 use Rattle.std.specs.List.{find}
 use Rattle.std.specs.Str.{bytes_eq}
 use Rattle.aaf_format.specs.declared.aaf.AafFormat.{AafFormat}
 use Rattle.aaf_format.specs.declared.aaf.AafFormat.TheVariants.{Float32, Int32, Int24, Int16}
 use Rattle.avtp_words.specs.declared.option.Takes.{Takes}
-use Rattle.avtp_words.specs.declared.option.Takes.TheVariants.{Number, Id, Kind, Format, Nothing}
-use Rattle.avtp_words.specs.Number.{IsNumber}
+use Rattle.avtp_words.specs.declared.option.Takes.TheVariants.{Number, Signed, Id, Kind, Format, Nothing}
+use Rattle.avtp_words.specs.Number.{IsNumber, IsSigned}
 use Rattle.avtp_words.specs.Operands.{IsId}
 use Rattle.avtp_words.specs.Word.{BeginsWithDash}
 
@@ -37,6 +37,7 @@ format_name Float32 = codes "float32"
 -- the word is a value of such an option
 abbrev pub IsValue : Takes → List ℕ → Type 0
 IsValue (Number low high) word = (n : ℕ) × IsNumber low high word n
+IsValue (Signed most) word = (z : ℤ) × IsSigned most word z
 IsValue Id word = (id : ℕ) × IsId word id
 IsValue Kind word = (word ≡ codes "aaf") ⊎ (word ≡ codes "am824")
 IsValue Format word = (format : AafFormat) × (word ≡ format_name format)
@@ -44,6 +45,7 @@ IsValue Nothing word = ⊥
 
 abbrev pub stands_alone : Takes → Bool
 stands_alone (Number low high) = false
+stands_alone (Signed most) = false
 stands_alone Id = false
 stands_alone Kind = false
 stands_alone Format = false

@@ -1,10 +1,11 @@
 -- What the steps of the reading answer, for any command's table of options.
-use Rattle.std.specs.Prelude.{◌≡◌, ◌≢◌, ℕ, ◌+◌, ◌*◌, ◌^◌, ◌<◌, List, [], ◌∷◌, ◌++◌, map, flat_map, length, decimal, Bool, true, false, nat_le, nat_lt, ◌&&◌, Option, None, Some, option_to_list, if◌then◌else◌, IfSome, IfNone, slice_get, get_or, take, All, IsSomeAnd, pos, codes, nat_eq}
+use Rattle.std.specs.Prelude.{◌≡◌, ◌≢◌, ℕ, ℤ, ◌+◌, ◌*◌, ◌^◌, ◌<◌, List, [], ◌∷◌, ◌++◌, map, flat_map, length, decimal, Bool, true, false, nat_le, nat_lt, ◌&&◌, Option, None, Some, option_to_list, if◌then◌else◌, IfSome, IfNone, slice_get, get_or, take, All, IsSomeAnd, pos, codes, nat_eq, unsigned_abs}
 use Rattle.std.specs.List.{list_all}
+use Rattle.std.specs.Fmt.{signed_decimal}
 use Rattle.std.specs.Str.{bytes_eq}
 use Rattle.aaf_format.specs.declared.aaf.AafFormat.{AafFormat}
 use Rattle.avtp_words.specs.declared.option.Takes.{Takes}
-use Rattle.avtp_words.specs.declared.option.Takes.TheVariants.{Number, Id, Kind, Format, Nothing}
+use Rattle.avtp_words.specs.declared.option.Takes.TheVariants.{Number, Signed, Id, Kind, Format, Nothing}
 use Rattle.avtp_words.specs.declared.option.OptionRow.{OptionRow}
 use Rattle.avtp_words.specs.declared.talk.Kind.{Kind as StreamKind}
 use Rattle.avtp_words.specs.declared.talk.Kind.TheVariants.{Aaf, Am824}
@@ -16,7 +17,7 @@ use Rattle.avtp_words.specs.Word.{BeginsWithDash, IsName}
 use Rattle.avtp_words.specs.Options.{Row, Setting, words_of, AreSettings, IsTaken, IsValue, format_name, stands_alone}
 use Rattle.avtp_words.specs.Limits as limits
 use Rattle.avtp_words.specs.Limits.{NumberOption}
-use Rattle.avtp_words.specs.Grammar.{Begins, Stops, StopsAt, Talking}
+use Rattle.avtp_words.specs.Grammar.{Begins, Stops, StopsAt, Listening, Talking}
 use Rattle.aaf_format.specs.declared.aaf.AafFormat.TheVariants.{Int16}
 
 -- a row of the code, without where its name lies in memory
@@ -29,13 +30,20 @@ rows_of rows = map row_of rows
 -- some word is such a value, and each number has at most 64 bits
 abbrev pub is_sound : Takes → Bool
 is_sound (Number low high) = nat_le low high && nat_lt high (2 ^ 64)
+is_sound (Signed most) = nat_lt most (2 ^ 63)
 is_sound Id = true
 is_sound Kind = true
 is_sound Format = true
 is_sound Nothing = true
 
+-- the word begins with "--", as the name of each option does, and no value
+abbrev pub begins_with_dashes : List ℕ → Bool
+begins_with_dashes [] = false
+begins_with_dashes (first ∷ []) = false
+begins_with_dashes (first ∷ second ∷ _) = nat_eq first 45 && nat_eq second 45
+
 abbrev pub are_sound : List Row → Bool
-are_sound rows = list_all (λ row. is_sound row.takes) rows
+are_sound rows = list_all (λ row. begins_with_dashes row.name && is_sound row.takes) rows
 
 -- the word after the first one of this name
 abbrev pub value_after : List ℕ → List (List ℕ) → Option (List ℕ)
@@ -57,6 +65,16 @@ pub record IsReadId (default : ℕ) (word : Option (List ℕ)) (n : ℕ) : Type 
   pub absent : IfNone word (n ≡ default)
   pub read : IfSome word (λ word. (id : ℕ) → IsId word id → n ≡ id)
 
+-- the same of a stream id without a default
+pub record IsReadIdIf (word : Option (List ℕ)) (given : Option ℕ) : Type 0 where
+  pub absent : IfNone word (given ≡ None)
+  pub read : IfSome word (λ word. (id : ℕ) → IsId word id → given ≡ Some id)
+
+-- the same of a number that may be below 0
+pub record IsReadSigned (default : ℤ) (word : Option (List ℕ)) (z : ℤ) : Type 0 where
+  pub absent : IfNone word (z ≡ default)
+  pub read : IfSome word (λ word. (k : ℤ) → unsigned_abs k < 2 ^ 63 → word ≡ signed_decimal k → z ≡ k)
+
 -- the same of a format
 pub record IsReadFormat (default : AafFormat) (word : Option (List ℕ)) (format : AafFormat) : Type 0 where
   pub absent : IfNone word (format ≡ default)
@@ -65,6 +83,16 @@ pub record IsReadFormat (default : AafFormat) (word : Option (List ℕ)) (format
 -- the number that is read of an option with a default, among the options
 abbrev pub IsReadOf : ℕ → NumberOption → List (List ℕ) → ℕ → Type 0
 IsReadOf bound option options n = IsSomeAnd option.default (λ default. IsRead bound default (value_after option.name options) n)
+
+-- what is read of the options of `listen`
+pub record AreHeard (options : List (List ℕ)) (asked : Listening) : Type 0 where
+  pub limit : IsReadOf (2 ^ 64) limits.limit options asked.limit
+  pub buffer : IsReadOf (2 ^ 32) limits.buffer options asked.buffer
+  pub room : IsReadOf (2 ^ 32) limits.room options asked.room
+  pub look : IsReadOf (2 ^ 32) limits.look options asked.look
+  pub lead : IsReadOf (2 ^ 32) limits.listen_lead options asked.lead
+  pub clock : IsReadIdIf (value_after (codes "--clock") options) asked.clock
+  pub shift : IsReadSigned limits.crf_shift.default (value_after limits.crf_shift.name options) asked.shift
 
 -- What is read of the kind of a stream, which is sparse if it is AAF and the word for that stands among all words.
 pub record IsReadAaf (options : List (List ℕ)) (tells : Bool) (format : AafFormat) (sparse : Bool) : Type 0 where

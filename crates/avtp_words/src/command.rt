@@ -4,14 +4,12 @@ ghost use Rattle.std.specs.Prelude.{◌≡◌, ℕ, ◌+◌, ◌-◌, ◌^◌, �
 ghost use Rattle.avtp_words.specs.Grammar.{Request, request_of, IsCommandLine, IsOffence};
 ghost use Rattle.avtp_words.specs.Word.{texts};
 
-use crate::limits::{
-    BUFFER, BUFFER_DEFAULT, CHECK_OPTIONS, LEAD_DEFAULT, LIMIT, LISTEN_LEAD, LISTEN_OPTIONS,
-    MAX_LIMIT, ROOM, ROOM_DEFAULT, SHOW_OPTIONS,
-};
-use crate::operand::{Operand, id_of, operands_at};
+use crate::limits::{CHECK_OPTIONS, LIMIT, MAX_LIMIT, SHOW_OPTIONS};
+use crate::listen::{Listen, read_listen};
+use crate::operand::{Operand, operands_at};
 use crate::option::word_at;
 use crate::talk::{Talk, read_talk};
-use crate::value::{number_after, small_number_after};
+use crate::value::number_after;
 
 /// A command, as the words ask for it.
 #[derive(Clone, Copy, Debug, PartialEq, Eq)]
@@ -25,22 +23,6 @@ pub enum Command<'a> {
     Listen(Listen<'a>),
     /// Make a capture of raw samples.
     Talk(Talk<'a>),
-}
-
-/// What to listen to, and within which bounds.
-#[derive(Clone, Copy, Debug, PartialEq, Eq)]
-pub struct Listen<'a> {
-    /// The stream ID.
-    pub stream: u64,
-    /// The most packets that wait for their presentation time, 1 to 65,536.
-    pub buffer: u32,
-    /// The most bytes in them, 1 to 1,073,741,824.
-    pub room: u32,
-    /// The max transit time, in nanoseconds, 0 to 1,000,000,000: how long before its presentation time a packet is
-    /// expected.
-    pub lead: u32,
-    /// The names of the captures, in order, at least one.
-    pub files: &'a [String],
 }
 
 /// The words are no command line.
@@ -66,8 +48,6 @@ impl Offence {
 const SHOW_OPERANDS: [Operand; 1] = [Operand::Name];
 
 const CHECK_OPERANDS: [Operand; 1] = [Operand::Names];
-
-const LISTEN_OPERANDS: [Operand; 2] = [Operand::Id, Operand::Names];
 
 /// The command that the words ask for.
 pub fn parse(words: &[String]) -> Result<Command<'_>, Offence>
@@ -117,26 +97,4 @@ fn read_check(words: &[String]) -> Result<Command<'_>, Offence>
     let limit = number_after(&words[..place], LIMIT.name, MAX_LIMIT);
     let files = &words[place..];
     Ok(Command::Check { limit, files })
-}
-
-/// The words after `listen`.
-fn read_listen(words: &[String]) -> Result<Command<'_>, Offence>
-    ensures ok { IfOk result (λ command. IsCommandLine (codes "listen" ∷ texts words.now) (request_of command)) }
-    ensures err { IfErr result (λ offence. IsOffence (codes "listen" ∷ texts words.now) offence.position) }
-{
-    let place = operands_at(&LISTEN_OPTIONS, &LISTEN_OPERANDS, words)?;
-    let Some(id) = word_at(words, place) else {
-        unreachable!()
-    };
-    let Some(stream) = id_of(id) else {
-        unreachable!()
-    };
-    let options = &words[..place];
-    Ok(Command::Listen(Listen {
-        stream,
-        buffer: small_number_after(options, BUFFER.name, BUFFER_DEFAULT),
-        room: small_number_after(options, ROOM.name, ROOM_DEFAULT),
-        lead: small_number_after(options, LISTEN_LEAD.name, LEAD_DEFAULT),
-        files: &words[place + 1..],
-    }))
 }

@@ -4,13 +4,15 @@
 
 mod command;
 mod limits;
+mod listen;
 mod number;
 mod operand;
 mod option;
 mod talk;
 mod value;
 
-pub use command::{Command, Listen, Offence, parse};
+pub use command::{Command, Offence, parse};
+pub use listen::Listen;
 pub use talk::{Kind, Talk};
 
 #[cfg(test)]

@@ -19,7 +19,15 @@ pub const LIMIT: OptionRow = OptionRow {
     },
 };
 
-pub const LISTEN_OPTIONS: [OptionRow; 3] = [BUFFER, ROOM, LISTEN_LEAD];
+pub const LISTEN_OPTIONS: [OptionRow; 7] = [
+    LIMIT,
+    BUFFER,
+    ROOM,
+    LOOK,
+    LISTEN_LEAD,
+    CLOCK,
+    CRF_SHIFT,
+];
 
 /// How many packets may wait for their presentation time.
 pub const BUFFER: OptionRow = OptionRow {
@@ -42,6 +50,31 @@ pub const ROOM: OptionRow = OptionRow {
 };
 
 pub const ROOM_DEFAULT: u32 = 1 << 26;
+
+/// How many further items an item waits for before it is judged.
+pub const LOOK: OptionRow = OptionRow {
+    name: "--look",
+    takes: Takes::Number { low: 0, high: 64 },
+};
+
+pub const LOOK_DEFAULT: u32 = 0;
+
+/// The stream ID of the media clock that samples are counted on. Where it is not given the stream's own timestamps are
+/// enough.
+pub const CLOCK: OptionRow = OptionRow {
+    name: "--clock",
+    takes: Takes::Id,
+};
+
+/// What is added to each timestamp of the media clock, in nanoseconds.
+pub const CRF_SHIFT: OptionRow = OptionRow {
+    name: "--crf-shift",
+    takes: Takes::Signed {
+        most: 1_000_000_000,
+    },
+};
+
+pub const CRF_SHIFT_DEFAULT: i64 = 0;
 
 /// The max transit time in nanoseconds. A listener may expect a packet at its presentation time; a talker sends each
 /// before it.

@@ -1,7 +1,8 @@
 //! Numbers as words.
 
-ghost use Rattle.std.specs.Prelude.{◌≡◌, ◌≢◌, ℕ, ◌^◌, ◌<◌, ◌↔◌, IsTrue, IfSome, IfNone, decimal};
-ghost use Rattle.avtp_words.specs.Number.{BeginsAsNumber, IsNumber};
+ghost use Rattle.std.specs.Prelude.{◌≡◌, ◌≢◌, ℕ, ℤ, List, ◌∷◌, ◌^◌, ◌<◌, ◌↔◌, IsTrue, IfSome, IfNone, MatchOption, decimal, unsigned_abs};
+ghost use Rattle.std.specs.Fmt.{signed_decimal};
+ghost use Rattle.avtp_words.specs.Number.{BeginsAsNumber, IsNumber, IsSigned};
 
 /// The number that a word spells, in decimal digits without a sign and without a leading zero; None where it
 /// spells none below 2^64.
@@ -24,6 +25,52 @@ pub fn is_number(word: &str, low: u64, high: u64) -> bool
         Some(n) => low <= n && n <= high,
         None => false,
     }
+}
+
+/// The number that a word spells as for [`number_of`], or with one `-` before a number that is not 0; None where it
+/// spells none from -(2^63 - 1) to 2^63 - 1.
+pub fn signed_number_of(word: &str) -> Option<i64>
+    ensures spelled { IfSome result (λ z. word.now ≡ signed_decimal z) }
+    ensures size { IfSome result (λ z. unsigned_abs z < 2 ^ 63) }
+    ensures none { IfNone result ((z : ℤ) → unsigned_abs z < 2 ^ 63 → word.now ≢ signed_decimal z) }
+{
+    match after_minus(word) {
+        Some(digits) => negative_of(digits),
+        None => i64::try_from(number_of(word)?).ok(),
+    }
+}
+
+/// Whether a word spells a number that is at most `most` away from 0.
+pub fn is_signed(word: &str, most: u32) -> bool
+    ensures { IsTrue result ↔ ((z : ℤ) × IsSigned most word.now z) }
+{
+    match signed_number_of(word) {
+        Some(z) => z.unsigned_abs() <= u64::from(most),
+        None => false,
+    }
+}
+
+/// The number below 0 of which these are the digits.
+fn negative_of(digits: &str) -> Option<i64>
+    ensures spelled { IfSome result (λ z. 45 ∷ digits.now ≡ signed_decimal z) }
+    ensures size { IfSome result (λ z. unsigned_abs z < 2 ^ 63) }
+    ensures none { IfNone result ((z : ℤ) → unsigned_abs z < 2 ^ 63 → 45 ∷ digits.now ≢ signed_decimal z) }
+{
+    let n = number_of(digits)?;
+    if n == 0 {
+        return None;
+    }
+    match i64::try_from(n) {
+        Ok(n) => Some(-n),
+        Err(_) => None,
+    }
+}
+
+/// What follows a first `-`.
+fn after_minus(word: &str) -> Option<&str>
+    ensures { MatchOption result ((rest : List ℕ) → word.now ≢ 45 ∷ rest) (λ rest. word.now ≡ 45 ∷ rest.now) }
+{
+    word.strip_prefix('-')
 }
 
 fn begins_as_number(bytes: &[u8]) -> bool

@@ -8,7 +8,7 @@ ghost use Rattle.avtp_words.specs.Options.{IsValue, stands_alone as stands_alone
 ghost use Rattle.avtp_words.specs.Reading.{EndsOptions, IsTakenAt, LacksValue, StopsOptions, are_sound, rows_of, value_after};
 ghost use Rattle.avtp_words.specs.Word.{texts, BeginsWithDash};
 
-use crate::number::is_number;
+use crate::number::{is_number, is_signed};
 use crate::operand::id_of;
 use crate::value::format_of;
 
@@ -17,6 +17,8 @@ use crate::value::format_of;
 pub enum Takes {
     /// A number, from the first to the second.
     Number { low: u64, high: u64 },
+    /// A number that may be below 0, at most so far from it.
+    Signed { most: u32 },
     /// A stream id.
     Id,
     /// The kind of a stream: `aaf` or `am824`.
@@ -33,6 +35,7 @@ impl Takes {
     {
         match self {
             Takes::Number { low, high } => is_number(word, low, high),
+            Takes::Signed { most } => is_signed(word, most),
             Takes::Id => id_of(word).is_some(),
             Takes::Kind => word == "aaf" || word == "am824",
             Takes::Format => format_of(word).is_some(),

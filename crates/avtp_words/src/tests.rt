@@ -28,9 +28,13 @@ fn checks(limit: u64, files: &[String]) -> Result<Command<'_>, Offence> {
 fn listens(files: &[String]) -> Listen<'_> {
     Listen {
         stream: STREAM,
+        limit: 1_099_511_627_776,
         buffer: 4_096,
         room: 67_108_864,
+        look: 0,
         lead: 2_000_000,
+        clock: None,
+        shift: 0,
         files,
     }
 }
@@ -237,6 +241,137 @@ fn listen_lines(rt: HostRuntime) -> Result<(), AllocError> {
     Ok(())
 }
 
+/// The ends of the ranges of options, and options that stand beside others.
+#[test]
+fn listen_ends(rt: HostRuntime) -> Result<(), AllocError> {
+    let files = words_of(rt.alloc(), &["c.pcap"])?;
+    let plain = listens(&files);
+    let cases: [(&str, &str, Listen<'_>); 11] = [
+        ("--limit", "1", Listen { limit: 1, ..plain }),
+        ("--limit", "1099511627776", plain),
+        ("--look", "0", plain),
+        ("--look", "64", Listen { look: 64, ..plain }),
+        (
+            "--clock",
+            "0000000000000000",
+            Listen {
+                clock: Some(0),
+                ..plain
+            },
+        ),
+        (
+            "--clock",
+            ID,
+            Listen {
+                clock: Some(STREAM),
+                ..plain
+            },
+        ),
+        ("--crf-shift", "0", plain),
+        ("--crf-shift", "1", Listen { shift: 1, ..plain }),
+        ("--crf-shift", "-1", Listen { shift: -1, ..plain }),
+        (
+            "--crf-shift",
+            "1000000000",
+            Listen {
+                shift: 1_000_000_000,
+                ..plain
+            },
+        ),
+        (
+            "--crf-shift",
+            "-1000000000",
+            Listen {
+                shift: -1_000_000_000,
+                ..plain
+            },
+        ),
+    ];
+    for (option, value, asked) in cases {
+        let words = words_of(rt.alloc(), &["listen", option, value, ID, "c.pcap"])?;
+        assert_eq!(rt; parse(&words), Ok(Command::Listen(asked)));
+    }
+    let words = words_of(
+        rt.alloc(),
+        &[
+            "listen",
+            "--crf-shift",
+            "-5",
+            "--clock",
+            ID,
+            "--look",
+            "2",
+            ID,
+            "c.pcap",
+        ],
+    )?;
+    let asked = Listen {
+        look: 2,
+        clock: Some(STREAM),
+        shift: -5,
+        ..plain
+    };
+    assert_eq!(rt; parse(&words), Ok(Command::Listen(asked)));
+    Ok(())
+}
+
+/// Values that an option cannot have, and the option without a value, twice, and after the names.
+#[test]
+fn listen_values(rt: HostRuntime) -> Result<(), AllocError> {
+    let cases: [(&str, &str, &[&str]); 4] = [
+        (
+            "--limit",
+            "1",
+            &["0", "1099511627777", "01", "+1", "-1", "-0", ""],
+        ),
+        ("--look", "1", &["65", "01", "00", "+1", "-1", "-0", ""]),
+        (
+            "--clock",
+            ID,
+            &[
+                "0",
+                "02aBCdef0001000",
+                "02aBCdef000100011",
+                "-2aBCdef00010001",
+                "",
+            ],
+        ),
+        (
+            "--crf-shift",
+            "-1",
+            &[
+                "1000000001",
+                "-1000000001",
+                "01",
+                "-01",
+                "+1",
+                "-+1",
+                "--1",
+                "-0",
+                "-",
+                "--clock",
+                "",
+            ],
+        ),
+    ];
+    for (option, good, values) in cases {
+        for value in values {
+            let words = words_of(rt.alloc(), &["listen", option, value, ID, "c.pcap"])?;
+            assert_eq!(rt; parse(&words), stops(3));
+        }
+        let lines: [(&[&str], usize); 3] = [
+            (&["listen", option], 3),
+            (&["listen", option, good, option, good, ID, "c.pcap"], 4),
+            (&["listen", ID, "c.pcap", option, good], 4),
+        ];
+        for (line, position) in lines {
+            let words = words_of(rt.alloc(), line)?;
+            assert_eq!(rt; parse(&words), stops(position));
+        }
+    }
+    Ok(())
+}
+
 /// All the words after the stream are files, in their order.
 #[test]
 fn listen_files(rt: HostRuntime) -> Result<(), AllocError> {
@@ -268,7 +403,7 @@ fn listen_offences(rt: HostRuntime) -> Result<(), AllocError> {
         (&["listen", "+200000000010001", "c.pcap"], 2),
         (&["listen", "020000000001000g", "c.pcap"], 2),
         (&["listen", "02000000000100010", "c.pcap"], 2),
-        (&["listen", "--limit", "1", ID, "c.pcap"], 2),
+        (&["listen", "--ring", "1", ID, "c.pcap"], 2),
         (&["listen", ID], 3),
         (&["listen", ID, "--room", "1", "c.pcap"], 3),
         (&["listen", "--buffer", "0", ID, "c.pcap"], 3),

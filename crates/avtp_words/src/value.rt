@@ -2,10 +2,10 @@
 
 ghost use Rattle.std.specs.Prelude.{◌≡◌, ◌^◌, IfSome, IfNone};
 ghost use Rattle.avtp_words.specs.Options.{format_name};
-ghost use Rattle.avtp_words.specs.Reading.{IsRead, IsReadFormat, IsReadId, IsReadIf, value_after};
+ghost use Rattle.avtp_words.specs.Reading.{IsRead, IsReadFormat, IsReadId, IsReadIdIf, IsReadIf, IsReadSigned, value_after};
 ghost use Rattle.avtp_words.specs.Word.{texts};
 
-use crate::number::number_of;
+use crate::number::{number_of, signed_number_of};
 use crate::operand::id_of;
 use crate::option::word_after;
 use aaf_format::AafFormat;
@@ -48,6 +48,23 @@ pub fn id_after(options: &[String], name: &str, default: u64) -> u64
 {
     match word_after(options, name) {
         Some(word) => id_of(word).unwrap_or(default),
+        None => default,
+    }
+}
+
+/// The stream id after the option of this name, where it is given.
+pub fn id_if(options: &[String], name: &str) -> Option<u64>
+    ensures { IsReadIdIf (value_after name.now (texts options.now)) result }
+{
+    id_of(word_after(options, name)?)
+}
+
+/// The number after the option of this name, which may be below 0, or else `default`.
+pub fn signed_number_after(options: &[String], name: &str, default: i64) -> i64
+    ensures { IsReadSigned default (value_after name.now (texts options.now)) result }
+{
+    match word_after(options, name) {
+        Some(word) => signed_number_of(word).unwrap_or(default),
         None => default,
     }
 }

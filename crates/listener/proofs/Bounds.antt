@@ -1,15 +1,12 @@
--- What is made of a capture is what a schedule takes.
-use Rattle.std.proofs.Common.{◌≡◌, ℕ, zero, suc, ◌+◌, ◌*◌, ◌/◌, ◌%◌, ◌^◌, ◌<◌, ◌≤◌, Bool, true, false, List, [], ◌∷◌, All, length, take, drop, Option, Some, None, refl, arith, inl, inr}
-use Rattle.std.proofs.lemmas.Int.{ints}
+-- What is made of a packet is what a schedule takes.
+use Rattle.std.proofs.Common.{◌≡◌, ℕ, ◌+◌, ◌*◌, ◌/◌, ◌%◌, ◌^◌, ◌<◌, ◌≤◌, Bool, true, false, List, length, drop, Option, Some, None, refl, arith}
 use Rattle.std.proofs.Math.Nat.{div-le_self}
-use Rattle.std.proofs.lemmas.Bool.{cases_lt, ltb-false}
-use Rattle.std.specs.Prelude.{◌==◌, is_none, unwrap_or, if◌then◌else◌, IfSome}
-use Rattle.std.specs.List.{enumerate_from}
+use Rattle.std.proofs.lemmas.Bool.{ltb-false}
+use Rattle.std.specs.Prelude.{◌==◌, unwrap_or, if◌then◌else◌, IfSome}
 use Rattle.std.proofs.Math.Nat.{le-mul_of_pos_right, mul-mod_left, mul-pos}
 use Rattle.std.proofs.lemmas.Bool.Decides.{nat_tests}
-use Rattle.std.proofs.lemmas.List.{length-take, length-drop, get_or-drop, get_or-take, get_or_past}
-use Rattle.std.proofs.lemmas.List.Elements.{All-cons, All-filter, All-head, All-map, All-nil, All-tail, All-weaker}
-use Rattle.avtp_base.specs.Octets.{AreBytes, bits}
+use Rattle.std.proofs.lemmas.List.{length-take, length-drop}
+use Rattle.avtp_base.specs.Octets.{bits}
 use Rattle.avtp_base.specs.Rows.{first_row, or_else}
 use Rattle.avtp_base.specs.declared.refusal.Refusal.{Refusal}
 use Rattle.avtp_base.proofs.BitLemmas.{bits-below}
@@ -19,75 +16,12 @@ use Rattle.aaf_format.specs.Aaf.{Aaf, aaf_of, aaf_refusal, aaf_subtype, frame_si
 use Rattle.aaf_format.proofs.AafLemmas.{aaf_spelled}
 use Rattle.iec61883_format.specs.Iec.{Iec, IsSytInterval, block_size, data_size, iec_of, iec_refusal, no_data, rate_of_fdf, syt_interval}
 use Rattle.iec61883_format.proofs.IecLemmas.{iec_spelled, iec_writable}
-use Rattle.pcap_frames.specs.declared.style.Order.{Order}
-use Rattle.pcap_frames.specs.declared.style.Order.TheVariants.{Little, Big}
-use Rattle.pcap_frames.specs.declared.style.Unit as units
-use Rattle.pcap_frames.specs.declared.style.Unit.TheVariants.{Micro, Nano}
-use Rattle.pcap_frames.specs.declared.style.Style.{Style}
-use Rattle.pcap_frames.specs.Layout.{instant, number_at, record_refusal}
-use Rattle.pcap_frames.specs.Capture.{Record, record_of, record_size, records_behind, records_from, style_of, whole_records}
 use Rattle.time_unfold.specs.Time.{IsArrival}
 use Rattle.time_unfold.specs.declared.head_rule.HeadRule.TheVariants.{Own, Eight}
 use Rattle.time_unfold.specs.Limits.{IsRule}
-use Rattle.sample_schedule.specs.Limits.{IsEntry, IsItem}
-use Rattle.packet_journal.specs.Deliveries.{Delivery, deliveries, delivery, is_delivered}
-use Rattle.listener.specs.Items.{MadeItem, aaf_item, block_rule, blocks_of, entries, iec_item, item_of, items_of, made_of_one, refused_or, samples_of}
-
--- ---- arrivals
-
-number_below : (order : Order) (at : ℕ) (bytes : List ℕ) → AreBytes (drop at bytes) → number_at order at 4 bytes < 2 ^ 32
-unfolding number_at
-number_below Little at bytes are = omega (arith, are 0, are 1, are 2, are 3)
-number_below Big at bytes are = omega (arith, are 0, are 1, are 2, are 3)
-
-instant_within : (unit : units.Unit) (seconds fraction : ℕ) → seconds < 2 ^ 32 → fraction < 2 ^ 32 → instant unit seconds fraction ≤ 2 ^ 62
-instant_within Micro seconds fraction s f = omega arith
-instant_within Nano seconds fraction s f = omega arith
-
-are_dropped : (n : ℕ) (bytes : List ℕ) → AreBytes bytes → AreBytes (drop n bytes)
-are_dropped n bytes are i = rw (get_or-drop n bytes i 0) (are (n + i))
-
-are_taken : (n : ℕ) (bytes : List ℕ) → AreBytes bytes → AreBytes (take n bytes)
-are_taken n bytes are i =
-    elim (cases_lt i n) [
-      | inl before ↦ rw (get_or-take n bytes i 0 before) (are i)
-      | inr behind ↦ rw (get_or_past (take n bytes) i 0 (omega (arith, length-take n bytes))) (omega arith)
-    ]
-
-arrives : (style : Style) (bytes : List ℕ) → AreBytes bytes → IsArrival (record_of style bytes).arrival
-arrives style bytes are =
-    let seconds = number_below style.order 0 bytes (are_dropped 0 bytes are) in
-    let fraction = number_below style.order 4 bytes (are_dropped 4 bytes are) in
-    record { from = omega (arith, ints); to = omega (arith, ints, instant_within style.unit _ _ seconds fraction) }
-
-abbrev Arrives : Record → Type 0
-Arrives r = IsArrival r.arrival
-
-first_and_rest : (b : Bool) (r : Record) (records : List Record) → Arrives r → All Arrives records → All Arrives (if b then r ∷ records else [])
-first_and_rest true r records first rest = All-cons Arrives r records first rest
-first_and_rest false r records first rest = All-nil Arrives
-
-from_arrive : (n : ℕ) (style : Style) (bytes : List ℕ) → AreBytes bytes → All Arrives (records_from n style bytes)
-from_arrive zero style bytes are = All-nil Arrives
-from_arrive (suc n) style bytes are =
-    let size = record_size style bytes in
-    first_and_rest (is_none (record_refusal style.order 0 bytes)) _ _
-    (arrives style (take size bytes) (are_taken size bytes are))
-    (from_arrive n style (drop size bytes) (are_dropped size bytes are))
-
-behind_arrive : (style : Option Style) (bytes : List ℕ) → AreBytes bytes → All Arrives (records_behind style bytes)
-behind_arrive None bytes are = All-nil Arrives
-behind_arrive (Some style) bytes are = from_arrive (length bytes) style (drop 24 bytes) (are_dropped 24 bytes are)
-
--- each whole record has an arrival
-records_arrive : (bytes : List ℕ) → AreBytes bytes → All Arrives (whole_records bytes)
-unfolding whole_records
-records_arrive bytes are = behind_arrive (style_of bytes) bytes are
-
-numbered_arrive : (n : ℕ) (records : List Record) → All Arrives records → All (λ (p : ℕ × Record). Arrives p.1) (enumerate_from n records)
-numbered_arrive n [] all = All-nil (λ (p : ℕ × Record). Arrives p.1)
-numbered_arrive n (r ∷ records) all =
-    All-cons (λ (p : ℕ × Record). Arrives p.1) (n, r) (enumerate_from (n + 1) records) (All-head Arrives r records all) (numbered_arrive (n + 1) records (All-tail Arrives r records all))
+use Rattle.sample_schedule.specs.Limits.{IsItem}
+use Rattle.packet_journal.specs.Deliveries.{Delivery}
+use Rattle.listener.specs.Items.{aaf_item, block_rule, blocks_of, iec_item, item_of, refused_or, samples_of}
 
 -- ---- packets
 
@@ -187,12 +121,3 @@ kind_fits false d arrives = iec_fits_by d (iec_refusal d.packet) refl arrives
 
 pub item_fits : (d : Delivery) → IsArrival d.arrival → IsItem (item_of d)
 item_fits d arrives = kind_fits (d.subtype == aaf_subtype) d arrives
-
--- the entries of a capture's records are as a schedule takes them
-pub entries_fit : (stream : ℕ) (bytes : List ℕ) → AreBytes bytes → All IsEntry (entries (deliveries stream None (whole_records bytes)))
-entries_fit stream bytes are =
-    let picked = All-filter (λ (p : ℕ × Record). is_delivered stream None p.1.bytes) (λ (p : ℕ × Record). Arrives p.1) (enumerate_from 1 (whole_records bytes)) (numbered_arrive 1 (whole_records bytes) (records_arrive bytes are)) in
-    All-map IsEntry (λ (made : MadeItem). made.entry) (items_of (deliveries stream None (whole_records bytes)))
-    (All-map (λ (made : MadeItem). IsEntry made.entry) made_of_one (deliveries stream None (whole_records bytes))
-    (All-map (λ (d : Delivery). IsItem (item_of d)) (λ (p : ℕ × Record). delivery p.0 p.1) _
-    (All-weaker (λ (p : ℕ × Record). Arrives p.1) (λ (p : ℕ × Record). IsItem (item_of (delivery p.0 p.1))) (λ p arrives. item_fits (delivery p.0 p.1) arrives) _ picked)))

@@ -1,11 +1,18 @@
--- Each delivery is shown once, so the counts add up.
-use Rattle.std.proofs.Common.{◌≡◌, ℕ, zero, suc, ◌+◌, ◌<◌, ◌≤◌, Bool, cond, List, [], ◌∷◌, length, Option, None, refl, sym, ap, ◌∙◌, arith, inl, inr}
-use Rattle.std.specs.Prelude.{◌==◌, count_by, nat_lt, slice_get}
+-- Each packet of the stream is shown once and those of the clock never, so the counts add up.
+use Rattle.std.proofs.Common.{◌≡◌, ℕ, zero, suc, ◌+◌, ◌<◌, ◌≤◌, Bool, true, false, cond, List, [], ◌∷◌, length, Option, Some, None, refl, sym, ap, ◌∙◌, arith, take_all, inl, inr}
+use Rattle.std.specs.Prelude.{◌==◌, ◌&&◌, ◌||◌, if◌then◌else◌, count_by, nat_lt, slice_get, take, map, filter}
+use Rattle.std.specs.List.{enumerate_from, list_any}
 use Rattle.std.proofs.lemmas.Bool.{cases_lt}
 use Rattle.std.proofs.lemmas.Bool.Decides.{nat_tests}
 use Rattle.std.proofs.lemmas.List.{length-map}
 use Rattle.std.proofs.lemmas.List.Sums.{sum_by-cons}
-use Rattle.pcap_frames.specs.Capture.{whole_records}
+use Rattle.avtp_base.proofs.RowLemmas.{unequal}
+use Rattle.avtp_header.specs.Header.{peeked_of}
+use Rattle.avtp_header.specs.Numbers.{crf_subtype}
+use Rattle.clock_track.specs.Rows.{clock_spot}
+use Rattle.pcap_frames.specs.Capture.{Record}
+use Rattle.sample_schedule.specs.declared.entry.Entry.{Entry}
+use Rattle.sample_schedule.specs.declared.entry.Entry.TheVariants.{Item as OfItem, Clock as OfClock}
 use Rattle.sample_schedule.specs.declared.plan.SchedulePlan.{SchedulePlan}
 use Rattle.sample_schedule.specs.declared.shown.Shown.{Shown}
 use Rattle.sample_schedule.specs.declared.shown.Shown.TheVariants.{Present, Flag}
@@ -13,10 +20,10 @@ use Rattle.sample_schedule.specs.Laws.{place_of, times_due}
 use Rattle.sample_schedule.specs.Schedule.{Given, given, shown, shown_of}
 use Rattle.sample_schedule.specs.Verdicts.{Clock}
 use Rattle.sample_schedule.proofs.LawLemmas.{each-once}
+use Rattle.packet_journal.specs.Deliveries.{Delivery, belongs, belongs_to_clock, clock_kinds, delivery, is_avtp, is_delivered, packet_in, stream_kinds}
 use Rattle.listener.specs.declared.plan.ListenPlan.{ListenPlan}
-use Rattle.packet_journal.specs.Deliveries.{Delivery, deliveries}
-use Rattle.listener.specs.Heard.{heard_of, is_flag, is_present, schedule_plan}
-use Rattle.listener.specs.Items.{entries}
+use Rattle.listener.specs.Heard.{counts_of, entries_in, is_flag, is_present, schedule_plan, shown_of as shown_list}
+use Rattle.listener.specs.Items.{entries, entry_of}
 
 abbrev counted : Bool → ℕ
 counted b = cond b 1 0
@@ -45,11 +52,25 @@ none-below : (gs : List Given) → count_by (below 0) gs ≡ 0
 none-below [] = refl
 none-below (g ∷ gs) = omega (arith, count-next (below 0) g gs, not-below (place_of g), none-below gs)
 
--- where each place below n is shown once, so many are shown of these places
-each-below : (n : ℕ) (gs : List Given) → ((i : ℕ) → i < n → count_by (at i) gs ≡ 1) → count_by (below n) gs ≡ n
-each-below zero gs each = none-below gs
-each-below (suc n) gs each =
-    omega (arith, below-next n gs, each-below n gs (λ i lt. each i (omega arith)), each n (omega arith))
+-- an item of the stream, and no packet of the clock
+abbrev is_item : Entry → Bool
+is_item (OfItem item) = true
+is_item (OfClock arrival row) = false
+
+due-one : (e : Entry) → times_due (Some e) ≡ counted (is_item e)
+due-one (OfItem item) = refl
+due-one (OfClock arrival row) = refl
+
+items-next : (es : List Entry) (n : ℕ) → count_by is_item (take (suc n) es) ≡ count_by is_item (take n es) + times_due (slice_get es n)
+items-next [] zero = refl
+items-next [] (suc n) = refl
+items-next (e ∷ es) zero = omega (arith, count-next is_item e [], due-one e)
+items-next (e ∷ es) (suc n) = omega (arith, count-next is_item e (take (suc n) es), count-next is_item e (take n es), items-next es n)
+
+-- what is shown of the first places is as many as there are items
+each-below : (n : ℕ) (es : List Entry) (gs : List Given) → ((i : ℕ) → count_by (at i) gs ≡ times_due (slice_get es i)) → count_by (below n) gs ≡ count_by is_item (take n es)
+each-below zero es gs each = none-below gs
+each-below (suc n) es gs each = omega (arith, below-next n gs, each-below n es gs each, each n, items-next es n)
 
 same : (k : ℕ) → counted (k == k) ≡ 1
 same k = grind (arith, nat_tests)
@@ -68,15 +89,10 @@ all-below n (g ∷ gs) none =
     let rest = all-below n gs (λ i past. omega (arith, none i past, count-next (at i) g gs)) in
     omega (arith, count-next (below n) g gs, passes (place_of g) n here, rest)
 
-due-within : (ds : List Delivery) (i : ℕ) → i < length ds → times_due (slice_get (entries ds) i) ≡ 1
-due-within [] i lt = absurd (omega arith)
-due-within (d ∷ ds) zero lt = refl
-due-within (d ∷ ds) (suc i) lt = due-within ds i (omega arith)
-
-due-past : (ds : List Delivery) (i : ℕ) → length ds ≤ i → times_due (slice_get (entries ds) i) ≡ 0
+due-past : (es : List Entry) (i : ℕ) → length es ≤ i → times_due (slice_get es i) ≡ 0
 due-past [] i past = refl
-due-past (d ∷ ds) zero past = absurd (omega arith)
-due-past (d ∷ ds) (suc i) past = due-past ds i (omega arith)
+due-past (e ∷ es) zero past = absurd (omega arith)
+due-past (e ∷ es) (suc i) past = due-past es i (omega arith)
 
 -- what is shown is presented or flagged
 presented-or-flagged : (list : List Shown) → count_by is_present list + count_by is_flag list ≡ length list
@@ -86,18 +102,86 @@ presented-or-flagged (Present batch ∷ list) =
 presented-or-flagged (Flag frame seq reason ∷ list) =
     omega (arith, count-next is_present (Flag frame seq reason) list, count-next is_flag (Flag frame seq reason) list, presented-or-flagged list)
 
-shown-once : (clock : Clock) (plan : SchedulePlan) (ds : List Delivery) → length (given clock plan (entries ds)) ≡ length ds
-shown-once clock plan ds =
-    let gs = given clock plan (entries ds) in
-    sym (all-below (length ds) gs (λ i past. each-once clock plan (entries ds) i ∙ due-past ds i past))
-    ∙ each-below (length ds) gs (λ i within. each-once clock plan (entries ds) i ∙ due-within ds i within)
+shown-once : (clock : Clock) (plan : SchedulePlan) (es : List Entry) → length (given clock plan es) ≡ count_by is_item es
+shown-once clock plan es =
+    let gs = given clock plan es in
+    sym (all-below (length es) gs (λ i past. each-once clock plan es i ∙ due-past es i past))
+    ∙ (each-below (length es) es gs (each-once clock plan es) ∙ ap (count_by is_item) (take_all (length es) es (omega arith)))
 
-added : (clock : Clock) (plan : SchedulePlan) (ds : List Delivery) → count_by is_present (shown clock plan (entries ds)) + count_by is_flag (shown clock plan (entries ds)) ≡ length ds
-added clock plan ds =
-    presented-or-flagged (shown clock plan (entries ds))
-    ∙ (length-map (given clock plan (entries ds)) shown_of ∙ shown-once clock plan ds)
+added : (clock : Clock) (plan : SchedulePlan) (es : List Entry) → count_by is_present (shown clock plan es) + count_by is_flag (shown clock plan es) ≡ count_by is_item es
+added clock plan es =
+    presented-or-flagged (shown clock plan es)
+    ∙ (length-map (given clock plan es) shown_of ∙ shown-once clock plan es)
 
-pub counts-add-up : (clock : Clock) (plan : ListenPlan) (bytes : List ℕ) → plan.clock ≡ None → (heard_of clock plan bytes).counts.presented + (heard_of clock plan bytes).counts.flagged ≡ (heard_of clock plan bytes).counts.packets
-counts-add-up clock plan bytes none =
-    added clock (schedule_plan plan) (deliveries plan.stream plan.clock (whole_records bytes))
-    ∙ ap (λ (c : Option ℕ). length (deliveries plan.stream c (whole_records bytes))) none
+-- ---- the items are the packets of the stream
+
+abbrev made : List (ℕ × Record) → List Delivery
+made xs = map (λ numbered. delivery numbered.0 numbered.1) xs
+
+abbrev kept : ℕ → Option ℕ → List (ℕ × Record) → List (ℕ × Record)
+kept stream clock xs = filter (λ numbered. is_delivered stream clock numbered.1.bytes) xs
+
+-- the subtype that a record is judged by
+abbrev subtype_in : Record → ℕ
+subtype_in r = (peeked_of (packet_in r.bytes)).subtype
+
+both : (a b : Bool) → (a && b) ≡ true → (a ≡ true) × (b ≡ true)
+both true true e = (refl, refl)
+both true false e = absurd cc
+both false b e = absurd cc
+
+of_kind : (kinds : List ℕ) (id : ℕ) (r : Record) → belongs kinds id r.bytes ≡ true → list_any (λ kind. subtype_in r == kind) kinds ≡ true
+of_kind kinds id r e =
+    let wanted = both (is_avtp r.bytes) _ e in
+    let id_is = both _ _ wanted.1 in
+    (both _ _ id_is.0).0
+
+not_crf : (subtype : ℕ) → list_any (λ kind. subtype == kind) stream_kinds ≡ true → (subtype == crf_subtype) ≡ false
+not_crf subtype e = elim (cases_lt subtype 4) [
+  | inl within ↦ unequal subtype 4 (λ same. omega arith)
+  | inr past ↦ absurd (let none : list_any (λ kind. subtype == kind) stream_kinds ≡ false = rw (unequal subtype 0 (λ same. omega arith), unequal subtype 2 (λ same. omega arith)) refl in cc)
+]
+
+is_crf : (subtype : ℕ) → list_any (λ kind. subtype == kind) clock_kinds ≡ true → (subtype == crf_subtype) ≡ true
+is_crf subtype e = by (subtype == crf_subtype) refl e
+  where
+    by : (b : Bool) → (subtype == crf_subtype) ≡ b → (b || false) ≡ true → b ≡ true
+    by true f g = refl
+    by false f g = absurd cc
+
+stream_item : (r : Record) (i : ℕ) → (subtype_in r == crf_subtype) ≡ false → is_item (entry_of (delivery i r)) ≡ true
+stream_item r i e = rw e refl
+
+clock_item : (r : Record) (i : ℕ) → (subtype_in r == crf_subtype) ≡ true → is_item (entry_of (delivery i r)) ≡ false
+clock_item r i e = rw e refl
+
+clock_kind : (clock : Option ℕ) (r : Record) → belongs_to_clock clock r.bytes ≡ true → (subtype_in r == crf_subtype) ≡ true
+clock_kind None r e = absurd cc
+clock_kind (Some id) r e = is_crf (subtype_in r) (of_kind clock_kinds id r e)
+
+-- a record counts as an item where it belongs to the stream
+one_counted : (stream : ℕ) (clock : Option ℕ) (i : ℕ) (r : Record) (rest : List (ℕ × Record)) (a b : Bool) → belongs stream_kinds stream r.bytes ≡ a → belongs_to_clock clock r.bytes ≡ b
+    → count_by is_item (entries (made (if a || b then (i, r) ∷ rest else rest))) ≡ counted a + count_by is_item (entries (made rest))
+one_counted stream clock i r rest true b e f =
+    let item = stream_item r i (not_crf (subtype_in r) (of_kind stream_kinds stream r e)) in
+    count-next is_item (entry_of (delivery i r)) (entries (made rest)) ∙ ap (λ (x : Bool). counted x + count_by is_item (entries (made rest))) item
+one_counted stream clock i r rest false true e f =
+    let none = clock_item r i (clock_kind clock r f) in
+    count-next is_item (entry_of (delivery i r)) (entries (made rest)) ∙ (ap (λ (x : Bool). counted x + count_by is_item (entries (made rest))) none ∙ omega arith)
+one_counted stream clock i r rest false false e f = omega arith
+
+one_long : (i : ℕ) (r : Record) (rest : List (ℕ × Record)) (a : Bool) → length (made (if a || false then (i, r) ∷ rest else rest)) ≡ counted a + length (made rest)
+one_long i r rest true = omega arith
+one_long i r rest false = omega arith
+
+items-counted : (stream : ℕ) (clock : Option ℕ) (i : ℕ) (records : List Record) → count_by is_item (entries (made (kept stream clock (enumerate_from i records)))) ≡ length (made (kept stream None (enumerate_from i records)))
+items-counted stream clock i [] = refl
+items-counted stream clock i (r ∷ records) =
+    one_counted stream clock i r (kept stream clock (enumerate_from (i + 1) records)) (belongs stream_kinds stream r.bytes) (belongs_to_clock clock r.bytes) refl refl
+    ∙ (ap (λ (n : ℕ). counted (belongs stream_kinds stream r.bytes) + n) (items-counted stream clock (i + 1) records)
+    ∙ sym (one_long i r (kept stream None (enumerate_from (i + 1) records)) (belongs stream_kinds stream r.bytes)))
+
+pub counts-add-up : (plan : ListenPlan) (records : List Record) → (counts_of plan records (shown_list plan records)).presented + (counts_of plan records (shown_list plan records)).flagged ≡ (counts_of plan records (shown_list plan records)).packets
+counts-add-up plan records =
+    added clock_spot (schedule_plan plan) (entries_in plan records)
+    ∙ items-counted plan.stream plan.clock 1 records

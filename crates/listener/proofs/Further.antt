@@ -1,76 +1,120 @@
--- What one more record adds.
-use Rattle.std.proofs.Common.{◌≡◌, ℕ, ◌+◌, suc, Bool, true, false, List, [], ◌∷◌, ◌++◌, length, map, Some, None, refl, sym, ap, ◌∙◌, arith, length-append, append-nil, if◌then◌else◌}
-use Rattle.std.specs.Prelude.{IfOk, filter, Result, Ok, Err, OnOk}
-use Rattle.std.specs.List.{enumerate_from}
+-- What one more record adds to the deliveries and to the entries.
+use Rattle.std.proofs.Common.{◌≡◌, ℕ, ◌+◌, suc, Bool, true, false, List, [], ◌∷◌, ◌++◌, length, map, Option, Some, None, refl, ap, ◌∙◌, arith, length-append, append-nil, if◌then◌else◌, ℤ, w64, to_z, of_z, to_z-of_z, FitsSigned}
+use Rattle.std.proofs.lemmas.Int.{ints}
+use Rattle.time_unfold.specs.Time.{IsArrival}
+use Rattle.std.specs.Prelude.{IfOk, ◌==◌, ◌&&◌, ◌||◌, cond, not, filter, Result, Ok, Err, OnOk}
+use Rattle.std.specs.List.{enumerate_from, list_any}
+use Rattle.std.proofs.lemmas.Bool.Decides.{nat_tests}
 use Rattle.std.proofs.lemmas.List.{map-append}
 use Rattle.std.proofs.lemmas.List.Elements.{filter-append}
+use Rattle.avtp_header.specs.Header.{peeked_of}
+use Rattle.avtp_header.specs.Numbers.{crf_subtype}
 use Rattle.pcap_frames.specs.Capture.{Record}
-use Rattle.sample_schedule.specs.declared.entry.Entry.{Entry}
-use Rattle.sample_schedule.specs.declared.entry.Entry.TheVariants.{Item as OfItem}
-use Rattle.listener.specs.declared.collected.Collected.{Collected}
-use Rattle.listener.specs.Collected.{StandsFor}
-use Rattle.packet_journal.specs.Deliveries.{Delivery, belongs, deliveries, delivery, is_delivered, stream_kinds}
-use Rattle.listener.specs.Items.{MadeItem, entries, item_of, made_of_one}
+use Rattle.sample_schedule.specs.declared.entry.Entry.TheVariants.{Item as OfItem, Clock as OfClock}
+use Rattle.packet_journal.specs.Deliveries.{Delivery, belongs, belongs_to_clock, clock_kinds, deliveries, delivery, is_avtp, is_delivered, packet_in, stream_kinds}
+use Rattle.listener.specs.Items.{MadeItem, clock_row, entries, entry_of, item_of, made_of_one}
 
-numbered : {X : Type 0} (n : ℕ) (xs : List X) (x : X) → enumerate_from n (xs ++ x ∷ []) ≡ enumerate_from n xs ++ (n + length xs, x) ∷ []
-numbered {X} n [] x = let e : n ≡ n + 0 = omega arith in ap {B = List (ℕ × X)} (λ k. (k, x) ∷ []) e
-numbered {X} n (y ∷ xs) x =
+numbered : {X : Type 0} (n : ℕ) (xs ys : List X) → enumerate_from n (xs ++ ys) ≡ enumerate_from n xs ++ enumerate_from (n + length xs) ys
+numbered {X} n [] ys = let e : n ≡ n + 0 = omega arith in ap {B = List (ℕ × X)} (λ k. enumerate_from k ys) e
+numbered {X} n (y ∷ xs) ys =
     let e : n + 1 + length xs ≡ n + suc (length xs) = omega arith in
-    ap {B = List (ℕ × X)} (λ t. (n, y) ∷ t) (numbered (n + 1) xs x ∙ ap {B = List (ℕ × X)} (λ k. enumerate_from (n + 1) xs ++ (k, x) ∷ []) e)
+    ap {B = List (ℕ × X)} (λ t. (n, y) ∷ t) (numbered (n + 1) xs ys ∙ ap {B = List (ℕ × X)} (λ k. enumerate_from (n + 1) xs ++ enumerate_from k ys) e)
 
 -- the test of a numbered record
-abbrev picks : ℕ → ℕ × Record → Bool
-picks stream p = is_delivered stream None p.1.bytes
+abbrev picks : ℕ → Option ℕ → ℕ × Record → Bool
+picks stream clock p = is_delivered stream clock p.1.bytes
 
 abbrev made_of : ℕ × Record → Delivery
 made_of p = delivery p.0 p.1
 
-deliveries_further : (stream : ℕ) (records : List Record) (r : Record) → deliveries stream None (records ++ r ∷ []) ≡ deliveries stream None records ++ map made_of (filter (picks stream) ((1 + length records, r) ∷ []))
-deliveries_further stream records r =
-    ap (λ l. map made_of (filter (picks stream) l)) (numbered 1 records r)
-    ∙ (ap (map made_of) (filter-append (picks stream) (enumerate_from 1 records) ((1 + length records, r) ∷ []))
-    ∙ map-append made_of (filter (picks stream) (enumerate_from 1 records)) (filter (picks stream) ((1 + length records, r) ∷ [])))
+-- the deliveries of further records, of which the first has this number
+abbrev deliveries_from : ℕ → Option ℕ → ℕ → List Record → List Delivery
+deliveries_from stream clock n records = map made_of (filter (picks stream clock) (enumerate_from n records))
 
--- a record of the stream is one more delivery
-one_more : (stream : ℕ) (records : List Record) (r : Record) → belongs stream_kinds stream r.bytes ≡ true → deliveries stream None (records ++ r ∷ []) ≡ deliveries stream None records ++ delivery (1 + length records) r ∷ []
-one_more stream records r in_it = deliveries_further stream records r ∙ rw in_it refl
+deliveries_further : (stream : ℕ) (clock : Option ℕ) (records others : List Record)
+    → deliveries stream clock (records ++ others) ≡ deliveries stream clock records ++ deliveries_from stream clock (1 + length records) others
+deliveries_further stream clock records others =
+    ap (λ l. map made_of (filter (picks stream clock) l)) (numbered 1 records others)
+    ∙ (ap (map made_of) (filter-append (picks stream clock) (enumerate_from 1 records) (enumerate_from (1 + length records) others))
+    ∙ map-append made_of (filter (picks stream clock) (enumerate_from 1 records)) (filter (picks stream clock) (enumerate_from (1 + length records) others)))
+
+-- a record that is delivered is one more delivery
+pub one_more : (stream : ℕ) (clock : Option ℕ) (records : List Record) (r : Record) → is_delivered stream clock r.bytes ≡ true
+    → deliveries stream clock (records ++ r ∷ []) ≡ deliveries stream clock records ++ delivery (1 + length records) r ∷ []
+one_more stream clock records r in_it = deliveries_further stream clock records (r ∷ []) ∙ rw in_it refl
 
 -- any other adds none
-none_more : (stream : ℕ) (records : List Record) (r : Record) → belongs stream_kinds stream r.bytes ≡ false → deliveries stream None (records ++ r ∷ []) ≡ deliveries stream None records
-none_more stream records r out = deliveries_further stream records r ∙ rw out (append-nil (deliveries stream None records))
+pub none_more : (stream : ℕ) (clock : Option ℕ) (records : List Record) (r : Record) → is_delivered stream clock r.bytes ≡ false
+    → deliveries stream clock (records ++ r ∷ []) ≡ deliveries stream clock records
+none_more stream clock records r out = deliveries_further stream clock records (r ∷ []) ∙ rw out (append-nil (deliveries stream clock records))
 
-abbrev entry : Delivery → Entry
-entry d = OfItem (item_of d)
+-- so many more deliveries there are, by whether the record is one
+pub more_by : (b : Bool) (stream : ℕ) (clock : Option ℕ) (records : List Record) (r : Record) → is_delivered stream clock r.bytes ≡ b
+    → length (deliveries stream clock (records ++ r ∷ [])) ≡ length (deliveries stream clock records) + cond b 1 0
+more_by true stream clock records r in_it =
+    ap length (one_more stream clock records r in_it) ∙ length-append (deliveries stream clock records) (delivery (1 + length records) r ∷ [])
+more_by false stream clock records r out =
+    let none : length (deliveries stream clock records) ≡ length (deliveries stream clock records) + 0 = omega arith in
+    ap length (none_more stream clock records r out) ∙ none
 
-entries_further : (ds : List Delivery) (d : Delivery) → entries (ds ++ d ∷ []) ≡ entries ds ++ entry d ∷ []
-entries_further ds d =
-    ap (map (λ (made : MadeItem). made.entry)) (map-append made_of_one ds (d ∷ []))
-    ∙ map-append (λ (made : MadeItem). made.entry) (map made_of_one ds) (made_of_one d ∷ [])
+pub entries_further : (ds more : List Delivery) → entries (ds ++ more) ≡ entries ds ++ entries more
+entries_further ds more =
+    ap (map (λ (made : MadeItem). made.entry)) (map-append made_of_one ds more)
+    ∙ map-append (λ (made : MadeItem). made.entry) (map made_of_one ds) (map made_of_one more)
 
-pub stands_with : (stream : ℕ) (records : List Record) (r : Record) (old new : Collected) → belongs stream_kinds stream r.bytes ≡ true → StandsFor stream records old
-    → new.frames ≡ old.frames + 1 → new.packets ≡ old.packets + 1 → new.entries.items ≡ old.entries.items ++ OfItem (item_of (delivery (old.frames + 1) r)) ∷ []
-    → StandsFor stream (records ++ r ∷ []) new
-stands_with stream records r old new in_it stands frames packets made =
-    let more = one_more stream records r in_it in
-    let number : old.frames + 1 ≡ 1 + length records = omega (arith, stands.frames) in
-    record {
-      frames = omega (arith, frames, stands.frames, length-append records (r ∷ []));
-      packets = omega (arith, packets, stands.packets, ap length more, length-append (deliveries stream None records) (delivery (1 + length records) r ∷ []));
-      made = made ∙ (ap (λ (l : List Entry). l ++ entry (delivery (old.frames + 1) r) ∷ []) stands.made
-          ∙ (ap (λ (n : ℕ). entries (deliveries stream None records) ++ entry (delivery n r) ∷ []) number
-          ∙ sym (ap entries more ∙ entries_further (deliveries stream None records) (delivery (1 + length records) r))));
-    }
+-- ---- which deliveries are the stream's
 
-pub stands_without : (stream : ℕ) (records : List Record) (r : Record) (old new : Collected) → belongs stream_kinds stream r.bytes ≡ false → StandsFor stream records old
-    → new.frames ≡ old.frames + 1 → new.packets ≡ old.packets → new.entries.items ≡ old.entries.items
-    → StandsFor stream (records ++ r ∷ []) new
-stands_without stream records r old new out stands frames packets made =
-    let more = none_more stream records r out in
-    record {
-      frames = omega (arith, frames, stands.frames, length-append records (r ∷ []));
-      packets = omega (arith, packets, stands.packets, ap length more);
-      made = made ∙ (stands.made ∙ sym (ap entries more));
-    }
+no_clock_subtype : (s : ℕ) → list_any (λ kind. s == kind) stream_kinds ≡ true → (s == crf_subtype) ≡ false
+no_clock_subtype s e = grind (arith, nat_tests)
+
+clock_subtype : (s : ℕ) → list_any (λ kind. s == kind) clock_kinds ≡ true → (s == crf_subtype) ≡ true
+clock_subtype s e = grind (arith, nat_tests)
+
+first_of_four : (a k v i : Bool) → (a && ((k && v) && i)) ≡ true → k ≡ true
+first_of_four true true v i e = refl
+first_of_four true false v i e = absurd cc
+first_of_four false k v i e = absurd cc
+
+by_both : (b c is : Bool) → (b || c) ≡ true → (b ≡ true → is ≡ false) → (c ≡ true → is ≡ true) → (b || false) ≡ not is
+by_both true c is e first second = rw (first refl) refl
+by_both false true is e first second = rw (second refl) refl
+by_both false false is e first second = absurd cc
+
+none_by_clock : (clock : Option ℕ) (bytes : List ℕ) → belongs_to_clock clock bytes ≡ true → ((peeked_of (packet_in bytes)).subtype == crf_subtype) ≡ true
+none_by_clock None bytes e = absurd cc
+none_by_clock (Some id) bytes e = clock_subtype (peeked_of (packet_in bytes)).subtype (first_of_four (is_avtp bytes) _ (peeked_of (packet_in bytes)).sv ((peeked_of (packet_in bytes)).stream_id == id) e)
+
+-- a record that is delivered belongs to the stream unless its packet is one of a clock
+pub of_stream : (stream : ℕ) (clock : Option ℕ) (bytes : List ℕ) → is_delivered stream clock bytes ≡ true → is_delivered stream None bytes ≡ not ((peeked_of (packet_in bytes)).subtype == crf_subtype)
+of_stream stream clock bytes e =
+    by_both (belongs stream_kinds stream bytes) (belongs_to_clock clock bytes) ((peeked_of (packet_in bytes)).subtype == crf_subtype) e
+    (λ here. no_clock_subtype (peeked_of (packet_in bytes)).subtype (first_of_four (is_avtp bytes) _ (peeked_of (packet_in bytes)).sv ((peeked_of (packet_in bytes)).stream_id == stream) here))
+    (none_by_clock clock bytes)
+
+-- a record that is not delivered does not belong to the stream
+pub of_none : (stream : ℕ) (clock : Option ℕ) (bytes : List ℕ) → is_delivered stream clock bytes ≡ false → is_delivered stream None bytes ≡ false
+of_none stream clock bytes e = by (belongs stream_kinds stream bytes) (belongs_to_clock clock bytes) e
+  where
+    by : (b c : Bool) → (b || c) ≡ false → (b || false) ≡ false
+    by true c e = absurd cc
+    by false c e = refl
+
+-- ---- an entry by its subtype
+
+pub entry_is_clock : (d : Delivery) → d.subtype ≡ crf_subtype → entry_of d ≡ OfClock d.arrival (clock_row d)
+entry_is_clock d e = rw e refl
+
+pub entry_is_item : (d : Delivery) → ¬ (d.subtype ≡ crf_subtype) → entry_of d ≡ OfItem (item_of d)
+entry_is_item d other = let test : (d.subtype == crf_subtype) ≡ false = grind (arith, nat_tests) in rw test refl
+
+-- an arrival is kept in 64 bits
+pub arrival_kept : (t : ℤ) → IsArrival t → to_z w64 (of_z w64 t) ≡ t
+arrival_kept t a = to_z-of_z (fits_signed_from_nat t a)
+  where
+    fits_signed_from_nat : (t : ℤ) → IsArrival t → FitsSigned w64 t
+    fits_signed_from_nat t a = omega (arith, ints, a.from, a.to)
+
+-- ---- answers
 
 -- what a choice between some and none tells
 pub chosen : {X : Type 0} (b : Bool) (x y : X) → Some x ≡ (if b then Some y else None) → (b ≡ true) × (x ≡ y)

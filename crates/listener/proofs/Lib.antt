@@ -1,6 +1,10 @@
 pub mod Further
 pub mod Bounds
+pub mod Few
+pub mod Listened
+pub mod Fed
 pub mod Counted
+pub mod Due
 pub mod TrueItems
 pub mod TrueHeard
 pub mod TrueList
@@ -9,4 +13,5 @@ pub mod TrueTimely
 pub mod TrueOrder
 pub mod Shown
 pub mod Welcome
+pub mod ClockWelcome
 pub mod TrueHeadline

@@ -8,23 +8,26 @@ use Rattle.std.proofs.lemmas.Option.{slice_get-get_or}
 use Rattle.avtp_base.proofs.RowLemmas.{unequal}
 use Rattle.avtp_base.specs.declared.refusal.Refusal.{Refusal}
 use Rattle.aaf_format.specs.Aaf.{aaf_of, aaf_refusal, aaf_subtype}
+use Rattle.crf_format.specs.Crf.{crf_subtype}
 use Rattle.iec61883_format.specs.Iec.{iec_of, iec_refusal}
-use Rattle.pcap_frames.specs.Capture.{Record, whole_records}
+use Rattle.clock_track.specs.Rows.{clock_spot}
+use Rattle.pcap_frames.specs.Capture.{Record}
 use Rattle.sample_schedule.specs.declared.accepted.Accepted.{Accepted}
-use Rattle.sample_schedule.specs.declared.entry.Entry.TheVariants.{Item as OfItem}
+use Rattle.sample_schedule.specs.declared.entry.Entry.{Entry}
+use Rattle.sample_schedule.specs.declared.entry.Entry.TheVariants.{Item as OfItem, Clock as OfClock}
 use Rattle.sample_schedule.specs.declared.item.Item.{Item}
 use Rattle.sample_schedule.specs.declared.plan.SchedulePlan.{SchedulePlan}
 use Rattle.sample_schedule.specs.declared.shown.Reason.{Reason}
 use Rattle.sample_schedule.specs.declared.shown.Shown.{Shown}
 use Rattle.sample_schedule.specs.Laws.{given_by, place_of, presented, verdict_in}
-use Rattle.sample_schedule.specs.Schedule.{Given, Presents, Flags, frame_of as item_frame, given, seq_of as item_seq, shown, shown_of}
+use Rattle.sample_schedule.specs.Schedule.{Given, Presents, Flags, frame_of as item_frame, given, seq_of as item_seq, shown, shown_of as given_shown}
 use Rattle.sample_schedule.specs.Verdicts.{Clock}
 use Rattle.sample_schedule.proofs.Judged.{In, IsJudged, all-judged, as-judged, judged-frame}
 use Rattle.packet_journal.specs.Deliveries.{Delivery, delivery, is_delivered}
 use Rattle.listener.specs.declared.plan.ListenPlan.{ListenPlan}
-use Rattle.listener.specs.Heard.{heard_of, schedule_plan}
-use Rattle.listener.specs.Items.{MadeItem, aaf_item, blocks_of, entries, iec_item, item_of, items_of, made_of_one, refused_or, samples_of, sources}
-use Rattle.listener.specs.Laws.{IsInOneItem, deliveries_of, frame_of, items_in, shown_by, shown_of_frame, verdict_of}
+use Rattle.listener.specs.Heard.{deliveries_of, items_in, schedule_plan, shown_of}
+use Rattle.listener.specs.Items.{MadeItem, aaf_item, blocks_of, clock_row, entries, entry_of, iec_item, item_of, items_of, made_of_one, refused_or, samples_of, sources}
+use Rattle.listener.specs.Laws.{IsInOneItem, frame_of, shown_by, shown_of_frame, verdict_of}
 use Rattle.listener.proofs.TrueTimely.{entry_there, of_one}
 
 -- ---- each record is one delivery at most
@@ -74,8 +77,8 @@ rising stream clock n (r ∷ records) i k d e f g before =
     rising_here n r (kept stream clock (enumerate_from (n + 1) records)) (is_delivered stream clock r.bytes) (least stream clock (n + 1) records) (rising stream clock (n + 1) records) i k d e f g before
 
 -- the frame numbers of a capture's deliveries rise
-pub deliveries_rise : (plan : ListenPlan) (bytes : List ℕ) → Rising (deliveries_of plan bytes)
-deliveries_rise plan bytes = rising plan.stream plan.clock 1 (whole_records bytes)
+pub deliveries_rise : (plan : ListenPlan) (records : List Record) → Rising (deliveries_of plan records)
+deliveries_rise plan records = rising plan.stream plan.clock 1 records
 
 Distinct : List Delivery → Type 0
 Distinct ds = (i k : ℕ) (d e : Delivery) → slice_get ds i ≡ Some d → slice_get ds k ≡ Some e → d.frame ≡ e.frame → i ≡ k
@@ -111,9 +114,17 @@ item_is d = kind_is (d.subtype == aaf_subtype) d
 frame_is : (d : Delivery) → item_frame (item_of d) ≡ d.frame
 frame_is d = (item_is d).frame
 
-shown_so : (place : ℕ) (d : Delivery) (r : Result Accepted Reason) → shown_of (given_by place (item_of d) r) ≡ shown_by d r
+shown_so : (place : ℕ) (d : Delivery) (r : Result Accepted Reason) → given_shown (given_by place (item_of d) r) ≡ shown_by d r
 shown_so place d (Ok a) = refl
 shown_so place d (Err reason) = rw (frame_is d, (item_is d).seq) refl
+
+-- where an entry is an item, it is that of its delivery
+pub item_by : (d : Delivery) (item : Item) → entry_of d ≡ OfItem item → item_of d ≡ item
+item_by d item e = by (d.subtype == crf_subtype) e
+  where
+    by : (b : Bool) → (if b then OfClock d.arrival (clock_row d) else OfItem (item_of d)) ≡ OfItem item → item_of d ≡ item
+    by true f = absurd cc
+    by false f = cc
 
 -- the delivery of an item
 record IsMade (ds : List Delivery) (n : ℕ) (item : Item) : Type 0 where
@@ -121,14 +132,17 @@ record IsMade (ds : List Delivery) (n : ℕ) (item : Item) : Type 0 where
   there : slice_get ds n ≡ Some delivery
   same : item_of delivery ≡ item
 
+an_entry : (x y : Entry) → Some x ≡ Some y → x ≡ y
+an_entry x y e = cc
+
 made_of : (ds : List Delivery) (n : ℕ) (item : Item) → slice_get (entries ds) n ≡ Some (OfItem item) → IsMade ds n item
 made_of [] n item e = absurd cc
-made_of (d ∷ ds) zero item e = record { delivery = d; there = refl; same = cc }
+made_of (d ∷ ds) zero item e = record { delivery = d; there = refl; same = item_by d item (an_entry (entry_of d) (OfItem item) e) }
 made_of (d ∷ ds) (suc n) item e = let m = made_of ds n item e in record { delivery = m.delivery; there = m.there; same = m.same }
 
 -- ---- what is shown of a frame is what is shown at its place
 
-given_frame : (place : ℕ) (item : Item) (r : Result Accepted Reason) → IfOk r (λ a. a.batch.frame ≡ item_frame item) → frame_of (shown_of (given_by place item r)) ≡ item_frame item
+given_frame : (place : ℕ) (item : Item) (r : Result Accepted Reason) → IfOk r (λ a. a.batch.frame ≡ item_frame item) → frame_of (given_shown (given_by place item r)) ≡ item_frame item
 given_frame place item (Ok a) so = so
 given_frame place item (Err reason) so = refl
 
@@ -148,7 +162,7 @@ same_tests a b c d to from = elim (cases_lt a b) [
 pub record IsPlaced (ds : List Delivery) (g : Given) : Type 0 where
   pub delivery : Delivery
   pub there : slice_get ds (place_of g) ≡ Some delivery
-  pub frame : frame_of (shown_of g) ≡ delivery.frame
+  pub frame : frame_of (given_shown g) ≡ delivery.frame
 
 placed : (clock : Clock) (plan : SchedulePlan) (ds : List Delivery) (g : Given) → IsJudged clock plan (entries ds) g → IsPlaced ds g
 placed clock plan ds g j =
@@ -156,7 +170,7 @@ placed clock plan ds g j =
     record {
       delivery = m.delivery;
       there = m.there;
-      frame = ap (λ (h : Given). frame_of (shown_of h)) (sym j.same)
+      frame = ap (λ (h : Given). frame_of (given_shown h)) (sym j.same)
           ∙ (given_frame (place_of g) j.item (verdict_in clock plan (entries ds) (place_of g) j.item) (judged-frame clock plan (entries ds) (place_of g) j.item)
           ∙ (ap item_frame (sym m.same) ∙ frame_is m.delivery));
     }
@@ -171,18 +185,18 @@ pub all_placed : (clock : Clock) (plan : SchedulePlan) (ds : List Delivery) → 
 all_placed clock plan ds = placed_by ds (given clock plan (entries ds)) (λ g h. placed clock plan ds g (all-judged clock plan (entries ds) g h))
 
 one_test : (clock : Clock) (plan : SchedulePlan) (ds : List Delivery) (place : ℕ) (d : Delivery) (g : Given) → Distinct ds → slice_get ds place ≡ Some d → IsJudged clock plan (entries ds) g
-    → (frame_of (shown_of g) == d.frame) ≡ (place_of g == place)
+    → (frame_of (given_shown g) == d.frame) ≡ (place_of g == place)
 unfolding Distinct
 one_test clock plan ds place d g apart at j =
     let m = placed clock plan ds g j in
-    same_tests (frame_of (shown_of g)) d.frame (place_of g) place
+    same_tests (frame_of (given_shown g)) d.frame (place_of g) place
     (λ e. apart (place_of g) place m.delivery d m.there at (sym m.frame ∙ e))
     (λ e. m.frame ∙ ap (λ (x : Delivery). x.frame) (one m.delivery d (sym m.there ∙ (ap (slice_get ds) e ∙ at))))
 
-filter_map_is : (frame : ℕ) (gs : List Given) → shown_of_frame frame (map shown_of gs) ≡ map shown_of (filter (λ g. frame_of (shown_of g) == frame) gs)
+filter_map_is : (frame : ℕ) (gs : List Given) → shown_of_frame frame (map given_shown gs) ≡ map given_shown (filter (λ g. frame_of (given_shown g) == frame) gs)
 filter_map_is frame [] = refl
-filter_map_is frame (g ∷ gs) = elim (frame_of (shown_of g) == frame) as (λ b. cond b (shown_of g ∷ shown_of_frame frame (map shown_of gs)) (shown_of_frame frame (map shown_of gs)) ≡ map shown_of (cond b (g ∷ filter (λ g. frame_of (shown_of g) == frame) gs) (filter (λ g. frame_of (shown_of g) == frame) gs))) [
-  | true ↦ ap (λ (l : List Shown). shown_of g ∷ l) (filter_map_is frame gs)
+filter_map_is frame (g ∷ gs) = elim (frame_of (given_shown g) == frame) as (λ b. cond b (given_shown g ∷ shown_of_frame frame (map given_shown gs)) (shown_of_frame frame (map given_shown gs)) ≡ map given_shown (cond b (g ∷ filter (λ g. frame_of (given_shown g) == frame) gs) (filter (λ g. frame_of (given_shown g) == frame) gs))) [
+  | true ↦ ap (λ (l : List Shown). given_shown g ∷ l) (filter_map_is frame gs)
   | false ↦ filter_map_is frame gs
 ]
 
@@ -191,30 +205,28 @@ unfolding In
 same_filter p q [] same = refl
 same_filter p q (g ∷ gs) same = rw (same g (inl refl), same_filter p q gs (λ h at. same h (inr at))) refl
 
-shown_once : (clock : Clock) (plan : SchedulePlan) (ds : List Delivery) (place : ℕ) (d : Delivery) → Distinct ds → slice_get ds place ≡ Some d
+shown_once : (clock : Clock) (plan : SchedulePlan) (ds : List Delivery) (place : ℕ) (d : Delivery) → Distinct ds → slice_get ds place ≡ Some d → entry_of d ≡ OfItem (item_of d)
     → shown_of_frame d.frame (shown clock plan (entries ds)) ≡ shown_by d (verdict_in clock plan (entries ds) place (item_of d)) ∷ []
-shown_once clock plan ds place d apart at =
+shown_once clock plan ds place d apart at is =
     let gs = given clock plan (entries ds) in
     let r = verdict_in clock plan (entries ds) place (item_of d) in
     filter_map_is d.frame gs
-    ∙ (ap (map shown_of) (same_filter (λ g. frame_of (shown_of g) == d.frame) (λ g. place_of g == place) gs (λ g here. one_test clock plan ds place d g apart at (all-judged clock plan (entries ds) g here)))
-    ∙ (ap (map shown_of) (as-judged clock plan (entries ds) place (item_of d) (entry_there ds place d at))
+    ∙ (ap (map given_shown) (same_filter (λ g. frame_of (given_shown g) == d.frame) (λ g. place_of g == place) gs (λ g here. one_test clock plan ds place d g apart at (all-judged clock plan (entries ds) g here)))
+    ∙ (ap (map given_shown) (as-judged clock plan (entries ds) place (item_of d) (entry_there ds place d at ∙ ap Some is))
     ∙ ap (λ (s : Shown). s ∷ []) (shown_so place d r)))
 
 -- ---- the items of a capture
 
-an_item : (x y : Item) → OfItem x ≡ OfItem y → x ≡ y
-an_item x y e = cc
-
-pub item_shown : (clock : Clock) (plan : ListenPlan) (bytes : List ℕ) (place : ℕ) (made : MadeItem) (item : Item) → slice_get (items_in plan bytes) place ≡ Some made → made.entry ≡ OfItem item
-    → shown_of_frame made.last.frame (heard_of clock plan bytes).shown ≡ shown_by made.last (verdict_of clock plan bytes place item) ∷ []
-item_shown clock plan bytes place made item at is =
-    let ds = deliveries_of plan bytes in
+pub item_shown : (plan : ListenPlan) (records : List Record) (place : ℕ) (made : MadeItem) (item : Item) → slice_get (items_in plan records) place ≡ Some made → made.entry ≡ OfItem item
+    → shown_of_frame made.last.frame (shown_of plan records) ≡ shown_by made.last (verdict_of plan records place item) ∷ []
+item_shown plan records place made item at is =
+    let ds = deliveries_of plan records in
     let m = of_one ds place made at in
-    let entry : OfItem (item_of m.delivery) ≡ OfItem item = ap (λ (n : MadeItem). n.entry) m.same ∙ is in
-    subst (λ (n : MadeItem). shown_of_frame n.last.frame (heard_of clock plan bytes).shown ≡ shown_by n.last (verdict_of clock plan bytes place item) ∷ []) m.same
-    (subst (λ (i : Item). shown_of_frame m.delivery.frame (heard_of clock plan bytes).shown ≡ shown_by m.delivery (verdict_of clock plan bytes place i) ∷ []) (an_item (item_of m.delivery) item entry)
-    (shown_once clock (schedule_plan plan) ds place m.delivery (distinct ds (deliveries_rise plan bytes)) m.there))
+    let entry : entry_of m.delivery ≡ OfItem item = ap (λ (n : MadeItem). n.entry) m.same ∙ is in
+    let same = item_by m.delivery item entry in
+    subst (λ (n : MadeItem). shown_of_frame n.last.frame (shown_of plan records) ≡ shown_by n.last (verdict_of plan records place item) ∷ []) m.same
+    (subst (λ (i : Item). shown_of_frame m.delivery.frame (shown_of plan records) ≡ shown_by m.delivery (verdict_of plan records place i) ∷ []) same
+    (shown_once clock_spot (schedule_plan plan) ds place m.delivery (distinct ds (deliveries_rise plan records)) m.there (entry ∙ ap OfItem (sym same))))
 
 pub item_there : (ds : List Delivery) (n : ℕ) (d : Delivery) → slice_get ds n ≡ Some d → slice_get (items_of ds) n ≡ Some (made_of_one d)
 item_there [] n d e = absurd cc
@@ -238,7 +250,7 @@ in_one_item ds place d apart at = record {
       apart k place m.delivery d m.there at (ap (λ (x : Delivery). x.frame) (only_source m.delivery d source));
 }
 
-pub each_in_one_item : (plan : ListenPlan) (bytes : List ℕ) → All (IsInOneItem (items_in plan bytes)) (deliveries_of plan bytes)
-each_in_one_item plan bytes k d within =
-    let ds = deliveries_of plan bytes in
-    in_one_item ds k (slice_index_or ds k d) (distinct ds (deliveries_rise plan bytes)) (slice_get-get_or ds k d within)
+pub each_in_one_item : (plan : ListenPlan) (records : List Record) → All (IsInOneItem (items_in plan records)) (deliveries_of plan records)
+each_in_one_item plan records k d within =
+    let ds = deliveries_of plan records in
+    in_one_item ds k (slice_index_or ds k d) (distinct ds (deliveries_rise plan records)) (slice_get-get_or ds k d within)

@@ -1,15 +1,19 @@
 -- What is presented of copies stands where the journal has it.
-use Rattle.std.proofs.Common.{Ok, is_some, ◌≡◌, ℕ, ◌+◌, ◌%◌, ◌^◌, ◌<◌, ◌≤◌, Bool, true, false, ℤ, pos, ◌+ℤ◌, List, All, Option, Some, None, refl, sym, arith}
+use Rattle.std.proofs.Common.{Ok, is_some, ◌≡◌, ℕ, ◌+◌, ◌%◌, ◌^◌, ◌<◌, ◌≤◌, Bool, true, false, ℤ, pos, ◌+ℤ◌, List, All, Option, Some, None, refl, sym, subst, arith}
 use Rattle.std.specs.Prelude.{◌==◌, neg_ℤ, nat_lt, if◌then◌else◌, option_map, option_and_then, IfSome, Result, Err, IfOk}
+use Rattle.std.specs.List.{filter_map}
 use Rattle.std.specs.Option.{option_or}
 use Rattle.std.proofs.lemmas.Bool.Decides.{nat_tests}
-use Rattle.time_unfold.specs.Lines.{instant_at, nominal_line}
+use Rattle.clock_track.specs.Pairs.{Spot}
+use Rattle.clock_track.specs.Rows.{clock_spot}
+use Rattle.time_unfold.specs.Lines.{instant_at}
 use Rattle.time_unfold.specs.Stamps.{found}
 use Rattle.time_unfold.specs.Time.{unfolded}
 use Rattle.time_unfold.specs.declared.stamp.Stamp.{Stamp}
-use Rattle.stream_journal.specs.Journal.{IsAtBy, IsAtNominal, Journal, Kind, DenseAaf, SparseAaf, Am824, H264, head_of, rule_of}
-use Rattle.stream_journal.specs.Conforming.{IsAudio, is_stamped}
-use Rattle.stream_journal.specs.Delivered.{Copy, IsDelivered}
+use Rattle.stream_journal.specs.ClockRows.{IsSpotAt, IsTrueRow}
+use Rattle.stream_journal.specs.Journal.{IsAt, IsAtBy, IsAtByClock, IsAtNominal, Journal, Kind, DenseAaf, SparseAaf, Am824, H264, head_of, rule_of}
+use Rattle.stream_journal.specs.Conforming.{IsAudio, IsClock, is_stamped}
+use Rattle.stream_journal.specs.Delivered.{Copy, IsAudioKind, IsDelivered}
 use Rattle.stream_journal.specs.Heads.{IsCountedFrom, IsTrue, wanted}
 use Rattle.time_unfold.specs.declared.head_rule.Distance.{Distance}
 use Rattle.time_unfold.specs.declared.head_rule.Head.{Head}
@@ -17,18 +21,19 @@ use Rattle.time_unfold.specs.declared.head_rule.HeadRule.{HeadRule}
 use Rattle.time_unfold.specs.declared.head_rule.HeadRule.TheVariants.{Own, Eight, Blocks}
 use Rattle.time_unfold.specs.Heads.{distance, stamped_block, stamped_index}
 use Rattle.stream_journal.proofs.TrueHeads.{true_counts}
+use Rattle.stream_journal.proofs.TrueLines.{spot_sample, true_spot}
 use Rattle.stream_journal.proofs.TrueTime.{true_time}
 use Rattle.sample_schedule.specs.declared.entry.Entry.{Entry}
 use Rattle.sample_schedule.specs.declared.item.Item.TheVariants.{Packet as OfPacket}
 use Rattle.sample_schedule.specs.declared.item.Packet.{Packet}
 use Rattle.sample_schedule.specs.declared.plan.SchedulePlan.{SchedulePlan}
 use Rattle.sample_schedule.specs.declared.shown.Reason.{Reason}
-use Rattle.sample_schedule.specs.declared.shown.Reason.TheVariants.{Empty, NoRate}
+use Rattle.sample_schedule.specs.declared.shown.Reason.TheVariants.{Empty, NoClock, NoRate}
 use Rattle.sample_schedule.specs.Batches.{Presented}
 use Rattle.sample_schedule.specs.Heads as heads
-use Rattle.sample_schedule.specs.Verdicts.{Clock, counted_from, timed}
+use Rattle.sample_schedule.specs.Verdicts.{counted_from, moved, nominal_spot, ok_or_reason, row_of, samples_at, spot_of, timed}
 use Rattle.packet_journal.specs.Packets.{PacketJournal, carried}
-use Rattle.listener.specs.Laws.{IsAudioStream, IsOfPacket}
+use Rattle.listener.specs.Laws.{IsOfPacket, spot_in}
 use Rattle.listener.proofs.TrueItems.{sent}
 
 -- ---- the packet's own timestamp
@@ -122,25 +127,63 @@ head_true j plan n frame arrival bytes prefix is came all =
 
 -- ---- the batch
 
-at_nominal : (kind : Kind) (j : Journal) (n k : ℕ) (instant : ℤ) → IsAudioStream kind → IsAtNominal j n k instant → IsAtBy kind false j n k instant
+at_nominal : (kind : Kind) (j : Journal) (n k : ℕ) (instant : ℤ) → IsAudioKind kind → IsAtNominal j n k instant → IsAtBy kind false j n k instant
 at_nominal DenseAaf j n k instant heard at = at
 at_nominal SparseAaf j n k instant heard at = at
 at_nominal (Am824 interval dbc) j n k instant heard at = at
 at_nominal (H264 part) j n k instant heard at = absurd heard
 
-line_true : (j : Journal) (n k : ℕ) (h : Head) → IsTrueHead j n h → IsAtNominal j n k (instant_at (nominal_line h.instant j.rate) (h.first +ℤ pos k))
-line_true j n k h t = record { head = h; is_head = t; at = refl }
+at_clock : (kind : Kind) (j : Journal) (n k : ℕ) (instant : ℤ) → IsAudioKind kind → IsAtByClock j n k instant → IsAtBy kind true j n k instant
+at_clock DenseAaf j n k instant heard at = at
+at_clock SparseAaf j n k instant heard at = at
+at_clock (Am824 interval dbc) j n k instant heard at = at
+at_clock (H264 part) j n k instant heard at = absurd heard
+
+-- The samples that are counted from here have their instants in the journal.
+abbrev IsTrueSpot : Bool → Journal → ℕ → Spot → Type 0
+IsTrueSpot by j n spot = (k : ℕ) → IsAt by j n k (instant_at spot.line (spot.from +ℤ pos k))
+
+by_line : (j : Journal) (n : ℕ) (h : Head) (o : Option Spot) → IsAudioKind j.kind → IsTrueHead j n h → IfSome o (IsSpotAt j h.instant) → IfSome (option_map (moved h.first) o) (IsTrueSpot true j n)
+by_line j n h None heard t at = tt
+by_line j n h (Some spot) heard t at = λ k. at_clock j.kind j n k _ heard (spot_sample j n k h spot t at)
+
+-- a listener follows the journal's stream, and where it has a clock, the journal's
+pub record IsFollowed (shift : ℤ) (j : Journal) (plan : SchedulePlan) : Type 0 where
+  pub audio : IsAudio j
+  pub kind : IsAudioKind j.kind
+  pub clock : IsClock j.clock
+  pub shifted : plan.clock ≡ true → plan.shift ≡ shift
+
+-- what a listener knows is the journal's
+pub record IsTruePrefix (shift : ℤ) (j : Journal) (prefix : List Entry) : Type 0 where
+  pub stamps : All (IsTrue j) (heads.stamps_of prefix)
+  pub rows : All (IsTrueRow j.clock shift) (filter_map row_of prefix)
+
+-- The samples of a packet's true head: on the nominal line of the head, or on the clock's, by whatever copies of the clock's
+-- packets the listener has.
+spot_true : (shift : ℤ) (j : Journal) (plan : SchedulePlan) (n : ℕ) (prefix : List Entry) (h : Head) (by : Bool) → plan.clock ≡ by → IsFollowed shift j plan → IsTruePrefix shift j prefix → IsTrueHead j n h
+    → IfSome (if by then option_map (moved h.first) (clock_spot (filter_map row_of prefix) plan.shift h.instant j.rate) else Some (nominal_spot j.rate h)) (IsTrueSpot by j n)
+spot_true shift j plan n prefix h true on is known t =
+    by_line j n h (clock_spot (filter_map row_of prefix) plan.shift h.instant j.rate) is.kind t
+    (subst (λ (x : ℤ). IfSome (clock_spot (filter_map row_of prefix) x h.instant j.rate) (IsSpotAt j h.instant)) (sym (is.shifted on)) (true_spot j shift h.instant (filter_map row_of prefix) is.clock known.rows))
+spot_true shift j plan n prefix h false off is known t = λ k. at_nominal j.kind j n k _ is.kind (record { head = h; is_head = t; at = refl })
 
 -- the batch of a copy of packet n
-pub record IsBatchOf (p : PacketJournal) (n frame : ℕ) (batch : Presented) : Type 0 where
-  pub is : IsOfPacket p n batch
+pub record IsBatchOf (by : Bool) (p : PacketJournal) (n frame : ℕ) (batch : Presented) : Type 0 where
+  pub is : IsOfPacket by p n batch
   pub frame_is : batch.frame ≡ frame
 
-counted_true : (p : PacketJournal) (clock : Clock) (plan : SchedulePlan) (n frame arrival : ℕ) (prefix : List Entry) (r : Option Head) → plan.clock ≡ false → IsAudioStream p.times.kind → n < p.times.packets
-    → IfSome r (IsTrueHead p.times n) → IfOk (counted_from clock plan prefix (sent p.times n frame arrival (carried (p.packet n))) r) (IsBatchOf p n frame)
-counted_true p clock plan n frame arrival prefix None off heard known t = tt
-counted_true p clock plan n frame arrival prefix (Some h) off heard known t =
-    rw off (record { is = record { known = known; seq = refl; count = refl; bytes = refl; instants = λ k lt. at_nominal p.times.kind p.times n k _ heard (line_true p.times n k h t) }; frame_is = refl })
+at_spot : (by : Bool) (p : PacketJournal) (n frame arrival : ℕ) (o : Option Spot) → n < p.times.packets → IfSome o (IsTrueSpot by p.times n)
+    → IfOk (ok_or_reason NoClock (option_map (samples_at (sent p.times n frame arrival (carried (p.packet n)))) o)) (IsBatchOf by p n frame)
+at_spot by p n frame arrival None known t = tt
+at_spot by p n frame arrival (Some spot) known t =
+    record { is = record { known = known; seq = refl; count = refl; bytes = refl; instants = λ k lt. t k }; frame_is = refl }
+
+counted_true : (shift : ℤ) (p : PacketJournal) (plan : SchedulePlan) (n frame arrival : ℕ) (prefix : List Entry) (r : Option Head) → IsFollowed shift p.times plan → IsTruePrefix shift p.times prefix → n < p.times.packets
+    → IfSome r (IsTrueHead p.times n) → IfOk (counted_from clock_spot plan prefix (sent p.times n frame arrival (carried (p.packet n))) r) (IsBatchOf plan.clock p n frame)
+counted_true shift p plan n frame arrival prefix None is true_ones known t = tt
+counted_true shift p plan n frame arrival prefix (Some h) is true_ones known t =
+    at_spot plan.clock p n frame arrival (spot_of clock_spot plan prefix p.times.rate h) known (spot_true shift p.times plan n prefix h plan.clock refl is true_ones t)
 
 no_samples : (n : ℕ) → 1 ≤ n → (n == 0) ≡ false
 no_samples n some = grind (arith, nat_tests)
@@ -148,31 +191,35 @@ no_samples n some = grind (arith, nat_tests)
 neither : (a b : Bool) (r : Result Presented Reason) (P : Presented → Type 0) → a ≡ false → b ≡ false → IfOk r P → IfOk (if a then Err Empty else if b then Err NoRate else r) P
 neither a b r P e f h = rw (e, f) h
 
-pub timed_true : (p : PacketJournal) (clock : Clock) (plan : SchedulePlan) (n frame arrival : ℕ) (prefix : List Entry) → plan.clock ≡ false → IsAudio p.times → IsAudioStream p.times.kind
-    → IsDelivered p.times plan.lead (record { number = n; arrival = arrival }) → All (IsTrue p.times) (heads.stamps_of prefix)
-    → IfOk (timed clock plan prefix (OfPacket (sent p.times n frame arrival (carried (p.packet n))))) (IsBatchOf p n frame)
+pub timed_true : (shift : ℤ) (p : PacketJournal) (plan : SchedulePlan) (n frame arrival : ℕ) (prefix : List Entry) → IsFollowed shift p.times plan → IsTruePrefix shift p.times prefix
+    → IsDelivered p.times plan.lead (record { number = n; arrival = arrival })
+    → IfOk (timed clock_spot plan prefix (OfPacket (sent p.times n frame arrival (carried (p.packet n))))) (IsBatchOf plan.clock p n frame)
 unfolding timed
-timed_true p clock plan n frame arrival prefix off is heard came all =
-    neither (p.times.count == 0) (p.times.rate == 0) _ (IsBatchOf p n frame) (no_samples p.times.count is.some) (not_zero p.times.rate is.rate_from)
-    (counted_true p clock plan n frame arrival prefix (heads.head_of plan prefix (sent p.times n frame arrival (carried (p.packet n)))) off heard came.known
-    (head_true p.times plan n frame arrival (carried (p.packet n)) prefix is came all))
+timed_true shift p plan n frame arrival prefix is true_ones came =
+    neither (p.times.count == 0) (p.times.rate == 0) _ (IsBatchOf plan.clock p n frame) (no_samples p.times.count is.audio.some) (not_zero p.times.rate is.audio.rate_from)
+    (counted_true shift p plan n frame arrival prefix (heads.head_of plan prefix (sent p.times n frame arrival (carried (p.packet n)))) is true_ones came.known
+    (head_true p.times plan n frame arrival (carried (p.packet n)) prefix is.audio came true_ones.stamps))
 
--- where a head is found, there is a batch
+-- where the samples stand is known, there is a batch
 pub record IsOk (r : Result Presented Reason) : Type 0 where
   pub batch : Presented
   pub same : r ≡ Ok batch
 
-counted_ok : (clock : Clock) (plan : SchedulePlan) (packet : Packet) (prefix : List Entry) (r : Option Head) → plan.clock ≡ false → is_some r ≡ true → IsOk (counted_from clock plan prefix packet r)
-counted_ok clock plan packet prefix None off some = absurd cc
-counted_ok clock plan packet prefix (Some h) off some = rw off (record { batch = _; same = refl })
+spot_ok : (packet : Packet) (o : Option Spot) → is_some o ≡ true → IsOk (ok_or_reason NoClock (option_map (samples_at packet) o))
+spot_ok packet None some = absurd cc
+spot_ok packet (Some spot) some = record { batch = samples_at packet spot; same = refl }
+
+counted_ok : (plan : SchedulePlan) (packet : Packet) (prefix : List Entry) (r : Option Head) → is_some (option_and_then (spot_of clock_spot plan prefix packet.rate) r) ≡ true → IsOk (counted_from clock_spot plan prefix packet r)
+counted_ok plan packet prefix None some = absurd cc
+counted_ok plan packet prefix (Some h) some = spot_ok packet (spot_of clock_spot plan prefix packet.rate h) some
 
 neither_ok : (a b : Bool) (r : Result Presented Reason) → a ≡ false → b ≡ false → IsOk r → IsOk (if a then Err Empty else if b then Err NoRate else r)
 neither_ok a b r e f h = rw (e, f) h
 
-pub timed_ok : (p : PacketJournal) (clock : Clock) (plan : SchedulePlan) (n frame arrival : ℕ) (prefix : List Entry) → plan.clock ≡ false → IsAudio p.times
-    → is_some (heads.head_of plan prefix (sent p.times n frame arrival (carried (p.packet n)))) ≡ true
-    → IsOk (timed clock plan prefix (OfPacket (sent p.times n frame arrival (carried (p.packet n)))))
+pub timed_ok : (p : PacketJournal) (plan : SchedulePlan) (n frame arrival : ℕ) (prefix : List Entry) → IsAudio p.times
+    → is_some (spot_in plan prefix (sent p.times n frame arrival (carried (p.packet n)))) ≡ true
+    → IsOk (timed clock_spot plan prefix (OfPacket (sent p.times n frame arrival (carried (p.packet n)))))
 unfolding timed
-timed_ok p clock plan n frame arrival prefix off is some =
+timed_ok p plan n frame arrival prefix is some =
     neither_ok (p.times.count == 0) (p.times.rate == 0) _ (no_samples p.times.count is.some) (not_zero p.times.rate is.rate_from)
-    (counted_ok clock plan (sent p.times n frame arrival (carried (p.packet n))) prefix _ off some)
+    (counted_ok plan (sent p.times n frame arrival (carried (p.packet n))) prefix _ some)

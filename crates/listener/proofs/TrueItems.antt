@@ -1,27 +1,32 @@
 -- What is made of a copy of a packet is that packet.
-use Rattle.std.proofs.Common.{◌≡◌, ℕ, ◌+◌, ◌%◌, ◌^◌, Bool, true, false, ℤ, pos, List, [], ◌∷◌, All, Option, Some, None, refl, sym, ap, ◌∙◌}
-use Rattle.std.specs.Prelude.{◌==◌, ◌&&◌, ◌||◌, is_some, if◌then◌else◌, unwrap_or, option_map, IfSome, map, filter}
-use Rattle.std.specs.List.{enumerate_from, list_any}
+use Rattle.std.proofs.Common.{◌≡◌, ℕ, ◌+◌, ◌%◌, ◌^◌, ◌<◌, Bool, true, false, ℤ, pos, List, [], ◌∷◌, All, Option, Some, None, refl, sym, ap, ◌∙◌, subst, inl, inr}
+use Rattle.std.specs.Prelude.{◌==◌, ◌⊎◌, is_some, if◌then◌else◌, unwrap_or, option_map, IfSome, map, filter}
+use Rattle.std.specs.List.{enumerate_from}
 use Rattle.std.proofs.lemmas.List.Elements.{All-cons, All-head, All-nil, All-tail}
 use Rattle.avtp_base.specs.Octets.{bits}
 use Rattle.aaf_format.specs.Aaf.{Aaf, SpellsAaf, aaf_of, aaf_spelling, aaf_subtype, plain_aaf, rate_of as aaf_rate}
 use Rattle.aaf_format.proofs.AafLemmas.{aaf_again, one_packet as one_aaf}
-use Rattle.crf_format.specs.Crf.{crf_subtype}
+use Rattle.crf_format.specs.Crf.{Crf, crf_of, crf_subtype, plain_crf}
+use Rattle.crf_format.proofs.CrfLemmas.{one_packet as one_crf}
 use Rattle.iec61883_format.specs.Iec.{Iec, SpellsIec, iec_of, iec_spelling, iec_subtype, plain_iec, rate_of_fdf, syt_interval}
 use Rattle.iec61883_format.proofs.IecLemmas.{iec_again, one_packet as one_iec}
 use Rattle.avtp_base.specs.declared.refusal.Refusal.{Refusal}
 use Rattle.pcap_frames.specs.Capture.{Record}
 use Rattle.time_unfold.specs.declared.head_rule.HeadRule.{HeadRule}
 use Rattle.time_unfold.specs.declared.head_rule.HeadRule.TheVariants.{Own, Eight, Blocks}
+use Rattle.sample_schedule.specs.declared.entry.Entry.TheVariants.{Item as OfItem, Clock as OfClock}
 use Rattle.sample_schedule.specs.declared.item.Item.TheVariants.{Packet as OfPacket}
 use Rattle.sample_schedule.specs.declared.item.Packet.{Packet}
+use Rattle.clock_track.specs.declared.clock_row.ClockRow.{ClockRow}
+use Rattle.stream_journal.specs.ClockRows.{IsRowOf, IsTrueRow}
+use Rattle.stream_journal.specs.Clocks.{ClockJournal}
+use Rattle.stream_journal.specs.Delivered.{IsAudioKind}
 use Rattle.stream_journal.specs.Journal.{Journal, Kind, DenseAaf, SparseAaf, Am824, H264, rule_of}
-use Rattle.packet_journal.specs.Deliveries.{Delivery, belongs, deliveries, delivery, is_avtp, is_delivered, stream_kinds}
-use Rattle.packet_journal.specs.Delivered.{AreFrom, IsClockCopyOf, IsCopyOf, IsFrom, Origin, OfStream, OfClock, Spells}
-use Rattle.packet_journal.specs.Packets.{IsAafPacket, IsConforming, IsIecPacket, IsPacket, PacketJournal, PacketView, Pcm, Am824Data, H264Data, carried, spelling_of}
+use Rattle.packet_journal.specs.Deliveries.{Delivery, deliveries, delivery, is_delivered}
+use Rattle.packet_journal.specs.Delivered.{AreFrom, IsClockCopyOf, IsCopyOf, IsFrom, Origin, Spells}
+use Rattle.packet_journal.specs.Packets.{IsAafPacket, IsClockPacket, IsConforming, IsIecPacket, IsPacket, PacketJournal, PacketView, Pcm, Am824Data, H264Data, carried, spelling_of}
 use Rattle.packet_journal.proofs.Copies.{clock_copy_read}
-use Rattle.listener.specs.Items.{aaf_item, block_rule, blocks_of, iec_item, item_of, refused_or, samples_of}
-use Rattle.listener.specs.Laws.{IsAudioStream}
+use Rattle.listener.specs.Items.{aaf_item, block_rule, blocks_of, clock_row, entry_of, iec_item, item_of, points_of, points_or_none, refused_or, samples_of}
 
 -- ---- the item of a copy
 
@@ -55,7 +60,17 @@ same_packet frame a a' s s' m m' u u' t t' r r' f f' c c' bytes e1 e2 e3 e4 e5 e
 pub record Shows (d : Delivery) : Type 0 where
   pub subtype : d.subtype ≡ bits 0 0 8 d.packet
   pub seq : d.seq ≡ bits 2 0 8 d.packet
-  pub of_stream : list_any (λ kind. bits 0 0 8 d.packet == kind) stream_kinds ≡ true
+
+-- every delivery of a list of records shows its own
+shown_one : (i : ℕ) (r : Record) → Shows (delivery i r)
+shown_one i r = record { subtype = refl; seq = refl }
+
+shown_made : (xs : List (ℕ × Record)) → All Shows (map (λ (x : ℕ × Record). delivery x.0 x.1) xs)
+shown_made [] = All-nil Shows
+shown_made (x ∷ xs) = All-cons Shows (delivery x.0 x.1) (map (λ (y : ℕ × Record). delivery y.0 y.1) xs) (shown_one x.0 x.1) (shown_made xs)
+
+pub all_shown : (stream : ℕ) (clock : Option ℕ) (records : List Record) → All Shows (deliveries stream clock records)
+all_shown stream clock records = shown_made (filter (λ numbered. is_delivered stream clock numbered.1.bytes) (enumerate_from 1 records))
 
 of_aaf : (d : Delivery) → d.subtype ≡ aaf_subtype → item_of d ≡ aaf_item d
 of_aaf d e = rw e refl
@@ -102,7 +117,7 @@ iec_copy j interval dbc stream n arrival v d rule is s arrived shows =
     (stamp_read (j.stamp n) v.header.tv v.header.timestamp is.header.stamped is.header.timestamp)
     (blocks ∙ rule) rate is.count
 
-view_copy : (j : Journal) (kind : Kind) (stream n arrival : ℕ) (view : PacketView) (d : Delivery) → j.kind ≡ kind → IsAudioStream kind → IsPacket kind j stream n view → Spells (spelling_of view) d.packet
+view_copy : (j : Journal) (kind : Kind) (stream n arrival : ℕ) (view : PacketView) (d : Delivery) → j.kind ≡ kind → IsAudioKind kind → IsPacket kind j stream n view → Spells (spelling_of view) d.packet
     → d.arrival ≡ pos arrival → Shows d → item_of d ≡ OfPacket (sent j n d.frame arrival (carried view))
 view_copy j DenseAaf stream n arrival (Pcm v) d k heard is s arrived shows = aaf_copy j false stream n arrival v d (rw k refl) is s arrived shows
 view_copy j DenseAaf stream n arrival (Am824Data v) d k heard is s arrived shows = absurd is
@@ -115,80 +130,98 @@ view_copy j (Am824 interval dbc) stream n arrival (Am824Data v) d k heard is s a
 view_copy j (Am824 interval dbc) stream n arrival (H264Data v) d k heard is s arrived shows = absurd is
 view_copy j (H264 part) stream n arrival view d k heard is s arrived shows = absurd heard
 
--- ---- each delivery is a copy of a packet of the stream
+-- ---- each delivery is a copy of a packet of the stream or of its clock
 
 -- a delivery is a copy of a packet of the journal
 pub record IsCopied (p : PacketJournal) (lead : ℕ) (d : Delivery) : Type 0 where
-  pub number : ℕ
-  pub copy : IsCopyOf p lead number d
+  pub origin : Origin
+  pub copy : IsFrom p lead origin d
   pub shows : Shows d
 
--- a packet of a clock is of none of the kinds of a stream
-no_clock : (subtype : ℕ) → list_any (λ kind. subtype == kind) stream_kinds ≡ true → subtype ≡ crf_subtype → ⊥
-no_clock subtype some clock = let none : list_any (λ kind. subtype == kind) stream_kinds ≡ false = rw clock refl in absurd cc
+all_copied : (p : PacketJournal) (lead : ℕ) (os : List Origin) (ds : List Delivery) → All Shows ds → AreFrom p lead os ds → All (IsCopied p lead) ds
+all_copied p lead [] [] s from = All-nil (IsCopied p lead)
+all_copied p lead [] (d ∷ ds) s from = absurd from
+all_copied p lead (o ∷ os) [] s from = absurd from
+all_copied p lead (o ∷ os) (d ∷ ds) s from =
+    All-cons (IsCopied p lead) d ds (record { origin = o; copy = from.0; shows = All-head Shows d ds s }) (all_copied p lead os ds (All-tail Shows d ds s) from.1)
 
-of_clock : (shift : ℤ) (p : PacketJournal) (m : ℕ) (d : Delivery) → IsConforming shift p → Shows d → ¬ IsClockCopyOf p m d
-of_clock shift p m d is s copy =
-    let read = clock_copy_read shift p m d is copy in
-    no_clock (bits 0 0 8 d.packet) s.of_stream (read.fields.0.0)
-
-copied : (shift : ℤ) (p : PacketJournal) (lead : ℕ) (o : Origin) (d : Delivery) → IsConforming shift p → Shows d → IsFrom p lead o d → IsCopied p lead d
-copied shift p lead (OfStream n) d is s from = record { number = n; copy = from; shows = s }
-copied shift p lead (OfClock m) d is s from = absurd (of_clock shift p m d is s from)
-
-all_copied : (shift : ℤ) (p : PacketJournal) (lead : ℕ) (os : List Origin) (ds : List Delivery) → IsConforming shift p → All Shows ds → AreFrom p lead os ds → All (IsCopied p lead) ds
-all_copied shift p lead [] [] is s from = All-nil (IsCopied p lead)
-all_copied shift p lead [] (d ∷ ds) is s from = absurd from
-all_copied shift p lead (o ∷ os) [] is s from = absurd from
-all_copied shift p lead (o ∷ os) (d ∷ ds) is s from =
-    All-cons (IsCopied p lead) d ds (copied shift p lead o d is (All-head Shows d ds s) from.0) (all_copied shift p lead os ds is (All-tail Shows d ds s) from.1)
-
-both : (a b : Bool) → (a && b) ≡ true → (a ≡ true) × (b ≡ true)
-both true true e = (refl, refl)
-both true false e = absurd cc
-both false b e = absurd cc
-
-either : (a : Bool) → (a || false) ≡ true → a ≡ true
-either true e = refl
-either false e = absurd cc
-
-kind_shown : (stream i : ℕ) (r : Record) → is_delivered stream None r.bytes ≡ true → Shows (delivery i r)
-kind_shown stream i r e =
-    let whole = either (belongs stream_kinds stream r.bytes) e in
-    let wanted = both (is_avtp r.bytes) _ whole in
-    let id = both _ _ wanted.1 in
-    let sv = both _ _ id.0 in
-    record { subtype = refl; seq = refl; of_stream = sv.0 }
-
-abbrev pub listed : ℕ → List (ℕ × Record) → List Delivery
-listed stream xs = map (λ (x : ℕ × Record). delivery x.0 x.1) (filter (λ (x : ℕ × Record). is_delivered stream None x.1.bytes) xs)
-
-one_shown : (stream i : ℕ) (r : Record) (rest : List (ℕ × Record)) (b : Bool) → is_delivered stream None r.bytes ≡ b → All Shows (listed stream rest)
-    → All Shows (map (λ (x : ℕ × Record). delivery x.0 x.1) (if b then (i, r) ∷ filter (λ (x : ℕ × Record). is_delivered stream None x.1.bytes) rest else filter (λ (x : ℕ × Record). is_delivered stream None x.1.bytes) rest))
-one_shown stream i r rest true e all = All-cons Shows (delivery i r) (listed stream rest) (kind_shown stream i r e) all
-one_shown stream i r rest false e all = all
-
-pub all_shown : (stream i : ℕ) (records : List Record) → All Shows (listed stream (enumerate_from i records))
-all_shown stream i [] = All-nil Shows
-all_shown stream i (r ∷ records) = one_shown stream i r (enumerate_from (i + 1) records) (is_delivered stream None r.bytes) refl (all_shown stream (i + 1) records)
-
-pub deliveries_copied : (shift : ℤ) (p : PacketJournal) (lead stream : ℕ) (os : List Origin) (records : List Record) → IsConforming shift p → AreFrom p lead os (deliveries stream None records) → All (IsCopied p lead) (deliveries stream None records)
-deliveries_copied shift p lead stream os records is from = all_copied shift p lead os (deliveries stream None records) is (all_shown stream 1 records) from
+pub deliveries_copied : (p : PacketJournal) (clock : Option ℕ) (lead stream : ℕ) (os : List Origin) (records : List Record) → AreFrom p lead os (deliveries stream clock records) → All (IsCopied p lead) (deliveries stream clock records)
+deliveries_copied p clock lead stream os records from = all_copied p lead os (deliveries stream clock records) (all_shown stream clock records) from
 
 -- the item of a copy of packet n
-pub copy_item : (shift : ℤ) (p : PacketJournal) (lead n : ℕ) (d : Delivery) → IsConforming shift p → IsAudioStream p.times.kind → (copy : IsCopyOf p lead n d) → Shows d
+pub copy_item : (shift : ℤ) (p : PacketJournal) (lead n : ℕ) (d : Delivery) → IsConforming shift p → IsAudioKind p.times.kind → (copy : IsCopyOf p lead n d) → Shows d
     → item_of d ≡ OfPacket (sent p.times n d.frame copy.arrival (carried (p.packet n)))
 copy_item shift p lead n d is heard copy shows = view_copy p.times p.times.kind p.stream n copy.arrival (p.packet n) d refl heard (is.packets n copy.delivered.known) copy.spelled copy.arrived shows
 
--- an item is what a copy of a packet of the journal is made into
-pub record IsTrueItem (p : PacketJournal) (lead : ℕ) (d : Delivery) : Type 0 where
-  pub number : ℕ
-  pub copy : IsCopyOf p lead number d
-  pub same : item_of d ≡ OfPacket (sent p.times number d.frame copy.arrival (carried (p.packet number)))
+-- ---- entries
 
-pub true_item : (shift : ℤ) (p : PacketJournal) (lead : ℕ) (d : Delivery) → IsConforming shift p → IsAudioStream p.times.kind → IsCopied p lead d → IsTrueItem p lead d
-true_item shift p lead d is heard c = record {
-  number = c.number;
-  copy = c.copy;
-  same = copy_item shift p lead c.number d is heard c.copy c.shows;
-}
+not_of_clock : (subtype : ℕ) → (subtype ≡ aaf_subtype) ⊎ (subtype ≡ iec_subtype) → (subtype == crf_subtype) ≡ false
+not_of_clock subtype (inl e) = rw e refl
+not_of_clock subtype (inr e) = rw e refl
+
+aaf_kind : (j : Journal) (mode : Bool) (stream n : ℕ) (v : Aaf) (d : Delivery) → IsAafPacket j mode stream n v → Spells (aaf_spelling v) d.packet → Shows d → d.subtype ≡ aaf_subtype
+aaf_kind j mode stream n v d is s shows =
+    let read : SpellsAaf d.packet (plain_aaf v) = rw s.whole (aaf_again v s.trail is.writable is.fits) in
+    shows.subtype ∙ (read.fields.0.0 ∙ is.writable.subtype)
+
+iec_kind : (j : Journal) (interval dbc stream n : ℕ) (v : Iec) (d : Delivery) → IsIecPacket j interval dbc stream n v → Spells (iec_spelling v) d.packet → Shows d → d.subtype ≡ iec_subtype
+iec_kind j interval dbc stream n v d is s shows =
+    let read : SpellsIec d.packet (plain_iec v) = rw s.whole (iec_again v s.trail is.writable is.fits) in
+    shows.subtype ∙ (read.fields.0.0 ∙ is.writable.subtype)
+
+audio_kind : (j : Journal) (kind : Kind) (stream n : ℕ) (view : PacketView) (d : Delivery) → IsAudioKind kind → IsPacket kind j stream n view → Spells (spelling_of view) d.packet → Shows d
+    → (d.subtype ≡ aaf_subtype) ⊎ (d.subtype ≡ iec_subtype)
+audio_kind j DenseAaf stream n (Pcm v) d heard is s shows = inl (aaf_kind j false stream n v d is s shows)
+audio_kind j DenseAaf stream n (Am824Data v) d heard is s shows = absurd is
+audio_kind j DenseAaf stream n (H264Data v) d heard is s shows = absurd is
+audio_kind j SparseAaf stream n (Pcm v) d heard is s shows = inl (aaf_kind j true stream n v d is s shows)
+audio_kind j SparseAaf stream n (Am824Data v) d heard is s shows = absurd is
+audio_kind j SparseAaf stream n (H264Data v) d heard is s shows = absurd is
+audio_kind j (Am824 interval dbc) stream n (Pcm v) d heard is s shows = absurd is
+audio_kind j (Am824 interval dbc) stream n (Am824Data v) d heard is s shows = inr (iec_kind j interval (dbc n) stream n v d is s shows)
+audio_kind j (Am824 interval dbc) stream n (H264Data v) d heard is s shows = absurd is
+audio_kind j (H264 part) stream n view d heard is s shows = absurd heard
+
+-- the entry of a copy of packet n
+pub copy_entry : (shift : ℤ) (p : PacketJournal) (lead n : ℕ) (d : Delivery) → IsConforming shift p → IsAudioKind p.times.kind → (copy : IsCopyOf p lead n d) → Shows d
+    → entry_of d ≡ OfItem (OfPacket (sent p.times n d.frame copy.arrival (carried (p.packet n))))
+copy_entry shift p lead n d is heard copy shows =
+    let kind = audio_kind p.times p.times.kind p.stream n (p.packet n) d heard (is.packets n copy.delivered.known) copy.spelled shows in
+    rw (not_of_clock d.subtype kind) (ap OfItem (copy_item shift p lead n d is heard copy shows))
+
+-- the row of a copy of the clock's packet m
+pub record IsCopiedRow (c : ClockJournal) (shift : ℤ) (m : ℕ) (row : ClockRow) : Type 0 where
+  pub usable : row.usable ≡ true
+  pub is : IsRowOf c shift m row
+
+row_read : (c : ClockJournal) (shift : ℤ) (id m : ℕ) (v : Crf) (w : Crf) → IsClockPacket c shift id m v → plain_crf v ≡ w → m < c.packets → IsCopiedRow c shift m (points_of w)
+row_read c shift id m v w is same known =
+    subst (λ (x : Crf). IsCopiedRow c shift m (points_of x)) same (record {
+      usable = rw (is.kind, is.certain) refl;
+      is = record {
+        known = known;
+        seq = is.seq;
+        mr = is.mr;
+        base = is.base;
+        pull = is.pull;
+        interval = is.interval;
+        size = is.size;
+        points = is.points;
+      };
+    })
+
+pub copied_row : (shift : ℤ) (p : PacketJournal) (m : ℕ) (d : Delivery) → IsConforming shift p → IsClockCopyOf p m d → IsCopiedRow p.times.clock shift m (clock_row d)
+copied_row shift p m d is copy =
+    let read = clock_copy_read shift p m d is copy in
+    let same : plain_crf (p.clock_packet m) ≡ crf_of d.packet = one_crf d.packet (plain_crf (p.clock_packet m)) read in
+    subst (λ (r : Option Refusal). IsCopiedRow p.times.clock shift m (points_or_none r (crf_of d.packet))) (sym read.accepted)
+    (row_read p.times.clock shift p.clock m (p.clock_packet m) (crf_of d.packet) (is.clock_packets m copy.known) same copy.known)
+
+pub copy_row : (shift : ℤ) (p : PacketJournal) (m : ℕ) (d : Delivery) → IsConforming shift p → IsClockCopyOf p m d → IsTrueRow p.times.clock shift (clock_row d)
+copy_row shift p m d is copy = λ usable. (m, (copied_row shift p m d is copy).is)
+
+pub clock_entry : (shift : ℤ) (p : PacketJournal) (m : ℕ) (d : Delivery) → IsConforming shift p → IsClockCopyOf p m d → Shows d → entry_of d ≡ OfClock d.arrival (clock_row d)
+clock_entry shift p m d is copy shows =
+    let read = clock_copy_read shift p m d is copy in
+    let kind : d.subtype ≡ crf_subtype = shows.subtype ∙ read.fields.0.0 in
+    rw kind refl

@@ -1,122 +1,168 @@
 -- What is presented of a capture is packets of the journal.
-use Rattle.std.proofs.Common.{◌≡◌, ℕ, zero, suc, ◌+◌, Bool, true, false, cond, ℤ, List, [], ◌∷◌, All, length, Option, Some, None, refl, sym, ap, ◌∙◌, subst, arith}
-use Rattle.std.specs.Prelude.{Contains, is_some, int_lt, option_and_then, IfSome, Result, Ok, Err, IfOk, map, fold, slice_get}
-use Rattle.std.specs.List.{cons_option}
+use Rattle.std.proofs.Common.{◌≡◌, ℕ, zero, suc, ◌+◌, Bool, true, false, cond, ℤ, List, [], ◌∷◌, All, length, Option, Some, None, refl, sym, ap, ◌∙◌, subst, inl, inr, arith}
+use Rattle.std.specs.Prelude.{◌⊎◌, Contains, is_some, int_lt, option_and_then, IfSome, Result, Ok, Err, IfOk, map, fold, slice_get}
+use Rattle.std.specs.List.{cons_option, filter_map}
 use Rattle.std.proofs.lemmas.List.{get_or-map, length-map}
 use Rattle.std.proofs.lemmas.List.Elements.{All-append, All-contains_itself, All-cons, All-head, All-map, All-nil, All-tail, All-take, All-weaker}
-use Rattle.pcap_frames.specs.Capture.{whole_records}
-use Rattle.time_unfold.specs.declared.stamp.Stamp.{Stamp}
+use Rattle.clock_track.specs.declared.clock_row.ClockRow.{ClockRow}
+use Rattle.clock_track.specs.Rows.{clock_spot}
+use Rattle.pcap_frames.specs.Capture.{Record}
+use Rattle.stream_journal.specs.ClockRows.{IsTrueRow}
 use Rattle.stream_journal.specs.Journal.{Journal, Kind, DenseAaf, SparseAaf, Am824, H264}
 use Rattle.stream_journal.specs.Conforming.{Conforms, IsAudio, IsOfKind}
+use Rattle.stream_journal.specs.Delivered.{IsAudioKind}
 use Rattle.stream_journal.specs.Heads.{IsTrue}
 use Rattle.sample_schedule.specs.declared.accepted.Accepted.{Accepted}
 use Rattle.sample_schedule.specs.declared.entry.Entry.{Entry}
-use Rattle.sample_schedule.specs.declared.entry.Entry.TheVariants.{Item as OfItem}
+use Rattle.sample_schedule.specs.declared.entry.Entry.TheVariants.{Item as OfItem, Clock as OfClock}
 use Rattle.sample_schedule.specs.declared.item.Item.TheVariants.{Packet as OfPacket}
 use Rattle.sample_schedule.specs.declared.plan.SchedulePlan.{SchedulePlan}
 use Rattle.sample_schedule.specs.declared.shown.Reason.{Reason}
 use Rattle.sample_schedule.specs.Batches.{Presented}
-use Rattle.sample_schedule.specs.Heads.{stamp_of, stamps_of}
+use Rattle.sample_schedule.specs.Heads.{stamp_of}
 use Rattle.sample_schedule.specs.Laws.{presented}
 use Rattle.sample_schedule.specs.Order.{by_instant, put_behind}
-use Rattle.sample_schedule.specs.Schedule.{Given, Presents, Flags, accepted, accepted_by, given, judged, now_at, prefix_of, shown_of, verdict_at}
-use Rattle.sample_schedule.specs.Verdicts.{Clock, decided, first_instant, timed, verdict}
+use Rattle.sample_schedule.specs.Schedule.{Given, Presents, Flags, accepted, accepted_by, given, judged, now_at, prefix_of, shown_of as given_shown, verdict_at}
+use Rattle.sample_schedule.specs.Verdicts.{decided, first_instant, row_of, timed, verdict}
 use Rattle.sample_schedule.proofs.LawLemmas.{accepted-presented}
-use Rattle.packet_journal.specs.Deliveries.{Delivery, deliveries}
-use Rattle.packet_journal.specs.Delivered.{AreFrom, IsCopyOf}
-use Rattle.packet_journal.specs.Packets.{PacketJournal, carried}
+use Rattle.packet_journal.specs.Deliveries.{Delivery}
+use Rattle.packet_journal.specs.Delivered.{IsCopyOf, IsFrom, Origin, OfStream, OfClock}
+use Rattle.packet_journal.specs.Packets.{IsConforming, PacketJournal, carried}
 use Rattle.listener.specs.declared.plan.ListenPlan.{ListenPlan}
-use Rattle.listener.specs.Heard.{heard_of, schedule_plan}
-use Rattle.listener.specs.Items.{MadeItem, entries, item_of, items_of, made_of_one}
-use Rattle.listener.specs.Laws.{HearsTalker, IsAudioStream, IsHeardFrom, IsMadeOf, IsOfJournal, deliveries_of, entries_in, items_in, presented_of}
-use Rattle.listener.proofs.TrueItems.{IsCopied, IsTrueItem, deliveries_copied, sent, true_item}
-use Rattle.listener.proofs.TrueHeard.{IsBatchOf, timed_true, true_stamp}
+use Rattle.listener.specs.Heard.{deliveries_of, entries_in, items_in, schedule_plan, shown_of}
+use Rattle.listener.specs.Items.{MadeItem, clock_row, entry_of, items_of, made_of_one}
+use Rattle.listener.specs.Laws.{FollowsClock, HearsTalker, IsHeardFrom, IsMadeOf, IsOfJournal, by_clock, presented_of}
+use Rattle.listener.proofs.TrueItems.{IsCopied, Shows, clock_entry, copy_entry, copy_row, deliveries_copied, sent}
+use Rattle.listener.proofs.TrueHeard.{IsBatchOf, IsFollowed, IsTruePrefix, timed_true, true_stamp}
 
 -- ---- entries
 
--- an entry is made of a copy of a packet of the journal
-pub record IsTrueEntry (items : List MadeItem) (p : PacketJournal) (lead : ℕ) (e : Entry) : Type 0 where
+-- an entry is made of a copy of a packet of the stream
+pub record IsStreamEntry (items : List MadeItem) (p : PacketJournal) (lead : ℕ) (e : Entry) : Type 0 where
   pub delivery : Delivery
-  pub entry : e ≡ OfItem (item_of delivery)
+  pub number : ℕ
+  pub copy : IsCopyOf p lead number delivery
   pub listed : Contains items (made_of_one delivery)
-  pub item : IsTrueItem p lead delivery
+  pub same : e ≡ OfItem (OfPacket (sent p.times number delivery.frame copy.arrival (carried (p.packet number))))
 
-audio_of : (kind : Kind) (j : Journal) → IsAudioStream kind → IsOfKind kind j → IsAudio j
+-- or of one of the clock's
+pub record IsClockEntry (shift : ℤ) (p : PacketJournal) (e : Entry) : Type 0 where
+  pub arrival : ℤ
+  pub row : ClockRow
+  pub same : e ≡ OfClock arrival row
+  pub is_true : IsTrueRow p.times.clock shift row
+
+abbrev pub IsTrueEntry : List MadeItem → ℤ → PacketJournal → ℕ → Entry → Type 0
+IsTrueEntry items shift p lead e = IsStreamEntry items p lead e ⊎ IsClockEntry shift p e
+
+audio_of : (kind : Kind) (j : Journal) → IsAudioKind kind → IsOfKind kind j → IsAudio j
 audio_of DenseAaf j heard is = is.0
 audio_of SparseAaf j heard is = is.0
 audio_of (Am824 interval dbc) j heard is = is.0
 audio_of (H264 part) j heard is = absurd heard
 
 -- the talker's packets are of one rate and one count
-pub audio : (p : PacketJournal) → IsAudioStream p.times.kind → Conforms p.times → IsAudio p.times
+pub audio : (p : PacketJournal) → IsAudioKind p.times.kind → Conforms p.times → IsAudio p.times
 audio p heard is = audio_of p.times.kind p.times heard is.kind
+
+shifted_by : (shift added : ℤ) (p : PacketJournal) (clock : Option ℕ) → FollowsClock shift p added clock → is_some clock ≡ true → added ≡ shift
+shifted_by shift added p None follows on = absurd cc
+shifted_by shift added p (Some id) follows on = follows.1
+
+pub followed : (shift : ℤ) (p : PacketJournal) (plan : ListenPlan) (records : List Record) → HearsTalker shift p plan records → IsFollowed shift p.times (schedule_plan plan)
+followed shift p plan records h = record {
+  audio = audio p h.kind h.conforming.times;
+  kind = h.kind;
+  clock = h.conforming.times.clock;
+  shifted = shifted_by shift plan.shift p plan.clock h.clock;
+}
 
 -- the item of a delivery is among those of all
 made_there : (ds : List Delivery) (d : Delivery) → Contains ds d → Contains (items_of ds) (made_of_one d)
 made_there ds d (k, within, there) = (k, omega (arith, length-map ds made_of_one), get_or-map made_of_one ds k d (made_of_one d) within ∙ ap made_of_one there)
 
-pub entries_true : (shift : ℤ) (p : PacketJournal) (plan : ListenPlan) (bytes : List ℕ) → HearsTalker shift p plan bytes → All (IsTrueEntry (items_in plan bytes) p plan.lead) (entries_in plan bytes)
-entries_true shift p plan bytes h =
+true_entry : (items : List MadeItem) (shift : ℤ) (p : PacketJournal) (lead : ℕ) (d : Delivery) (o : Origin) → IsConforming shift p → IsAudioKind p.times.kind → IsFrom p lead o d → Shows d → Contains items (made_of_one d)
+    → IsTrueEntry items shift p lead (entry_of d)
+true_entry items shift p lead d (OfStream n) is heard copy shows listed = inl (record { delivery = d; number = n; copy = copy; listed = listed; same = copy_entry shift p lead n d is heard copy shows })
+true_entry items shift p lead d (OfClock m) is heard copy shows listed = inr (record { arrival = d.arrival; row = clock_row d; same = clock_entry shift p m d is copy shows; is_true = copy_row shift p m d is copy })
+
+pub entries_true : (shift : ℤ) (p : PacketJournal) (plan : ListenPlan) (records : List Record) → HearsTalker shift p plan records → All (IsTrueEntry (items_in plan records) shift p plan.lead) (entries_in plan records)
+entries_true shift p plan records h =
     let from = h.delivered in
-    let records = whole_records bytes in
-    let ds = deliveries_of plan bytes in
-    let copies = deliveries_copied shift p plan.lead p.stream from.origins records h.conforming (subst (λ (c : Option ℕ). AreFrom p plan.lead from.origins (deliveries p.stream c records)) h.clock from.copies) in
-    let here : All (IsCopied p plan.lead) ds = rw (h.stream, h.clock) copies in
+    let ds = deliveries_of plan records in
+    let copies = deliveries_copied p plan.clock plan.lead p.stream from.origins records from.copies in
+    let here : All (IsCopied p plan.lead) ds = rw h.stream copies in
     let items = items_of ds in
-    All-map (IsTrueEntry items p plan.lead) (λ (made : MadeItem). made.entry) items
-    (All-map (λ (made : MadeItem). IsTrueEntry items p plan.lead made.entry) made_of_one ds
-    (All-weaker (λ (d : Delivery). IsCopied p plan.lead d × Contains items (made_of_one d)) (λ (d : Delivery). IsTrueEntry items p plan.lead (OfItem (item_of d)))
-    (λ d c. record { delivery = d; entry = refl; listed = c.1; item = true_item shift p plan.lead d h.conforming h.kind c.0 }) ds
+    All-map (IsTrueEntry items shift p plan.lead) (λ (made : MadeItem). made.entry) items
+    (All-map (λ (made : MadeItem). IsTrueEntry items shift p plan.lead made.entry) made_of_one ds
+    (All-weaker (λ (d : Delivery). IsCopied p plan.lead d × Contains items (made_of_one d)) (λ (d : Delivery). IsTrueEntry items shift p plan.lead (entry_of d))
+    (λ d c. true_entry items shift p plan.lead d c.0.origin h.conforming h.kind c.0.copy c.0.shows c.1) ds
     (λ k d lt. (here k d lt, made_there ds _ (All-contains_itself ds k d lt)))))
 
--- ---- stamps
+-- ---- what is known
 
-entry_stamp : (items : List MadeItem) (p : PacketJournal) (lead : ℕ) (e : Entry) → IsAudio p.times → IsAudioStream p.times.kind → IsTrueEntry items p lead e → IfSome (stamp_of e) (IsTrue p.times)
-entry_stamp items p lead e is heard t =
-    let same : e ≡ OfItem (OfPacket (sent p.times t.item.number t.delivery.frame t.item.copy.arrival (carried (p.packet t.item.number)))) = t.entry ∙ ap OfItem t.item.same in
-    subst (λ (x : Entry). IfSome (stamp_of x) (IsTrue p.times)) (sym same)
-    (true_stamp p.times lead t.item.number t.delivery.frame t.item.copy.arrival (carried (p.packet t.item.number)) is t.item.copy.delivered)
+stream_stamp : (items : List MadeItem) (p : PacketJournal) (lead : ℕ) (e : Entry) → IsAudio p.times → IsStreamEntry items p lead e → IfSome (stamp_of e) (IsTrue p.times)
+stream_stamp items p lead e is t =
+    subst (λ (x : Entry). IfSome (stamp_of x) (IsTrue p.times)) (sym t.same)
+    (true_stamp p.times lead t.number t.delivery.frame t.copy.arrival (carried (p.packet t.number)) is t.copy.delivered)
 
-put_first : (P : Stamp → Type 0) (o : Option Stamp) (xs : List Stamp) → IfSome o P → All P xs → All P (cons_option o xs)
-put_first P None xs h all = all
-put_first P (Some s) xs h all = All-cons P s xs h all
+entry_stamp : (items : List MadeItem) (shift : ℤ) (p : PacketJournal) (lead : ℕ) (e : Entry) → IsAudio p.times → IsTrueEntry items shift p lead e → IfSome (stamp_of e) (IsTrue p.times)
+entry_stamp items shift p lead e is (inl t) = stream_stamp items p lead e is t
+entry_stamp items shift p lead e is (inr t) = rw t.same tt
 
-pub stamps_true : (items : List MadeItem) (p : PacketJournal) (lead : ℕ) (es : List Entry) → IsAudio p.times → IsAudioStream p.times.kind → All (IsTrueEntry items p lead) es → All (IsTrue p.times) (stamps_of es)
-stamps_true items p lead [] is heard all = All-nil (IsTrue p.times)
-stamps_true items p lead (e ∷ es) is heard all =
-    put_first (IsTrue p.times) (stamp_of e) (stamps_of es) (entry_stamp items p lead e is heard (All-head (IsTrueEntry items p lead) e es all))
-    (stamps_true items p lead es is heard (All-tail (IsTrueEntry items p lead) e es all))
+entry_row : (items : List MadeItem) (shift : ℤ) (p : PacketJournal) (lead : ℕ) (e : Entry) → IsTrueEntry items shift p lead e → IfSome (row_of e) (IsTrueRow p.times.clock shift)
+entry_row items shift p lead e (inl t) = rw t.same tt
+entry_row items shift p lead e (inr t) = subst (λ (x : Entry). IfSome (row_of x) (IsTrueRow p.times.clock shift)) (sym t.same) t.is_true
+
+put_first : {X : Type 0} (P : X → Type 0) (o : Option X) (xs : List X) → IfSome o P → All P xs → All P (cons_option o xs)
+put_first {X} P None xs h all = all
+put_first {X} P (Some s) xs h all = All-cons P s xs h all
+
+all_picked : {X : Type 0} (pick : Entry → Option X) (P : X → Type 0) (Q : Entry → Type 0) → ((e : Entry) → Q e → IfSome (pick e) P) → (es : List Entry) → All Q es → All P (filter_map pick es)
+all_picked {X} pick P Q each [] all = All-nil P
+all_picked {X} pick P Q each (e ∷ es) all = put_first P (pick e) (filter_map pick es) (each e (All-head Q e es all)) (all_picked pick P Q each es (All-tail Q e es all))
+
+pub prefix_true : (items : List MadeItem) (shift : ℤ) (p : PacketJournal) (lead : ℕ) (es : List Entry) → IsAudio p.times → All (IsTrueEntry items shift p lead) es → IsTruePrefix shift p.times es
+prefix_true items shift p lead es is all = record {
+  stamps = all_picked stamp_of (IsTrue p.times) (IsTrueEntry items shift p lead) (λ e. entry_stamp items shift p lead e is) es all;
+  rows = all_picked row_of (IsTrueRow p.times.clock shift) (IsTrueEntry items shift p lead) (entry_row items shift p lead) es all;
+}
 
 -- ---- verdicts
 
 -- what is accepted is heard from a delivery, at its first instant
-record IsHeardAccepted (items : List MadeItem) (p : PacketJournal) (lead : ℕ) (a : Accepted) : Type 0 where
-  is : IsHeardFrom items p lead a.batch
+record IsHeardAccepted (by : Bool) (items : List MadeItem) (p : PacketJournal) (lead : ℕ) (a : Accepted) : Type 0 where
+  is : IsHeardFrom by items p lead a.batch
   instant : a.instant ≡ first_instant a.batch
 
 -- it is a packet of the journal
-pub record IsTrueAccepted (p : PacketJournal) (a : Accepted) : Type 0 where
-  pub is : IsOfJournal p a.batch
+pub record IsTrueAccepted (by : Bool) (p : PacketJournal) (a : Accepted) : Type 0 where
+  pub is : IsOfJournal by p a.batch
   pub instant : a.instant ≡ first_instant a.batch
 
 -- the item of a copy of packet n is made of that packet
 pub one_copy : (p : PacketJournal) (lead n : ℕ) (d : Delivery) → IsCopyOf p lead n d → IsMadeOf p lead n (made_of_one d)
 one_copy p lead n d copy = record { from = n; to = omega arith; earlier = tt; last = copy }
 
-decided_true : (items : List MadeItem) (p : PacketJournal) (lead : ℕ) (late copy full : Bool) (place : ℕ) (batch : Presented) → IsHeardFrom items p lead batch → IfOk (decided late copy full place batch) (IsHeardAccepted items p lead)
-decided_true items p lead true copy full place batch is = tt
-decided_true items p lead false true full place batch is = tt
-decided_true items p lead false false true place batch is = tt
-decided_true items p lead false false false place batch is = record { is = is; instant = refl }
+decided_true : (P : Presented → Type 0) (late copy full : Bool) (place : ℕ) (batch : Presented) → P batch → IfOk (decided late copy full place batch) (λ a. P a.batch × (a.instant ≡ first_instant a.batch))
+decided_true P true copy full place batch is = tt
+decided_true P false true full place batch is = tt
+decided_true P false false true place batch is = tt
+decided_true P false false false place batch is = (is, refl)
 
-verdict_true : (items : List MadeItem) (p : PacketJournal) (lead : ℕ) (plan : SchedulePlan) (now : ℤ) (earlier : List Accepted) (place number : ℕ) (d : Delivery) (r : Result Presented Reason) → Contains items (made_of_one d) → IsCopyOf p lead number d → IfOk r (IsBatchOf p number d.frame) → IfOk (verdict plan now earlier place r) (IsHeardAccepted items p lead)
+verdict_true : (P : Presented → Type 0) (plan : SchedulePlan) (now : ℤ) (earlier : List Accepted) (place : ℕ) (r : Result Presented Reason) → IfOk r P → IfOk (verdict plan now earlier place r) (λ a. P a.batch × (a.instant ≡ first_instant a.batch))
 unfolding verdict
-verdict_true items p lead plan now earlier place number d (Err reason) listed copy is = tt
-verdict_true items p lead plan now earlier place number d (Ok batch) listed copy is = decided_true items p lead _ _ _ place batch (record { item = made_of_one d; number = number; listed = listed; copy = one_copy p lead number d copy; is = record { frame = is.frame_is; is = is.is } })
+verdict_true P plan now earlier place (Err reason) is = tt
+verdict_true P plan now earlier place (Ok batch) is = decided_true P _ _ _ place batch is
 
-accepted_one : (items : List MadeItem) (p : PacketJournal) (lead : ℕ) (r : Result Accepted Reason) → IfOk r (IsHeardAccepted items p lead) → All (IsHeardAccepted items p lead) (accepted_by (Some r))
-accepted_one items p lead (Ok a) t = All-cons (IsHeardAccepted items p lead) a [] t (All-nil (IsHeardAccepted items p lead))
-accepted_one items p lead (Err reason) t = All-nil (IsHeardAccepted items p lead)
+batch_heard : (by : Bool) (items : List MadeItem) (p : PacketJournal) (lead number : ℕ) (d : Delivery) (r : Result Presented Reason) → Contains items (made_of_one d) → IsCopyOf p lead number d → IfOk r (IsBatchOf by p number d.frame)
+    → IfOk r (IsHeardFrom by items p lead)
+batch_heard by items p lead number d (Err reason) listed copy is = tt
+batch_heard by items p lead number d (Ok batch) listed copy is = record { item = made_of_one d; number = number; listed = listed; copy = one_copy p lead number d copy; is = record { frame = is.frame_is; is = is.is } }
+
+accepted_one : (by : Bool) (items : List MadeItem) (p : PacketJournal) (lead : ℕ) (r : Result Accepted Reason) → IfOk r (λ a. IsHeardFrom by items p lead a.batch × (a.instant ≡ first_instant a.batch)) → All (IsHeardAccepted by items p lead) (accepted_by (Some r))
+accepted_one by items p lead (Ok a) t = All-cons (IsHeardAccepted by items p lead) a [] (record { is = t.0; instant = t.1 }) (All-nil (IsHeardAccepted by items p lead))
+accepted_one by items p lead (Err reason) t = All-nil (IsHeardAccepted by items p lead)
 
 -- an entry of the list, where there is one
 entry_at : (P : Entry → Type 0) (es : List Entry) (n : ℕ) → All P es → IfSome (slice_get es n) P
@@ -124,34 +170,40 @@ entry_at P [] n all = tt
 entry_at P (e ∷ es) zero all = All-head P e es all
 entry_at P (e ∷ es) (suc n) all = entry_at P es n (All-tail P e es all)
 
-judged_true : (items : List MadeItem) (p : PacketJournal) (clock : Clock) (plan : SchedulePlan) (es : List Entry) (n : ℕ) (earlier : List Accepted) (o : Option Entry) → plan.clock ≡ false → IsAudio p.times → IsAudioStream p.times.kind
-    → All (IsTrueEntry items p plan.lead) es → IfSome o (IsTrueEntry items p plan.lead) → All (IsHeardAccepted items p plan.lead) (accepted_by (option_and_then (judged clock plan es n earlier) o))
-judged_true items p clock plan es n earlier None off is heard all t = All-nil (IsHeardAccepted items p plan.lead)
-judged_true items p clock plan es n earlier (Some e) off is heard all t =
-    let packet = sent p.times t.item.number t.delivery.frame t.item.copy.arrival (carried (p.packet t.item.number)) in
-    let same : e ≡ OfItem (OfPacket packet) = t.entry ∙ ap OfItem t.item.same in
+judged_stream : (items : List MadeItem) (shift : ℤ) (p : PacketJournal) (plan : SchedulePlan) (es : List Entry) (n : ℕ) (earlier : List Accepted) (e : Entry) → IsFollowed shift p.times plan → All (IsTrueEntry items shift p plan.lead) es
+    → IsStreamEntry items p plan.lead e → All (IsHeardAccepted plan.clock items p plan.lead) (accepted_by (judged clock_spot plan es n earlier e))
+judged_stream items shift p plan es n earlier e is all t =
+    let packet = sent p.times t.number t.delivery.frame t.copy.arrival (carried (p.packet t.number)) in
     let prefix = prefix_of plan es n in
-    let stamps = stamps_true items p plan.lead prefix is heard (All-take (IsTrueEntry items p plan.lead) (n + plan.look + 1) es all) in
-    subst (λ (x : Entry). All (IsHeardAccepted items p plan.lead) (accepted_by (judged clock plan es n earlier x))) (sym same)
-    (accepted_one items p plan.lead (verdict plan (now_at es n) earlier n (timed clock plan prefix (OfPacket packet)))
-    (verdict_true items p plan.lead plan (now_at es n) earlier n t.item.number t.delivery (timed clock plan prefix (OfPacket packet)) t.listed t.item.copy
-    (timed_true p clock plan t.item.number t.delivery.frame t.item.copy.arrival prefix off is heard t.item.copy.delivered stamps)))
+    let known = prefix_true items shift p plan.lead prefix is.audio (All-take (IsTrueEntry items shift p plan.lead) (n + plan.look + 1) es all) in
+    let r = timed clock_spot plan prefix (OfPacket packet) in
+    subst (λ (x : Entry). All (IsHeardAccepted plan.clock items p plan.lead) (accepted_by (judged clock_spot plan es n earlier x))) (sym t.same)
+    (accepted_one plan.clock items p plan.lead (verdict plan (now_at es n) earlier n r)
+    (verdict_true (IsHeardFrom plan.clock items p plan.lead) plan (now_at es n) earlier n r
+    (batch_heard plan.clock items p plan.lead t.number t.delivery r t.listed t.copy
+    (timed_true shift p plan t.number t.delivery.frame t.copy.arrival prefix is known t.copy.delivered))))
 
-accepted_heard : (items : List MadeItem) (p : PacketJournal) (clock : Clock) (plan : SchedulePlan) (es : List Entry) (n : ℕ) → plan.clock ≡ false → IsAudio p.times → IsAudioStream p.times.kind
-    → All (IsTrueEntry items p plan.lead) es → All (IsHeardAccepted items p plan.lead) (accepted clock plan es n)
+judged_true : (items : List MadeItem) (shift : ℤ) (p : PacketJournal) (plan : SchedulePlan) (es : List Entry) (n : ℕ) (earlier : List Accepted) (o : Option Entry) → IsFollowed shift p.times plan → All (IsTrueEntry items shift p plan.lead) es
+    → IfSome o (IsTrueEntry items shift p plan.lead) → All (IsHeardAccepted plan.clock items p plan.lead) (accepted_by (option_and_then (judged clock_spot plan es n earlier) o))
+judged_true items shift p plan es n earlier None is all t = All-nil (IsHeardAccepted plan.clock items p plan.lead)
+judged_true items shift p plan es n earlier (Some e) is all (inl t) = judged_stream items shift p plan es n earlier e is all t
+judged_true items shift p plan es n earlier (Some e) is all (inr t) = rw t.same (All-nil (IsHeardAccepted plan.clock items p plan.lead))
+
+accepted_heard : (items : List MadeItem) (shift : ℤ) (p : PacketJournal) (plan : SchedulePlan) (es : List Entry) (n : ℕ) → IsFollowed shift p.times plan → All (IsTrueEntry items shift p plan.lead) es
+    → All (IsHeardAccepted plan.clock items p plan.lead) (accepted clock_spot plan es n)
 unfolding accepted verdict_at
-accepted_heard items p clock plan es zero off is heard all = All-nil (IsHeardAccepted items p plan.lead)
-accepted_heard items p clock plan es (suc n) off is heard all =
-    All-append (IsHeardAccepted items p plan.lead) (accepted clock plan es n) _ (accepted_heard items p clock plan es n off is heard all)
-    (judged_true items p clock plan es n (accepted clock plan es n) (slice_get es n) off is heard all (entry_at (IsTrueEntry items p plan.lead) es n all))
+accepted_heard items shift p plan es zero is all = All-nil (IsHeardAccepted plan.clock items p plan.lead)
+accepted_heard items shift p plan es (suc n) is all =
+    All-append (IsHeardAccepted plan.clock items p plan.lead) (accepted clock_spot plan es n) _ (accepted_heard items shift p plan es n is all)
+    (judged_true items shift p plan es n (accepted clock_spot plan es n) (slice_get es n) is all (entry_at (IsTrueEntry items shift p plan.lead) es n all))
 
-heard_true : (items : List MadeItem) (p : PacketJournal) (lead : ℕ) (a : Accepted) → IsHeardAccepted items p lead a → IsTrueAccepted p a
-heard_true items p lead a t = record { is = record { number = t.is.number; is = t.is.is.is }; instant = t.instant }
+heard_true : (by : Bool) (items : List MadeItem) (p : PacketJournal) (lead : ℕ) (a : Accepted) → IsHeardAccepted by items p lead a → IsTrueAccepted by p a
+heard_true by items p lead a t = record { is = record { number = t.is.number; is = t.is.is.is }; instant = t.instant }
 
-pub accepted_true : (items : List MadeItem) (p : PacketJournal) (clock : Clock) (plan : SchedulePlan) (es : List Entry) (n : ℕ) → plan.clock ≡ false → IsAudio p.times → IsAudioStream p.times.kind
-    → All (IsTrueEntry items p plan.lead) es → All (IsTrueAccepted p) (accepted clock plan es n)
-accepted_true items p clock plan es n off is heard all =
-    All-weaker (IsHeardAccepted items p plan.lead) (IsTrueAccepted p) (heard_true items p plan.lead) (accepted clock plan es n) (accepted_heard items p clock plan es n off is heard all)
+pub accepted_true : (items : List MadeItem) (shift : ℤ) (p : PacketJournal) (plan : SchedulePlan) (es : List Entry) (n : ℕ) → IsFollowed shift p.times plan → All (IsTrueEntry items shift p plan.lead) es
+    → All (IsTrueAccepted plan.clock p) (accepted clock_spot plan es n)
+accepted_true items shift p plan es n is all =
+    All-weaker (IsHeardAccepted plan.clock items p plan.lead) (IsTrueAccepted plan.clock p) (heard_true plan.clock items p plan.lead) (accepted clock_spot plan es n) (accepted_heard items shift p plan es n is all)
 
 -- ---- the order
 
@@ -170,41 +222,39 @@ by_instant_true : (P : Accepted → Type 0) (xs : List Accepted) → All P xs �
 unfolding by_instant
 by_instant_true P xs all = all_sorted P xs [] all (All-nil P)
 
-pub batches_are : (gs : List Given) → presented_of (map shown_of gs) ≡ map (λ (a : Accepted). a.batch) (presented gs)
+pub batches_are : (gs : List Given) → presented_of (map given_shown gs) ≡ map (λ (a : Accepted). a.batch) (presented gs)
 batches_are [] = refl
 batches_are (Presents a ∷ gs) = ap (λ (l : List Presented). a.batch ∷ l) (batches_are gs)
 batches_are (Flags place item reason ∷ gs) = batches_are gs
 
 -- what is presented of a capture, with the first instants by which it is ordered
-given_heard : (clock : Clock) (shift : ℤ) (p : PacketJournal) (plan : ListenPlan) (bytes : List ℕ) → HearsTalker shift p plan bytes
-    → All (IsHeardAccepted (items_in plan bytes) p plan.lead) (presented (given clock (schedule_plan plan) (entries_in plan bytes)))
-given_heard clock shift p plan bytes h =
-    let items = items_in plan bytes in
-    let es = entries_in plan bytes in
-    let is = audio p h.kind h.conforming.times in
-    let off : is_some plan.clock ≡ false = rw h.clock refl in
-    subst (λ (l : List Accepted). All (IsHeardAccepted items p plan.lead) l) (sym (accepted-presented clock (schedule_plan plan) es))
-    (by_instant_true (IsHeardAccepted items p plan.lead) (accepted clock (schedule_plan plan) es (length es))
-    (accepted_heard items p clock (schedule_plan plan) es (length es) off is h.kind (entries_true shift p plan bytes h)))
+given_heard : (shift : ℤ) (p : PacketJournal) (plan : ListenPlan) (records : List Record) → HearsTalker shift p plan records
+    → All (IsHeardAccepted (by_clock plan) (items_in plan records) p plan.lead) (presented (given clock_spot (schedule_plan plan) (entries_in plan records)))
+given_heard shift p plan records h =
+    let items = items_in plan records in
+    let es = entries_in plan records in
+    subst (λ (l : List Accepted). All (IsHeardAccepted (by_clock plan) items p plan.lead) l) (sym (accepted-presented clock_spot (schedule_plan plan) es))
+    (by_instant_true (IsHeardAccepted (by_clock plan) items p plan.lead) (accepted clock_spot (schedule_plan plan) es (length es))
+    (accepted_heard items shift p (schedule_plan plan) es (length es) (followed shift p plan records h) (entries_true shift p plan records h)))
 
-pub given_true : (clock : Clock) (shift : ℤ) (p : PacketJournal) (plan : ListenPlan) (bytes : List ℕ) → HearsTalker shift p plan bytes
-    → All (IsTrueAccepted p) (presented (given clock (schedule_plan plan) (entries_in plan bytes)))
-given_true clock shift p plan bytes h =
-    All-weaker (IsHeardAccepted (items_in plan bytes) p plan.lead) (IsTrueAccepted p) (heard_true (items_in plan bytes) p plan.lead) _ (given_heard clock shift p plan bytes h)
+pub given_true : (shift : ℤ) (p : PacketJournal) (plan : ListenPlan) (records : List Record) → HearsTalker shift p plan records
+    → All (IsTrueAccepted (by_clock plan) p) (presented (given clock_spot (schedule_plan plan) (entries_in plan records)))
+given_true shift p plan records h =
+    All-weaker (IsHeardAccepted (by_clock plan) (items_in plan records) p plan.lead) (IsTrueAccepted (by_clock plan) p) (heard_true (by_clock plan) (items_in plan records) p plan.lead) _ (given_heard shift p plan records h)
 
-pub presented_heard : (clock : Clock) (shift : ℤ) (p : PacketJournal) (plan : ListenPlan) (bytes : List ℕ) → HearsTalker shift p plan bytes
-    → All (IsHeardFrom (items_in plan bytes) p plan.lead) (presented_of (heard_of clock plan bytes).shown)
-presented_heard clock shift p plan bytes h =
-    let items = items_in plan bytes in
-    let gs = given clock (schedule_plan plan) (entries_in plan bytes) in
-    subst (λ (l : List Presented). All (IsHeardFrom items p plan.lead) l) (sym (batches_are gs))
-    (All-map (IsHeardFrom items p plan.lead) (λ (a : Accepted). a.batch) (presented gs)
-    (All-weaker (IsHeardAccepted items p plan.lead) (λ (a : Accepted). IsHeardFrom items p plan.lead a.batch) (λ a t. t.is) (presented gs) (given_heard clock shift p plan bytes h)))
+pub presented_heard : (shift : ℤ) (p : PacketJournal) (plan : ListenPlan) (records : List Record) → HearsTalker shift p plan records
+    → All (IsHeardFrom (by_clock plan) (items_in plan records) p plan.lead) (presented_of (shown_of plan records))
+presented_heard shift p plan records h =
+    let items = items_in plan records in
+    let gs = given clock_spot (schedule_plan plan) (entries_in plan records) in
+    subst (λ (l : List Presented). All (IsHeardFrom (by_clock plan) items p plan.lead) l) (sym (batches_are gs))
+    (All-map (IsHeardFrom (by_clock plan) items p plan.lead) (λ (a : Accepted). a.batch) (presented gs)
+    (All-weaker (IsHeardAccepted (by_clock plan) items p plan.lead) (λ (a : Accepted). IsHeardFrom (by_clock plan) items p plan.lead a.batch) (λ a t. t.is) (presented gs) (given_heard shift p plan records h)))
 
-pub presented_true : (clock : Clock) (shift : ℤ) (p : PacketJournal) (plan : ListenPlan) (bytes : List ℕ) → HearsTalker shift p plan bytes
-    → All (IsOfJournal p) (presented_of (heard_of clock plan bytes).shown)
-presented_true clock shift p plan bytes h =
-    let gs = given clock (schedule_plan plan) (entries (deliveries plan.stream plan.clock (whole_records bytes))) in
-    subst (λ (l : List Presented). All (IsOfJournal p) l) (sym (batches_are gs))
-    (All-map (IsOfJournal p) (λ (a : Accepted). a.batch) (presented gs)
-    (All-weaker (IsTrueAccepted p) (λ (a : Accepted). IsOfJournal p a.batch) (λ a t. t.is) (presented gs) (given_true clock shift p plan bytes h)))
+pub presented_true : (shift : ℤ) (p : PacketJournal) (plan : ListenPlan) (records : List Record) → HearsTalker shift p plan records
+    → All (IsOfJournal (by_clock plan) p) (presented_of (shown_of plan records))
+presented_true shift p plan records h =
+    let gs = given clock_spot (schedule_plan plan) (entries_in plan records) in
+    subst (λ (l : List Presented). All (IsOfJournal (by_clock plan) p) l) (sym (batches_are gs))
+    (All-map (IsOfJournal (by_clock plan) p) (λ (a : Accepted). a.batch) (presented gs)
+    (All-weaker (IsTrueAccepted (by_clock plan) p) (λ (a : Accepted). IsOfJournal (by_clock plan) p a.batch) (λ a t. t.is) (presented gs) (given_true shift p plan records h)))

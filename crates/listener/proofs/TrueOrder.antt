@@ -5,18 +5,20 @@ use Rattle.std.specs.List.{AllByRecursion}
 use Rattle.std.proofs.lemmas.Int.{ints}
 use Rattle.std.proofs.lemmas.List.Elements.{All-cons, All-head, All-nil, All-tail}
 use Rattle.std.proofs.lemmas.List.Kept.{AllPairs-cons}
+use Rattle.clock_track.specs.Rows.{clock_spot}
+use Rattle.pcap_frames.specs.Capture.{Record}
 use Rattle.sample_schedule.specs.declared.accepted.Accepted.{Accepted}
 use Rattle.sample_schedule.specs.Batches.{Presented}
 use Rattle.sample_schedule.specs.Laws.{IsBefore, Pairwise, presented}
 use Rattle.sample_schedule.specs.Schedule.{Presents, given}
-use Rattle.sample_schedule.specs.Verdicts.{Clock, first_instant}
+use Rattle.sample_schedule.specs.Verdicts.{first_instant}
 use Rattle.sample_schedule.proofs.LawLemmas.{presented-ordered}
 use Rattle.packet_journal.specs.Deliveries.{Delivery}
 use Rattle.packet_journal.specs.Packets.{PacketJournal}
 use Rattle.listener.specs.declared.plan.ListenPlan.{ListenPlan}
-use Rattle.listener.specs.Heard.{heard_of, schedule_plan}
+use Rattle.listener.specs.Heard.{deliveries_of, schedule_plan, shown_of}
 use Rattle.listener.specs.Items.{entries}
-use Rattle.listener.specs.Laws.{HearsTalker, ComesBefore, deliveries_of, presented_of}
+use Rattle.listener.specs.Laws.{HearsTalker, ComesBefore, presented_of}
 use Rattle.listener.proofs.Shown.{IsPlaced, Rising, all_placed, deliveries_rise}
 use Rattle.listener.proofs.TrueList.{batches_are, given_true}
 
@@ -48,11 +50,11 @@ in_order ds (a ∷ rest) rises all order =
     (stands_all ds a rest rises (All-head (IsPut ds) a rest all) (All-tail (IsPut ds) a rest all) order.0)
     (in_order ds rest rises (All-tail (IsPut ds) a rest all) order.1)
 
-pub never_falls : (clock : Clock) (shift : ℤ) (p : PacketJournal) (plan : ListenPlan) (bytes : List ℕ) → HearsTalker shift p plan bytes → AllPairs ComesBefore (presented_of (heard_of clock plan bytes).shown)
-never_falls clock shift p plan bytes h =
-    let ds = deliveries_of plan bytes in
-    let gs = given clock (schedule_plan plan) (entries ds) in
-    let all_true = given_true clock shift p plan bytes h in
-    let places = all_placed clock (schedule_plan plan) ds in
+pub never_falls : (shift : ℤ) (p : PacketJournal) (plan : ListenPlan) (records : List Record) → HearsTalker shift p plan records → AllPairs ComesBefore (presented_of (shown_of plan records))
+never_falls shift p plan records h =
+    let ds = deliveries_of plan records in
+    let gs = given clock_spot (schedule_plan plan) (entries ds) in
+    let all_true = given_true shift p plan records h in
+    let places = all_placed clock_spot (schedule_plan plan) ds in
     subst (λ (l : List Presented). AllPairs ComesBefore l) (sym (batches_are gs))
-    (in_order ds (presented gs) (deliveries_rise plan bytes) (λ k a within. record { instant = (all_true k a within).instant; placed = places k a within }) (presented-ordered clock (schedule_plan plan) (entries ds)))
+    (in_order ds (presented gs) (deliveries_rise plan records) (λ k a within. record { instant = (all_true k a within).instant; placed = places k a within }) (presented-ordered clock_spot (schedule_plan plan) (entries ds)))

@@ -1,16 +1,20 @@
--- The first packet of a capture is one that must be presented, and the same once more is a further copy.
+-- Without a clock the first packet of a capture is one that must be presented, and the same once more is a further copy.
 use Rattle.std.proofs.Common.{◌≡◌, ℕ, ◌+◌, ◌<◌, ◌≤◌, Bool, true, false, ℤ, pos, ◌≤ℤ◌, List, [], ◌∷◌, length, Option, Some, None, Ok, is_some, refl, sym, ap, ◌∙◌, subst, arith}
-use Rattle.std.specs.Prelude.{◌==◌, nat_le, nat_lt, if◌then◌else◌, slice_get}
+use Rattle.std.specs.Prelude.{◌==◌, nat_le, nat_lt, if◌then◌else◌, slice_get, option_and_then, option_map}
 use Rattle.std.specs.Int.{int_max}
+use Rattle.std.specs.List.{filter_map}
 use Rattle.std.proofs.lemmas.Bool.Decides.{nat_tests}
 use Rattle.std.proofs.lemmas.Int.{ints}
 use Rattle.std.proofs.lemmas.List.Elements.{All-nil}
-use Rattle.pcap_frames.specs.Capture.{whole_records}
-use Rattle.stream_journal.specs.Journal.{Journal}
+use Rattle.clock_track.specs.Pairs.{Spot}
+use Rattle.clock_track.specs.Rows.{clock_spot}
+use Rattle.pcap_frames.specs.Capture.{Record}
+use Rattle.stream_journal.specs.Journal.{IsAt, IsAtBy, IsAtNominal, Journal, Kind, DenseAaf, SparseAaf, Am824, H264, head_of}
 use Rattle.stream_journal.specs.Conforming.{IsAudio}
+use Rattle.stream_journal.specs.Delivered.{IsAudioKind}
 use Rattle.sample_schedule.specs.declared.accepted.Accepted.{Accepted}
 use Rattle.sample_schedule.specs.declared.entry.Entry.{Entry}
-use Rattle.sample_schedule.specs.declared.entry.Entry.TheVariants.{Item as OfItem}
+use Rattle.sample_schedule.specs.declared.entry.Entry.TheVariants.{Item as OfItem, Clock as OfClock}
 use Rattle.sample_schedule.specs.declared.item.Item.{Item}
 use Rattle.sample_schedule.specs.declared.item.Item.TheVariants.{Packet as OfPacket}
 use Rattle.sample_schedule.specs.declared.plan.SchedulePlan.{SchedulePlan}
@@ -19,30 +23,33 @@ use Rattle.sample_schedule.specs.Order.{standing}
 use Rattle.sample_schedule.specs.Laws.{verdict_in}
 use Rattle.sample_schedule.specs.Schedule.{accepted, arrival_of, item_arrival, latest, now_at, prefix_of}
 use Rattle.sample_schedule.proofs.StageLemmas.{now-next, verdict-at}
-use Rattle.sample_schedule.specs.Verdicts.{Clock, is_full}
-use Rattle.packet_journal.specs.Deliveries.{Delivery, deliveries}
+use Rattle.sample_schedule.specs.Verdicts.{Clock, is_full, moved, nominal_spot, row_of, spot_of}
+use Rattle.time_unfold.specs.declared.head_rule.Head.{Head}
+use Rattle.packet_journal.specs.Deliveries.{Delivery}
 use Rattle.packet_journal.specs.Delivered.{IsCopyOf}
 use Rattle.packet_journal.specs.Packets.{PacketJournal, carried}
 use Rattle.listener.specs.declared.plan.ListenPlan.{ListenPlan}
-use Rattle.listener.specs.Heard.{schedule_plan}
+use Rattle.listener.specs.Heard.{deliveries_of, entries_in, schedule_plan}
 use Rattle.avtp_base.specs.declared.refusal.Refusal.{Refusal}
 use Rattle.aaf_format.specs.Aaf.{aaf_of, aaf_refusal, aaf_subtype}
+use Rattle.crf_format.specs.Crf.{crf_subtype}
 use Rattle.iec61883_format.specs.Iec.{iec_of, iec_refusal}
-use Rattle.listener.specs.Items.{aaf_item, blocks_of, iec_item, item_of, made_of_one, refused_or, samples_of}
-use Rattle.listener.specs.Laws.{HearsTalker, IsFurther, IsOfPacket, IsTimely, IsWelcome, deliveries_of, entries_in, has_head, time_of}
+use Rattle.listener.specs.Items.{MadeItem, aaf_item, blocks_of, clock_row, entry_of, iec_item, item_of, made_of_one, refused_or, samples_of}
+use Rattle.listener.specs.Laws.{HearsTalker, IsFurther, IsOfPacket, IsTimely, IsWelcome, by_clock, is_known, spot_in, time_of}
 use Rattle.listener.proofs.Shown.{item_there}
 use Rattle.listener.proofs.TrueHeard.{usable}
-use Rattle.listener.proofs.TrueItems.{Shows, all_shown, copy_item, sent}
+use Rattle.listener.proofs.TrueItems.{Shows, all_shown, copy_entry, sent}
 use Rattle.listener.proofs.TrueList.{audio, one_copy}
+use Rattle.listener.proofs.TrueOnce.{nominal_due}
 use Rattle.listener.proofs.TrueTimely.{at_place, entry_there, taken, welcome_judged}
 
 -- a stamped packet has its head in itself
-own_head : (j : Journal) (plan : SchedulePlan) (prefix : List Entry) (n frame arrival instant : ℕ) (bytes : List ℕ) → IsAudio j → n < j.packets → j.stamp n ≡ Some instant
+pub own_head : (j : Journal) (plan : SchedulePlan) (prefix : List Entry) (n frame arrival instant : ℕ) (bytes : List ℕ) → IsAudio j → n < j.packets → j.stamp n ≡ Some instant
     → is_some (heads.head_of plan prefix (sent j n frame arrival bytes)) ≡ true
 own_head j plan prefix n frame arrival instant bytes is known e = rw (usable j n frame arrival bytes is known, e) refl
 
 -- the time when the first entry is judged
-first_time : (es : List Entry) (e : Entry) → slice_get es 0 ≡ Some e → now_at es 0 ≡ int_max (pos 0) (arrival_of e)
+pub first_time : (es : List Entry) (e : Entry) → slice_get es 0 ≡ Some e → now_at es 0 ≡ int_max (pos 0) (arrival_of e)
 unfolding latest
 first_time [] e at = absurd cc
 first_time (x ∷ es) e at = let same : x ≡ e = cc in ap (λ (y : Entry). int_max (pos 0) (arrival_of y)) same
@@ -52,27 +59,53 @@ nothing : (clock : Clock) (plan : SchedulePlan) (es : List Entry) → accepted c
 unfolding accepted
 nothing clock plan es = refl
 
-has_room : (plan : SchedulePlan) (now : ℤ) (size : ℕ) → 1 ≤ plan.buffer → size ≤ plan.room → is_full plan (standing now []) size ≡ false
+pub has_room : (plan : SchedulePlan) (now : ℤ) (size : ℕ) → 1 ≤ plan.buffer → size ≤ plan.room → is_full plan (standing now []) size ≡ false
 has_room plan now size some fits = by (nat_le plan.buffer 0) (nat_lt plan.room (0 + size)) (grind (arith, nat_tests)) (grind (arith, nat_tests))
   where
     by : (a b : Bool) → a ≡ false → b ≡ false → (if a then true else b) ≡ false
     by a b e f = rw (e, f) refl
 
+nominal_known : (clock : Bool) (plan : SchedulePlan) (prefix : List Entry) (rate : ℕ) (r : Option Head) → clock ≡ false → is_some r ≡ true
+    → is_some (option_and_then (λ (head : Head). if clock then option_map (moved head.first) (clock_spot (filter_map row_of prefix) plan.shift head.instant rate) else Some (nominal_spot rate head)) r) ≡ true
+nominal_known clock plan prefix rate None off some = absurd cc
+nominal_known clock plan prefix rate (Some head) off some = rw off refl
+
+at_nominal : (kind : Kind) (j : Journal) (n k : ℕ) (instant : ℤ) → IsAudioKind kind → IsAtNominal j n k instant → IsAtBy kind false j n k instant
+at_nominal DenseAaf j n k instant heard at = at
+at_nominal SparseAaf j n k instant heard at = at
+at_nominal (Am824 interval dbc) j n k instant heard at = at
+at_nominal (H264 part) j n k instant heard at = absurd heard
+
+-- the head of a stamped packet in the journal
+some_head : (j : Journal) (n instant : ℕ) → j.stamp n ≡ Some instant → is_some (head_of j n) ≡ true
+some_head j n instant e = rw e refl
+
+due_at_by : (j : Journal) (n : ℕ) (o : Option Head) → IsAudioKind j.kind → IsAudio j → n < j.packets → head_of j n ≡ o → is_some o ≡ true → IsAt false j n 0 (pos (j.due n))
+due_at_by j n None heard is known e some = absurd cc
+due_at_by j n (Some head) heard is known e some = at_nominal j.kind j n 0 _ heard (record { head = head; is_head = e; at = is.first_instants n head known e })
+
+due_at : (j : Journal) (n instant : ℕ) → IsAudioKind j.kind → IsAudio j → n < j.packets → j.stamp n ≡ Some instant → IsAt false j n 0 (pos (j.due n))
+due_at j n instant heard is known e = due_at_by j n (head_of j n) heard is known refl (some_head j n instant e)
+
 -- the item of a stamped copy is packet n with a known timestamp, and it came in time
-timely_at : (shift : ℤ) (p : PacketJournal) (plan : ListenPlan) (bytes : List ℕ) (place n instant : ℕ) (d : Delivery) → HearsTalker shift p plan bytes → slice_get (deliveries_of plan bytes) place ≡ Some d
-    → IsCopyOf p plan.lead n d → p.times.stamp n ≡ Some instant → time_of plan bytes place ≤ℤ pos (p.times.due n) → IsTimely p plan bytes place n (made_of_one d)
-timely_at shift p plan bytes place n instant d h at copy stamped early =
+timely_at : (shift : ℤ) (p : PacketJournal) (plan : ListenPlan) (records : List Record) (place n instant : ℕ) (d : Delivery) → HearsTalker shift p plan records → plan.clock ≡ None → slice_get (deliveries_of plan records) place ≡ Some d
+    → IsCopyOf p plan.lead n d → p.times.stamp n ≡ Some instant → time_of plan records place ≤ℤ pos (p.times.due n) → IsTimely p plan records place n (made_of_one d)
+timely_at shift p plan records place n instant d h off at copy stamped early =
     let sp = schedule_plan plan in
-    let records = whole_records bytes in
-    let prefix = prefix_of sp (entries_in plan bytes) place in
-    let there : slice_get (deliveries plan.stream None records) place ≡ Some d = subst (λ (c : Option ℕ). slice_get (deliveries plan.stream c records) place ≡ Some d) h.clock at in
-    let shows = at_place Shows (deliveries plan.stream None records) place d (all_shown plan.stream 1 records) there in
-    let same : item_of d ≡ OfPacket (sent p.times n d.frame copy.arrival (carried (p.packet n))) = copy_item shift p plan.lead n d h.conforming h.kind copy shows in
-    let head = own_head p.times sp prefix n d.frame copy.arrival instant (carried (p.packet n)) (audio p h.kind h.conforming.times) copy.delivered.known stamped in
+    let prefix = prefix_of sp (entries_in plan records) place in
+    let is = audio p h.kind h.conforming.times in
+    let by_is : by_clock plan ≡ false = rw off refl in
+    let shows = at_place Shows (deliveries_of plan records) place d (all_shown plan.stream plan.clock records) at in
+    let packet = sent p.times n d.frame copy.arrival (carried (p.packet n)) in
+    let same : entry_of d ≡ OfItem (OfPacket packet) = copy_entry shift p plan.lead n d h.conforming h.kind copy shows in
+    let head = own_head p.times sp prefix n d.frame copy.arrival instant (carried (p.packet n)) is copy.delivered.known stamped in
+    let spot : is_some (spot_in sp prefix packet) ≡ true = nominal_known sp.clock sp prefix p.times.rate (heads.head_of sp prefix packet) by_is head in
     record {
-      there = item_there (deliveries_of plan bytes) place d at;
+      there = item_there (deliveries_of plan records) place d at;
       copy = one_copy p plan.lead n d copy;
-      known = subst (λ (i : Item). has_head sp prefix (OfItem i) ≡ true) (sym same) head;
+      known = subst (λ (e : Entry). is_known sp prefix e ≡ true) (sym same) spot;
+      instant = pos (p.times.due n);
+      at = subst (λ (by : Bool). IsAt by p.times n 0 (pos (p.times.due n))) (sym by_is) (due_at p.times n instant h.kind is copy.delivered.known stamped);
       in_time = early;
     }
 
@@ -85,31 +118,35 @@ kind_arrival : (b : Bool) (d : Delivery) → item_arrival (if b then aaf_item d 
 kind_arrival true d = refused_arrival d (aaf_refusal d.packet) (samples_of d (aaf_of d.packet)) refl
 kind_arrival false d = refused_arrival d (iec_refusal d.packet) (blocks_of d (iec_of d.packet)) refl
 
-arrives : (d : Delivery) → item_arrival (item_of d) ≡ d.arrival
-arrives d = kind_arrival (d.subtype == aaf_subtype) d
+entry_arrival : (b : Bool) (d : Delivery) → arrival_of (if b then OfClock d.arrival (clock_row d) else OfItem (item_of d)) ≡ d.arrival
+entry_arrival true d = refl
+entry_arrival false d = kind_arrival (d.subtype == aaf_subtype) d
+
+pub arrives : (d : Delivery) → arrival_of (entry_of d) ≡ d.arrival
+arrives d = entry_arrival (d.subtype == crf_subtype) d
 
 both_early : (x y : ℤ) (due : ℕ) → x ≤ℤ pos due → y ≤ℤ pos due → int_max x y ≤ℤ pos due
 both_early x y due e f = grind (arith, ints)
 
-first_early : (plan : ListenPlan) (bytes : List ℕ) (due : ℕ) (d : Delivery) → slice_get (deliveries_of plan bytes) 0 ≡ Some d → d.arrival ≤ℤ pos due → time_of plan bytes 0 ≤ℤ pos due
-first_early plan bytes due d at early =
-    rw (first_time (entries_in plan bytes) (OfItem (item_of d)) (entry_there (deliveries_of plan bytes) 0 d at), arrives d)
+first_early : (plan : ListenPlan) (records : List Record) (due : ℕ) (d : Delivery) → slice_get (deliveries_of plan records) 0 ≡ Some d → d.arrival ≤ℤ pos due → time_of plan records 0 ≤ℤ pos due
+first_early plan records due d at early =
+    rw (first_time (entries_in plan records) (entry_of d) (entry_there (deliveries_of plan records) 0 d at), arrives d)
     (both_early (pos 0) d.arrival due (omega (arith, ints)) early)
 
-second_early : (plan : ListenPlan) (bytes : List ℕ) (due : ℕ) (d : Delivery) → slice_get (deliveries_of plan bytes) 1 ≡ Some d → time_of plan bytes 0 ≤ℤ pos due → d.arrival ≤ℤ pos due → time_of plan bytes 1 ≤ℤ pos due
-second_early plan bytes due d at first early =
-    rw (now-next (entries_in plan bytes) 1 (OfItem (item_of d)) (entry_there (deliveries_of plan bytes) 1 d at), arrives d)
-    (both_early (time_of plan bytes 0) d.arrival due first early)
+second_early : (plan : ListenPlan) (records : List Record) (due : ℕ) (d : Delivery) → slice_get (deliveries_of plan records) 1 ≡ Some d → time_of plan records 0 ≤ℤ pos due → d.arrival ≤ℤ pos due → time_of plan records 1 ≤ℤ pos due
+second_early plan records due d at first early =
+    rw (now-next (entries_in plan records) 1 (entry_of d) (entry_there (deliveries_of plan records) 1 d at), arrives d)
+    (both_early (time_of plan records 0) d.arrival due first early)
 
-pub first_welcome : (clock : Clock) (shift : ℤ) (p : PacketJournal) (plan : ListenPlan) (bytes : List ℕ) (n instant : ℕ) (d : Delivery) → HearsTalker shift p plan bytes → slice_get (deliveries_of plan bytes) 0 ≡ Some d
-    → IsCopyOf p plan.lead n d → p.times.stamp n ≡ Some instant → d.arrival ≤ℤ pos (p.times.due n) → 1 ≤ plan.buffer → length (carried (p.packet n)) ≤ plan.room → IsWelcome clock p plan bytes 0 n (made_of_one d)
-first_welcome clock shift p plan bytes n instant d h at copy stamped early some fits =
+pub first_welcome : (shift : ℤ) (p : PacketJournal) (plan : ListenPlan) (records : List Record) (n instant : ℕ) (d : Delivery) → HearsTalker shift p plan records → plan.clock ≡ None → slice_get (deliveries_of plan records) 0 ≡ Some d
+    → IsCopyOf p plan.lead n d → p.times.stamp n ≡ Some instant → d.arrival ≤ℤ pos (p.times.due n) → 1 ≤ plan.buffer → length (carried (p.packet n)) ≤ plan.room → IsWelcome p plan records 0 n (made_of_one d)
+first_welcome shift p plan records n instant d h off at copy stamped early some fits =
     let sp = schedule_plan plan in
-    let none = nothing clock sp (entries_in plan bytes) in
+    let none = nothing clock_spot sp (entries_in plan records) in
     record {
-      timely = timely_at shift p plan bytes 0 n instant d h at copy stamped (first_early plan bytes (p.times.due n) d at early);
-      first = rw none (All-nil (λ (a : Accepted). ¬ IsOfPacket p n a.batch));
-      room = rw none (has_room sp (time_of plan bytes 0) (length (carried (p.packet n))) some fits);
+      timely = timely_at shift p plan records 0 n instant d h off at copy stamped (first_early plan records (p.times.due n) d at early);
+      first = rw none (All-nil (λ (a : Accepted). ¬ IsOfPacket (by_clock plan) p n a.batch));
+      room = rw none (has_room sp (time_of plan records 0) (length (carried (p.packet n))) some fits);
     }
 
 -- what is accepted of the first entry
@@ -117,13 +154,21 @@ first_accepted : (clock : Clock) (plan : SchedulePlan) (es : List Entry) (item :
 unfolding accepted
 first_accepted clock plan es item a at ok = rw (verdict-at clock plan es 0 (accepted clock plan es 0) (OfItem item) at ∙ ap Some ok) refl
 
-pub second_further : (clock : Clock) (shift : ℤ) (p : PacketJournal) (plan : ListenPlan) (bytes : List ℕ) (n instant : ℕ) (first second : Delivery) → HearsTalker shift p plan bytes → IsWelcome clock p plan bytes 0 n (made_of_one first)
-    → slice_get (deliveries_of plan bytes) 0 ≡ Some first → slice_get (deliveries_of plan bytes) 1 ≡ Some second → IsCopyOf p plan.lead n second → p.times.stamp n ≡ Some instant → second.arrival ≤ℤ pos (p.times.due n)
-    → IsFurther clock p plan bytes 1 n (made_of_one second)
-second_further clock shift p plan bytes n instant first second h w here at copy stamped early =
-    let judged = welcome_judged clock shift p plan bytes 0 n first h here w in
-    let earlier = first_accepted clock (schedule_plan plan) (entries_in plan bytes) (item_of first) (taken 0 judged.batch) (entry_there (deliveries_of plan bytes) 0 first here) judged.verdict_is_ok in
+-- an item that came in time did so before its packet is due
+by_due : (p : PacketJournal) (plan : ListenPlan) (records : List Record) (n : ℕ) (made : MadeItem) → plan.clock ≡ None → IsAudioKind p.times.kind → IsAudio p.times → n < p.times.packets → (w : IsTimely p plan records 0 n made)
+    → time_of plan records 0 ≤ℤ pos (p.times.due n)
+by_due p plan records n made off heard is known w =
+    let at : IsAt false p.times n 0 w.instant = subst (λ (c : Option ℕ). IsAt (is_some c) p.times n 0 w.instant) off w.at in
+    subst (λ (z : ℤ). time_of plan records 0 ≤ℤ z) (nominal_due p.times n w.instant heard is known at) w.in_time
+
+pub second_further : (shift : ℤ) (p : PacketJournal) (plan : ListenPlan) (records : List Record) (n instant : ℕ) (first second : Delivery) → HearsTalker shift p plan records → plan.clock ≡ None → IsWelcome p plan records 0 n (made_of_one first)
+    → slice_get (deliveries_of plan records) 0 ≡ Some first → slice_get (deliveries_of plan records) 1 ≡ Some second → IsCopyOf p plan.lead n second → p.times.stamp n ≡ Some instant → second.arrival ≤ℤ pos (p.times.due n)
+    → IsFurther p plan records 1 n (made_of_one second)
+second_further shift p plan records n instant first second h off w here at copy stamped early =
+    let judged = welcome_judged shift p plan records 0 n first h here w in
+    let there = entry_there (deliveries_of plan records) 0 first here ∙ ap Some judged.item in
+    let earlier = first_accepted clock_spot (schedule_plan plan) (entries_in plan records) (item_of first) (taken 0 judged.batch) there judged.verdict_is_ok in
     record {
-      timely = timely_at shift p plan bytes 1 n instant second h at copy stamped (second_early plan bytes (p.times.due n) second at w.timely.in_time early);
+      timely = timely_at shift p plan records 1 n instant second h off at copy stamped (second_early plan records (p.times.due n) second at (by_due p plan records n (made_of_one first) off h.kind (audio p h.kind h.conforming.times) copy.delivered.known w.timely) early);
       before = rw earlier (0, taken 0 judged.batch, omega arith, refl, judged.is.is);
     }

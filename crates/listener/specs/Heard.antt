@@ -5,13 +5,13 @@ use Rattle.sample_schedule.specs.declared.entry.Entry.{Entry}
 use Rattle.sample_schedule.specs.declared.plan.SchedulePlan.{SchedulePlan}
 use Rattle.sample_schedule.specs.declared.shown.Shown.{Shown}
 use Rattle.sample_schedule.specs.declared.shown.Shown.TheVariants.{Present, Flag}
-use Rattle.sample_schedule.specs.Schedule.{shown}
-use Rattle.sample_schedule.specs.Verdicts.{Clock}
+use Rattle.clock_track.specs.Rows.{clock_spot}
+use Rattle.sample_schedule.specs.Schedule.{due, shown}
 use Rattle.listener.specs.declared.heard.Counts.{Counts}
 use Rattle.listener.specs.declared.heard.Heard.{Heard}
 use Rattle.listener.specs.declared.plan.ListenPlan.{ListenPlan}
-use Rattle.packet_journal.specs.Deliveries.{deliveries}
-use Rattle.listener.specs.Items.{entries}
+use Rattle.packet_journal.specs.Deliveries.{Delivery, deliveries}
+use Rattle.listener.specs.Items.{MadeItem, entries, items_of}
 
 -- the schedule's part of a plan
 abbrev pub schedule_plan : ListenPlan → SchedulePlan
@@ -24,13 +24,23 @@ schedule_plan plan = record {
   shift = plan.shift;
 }
 
--- the entries of a list of records
-abbrev pub entries_of : ListenPlan → List Record → List Entry
-entries_of plan records = entries (deliveries plan.stream plan.clock records)
+-- the deliveries in a list of records, and the items and entries of these
+abbrev pub deliveries_of : ListenPlan → List Record → List Delivery
+deliveries_of plan records = deliveries plan.stream plan.clock records
+
+abbrev pub items_in : ListenPlan → List Record → List MadeItem
+items_in plan records = items_of (deliveries_of plan records)
+
+abbrev pub entries_in : ListenPlan → List Record → List Entry
+entries_in plan records = entries (deliveries_of plan records)
 
 -- what is shown of a list of records
-abbrev pub shown_of : Clock → ListenPlan → List Record → List Shown
-shown_of clock plan records = shown clock (schedule_plan plan) (entries_of plan records)
+abbrev pub shown_of : ListenPlan → List Record → List Shown
+shown_of plan records = shown clock_spot (schedule_plan plan) (entries_in plan records)
+
+-- what of it is certain while further records may follow
+abbrev pub due_of : ListenPlan → List Record → List Shown
+due_of plan records = due clock_spot (schedule_plan plan) (entries_in plan records)
 
 abbrev pub is_present : Shown → Bool
 is_present (Present batch) = true
@@ -40,7 +50,7 @@ abbrev pub is_flag : Shown → Bool
 is_flag (Present batch) = false
 is_flag (Flag frame seq reason) = true
 
--- The numbers of the records, of the deliveries of the stream, and of what is presented and flagged.
+-- The numbers of the records, of those that belong to the stream, and of what is presented and flagged of them.
 abbrev pub counts_of : ListenPlan → List Record → List Shown → Counts
 counts_of plan records list = record {
   frames = length records;
@@ -51,8 +61,8 @@ counts_of plan records list = record {
 
 -- What a listener shows of the bytes: the schedule of their whole records, which is that of those before the first
 -- refusal; its numbers; and the first refusal, where there is one.
-abbrev pub heard_of : Clock → ListenPlan → List ℕ → Heard
-heard_of clock plan bytes =
+abbrev pub heard_of : ListenPlan → List ℕ → Heard
+heard_of plan bytes =
     let records = whole_records bytes in
-    let list = shown_of clock plan records in
+    let list = shown_of plan records in
     record { shown = list; counts = counts_of plan records list; refused = first_refusal bytes }

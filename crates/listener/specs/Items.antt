@@ -1,16 +1,20 @@
--- What the deliveries of a stream are made into: packets of samples, and those that cannot be read.
-use Rattle.std.specs.Prelude.{if◌then◌else◌, ℕ, ◌==◌, List, [], ◌∷◌, ◌++◌, map, Option, Some, None, unwrap_or}
+-- What the deliveries of a stream and of its clock are made into: packets of samples, those that cannot be read, and points of the
+-- clock.
+use Rattle.std.specs.Prelude.{if◌then◌else◌, ℕ, ◌==◌, ◌&&◌, not, false, List, [], ◌∷◌, ◌++◌, map, Option, Some, None, unwrap_or}
 use Rattle.avtp_base.specs.declared.refusal.Refusal.{Refusal}
+use Rattle.clock_track.specs.declared.clock_row.ClockRow.{ClockRow}
+use Rattle.crf_format.specs.Crf.{Crf, crf_of, crf_refusal, crf_subtype}
 use Rattle.aaf_format.specs.Aaf.{Aaf, aaf_of, aaf_refusal, aaf_subtype, rate_of}
 use Rattle.iec61883_format.specs.Iec.{Iec, iec_of, iec_refusal, rate_of_fdf, syt_interval}
 use Rattle.sample_schedule.specs.declared.entry.Entry.{Entry}
-use Rattle.sample_schedule.specs.declared.entry.Entry.TheVariants.{Item as OfItem}
+use Rattle.sample_schedule.specs.declared.entry.Entry.TheVariants.{Item as OfItem, Clock as OfClock}
 use Rattle.time_unfold.specs.declared.head_rule.HeadRule.{HeadRule}
 use Rattle.time_unfold.specs.declared.head_rule.HeadRule.TheVariants.{Own, Eight, Blocks}
 use Rattle.sample_schedule.specs.declared.item.Item.{Item}
 use Rattle.sample_schedule.specs.declared.item.Item.TheVariants.{Packet as OfPacket, Bad as OfBad}
 use Rattle.sample_schedule.specs.declared.shown.Reason.TheVariants.{Malformed}
 use Rattle.packet_journal.specs.Deliveries.{Delivery}
+use Rattle.packet_journal.specs.Packets.{audio_sample_type}
 
 -- A packet of AAF (IEEE 1722-2016, 7). Its timestamp counts where it is valid. In sparse mode a packet without one is
 -- counted from the packet before it that has one. The user's rate is no rate.
@@ -73,6 +77,39 @@ iec_item d = refused_or d (iec_refusal d.packet) (blocks_of d (iec_of d.packet))
 abbrev pub item_of : Delivery → Item
 item_of d = if d.subtype == aaf_subtype then aaf_item d else iec_item d
 
+-- ---- the media clock
+
+-- What a packet of the media clock gives (IEEE 1722-2016, 10): its timestamps are points where it is of the type for audio
+-- samples and its times are certain.
+abbrev pub points_of : Crf → ClockRow
+points_of v = record {
+  usable = (v.kind == audio_sample_type) && not v.tu;
+  seq = v.seq;
+  mr = v.mr;
+  base_frequency = v.base_frequency;
+  pull = v.pull;
+  interval = v.interval;
+  payload = v.payload;
+}
+
+-- what a packet gives that its reader refuses
+abbrev pub no_points : ClockRow
+no_points = record { usable = false; seq = 0; mr = false; base_frequency = 0; pull = 0; interval = 0; payload = [] }
+
+abbrev pub points_or_none : Option Refusal → Crf → ClockRow
+points_or_none None v = points_of v
+points_or_none (Some refusal) v = no_points
+
+-- the points of a delivery of the clock
+abbrev pub clock_row : Delivery → ClockRow
+clock_row d = points_or_none (crf_refusal d.packet) (crf_of d.packet)
+
+-- ---- items
+
+-- A delivery of the clock is never shown, whether it gives points or not; any other is an item.
+abbrev pub entry_of : Delivery → Entry
+entry_of d = if d.subtype == crf_subtype then OfClock d.arrival (clock_row d) else OfItem (item_of d)
+
 -- An entry of a schedule, with the deliveries that it was made of: the last of them, whose frame number and sequence number
 -- it has, and those before it, in order.
 pub record MadeItem : Type 0 where
@@ -86,10 +123,10 @@ sources made = made.earlier ++ made.last ∷ []
 
 -- an item that was made of one delivery
 abbrev pub made_of_one : Delivery → MadeItem
-made_of_one d = record { entry = OfItem (item_of d); earlier = []; last = d }
+made_of_one d = record { entry = entry_of d; earlier = []; last = d }
 
--- The items of a list of deliveries, in its order. Each delivery of AAF or IEC 61883-6 is one item. (So far there are no
--- others.)
+-- The items of a list of deliveries, in its order. Each delivery of AAF, of IEC 61883-6 and of the clock is one. (So far there
+-- are no others.)
 abbrev pub items_of : List Delivery → List MadeItem
 items_of deliveries = map made_of_one deliveries
 

@@ -1,45 +1,52 @@
 -- What a listener hears of a talker that keeps the rules.
-use Rattle.std.specs.Prelude.{Any, Contains, ◌≡◌, ◌⊎◌, ℕ, suc, ◌+◌, ◌<◌, ◌%◌, ◌==◌, ⊤, Bool, true, false, ℤ, pos, ◌≤ℤ◌, ◌<ℤ◌, List, [], ◌∷◌, length, filter, All, slice_get, Some, None, is_some, Result, Ok, Err}
-use Rattle.pcap_frames.specs.Capture.{whole_records}
+use Rattle.std.specs.Prelude.{Any, Contains, true, ◌≡◌, ◌⊎◌, ℕ, suc, ◌+◌, ◌-◌, ◌^◌, ◌<◌, ◌%◌, ◌==◌, ⊤, Bool, false, ℤ, pos, ◌≤ℤ◌, ◌<ℤ◌, List, [], ◌∷◌, length, filter, All, slice_get, Option, Some, None, is_some, option_and_then, Result, Ok, Err}
+use Rattle.clock_track.specs.Pairs.{Covers, Spot}
+use Rattle.clock_track.specs.Rows.{clock_spot}
+use Rattle.pcap_frames.specs.Capture.{Record}
 use Rattle.sample_schedule.specs.declared.accepted.Accepted.{Accepted}
 use Rattle.sample_schedule.specs.declared.entry.Entry.{Entry}
 use Rattle.sample_schedule.specs.declared.entry.Entry.TheVariants.{Item as OfItem, Clock as OfClock}
 use Rattle.sample_schedule.specs.declared.item.Item.{Item}
 use Rattle.sample_schedule.specs.declared.item.Item.TheVariants.{Packet as OfPacket, Unit as OfUnit, Bad as OfBad}
+use Rattle.sample_schedule.specs.declared.item.Packet.{Packet}
 use Rattle.sample_schedule.specs.declared.plan.SchedulePlan.{SchedulePlan}
 use Rattle.sample_schedule.specs.Heads.{head_of}
 use Rattle.sample_schedule.specs.Laws.{verdict_in}
 use Rattle.sample_schedule.specs.Order.{standing}
 use Rattle.sample_schedule.specs.Schedule.{accepted, now_at, prefix_of}
-use Rattle.sample_schedule.specs.Verdicts.{Clock, is_full}
+use Rattle.sample_schedule.specs.Verdicts.{is_full, spot_of}
 use Rattle.sample_schedule.specs.Batches.{Presented, sample_instant}
 use Rattle.sample_schedule.specs.declared.shown.Reason.{Reason}
 use Rattle.sample_schedule.specs.declared.shown.Shown.{Shown}
 use Rattle.sample_schedule.specs.declared.shown.Shown.TheVariants.{Present, Flag}
-use Rattle.stream_journal.specs.Journal.{IsAt, Kind, DenseAaf, SparseAaf, Am824, H264}
-use Rattle.packet_journal.specs.Deliveries.{Delivery, deliveries}
+use Rattle.stream_journal.specs.Clocks.{ClockJournal, IsJoinedAt, Place, pair_at, point}
+use Rattle.stream_journal.specs.Delivered.{IsAudioKind}
+use Rattle.stream_journal.specs.Journal.{IsAt}
+use Rattle.packet_journal.specs.Deliveries.{Delivery}
 use Rattle.packet_journal.specs.Delivered.{Delivers, IsCopyOf}
 use Rattle.packet_journal.specs.Packets.{IsConforming, PacketJournal, carried}
 use Rattle.listener.specs.declared.plan.ListenPlan.{ListenPlan}
-use Rattle.listener.specs.Heard.{schedule_plan}
-use Rattle.listener.specs.Items.{MadeItem, entries, items_of, sources}
+use Rattle.listener.specs.Heard.{entries_in, items_in, schedule_plan}
+use Rattle.listener.specs.Items.{MadeItem, sources}
 
--- an audio stream: AAF, dense or sparse (IEEE 1722-2016, 7), or AM824 data blocks (IEC 61883-6)
-abbrev pub IsAudioStream : Kind → Type 0
-IsAudioStream DenseAaf = ⊤
-IsAudioStream SparseAaf = ⊤
-IsAudioStream (Am824 interval dbc) = ⊤
-IsAudioStream (H264 part) = ⊥
+-- A listener with a clock listens to the talker's own, and adds to its timestamps what makes them the journal's points.
+abbrev pub FollowsClock : ℤ → PacketJournal → ℤ → Option ℕ → Type 0
+FollowsClock shift p added None = ⊤
+FollowsClock shift p added (Some id) = (id ≡ p.clock) × (added ≡ shift)
 
--- The bytes of a capture deliver the audio stream of a talker that keeps the rules to a listener that counts samples on the
--- nominal lines of their timestamps, without a clock. Nothing else is asked of the capture: any packet may be missing, come
+-- Records deliver the audio stream of a talker that keeps the rules to a listener that counts samples on the nominal lines of
+-- their timestamps, or on those of the talker's clock. Nothing else is asked of the records: any packet may be missing, come
 -- again, or come in any order.
-pub record HearsTalker (shift : ℤ) (p : PacketJournal) (plan : ListenPlan) (bytes : List ℕ) : Type 0 where
+pub record HearsTalker (shift : ℤ) (p : PacketJournal) (plan : ListenPlan) (records : List Record) : Type 0 where
   pub conforming : IsConforming shift p
-  pub kind : IsAudioStream p.times.kind
+  pub kind : IsAudioKind p.times.kind
   pub stream : plan.stream ≡ p.stream
-  pub clock : plan.clock ≡ None
-  pub delivered : Delivers p plan.clock plan.lead (whole_records bytes)
+  pub clock : FollowsClock shift p plan.shift plan.clock
+  pub delivered : Delivers p plan.clock plan.lead records
+
+-- samples are counted on the lines of a clock
+abbrev pub by_clock : ListenPlan → Bool
+by_clock plan = is_some plan.clock
 
 -- what is presented of what is shown, in its order
 abbrev pub presented_of : List Shown → List Presented
@@ -48,22 +55,22 @@ presented_of (Present batch ∷ rest) = batch ∷ presented_of rest
 presented_of (Flag frame seq reason ∷ rest) = presented_of rest
 
 -- The batch is packet n of the journal: it has the packet's sequence number, its count and its samples' bytes, and each of
--- its samples stands at its instant in the journal.
-pub record IsOfPacket (p : PacketJournal) (n : ℕ) (batch : Presented) : Type 0 where
+-- its samples stands at its instant in the journal, by the talker's clock or without.
+pub record IsOfPacket (by : Bool) (p : PacketJournal) (n : ℕ) (batch : Presented) : Type 0 where
   pub known : n < p.times.packets
   pub seq : batch.seq ≡ n % 256
   pub count : batch.count ≡ p.times.count
   pub bytes : batch.bytes ≡ carried (p.packet n)
-  pub instants : (k : ℕ) → k < batch.count → IsAt false p.times n k (sample_instant batch k)
+  pub instants : (k : ℕ) → k < batch.count → IsAt by p.times n k (sample_instant batch k)
 
 -- the batch is a packet of the journal
-pub record IsOfJournal (p : PacketJournal) (batch : Presented) : Type 0 where
+pub record IsOfJournal (by : Bool) (p : PacketJournal) (batch : Presented) : Type 0 where
   pub number : ℕ
-  pub is : IsOfPacket p number batch
+  pub is : IsOfPacket by p number batch
 
 -- Two batches are not the same packet.
-abbrev pub AreOther : PacketJournal → Presented → Presented → Type 0
-AreOther p a b = (n : ℕ) → IsOfPacket p n a → ¬ IsOfPacket p n b
+abbrev pub AreOther : Bool → PacketJournal → Presented → Presented → Type 0
+AreOther by p a b = (n : ℕ) → IsOfPacket by p n a → ¬ IsOfPacket by p n b
 
 -- The first instant of a batch is before that of another, or is the same, and the batch's item comes before the other's:
 -- its frame has the lower number.
@@ -77,20 +84,10 @@ pub record AreSame (a b : Presented) : Type 0 where
   pub instants : (k : ℕ) → k < a.count → sample_instant a k ≡ sample_instant b k
 
 -- where two batches are the same packet, they have the same samples
-abbrev pub Agree : PacketJournal → Presented → Presented → Type 0
-Agree p a b = (n : ℕ) → IsOfPacket p n a → IsOfPacket p n b → AreSame a b
+abbrev pub Agree : Bool → PacketJournal → Presented → Presented → Type 0
+Agree by p a b = (n : ℕ) → IsOfPacket by p n a → IsOfPacket by p n b → AreSame a b
 
 -- ---- the items of a capture
-
-abbrev pub deliveries_of : ListenPlan → List ℕ → List Delivery
-deliveries_of plan bytes = deliveries plan.stream plan.clock (whole_records bytes)
-
--- its items, each with the deliveries that it was made of
-abbrev pub items_in : ListenPlan → List ℕ → List MadeItem
-items_in plan bytes = items_of (deliveries_of plan bytes)
-
-abbrev pub entries_in : ListenPlan → List ℕ → List Entry
-entries_in plan bytes = entries (deliveries_of plan bytes)
 
 -- The delivery is one of those that exactly one item was made of.
 pub record IsInOneItem (items : List MadeItem) (d : Delivery) : Type 0 where
@@ -116,52 +113,60 @@ pub record IsMadeOf (p : PacketJournal) (lead n : ℕ) (made : MadeItem) : Type 
 -- ---- what must be presented
 
 -- what a listener has accepted before the item at a place
-abbrev pub accepted_before : Clock → ListenPlan → List ℕ → ℕ → List Accepted
-accepted_before clock plan bytes i = accepted clock (schedule_plan plan) (entries_in plan bytes) i
+abbrev pub accepted_before : ListenPlan → List Record → ℕ → List Accepted
+accepted_before plan records i = accepted clock_spot (schedule_plan plan) (entries_in plan records) i
 
 -- the time when the item at a place is judged: the greatest arrival up to it
-abbrev pub time_of : ListenPlan → List ℕ → ℕ → ℤ
-time_of plan bytes i = now_at (entries_in plan bytes) i
+abbrev pub time_of : ListenPlan → List Record → ℕ → ℤ
+time_of plan records i = now_at (entries_in plan records) i
 
--- A timestamp is found from which the samples of an item are counted. A unit has its own.
-abbrev pub has_head : SchedulePlan → List Entry → Entry → Bool
-has_head plan prefix (OfItem (OfPacket packet)) = is_some (head_of plan prefix packet)
-has_head plan prefix (OfItem (OfUnit whole)) = true
-has_head plan prefix (OfItem (OfBad bad)) = false
-has_head plan prefix (OfClock arrival row) = false
+-- where the samples of a packet stand, given what is known when it is judged
+abbrev pub spot_in : SchedulePlan → List Entry → Packet → Option Spot
+spot_in plan prefix packet = option_and_then (spot_of clock_spot plan prefix packet.rate) (head_of plan prefix packet)
 
--- The item at a place is packet n: its timestamp is known, and its first instant has not passed.
-pub record IsTimely (p : PacketJournal) (plan : ListenPlan) (bytes : List ℕ) (place n : ℕ) (made : MadeItem) : Type 0 where
-  pub there : slice_get (items_in plan bytes) place ≡ Some made
+-- A timestamp is found from which the samples of an item are counted, and where the listener has a clock, two points of the
+-- clock that cover it. A unit has its own.
+abbrev pub is_known : SchedulePlan → List Entry → Entry → Bool
+is_known plan prefix (OfItem (OfPacket packet)) = is_some (spot_in plan prefix packet)
+is_known plan prefix (OfItem (OfUnit whole)) = true
+is_known plan prefix (OfItem (OfBad bad)) = false
+is_known plan prefix (OfClock arrival row) = false
+
+-- The item at a place is packet n: its timestamp or clock reference is known, and its first instant, by the clock or without,
+-- has not passed.
+pub record IsTimely (p : PacketJournal) (plan : ListenPlan) (records : List Record) (place n : ℕ) (made : MadeItem) : Type 0 where
+  pub there : slice_get (items_in plan records) place ≡ Some made
   pub copy : IsMadeOf p plan.lead n made
-  pub known : has_head (schedule_plan plan) (prefix_of (schedule_plan plan) (entries_in plan bytes) place) made.entry ≡ true
-  pub in_time : time_of plan bytes place ≤ℤ pos (p.times.due n)
+  pub known : is_known (schedule_plan plan) (prefix_of (schedule_plan plan) (entries_in plan records) place) made.entry ≡ true
+  pub instant : ℤ
+  pub at : IsAt (by_clock plan) p.times n 0 instant
+  pub in_time : time_of plan records place ≤ℤ instant
 
 -- It is a copy that must be presented.
-pub record IsWelcome (clock : Clock) (p : PacketJournal) (plan : ListenPlan) (bytes : List ℕ) (place n : ℕ) (made : MadeItem) : Type 0 where
-  pub timely : IsTimely p plan bytes place n made
+pub record IsWelcome (p : PacketJournal) (plan : ListenPlan) (records : List Record) (place n : ℕ) (made : MadeItem) : Type 0 where
+  pub timely : IsTimely p plan records place n made
   -- no copy of the packet was accepted before
-  pub first : All (λ a. ¬ IsOfPacket p n a.batch) (accepted_before clock plan bytes place)
+  pub first : All (λ a. ¬ IsOfPacket (by_clock plan) p n a.batch) (accepted_before plan records place)
   -- the buffer has room for it
-  pub room : is_full (schedule_plan plan) (standing (time_of plan bytes place) (accepted_before clock plan bytes place)) (length (carried (p.packet n))) ≡ false
+  pub room : is_full (schedule_plan plan) (standing (time_of plan records place) (accepted_before plan records place)) (length (carried (p.packet n))) ≡ false
 
 -- It is a further copy: one of the packet was accepted before.
-pub record IsFurther (clock : Clock) (p : PacketJournal) (plan : ListenPlan) (bytes : List ℕ) (place n : ℕ) (made : MadeItem) : Type 0 where
-  pub timely : IsTimely p plan bytes place n made
-  pub before : Any (λ a. IsOfPacket p n a.batch) (accepted_before clock plan bytes place)
+pub record IsFurther (p : PacketJournal) (plan : ListenPlan) (records : List Record) (place n : ℕ) (made : MadeItem) : Type 0 where
+  pub timely : IsTimely p plan records place n made
+  pub before : Any (λ a. IsOfPacket (by_clock plan) p n a.batch) (accepted_before plan records place)
 
 -- the batch is what is presented of an item that is packet n
-pub record IsPresentedOf (p : PacketJournal) (n : ℕ) (made : MadeItem) (batch : Presented) : Type 0 where
+pub record IsPresentedOf (by : Bool) (p : PacketJournal) (n : ℕ) (made : MadeItem) (batch : Presented) : Type 0 where
   pub frame : batch.frame ≡ made.last.frame
-  pub is : IsOfPacket p n batch
+  pub is : IsOfPacket by p n batch
 
 -- The batch is what is presented of one of the items, and is the packet of which that one was made.
-pub record IsHeardFrom (items : List MadeItem) (p : PacketJournal) (lead : ℕ) (batch : Presented) : Type 0 where
+pub record IsHeardFrom (by : Bool) (items : List MadeItem) (p : PacketJournal) (lead : ℕ) (batch : Presented) : Type 0 where
   pub item : MadeItem
   pub number : ℕ
   pub listed : Contains items item
   pub copy : IsMadeOf p lead number item
-  pub is : IsPresentedOf p number item batch
+  pub is : IsPresentedOf by p number item batch
 
 -- ---- what is shown of each item
 
@@ -175,11 +180,32 @@ abbrev pub shown_of_frame : ℕ → List Shown → List Shown
 shown_of_frame frame list = filter (λ s. frame_of s == frame) list
 
 -- the verdict of the item at a place
-abbrev pub verdict_of : Clock → ListenPlan → List ℕ → ℕ → Item → Result Accepted Reason
-verdict_of clock plan bytes place item = verdict_in clock (schedule_plan plan) (entries_in plan bytes) place item
+abbrev pub verdict_of : ListenPlan → List Record → ℕ → Item → Result Accepted Reason
+verdict_of plan records place item = verdict_in clock_spot (schedule_plan plan) (entries_in plan records) place item
 
 -- What a verdict makes of an item with this last delivery: what it accepts is presented, and any other is flagged with its
 -- one reason.
 abbrev pub shown_by : Delivery → Result Accepted Reason → Shown
 shown_by d (Ok a) = Present a.batch
 shown_by d (Err reason) = Flag d.frame d.seq reason
+
+-- ---- two packets of a clock
+
+-- the last point of packet m, and the first of the next
+abbrev pub last_of : ClockJournal → ℕ → Place
+last_of c m = record { packet = m; at = length (c.points m) - 1 }
+
+abbrev pub first_of : ℕ → Place
+first_of m = record { packet = suc m; at = 0 }
+
+-- These two points are joined, and a listener that adds nothing to timestamps takes both for points.
+pub record AreJoined (c : ClockJournal) (m : ℕ) : Type 0 where
+  pub joined : IsJoinedAt c (last_of c m) (first_of m)
+  pub earlier : point c (last_of c m) < 2 ^ 62
+  pub later : point c (first_of m) < 2 ^ 62
+
+-- the pair of these points covers the timestamp of packet n, which is at this instant
+pub record CoversPacket (p : PacketJournal) (m n instant : ℕ) : Type 0 where
+  pub points : AreJoined p.times.clock m
+  pub stamped : p.times.stamp n ≡ Some instant
+  pub covers : Covers (pair_at p.times.clock (last_of p.times.clock m) (first_of m)) p.times.rate (pos instant)

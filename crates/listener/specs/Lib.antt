@@ -1,6 +1,7 @@
 pub mod Views
 pub mod Items
 pub mod Heard
-pub mod Collected
+pub mod Listening
+pub mod Feeding
 pub mod Laws
 pub mod Headline

@@ -1,43 +1,126 @@
 //! A whole capture at once.
 
-ghost use Rattle.std.specs.Prelude.{◌≡◌, ◌≤◌, ◌^◌, ℤ, None, IfOk, length};
+ghost use Rattle.std.specs.Prelude.{◌≡◌, ◌+◌, ◌≤◌, ◌^◌, ◌++◌, [], ℕ, ℤ, false, true, List, IfOk, OnOk, length};
 ghost use Rattle.packet_journal.specs.Packets.{PacketJournal};
 ghost use Rattle.pcap_frames.specs.Capture.{first_refusal, whole_records};
+ghost use Rattle.pcap_frames.specs.Reading.{taken};
+ghost use Rattle.sample_schedule.specs.declared.shown.Shown.{Shown as ShownItem};
 ghost use Rattle.sample_schedule.specs.Limits.{IsPlan};
-ghost use Rattle.sample_schedule.specs.Verdicts.{Clock};
+ghost use Rattle.listener.specs.Feeding.{HasGiven, IsQuiet, IsReady, Keeps, StandsFor, is_ended, out};
 ghost use Rattle.listener.specs.Headline.{KeepsHeadline};
-ghost use Rattle.listener.specs.Laws.{HearsTalker};
 ghost use Rattle.listener.specs.Heard.{counts_of, heard_of, schedule_plan, shown_of};
+ghost use Rattle.listener.specs.Laws.{HearsTalker};
 
-use crate::heard::Heard;
+use crate::heard::{Heard, ShownList};
+use crate::listener::{ListenFault, Listener};
 use crate::plan::ListenPlan;
-use crate::reading::{Reading, read_capture};
-use avtp_base::NoMemory;
+use avtp_base::{NoMemory, Refusal};
+use sample_schedule::Shown;
 use std::alloc::Global;
 
+/// Puts all that is due into a list.
+pub(crate) fn give_all(listener: &mut Listener, list: &mut Vec<Shown>) -> Result<(), NoMemory>
+    ensures given { OnOk result ((bytes : List ℕ) → HasGiven bytes list.old.items listener.old → HasGiven bytes list.new.items listener.new) }
+    ensures all { OnOk result ((bytes : List ℕ) → HasGiven bytes list.old.items listener.old → list.new.items ≡ out listener.new bytes) }
+    ensures quiet { OnOk result (IsQuiet listener.new) }
+    ensures keeps { OnOk result (Keeps listener.old listener.new) }
+{
+    while let Some(shown) = listener.next_out() {
+        list.push(shown)?;
+    }
+    Ok(())
+}
+
+/// Feeds the whole piece, or what of it comes before the capture's first refusal, and puts all that it makes due into a list.
+pub(crate) fn feed_piece(
+    alloc: Global,
+    listener: &mut Listener,
+    piece: &[u8],
+    list: &mut Vec<Shown>,
+) -> Result<(), NoMemory>
+    requires open { is_ended listener.old ≡ false }
+    requires ready { IsReady listener.old }
+    requires bounded { taken listener.old.reader + length piece.now ≤ 2 ^ 62 }
+    ensures given { OnOk result ((bytes : List ℕ) → HasGiven bytes list.old.items listener.old → HasGiven (bytes ++ piece.now) list.new.items listener.new) }
+    ensures plan { OnOk result (listener.new.listener.plan ≡ listener.old.listener.plan) }
+    ensures open { OnOk result (is_ended listener.new ≡ false) }
+    ensures ready { OnOk result (IsReady listener.new) }
+    ensures bounded { OnOk result (taken listener.new.reader ≤ taken listener.old.reader + length piece.now) }
+{
+    let mut used = 0;
+    while used < piece.len() {
+        match listener.feed(alloc, &piece[used..]) {
+            Ok(taken) => {
+                give_all(listener, list)?;
+                used += taken;
+            }
+            Err(ListenFault::Refused(_)) => return Ok(()),
+            Err(ListenFault::Memory) => return Err(NoMemory),
+        }
+    }
+    Ok(())
+}
+
+/// Ends the capture, and answers its first refusal.
+fn end(listener: &mut Listener) -> Option<Refusal>
+    requires open { is_ended listener.old ≡ false }
+    requires ready { IsReady listener.old }
+    ensures given { (bytes : List ℕ) (list : List ShownItem) → HasGiven bytes list listener.old → HasGiven bytes list listener.new }
+    ensures refused { (bytes : List ℕ) (given : ℕ) → StandsFor bytes given listener.old → result ≡ first_refusal bytes }
+    ensures plan { listener.new.listener.plan ≡ listener.old.listener.plan }
+    ensures ended { is_ended listener.new ≡ true }
+{
+    match listener.end() {
+        Ok(()) | Err(ListenFault::Memory) => None,
+        Err(ListenFault::Refused(refusal)) => Some(refusal),
+    }
+}
+
+/// What a listener that was fed nothing shows of a whole capture.
+fn hear(alloc: Global, listener: &mut Listener, bytes: &[u8]) -> Result<Heard, NoMemory>
+    requires begun { StandsFor [] 0 listener.old }
+    requires open { is_ended listener.old ≡ false }
+    requires ready { IsReady listener.old }
+    requires bounded { taken listener.old.reader + length bytes.now ≤ 2 ^ 62 }
+    ensures { IfOk result (λ heard. heard ≡ heard_of listener.old.listener.plan bytes.now) }
+{
+    let mut list = Vec::new(alloc);
+    feed_piece(alloc, listener, bytes, &mut list)?;
+    let refused = end(listener);
+    give_all(listener, &mut list)?;
+    Ok(Heard {
+        shown: ShownList::over(list),
+        counts: listener.counts(),
+        refused,
+    })
+}
+
 /// What a listener shows of a whole capture: the schedule of the stream's packets in its whole records, which are those
-/// before the first refusal; how many there were; and the first refusal.
+/// before the first refusal; how many there were; and the first refusal. It is what a `Listener` shows that is fed with the
+/// bytes and ended.
 ///
 /// A record belongs to the stream where it is a readable Ethernet frame of AVTP, its packet is of a kind that is read (so
-/// far AAF, IEEE 1722-2016, 7, and IEC 61883-6), and its stream id is valid and the wanted one. A packet that its reader refuses is flagged
-/// as malformed. Record times are taken as nanoseconds of gPTP. The plan is within the limits that `ListenPlan` names, and
-/// has no clock.
+/// far AAF, IEEE 1722-2016, 7, and IEC 61883-6), and its stream id is valid and the wanted one. A packet that its reader
+/// refuses is flagged as malformed. A record belongs to the media clock where the same holds with a packet of CRF (IEEE
+/// 1722-2016, 10) and the clock's id. Record times are taken as nanoseconds of gPTP. The plan is within the limits that
+/// `ListenPlan` names.
 ///
-/// Whatever the capture loses, repeats or reorders of the audio packets of a talker that keeps the rules, what is shown keeps
-/// the headline: what came in time, found room and has a known timestamp is presented once, in order, at the talker's own
-/// nanoseconds, so that any two listeners agree, and every other packet that came is flagged with its one reason.
+/// Whatever the capture loses, repeats or reorders of the audio packets of a talker that keeps the rules and of its clock, what
+/// is shown keeps the headline: what came in time, found room and has a known timestamp or clock reference is presented once,
+/// in order, at the talker's own nanoseconds, so that any two listeners with one clock agree, and every other packet that came
+/// is flagged with its one reason.
 ///
 /// `NoMemory` comes where no memory is found, and nothing is shown then.
 pub fn whole(alloc: Global, plan: &ListenPlan, bytes: &[u8]) -> Result<Heard, NoMemory>
     requires plan { IsPlan (schedule_plan plan.now) }
-    requires no_clock { plan.now.clock ≡ None }
     requires bounded { length bytes.now ≤ 2 ^ 62 }
-    ensures exact { IfOk result (λ heard. (clock : Clock) → heard ≡ heard_of clock plan.now bytes.now) }
-    ensures shown { IfOk result (λ heard. (clock : Clock) → heard.shown ≡ shown_of clock plan.now (whole_records bytes.now)) }
+    ensures exact { IfOk result (λ heard. heard ≡ heard_of plan.now bytes.now) }
+    ensures shown { IfOk result (λ heard. heard.shown ≡ shown_of plan.now (whole_records bytes.now)) }
     ensures counts { IfOk result (λ heard. heard.counts ≡ counts_of plan.now (whole_records bytes.now) heard.shown) }
     ensures refused { IfOk result (λ heard. heard.refused ≡ first_refusal bytes.now) }
-    ensures headline { IfOk result (λ heard. (clock : Clock) (shift : ℤ) (p : PacketJournal) → HearsTalker shift p plan.now bytes.now → KeepsHeadline clock shift p plan.now bytes.now heard.shown) }
+    ensures headline { IfOk result (λ heard. (shift : ℤ) (p : PacketJournal) → HearsTalker shift p plan.now (whole_records bytes.now) → KeepsHeadline shift p plan.now (whole_records bytes.now) heard.shown) }
 {
-    let Reading { collected, refused } = read_capture(alloc, plan.stream, bytes)?;
-    collected.heard(alloc, plan, refused)
+    let mut listener = Listener::begin(alloc, *plan)?;
+    let heard = hear(alloc, &mut listener, bytes)?;
+    Ok(heard)
 }

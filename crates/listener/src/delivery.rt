@@ -1,15 +1,17 @@
-//! Records that belong to a stream.
+//! Records that belong to a stream or to its clock.
 
-ghost use Rattle.std.specs.Prelude.{◌≡◌, ◌==◌, Some, None, if◌then◌else◌, option_map};
+ghost use Rattle.std.specs.Prelude.{◌≡◌, ◌==◌, ◌||◌, Bool, false, ℕ, Some, None, if◌then◌else◌, option_map};
 ghost use Rattle.std.specs.List.{list_any};
 ghost use Rattle.pcap_frames.specs.Reading.{shown};
-ghost use Rattle.packet_journal.specs.Deliveries.{belongs, delivery, is_wanted as is_wanted_of, stream_kinds};
-ghost use Rattle.listener.specs.Views.{delivery_shape};
+ghost use Rattle.avtp_header.specs.declared.header.Peeked.{Peeked as PeekedFields};
+ghost use Rattle.packet_journal.specs.Deliveries.{clock_kinds, delivery, is_delivered, is_wanted, stream_kinds};
+ghost use Rattle.listener.specs.Views.{delivery_shape, is_of_clock as is_of_clock_by};
 
+use crate::plan::ListenPlan;
 use avtp_header::{ETHERTYPE, Peeked, peek, subtype};
 use pcap_frames::{RecordView, read_frame};
 
-/// A record that belongs to a stream.
+/// A record that belongs to a stream or to its clock.
 #[derive(Clone, Copy)]
 pub struct DeliveryView<'a> {
     /// The number of the record in the capture, from 1.
@@ -31,16 +33,29 @@ fn is_read(subtype: u8) -> bool
     matches!(subtype, subtype::IEC_61883 | subtype::AAF)
 }
 
-fn is_wanted(stream: u64, peeked: Peeked) -> bool
-    ensures { result ≡ is_wanted_of stream_kinds stream peeked }
+fn is_of_stream(stream: u64, peeked: Peeked) -> bool
+    ensures { result ≡ is_wanted stream_kinds stream peeked }
 {
     is_read(peeked.subtype) && peeked.sv && peeked.stream_id == stream
 }
 
-/// The record as a delivery of the stream, where it belongs to it: a readable Ethernet frame of AVTP, with a packet of a
-/// stream that is read and with a stream id that is valid and the wanted one.
-pub fn delivery_of<'a>(stream: u64, frame: u64, held: &RecordView<'a>) -> Option<DeliveryView<'a>>
-    ensures { option_map delivery_shape result ≡ (if belongs stream_kinds stream held.now.bytes.now then Some (delivery frame (shown held.now)) else None) }
+fn is_of_clock(clock: Option<u64>, peeked: Peeked) -> bool
+    ensures { result ≡ is_of_clock_by clock peeked }
+{
+    match clock {
+        Some(id) => peeked.subtype == subtype::CRF && peeked.sv && peeked.stream_id == id,
+        None => false,
+    }
+}
+
+/// The record as a delivery of the plan's stream or of its clock, where it belongs to one of them: a readable Ethernet frame
+/// of AVTP, with a packet of a stream that is read or of a media clock, and with a stream id that is valid and the wanted one.
+pub fn delivery_of<'a>(
+    plan: &ListenPlan,
+    frame: u64,
+    held: &RecordView<'a>,
+) -> Option<DeliveryView<'a>>
+    ensures { option_map delivery_shape result ≡ (if is_delivered plan.now.stream plan.now.clock held.now.bytes.now then Some (delivery frame (shown held.now)) else None) }
 {
     let Ok(ethernet) = read_frame(held.bytes) else {
         return None;
@@ -49,7 +64,7 @@ pub fn delivery_of<'a>(stream: u64, frame: u64, held: &RecordView<'a>) -> Option
         return None;
     }
     let peeked = peek(ethernet.payload)?;
-    if !is_wanted(stream, peeked) {
+    if !is_of_stream(plan.stream, peeked) && !is_of_clock(plan.clock, peeked) {
         return None;
     }
     Some(DeliveryView {

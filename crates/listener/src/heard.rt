@@ -1,7 +1,7 @@
 //! What a listener shows of a capture.
 
-ghost use Rattle.std.specs.Prelude.{◌≡◌, ℕ, List, count_by, length};
-ghost use Rattle.listener.specs.Heard.{is_flag as is_flag_of, is_present as is_present_of};
+ghost use Rattle.std.specs.Prelude.{◌≡◌, ◌<◌, ◌≤◌, ◌+◌, ◌^◌};
+ghost use Rattle.listener.specs.Listening.{with_record as with_record_of, with_shown as with_shown_of, without_shown as without_shown_of};
 
 use avtp_base::Refusal;
 use sample_schedule::Shown;
@@ -59,28 +59,62 @@ pub struct Heard {
     pub refused: Option<Refusal>,
 }
 
-fn is_present(shown: &Shown) -> bool
-    ensures { result ≡ is_present_of shown.now }
-{
-    matches!(shown, Shown::Present(_))
-}
-
-fn is_flag(shown: &Shown) -> bool
-    ensures { result ≡ is_flag_of shown.now }
-{
-    matches!(shown, Shown::Flag { .. })
-}
-
 impl Counts {
-    /// The counts of what is shown of so many records, of which so many belong to the stream.
-    pub(crate) fn of(frames: u64, packets: u64, list: &[Shown]) -> Self
-        ensures { result ≡ record { frames = frames; packets = packets; presented = count_by is_present_of list.now; flagged = count_by is_flag_of list.now } }
+    /// Nothing was counted yet.
+    pub(crate) fn none() -> Self
+        ensures { result ≡ record { frames = 0; packets = 0; presented = 0; flagged = 0 } }
     {
         Counts {
-            frames,
-            packets,
-            presented: list.iter().filter(|shown| is_present(shown)).count() as u64,
-            flagged: list.iter().filter(|shown| is_flag(shown)).count() as u64,
+            frames: 0,
+            packets: 0,
+            presented: 0,
+            flagged: 0,
+        }
+    }
+
+    /// The counts with one more record, which belongs to the stream or not.
+    pub(crate) fn with_record(self, in_stream: bool) -> Self
+        requires within { self.packets ≤ self.frames }
+        requires few { self.frames < 2 ^ 63 }
+        ensures { result ≡ with_record_of self in_stream }
+    {
+        Counts {
+            frames: self.frames + 1,
+            packets: self.packets + u64::from(in_stream),
+            ..self
+        }
+    }
+
+    /// The counts with one more item that is shown.
+    pub(crate) fn with_shown(self, shown: &Shown) -> Self
+        requires { self.presented + self.flagged < self.frames }
+        ensures { result ≡ with_shown_of self shown.now }
+    {
+        match shown {
+            Shown::Present(_) => Counts {
+                presented: self.presented + 1,
+                ..self
+            },
+            Shown::Flag { .. } => Counts {
+                flagged: self.flagged + 1,
+                ..self
+            },
+        }
+    }
+
+    /// The counts without the item that was counted last.
+    pub(crate) fn without_shown(self, shown: &Shown) -> Self
+        ensures { result ≡ without_shown_of self shown.now }
+    {
+        match shown {
+            Shown::Present(_) => Counts {
+                presented: self.presented.saturating_sub(1),
+                ..self
+            },
+            Shown::Flag { .. } => Counts {
+                flagged: self.flagged.saturating_sub(1),
+                ..self
+            },
         }
     }
 }

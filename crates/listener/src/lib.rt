@@ -3,18 +3,20 @@
 
 mod blocks;
 mod capture;
-mod collected;
+mod clock;
 mod delivery;
 mod heard;
 mod item;
 pub mod laws;
+mod listener;
 mod plan;
-mod reading;
+mod record_listener;
 
 pub use capture::whole;
-pub use collected::Collected;
 pub use heard::{Counts, Heard, ShownList};
+pub use listener::{ListenFault, Listener};
 pub use plan::ListenPlan;
+pub use record_listener::RecordListener;
 
 #[cfg(test)]
 mod tests;

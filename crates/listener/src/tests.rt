@@ -1,6 +1,6 @@
 //! Captures of a stream, and what a listener shows of them, worked out by hand.
 
-ghost use Rattle.std.specs.Prelude.{◌≡◌, None};
+ghost use Rattle.std.specs.Prelude.{◌≡◌};
 ghost use Rattle.sample_schedule.specs.Limits.{IsPlan};
 ghost use Rattle.listener.specs.Heard.{schedule_plan};
 
@@ -13,6 +13,8 @@ use sample_schedule::{Batch, Reason, Shown};
 use std::test::Fail;
 
 mod blocks;
+mod clock;
+mod pieces;
 
 /// A capture of one AAF packet of six sample frames, due at 1.002 s.
 const ONE: [u8; 106] = [
@@ -133,27 +135,35 @@ fn frame_of(sent: Sent) -> Result<[u8; 78], Fail> {
     Ok(frame)
 }
 
-/// A capture of these packets.
-fn capture(rt: &HostRuntime, rows: &[Sent]) -> Result<Vec<u8>, Fail> {
-    let mut bytes = Vec::new(rt.alloc());
+/// A capture without a record.
+fn empty_capture(rt: &HostRuntime) -> Result<Vec<u8>, Fail> {
     let mut header = [0; 24];
     write_header(&mut header, STYLE)?;
-    bytes.extend_from_slice(&header)?;
+    Ok(Vec::from_slice(rt.alloc(), &header)?)
+}
+
+/// Puts a record behind a capture.
+fn put_record(bytes: &mut Vec<u8>, arrival: i64, captured: &[u8]) -> Result<(), Fail> {
+    if arrival < 0 || arrival >= 1_000_000_000_000 || captured.len() > 78 {
+        return Err(Fail::new("another arrival or length"));
+    }
+    let mut record = [0; 94];
+    let size = write_record(&mut record, STYLE, arrival, captured.len() as u32, captured)?;
+    bytes.extend_from_slice(&record[..size])?;
+    Ok(())
+}
+
+fn put_packet(bytes: &mut Vec<u8>, sent: Sent) -> Result<(), Fail> {
+    let frame = frame_of(sent)?;
+    let captured = frame.get(..sent.len).ok_or("more than the frame")?;
+    put_record(bytes, sent.arrival, captured)
+}
+
+/// A capture of these packets.
+fn capture(rt: &HostRuntime, rows: &[Sent]) -> Result<Vec<u8>, Fail> {
+    let mut bytes = empty_capture(rt)?;
     for row in rows {
-        let frame = frame_of(*row)?;
-        let captured = frame.get(..row.len).ok_or("more than the frame")?;
-        if row.arrival < 0 || row.arrival >= 1_000_000_000_000 {
-            return Err(Fail::new("an arrival of another time"));
-        }
-        let mut record = [0; 94];
-        let size = write_record(
-            &mut record,
-            STYLE,
-            row.arrival,
-            captured.len() as u32,
-            captured,
-        )?;
-        bytes.extend_from_slice(&record[..size])?;
+        put_packet(&mut bytes, *row)?;
     }
     Ok(bytes)
 }
@@ -246,7 +256,6 @@ fn heard(
     seen: &[Seen],
 ) -> Result<(bool, Counts, Option<Refusal>), Fail>
     requires plan { IsPlan (schedule_plan plan.now) }
-    requires no_clock { plan.now.clock ≡ None }
 {
     if bytes.len() > 1_000_000 {
         return Err(Fail::new("a long capture"));

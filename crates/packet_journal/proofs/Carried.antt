@@ -19,10 +19,10 @@ use Rattle.crf_format.specs.Crf.{Crf, SpellsCrf, clock_rows, crf_layout, crf_sub
 use Rattle.stream_journal.specs.Clocks.{ClockJournal}
 use Rattle.stream_journal.specs.Journal.{Journal, Kind, DenseAaf, SparseAaf, Am824, H264}
 use Rattle.stream_journal.specs.Delivered.{AreNear}
-use Rattle.packet_journal.specs.Deliveries.{Delivery, avtp_ethertype, belongs, delivery, is_delivered, packet_in, stream_kinds}
+use Rattle.packet_journal.specs.Deliveries.{Delivery, avtp_ethertype, belongs, clock_kinds, delivery, is_delivered, packet_in, stream_kinds}
 use Rattle.packet_journal.specs.Packets.{IsClockPacket, IsConforming, IsHeader, IsPacket, PacketJournal, PacketView, Pcm, Am824Data, H264Data}
 use Rattle.packet_journal.specs.Delivered.{AreFrom, Delivers, IsClockCopyOf, IsCopyOf, OfClock, OfStream, Origin, stream_numbers}
-use Rattle.packet_journal.specs.Carried.{AllCarry, AllCarryFrom, Carries, CarriesClock, IsReadKind, crf_kinds, subtype_of}
+use Rattle.packet_journal.specs.Carried.{AllCarry, AllCarryFrom, Carries, CarriesClock, IsReadKind, subtype_of}
 use Rattle.packet_journal.specs.Laws.{IsReadAs}
 use Rattle.packet_journal.proofs.Copies.{CvfAgain, crf_read, packet_read}
 
@@ -175,11 +175,11 @@ all_delivered again shift p clock lead numbers records is known all near = recor
 
 -- ---- with those of the clock
 
-pub clock_belongs : (shift : ℤ) (p : PacketJournal) (m : ℕ) (r : Record) → IsConforming shift p → CarriesClock p m r → belongs crf_kinds p.clock r.bytes ≡ true
+pub clock_belongs : (shift : ℤ) (p : PacketJournal) (m : ℕ) (r : Record) → IsConforming shift p → CarriesClock p m r → belongs clock_kinds p.clock r.bytes ≡ true
 clock_belongs shift p m r is c =
     let packet = is.clock_packets m c.known in
     let read = crf_read (p.clock_packet m) c.frame.payload packet.writable packet.fits c.packet in
-    belongs_so crf_kinds crf_subtype p.clock r.bytes c.frame.payload refl (clock_frame_is p m r c)
+    belongs_so clock_kinds crf_subtype p.clock r.bytes c.frame.payload refl (clock_frame_is p m r c)
     (clock_of_stream p.times.clock shift p.clock m (p.clock_packet m) c.frame.payload packet read)
 
 pub clock_copy_of : (p : PacketJournal) (m i : ℕ) (r : Record) → CarriesClock p m r → IsClockCopyOf p m (delivery i r)

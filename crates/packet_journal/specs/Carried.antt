@@ -6,7 +6,7 @@ use Rattle.pcap_frames.specs.Frame.{Frame, IsWritableFrame, frame_spelling}
 use Rattle.aaf_format.specs.Aaf.{aaf_subtype}
 use Rattle.iec61883_format.specs.Iec.{iec_subtype}
 use Rattle.cvf_format.specs.Cvf.{cvf_subtype}
-use Rattle.crf_format.specs.Crf.{crf_spelling, crf_subtype}
+use Rattle.crf_format.specs.Crf.{crf_spelling}
 use Rattle.stream_journal.specs.Journal.{Kind, DenseAaf, SparseAaf, Am824, H264}
 use Rattle.stream_journal.specs.Delivered.{IsDelivered}
 use Rattle.packet_journal.specs.Deliveries.{avtp_ethertype, stream_kinds}
@@ -43,10 +43,6 @@ AllCarry p lead (n ∷ ns) [] = ⊥
 AllCarry p lead (n ∷ ns) (r ∷ rs) = Carries p lead n r × AllCarry p lead ns rs
 
 -- ---- with those of the clock
-
--- the kind of a clock's packets (IEEE 1722-2016, table 6)
-abbrev pub crf_kinds : List ℕ
-crf_kinds = crf_subtype ∷ []
 
 -- A record holds an Ethernet frame of AVTP with packet m of the clock.
 pub record CarriesClock (p : PacketJournal) (m : ℕ) (r : Record) : Type 0 where

@@ -5,7 +5,7 @@ use Rattle.pcap_frames.specs.Capture.{Record}
 use Rattle.pcap_frames.specs.Frame.{frame_of, frame_refusal}
 use Rattle.avtp_header.specs.declared.header.Peeked.{Peeked}
 use Rattle.avtp_header.specs.Header.{peeked_of}
-use Rattle.avtp_header.specs.Numbers.{aaf_subtype, iec_subtype}
+use Rattle.avtp_header.specs.Numbers.{aaf_subtype, crf_subtype, iec_subtype}
 pub use Rattle.avtp_header.specs.Numbers.{avtp_ethertype}
 
 -- The kinds of packets of a stream that are read, by their subtypes (IEEE 1722-2016, table 6). A stream may also consist
@@ -16,9 +16,9 @@ stream_kinds =
     aaf_subtype ∷
     []
 
--- the kinds of packets of a media clock that are read: none so far, so CRF (0x04) is passed
+-- the kinds of packets of a media clock (CRF)
 abbrev pub clock_kinds : List ℕ
-clock_kinds = []
+clock_kinds = crf_subtype ∷ []
 
 -- the payload of the frame in a record
 abbrev pub packet_in : List ℕ → List ℕ

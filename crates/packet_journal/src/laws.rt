@@ -3,10 +3,10 @@
 ghost use Rattle.std.specs.Prelude.{◌≡◌, ℕ, ℤ, true, List, Option};
 ghost use Rattle.pcap_frames.specs.Capture.{Record};
 ghost use Rattle.stream_journal.specs.Delivered.{AreNear};
-ghost use Rattle.packet_journal.specs.Deliveries.{Delivery, belongs, delivery, stream_kinds};
+ghost use Rattle.packet_journal.specs.Deliveries.{Delivery, belongs, clock_kinds, delivery, stream_kinds};
 ghost use Rattle.packet_journal.specs.Packets.{IsConforming, PacketJournal};
 ghost use Rattle.packet_journal.specs.Delivered.{Delivers, IsClockCopyOf, IsCopyOf, Origin, stream_numbers};
-ghost use Rattle.packet_journal.specs.Carried.{AllCarry, AllCarryFrom, Carries, CarriesClock, IsReadKind, crf_kinds};
+ghost use Rattle.packet_journal.specs.Carried.{AllCarry, AllCarryFrom, Carries, CarriesClock, IsReadKind};
 ghost use Rattle.packet_journal.specs.Laws.{IsClockReadAs, IsReadAs};
 
 /// What a listener reads of a copy of a packet is the packet that was sent, whatever trail the copy has.
@@ -37,7 +37,7 @@ pub fn carried_packets_are_delivered()
 /// A record that carries a packet of the clock of a conforming talker is one of the clock's, by its kind and its id, and its
 /// delivery is a copy of the packet.
 pub fn carried_clock_packet_is_delivered()
-    ensures belongs { (shift : ℤ) (p : PacketJournal) (m : ℕ) (r : Record) → IsConforming shift p → CarriesClock p m r → belongs crf_kinds p.clock r.bytes ≡ true }
+    ensures belongs { (shift : ℤ) (p : PacketJournal) (m : ℕ) (r : Record) → IsConforming shift p → CarriesClock p m r → belongs clock_kinds p.clock r.bytes ≡ true }
     ensures copy { (p : PacketJournal) (m frame : ℕ) (r : Record) → CarriesClock p m r → IsClockCopyOf p m (delivery frame r) }
 {}
 

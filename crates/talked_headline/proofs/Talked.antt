@@ -2,11 +2,11 @@
 use Rattle.std.proofs.Common.{◌≡◌, ℕ, zero, suc, ◌+◌, ◌<◌, true, false, List, [], ◌∷◌, map, Option, Some, None, pos, ◌≤ℤ◌, refl, subst, arith}
 use Rattle.std.specs.Prelude.{IsSomeAnd, slice_get}
 use Rattle.std.specs.List.{range_with_len}
-use Rattle.pcap_frames.specs.Capture.{Record, whole_records}
+use Rattle.pcap_frames.specs.Capture.{Record}
+use Rattle.stream_journal.specs.Delivered.{IsAudioKind}
 use Rattle.packet_journal.specs.Carried.{AllCarry, Carries, IsReadKind}
 use Rattle.packet_journal.specs.Deliveries.{belongs, deliveries, delivery, stream_kinds}
 use Rattle.packet_journal.specs.Packets.{PacketJournal}
-use Rattle.listener.specs.Laws.{IsAudioStream}
 use Rattle.talker.specs.declared.plan.TalkKind.{TalkKind}
 use Rattle.talker.specs.declared.plan.TalkKind.TheVariants.{Aaf, Am824, H264}
 use Rattle.talker.specs.declared.plan.TalkPlan.{TalkPlan}
@@ -16,14 +16,14 @@ use Rattle.talker.specs.Journal.{journal, stream_by}
 
 -- ---- the journal of a plan
 
-heard_by : (kind : TalkKind) (plan : TalkPlan) (input : List ℕ) → IsAudioStream (stream_by (audio_by kind plan) plan input).journal.times.kind
+heard_by : (kind : TalkKind) (plan : TalkPlan) (input : List ℕ) → IsAudioKind (stream_by (audio_by kind plan) plan input).journal.times.kind
 heard_by (Aaf format false) plan input = tt
 heard_by (Aaf format true) plan input = tt
 heard_by Am824 plan input = tt
 heard_by (H264 last_stamp) plan input = tt
 
 -- its kind is one for which the headline is said
-pub kind_heard : (plan : TalkPlan) (input : List ℕ) → IsAudioStream (journal plan input).times.kind
+pub kind_heard : (plan : TalkPlan) (input : List ℕ) → IsAudioKind (journal plan input).times.kind
 kind_heard plan input = heard_by plan.kind plan input
 
 read_by : (kind : TalkKind) (plan : TalkPlan) (input : List ℕ) → IsReadKind (stream_by (audio_by kind plan) plan input).journal.times.kind
@@ -69,11 +69,11 @@ pub first_kept : (plan : TalkPlan) (input places : List ℕ) (n : ℕ) (f : Sent
 first_kept plan input places n f at = rw at refl
 
 -- a first record of the stream is the first delivery
-pub first_delivery : (stream id : ℕ) (clock : Option ℕ) (bytes : List ℕ) (r : Record) (records : List Record) → stream ≡ id → whole_records bytes ≡ r ∷ records → belongs stream_kinds id r.bytes ≡ true
-    → slice_get (deliveries stream clock (whole_records bytes)) 0 ≡ Some (delivery 1 r)
-first_delivery stream id clock bytes r records same read in_it = rw (same, read, in_it) refl
+pub first_delivery : (stream id : ℕ) (clock : Option ℕ) (all : List Record) (r : Record) (records : List Record) → stream ≡ id → all ≡ r ∷ records → belongs stream_kinds id r.bytes ≡ true
+    → slice_get (deliveries stream clock all) 0 ≡ Some (delivery 1 r)
+first_delivery stream id clock all r records same read in_it = rw (same, read, in_it) refl
 
 -- and a second one is the second
-pub second_delivery : (stream id : ℕ) (clock : Option ℕ) (bytes : List ℕ) (r s : Record) (records : List Record) → stream ≡ id → whole_records bytes ≡ r ∷ s ∷ records → belongs stream_kinds id r.bytes ≡ true → belongs stream_kinds id s.bytes ≡ true
-    → slice_get (deliveries stream clock (whole_records bytes)) 1 ≡ Some (delivery 2 s)
-second_delivery stream id clock bytes r s records same read first second = rw (same, read, first, second) refl
+pub second_delivery : (stream id : ℕ) (clock : Option ℕ) (all : List Record) (r s : Record) (records : List Record) → stream ≡ id → all ≡ r ∷ s ∷ records → belongs stream_kinds id r.bytes ≡ true → belongs stream_kinds id s.bytes ≡ true
+    → slice_get (deliveries stream clock all) 1 ≡ Some (delivery 2 s)
+second_delivery stream id clock all r s records same read first second = rw (same, read, first, second) refl

@@ -1,27 +1,35 @@
 -- A plan that is talked, and a listener for it.
-use Rattle.std.specs.Prelude.{◌≡◌, ◌^◌, ◌<◌, ◌≤◌, ℕ, List, length, None, Some}
+use Rattle.std.specs.Prelude.{◌≡◌, ◌^◌, ◌<◌, ◌≤◌, ℕ, pos, List, length, None, Some}
+use Rattle.pcap_frames.specs.Capture.{Record, whole_records}
 use Rattle.packet_journal.specs.Packets.{carried}
 use Rattle.listener.specs.declared.plan.ListenPlan.{ListenPlan}
+use Rattle.listener.specs.Laws.{FollowsClock}
 use Rattle.talker.specs.declared.plan.TalkPlan.{TalkPlan}
+use Rattle.talker.specs.Frames.{capture_of, frames_at}
 use Rattle.talker.specs.Journal.{journal}
 use Rattle.talker.specs.Plan.{Expects, IsPlan}
 use Rattle.talker.specs.Talking.{most_input}
 
--- The plan is talked of the input, and the listener listens to its stream, without a clock. It expects packets so long before
--- their first instant that it can tell those apart that have no timestamp.
+-- what is read of a capture that has the plan's frames of these places, in this order
+abbrev pub captured : TalkPlan → List ℕ → List ℕ → List Record
+captured plan input places = whole_records (capture_of (frames_at plan input places))
+
+-- The plan is talked of the input, and the listener listens to its stream, on its clock or without one. It expects packets so
+-- long before their first instant that it can tell those apart that have no timestamp.
 pub record ListensTo (plan : TalkPlan) (input : List ℕ) (listen : ListenPlan) : Type 0 where
   pub talked : IsPlan plan
   pub id : plan.id < 2 ^ 64
   pub limit : length input ≤ most_input
   pub lead : Expects plan listen.lead
   pub stream : listen.stream ≡ plan.id
-  pub clock : listen.clock ≡ None
+  pub clock : FollowsClock (pos 0) (journal plan input) listen.shift listen.clock
 
--- packet n of the plan is stamped, and has room in the listener's buffer
+-- packet n of the plan is stamped, and has room in the buffer of the listener, which has no clock
 pub record HasRoomFor (plan : TalkPlan) (input : List ℕ) (listen : ListenPlan) (n : ℕ) : Type 0 where
   pub known : n < (journal plan input).times.packets
   -- no clock is sent beside the stream, so its frame is the one of its number
   pub alone : plan.crf ≡ None
+  pub without : listen.clock ≡ None
   pub instant : ℕ
   pub stamped : (journal plan input).times.stamp n ≡ Some instant
   pub buffer : 1 ≤ listen.buffer

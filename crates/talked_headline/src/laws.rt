@@ -2,16 +2,14 @@
 //! does nothing.
 
 ghost use Rattle.std.specs.Prelude.{List, ℕ, pos, ◌∷◌};
-ghost use Rattle.sample_schedule.specs.Verdicts.{Clock};
 ghost use Rattle.listener.specs.declared.plan.ListenPlan.{ListenPlan};
 ghost use Rattle.listener.specs.Headline.{KeepsHeadline};
-ghost use Rattle.listener.specs.Heard.{heard_of};
+ghost use Rattle.listener.specs.Heard.{shown_of};
 ghost use Rattle.listener.specs.Items.{MadeItem};
 ghost use Rattle.listener.specs.Laws.{HearsTalker, IsFurther, IsWelcome};
 ghost use Rattle.talker.specs.declared.plan.TalkPlan.{TalkPlan};
-ghost use Rattle.talker.specs.Frames.{capture_of, frames_at};
 ghost use Rattle.talker.specs.Journal.{journal};
-ghost use Rattle.talked_headline.specs.Premises.{HasRoomFor, ListensTo};
+ghost use Rattle.talked_headline.specs.Premises.{HasRoomFor, ListensTo, captured};
 
 use listener::laws::{first_packet_is_welcome, headline_holds, second_copy_is_further};
 use packet_journal::laws::carried_packet_is_delivered;
@@ -19,9 +17,10 @@ use talker::laws::{
     capture_delivers, journal_conforms, losses_are_delivered, packets_are_sent_in_time,
 };
 
-/// Whatever a capture loses, repeats or reorders of a plan's frames, it meets the whole premise of the headline.
+/// Whatever a capture loses, repeats or reorders of a plan's frames, those of its clock among them, it meets the whole premise of
+/// the headline, for listeners with the clock and without.
 pub fn talked_is_heard()
-    ensures { (plan : TalkPlan) (input places : List ℕ) (listen : ListenPlan) → ListensTo plan input listen → HearsTalker (pos 0) (journal plan input) listen (capture_of (frames_at plan input places)) }
+    ensures { (plan : TalkPlan) (input places : List ℕ) (listen : ListenPlan) → ListensTo plan input listen → HearsTalker (pos 0) (journal plan input) listen (captured plan input places) }
 {
     journal_conforms();
     losses_are_delivered();
@@ -30,8 +29,8 @@ pub fn talked_is_heard()
 /// So what a listener shows of it keeps the headline, and nothing is asked but that the plan is talked and the listener
 /// listens to it.
 pub fn talked_keeps_headline()
-    ensures { (clock : Clock) (plan : TalkPlan) (input places : List ℕ) (listen : ListenPlan) → ListensTo plan input listen
-        → KeepsHeadline clock (pos 0) (journal plan input) listen (capture_of (frames_at plan input places)) (heard_of clock listen (capture_of (frames_at plan input places))).shown }
+    ensures { (plan : TalkPlan) (input places : List ℕ) (listen : ListenPlan) → ListensTo plan input listen
+        → KeepsHeadline (pos 0) (journal plan input) listen (captured plan input places) (shown_of listen (captured plan input places)) }
 {
     talked_is_heard();
     headline_holds();
@@ -40,8 +39,8 @@ pub fn talked_keeps_headline()
 /// The first packet that is captured of a plan must be presented, where it is stamped and has room, whatever comes after it:
 /// it is welcome at place 0, so the headline says something of each such capture.
 pub fn talked_is_welcome()
-    ensures { (clock : Clock) (plan : TalkPlan) (input places : List ℕ) (listen : ListenPlan) (n : ℕ) → ListensTo plan input listen → HasRoomFor plan input listen n
-        → (made : MadeItem) × IsWelcome clock (journal plan input) listen (capture_of (frames_at plan input (n ∷ places))) 0 n made }
+    ensures { (plan : TalkPlan) (input places : List ℕ) (listen : ListenPlan) (n : ℕ) → ListensTo plan input listen → HasRoomFor plan input listen n
+        → (made : MadeItem) × IsWelcome (journal plan input) listen (captured plan input (n ∷ places)) 0 n made }
 {
     talked_is_heard();
     journal_conforms();
@@ -54,8 +53,8 @@ pub fn talked_is_welcome()
 
 /// Where that packet is captured once more, directly after, it is a further copy, which is flagged as a repeat.
 pub fn talked_again_is_further()
-    ensures { (clock : Clock) (plan : TalkPlan) (input places : List ℕ) (listen : ListenPlan) (n : ℕ) → ListensTo plan input listen → HasRoomFor plan input listen n
-        → (made : MadeItem) × IsFurther clock (journal plan input) listen (capture_of (frames_at plan input (n ∷ n ∷ places))) 1 n made }
+    ensures { (plan : TalkPlan) (input places : List ℕ) (listen : ListenPlan) (n : ℕ) → ListensTo plan input listen → HasRoomFor plan input listen n
+        → (made : MadeItem) × IsFurther (journal plan input) listen (captured plan input (n ∷ n ∷ places)) 1 n made }
 {
     talked_is_heard();
     journal_conforms();

@@ -6,6 +6,8 @@ mod am824;
 #[cfg(test)]
 mod check;
 #[cfg(test)]
+mod clock;
+#[cfg(test)]
 mod files;
 #[cfg(test)]
 mod listen;

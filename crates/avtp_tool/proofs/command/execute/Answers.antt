@@ -11,6 +11,9 @@ use Rattle.avtp_tool.proofs.command.execute.Goals as goal
 pub talk-requires-after_bounds : goal.talk-requires-after_bounds
 talk-requires-after_bounds g c κs within = requested (texts c.args.words.now) (talk (talking_of c.in-Ok-Talk.asked)) (rw c.in-Ok-Talk.field-0-is at c.in-Ok-Talk.ensures.found)
 
+pub read_files-requires-in-Ok-Listen-after_bounds : goal.read_files-requires-in-Ok-Listen-after_bounds
+read_files-requires-in-Ok-Listen-after_bounds g c κs within = requested (texts c.args.words.now) (listen (listening_of c.in-Ok-Listen.asked)) (rw c.in-Ok-Listen.field-0-is at c.in-Ok-Listen.ensures.found)
+
 pub returns-in-Ok-Show-clause-words : goal.returns-in-Ok-Show-clause-words
 returns-in-Ok-Show-clause-words g c position offence = absurd (not_offence c.parse.result _ position (c.parse.ensures.only_offence position offence) c.in-Ok-Show.is)
 

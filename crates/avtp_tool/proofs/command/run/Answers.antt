@@ -46,9 +46,9 @@ returns-clause-complete g c memory write request files line told some quiet =
     (same.1, subst (Appends (g.S.Sink.held c.args.out.now) (g.S.Sink.held c.finish.new.out)) same.2 all.3, subst (λ (ns : List (List ℕ)). Asks ns (g.F.Shelf.asked c.args.shelf.now) (g.F.Shelf.asked c.execute-ended.new.shelf)) same.0 all.4)
 
 pub returns-clause-headline : goal.returns-clause-headline
-returns-clause-headline g c memory write asked files earlier later name bytes shift p line told some quiet split done has fits classic hears =
+returns-clause-headline g c memory write asked files earlier later name bytes shift p line told some quiet split done has fits hears =
     let printed = returns-clause-complete g c memory write (listen asked) files line told some quiet in
-    (plan_text (listen_plan asked) files, has_headline asked files earlier later name bytes shift p split done has fits classic hears, printed.1)
+    (plan_text (listen_plan asked) files, has_headline asked files earlier later name bytes shift p split done has fits hears, printed.1)
 
 pub returns-clause-words : goal.returns-clause-words
 returns-clause-words g c memory write position offence =

@@ -1,7 +1,7 @@
 use Rattle.std.proofs.Common.{◌≡◌, ℕ, List, [], ◌∷◌, refl}
-use Rattle.pcap_frames.specs.Capture.{whole_records}
 use Rattle.stream_journal.specs.Journal.{Journal, Am824, DenseAaf, SparseAaf}
 use Rattle.stream_journal.specs.Delivered.{AreNear}
+use Rattle.packet_journal.specs.Delivered.{stream_numbers}
 use Rattle.listener.proofs.laws.carried_packets_are_heard.Goals as goal
 
 -- no packet of audio is a fragment
@@ -21,28 +21,28 @@ am824_near j (n ∷ []) interval dbc e = tt
 am824_near j (n ∷ m ∷ numbers) interval dbc e = ((λ first second unstamped. absurd (rw e at first)), am824_near j (m ∷ numbers) interval dbc e)
 
 pub returns-clause-dense : goal.returns-clause-dense
-returns-clause-dense c shift p plan bytes numbers conforming kind stream clock carry = record {
+returns-clause-dense c shift p plan origins records conforming kind stream clock carry = record {
   conforming = conforming;
   kind = rw kind tt;
   stream = stream;
   clock = clock;
-  delivered = c.carried_packets_are_delivered.ensures shift p plan.clock plan.lead numbers (whole_records bytes) conforming (rw kind refl) carry (dense_near p.times numbers kind);
+  delivered = c.records_of_both_are_delivered.ensures shift p plan.clock plan.lead origins records conforming (rw kind refl) carry (dense_near p.times (stream_numbers origins) kind);
 }
 
 pub returns-clause-sparse : goal.returns-clause-sparse
-returns-clause-sparse c shift p plan bytes numbers conforming kind stream clock carry = record {
+returns-clause-sparse c shift p plan origins records conforming kind stream clock carry = record {
   conforming = conforming;
   kind = rw kind tt;
   stream = stream;
   clock = clock;
-  delivered = c.carried_packets_are_delivered.ensures shift p plan.clock plan.lead numbers (whole_records bytes) conforming (rw kind refl) carry (sparse_near p.times numbers kind);
+  delivered = c.records_of_both_are_delivered.ensures shift p plan.clock plan.lead origins records conforming (rw kind refl) carry (sparse_near p.times (stream_numbers origins) kind);
 }
 
 pub returns-clause-am824 : goal.returns-clause-am824
-returns-clause-am824 c shift p plan bytes numbers interval dbc conforming kind stream clock carry = record {
+returns-clause-am824 c shift p plan origins records interval dbc conforming kind stream clock carry = record {
   conforming = conforming;
   kind = rw kind tt;
   stream = stream;
   clock = clock;
-  delivered = c.carried_packets_are_delivered.ensures shift p plan.clock plan.lead numbers (whole_records bytes) conforming (rw kind refl) carry (am824_near p.times numbers interval dbc kind);
+  delivered = c.records_of_both_are_delivered.ensures shift p plan.clock plan.lead origins records conforming (rw kind refl) carry (am824_near p.times (stream_numbers origins) interval dbc kind);
 }

@@ -1,34 +1,34 @@
 use Rattle.std.proofs.Common.{◌≡◌, ◌∷◌, List, Some, map, pos, ap, ◌∙◌, arith}
 use Rattle.std.specs.Prelude.{slice_get}
-use Rattle.pcap_frames.specs.Capture.{whole_records}
 use Rattle.packet_journal.specs.Deliveries.{deliveries, delivery}
 use Rattle.listener.specs.Items.{made_of_one}
-use Rattle.talker.specs.Frames.{SentFrame, capture_of, frames, frames_at, record_of}
+use Rattle.talker.specs.Frames.{SentFrame, frames, frames_at, record_of}
 use Rattle.talker.specs.Journal.{journal}
+use Rattle.talked_headline.specs.Premises.{captured}
 use Rattle.talked_headline.proofs.Talked.{carries_at, early_frame, first_delivery, first_kept, kind_read, second_delivery, stream_is}
 use Rattle.talked_headline.proofs.laws.talked_again_is_further.Goals as goal
 
 pub returns : goal.returns
-returns c clock plan input places listen n l room =
+returns c plan input places listen n l room =
     let p = journal plan input in
-    let bytes = capture_of (frames_at plan input (n ∷ n ∷ places)) in
+    let all = captured plan input (n ∷ n ∷ places) in
     let found = early_frame plan input n (c.packets_are_sent_in_time.ensures.alone plan input n l.talked room.alone l.limit room.known) in
     let r = record_of found.0 in
     let rest = map record_of (frames_at plan input places) in
     let carries = carries_at p listen.lead 0 p.times.packets n n (frames plan input) found.0 (omega arith) (c.capture_delivers.ensures.carries plan input listen.lead l.talked room.alone l.limit l.lead) room.known found.1.there in
     let conforming = c.journal_conforms.ensures plan input l.talked l.id l.limit in
     let in_it = c.carried_packet_is_delivered.ensures.belongs (pos 0) p listen.lead n r conforming (kind_read plan input) carries in
-    let records : whole_records bytes ≡ r ∷ r ∷ rest =
+    let records : all ≡ r ∷ r ∷ rest =
     c.losses_are_delivered.ensures.records plan input (n ∷ n ∷ places) l.talked l.limit
     ∙ (ap (λ (fs : List SentFrame). map record_of fs) (first_kept plan input (n ∷ places) n found.0 found.1.there)
     ∙ ap (λ (fs : List SentFrame). r ∷ map record_of fs) (first_kept plan input places n found.0 found.1.there)) in
     let stream = l.stream ∙ stream_is plan input in
-    let first : slice_get (deliveries listen.stream listen.clock (whole_records bytes)) 0 ≡ Some (delivery 1 r) = first_delivery listen.stream p.stream listen.clock bytes r (r ∷ rest) stream records in_it in
-    let second : slice_get (deliveries listen.stream listen.clock (whole_records bytes)) 1 ≡ Some (delivery 2 r) = second_delivery listen.stream p.stream listen.clock bytes r r rest stream records in_it in_it in
+    let first : slice_get (deliveries listen.stream listen.clock all) 0 ≡ Some (delivery 1 r) = first_delivery listen.stream p.stream listen.clock all r (r ∷ rest) stream records in_it in
+    let second : slice_get (deliveries listen.stream listen.clock all) 1 ≡ Some (delivery 2 r) = second_delivery listen.stream p.stream listen.clock all r r rest stream records in_it in_it in
     let heard = c.talked_is_heard.ensures plan input (n ∷ n ∷ places) listen l in
-    let welcome = c.first_packet_is_welcome.ensures clock (pos 0) p listen bytes n room.instant (delivery 1 r) heard first
+    let welcome = c.first_packet_is_welcome.ensures (pos 0) p listen all n room.instant (delivery 1 r) heard room.without first
     (c.carried_packet_is_delivered.ensures.copy p listen.lead n 1 r carries) room.stamped found.1.early room.buffer room.room in (
       made_of_one (delivery 2 r),
-      c.second_copy_is_further.ensures clock (pos 0) p listen bytes n room.instant (delivery 1 r) (delivery 2 r) heard welcome first second
+      c.second_copy_is_further.ensures (pos 0) p listen all n room.instant (delivery 1 r) (delivery 2 r) heard room.without welcome first second
           (c.carried_packet_is_delivered.ensures.copy p listen.lead n 2 r carries) room.stamped found.1.early,
     )

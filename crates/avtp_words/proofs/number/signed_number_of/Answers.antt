@@ -1,0 +1,7 @@
+use Rattle.std.proofs.Common.{ℕ, ◌≡◌, ◌≢◌, ◌<◌, ◌^◌, decimal, Option, None, Some, IfNone, arith, subst}
+use Rattle.avtp_words.proofs.Numbers.{above_none, unfit}
+use Rattle.avtp_words.proofs.number.signed_number_of.Goals as goal
+
+pub returns-in_ok-number_of-in-None-clause-none : goal.returns-in_ok-number_of-in-None-clause-none
+returns-in_ok-number_of-in-None-clause-none c =
+    unfit c.args.word.now c.in_ok-number_of-in-None.field-0 c.try_from.result c.ok.result (omega arith) c.in_ok-number_of-in-None.ensures.spelled c.try_from.ensures c.ok.ensures.value c.in-None.ensures

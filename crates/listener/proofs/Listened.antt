@@ -1,0 +1,258 @@
+-- What one more record, one more shown item and the end leave of a listener.
+use Rattle.std.proofs.Common.{◌≡◌, ℕ, ◌+◌, ◌<◌, ◌≤◌, zero, suc, Bool, true, false, List, [], ◌∷◌, ◌++◌, length, take, Option, Some, None, refl, sym, ap, ◌∙◌, subst, arith, length-append, append-nil, if◌then◌else◌, cond}
+use Rattle.std.specs.Prelude.{count_by, slice_get, ◌==◌, not}
+use Rattle.std.proofs.lemmas.List.{take-append-le}
+use Rattle.std.proofs.lemmas.List.Sums.{sum_by-append, sum_by-cons}
+use Rattle.std.proofs.lemmas.Option.{slice_get_within}
+use mathlib.Core.List.{IsPrefix}
+use Rattle.clock_track.specs.Rows.{clock_spot}
+use Rattle.avtp_header.specs.Header.{peeked_of}
+use Rattle.avtp_header.specs.Numbers.{crf_subtype}
+use Rattle.pcap_frames.specs.Capture.{Record}
+use Rattle.sample_schedule.specs.declared.entry.Entry.{Entry}
+use Rattle.sample_schedule.specs.declared.plan.SchedulePlan.{SchedulePlan}
+use Rattle.sample_schedule.specs.declared.shown.Shown.{Shown}
+use Rattle.sample_schedule.specs.declared.shown.Shown.TheVariants.{Present, Flag}
+use Rattle.sample_schedule.specs.Judge.{JudgeState, StandsFor as JudgeStandsFor, out as judge_out, taken}
+use Rattle.sample_schedule.specs.Schedule.{due, shown}
+use Rattle.sample_schedule.proofs.Growing.{due-first, due-grows}
+use Rattle.sample_schedule.proofs.JudgeLemmas.{all-taken}
+use Rattle.packet_journal.specs.Deliveries.{deliveries, delivery, is_delivered, packet_in}
+use Rattle.listener.specs.declared.heard.Counts.{Counts}
+use Rattle.listener.specs.declared.plan.ListenPlan.{ListenPlan}
+use Rattle.listener.specs.Heard.{counts_of, entries_in, is_flag, is_present, schedule_plan, shown_of, due_of}
+use Rattle.listener.specs.Items.{entries, entry_of}
+use Rattle.listener.specs.Listening.{ListenState, StandsFor, is_closed, out, with_record, with_shown}
+use Rattle.listener.proofs.Few.{deliveries-few, entries-few, few}
+use Rattle.listener.proofs.Further.{entries_further, more_by, none_more, of_none, of_stream, one_more}
+
+-- ---- lists
+
+pub take_first : (n : ℕ) (xs ys : List Shown) → IsPrefix xs ys → n ≤ length xs → take n ys ≡ take n xs
+take_first n xs ys first within = ap (take n) (sym first.1) ∙ take-append-le n xs first.0 within
+
+pub first_long : (xs ys : List Shown) → IsPrefix xs ys → length xs ≤ length ys
+first_long xs ys first = omega (arith, ap length first.1, length-append xs first.0)
+
+take_suc : (xs : List Shown) (i : ℕ) (x : Shown) → slice_get xs i ≡ Some x → take (suc i) xs ≡ take i xs ++ x ∷ []
+take_suc [] i x e = absurd cc
+take_suc (y ∷ xs) zero x e = let same : y ≡ x = cc in rw same refl
+take_suc (y ∷ xs) (suc i) x e = ap (λ l. y ∷ l) (take_suc xs i x e)
+
+pub take_next : (xs : List Shown) (i : ℕ) (x : Shown) → slice_get xs i ≡ Some x → take (i + 1) xs ≡ take i xs ++ x ∷ []
+take_next xs i x e = let one : i + 1 ≡ suc i = omega arith in rw one (take_suc xs i x e)
+
+count_one : (p : Shown → Bool) (x : Shown) → count_by p (x ∷ []) ≡ cond (p x) 1 0
+count_one p x = let more = sum_by-cons (λ (y : Shown). cond (p y) 1 0) x [] in omega (arith, more)
+
+pub count_next : (p : Shown → Bool) (xs : List Shown) (x : Shown) → count_by p (xs ++ x ∷ []) ≡ count_by p xs + cond (p x) 1 0
+count_next p xs x = sum_by-append (λ (y : Shown). cond (p y) 1 0) xs (x ∷ []) ∙ ap (λ n. count_by p xs + n) (count_one p x)
+
+presented_or_flagged : (list : List Shown) → count_by is_present list + count_by is_flag list ≡ length list
+presented_or_flagged [] = refl
+presented_or_flagged (Present batch ∷ list) =
+    omega (arith, sum_by-cons (λ (y : Shown). cond (is_present y) 1 0) (Present batch) list, sum_by-cons (λ (y : Shown). cond (is_flag y) 1 0) (Present batch) list, presented_or_flagged list)
+presented_or_flagged (Flag frame seq reason ∷ list) =
+    omega (arith, sum_by-cons (λ (y : Shown). cond (is_present y) 1 0) (Flag frame seq reason) list, sum_by-cons (λ (y : Shown). cond (is_flag y) 1 0) (Flag frame seq reason) list, presented_or_flagged list)
+
+-- ---- counts
+
+abbrev counts_with : ℕ → ℕ → ℕ → ℕ → Counts
+counts_with frames packets presented flagged = record { frames = frames; packets = packets; presented = presented; flagged = flagged }
+
+pub counted_on : (plan : ListenPlan) (records : List Record) (r : Record) (list : List Shown) (b : Bool) → is_delivered plan.stream None r.bytes ≡ b
+    → with_record (counts_of plan records list) b ≡ counts_of plan (records ++ r ∷ []) list
+counted_on plan records r list b is =
+    let frames : length records + 1 ≡ length (records ++ r ∷ []) = sym (length-append records (r ∷ [])) in
+    let packets = sym (more_by b plan.stream None records r is) in
+    ap (λ (n : ℕ). counts_with n (length (deliveries plan.stream None records) + cond b 1 0) (count_by is_present list) (count_by is_flag list)) frames
+    ∙ ap (λ (n : ℕ). counts_with (length (records ++ r ∷ [])) n (count_by is_present list) (count_by is_flag list)) packets
+
+pub counted_shown : (plan : ListenPlan) (records : List Record) (list : List Shown) (x : Shown) → with_shown (counts_of plan records list) x ≡ counts_of plan records (list ++ x ∷ [])
+counted_shown plan records list x =
+    let presented = count_next is_present list x in
+    let flagged = count_next is_flag list x in
+    by x ∙ ap (λ (n : ℕ). counts_with (length records) (length (deliveries plan.stream None records)) n (count_by is_flag list + cond (is_flag x) 1 0)) (sym presented)
+    ∙ ap (λ (n : ℕ). counts_with (length records) (length (deliveries plan.stream None records)) (count_by is_present (list ++ x ∷ [])) n) (sym flagged)
+  where
+    none : (n : ℕ) → n ≡ n + 0
+    none n = omega arith
+
+    by : (x : Shown) → with_shown (counts_of plan records list) x ≡ counts_with (length records) (length (deliveries plan.stream None records)) (count_by is_present list + cond (is_present x) 1 0) (count_by is_flag list + cond (is_flag x) 1 0)
+    by (Present batch) = ap (λ (n : ℕ). counts_with (length records) (length (deliveries plan.stream None records)) (count_by is_present list + 1) n) (none (count_by is_flag list))
+    by (Flag frame seq reason) = ap (λ (n : ℕ). counts_with (length records) (length (deliveries plan.stream None records)) n (count_by is_flag list + 1)) (none (count_by is_present list))
+
+-- ---- what is shown
+
+pub out_open : (l : ListenState) (records : List Record) → is_closed l ≡ false → out l records ≡ due_of l.plan records
+out_open l records e = rw e refl
+
+pub out_ended : (l : ListenState) (records : List Record) → is_closed l ≡ true → out l records ≡ shown_of l.plan records
+out_ended l records e = rw e refl
+
+-- two listeners of one plan, both closed or neither, show the same
+pub out_same : (old new : ListenState) (records : List Record) → new.plan ≡ old.plan → is_closed new ≡ is_closed old → out new records ≡ out old records
+out_same old new records plan closed =
+    ap (λ (p : ListenPlan). if is_closed new then shown_of p records else due_of p records) plan
+    ∙ ap (λ (b : Bool). if b then shown_of old.plan records else due_of old.plan records) closed
+
+-- what its judge shows is what it shows
+pub out_judged : (l : ListenState) (records : List Record) → l.judge.plan ≡ schedule_plan l.plan → judge_out clock_spot l.judge (entries_in l.plan records) ≡ out l records
+out_judged l records plan = ap (λ (p : SchedulePlan). if is_closed l then shown clock_spot p (entries_in l.plan records) else due clock_spot p (entries_in l.plan records)) plan
+
+-- ---- a record
+
+-- what a record adds: nothing or one entry, and a packet of the stream or none
+further : (records : List Record) (r : Record) (given : ℕ) (old new : ListenState) (more : List Entry) (b : Bool) → StandsFor records given old
+    → new.plan ≡ old.plan → is_closed old ≡ false → is_closed new ≡ false → new.judge.plan ≡ old.judge.plan
+    → entries_in old.plan (records ++ r ∷ []) ≡ entries_in old.plan records ++ more → JudgeStandsFor clock_spot (entries_in old.plan records ++ more) given new.judge
+    → is_delivered old.plan.stream None r.bytes ≡ b → new.counts ≡ with_record old.counts b
+    → StandsFor (records ++ r ∷ []) given new
+further records r given old new more b st plan opened still schedule es judge is counts =
+    let all = records ++ r ∷ [] in
+    let before = out_open old records opened in
+    let after : out new all ≡ due_of old.plan all = out_open new all still ∙ ap (λ (p : ListenPlan). due_of p all) plan in
+    let grows : IsPrefix (due_of old.plan records) (due_of old.plan all) =
+    subst (λ (l : List Entry). IsPrefix (due_of old.plan records) (due clock_spot (schedule_plan old.plan) l)) (sym es) (due-grows clock_spot (schedule_plan old.plan) (entries_in old.plan records) more) in
+    let first : IsPrefix (out old records) (out new all) = subst (λ (l : List Shown). IsPrefix l (out new all)) (sym before) (subst (IsPrefix (due_of old.plan records)) (sym after) grows) in
+    let same = take_first given (out old records) (out new all) first st.within in
+    record {
+      plan = schedule ∙ (st.plan ∙ ap schedule_plan (sym plan));
+      judge = subst (λ (p : ListenPlan). JudgeStandsFor clock_spot (entries_in p all) given new.judge) (sym plan) (subst (λ (l : List Entry). JudgeStandsFor clock_spot l given new.judge) (sym es) judge);
+      within = omega (arith, st.within, first_long (out old records) (out new all) first);
+      counts = counts ∙ (ap (λ (c : Counts). with_record c b) st.counts
+          ∙ (counted_on old.plan records r (take given (out old records)) b is
+          ∙ (ap (λ (p : ListenPlan). counts_of p all (take given (out old records))) (sym plan)
+          ∙ ap (counts_of new.plan all) (sym same))));
+    }
+
+-- a record that belongs neither to the stream nor to its clock
+pub stands_without : (records : List Record) (r : Record) (given : ℕ) (old new : ListenState) → StandsFor records given old
+    → is_closed old ≡ false → is_delivered old.plan.stream old.plan.clock r.bytes ≡ false
+    → new.plan ≡ old.plan → new.judge ≡ old.judge → new.counts ≡ with_record old.counts false
+    → StandsFor (records ++ r ∷ []) given new
+stands_without records r given old new st opened out_of_it plan judge counts =
+    let none = none_more old.plan.stream old.plan.clock records r out_of_it in
+    let es : entries_in old.plan records ≡ entries_in old.plan records ++ [] = sym (append-nil (entries_in old.plan records)) in
+    further records r given old new [] false st plan opened (ap (λ (j : JudgeState). j.closed) judge ∙ opened) (ap (λ (j : JudgeState). j.plan) judge)
+    (ap entries none ∙ es)
+    (subst (λ (l : List Entry). JudgeStandsFor clock_spot l given new.judge) es (subst (JudgeStandsFor clock_spot (entries_in old.plan records) given) (sym judge) st.judge))
+    (of_none old.plan.stream old.plan.clock r.bytes out_of_it) counts
+
+-- a record that belongs to one of them
+pub stands_with : (records : List Record) (r : Record) (given : ℕ) (old new : ListenState) → StandsFor records given old
+    → is_closed old ≡ false → is_delivered old.plan.stream old.plan.clock r.bytes ≡ true
+    → new.plan ≡ old.plan → is_closed new ≡ false → new.judge.plan ≡ old.judge.plan
+    → JudgeStandsFor clock_spot (entries_in old.plan records ++ entry_of (delivery (old.counts.frames + 1) r) ∷ []) given new.judge
+    → new.counts ≡ with_record old.counts (not ((peeked_of (packet_in r.bytes)).subtype == crf_subtype))
+    → StandsFor (records ++ r ∷ []) given new
+stands_with records r given old new st opened in_it plan still schedule judge counts =
+    let number : old.counts.frames + 1 ≡ 1 + length records = let frames = ap (λ (c : Counts). c.frames) st.counts in omega (arith, frames) in
+    let one = one_more old.plan.stream old.plan.clock records r in_it in
+    further records r given old new (entry_of (delivery (1 + length records) r) ∷ []) _ st plan opened still schedule
+    (ap entries one ∙ entries_further (deliveries old.plan.stream old.plan.clock records) (delivery (1 + length records) r ∷ []))
+    (subst (λ (n : ℕ). JudgeStandsFor clock_spot (entries_in old.plan records ++ entry_of (delivery n r) ∷ []) given new.judge) number judge)
+    (of_stream old.plan.stream old.plan.clock r.bytes in_it) counts
+
+-- ---- an item is shown
+
+pub stands_shown : (records : List Record) (given : ℕ) (old new : ListenState) (x : Shown) → StandsFor records given old → Some x ≡ slice_get (out old records) given
+    → new.plan ≡ old.plan → is_closed new ≡ is_closed old → new.judge.plan ≡ old.judge.plan → JudgeStandsFor clock_spot (entries_in old.plan records) (given + 1) new.judge
+    → new.counts ≡ with_shown old.counts x → StandsFor records (given + 1) new
+stands_shown records given old new x st is plan closed schedule judge counts =
+    let same = out_same old new records plan closed in
+    let within = slice_get_within (out old records) given x (sym is) in
+    record {
+      plan = schedule ∙ (st.plan ∙ ap schedule_plan (sym plan));
+      judge = subst (λ (p : ListenPlan). JudgeStandsFor clock_spot (entries_in p records) (given + 1) new.judge) (sym plan) judge;
+      within = omega (arith, within, ap length same);
+      counts = counts ∙ (ap (λ (c : Counts). with_shown c x) st.counts
+          ∙ (counted_shown old.plan records (take given (out old records)) x
+          ∙ (ap (counts_of old.plan records) (sym (take_next (out old records) given x (sym is)))
+          ∙ (ap (λ (l : List Shown). counts_of old.plan records (take (given + 1) l)) (sym same)
+          ∙ ap (λ (p : ListenPlan). counts_of p records (take (given + 1) (out new records))) (sym plan)))));
+    }
+
+-- nothing is left to show
+pub stands_still : (records : List Record) (given : ℕ) (old new : ListenState) → StandsFor records given old
+    → new.plan ≡ old.plan → is_closed new ≡ is_closed old → new.judge.plan ≡ old.judge.plan → JudgeStandsFor clock_spot (entries_in old.plan records) given new.judge
+    → new.counts ≡ old.counts → StandsFor records given new
+stands_still records given old new st plan closed schedule judge counts =
+    let same = out_same old new records plan closed in
+    record {
+      plan = schedule ∙ (st.plan ∙ ap schedule_plan (sym plan));
+      judge = subst (λ (p : ListenPlan). JudgeStandsFor clock_spot (entries_in p records) given new.judge) (sym plan) judge;
+      within = omega (arith, st.within, ap length same);
+      counts = counts ∙ (st.counts
+          ∙ (ap (λ (l : List Shown). counts_of old.plan records (take given l)) (sym same)
+          ∙ ap (λ (p : ListenPlan). counts_of p records (take given (out new records))) (sym plan)));
+    }
+
+-- ---- the end
+
+pub stands_closed : (records : List Record) (given : ℕ) (old new : ListenState) → StandsFor records given old
+    → is_closed old ≡ false → is_closed new ≡ true → new.plan ≡ old.plan → new.judge.plan ≡ old.judge.plan → JudgeStandsFor clock_spot (entries_in old.plan records) given new.judge
+    → new.counts ≡ old.counts → StandsFor records given new
+stands_closed records given old new st opened closed plan schedule judge counts =
+    let before = out_open old records opened in
+    let after : out new records ≡ shown_of old.plan records = out_ended new records closed ∙ ap (λ (p : ListenPlan). shown_of p records) plan in
+    let first : IsPrefix (out old records) (out new records) =
+    subst (λ (l : List Shown). IsPrefix l (out new records)) (sym before) (subst (IsPrefix (due_of old.plan records)) (sym after) (due-first clock_spot (schedule_plan old.plan) (entries_in old.plan records))) in
+    let same = take_first given (out old records) (out new records) first st.within in
+    record {
+      plan = schedule ∙ (st.plan ∙ ap schedule_plan (sym plan));
+      judge = subst (λ (p : ListenPlan). JudgeStandsFor clock_spot (entries_in p records) given new.judge) (sym plan) judge;
+      within = omega (arith, st.within, first_long (out old records) (out new records) first);
+      counts = counts ∙ (st.counts
+          ∙ (ap (λ (p : ListenPlan). counts_of p records (take given (out old records))) (sym plan)
+          ∙ ap (counts_of new.plan records) (sym same)));
+    }
+
+-- ---- numbers
+
+-- each entry that its judge took is a record
+pub taken_few : (records : List Record) (given : ℕ) (l : ListenState) → StandsFor records given l → taken l.judge ≤ l.counts.frames
+taken_few records given l st =
+    omega (arith, all-taken clock_spot (entries_in l.plan records) given l.judge st.judge, entries-few l.plan records, ap (λ (c : Counts). c.frames) st.counts)
+
+pub packets_few : (records : List Record) (given : ℕ) (l : ListenState) → StandsFor records given l → l.counts.packets ≤ l.counts.frames
+packets_few records given l st =
+    omega (arith, ap (λ (c : Counts). c.packets) st.counts, ap (λ (c : Counts). c.frames) st.counts, deliveries-few l.plan.stream None records)
+
+-- where one more item is shown, there are more records than were shown
+pub shown_few : (records : List Record) (given : ℕ) (l : ListenState) (x : Shown) → StandsFor records given l → Some x ≡ slice_get (out l records) given → l.counts.presented + l.counts.flagged < l.counts.frames
+shown_few records given l x st is =
+    let within = slice_get_within (out l records) given x (sym is) in
+    let long : length (take given (out l records)) ≡ given = rules_long given (out l records) st.within in
+    omega (
+      arith,
+      within,
+      long,
+      presented_or_flagged (take given (out l records)),
+      ap (λ (c : Counts). c.presented) st.counts,
+      ap (λ (c : Counts). c.flagged) st.counts,
+      ap (λ (c : Counts). c.frames) st.counts,
+      few (is_closed l) clock_spot (schedule_plan l.plan) l.plan records,
+    )
+  where
+    rules_long : (n : ℕ) (xs : List Shown) → n ≤ length xs → length (take n xs) ≡ n
+    rules_long zero xs le = refl
+    rules_long (suc n) [] le = absurd (omega arith)
+    rules_long (suc n) (x ∷ xs) le = ap suc (rules_long n xs (omega arith))
+
+-- ---- the beginning
+
+pub stands_begun : (plan : ListenPlan) (judge : JudgeState) (counts : Counts) → judge.plan ≡ schedule_plan plan → JudgeStandsFor clock_spot [] 0 judge → counts ≡ counts_with 0 0 0 0
+    → StandsFor [] 0 (record { plan = plan; judge = judge; counts = counts })
+stands_begun plan judge counts schedule stands none = record {
+  plan = schedule;
+  judge = stands;
+  within = omega arith;
+  counts = none;
+}
+
+-- ---- what its judge gives
+
+pub given_out : (records : List Record) (given : ℕ) (l : ListenState) (x : Option Shown) → StandsFor records given l
+    → x ≡ slice_get (judge_out clock_spot l.judge (entries_in l.plan records)) given → x ≡ slice_get (out l records) given
+given_out records given l x st is = is ∙ ap (λ (o : List Shown). slice_get o given) (out_judged l records st.plan)

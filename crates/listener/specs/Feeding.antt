@@ -1,0 +1,90 @@
+-- A listener that is fed a capture's bytes, in pieces of any length.
+use Rattle.std.specs.Prelude.{◌≡◌, ◌≤◌, ◌+◌, ◌++◌, ℕ, Bool, false, true, List, length, slice_get, take, Option, None, Result, Ok, Err}
+use mathlib.Core.List.{IsPrefix}
+use Rattle.std.specs.Option.{option_to_list}
+use Rattle.pcap_frames.specs.Capture.{Record, whole_records}
+use Rattle.pcap_frames.specs.Reading.{HasRead, Reading, taken}
+use Rattle.sample_schedule.specs.Judge.{work as judge_work}
+use Rattle.sample_schedule.specs.declared.shown.Shown.{Shown}
+use Rattle.listener.specs.declared.listener.ListenFault.{ListenFault}
+use Rattle.listener.specs.declared.listener.ListenFault.TheVariants.{Refused, Memory}
+use Rattle.listener.specs.Listening.{IsIdle, ListenState, StandsFor as RecordsStandFor, is_closed, out as out_of}
+
+-- Its reader; the listener of the records that were read; what is due next; and whether no memory was found once.
+pub record Feeding : Type 0 where
+  pub reader : Reading
+  pub listener : ListenState
+  pub next : Option Shown
+  pub out_of_memory : Bool
+
+-- nothing is due
+abbrev pub IsQuiet : Feeding → Type 0
+IsQuiet fed = fed.next ≡ None
+
+-- nothing is due, and memory was always found: the listener takes more bytes
+pub record IsReady (fed : Feeding) : Type 0 where
+  pub quiet : IsQuiet fed
+  pub memory : fed.out_of_memory ≡ false
+
+-- the capture has ended
+abbrev pub is_ended : Feeding → Bool
+is_ended fed = is_closed fed.listener
+
+-- what is shown of a capture's bytes: what is due while more may follow, and all once it has ended
+abbrev pub out : Feeding → List ℕ → List Shown
+out fed bytes = out_of fed.listener (whole_records bytes)
+
+-- The listener stands for these bytes, and has given so many items of what it shows of them. After `Memory` they are those that
+-- were fed before: they do not have the record for which no memory was found.
+pub record StandsFor (bytes : List ℕ) (given : ℕ) (fed : Feeding) : Type 0 where
+  pub read : fed.out_of_memory ≡ false → HasRead fed.reader bytes (whole_records bytes)
+  pub stands : RecordsStandFor (whole_records bytes) (given + length (option_to_list fed.next)) fed.listener
+  pub next : fed.next ≡ slice_get (out fed bytes) given
+
+-- A list has all that was given of these bytes.
+pub record HasGiven (bytes : List ℕ) (list : List Shown) (fed : Feeding) : Type 0 where
+  pub stands : StandsFor bytes (length list) fed
+  pub first : IsPrefix list (out fed bytes)
+
+-- ---- what a piece adds
+
+-- the bytes for which a listener stands that was fed a piece of them and answers this
+abbrev pub bytes_after : List ℕ → List ℕ → Result ℕ ListenFault → List ℕ
+bytes_after bytes piece (Ok n) = bytes ++ take n piece
+bytes_after bytes piece (Err (Refused refusal)) = bytes ++ piece
+bytes_after bytes piece (Err Memory) = bytes
+
+abbrev pub is_memory : Result ℕ ListenFault → Bool
+is_memory (Ok n) = false
+is_memory (Err (Refused refusal)) = false
+is_memory (Err Memory) = true
+
+-- ---- between two calls
+
+-- The reader has taken these bytes, each record that it gave up was given to the listener, and so many items were shown.
+pub record HasHeard (bytes : List ℕ) (given : ℕ) (reader : Reading) (listener : ListenState) : Type 0 where
+  pub records : List Record
+  pub read : HasRead reader bytes records
+  pub stands : RecordsStandFor records given listener
+
+-- what is left to be judged and to be given
+abbrev pub work : Feeding → ℕ
+work fed = judge_work fed.listener.judge + length (option_to_list fed.next)
+
+-- What no call changes but the one that is for it: what was read, the plan, and whether the capture has ended and no memory was
+-- found once.
+pub record Keeps (old new : Feeding) : Type 0 where
+  pub reader : new.reader ≡ old.reader
+  pub plan : new.listener.plan ≡ old.listener.plan
+  pub ended : is_ended new ≡ is_ended old
+  pub memory : new.out_of_memory ≡ old.out_of_memory
+
+-- What holds of every listener: it stands for some bytes, of which each record has at least one; where nothing is due, all was
+-- given; and nothing is due once no memory was found.
+pub record IsSound (fed : Feeding) : Type 0 where
+  pub bytes : List ℕ
+  pub given : ℕ
+  pub stands : StandsFor bytes given fed
+  pub counted : fed.reader.refusal ≡ None → fed.listener.counts.frames ≤ taken fed.reader
+  pub idle : IsQuiet fed → IsIdle fed.listener
+  pub spent : fed.out_of_memory ≡ true → IsQuiet fed

@@ -1,0 +1,197 @@
+//! What a listener shows of a capture that comes in pieces.
+
+ghost use Rattle.std.specs.Prelude.{◌≡◌, ◌⊎◌, ◌↔◌, ◌+◌, ◌^◌, ◌<◌, ◌≤◌, ◌++◌, [], ℕ, true, false, List, length, slice_get, take, None, Some, Err, IfNone, IfOk, IsSome, OnErr, OnOk, option_map};
+ghost use Rattle.std.specs.Option.{option_to_list};
+ghost use Rattle.std.specs.Result.{result_err};
+ghost use Rattle.avtp_base.specs.declared.refusal.Refusal.{Refusal as RefusalValue};
+ghost use Rattle.pcap_frames.specs.Capture.{first_refusal, whole_records};
+ghost use Rattle.pcap_frames.specs.Layout.{certain};
+ghost use Rattle.pcap_frames.specs.Reading.{held as held_by, taken};
+ghost use Rattle.sample_schedule.specs.Limits.{IsPlan};
+ghost use Rattle.listener.specs.Feeding.{HasHeard, IsQuiet, IsReady, Keeps, StandsFor, bytes_after, is_ended, is_memory, out, work};
+ghost use Rattle.listener.specs.Heard.{counts_of, schedule_plan};
+ghost use Rattle.listener.specs.Listening.{IsIdle, is_closed};
+ghost use Rattle.listener.specs.declared.listener.ListenFault.TheVariants.{Refused as IsRefused, Memory as OutOfMemory};
+
+use crate::heard::Counts;
+use crate::plan::ListenPlan;
+use crate::record_listener::RecordListener;
+use avtp_base::{NoMemory, Refusal};
+use pcap_frames::Reader;
+use sample_schedule::Shown;
+use std::alloc::Global;
+use std::marker::Model;
+use thiserror::Error;
+
+/// Why a listener goes no further.
+#[derive(Clone, Copy, Debug, PartialEq, Eq, Error)]
+pub enum ListenFault {
+    /// The capture's first field that is not whole or that is refused. What was accepted before it is heard.
+    #[error("the capture is refused")]
+    Refused(Refusal),
+    /// No memory was found for the samples of a packet.
+    #[error("out of memory")]
+    Memory,
+}
+
+/// A listener that takes a capture's bytes in pieces of any length, and shows of its records what a `RecordListener` does.
+///
+/// After each call all that is due is taken by `next_out` before more is fed. Memory is reserved when the listener is made;
+/// later each packet's samples are copied once, into the batch that is shown.
+#[derive(Drop)]
+pub struct Listener {
+    reader: Reader,
+    listener: RecordListener,
+    /// What is due next.
+    next: Option<Shown>,
+    out_of_memory: bool,
+}
+
+impl Model for Listener {
+    ghost use Rattle.listener.specs.Feeding.{Feeding, IsSound};
+
+    ghost Value = { Feeding };
+
+    ghost view = { λ fed. record { reader = fed.reader; listener = fed.listener; next = fed.next; out_of_memory = fed.out_of_memory } };
+
+    ghost invariant = { λ fed. IsSound (record { reader = fed.reader; listener = fed.listener; next = fed.next; out_of_memory = fed.out_of_memory }) };
+}
+
+impl Listener {
+    /// A listener that was fed nothing. The plan is within the limits that `ListenPlan` names.
+    pub fn begin(alloc: Global, plan: ListenPlan) -> Result<Self, NoMemory>
+        requires plan { IsPlan (schedule_plan plan) }
+        ensures stands { IfOk result (StandsFor [] 0) }
+        ensures plan { IfOk result (λ fed. fed.listener.plan ≡ plan) }
+        ensures open { IfOk result (λ fed. is_ended fed ≡ false) }
+        ensures ready { IfOk result IsReady }
+        ensures none { IfOk result (λ fed. taken fed.reader ≡ 0) }
+    {
+        let reader = Reader::new(alloc)?;
+        let listener = RecordListener::begin(alloc, plan)?;
+        Ok(Listener {
+            reader,
+            listener,
+            next: None,
+            out_of_memory: false,
+        })
+    }
+
+    /// Takes bytes up to the end of one record or of the piece, and answers how many. At most 2^62 bytes may be taken, and the
+    /// listener was not ended.
+    ///
+    /// Where no fault is answered, `Ok(0)` comes exactly where the piece is empty or something is due. `Refused` is the
+    /// capture's first refusal and comes as soon as the bytes so far show it; what was accepted stays, and may be ended.
+    /// `Memory` comes where no memory is found for the samples of the record that was read; the record makes no item then, and
+    /// every later `feed` and `end` answers `Memory`.
+    pub fn feed(&mut self, alloc: Global, piece: &[u8]) -> Result<usize, ListenFault>
+        requires open { is_ended self.old ≡ false }
+        requires bounded { taken self.old.reader + length piece.now ≤ 2 ^ 62 }
+        ensures within { IfOk result (λ n. n ≤ length piece.now) }
+        ensures nothing { IfOk result (λ n. (n ≡ 0) ↔ ((length piece.now ≡ 0) ⊎ IsSome self.old.next)) }
+        ensures stands { (bytes : List ℕ) (given : ℕ) → StandsFor bytes given self.old → StandsFor (bytes_after bytes piece.now result) given self.new }
+        ensures uncertain { IsQuiet self.old → IfOk result (λ n. (bytes : List ℕ) (given : ℕ) → StandsFor bytes given self.old → certain (first_refusal (bytes ++ take n piece.now)) ≡ None) }
+        ensures refused { (refusal : RefusalValue) → result ≡ Err (IsRefused refusal) → (bytes more : List ℕ) (given : ℕ) → StandsFor bytes given self.old → first_refusal ((bytes ++ piece.now) ++ more) ≡ Some refusal }
+        ensures memory { self.new.out_of_memory ≡ is_memory result }
+        ensures lasting { self.old.out_of_memory ≡ true → result ≡ Err OutOfMemory }
+        ensures stopped { OnErr result (IsQuiet self.new) }
+        ensures plan { self.new.listener.plan ≡ self.old.listener.plan }
+        ensures open { is_ended self.new ≡ false }
+        ensures taken { IfOk result (λ n. taken self.new.reader ≡ taken self.old.reader + n) }
+        ensures bounded { taken self.new.reader ≤ taken self.old.reader + length piece.now }
+    {
+        if self.out_of_memory {
+            return Err(ListenFault::Memory);
+        }
+        if self.next.is_some() {
+            return Ok(0);
+        }
+        match self.reader.feed(piece) {
+            Ok(taken) => match take_held(alloc, &mut self.reader, &mut self.listener) {
+                Ok(()) => {
+                    self.next = self.listener.next_out();
+                    Ok(taken)
+                }
+                Err(NoMemory) => {
+                    self.out_of_memory = true;
+                    Err(ListenFault::Memory)
+                }
+            },
+            Err(refusal) => Err(ListenFault::Refused(refusal)),
+        }
+    }
+
+    /// The next item that is shown of the bytes so far: while more may follow, of what is due, and after `end` of all. None
+    /// comes exactly where all of that was given. Takes no memory.
+    pub fn next_out(&mut self) -> Option<Shown>
+        ensures given { (bytes : List ℕ) (given : ℕ) → StandsFor bytes given self.old → result ≡ slice_get (out self.old bytes) given }
+        ensures stands { (bytes : List ℕ) (given : ℕ) → StandsFor bytes given self.old → StandsFor bytes (given + length (option_to_list result)) self.new }
+        ensures quiet { IfNone result (IsQuiet self.new) }
+        ensures keeps { Keeps self.old self.new }
+        ensures less { work self.new + length (option_to_list result) ≤ work self.old }
+    {
+        let shown = self.next.take()?;
+        self.next = self.listener.next_out();
+        Some(shown)
+    }
+
+    /// Says that the capture ends with the bytes so far, and makes the rest due. Nothing is due before, and the listener was
+    /// not ended. Takes no memory.
+    ///
+    /// `Refused` is the capture's first field that is not whole or that is refused, if there is one; what is shown is of the
+    /// records before it. After `Memory` by `feed` it answers `Memory` and changes nothing.
+    pub fn end(&mut self) -> Result<(), ListenFault>
+        requires open { is_ended self.old ≡ false }
+        requires quiet { IsQuiet self.old }
+        ensures stands { (bytes : List ℕ) (given : ℕ) → StandsFor bytes given self.old → StandsFor bytes given self.new }
+        ensures refused { self.old.out_of_memory ≡ false → (bytes : List ℕ) (given : ℕ) → StandsFor bytes given self.old → result_err result ≡ option_map IsRefused (first_refusal bytes) }
+        ensures ended { self.old.out_of_memory ≡ false → is_ended self.new ≡ true }
+        ensures lasting { self.old.out_of_memory ≡ true → (result ≡ Err OutOfMemory) × (self.new ≡ self.old) }
+        ensures plan { self.new.listener.plan ≡ self.old.listener.plan }
+    {
+        if self.out_of_memory {
+            return Err(ListenFault::Memory);
+        }
+        self.listener.close();
+        self.next = self.listener.next_out();
+        match self.reader.finish() {
+            Ok(()) => Ok(()),
+            Err(refusal) => Err(ListenFault::Refused(refusal)),
+        }
+    }
+
+    /// The numbers of the records so far, of those that belong to the stream, and of the batches and flags that were given.
+    pub fn counts(&self) -> Counts
+        ensures { (bytes : List ℕ) (given : ℕ) → StandsFor bytes given self.now → result ≡ counts_of self.now.listener.plan (whole_records bytes) (take given (out self.now bytes)) }
+    {
+        let counts = self.listener.counts();
+        match &self.next {
+            Some(shown) => counts.without_shown(shown),
+            None => counts,
+        }
+    }
+}
+
+/// Gives the record that the reader holds to the listener, if there is one. Where no memory is found the reader still holds it.
+fn take_held(
+    alloc: Global,
+    reader: &mut Reader,
+    listener: &mut RecordListener,
+) -> Result<(), NoMemory>
+    requires open { is_closed listener.old ≡ false }
+    requires idle { IsIdle listener.old }
+    requires few { IsSome (held_by reader.old) → listener.old.counts.frames < 2 ^ 62 }
+    ensures heard { OnOk result ((bytes : List ℕ) (given : ℕ) → HasHeard bytes given reader.old listener.old → HasHeard bytes given reader.new listener.new) }
+    ensures free { OnOk result (held_by reader.new ≡ None) }
+    ensures read { (taken reader.new ≡ taken reader.old) × (reader.new.refusal ≡ reader.old.refusal) }
+    ensures frames { listener.new.counts.frames ≤ listener.old.counts.frames + length (option_to_list (held_by reader.old)) }
+    ensures plan { (listener.new.plan ≡ listener.old.plan) × (is_closed listener.new ≡ false) }
+    ensures same { OnErr result (listener.new ≡ listener.old) }
+{
+    let Some(held) = reader.held() else {
+        return Ok(());
+    };
+    listener.take_record(alloc, &held)?;
+    let _ = reader.release();
+    Ok(())
+}
