@@ -4,8 +4,9 @@ use Rattle.std.specs.Prelude.{◌^◌, neg_ℤ, unsigned_abs, codes, IsErrAnd, I
 use Rattle.std.proofs.lemmas.Int.{ints}
 use Rattle.iec61883_format.specs.Iec.{block_size, rate_of_fdf, syt_interval}
 use Rattle.talker.specs.declared.plan.TalkPlan.{TalkPlan}
-use Rattle.talker.specs.Plan.{FitsBlocks, FitsPacket, HasRate, IsTalked, Restarts, fdf_of, rate_code}
+use Rattle.talker.specs.Plan.{FitsBlocks, FitsPacket, HasRate, IsAudioKind, Restarts, fdf_of, rate_code}
 use Rattle.talker.proofs.LawLemmas.{named_blocks, named_fdf, named_rate}
+use Rattle.talker.proofs.TalkLemmas.{audio_plan}
 use Rattle.avtp_words.specs.declared.command.Command.{Command}
 use Rattle.avtp_words.specs.declared.command.Offence.{Offence}
 use Rattle.avtp_words.specs.declared.talk.Kind.{Kind}
@@ -43,9 +44,9 @@ fits_kind : (kind : Kind) (words : List (List ℕ)) (asked : Talking) → FitsKi
 fits_kind (words.Aaf format sparse) words asked fits = fits.size
 fits_kind words.Am824 words asked fits = stated_blocks (talk_plan asked) fits.0.rate.0 (syt_interval fits.0.rate.0) refl fits.0.rate.1 fits.0.rate.2 fits.0.quadlets fits.0.size
 
-is_talked : (kind : Kind) → IsTalked (talk_kind kind)
-is_talked (words.Aaf format sparse) = tt
-is_talked words.Am824 = tt
+is_audio : (kind : Kind) → IsAudioKind (talk_kind kind)
+is_audio (words.Aaf format sparse) = tt
+is_audio words.Am824 = tt
 
 -- a shift that words give
 small_shift : (z : ℤ) → unsigned_abs z ≤ 10 ^ 9 → (neg_ℤ (pos 1000000000) ≤ℤ z) × (z ≤ℤ pos 1000000000)
@@ -77,8 +78,8 @@ requested words (talk asked) (line, rules) =
     let start = given_within (value_in (codes "--start") line.settings) 0 (4 * 10 ^ 18) (10 ^ 9) line.start_at (omega arith) (omega arith) line.start in
     let lead = given_within (value_in (codes "--lead") line.settings) 1 (10 ^ 9) 2000000 asked.lead (omega arith) (omega arith) line.lead in
     let jump = given_within (value_in (codes "--jump") line.settings) 4 (10 ^ 9) 1000000 asked.jump (omega arith) (omega arith) line.jump in
-    record {
-      kind = is_talked asked.kind;
+    audio_plan (talk_plan asked) (record {
+      kind = is_audio asked.kind;
       rate = rate_of_kind asked.kind words asked rules.fits;
       some_channels = channels.0;
       channels = channels.1;
@@ -91,7 +92,7 @@ requested words (talk asked) (line, rules) =
       lead = lead.1;
       restart = restarts (value_in (codes "--restart") line.settings) asked.restart asked.jump line.restart jump;
       crf = tt;
-    }
+    })
 
 -- words that were read have no offence
 pub not_offence : (r : Result Command Offence) (command : Command) (position : ℕ) → IsErrAnd r (λ offence. offence.position ≡ position) → r ≡ Ok command → ⊥

@@ -18,7 +18,6 @@ use Rattle.capture_io.specs.declared.end.End.{End}
 use Rattle.capture_io.specs.declared.end.End.TheVariants as end
 use Rattle.capture_io.specs.Ends.{at_end, EndsAt, end_of}
 use Rattle.capture_io.proofs.Ending.{at_end_is}
-use Rattle.avtp_text.specs.Listen.{capture_line, list_lines}
 use Rattle.avtp_text.specs.Notices.{limit_line}
 use Rattle.avtp_words.specs.Grammar.{Listening, Request, show, check, listen, talk}
 use Rattle.avtp_tool.specs.declared.status.Status.{Status}

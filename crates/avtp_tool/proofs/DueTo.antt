@@ -1,13 +1,13 @@
 -- What is due is printed item by item.
 use Rattle.std.proofs.Common.{◌≡◌, ℕ, zero, suc, ◌+◌, ◌≤◌, List, [], ◌∷◌, ◌++◌, length, take, drop, Option, Some, None, Result, Ok, Err, refl, sym, ap, subst, ◌∙◌, append_assoc, append-nil, arith}
-use Rattle.std.specs.Prelude.{IsErr, MatchResult, slice_get}
+use Rattle.std.specs.Prelude.{IsErr, slice_get}
 use Rattle.std.proofs.lemmas.Grind.{flat_map-append}
 use Rattle.avtp_base.specs.declared.failed.Failed.{Failed}
 use Rattle.avtp_base.specs.Told.{Appends}
 use Rattle.avtp_base.proofs.Told.{Appends-nil, Appends-trans}
 use Rattle.pcap_frames.specs.Capture.{Record}
 use Rattle.sample_schedule.specs.declared.shown.Shown.{Shown}
-use Rattle.listener.specs.Listening.{Keeps, ListenState, StandsFor, is_closed, out}
+use Rattle.listener.specs.Listening.{Keeps, ListenState, StandsFor, out}
 use Rattle.avtp_text.specs.Listen.{list_lines, shown_lines}
 use Rattle.avtp_text.specs.Written.{AppendsPrefix, PrintsPart, written}
 use Rattle.avtp_text.proofs.Printing.{prefix_after, prefix_before}

@@ -1,6 +1,6 @@
 -- The records of a capture that were heard so far.
-use Rattle.std.proofs.Common.{◌≡◌, ℕ, ◌+◌, ◌≤◌, true, false, inl, inr, List, [], ◌∷◌, ◌++◌, length, take, drop, Option, Some, None, Result, Ok, Err, refl, sym, ap, subst, ◌∙◌, append_assoc, append-nil, arith, length-append}
-use Rattle.std.specs.Prelude.{◌≢◌, ◌⊎◌, flat_map, is_err, IsErr, OnOk}
+use Rattle.std.proofs.Common.{◌≡◌, ℕ, true, false, inl, inr, List, [], ◌∷◌, ◌++◌, length, take, drop, Option, Some, None, Result, Ok, Err, refl, sym, ap, subst, ◌∙◌, append_assoc, append-nil}
+use Rattle.std.specs.Prelude.{◌≢◌, ◌⊎◌, is_err, IsErr, OnOk}
 use mathlib.Core.List.{IsPrefix}
 use Rattle.std.proofs.lemmas.Grind.{flat_map-append}
 use Rattle.avtp_base.specs.declared.failed.Failed.{Failed}
@@ -21,7 +21,7 @@ use Rattle.avtp_text.specs.Written.{AppendsPrefix, written}
 use Rattle.avtp_text.proofs.Printing.{prefix_after, prefix_before}
 use Rattle.capture_io.specs.declared.end.End.{End}
 use Rattle.capture_io.specs.declared.end.End.TheVariants as end
-use Rattle.capture_io.specs.Ends.{CountsFault, EndsAt, end_of}
+use Rattle.capture_io.specs.Ends.{CountsFault, end_of}
 use Rattle.capture_io.specs.Source.{EndsAfter, HasGiven, Sourcing}
 use Rattle.capture_io.proofs.Giving.{given_first}
 use Rattle.avtp_tool.specs.declared.listen.Heard.{Heard}

@@ -3,7 +3,7 @@ use Rattle.std.proofs.Common.{◌≡◌, ℕ, zero, suc, ◌+◌, ◌<◌, true,
 use Rattle.std.specs.Prelude.{IsSomeAnd, slice_get}
 use Rattle.std.specs.List.{range_with_len}
 use Rattle.pcap_frames.specs.Capture.{Record}
-use Rattle.stream_journal.specs.Delivered.{IsAudioKind}
+use Rattle.stream_journal.specs.Delivered.{IsAudioKind as IsAudioStream}
 use Rattle.packet_journal.specs.Carried.{AllCarry, Carries, IsReadKind}
 use Rattle.packet_journal.specs.Deliveries.{belongs, deliveries, delivery, stream_kinds}
 use Rattle.packet_journal.specs.Packets.{PacketJournal}
@@ -13,27 +13,28 @@ use Rattle.talker.specs.declared.plan.TalkPlan.{TalkPlan}
 use Rattle.talker.specs.Audio.{Audio, audio_by}
 use Rattle.talker.specs.Frames.{SentFrame, frames, frames_at, record_of}
 use Rattle.talker.specs.Journal.{journal, stream_by}
+use Rattle.talker.specs.Plan.{IsAudioKind, IsAudioPlan}
 
 -- ---- the journal of a plan
 
-heard_by : (kind : TalkKind) (plan : TalkPlan) (input : List ℕ) → IsAudioKind (stream_by (audio_by kind plan) plan input).journal.times.kind
-heard_by (Aaf format false) plan input = tt
-heard_by (Aaf format true) plan input = tt
-heard_by Am824 plan input = tt
-heard_by (H264 last_stamp) plan input = tt
+heard_by : (kind : TalkKind) (plan : TalkPlan) (input : List ℕ) → IsAudioKind kind → IsAudioStream (stream_by (audio_by kind plan) plan input).journal.times.kind
+heard_by (Aaf format false) plan input kind = tt
+heard_by (Aaf format true) plan input kind = tt
+heard_by Am824 plan input kind = tt
+heard_by (H264 last_stamp) plan input kind = absurd kind
 
 -- its kind is one for which the headline is said
-pub kind_heard : (plan : TalkPlan) (input : List ℕ) → IsAudioKind (journal plan input).times.kind
-kind_heard plan input = heard_by plan.kind plan input
+pub kind_heard : (plan : TalkPlan) (input : List ℕ) → IsAudioPlan plan → IsAudioStream (journal plan input).times.kind
+kind_heard plan input p = heard_by plan.kind plan input p.kind
 
-read_by : (kind : TalkKind) (plan : TalkPlan) (input : List ℕ) → IsReadKind (stream_by (audio_by kind plan) plan input).journal.times.kind
-read_by (Aaf format false) plan input = refl
-read_by (Aaf format true) plan input = refl
-read_by Am824 plan input = refl
-read_by (H264 last_stamp) plan input = refl
+read_by : (kind : TalkKind) (plan : TalkPlan) (input : List ℕ) → IsAudioKind kind → IsReadKind (stream_by (audio_by kind plan) plan input).journal.times.kind
+read_by (Aaf format false) plan input kind = refl
+read_by (Aaf format true) plan input kind = refl
+read_by Am824 plan input kind = refl
+read_by (H264 last_stamp) plan input kind = absurd kind
 
-pub kind_read : (plan : TalkPlan) (input : List ℕ) → IsReadKind (journal plan input).times.kind
-kind_read plan input = read_by plan.kind plan input
+pub kind_read : (plan : TalkPlan) (input : List ℕ) → IsAudioPlan plan → IsReadKind (journal plan input).times.kind
+kind_read plan input p = read_by plan.kind plan input p.kind
 
 id_by : (audio : Option Audio) (plan : TalkPlan) (input : List ℕ) → plan.id ≡ (stream_by audio plan input).journal.stream
 id_by (Some audio) plan input = refl

@@ -7,17 +7,17 @@ use Rattle.listener.specs.Laws.{FollowsClock}
 use Rattle.talker.specs.declared.plan.TalkPlan.{TalkPlan}
 use Rattle.talker.specs.Frames.{capture_of, frames_at}
 use Rattle.talker.specs.Journal.{journal}
-use Rattle.talker.specs.Plan.{Expects, IsPlan}
+use Rattle.talker.specs.Plan.{Expects, IsAudioPlan}
 use Rattle.talker.specs.Talking.{most_input}
 
 -- what is read of a capture that has the plan's frames of these places, in this order
 abbrev pub captured : TalkPlan → List ℕ → List ℕ → List Record
 captured plan input places = whole_records (capture_of (frames_at plan input places))
 
--- The plan is talked of the input, and the listener listens to its stream, on its clock or without one. It expects packets so
--- long before their first instant that it can tell those apart that have no timestamp.
+-- The plan is one of audio and talked of the input, and the listener listens to its stream, on its clock or without one. It
+-- expects packets so long before their first instant that it can tell those apart that have no timestamp.
 pub record ListensTo (plan : TalkPlan) (input : List ℕ) (listen : ListenPlan) : Type 0 where
-  pub talked : IsPlan plan
+  pub talked : IsAudioPlan plan
   pub id : plan.id < 2 ^ 64
   pub limit : length input ≤ most_input
   pub lead : Expects plan listen.lead

@@ -23,7 +23,7 @@ use Rattle.talker.specs.declared.plan.TalkPlan.{TalkPlan}
 use Rattle.talker.specs.Audio.{am824, silent_quadlets}
 use Rattle.talker.specs.Journal.{audio_times}
 use Rattle.talker.specs.Packets.{am824_kind, dbc_of, iec_packet, stamp_of}
-use Rattle.talker.specs.Plan.{ExpectsBy, FitsBlocks, FitsPacket, IsNearLead, IsPlan, fdf_of, interval_of}
+use Rattle.talker.specs.Plan.{ExpectsBy, FitsBlocks, FitsPacket, IsNearLead, IsAudioPlan, fdf_of, interval_of}
 use Rattle.talker.specs.Talking.{IsAm824}
 use Rattle.talker.proofs.AudioLemmas.{IsFormatOf}
 use Rattle.talker.proofs.DueLemmas.{IsCountedBack, IsFound, IsKindOf}
@@ -32,7 +32,7 @@ use Rattle.talker.proofs.RateLemmas.{known_fdf}
 use Rattle.talker.proofs.RunLemmas.{whole}
 use Rattle.talker.proofs.SizeLemmas.{iec_size}
 
-pub blocks_fit : (plan : TalkPlan) → IsPlan plan → plan.kind ≡ Am824 → FitsBlocks plan
+pub blocks_fit : (plan : TalkPlan) → IsAudioPlan plan → plan.kind ≡ Am824 → FitsBlocks plan
 blocks_fit plan p kind = subst (λ (kind : TalkKind). FitsPacket kind plan) kind p.fits
 
 -- ---- silence
@@ -63,7 +63,7 @@ some_silent size k n e few =
     rw (whole, long) (take-append_seam (silent_quadlets k) (silent_quadlets (n - k)))
 
 -- as much of it as a packet holds
-pub packet_of_silence : (f : Am824Format) (plan : TalkPlan) → IsPlan plan → IsAm824 f plan → take (plan.count * block_size plan.channels) (silent_quadlets 369) ≡ (am824 plan).silence
+pub packet_of_silence : (f : Am824Format) (plan : TalkPlan) → IsAudioPlan plan → IsAm824 f plan → take (plan.count * block_size plan.channels) (silent_quadlets 369) ≡ (am824 plan).silence
 packet_of_silence f plan p is =
     let fit = blocks_fit plan p is.kind in
     let size : plan.count * block_size plan.channels ≡ 4 * (plan.count * plan.channels) = omega arith in
@@ -113,7 +113,7 @@ between x y n count interval (inr (inr e)) sum unstamped some from to = rw e (be
     between_32 : count ≤ (32 - n % 256 % 32) % 32 → 1 ≤ n % 256 % 32 → n % 256 % 32 ≤ y → y < n % 256 % 32 + count → (32 - x % 256 % 32) % 32 + n % 256 % 32 ≡ y
     between_32 unstamped some from to = omega arith
 
-back_by : (plan : TalkPlan) (n interval : ℕ) (far : Distance) (a b : Bool) → IsPlan plan → IsInterval interval → interval_of plan.rate ≡ interval
+back_by : (plan : TalkPlan) (n interval : ℕ) (far : Distance) (a b : Bool) → IsAudioPlan plan → IsInterval interval → interval_of plan.rate ≡ interval
     → (dbc_of plan n % interval == 0) ≡ a → nat_lt 7 (div_ceil (dbc_of plan n % interval) plan.count) ≡ b → plan.count ≤ (interval - dbc_of plan n % interval) % interval → far.packets ≤ n
     → (if a then None else if b then None else Some (record { packets = div_ceil (dbc_of plan n % interval) plan.count; samples = dbc_of plan n % interval })) ≡ Some far
     → IsCountedBack (am824_kind plan) plan.count n far
@@ -166,7 +166,7 @@ some_interval_of interval (inr (inl e)) = omega arith
 some_interval_of interval (inr (inr e)) = omega arith
 
 -- a packet without a timestamp is counted from one at most 7 before it, which has one
-blocks_found : (plan : TalkPlan) (n : ℕ) → IsPlan plan → IsInterval (interval_of plan.rate) → interval_of plan.rate ≤ 8 * plan.count
+blocks_found : (plan : TalkPlan) (n : ℕ) → IsAudioPlan plan → IsInterval (interval_of plan.rate) → interval_of plan.rate ≤ 8 * plan.count
     → plan.count ≤ (interval_of plan.rate - dbc_of plan n % interval_of plan.rate) % interval_of plan.rate → 7 ≤ n → IsFound (am824_kind plan) plan.count n
 blocks_found plan n p of eighth unstamped behind =
     let interval : ℕ = interval_of plan.rate in
@@ -197,7 +197,7 @@ first_block plan interval of = let none : 0 * plan.count ≡ 0 = omega arith in 
     none_left interval (inr (inl e)) = rw e refl
     none_left interval (inr (inr e)) = rw e refl
 
-pub am824_times : (f : Am824Format) (plan : TalkPlan) → IsPlan plan → IsAm824 f plan → IsKindOf plan (am824_kind plan)
+pub am824_times : (f : Am824Format) (plan : TalkPlan) → IsAudioPlan plan → IsAm824 f plan → IsKindOf plan (am824_kind plan)
 am824_times f plan p is =
     let interval : ℕ = interval_of plan.rate in
     let same = interval_is f plan is in
@@ -247,7 +247,7 @@ fdf_is f plan is = rw (is.code) refl
 all_data : (fdf size : ℕ) → fdf ≤ 6 → data_size fdf size ≡ size
 all_data fdf size few = let other : (fdf == 255) ≡ false = grind (arith, nat_tests) in rw other refl
 
-pub writable : (f : Am824Format) (plan : TalkPlan) (n : ℕ) (blocks : List ℕ) → IsPlan plan → IsAm824 f plan → length blocks ≡ plan.count * block_size plan.channels
+pub writable : (f : Am824Format) (plan : TalkPlan) (n : ℕ) (blocks : List ℕ) → IsAudioPlan plan → IsAm824 f plan → length blocks ≡ plan.count * block_size plan.channels
     → IsWritableIec (iec_packet plan n blocks)
 writable f plan n blocks p is size =
     let fdf = fdf_is f plan is in
@@ -267,7 +267,7 @@ writable f plan n blocks p is size =
       count = sym (all_data (unwrap_or (fdf_of plan.rate) 0) (length blocks) few ∙ size);
     }
 
-fits : (f : Am824Format) (plan : TalkPlan) (n : ℕ) (blocks : List ℕ) → IsPlan plan → IsAm824 f plan → plan.id < 2 ^ 64 → length blocks ≡ plan.count * block_size plan.channels
+fits : (f : Am824Format) (plan : TalkPlan) (n : ℕ) (blocks : List ℕ) → IsAudioPlan plan → IsAm824 f plan → plan.id < 2 ^ 64 → length blocks ≡ plan.count * block_size plan.channels
     → Fits iec_layout (iec_packet plan n blocks)
 fits f plan n blocks p is id size =
     let fit = blocks_fit plan p is.kind in
@@ -277,13 +277,13 @@ fits f plan n blocks p is id size =
     (header_fits 0 (stamp_of (am824_kind plan) plan n) plan n (8 + plan.count * block_size plan.channels) (omega arith) id (omega (arith, fit.size)))
     (cip_fits (iec_packet plan n blocks).cip (omega arith) fit.quadlets (omega arith) (omega (arith, fdf, rate.few)) (omega arith))
 
-pub blocks_again : (f : Am824Format) (plan : TalkPlan) (n : ℕ) (blocks : List ℕ) → IsPlan plan → IsAm824 f plan → plan.id < 2 ^ 64 → length blocks ≡ plan.count * block_size plan.channels
+pub blocks_again : (f : Am824Format) (plan : TalkPlan) (n : ℕ) (blocks : List ℕ) → IsAudioPlan plan → IsAm824 f plan → plan.id < 2 ^ 64 → length blocks ≡ plan.count * block_size plan.channels
     → SpellsIec (iec_spelling (iec_packet plan n blocks)) (iec_packet plan n blocks)
 blocks_again f plan n blocks p is id size =
     let v = iec_packet plan n blocks in
     rw append-nil at (iec_again v [] (writable f plan n blocks p is size) (fits f plan n blocks p is id size))
 
-packet_is : (f : Am824Format) (plan : TalkPlan) (packets n : ℕ) (blocks : List ℕ) → IsPlan plan → IsAm824 f plan → plan.id < 2 ^ 64 → length blocks ≡ plan.count * block_size plan.channels
+packet_is : (f : Am824Format) (plan : TalkPlan) (packets n : ℕ) (blocks : List ℕ) → IsAudioPlan plan → IsAm824 f plan → plan.id < 2 ^ 64 → length blocks ≡ plan.count * block_size plan.channels
     → IsIecPacket (audio_times (am824_kind plan) plan packets) (interval_of plan.rate) (dbc_of plan n) plan.id n (iec_packet plan n blocks)
 packet_is f plan packets n blocks p is id size =
     let fdf = fdf_is f plan is in
@@ -299,7 +299,7 @@ packet_is f plan packets n blocks p is id size =
 
 -- ---- all of it
 
-pub am824_format : (f : Am824Format) (plan : TalkPlan) → IsPlan plan → IsAm824 f plan → IsFormatOf plan (am824 plan) 50
+pub am824_format : (f : Am824Format) (plan : TalkPlan) → IsAudioPlan plan → IsAm824 f plan → IsFormatOf plan (am824 plan) 50
 am824_format f plan p is =
     let fit = blocks_fit plan p is.kind in
     let channels = p.some_channels in

@@ -15,7 +15,7 @@ use Rattle.talker.specs.Frames.{packet_bytes}
 use Rattle.talker.specs.Journal.{Stream, audio_journal, audio_times, due_in, nominal_times, packets_of, samples_in, stream_by}
 use Rattle.talker.specs.Clock.{stamped_instant}
 use Rattle.talker.specs.Packets.{stamp_of}
-use Rattle.talker.specs.Plan.{Expects, IsAhead, IsNearLead, IsPlan}
+use Rattle.talker.specs.Plan.{Expects, IsAhead, IsNearLead, IsAudioPlan}
 use Rattle.talker.specs.Talking.{most_input}
 use Rattle.talker.specs.Timing.{arrival_of, event_of, first_instant, mr_of, nominal_instant}
 use Rattle.talker.proofs.ClockLemmas.{early_by, most_early, most_late, stamped_near}
@@ -48,7 +48,7 @@ stream_in a plan input = stream_by (Some a) plan input
 -- ---- packet n of an input that is not too long
 
 -- its events can be counted
-pub timely : (plan : TalkPlan) (a : Audio) (headers : ℕ) (input : List ℕ) (n : ℕ) → IsPlan plan → IsFormatOf plan a headers → length input ≤ most_input → n < packets_of a plan input
+pub timely : (plan : TalkPlan) (a : Audio) (headers : ℕ) (input : List ℕ) (n : ℕ) → IsAudioPlan plan → IsFormatOf plan a headers → length input ≤ most_input → n < packets_of a plan input
     → n * plan.count ≤ 268435456
 timely plan a headers input n p is limit h =
     let begins : n * (plan.count * a.frame) < length input = begun_within a.frame plan.count n input is.some p.some_count h in
@@ -61,7 +61,7 @@ unfolding nominal_instant
 ahead plan n = omega arith
 
 -- a sample frame of it is soon after its first
-soon : (plan : TalkPlan) (n i : ℕ) → IsPlan plan → i < plan.count → (first_instant plan n ≤ nominal_instant plan n i) × (nominal_instant plan n i ≤ first_instant plan n + 184500001)
+soon : (plan : TalkPlan) (n i : ℕ) → IsAudioPlan plan → i < plan.count → (first_instant plan n ≤ nominal_instant plan n i) × (nominal_instant plan n i ≤ first_instant plan n + 184500001)
 unfolding nominal_instant
 soon plan n i p within =
     let least = rate_from plan p in
@@ -79,7 +79,7 @@ apart_by due next x y rate time from to far =
     let most : y * rate ≤ (next + 3) * rate = mul-le-mul_right rate to in
     omega arith
 
-spaced : (kind : Kind) (plan : TalkPlan) (packets n : ℕ) → IsPlan plan → IsKindOf plan kind
+spaced : (kind : Kind) (plan : TalkPlan) (packets n : ℕ) → IsAudioPlan plan → IsKindOf plan kind
     → IsApart (audio_times kind plan packets) 3 (due_in (nominal_times kind plan packets) n) (due_in (nominal_times kind plan packets) (suc n))
 spaced kind plan packets n p k =
     let here = due_near kind plan packets n p k in
@@ -91,7 +91,7 @@ pub some_by : (b : Bool) (instant : ℕ) → is_some (if b then Some instant els
 some_by true instant = refl
 some_by false instant = refl
 
-audio : (kind : Kind) (plan : TalkPlan) (packets : ℕ) → IsPlan plan → IsKindOf plan kind → IsAudio (audio_times kind plan packets)
+audio : (kind : Kind) (plan : TalkPlan) (packets : ℕ) → IsAudioPlan plan → IsKindOf plan kind → IsAudio (audio_times kind plan packets)
 audio kind plan packets p k =
     let range = rate_range plan p in
     record {
@@ -104,7 +104,7 @@ audio kind plan packets p k =
       first_instants = λ n head h e. head_due kind plan packets n head p k e;
     }
 
-holds : (plan : TalkPlan) (packets : ℕ) → IsPlan plan → HoldsEight packets (λ n. mr_of plan n)
+holds : (plan : TalkPlan) (packets : ℕ) → IsAudioPlan plan → HoldsEight packets (λ n. mr_of plan n)
 holds plan packets p n k other few known =
     let new = new_bit plan.restart plan.jump n p.restart other in
     ap (λ (g : ℕ). g % 2 == 1) (new.kept k few ∙ sym new.run)
@@ -124,14 +124,14 @@ stamped kind plan n instant k h =
     let is = stamp_by kind plan n instant (is_stamped (rule_of kind n) n plan.count) refl h in
     record { within = k.within n is.0; same = is.1 }
 
-due_within : (plan : TalkPlan) (a : Audio) (headers packets : ℕ) (input : List ℕ) (n : ℕ) → IsPlan plan → IsFormatOf plan a headers → length input ≤ most_input → n < packets_of a plan input
+due_within : (plan : TalkPlan) (a : Audio) (headers packets : ℕ) (input : List ℕ) (n : ℕ) → IsAudioPlan plan → IsFormatOf plan a headers → length input ≤ most_input → n < packets_of a plan input
     → due_in (nominal_times a.kind plan packets) n ≤ 2 ^ 62
 due_within plan a headers packets input n p is limit h =
     let near = due_near a.kind plan packets n p is.kind in
     let most = in_time plan n 0 p (timely plan a headers input n p is limit h) p.some_count in
     omega (arith, near.from, p.lead, most_late plan.crf)
 
-stamp_within : (plan : TalkPlan) (a : Audio) (headers : ℕ) (input : List ℕ) (n instant : ℕ) → IsPlan plan → IsFormatOf plan a headers → length input ≤ most_input → n < packets_of a plan input
+stamp_within : (plan : TalkPlan) (a : Audio) (headers : ℕ) (input : List ℕ) (n instant : ℕ) → IsAudioPlan plan → IsFormatOf plan a headers → length input ≤ most_input → n < packets_of a plan input
     → stamp_of a.kind plan n ≡ Some instant → instant ≤ 2 ^ 62
 stamp_within plan a headers input n instant p is limit h e =
     let stamp = stamped a.kind plan n instant is.kind e in
@@ -139,7 +139,7 @@ stamp_within plan a headers input n instant p is limit h e =
     let near = stamped_near plan n (stamped_index (rule_of a.kind n)) p in
     omega (arith, stamp.same, p.lead, near.late, most_late plan.crf)
 
-times_conform : (plan : TalkPlan) (a : Audio) (headers : ℕ) (input : List ℕ) → IsPlan plan → IsFormatOf plan a headers → length input ≤ most_input
+times_conform : (plan : TalkPlan) (a : Audio) (headers : ℕ) (input : List ℕ) → IsAudioPlan plan → IsFormatOf plan a headers → length input ≤ most_input
     → Conforms (audio_times a.kind plan (packets_of a plan input))
 times_conform plan a headers input p is limit =
     let packets : ℕ = packets_of a plan input in
@@ -153,7 +153,7 @@ times_conform plan a headers input p is limit =
       clock = clock_is plan packets p (λ n h. timely plan a headers input n p is limit h);
     }
 
-audio_conforms : (plan : TalkPlan) (a : Audio) (headers : ℕ) (input : List ℕ) → IsPlan plan → IsFormatOf plan a headers → length input ≤ most_input → plan.id < 2 ^ 64
+audio_conforms : (plan : TalkPlan) (a : Audio) (headers : ℕ) (input : List ℕ) → IsAudioPlan plan → IsFormatOf plan a headers → length input ≤ most_input → plan.id < 2 ^ 64
     → IsConforming (pos 0) (audio_journal a plan input)
 audio_conforms plan a headers input p is limit id = record {
   times = times_conform plan a headers input p is limit;
@@ -172,7 +172,7 @@ near_by arrival lead plan_lead first due rate time at from to wide soon late =
     (omega arith, omega arith)
 
 -- a packet without a timestamp comes near its first instant
-near_due : (kind : Kind) (plan : TalkPlan) (packets lead n : ℕ) → IsPlan plan → IsKindOf plan kind → IsNearLead plan lead
+near_due : (kind : Kind) (plan : TalkPlan) (packets lead n : ℕ) → IsAudioPlan plan → IsKindOf plan kind → IsNearLead plan lead
     → IsWithin (audio_times kind plan packets) 128 (arrival_of plan n + lead) (due_in (nominal_times kind plan packets) n)
 near_due kind plan packets lead n p k near =
     let range = rate_range plan p in
@@ -185,7 +185,7 @@ unstamped : (kind : Kind) (plan : TalkPlan) (n : ℕ) (b : Bool) → is_stamped 
 unstamped kind plan n true e none = let some : stamp_of kind plan n ≡ Some (stamped_instant plan n (stamped_index (rule_of kind n))) = rw e refl in absurd cc
 unstamped kind plan n false e none = refl
 
-in_circle : (kind : Kind) (plan : TalkPlan) (n instant : ℕ) → IsPlan plan → IsKindOf plan kind → stamp_of kind plan n ≡ Some instant → IsInHalfCircle instant (arrival_of plan n)
+in_circle : (kind : Kind) (plan : TalkPlan) (n instant : ℕ) → IsAudioPlan plan → IsKindOf plan kind → stamp_of kind plan n ≡ Some instant → IsInHalfCircle instant (arrival_of plan n)
 in_circle kind plan n instant p k e =
     let stamp = stamped kind plan n instant k e in
     let near = soon plan n (stamped_index (rule_of kind n)) p stamp.within in
@@ -195,7 +195,7 @@ in_circle kind plan n instant p k e =
       to = omega (arith, stamp.same, ahead plan n, near.0, by.early, most_early plan.crf);
     }
 
-on_time : (plan : TalkPlan) (a : Audio) (headers : ℕ) (input : List ℕ) (lead n : ℕ) → IsPlan plan → IsFormatOf plan a headers → length input ≤ most_input → Expects plan lead
+on_time : (plan : TalkPlan) (a : Audio) (headers : ℕ) (input : List ℕ) (lead n : ℕ) → IsAudioPlan plan → IsFormatOf plan a headers → length input ≤ most_input → Expects plan lead
     → n < packets_of a plan input → IsDelivered (audio_times a.kind plan (packets_of a plan input)) lead (record { number = n; arrival = arrival_of plan n })
 on_time plan a headers input lead n p is limit expects h =
     let most = in_time plan n 0 p (timely plan a headers input n p is limit h) p.some_count in
@@ -217,7 +217,7 @@ early_lead : (crf : Option CrfPlan) (lead : ℕ) → 1 ≤ lead → IsAhead crf 
 early_lead None lead some ready = omega arith
 early_lead (Some crf) lead some ready = omega arith
 
-sent_early : (kind : Kind) (plan : TalkPlan) (packets n : ℕ) → IsPlan plan → IsKindOf plan kind → IsAhead plan.crf plan.lead
+sent_early : (kind : Kind) (plan : TalkPlan) (packets n : ℕ) → IsAudioPlan plan → IsKindOf plan kind → IsAhead plan.crf plan.lead
     → arrival_of plan n ≤ due_in (nominal_times kind plan packets) n
 sent_early kind plan packets n p k ready =
     let due = due_near kind plan packets n p k in
@@ -225,7 +225,7 @@ sent_early kind plan packets n p k ready =
 
 -- ---- all of it
 
-pub audio_stream : (plan : TalkPlan) (a : Audio) (headers : ℕ) (input : List ℕ) → IsPlan plan → IsFormatOf plan a headers → length input ≤ most_input → IsStream plan (stream_in a plan input)
+pub audio_stream : (plan : TalkPlan) (a : Audio) (headers : ℕ) (input : List ℕ) → IsAudioPlan plan → IsFormatOf plan a headers → length input ≤ most_input → IsStream plan (stream_in a plan input)
 audio_stream plan a headers input p is limit = record {
   rising = λ n. rising plan n p;
   early = λ n ready h. sent_early a.kind plan (packets_of a plan input) n p is.kind ready;
@@ -237,7 +237,7 @@ audio_stream plan a headers input p is limit = record {
   clock_sent = λ m h. clock_early plan (packets_of a plan input) m p (λ n k. timely plan a headers input n p is limit k) h;
   clock_size = λ m h. clock_fits plan (packets_of a plan input) m p h;
   conforms = λ id. audio_conforms plan a headers input p is limit id;
-  read = is.read;
+  read = λ kind. is.read;
   on_time = λ lead n expects h. on_time plan a headers input lead n p is limit expects h;
-  near = λ numbers. all_near a.kind plan (packets_of a plan input) numbers is.kind;
+  near = λ numbers near. all_near a.kind plan (packets_of a plan input) numbers is.kind;
 }

@@ -14,7 +14,7 @@ use Rattle.talker.specs.Beats.{IsBeat}
 use Rattle.talker.specs.declared.clock.ClockStream.{ClockStream}
 use Rattle.talker.specs.Clock.{AreFew, beat_of, clock_packets, first_point, frame_at, points_for, stamped_by}
 use Rattle.talker.specs.Talking.{IsClockStream}
-use Rattle.talker.specs.Plan.{HasClock, IsClockPlan, IsPlan, spacing_of}
+use Rattle.talker.specs.Plan.{HasClock, IsClockPlan, IsAudioPlan, spacing_of}
 use Rattle.talker.specs.Timing.{event_of, nominal_instant, nominal_offset, run_of, run_start}
 use Rattle.talker.proofs.BeatLemmas.{is_stamped, stamped_early}
 use Rattle.talker.proofs.RateLemmas.{rate_range}
@@ -52,10 +52,10 @@ whole_part a b some whole =
     ] in
     (same, one)
 
-pub clock_of : (plan : TalkPlan) (crf : CrfPlan) → IsPlan plan → plan.crf ≡ Some crf → IsClockPlan crf plan.rate plan.count plan.restart
+pub clock_of : (plan : TalkPlan) (crf : CrfPlan) → IsAudioPlan plan → plan.crf ≡ Some crf → IsClockPlan crf plan.rate plan.count plan.restart
 clock_of plan crf p e = subst (λ (c : Option CrfPlan). HasClock c plan.rate plan.count plan.restart) e p.crf
 
-pub is_beat : (plan : TalkPlan) (crf : CrfPlan) → IsPlan plan → plan.crf ≡ Some crf → IsBeat (beat_of crf plan)
+pub is_beat : (plan : TalkPlan) (crf : CrfPlan) → IsAudioPlan plan → plan.crf ≡ Some crf → IsBeat (beat_of crf plan)
 unfolding spacing_of
 is_beat plan crf p e =
     let of = clock_of plan crf p e in
@@ -103,7 +103,7 @@ close rate stamp start q e some under over late early = (
   ],
 )
 
-near_by : (crf : Option CrfPlan) (plan : TalkPlan) (n i : ℕ) → IsPlan plan → plan.crf ≡ crf → IsNear crf (stamped_by crf plan n i) (nominal_instant plan n i)
+near_by : (crf : Option CrfPlan) (plan : TalkPlan) (n i : ℕ) → IsAudioPlan plan → plan.crf ≡ crf → IsNear crf (stamped_by crf plan n i) (nominal_instant plan n i)
 unfolding nominal_instant
 near_by None plan n i p e = record { late = omega arith; early = omega arith }
 near_by (Some crf) plan n i p e =
@@ -114,10 +114,10 @@ near_by (Some crf) plan n i p e =
     let near = close plan.rate (stamped_by (Some crf) plan n i) start (nominal_offset plan.rate (event_of plan n i)) (event_of plan n i) (omega (arith, is.rate_from)) x.under x.over stamp.under stamp.over in
     record { late = near.0; early = near.1 }
 
-pub stamped_near : (plan : TalkPlan) (n i : ℕ) → IsPlan plan → IsNear plan.crf (stamped_by plan.crf plan n i) (nominal_instant plan n i)
+pub stamped_near : (plan : TalkPlan) (n i : ℕ) → IsAudioPlan plan → IsNear plan.crf (stamped_by plan.crf plan n i) (nominal_instant plan n i)
 stamped_near plan n i p = near_by plan.crf plan n i p refl
 
-at_first : (crf : Option CrfPlan) (plan : TalkPlan) (n i : ℕ) → IsPlan plan → plan.crf ≡ crf → event_of plan n i ≡ 0 → stamped_by crf plan n i ≡ nominal_instant plan n i
+at_first : (crf : Option CrfPlan) (plan : TalkPlan) (n i : ℕ) → IsAudioPlan plan → plan.crf ≡ crf → event_of plan n i ≡ 0 → stamped_by crf plan n i ≡ nominal_instant plan n i
 unfolding nominal_instant
 at_first None plan n i p e first = refl
 at_first (Some crf) plan n i p e first =
@@ -125,7 +125,7 @@ at_first (Some crf) plan n i p e first =
     stamped_early (beat_of crf plan) (run_start plan (run_of plan n)) (event_of plan n i) (omega (arith, is.some))
 
 -- event 0 of a run is stamped with its nominal instant
-pub stamped_first : (plan : TalkPlan) (n i : ℕ) → IsPlan plan → event_of plan n i ≡ 0 → stamped_by plan.crf plan n i ≡ nominal_instant plan n i
+pub stamped_first : (plan : TalkPlan) (n i : ℕ) → IsAudioPlan plan → event_of plan n i ≡ 0 → stamped_by plan.crf plan n i ≡ nominal_instant plan n i
 stamped_first plan n i p first = at_first plan.crf plan n i p refl first
 
 pub most_late : (crf : Option CrfPlan) → late_by crf ≤ 1
@@ -152,7 +152,7 @@ pub record IsPointAt (plan : TalkPlan) (packets frame : ℕ) : Type 0 where
   pub within : frame % plan.count < plan.count
   pub small : frame ≤ 268436932
 
-frame_within : (plan : TalkPlan) (packets frame : ℕ) → IsPlan plan → AreFew plan packets → frame < packets * plan.count → IsPointAt plan packets frame
+frame_within : (plan : TalkPlan) (packets frame : ℕ) → IsAudioPlan plan → AreFew plan packets → frame < packets * plan.count → IsPointAt plan packets frame
 frame_within plan packets frame p few h =
     let below : frame / plan.count < packets = elim (cases_lt (frame / plan.count) packets) [
       | inl below ↦ below
@@ -175,7 +175,7 @@ points_within points w frames s some e h =
     let same : points * w ≡ div_ceil frames w * w = ap (λ (n : ℕ). n * w) e in
     omega (arith, bound.1)
 
-pub point_at_frame : (plan : TalkPlan) (crf : CrfPlan) (packets s : ℕ) → IsPlan plan → plan.crf ≡ Some crf → AreFew plan packets → s < points_for crf plan packets
+pub point_at_frame : (plan : TalkPlan) (crf : CrfPlan) (packets s : ℕ) → IsAudioPlan plan → plan.crf ≡ Some crf → AreFew plan packets → s < points_for crf plan packets
     → IsPointAt plan packets (frame_at crf plan s)
 point_at_frame plan crf packets s p e few h =
     let is = is_beat plan crf p e in
@@ -185,7 +185,7 @@ pub point_within : (c : ClockStream) (s : ℕ) → IsClockStream c → s < point
 point_within c s is h = point_at_frame c.plan c.crf c.stream s is.plan is.clock is.few h
 
 -- each packet has a point
-pub first_in : (plan : TalkPlan) (crf : CrfPlan) (packets m : ℕ) → IsPlan plan → plan.crf ≡ Some crf → m < clock_packets crf plan packets
+pub first_in : (plan : TalkPlan) (crf : CrfPlan) (packets m : ℕ) → IsAudioPlan plan → plan.crf ≡ Some crf → m < clock_packets crf plan packets
     → first_point crf m < points_for crf plan packets
 first_in plan crf packets m p e h =
     let of = clock_of plan crf p e in

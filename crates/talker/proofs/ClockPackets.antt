@@ -17,7 +17,7 @@ use Rattle.talker.specs.Beats.{point_at}
 use Rattle.talker.specs.Clock.{AreFew, beat_of, clock_by, clock_mr, clock_packet, clock_packets, clock_point, clock_times, first_point, points_for, points_in, points_size}
 use Rattle.talker.specs.Journal.{clock_arrival_by, clock_id, clock_packet_by}
 use Rattle.talker.specs.Frames.{clock_bytes}
-use Rattle.talker.specs.Plan.{IsPlan, spacing_of}
+use Rattle.talker.specs.Plan.{IsAudioPlan, spacing_of}
 use Rattle.talker.specs.Timing.{nominal_offset, run_start}
 use Rattle.talker.proofs.BeatLemmas.{is_period}
 use Rattle.talker.proofs.ClockLemmas.{clock_of, first_in, is_beat}
@@ -28,7 +28,7 @@ use Rattle.talker.proofs.ClockRules.{point_small}
 
 -- ---- when its packets are sent, and how long they are
 
-point_step : (plan : TalkPlan) (crf : CrfPlan) (s : ℕ) → IsPlan plan → plan.crf ≡ Some crf → clock_point crf plan s ≤ clock_point crf plan (s + 1)
+point_step : (plan : TalkPlan) (crf : CrfPlan) (s : ℕ) → IsAudioPlan plan → plan.crf ≡ Some crf → clock_point crf plan s ≤ clock_point crf plan (s + 1)
 point_step plan crf s p e =
     let is = is_beat plan crf p e in
     let beat = beat_of crf plan in
@@ -49,23 +49,23 @@ point_step plan crf s p e =
           omega (arith, here, there, moved, none, of.next, new.next)
     ])
 
-rises_by : (crf : Option CrfPlan) (plan : TalkPlan) (m : ℕ) → IsPlan plan → plan.crf ≡ crf → clock_arrival_by crf plan m ≤ clock_arrival_by crf plan (m + 1)
+rises_by : (crf : Option CrfPlan) (plan : TalkPlan) (m : ℕ) → IsAudioPlan plan → plan.crf ≡ crf → clock_arrival_by crf plan m ≤ clock_arrival_by crf plan (m + 1)
 rises_by None plan m p e = omega arith
 rises_by (Some crf) plan m p e =
     let later : first_point crf m ≤ first_point crf (m + 1) = mul-le-mul_right crf.points (omega arith) in
     let more = rises (clock_point crf plan) (λ k. point_step plan crf k p e) (first_point crf m) (first_point crf (m + 1)) later in
     omega arith
 
-pub clock_rises : (plan : TalkPlan) (m : ℕ) → IsPlan plan → clock_arrival_by plan.crf plan m ≤ clock_arrival_by plan.crf plan (m + 1)
+pub clock_rises : (plan : TalkPlan) (m : ℕ) → IsAudioPlan plan → clock_arrival_by plan.crf plan m ≤ clock_arrival_by plan.crf plan (m + 1)
 clock_rises plan m p = rises_by plan.crf plan m p refl
 
-early_by : (crf : Option CrfPlan) (plan : TalkPlan) (packets m : ℕ) → IsPlan plan → plan.crf ≡ crf → AreFew plan packets → m < (clock_by crf plan packets).packets → clock_arrival_by crf plan m < 2 ^ 32 * 1000000000
+early_by : (crf : Option CrfPlan) (plan : TalkPlan) (packets m : ℕ) → IsAudioPlan plan → plan.crf ≡ crf → AreFew plan packets → m < (clock_by crf plan packets).packets → clock_arrival_by crf plan m < 2 ^ 32 * 1000000000
 early_by None plan packets m p e few h = omega arith
 early_by (Some crf) plan packets m p e few h =
     let small = point_small plan crf packets (first_point crf m) p e few (first_in plan crf packets m p e h) in
     omega arith
 
-pub clock_early : (plan : TalkPlan) (packets m : ℕ) → IsPlan plan → AreFew plan packets → m < (clock_by plan.crf plan packets).packets → clock_arrival_by plan.crf plan m < 2 ^ 32 * 1000000000
+pub clock_early : (plan : TalkPlan) (packets m : ℕ) → IsAudioPlan plan → AreFew plan packets → m < (clock_by plan.crf plan packets).packets → clock_arrival_by plan.crf plan m < 2 ^ 32 * 1000000000
 clock_early plan packets m p few h = early_by plan.crf plan packets m p refl few h
 
 -- ---- its packets
@@ -95,13 +95,13 @@ stamp_of_point xs i h small =
 size_fits : (crf : CrfPlan) (plan : TalkPlan) (packets m : ℕ) → length (clock_packet crf plan packets m).payload ≡ 8 * points_size crf plan packets m
 size_fits crf plan packets m = length-stamps (points_in crf plan packets m) ∙ ap (λ (n : ℕ). 8 * n) (size_is crf plan packets m)
 
-fits_by : (crf : Option CrfPlan) (plan : TalkPlan) (packets m : ℕ) → IsPlan plan → plan.crf ≡ crf → m < (clock_by crf plan packets).packets → length (clock_bytes (clock_packet_by crf plan packets m)) ≤ 1518
+fits_by : (crf : Option CrfPlan) (plan : TalkPlan) (packets m : ℕ) → IsAudioPlan plan → plan.crf ≡ crf → m < (clock_by crf plan packets).packets → length (clock_bytes (clock_packet_by crf plan packets m)) ≤ 1518
 fits_by None plan packets m p e h = absurd (omega arith)
 fits_by (Some crf) plan packets m p e h =
     let of = clock_of plan crf p e in
     omega (arith, crf_size (clock_packet crf plan packets m), size_fits crf plan packets m, of.most_points)
 
-pub clock_fits : (plan : TalkPlan) (packets m : ℕ) → IsPlan plan → m < (clock_by plan.crf plan packets).packets → length (clock_bytes (clock_packet_by plan.crf plan packets m)) ≤ 1518
+pub clock_fits : (plan : TalkPlan) (packets m : ℕ) → IsAudioPlan plan → m < (clock_by plan.crf plan packets).packets → length (clock_bytes (clock_packet_by plan.crf plan packets m)) ≤ 1518
 clock_fits plan packets m p h = fits_by plan.crf plan packets m p refl h
 
 crf_fits : (crf : CrfPlan) (plan : TalkPlan) (packets m : ℕ) → crf.id < 2 ^ 64 → crf.rate < 2 ^ 29 → crf.pull ≤ 5 → crf.interval < 2 ^ 16 → length (clock_packet crf plan packets m).payload < 2 ^ 16
@@ -132,7 +132,7 @@ crf_fits crf plan packets m id rate pull interval size = (
   ),
 )
 
-packet_by : (crf : CrfPlan) (plan : TalkPlan) (packets m : ℕ) → IsPlan plan → plan.crf ≡ Some crf → AreFew plan packets → m < clock_packets crf plan packets
+packet_by : (crf : CrfPlan) (plan : TalkPlan) (packets m : ℕ) → IsAudioPlan plan → plan.crf ≡ Some crf → AreFew plan packets → m < clock_packets crf plan packets
     → IsClockPacket (clock_times crf plan packets) (pos 0) crf.id m (clock_packet crf plan packets m)
 packet_by crf plan packets m p e few h =
     let of = clock_of plan crf p e in
@@ -171,11 +171,11 @@ packet_by crf plan packets m p e few h =
     some_size : (size points first : ℕ) → 1 ≤ size → first < points → 1 ≤ min size (points - first)
     some_size size points first some h = omega arith
 
-packet_is_by : (crf : Option CrfPlan) (plan : TalkPlan) (packets m : ℕ) → IsPlan plan → plan.crf ≡ crf → AreFew plan packets → m < (clock_by crf plan packets).packets
+packet_is_by : (crf : Option CrfPlan) (plan : TalkPlan) (packets m : ℕ) → IsAudioPlan plan → plan.crf ≡ crf → AreFew plan packets → m < (clock_by crf plan packets).packets
     → IsClockPacket (clock_by crf plan packets) (pos 0) (clock_id crf) m (clock_packet_by crf plan packets m)
 packet_is_by None plan packets m p e few h = absurd (omega arith)
 packet_is_by (Some crf) plan packets m p e few h = packet_by crf plan packets m p e few h
 
-pub clock_packet_is : (plan : TalkPlan) (packets m : ℕ) → IsPlan plan → AreFew plan packets → m < (clock_by plan.crf plan packets).packets
+pub clock_packet_is : (plan : TalkPlan) (packets m : ℕ) → IsAudioPlan plan → AreFew plan packets → m < (clock_by plan.crf plan packets).packets
     → IsClockPacket (clock_by plan.crf plan packets) (pos 0) (clock_id plan.crf) m (clock_packet_by plan.crf plan packets m)
 clock_packet_is plan packets m p few h = packet_is_by plan.crf plan packets m p refl few h

@@ -14,7 +14,7 @@ use Rattle.talker.specs.declared.plan.CrfPlan.{CrfPlan}
 use Rattle.talker.specs.declared.plan.TalkPlan.{TalkPlan}
 use Rattle.talker.specs.Beats.{IsNextStart, pair_from, point_at}
 use Rattle.talker.specs.Clock.{beat_of, clock_mr, clock_packets, clock_point, clock_times, first_point, frame_at, points_for, points_in, points_size, run_points}
-use Rattle.talker.specs.Plan.{HasWholeRuns, IsPlan, Restarts, spacing_of}
+use Rattle.talker.specs.Plan.{HasWholeRuns, IsAudioPlan, Restarts, spacing_of}
 use Rattle.talker.specs.Timing.{event_of, first_by, nominal_instant, nominal_offset, run_by, run_start}
 use Rattle.talker.proofs.BeatLemmas.{more_offset}
 use Rattle.talker.proofs.ClockLemmas.{clock_of, first_in, is_beat, points_within}
@@ -203,13 +203,13 @@ run_at plan crf s = run_by (per plan crf) s
 abbrev pub place_of : TalkPlan → CrfPlan → ℕ → ℕ
 place_of plan crf s = s - first_by (per plan crf) (run_at plan crf s)
 
-pub whole_runs : (plan : TalkPlan) (crf : CrfPlan) → IsPlan plan → plan.crf ≡ Some crf → AreWhole crf plan.rate plan.count plan.restart
+pub whole_runs : (plan : TalkPlan) (crf : CrfPlan) → IsAudioPlan plan → plan.crf ≡ Some crf → AreWhole crf plan.rate plan.count plan.restart
 whole_runs plan crf p e =
     let of = clock_of plan crf p e in
     let is = is_beat plan crf p e in
     all_whole plan.restart crf plan.rate plan.count plan.jump p.some_count is.some of.some_points p.restart of.runs
 
-pub point_value : (plan : TalkPlan) (crf : CrfPlan) (s : ℕ) → IsPlan plan → plan.crf ≡ Some crf
+pub point_value : (plan : TalkPlan) (crf : CrfPlan) (s : ℕ) → IsAudioPlan plan → plan.crf ≡ Some crf
     → clock_point crf plan s ≡ point_at (beat_of crf plan) (run_start plan (run_at plan crf s)) (place_of plan crf s)
 unfolding clock_point nominal_instant
 point_value plan crf s p e =
@@ -255,7 +255,7 @@ starts_by (Some k) rate count base jump packets g h some ok e before =
     rw (← same) (apart_by rate base jump (g * k * count) (k * count) (h * k * count) g h some ok.least_jump before (omega arith))
 
 -- a run g starts before a run h
-pub starts_apart : (plan : TalkPlan) (crf : CrfPlan) (packets g h : ℕ) → IsPlan plan → plan.crf ≡ Some crf → plan.restart ≡ Some packets → g < h
+pub starts_apart : (plan : TalkPlan) (crf : CrfPlan) (packets g h : ℕ) → IsAudioPlan plan → plan.crf ≡ Some crf → plan.restart ≡ Some packets → g < h
     → IsNextStart (beat_of crf plan) (run_start plan g) (packets * plan.count) (run_start plan h)
 starts_apart plan crf packets g h p e restart before =
     let is = is_beat plan crf p e in
@@ -266,7 +266,7 @@ pub record IsRunEnd (plan : TalkPlan) (crf : CrfPlan) (s : ℕ) : Type 0 where
   pub place : place_of plan crf (suc s) ≡ 0
   pub next : IsNextStart (beat_of crf plan) (run_start plan (run_at plan crf s)) (suc (place_of plan crf s) * spacing_of crf plan.rate) (run_start plan (suc (run_at plan crf s)))
 
-end_by : (r : Option ℕ) (plan : TalkPlan) (crf : CrfPlan) (s : ℕ) → IsPlan plan → plan.crf ≡ Some crf → plan.restart ≡ r → AreWhole crf plan.rate plan.count r
+end_by : (r : Option ℕ) (plan : TalkPlan) (crf : CrfPlan) (s : ℕ) → IsAudioPlan plan → plan.crf ≡ Some crf → plan.restart ≡ r → AreWhole crf plan.rate plan.count r
     → IsRenewed (points_per crf plan.rate plan.count r) s
     → IsNextStart (beat_of crf plan) (run_start plan (run_by (points_per crf plan.rate plan.count r) s))
     (suc (s - first_by (points_per crf plan.rate plan.count r) (run_by (points_per crf plan.rate plan.count r) s)) * spacing_of crf plan.rate)
@@ -281,7 +281,7 @@ end_by (Some packets) plan crf s p e restart is new =
     rw frames (starts_apart plan crf packets g (suc g) p e restart (omega arith))
 
 -- a point and the next one
-pub after_point : (plan : TalkPlan) (crf : CrfPlan) (s : ℕ) → IsPlan plan → plan.crf ≡ Some crf → IsBeside plan crf s ⊎ IsRunEnd plan crf s
+pub after_point : (plan : TalkPlan) (crf : CrfPlan) (s : ℕ) → IsAudioPlan plan → plan.crf ≡ Some crf → IsBeside plan crf s ⊎ IsRunEnd plan crf s
 after_point plan crf s p e =
     let whole = whole_runs plan crf p e in
     elim (next_of (per plan crf) s (points_eight plan.restart crf plan.rate plan.count whole)) [
@@ -321,13 +321,13 @@ known crf plan packets p is =
     let at : p.at < points_size crf plan packets p.packet = rw size_is at is.at in
     record { at = at; within = omega arith; below = omega arith; value = point_by crf plan packets p.packet p.at at }
 
-next_packet : (plan : TalkPlan) (crf : CrfPlan) (packets m : ℕ) → IsPlan plan → plan.crf ≡ Some crf → suc m < clock_packets crf plan packets → points_size crf plan packets m ≡ crf.points
+next_packet : (plan : TalkPlan) (crf : CrfPlan) (packets m : ℕ) → IsAudioPlan plan → plan.crf ≡ Some crf → suc m < clock_packets crf plan packets → points_size crf plan packets m ≡ crf.points
 next_packet plan crf packets m p e h =
     let next = first_in plan crf packets (suc m) p e h in
     let sum : suc m * crf.points ≡ m * crf.points + crf.points = omega arith in
     omega arith
 
-pub follows_is : (plan : TalkPlan) (crf : CrfPlan) (packets : ℕ) (a b : Place) → IsPlan plan → plan.crf ≡ Some crf → Follows (clock_times crf plan packets) a b
+pub follows_is : (plan : TalkPlan) (crf : CrfPlan) (packets : ℕ) (a b : Place) → IsAudioPlan plan → plan.crf ≡ Some crf → Follows (clock_times crf plan packets) a b
     → number crf b ≡ suc (number crf a)
 follows_is plan crf packets a b p e f = elim f.next [
   | inl same ↦
@@ -348,7 +348,7 @@ follows_is plan crf packets a b p e f = elim f.next [
 abbrev pub packet_run : TalkPlan → CrfPlan → ℕ → ℕ
 packet_run plan crf m = run_by (packets_per crf plan.rate plan.count plan.restart) m
 
-pub bit_is : (plan : TalkPlan) (crf : CrfPlan) (m : ℕ) → IsPlan plan → plan.crf ≡ Some crf → clock_mr crf plan m ≡ (packet_run plan crf m % 2 == 1)
+pub bit_is : (plan : TalkPlan) (crf : CrfPlan) (m : ℕ) → IsAudioPlan plan → plan.crf ≡ Some crf → clock_mr crf plan m ≡ (packet_run plan crf m % 2 == 1)
 bit_is plan crf m p e =
     let is = is_beat plan crf p e in
     let of = clock_of plan crf p e in
@@ -361,11 +361,11 @@ bit_is plan crf m p e =
 other_bit : (g : ℕ) → (g % 2 == 1) ≡ (suc g % 2 == 1) → ⊥
 other_bit g e = grind (arith, nat_tests)
 
-pub run_of_place : (plan : TalkPlan) (crf : CrfPlan) (packets : ℕ) (a : Place) → IsPlan plan → plan.crf ≡ Some crf → IsPlace (clock_times crf plan packets) a → run_at plan crf (number crf a) ≡ packet_run plan crf a.packet
+pub run_of_place : (plan : TalkPlan) (crf : CrfPlan) (packets : ℕ) (a : Place) → IsAudioPlan plan → plan.crf ≡ Some crf → IsPlace (clock_times crf plan packets) a → run_at plan crf (number crf a) ≡ packet_run plan crf a.packet
 run_of_place plan crf packets a p e is = run_of_packet plan.restart crf plan.rate plan.count a.packet a.at (whole_runs plan crf p e) (known crf plan packets a is).within
 
 -- two points beside each other of one bit are in one run, and others not
-pub one_run : (plan : TalkPlan) (crf : CrfPlan) (packets : ℕ) (a b : Place) → IsPlan plan → plan.crf ≡ Some crf → Follows (clock_times crf plan packets) a b → InOneRun (clock_times crf plan packets) a b
+pub one_run : (plan : TalkPlan) (crf : CrfPlan) (packets : ℕ) (a b : Place) → IsAudioPlan plan → plan.crf ≡ Some crf → Follows (clock_times crf plan packets) a b → InOneRun (clock_times crf plan packets) a b
     → IsBeside plan crf (number crf a)
 one_run plan crf packets a b p e f same =
     let next = follows_is plan crf packets a b p e f in
@@ -380,7 +380,7 @@ one_run plan crf packets a b p e f same =
           absurd (other_bit (packet_run plan crf a.packet) (bits ∙ here))
     ]
 
-pub other_run : (plan : TalkPlan) (crf : CrfPlan) (packets : ℕ) (a b : Place) → IsPlan plan → plan.crf ≡ Some crf → Follows (clock_times crf plan packets) a b → ¬ InOneRun (clock_times crf plan packets) a b
+pub other_run : (plan : TalkPlan) (crf : CrfPlan) (packets : ℕ) (a b : Place) → IsAudioPlan plan → plan.crf ≡ Some crf → Follows (clock_times crf plan packets) a b → ¬ InOneRun (clock_times crf plan packets) a b
     → IsRunEnd plan crf (number crf a)
 other_run plan crf packets a b p e f other =
     let next = follows_is plan crf packets a b p e f in
@@ -395,7 +395,7 @@ other_run plan crf packets a b p e f other =
 
 -- ---- pairs
 
-pub pair_is : (plan : TalkPlan) (crf : CrfPlan) (packets : ℕ) (a b : Place) → IsPlan plan → plan.crf ≡ Some crf → Follows (clock_times crf plan packets) a b → IsBeside plan crf (number crf a)
+pub pair_is : (plan : TalkPlan) (crf : CrfPlan) (packets : ℕ) (a b : Place) → IsAudioPlan plan → plan.crf ≡ Some crf → Follows (clock_times crf plan packets) a b → IsBeside plan crf (number crf a)
     → pair_at (clock_times crf plan packets) a b ≡ pair_from (beat_of crf plan) (run_start plan (run_at plan crf (number crf a))) (place_of plan crf (number crf a))
 pair_is plan crf packets a b p e f is =
     let c = clock_times crf plan packets in
@@ -412,7 +412,7 @@ pair_is plan crf packets a b p e f is =
 
 -- ---- the points by their runs
 
-pub counted : (plan : TalkPlan) (crf : CrfPlan) (packets s : ℕ) → IsPlan plan → plan.crf ≡ Some crf → s < points_for crf plan packets ↔ frame_at crf plan s < packets * plan.count
+pub counted : (plan : TalkPlan) (crf : CrfPlan) (packets s : ℕ) → IsAudioPlan plan → plan.crf ≡ Some crf → s < points_for crf plan packets ↔ frame_at crf plan s < packets * plan.count
 counted plan crf packets s p e =
     let w : ℕ = spacing_of crf plan.rate in
     let frames : ℕ = packets * plan.count in
@@ -425,14 +425,14 @@ counted plan crf packets s p e =
       ]),
     )
 
-pub steady_points : (plan : TalkPlan) (crf : CrfPlan) (s : ℕ) → IsPlan plan → plan.crf ≡ Some crf → plan.restart ≡ None
+pub steady_points : (plan : TalkPlan) (crf : CrfPlan) (s : ℕ) → IsAudioPlan plan → plan.crf ≡ Some crf → plan.restart ≡ None
     → clock_point crf plan s ≡ run_start plan 0 + nominal_offset plan.rate (frame_at crf plan s)
 steady_points plan crf s p e restart =
     let P : Option ℕ → ℕ = λ r. point_at (beat_of crf plan) (run_start plan (run_by (points_per crf plan.rate plan.count r) s)) (s - first_by (points_per crf plan.rate plan.count r) (run_by (points_per crf plan.rate plan.count r) s)) in
     let all : s - 0 ≡ s = omega arith in
     point_value plan crf s p e ∙ ap P restart ∙ ap (λ (m : ℕ). run_start plan 0 + nominal_offset plan.rate (m * spacing_of crf plan.rate)) all
 
-pub restarted_points : (plan : TalkPlan) (crf : CrfPlan) (packets s : ℕ) → IsPlan plan → plan.crf ≡ Some crf → plan.restart ≡ Some packets
+pub restarted_points : (plan : TalkPlan) (crf : CrfPlan) (packets s : ℕ) → IsAudioPlan plan → plan.crf ≡ Some crf → plan.restart ≡ Some packets
     → clock_point crf plan s ≡ run_start plan (s / run_points crf plan packets) + nominal_offset plan.rate (s % run_points crf plan packets * spacing_of crf plan.rate)
 restarted_points plan crf packets s p e restart =
     let P : Option ℕ → ℕ = λ r. point_at (beat_of crf plan) (run_start plan (run_by (points_per crf plan.rate plan.count r) s)) (s - first_by (points_per crf plan.rate plan.count r) (run_by (points_per crf plan.rate plan.count r) s)) in
@@ -440,7 +440,7 @@ restarted_points plan crf packets s p e restart =
     let rest : s - s / size * size ≡ s % size = sym (mod-eq-sub-div-mul s size) in
     point_value plan crf s p e ∙ ap P restart ∙ ap (λ (m : ℕ). run_start plan (s / size) + nominal_offset plan.rate (m * spacing_of crf plan.rate)) rest
 
-pub restarted_bit : (plan : TalkPlan) (crf : CrfPlan) (packets m : ℕ) → IsPlan plan → plan.crf ≡ Some crf → plan.restart ≡ Some packets
+pub restarted_bit : (plan : TalkPlan) (crf : CrfPlan) (packets m : ℕ) → IsAudioPlan plan → plan.crf ≡ Some crf → plan.restart ≡ Some packets
     → clock_mr crf plan m ≡ (m / (run_points crf plan packets / crf.points) % 2 == 1)
 restarted_bit plan crf packets m p e restart =
     bit_is plan crf m p e ∙ ap (λ (r : Option ℕ). run_by (packets_per crf plan.rate plan.count r) m % 2 == 1) restart

@@ -12,7 +12,7 @@ use Rattle.talker.specs.declared.plan.CrfPlan.{CrfPlan}
 use Rattle.talker.specs.declared.plan.TalkPlan.{TalkPlan}
 use Rattle.talker.specs.Beats.{IsNextStart, pair_from, point_at}
 use Rattle.talker.specs.Clock.{AreFew, beat_of, clock_by, clock_mr, clock_packets, clock_point, clock_times, first_point, frame_at, points_for}
-use Rattle.talker.specs.Plan.{IsPlan, spacing_of}
+use Rattle.talker.specs.Plan.{IsAudioPlan, spacing_of}
 use Rattle.talker.specs.Timing.{nominal_offset, run_start}
 use Rattle.talker.proofs.BeatLemmas.{is_period, joined, renewed, steady}
 use Rattle.talker.proofs.ClockLemmas.{clock_of, first_in, is_beat, point_at_frame}
@@ -25,7 +25,7 @@ pub pair_from_at : (plan : TalkPlan) (crf : CrfPlan) (g m h k : ℕ) → g ≡ h
 pair_from_at plan crf g m h k e f = ap (λ (x : ℕ). pair_from (beat_of crf plan) (run_start plan x) m) e ∙ ap (pair_from (beat_of crf plan) (run_start plan h)) f
 
 -- the pair of the next two points
-next_pair : (plan : TalkPlan) (crf : CrfPlan) (packets : ℕ) (a b d : Place) → IsPlan plan → plan.crf ≡ Some crf → Follows (clock_times crf plan packets) a b → Follows (clock_times crf plan packets) b d
+next_pair : (plan : TalkPlan) (crf : CrfPlan) (packets : ℕ) (a b d : Place) → IsAudioPlan plan → plan.crf ≡ Some crf → Follows (clock_times crf plan packets) a b → Follows (clock_times crf plan packets) b d
     → IsBeside plan crf (number crf a) → IsBeside plan crf (number crf b)
     → pair_at (clock_times crf plan packets) b d ≡ pair_from (beat_of crf plan) (run_start plan (run_at plan crf (number crf a))) (suc (place_of plan crf (number crf a)))
 next_pair plan crf packets a b d p e f g first second =
@@ -38,7 +38,7 @@ spaced_by : (nominal p q up : ℕ) → 7 * nominal ≤ 8 * (p * up) → p ≤ q 
 spaced_by nominal p q up least more = let times : p * up ≤ q * up = mul-le-mul_right up more in omega arith
 
 -- where the next point is the first of a run, it is no sooner than one more of the run before would be
-first_later : (plan : TalkPlan) (crf : CrfPlan) (packets : ℕ) (a b : Place) → IsPlan plan → plan.crf ≡ Some crf → Follows (clock_times crf plan packets) a b → IsRunEnd plan crf (number crf a)
+first_later : (plan : TalkPlan) (crf : CrfPlan) (packets : ℕ) (a b : Place) → IsAudioPlan plan → plan.crf ≡ Some crf → Follows (clock_times crf plan packets) a b → IsRunEnd plan crf (number crf a)
     → (point (clock_times crf plan packets) a ≡ point_at (beat_of crf plan) (run_start plan (run_at plan crf (number crf a))) (place_of plan crf (number crf a)))
     × (point (clock_times crf plan packets) b ≡ run_start plan (suc (run_at plan crf (number crf a))))
 first_later plan crf packets a b p e f is =
@@ -51,7 +51,7 @@ first_later plan crf packets a b p e f is =
     ap (λ (g : ℕ). point_at (beat_of crf plan) (run_start plan g) (place_of plan crf (suc s))) is.run ∙ ap (point_at (beat_of crf plan) (run_start plan (suc (run_at plan crf s)))) is.place in
     (first, omega (arith, second, moved, none))
 
-spaced_is : (plan : TalkPlan) (crf : CrfPlan) (packets : ℕ) (a b : Place) → IsPlan plan → plan.crf ≡ Some crf → Follows (clock_times crf plan packets) a b → IsSpaced (pair_at (clock_times crf plan packets) a b)
+spaced_is : (plan : TalkPlan) (crf : CrfPlan) (packets : ℕ) (a b : Place) → IsAudioPlan plan → plan.crf ≡ Some crf → Follows (clock_times crf plan packets) a b → IsSpaced (pair_at (clock_times crf plan packets) a b)
 spaced_is plan crf packets a b p e f =
     let is = is_beat plan crf p e in
     let beat = beat_of crf plan in
@@ -69,7 +69,7 @@ spaced_is plan crf packets a b p e f =
           spaced_by (nominal pair) (period pair) (period (pair_at (clock_times crf plan packets) a b)) beat.up join.least (omega (arith, natural, at.0, at.1, of.next, far))
     ]
 
-renewed_is : (plan : TalkPlan) (crf : CrfPlan) (packets : ℕ) (a b d : Place) → IsPlan plan → plan.crf ≡ Some crf → Follows (clock_times crf plan packets) a b → Follows (clock_times crf plan packets) b d
+renewed_is : (plan : TalkPlan) (crf : CrfPlan) (packets : ℕ) (a b d : Place) → IsAudioPlan plan → plan.crf ≡ Some crf → Follows (clock_times crf plan packets) a b → Follows (clock_times crf plan packets) b d
     → IsBeside plan crf (number crf a) → IsRunEnd plan crf (number crf b)
     → point (clock_times crf plan packets) b + period (pair_at (clock_times crf plan packets) a b) ≤ point (clock_times crf plan packets) d
 renewed_is plan crf packets a b d p e f g same new =
@@ -91,7 +91,7 @@ renewed_is plan crf packets a b d p e f g same new =
     let lasts : period (pair_at (clock_times crf plan packets) a b) ≡ period (pair_from beat (run_start plan run) m) = ap period pair in
     omega (arith, renewed beat (run_start plan run) m (run_start plan (suc run)) is far, last, first, lasts)
 
-holds_is : (plan : TalkPlan) (crf : CrfPlan) (packets : ℕ) → IsPlan plan → plan.crf ≡ Some crf → HoldsEight packets (λ m. clock_mr crf plan m)
+holds_is : (plan : TalkPlan) (crf : CrfPlan) (packets : ℕ) → IsAudioPlan plan → plan.crf ≡ Some crf → HoldsEight packets (λ m. clock_mr crf plan m)
 holds_is plan crf packets p e m k other few within =
     let whole = whole_runs plan crf p e in
     let r = packets_per crf plan.rate plan.count plan.restart in
@@ -102,14 +102,14 @@ holds_is plan crf packets p e m k other few within =
           bit_is plan crf (suc m + k) p e ∙ ap (λ (g : ℕ). g % 2 == 1) run ∙ sym (bit_is plan crf (suc m) p e)
     ]
 
-pub point_small : (plan : TalkPlan) (crf : CrfPlan) (packets s : ℕ) → IsPlan plan → plan.crf ≡ Some crf → AreFew plan packets → s < points_for crf plan packets
+pub point_small : (plan : TalkPlan) (crf : CrfPlan) (packets s : ℕ) → IsAudioPlan plan → plan.crf ≡ Some crf → AreFew plan packets → s < points_for crf plan packets
     → clock_point crf plan s < plan.lead + 2 ^ 32 * 1000000000
 unfolding clock_point
 point_small plan crf packets s p e few h =
     let at = point_at_frame plan crf packets s p e few h in
     in_time plan (frame_at crf plan s / plan.count) (frame_at crf plan s % plan.count) p at.frames at.within
 
-clock_with : (plan : TalkPlan) (crf : CrfPlan) (packets : ℕ) → IsPlan plan → plan.crf ≡ Some crf → AreFew plan packets → IsClock (clock_times crf plan packets)
+clock_with : (plan : TalkPlan) (crf : CrfPlan) (packets : ℕ) → IsAudioPlan plan → plan.crf ≡ Some crf → AreFew plan packets → IsClock (clock_times crf plan packets)
 clock_with plan crf packets p e few =
     let of = clock_of plan crf p e in
     let is = is_beat plan crf p e in
@@ -137,9 +137,9 @@ clock_with plan crf packets p e few =
     some_size : (size points first : ℕ) → 1 ≤ size → first < points → 0 < min size (points - first)
     some_size size points first some h = omega arith
 
-clock_is_by : (crf : Option CrfPlan) (plan : TalkPlan) (packets : ℕ) → IsPlan plan → plan.crf ≡ crf → AreFew plan packets → IsClock (clock_by crf plan packets)
+clock_is_by : (crf : Option CrfPlan) (plan : TalkPlan) (packets : ℕ) → IsAudioPlan plan → plan.crf ≡ crf → AreFew plan packets → IsClock (clock_by crf plan packets)
 clock_is_by None plan packets p e few = no_clock-is
 clock_is_by (Some crf) plan packets p e few = clock_with plan crf packets p e few
 
-pub clock_is : (plan : TalkPlan) (packets : ℕ) → IsPlan plan → AreFew plan packets → IsClock (clock_by plan.crf plan packets)
+pub clock_is : (plan : TalkPlan) (packets : ℕ) → IsAudioPlan plan → AreFew plan packets → IsClock (clock_by plan.crf plan packets)
 clock_is plan packets p few = clock_is_by plan.crf plan packets p refl few

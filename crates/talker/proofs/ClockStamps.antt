@@ -15,7 +15,7 @@ use Rattle.talker.specs.declared.plan.TalkPlan.{TalkPlan}
 use Rattle.talker.specs.Beats.{IsOnEvent, pair_from, stamped_at}
 use Rattle.talker.specs.Clock.{beat_of, clock_by, clock_times, stamped_by}
 use Rattle.talker.specs.Journal.{audio_times}
-use Rattle.talker.specs.Plan.{IsPlan, Restarts, spacing_of}
+use Rattle.talker.specs.Plan.{IsAudioPlan, Restarts, spacing_of}
 use Rattle.talker.specs.Timing.{event_of, first_by, run_by, run_of, run_start}
 use Rattle.talker.proofs.BeatLemmas.{covering, exact, not_earlier_run, not_later_run}
 use Rattle.talker.proofs.ClockLemmas.{is_beat}
@@ -74,7 +74,7 @@ record IsTold (kind : Kind) (plan : TalkPlan) (crf : CrfPlan) (n s : ℕ) : Type
   run : run_at plan crf s ≡ run_of plan n
   at : stamped_event kind plan n / spacing_of crf plan.rate ≡ suc (place_of plan crf s)
 
-told_by : (r : Option ℕ) (kind : Kind) (plan : TalkPlan) (crf : CrfPlan) (n s : ℕ) → IsPlan plan → plan.crf ≡ Some crf → plan.restart ≡ r → IsBeside plan crf s
+told_by : (r : Option ℕ) (kind : Kind) (plan : TalkPlan) (crf : CrfPlan) (n s : ℕ) → IsAudioPlan plan → plan.crf ≡ Some crf → plan.restart ≡ r → IsBeside plan crf s
     → stamped_index (rule_of kind n) < plan.count
     → Covers (pair_from (beat_of crf plan) (run_start plan (run_at plan crf s)) (place_of plan crf s)) plan.rate
     (pos (stamped_at (beat_of crf plan) (run_start plan (run_of plan n)) (stamped_event kind plan n)))
@@ -109,7 +109,7 @@ record IsCoveredBy (kind : Kind) (plan : TalkPlan) (crf : CrfPlan) (packets n in
   covers : Covers (pair_from (beat_of crf plan) (run_start plan (run_of plan n)) (place_of plan crf (number crf a))) plan.rate
       (pos (stamped_at (beat_of crf plan) (run_start plan (run_of plan n)) (stamped_event kind plan n)))
 
-covered_by : (kind : Kind) (plan : TalkPlan) (crf : CrfPlan) (packets n instant : ℕ) (a b : Place) → IsPlan plan → plan.crf ≡ Some crf → IsKindOf plan kind
+covered_by : (kind : Kind) (plan : TalkPlan) (crf : CrfPlan) (packets n instant : ℕ) (a b : Place) → IsAudioPlan plan → plan.crf ≡ Some crf → IsKindOf plan kind
     → IsCovered (times_with (Some crf) kind plan packets) n instant a b → IsCoveredBy kind plan crf packets n instant a b
 covered_by kind plan crf packets n instant a b p e k x =
     let is = is_beat plan crf p e in
@@ -151,7 +151,7 @@ one_number plan crf s t run place =
     let first : first_by (per plan crf) (run_at plan crf s) ≡ first_by (per plan crf) (run_at plan crf t) = ap (first_by (per plan crf)) run in
     omega arith
 
-one_pair : (kind : Kind) (plan : TalkPlan) (crf : CrfPlan) (packets n instant : ℕ) (a b d f : Place) → IsPlan plan → plan.crf ≡ Some crf → IsKindOf plan kind
+one_pair : (kind : Kind) (plan : TalkPlan) (crf : CrfPlan) (packets n instant : ℕ) (a b d f : Place) → IsAudioPlan plan → plan.crf ≡ Some crf → IsKindOf plan kind
     → IsCovered (times_with (Some crf) kind plan packets) n instant a b → IsCovered (times_with (Some crf) kind plan packets) n instant d f → (a ≡ d) × (b ≡ f)
 one_pair kind plan crf packets n instant a b d f p e k x y =
     let first = covered_by kind plan crf packets n instant a b p e k x in
@@ -168,7 +168,7 @@ one_pair kind plan crf packets n instant a b d f p e k x y =
     let within_f = (known crf plan packets f y.joined.follows.second).within in
     (one_place crf.points a d within_a within_d same, one_place crf.points b f within_b within_f next)
 
-exact_by : (kind : Kind) (plan : TalkPlan) (crf : CrfPlan) (packets n instant : ℕ) (a b : Place) → IsPlan plan → plan.crf ≡ Some crf → IsKindOf plan kind
+exact_by : (kind : Kind) (plan : TalkPlan) (crf : CrfPlan) (packets n instant : ℕ) (a b : Place) → IsAudioPlan plan → plan.crf ≡ Some crf → IsKindOf plan kind
     → IsCovered (times_with (Some crf) kind plan packets) n instant a b → IsOfRate (pair_at (clock_times crf plan packets) a b) plan.rate → IsOnEvent (pair_at (clock_times crf plan packets) a b) plan.rate instant
 exact_by kind plan crf packets n instant a b p e k x own =
     let is = is_beat plan crf p e in
@@ -181,12 +181,12 @@ exact_by kind plan crf packets n instant a b p e k x own =
     subst (λ (y : Pair). IsOnEvent y plan.rate instant) (sym by.pair)
     (subst (IsOnEvent (pair_from beat start m) plan.rate) (sym by.stamp.same) (exact beat start m event is by.covers of))
 
-agrees_by : (crf : Option CrfPlan) (kind : Kind) (plan : TalkPlan) (packets : ℕ) → IsPlan plan → plan.crf ≡ crf → IsKindOf plan kind → AgreesWithClock (times_with crf kind plan packets)
+agrees_by : (crf : Option CrfPlan) (kind : Kind) (plan : TalkPlan) (packets : ℕ) → IsAudioPlan plan → plan.crf ≡ crf → IsKindOf plan kind → AgreesWithClock (times_with crf kind plan packets)
 agrees_by None kind plan packets p e k = no_clock-agrees (times_with None kind plan packets) refl
 agrees_by (Some crf) kind plan packets p e k = record {
   one = λ n instant a b d f x y. one_pair kind plan crf packets n instant a b d f p e k x y;
   exact = λ n instant a b x own. exact_by kind plan crf packets n instant a b p e k x own;
 }
 
-pub clock_agrees : (kind : Kind) (plan : TalkPlan) (packets : ℕ) → IsPlan plan → IsKindOf plan kind → AgreesWithClock (audio_times kind plan packets)
+pub clock_agrees : (kind : Kind) (plan : TalkPlan) (packets : ℕ) → IsAudioPlan plan → IsKindOf plan kind → AgreesWithClock (audio_times kind plan packets)
 clock_agrees kind plan packets p k = agrees_by plan.crf kind plan packets p refl k

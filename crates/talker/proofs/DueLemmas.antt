@@ -22,7 +22,7 @@ use Rattle.stream_journal.proofs.Spacing.{IsBefore}
 use Rattle.talker.specs.declared.plan.TalkPlan.{TalkPlan}
 use Rattle.talker.specs.declared.plan.CrfPlan.{CrfPlan}
 use Rattle.talker.specs.Clock.{stamped_instant}
-use Rattle.talker.specs.Plan.{IsPlan}
+use Rattle.talker.specs.Plan.{IsAudioPlan}
 use Rattle.talker.specs.Journal.{due_by, due_in, nominal_times}
 use Rattle.talker.specs.Packets.{stamp_of}
 use Rattle.talker.specs.Timing.{event_of, first_instant, first_packet, mr_of, nominal_instant, nominal_offset, run_of, run_start}
@@ -67,7 +67,7 @@ pub record IsCounted (plan : TalkPlan) (n : ℕ) (head : Head) : Type 0 where
   pub first : head.first ≡ pos (event_of plan n 0) -ℤ pos event
 
 -- the first packet alone can be at an instant below 3
-pub some_instant : (plan : TalkPlan) (n : ℕ) → IsPlan plan → 1 ≤ first_instant plan n
+pub some_instant : (plan : TalkPlan) (n : ℕ) → IsAudioPlan plan → 1 ≤ first_instant plan n
 unfolding nominal_instant
 some_instant plan n p = omega (arith, p.some_lead)
 
@@ -77,12 +77,12 @@ third_by x y rate count slow some far = elim (cases_lt y 3) [
   | inr not ↦ not
 ]
 
-third : (plan : TalkPlan) (n : ℕ) → IsPlan plan → 3 ≤ first_instant plan (suc n)
+third : (plan : TalkPlan) (n : ℕ) → IsAudioPlan plan → 3 ≤ first_instant plan (suc n)
 third plan n p =
     let range = rate_range plan p in
     third_by (first_instant plan n) (first_instant plan (suc n)) plan.rate plan.count range.most p.some_count (apart plan n p)
 
-pub has_room : (plan : TalkPlan) (n m i : ℕ) → IsPlan plan → (n ≡ 0 → event_of plan m i ≡ 0) → nominal_instant plan m i + 1 ≤ stamped_instant plan m i + first_instant plan n
+pub has_room : (plan : TalkPlan) (n m i : ℕ) → IsAudioPlan plan → (n ≡ 0 → event_of plan m i ≡ 0) → nominal_instant plan m i + 1 ≤ stamped_instant plan m i + first_instant plan n
 has_room plan zero m i p first =
     let same = stamped_first plan m i p (first refl) in
     let some = some_instant plan 0 p in
@@ -111,7 +111,7 @@ event_none plan n none =
     let before : n - first_packet plan (run_of plan n) ≡ 0 = omega arith in
     ap (λ (m : ℕ). m * plan.count + 0) before ∙ omega arith
 
-own_counted : (kind : Kind) (plan : TalkPlan) (packets n : ℕ) (head : Head) → IsPlan plan → IsKindOf plan kind → is_stamped (rule_of kind n) n plan.count ≡ true
+own_counted : (kind : Kind) (plan : TalkPlan) (packets n : ℕ) (head : Head) → IsAudioPlan plan → IsKindOf plan kind → is_stamped (rule_of kind n) n plan.count ≡ true
     → head_of (nominal_times kind plan packets) n ≡ Some head → IsCounted plan n head
 unfolding nominal_instant
 own_counted kind plan packets n head p k e h =
@@ -155,7 +155,7 @@ from_by kind plan n far head true true e f h = stamped_by (is_stamped (rule_of k
         rw (← same) (record { back = before far.packets n e; one_run = one_flag (mr_of plan (n - far.packets)) (mr_of plan n) f; instant = refl; first = refl })
 
 -- d packets on in one run
-same_run : (plan : TalkPlan) (m d n i samples : ℕ) → IsPlan plan → m + d ≡ n → run_of plan m ≡ run_of plan n → i + samples ≡ d * plan.count
+same_run : (plan : TalkPlan) (m d n i samples : ℕ) → IsAudioPlan plan → m + d ≡ n → run_of plan m ≡ run_of plan n → i + samples ≡ d * plan.count
     → event_of plan m i + samples ≡ event_of plan n 0
 same_run plan m d n i samples p place same sum =
     let here = in_run plan.restart plan.jump plan.count m p.restart in
@@ -164,7 +164,7 @@ same_run plan m d n i samples p place same sum =
     let events = whole (m - first_packet plan (run_of plan m)) d (n - first_packet plan (run_of plan n)) plan.count (omega arith) in
     omega arith
 
-back_counted : (kind : Kind) (plan : TalkPlan) (n : ℕ) (far : Distance) (head : Head) → IsPlan plan → IsCountedBack kind plan.count n far → IsFrom kind plan n far head → IsCounted plan n head
+back_counted : (kind : Kind) (plan : TalkPlan) (n : ℕ) (far : Distance) (head : Head) → IsAudioPlan plan → IsCountedBack kind plan.count n far → IsFrom kind plan n far head → IsCounted plan n head
 unfolding nominal_instant
 back_counted kind plan n far head p counted from =
     let m : ℕ = n - far.packets in
@@ -188,7 +188,7 @@ back_counted kind plan n far head p counted from =
     sum_first : (e samples e0 : ℕ) → e + samples ≡ e0 → e0 ≡ 0 → e ≡ 0
     sum_first e samples e0 sum none = omega arith
 
-distant_by : (kind : Kind) (plan : TalkPlan) (packets n : ℕ) (head : Head) (far : Option Distance) → IsPlan plan → IsKindOf plan kind → is_stamped (rule_of kind n) n plan.count ≡ false
+distant_by : (kind : Kind) (plan : TalkPlan) (packets n : ℕ) (head : Head) (far : Option Distance) → IsAudioPlan plan → IsKindOf plan kind → is_stamped (rule_of kind n) n plan.count ≡ false
     → distance (rule_of kind n) n plan.count ≡ far → head_of (nominal_times kind plan packets) n ≡ Some head → IsCounted plan n head
 distant_by kind plan packets n head None p k e f h =
     let none : head_of (nominal_times kind plan packets) n ≡ None = rw (e, f) refl in
@@ -198,7 +198,7 @@ distant_by kind plan packets n head (Some far) p k e f h =
     let from = from_by kind plan n far head (nat_le far.packets n) (same_flag (mr_of plan (n - far.packets)) (mr_of plan n)) refl refl same in
     back_counted kind plan n far head p (k.back n far e from.back f) from
 
-counted_by : (kind : Kind) (plan : TalkPlan) (packets n : ℕ) (head : Head) (b : Bool) → IsPlan plan → IsKindOf plan kind → is_stamped (rule_of kind n) n plan.count ≡ b
+counted_by : (kind : Kind) (plan : TalkPlan) (packets n : ℕ) (head : Head) (b : Bool) → IsAudioPlan plan → IsKindOf plan kind → is_stamped (rule_of kind n) n plan.count ≡ b
     → head_of (nominal_times kind plan packets) n ≡ Some head → IsCounted plan n head
 counted_by kind plan packets n head true p k e h = own_counted kind plan packets n head p k e h
 counted_by kind plan packets n head false p k e h = distant_by kind plan packets n head (distance (rule_of kind n) n plan.count) p k e refl h
@@ -328,7 +328,7 @@ nearly crf start e e0 rate stamp first some some_rate at near room =
       to = omega (arith, is.to, near.early);
     }
 
-head_nearby : (kind : Kind) (plan : TalkPlan) (packets n : ℕ) (head : Head) → IsPlan plan → IsCounted plan n head
+head_nearby : (kind : Kind) (plan : TalkPlan) (packets n : ℕ) (head : Head) → IsAudioPlan plan → IsCounted plan n head
     → IsNearly plan.crf (journal_instant (nominal_times kind plan packets) head 0) (first_instant plan n)
 unfolding nominal_instant
 head_nearby kind plan packets n head p counted =
@@ -343,7 +343,7 @@ pub record IsDueNear (kind : Kind) (plan : TalkPlan) (packets n : ℕ) : Type 0 
   pub from : due_in (nominal_times kind plan packets) n ≤ first_instant plan n + late_by plan.crf
   pub to : first_instant plan n ≤ due_in (nominal_times kind plan packets) n + 1 + early_by plan.crf
 
-near_by : (kind : Kind) (plan : TalkPlan) (packets n : ℕ) (head : Option Head) → IsPlan plan → IsKindOf plan kind → head_of (nominal_times kind plan packets) n ≡ head
+near_by : (kind : Kind) (plan : TalkPlan) (packets n : ℕ) (head : Option Head) → IsAudioPlan plan → IsKindOf plan kind → head_of (nominal_times kind plan packets) n ≡ head
     → (due_by (nominal_times kind plan packets) n head ≤ first_instant plan n + late_by plan.crf) × (first_instant plan n ≤ due_by (nominal_times kind plan packets) n head + 1 + early_by plan.crf)
 near_by kind plan packets n None p k e = (omega arith, omega arith)
 near_by kind plan packets n (Some head) p k e =
@@ -351,12 +351,12 @@ near_by kind plan packets n (Some head) p k e =
     let is = head_nearby kind plan packets n head p counted in
     rw is.same (is.from, is.to)
 
-pub due_near : (kind : Kind) (plan : TalkPlan) (packets n : ℕ) → IsPlan plan → IsKindOf plan kind → IsDueNear kind plan packets n
+pub due_near : (kind : Kind) (plan : TalkPlan) (packets n : ℕ) → IsAudioPlan plan → IsKindOf plan kind → IsDueNear kind plan packets n
 due_near kind plan packets n p k =
     let near = near_by kind plan packets n (head_of (nominal_times kind plan packets) n) p k refl in
     record { from = near.0; to = near.1 }
 
-pub head_due : (kind : Kind) (plan : TalkPlan) (packets n : ℕ) (head : Head) → IsPlan plan → IsKindOf plan kind → head_of (nominal_times kind plan packets) n ≡ Some head
+pub head_due : (kind : Kind) (plan : TalkPlan) (packets n : ℕ) (head : Head) → IsAudioPlan plan → IsKindOf plan kind → head_of (nominal_times kind plan packets) n ≡ Some head
     → pos (due_in (nominal_times kind plan packets) n) ≡ journal_instant (nominal_times kind plan packets) head 0
 head_due kind plan packets n head p k e =
     let counted = counted_by kind plan packets n head (is_stamped (rule_of kind n) n plan.count) p k refl e in
@@ -378,7 +378,7 @@ flags false false e = refl
 some_of : (h : Option Head) (head : Head) → h ≡ Some head → IsSome h
 some_of h head e = rw e refl
 
-has_by : (kind : Kind) (plan : TalkPlan) (packets n : ℕ) (b : Bool) → IsPlan plan → IsKindOf plan kind → is_stamped (rule_of kind n) n plan.count ≡ b → 7 ≤ n
+has_by : (kind : Kind) (plan : TalkPlan) (packets n : ℕ) (b : Bool) → IsAudioPlan plan → IsKindOf plan kind → is_stamped (rule_of kind n) n plan.count ≡ b → 7 ≤ n
     → run_of plan (n - 7) ≡ run_of plan n → IsSome (head_of (nominal_times kind plan packets) n)
 has_by kind plan packets n true p k e behind same =
     some_of (head_of (nominal_times kind plan packets) n) (record { instant = pos (stamped_instant plan n (stamped_index (rule_of kind n))); first = neg_ℤ (pos (stamped_index (rule_of kind n))) }) (rw e refl)
@@ -395,6 +395,6 @@ has_by kind plan packets n false p k e behind same =
     (record { instant = pos (stamped_instant plan (n - d) (stamped_index (rule_of kind (n - d)))); first = pos is.far.samples })
     (rw (e, is.is_far, near, flags (mr_of plan (n - d)) (mr_of plan n) bits, is.stamped) refl)
 
-pub has_head : (kind : Kind) (plan : TalkPlan) (packets n : ℕ) → IsPlan plan → IsKindOf plan kind → 7 ≤ n → run_of plan (n - 7) ≡ run_of plan n
+pub has_head : (kind : Kind) (plan : TalkPlan) (packets n : ℕ) → IsAudioPlan plan → IsKindOf plan kind → 7 ≤ n → run_of plan (n - 7) ≡ run_of plan n
     → IsSome (head_of (nominal_times kind plan packets) n)
 has_head kind plan packets n p k behind same = has_by kind plan packets n (is_stamped (rule_of kind n) n plan.count) p k refl behind same

@@ -10,19 +10,20 @@ use Rattle.aaf_format.specs.Aaf.{SpellsAaf, aaf_spelling, frame_size, rate_of}
 use Rattle.iec61883_format.specs.Iec.{SpellsIec, block_size, iec_spelling, rate_of_fdf, syt_interval}
 use Rattle.pcap_frames.specs.Capture.{HasSpelling}
 use Rattle.packet_journal.specs.Carried.{AllCarry}
+use Rattle.stream_journal.specs.Journal.{Journal}
 use Rattle.talker.specs.declared.plan.TalkKind.{TalkKind}
-use Rattle.talker.specs.declared.plan.TalkKind.TheVariants.{Aaf, Am824}
+use Rattle.talker.specs.declared.plan.TalkKind.TheVariants.{Aaf, Am824, H264}
 use Rattle.talker.specs.declared.plan.TalkPlan.{TalkPlan}
-use Rattle.talker.specs.Frames.{RiseByArrival, SentFrame, by_arrival, capture_style, frames, frames_at, put_in, record_of, records, stream_frames}
+use Rattle.talker.specs.Frames.{RiseByArrival, SentFrame, StaysNear, StaysNearBy, by_arrival, capture_style, frames, frames_at, packet_numbers, put_in, record_of, records, stream_frames}
 use Rattle.talker.specs.Journal.{journal, stream_of}
 use Rattle.talker.specs.Packets.{aaf_packet, iec_packet}
-use Rattle.talker.specs.Plan.{Expects, FitsBlocks, IsAhead, HasRate, IsPlan, fdf_of, interval_of, rate_code}
+use Rattle.talker.specs.Plan.{Expects, FitsBlocks, IsAhead, HasRate, IsAudioKind, IsAudioPlan, IsPlan, IsPlanOf, fdf_of, interval_of, rate_code}
 use Rattle.talker.specs.Talking.{most_input}
 use Rattle.talker.specs.Timing.{arrival_of, event_of, first_packet, nominal_instant, nominal_offset, run_of}
 use Rattle.talker.proofs.Am824Lemmas.{blocks_again, some_interval}
 use Rattle.talker.proofs.PcmLemmas.{packet_again}
 use Rattle.talker.proofs.RateLemmas.{known_fdf}
-use Rattle.talker.proofs.StreamLemmas.{AreCarried, all_carried, all_frames, at_number, frames_in, some_carried, spelled}
+use Rattle.talker.proofs.StreamLemmas.{AreCarried, all_carried, all_frames, at_number, frames_in, next_near, numbers_of, packets_in, some_carried, spelled}
 use Rattle.talker.proofs.TalkLemmas.{frames_alone, plan_keeps}
 
 pub named_rate : (rate code : ℕ) → rate_of code ≡ Some rate → rate_code rate ≡ Some code
@@ -128,16 +129,38 @@ all_carry plan input lead p none limit expects =
 
 -- they carry packets of the journal and of its clock
 pub every_carried : (plan : TalkPlan) (input : List ℕ) (lead : ℕ) → IsPlan plan → length input ≤ most_input → Expects plan lead
-    → AreCarried (journal plan input) lead (records plan input)
+    → AreCarried (journal plan input) lead (frames plan input)
 every_carried plan input lead p limit expects =
     let s = stream_of plan input in
     some_carried plan s lead (frames plan input) (plan_keeps plan input p limit) expects (all_frames s)
 
 pub kept_carried : (plan : TalkPlan) (input places : List ℕ) (lead : ℕ) → IsPlan plan → length input ≤ most_input → Expects plan lead
-    → AreCarried (journal plan input) lead (map record_of (frames_at plan input places))
+    → AreCarried (journal plan input) lead (frames_at plan input places)
 kept_carried plan input places lead p limit expects =
     let s = stream_of plan input in
     some_carried plan s lead (filter_map (slice_get (frames plan input)) places) (plan_keeps plan input p limit) expects (frames_in s places)
+
+-- packets of audio are told apart anyhow
+near_as : (kind : TalkKind) (j : Journal) (numbers : List ℕ) → IsAudioKind kind → StaysNearBy kind j numbers
+near_as (Aaf format sparse) j numbers kind = tt
+near_as Am824 j numbers kind = tt
+near_as (H264 last_stamp) j numbers kind = absurd kind
+
+pub audio_near : (plan : TalkPlan) (input : List ℕ) (given : List SentFrame) → IsAudioPlan plan → StaysNear plan input given
+audio_near plan input given p = near_as plan.kind (journal plan input).times (packet_numbers given) p.kind
+
+-- packets of H.264 that are captured in their order are near
+near_by : (kind : TalkKind) (plan : TalkPlan) (input : List ℕ) → plan.kind ≡ kind → IsPlanOf kind plan → length input ≤ most_input → StaysNearBy kind (journal plan input).times (packet_numbers (frames plan input))
+near_by (Aaf format sparse) plan input e p limit = tt
+near_by Am824 plan input e p limit = tt
+near_by (H264 false) plan input e p limit = tt
+near_by (H264 true) plan input e p limit =
+    let s = stream_of plan input in
+    let plan_is : IsPlan plan = subst (λ (k : TalkKind). IsPlanOf k plan) (sym e) p in
+    rw (frames_alone plan input plan_is p.crf limit, numbers_of s 0 (packets_in s)) (next_near s.journal.times 0 (packets_in s))
+
+pub whole_near : (plan : TalkPlan) (input : List ℕ) → IsPlan plan → length input ≤ most_input → StaysNear plan input (frames plan input)
+whole_near plan input p limit = near_by plan.kind plan input refl p limit
 
 -- each packet is sent before it is due
 pub stream_in_time : (plan : TalkPlan) (input : List ℕ) (n : ℕ) → IsPlan plan → IsAhead plan.crf plan.lead → length input ≤ most_input → n < (journal plan input).times.packets
@@ -155,25 +178,25 @@ sent_in_time plan input n p none limit h =
 
 -- ---- packets
 
-read_by : (plan : TalkPlan) (format : AafFormat) (sparse : Bool) (n : ℕ) (samples : List ℕ) (code : Option ℕ) → IsPlan plan → plan.kind ≡ Aaf format sparse → rate_code plan.rate ≡ code → IsSome code
+read_by : (plan : TalkPlan) (format : AafFormat) (sparse : Bool) (n : ℕ) (samples : List ℕ) (code : Option ℕ) → IsAudioPlan plan → plan.kind ≡ Aaf format sparse → rate_code plan.rate ≡ code → IsSome code
     → plan.id < 2 ^ 64 → length samples ≡ plan.count * frame_size plan.channels format
     → SpellsAaf (aaf_spelling (aaf_packet format sparse plan n samples)) (aaf_packet format sparse plan n samples)
 read_by plan format sparse n samples None p kind e some id size = absurd cc
 read_by plan format sparse n samples (Some code) p kind e some id size =
     packet_again (record { format = format; sparse = sparse; code = code }) plan n samples p (record { kind = kind; code = e }) id size
 
-pub packet_read : (plan : TalkPlan) (format : AafFormat) (sparse : Bool) (n : ℕ) (samples : List ℕ) → IsPlan plan → plan.kind ≡ Aaf format sparse → plan.id < 2 ^ 64
+pub packet_read : (plan : TalkPlan) (format : AafFormat) (sparse : Bool) (n : ℕ) (samples : List ℕ) → IsAudioPlan plan → plan.kind ≡ Aaf format sparse → plan.id < 2 ^ 64
     → length samples ≡ plan.count * frame_size plan.channels format
     → SpellsAaf (aaf_spelling (aaf_packet format sparse plan n samples)) (aaf_packet format sparse plan n samples)
 packet_read plan format sparse n samples p kind id size = read_by plan format sparse n samples (rate_code plan.rate) p kind refl (rw kind at p.rate) id size
 
-blocks_by : (plan : TalkPlan) (n : ℕ) (blocks : List ℕ) (fdf : Option ℕ) → IsPlan plan → plan.kind ≡ Am824 → fdf_of plan.rate ≡ fdf → IsSome fdf → plan.id < 2 ^ 64
+blocks_by : (plan : TalkPlan) (n : ℕ) (blocks : List ℕ) (fdf : Option ℕ) → IsAudioPlan plan → plan.kind ≡ Am824 → fdf_of plan.rate ≡ fdf → IsSome fdf → plan.id < 2 ^ 64
     → length blocks ≡ plan.count * block_size plan.channels → SpellsIec (iec_spelling (iec_packet plan n blocks)) (iec_packet plan n blocks)
 blocks_by plan n blocks None p kind e some id size = absurd cc
 blocks_by plan n blocks (Some fdf) p kind e some id size =
     blocks_again (record { fdf = fdf; interval = interval_of plan.rate }) plan n blocks p (record { kind = kind; code = e; interval = stated_interval plan.rate fdf e }) id size
 
-pub blocks_read : (plan : TalkPlan) (n : ℕ) (blocks : List ℕ) → IsPlan plan → plan.kind ≡ Am824 → plan.id < 2 ^ 64 → length blocks ≡ plan.count * block_size plan.channels
+pub blocks_read : (plan : TalkPlan) (n : ℕ) (blocks : List ℕ) → IsAudioPlan plan → plan.kind ≡ Am824 → plan.id < 2 ^ 64 → length blocks ≡ plan.count * block_size plan.channels
     → SpellsIec (iec_spelling (iec_packet plan n blocks)) (iec_packet plan n blocks)
 blocks_read plan n blocks p kind id size =
     blocks_by plan n blocks (fdf_of plan.rate) p kind refl (subst (λ (kind : TalkKind). HasRate kind plan.rate) kind p.rate) id size

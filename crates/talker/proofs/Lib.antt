@@ -21,3 +21,13 @@ pub mod LawLemmas
 pub mod SoakLemmas
 mod Sorting
 mod Arrivals
+pub mod AccessLemmas
+pub mod ListingLemmas
+pub mod LongUnits
+pub mod FaultLemmas
+pub mod VideoLists
+pub mod VideoParts
+pub mod VideoRules
+pub mod VideoLemmas
+pub mod SourceLemmas
+pub mod UnitLaws

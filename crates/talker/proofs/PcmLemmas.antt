@@ -20,7 +20,7 @@ use Rattle.talker.specs.declared.plan.TalkPlan.{TalkPlan}
 use Rattle.talker.specs.Audio.{pcm}
 use Rattle.talker.specs.Journal.{audio_times}
 use Rattle.talker.specs.Packets.{aaf_packet, kind_of, stamp_of}
-use Rattle.talker.specs.Plan.{ExpectsBy, IsNearLead, IsPlan, rate_code}
+use Rattle.talker.specs.Plan.{ExpectsBy, IsNearLead, IsAudioPlan, rate_code}
 use Rattle.talker.specs.Talking.{IsPcm}
 use Rattle.talker.proofs.AudioLemmas.{IsFormatOf}
 use Rattle.talker.proofs.DueLemmas.{IsCountedBack, IsFound, IsKindOf}
@@ -34,13 +34,13 @@ width-some Int32 = omega arith
 width-some Int24 = omega arith
 width-some Int16 = omega arith
 
-pub frame_some : (plan : TalkPlan) (format : AafFormat) → IsPlan plan → 0 < frame_size plan.channels format
+pub frame_some : (plan : TalkPlan) (format : AafFormat) → IsAudioPlan plan → 0 < frame_size plan.channels format
 frame_some plan format p = mul-pos p.some_channels (width-some format)
 
-pub size_fits : (plan : TalkPlan) (format : AafFormat) (sparse : Bool) → IsPlan plan → plan.kind ≡ Aaf format sparse → plan.count * frame_size plan.channels format ≤ 1476
+pub size_fits : (plan : TalkPlan) (format : AafFormat) (sparse : Bool) → IsAudioPlan plan → plan.kind ≡ Aaf format sparse → plan.count * frame_size plan.channels format ≤ 1476
 size_fits plan format sparse p kind = rw kind at p.fits
 
-pub zeros : (f : PcmFormat) (plan : TalkPlan) → IsPlan plan → IsPcm f plan
+pub zeros : (f : PcmFormat) (plan : TalkPlan) → IsAudioPlan plan → IsPcm f plan
     → take (plan.count * frame_size plan.channels f.format) (replicate 1476 0) ≡ (pcm f.format f.sparse plan).silence
 zeros f plan p is = take-replicate (plan.count * frame_size plan.channels f.format) 1476 0 (size_fits plan f.format f.sparse p is.kind)
 
@@ -63,7 +63,7 @@ eighth_found plan n e =
       stamped = rw none refl;
     }
 
-pub pcm_kind : (plan : TalkPlan) (sparse : Bool) → IsPlan plan → IsKindOf plan (kind_of sparse)
+pub pcm_kind : (plan : TalkPlan) (sparse : Bool) → IsAudioPlan plan → IsKindOf plan (kind_of sparse)
 pcm_kind plan false p = record {
   within = λ n stamped. p.some_count;
   back = λ n far unstamped behind far_is. absurd cc;
@@ -97,7 +97,7 @@ read_kind true = refl
 code_is : (plan : TalkPlan) (code : ℕ) → rate_code plan.rate ≡ Some code → unwrap_or (rate_code plan.rate) 0 ≡ code
 code_is plan code e = rw e refl
 
-pub writable : (f : PcmFormat) (plan : TalkPlan) (n : ℕ) (samples : List ℕ) → IsPlan plan → IsPcm f plan → length samples ≡ plan.count * frame_size plan.channels f.format
+pub writable : (f : PcmFormat) (plan : TalkPlan) (n : ℕ) (samples : List ℕ) → IsAudioPlan plan → IsPcm f plan → length samples ≡ plan.count * frame_size plan.channels f.format
     → IsWritableAaf (aaf_packet f.format f.sparse plan n samples)
 writable f plan n samples p is size =
     let code = code_is plan f.code is.code in
@@ -113,14 +113,14 @@ writable f plan n samples p is size =
       count = sym size;
     }
 
-pub fits : (f : PcmFormat) (plan : TalkPlan) (n : ℕ) (samples : List ℕ) → IsPlan plan → IsPcm f plan → plan.id < 2 ^ 64 → length samples ≡ plan.count * frame_size plan.channels f.format
+pub fits : (f : PcmFormat) (plan : TalkPlan) (n : ℕ) (samples : List ℕ) → IsAudioPlan plan → IsPcm f plan → plan.id < 2 ^ 64 → length samples ≡ plan.count * frame_size plan.channels f.format
     → Fits aaf_layout (aaf_packet f.format f.sparse plan n samples)
 fits f plan n samples p is id size =
     let most = size_fits plan f.format f.sparse p is.kind in
     fits_whole (aaf_packet f.format f.sparse plan n samples) 0 0 (writable f plan n samples p is size)
     (header_fits 2 (stamp_of (kind_of f.sparse) plan n) plan n (plan.count * frame_size plan.channels f.format) (omega arith) id (omega arith))
 
-packet_is : (f : PcmFormat) (plan : TalkPlan) (packets n : ℕ) (samples : List ℕ) → IsPlan plan → IsPcm f plan → plan.id < 2 ^ 64 → length samples ≡ plan.count * frame_size plan.channels f.format
+packet_is : (f : PcmFormat) (plan : TalkPlan) (packets n : ℕ) (samples : List ℕ) → IsAudioPlan plan → IsPcm f plan → plan.id < 2 ^ 64 → length samples ≡ plan.count * frame_size plan.channels f.format
     → IsAafPacket (audio_times (kind_of f.sparse) plan packets) f.sparse plan.id n (aaf_packet f.format f.sparse plan n samples)
 packet_is f plan packets n samples p is id size = record {
   writable = writable f plan n samples p is size;
@@ -135,7 +135,7 @@ of_mode : (sparse : Bool) (j : Journal) (stream n : ℕ) (v : Packet) → IsAafP
 of_mode false j stream n v is = is
 of_mode true j stream n v is = is
 
-pub packet_again : (f : PcmFormat) (plan : TalkPlan) (n : ℕ) (samples : List ℕ) → IsPlan plan → IsPcm f plan → plan.id < 2 ^ 64 → length samples ≡ plan.count * frame_size plan.channels f.format
+pub packet_again : (f : PcmFormat) (plan : TalkPlan) (n : ℕ) (samples : List ℕ) → IsAudioPlan plan → IsPcm f plan → plan.id < 2 ^ 64 → length samples ≡ plan.count * frame_size plan.channels f.format
     → SpellsAaf (aaf_spelling (aaf_packet f.format f.sparse plan n samples)) (aaf_packet f.format f.sparse plan n samples)
 packet_again f plan n samples p is id size =
     let v = aaf_packet f.format f.sparse plan n samples in
@@ -143,7 +143,7 @@ packet_again f plan n samples p is id size =
 
 -- ---- all of it
 
-pub pcm_format : (f : PcmFormat) (plan : TalkPlan) → IsPlan plan → IsPcm f plan → IsFormatOf plan (pcm f.format f.sparse plan) 42
+pub pcm_format : (f : PcmFormat) (plan : TalkPlan) → IsAudioPlan plan → IsPcm f plan → IsFormatOf plan (pcm f.format f.sparse plan) 42
 pcm_format f plan p is =
     let most = size_fits plan f.format f.sparse p is.kind in
     record {

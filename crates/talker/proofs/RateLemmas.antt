@@ -7,7 +7,7 @@ use Rattle.iec61883_format.specs.Iec.{rate_of_fdf}
 use Rattle.talker.specs.declared.plan.TalkKind.{TalkKind}
 use Rattle.talker.specs.declared.plan.TalkKind.TheVariants.{Aaf, Am824, H264}
 use Rattle.talker.specs.declared.plan.TalkPlan.{TalkPlan}
-use Rattle.talker.specs.Plan.{HasRate, IsPlan, fdf_of, rate_code}
+use Rattle.talker.specs.Plan.{HasRate, IsAudioPlan, fdf_of, rate_code}
 
 pub record IsRate (rate code : ℕ) : Type 0 where
   pub named : rate_of code ≡ Some rate
@@ -45,8 +45,8 @@ range_by (Aaf format sparse) rate has = pcm_range rate (rate_code rate) refl has
 range_by Am824 rate has = am824_range rate (fdf_of rate) refl has
 range_by (H264 last_stamp) rate has = absurd has
 
-pub rate_range : (plan : TalkPlan) → IsPlan plan → IsInRange plan.rate
+pub rate_range : (plan : TalkPlan) → IsAudioPlan plan → IsInRange plan.rate
 rate_range plan p = range_by plan.kind plan.rate p.rate
 
-pub rate_from : (plan : TalkPlan) → IsPlan plan → 8000 ≤ plan.rate
+pub rate_from : (plan : TalkPlan) → IsAudioPlan plan → 8000 ≤ plan.rate
 rate_from plan p = (rate_range plan p).least

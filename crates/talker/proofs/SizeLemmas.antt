@@ -8,6 +8,9 @@ use Rattle.pcap_frames.specs.Frame.{frame_layout}
 use Rattle.aaf_format.specs.Aaf.{Aaf, aaf_layout}
 use Rattle.iec61883_format.specs.Iec.{Iec, iec_layout}
 use Rattle.packet_journal.specs.Packets.{PacketView, Pcm, Am824Data, spelling_of}
+use Rattle.cvf_format.specs.declared.cvf.NalPart.{NalPart}
+use Rattle.cvf_format.specs.declared.cvf.NalPart.TheVariants.{Single, First, Middle, Last}
+use Rattle.cvf_format.specs.Cvf.{Cvf, cvf_spelling, header_size, layout_of}
 use Rattle.crf_format.specs.Crf.{Crf, crf_layout, crf_spelling}
 use Rattle.talker.specs.Frames.{clock_bytes, ethernet, packet_bytes}
 
@@ -46,3 +49,14 @@ crf_size v =
     let header = length-spelling crf_layout v in
     let whole = length-append (spelling crf_layout v) v.payload in
     length-append (spelling (frame_layout true) (ethernet (crf_spelling v))) (crf_spelling v) ∙ omega arith
+
+headers_size : (part : NalPart) (v : Cvf) → length (spelling (layout_of part) v) ≡ header_size part
+headers_size Single v = length-spelling (layout_of Single) v
+headers_size First v = length-spelling (layout_of First) v
+headers_size Middle v = length-spelling (layout_of Middle) v
+headers_size Last v = length-spelling (layout_of Last) v
+
+pub cvf_length : (v : Cvf) → length (cvf_spelling v) ≡ header_size v.part + length v.body
+cvf_length v =
+    let headers = headers_size v.part v in
+    length-append (spelling (layout_of v.part) v) v.body ∙ omega arith

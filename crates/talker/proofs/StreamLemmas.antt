@@ -7,18 +7,19 @@ use Rattle.std.proofs.lemmas.Bool.{le-leb, lt-leb}
 use Rattle.std.proofs.lemmas.Int.{ints}
 use Rattle.std.proofs.lemmas.List.{append-nil, length-append}
 use Rattle.std.proofs.lemmas.List.FromFn.{length-map-range_with_len}
-use Rattle.pcap_frames.specs.Capture.{HasSpelling, Record}
+use Rattle.pcap_frames.specs.Capture.{HasSpelling}
 use Rattle.pcap_frames.specs.Frame.{IsWritableFrame, SpellsFrame}
 use Rattle.pcap_frames.proofs.FrameLemmas.{frame_again}
 use Rattle.stream_journal.specs.Delivered.{AreNear, IsDelivered}
 use Rattle.crf_format.specs.Crf.{crf_spelling}
 use Rattle.packet_journal.specs.Carried.{AllCarry, AllCarryFrom, Carries, CarriesClock, IsReadKind}
-use Rattle.packet_journal.specs.Delivered.{OfClock, OfStream, Origin}
+use Rattle.packet_journal.specs.Delivered.{OfClock, OfStream, Origin, stream_numbers}
+use Rattle.stream_journal.specs.Journal.{Journal}
 use Rattle.packet_journal.specs.Packets.{IsConforming, PacketJournal, PacketView, spelling_of}
 use Rattle.talker.specs.declared.plan.TalkPlan.{TalkPlan}
-use Rattle.talker.specs.Frames.{SentFrame, by_arrival, capture_style, clock_bytes, clock_frame_of, ethernet, frame_of, left_of, numbered_clock, numbered_frames, packet_bytes, record_of}
+use Rattle.talker.specs.Frames.{SentFrame, StaysNearBy, by_arrival, capture_style, clock_bytes, clock_frame_of, ethernet, frame_of, left_of, numbered_clock, numbered_frames, packet_bytes, packet_numbers, record_of}
 use Rattle.talker.specs.Journal.{Stream}
-use Rattle.talker.specs.Plan.{Expects, IsAhead}
+use Rattle.talker.specs.Plan.{Expects, IsAhead, IsAudioKind}
 use Rattle.talker.proofs.FrameLemmas.{AllLater, NotBefore, all_of, comes_first, each, each_from, in_order, length_sorted, none_of, numbered, sorted_all, stays_first}
 
 abbrev pub packets_in : Stream → ℕ
@@ -43,9 +44,9 @@ pub record IsStream (plan : TalkPlan) (s : Stream) : Type 0 where
   -- the talker keeps the rules
   pub conforms : plan.id < 2 ^ 64 → IsConforming (pos 0) s.journal
   -- a capture delivers each packet
-  pub read : IsReadKind s.journal.times.kind
+  pub read : IsAudioKind plan.kind → IsReadKind s.journal.times.kind
   pub on_time : (lead n : ℕ) → Expects plan lead → n < packets_in s → IsDelivered s.journal.times lead (record { number = n; arrival = s.arrival n })
-  pub near : (numbers : List ℕ) → AreNear s.journal.times numbers
+  pub near : (numbers : List ℕ) → StaysNearBy plan.kind s.journal.times numbers → AreNear s.journal.times numbers
 
 -- ---- its frames
 
@@ -213,23 +214,41 @@ clock_carried plan s m h =
       packet = record { trail = []; whole = sym (append-nil packet) };
     }
 
--- records carry packets of these origins
-pub record AreCarried (j : PacketJournal) (lead : ℕ) (rs : List Record) : Type 0 where
+-- the records of frames carry packets of these origins
+pub record AreCarried (j : PacketJournal) (lead : ℕ) (given : List SentFrame) : Type 0 where
   pub origins : List Origin
-  pub carry : AllCarryFrom j lead origins rs
+  pub carry : AllCarryFrom j lead origins (map record_of given)
+  pub numbers : stream_numbers origins ≡ packet_numbers given
 
-one_more : (plan : TalkPlan) (s : Stream) (lead : ℕ) (f : SentFrame) (rs : List Record) → IsStream plan s → Expects plan lead → IsFrameOf s f → AreCarried s.journal lead rs → AreCarried s.journal lead (record_of f ∷ rs)
-one_more plan s lead f rs is expects (inl of) rest =
-    let P : SentFrame → Type 0 = λ f. Carries s.journal lead of.number (record_of f) in
-    record { origins = OfStream of.number ∷ rest.origins; carry = (subst P (sym of.same) (carried plan s lead of.number is expects of.known), rest.carry) }
-one_more plan s lead f rs is expects (inr of) rest =
-    let P : SentFrame → Type 0 = λ f. CarriesClock s.journal of.number (record_of f) in
-    record { origins = OfClock of.number ∷ rest.origins; carry = (subst P (sym of.same) (clock_carried plan s of.number of.known), rest.carry) }
+one_more : (plan : TalkPlan) (s : Stream) (lead : ℕ) (f : SentFrame) (given : List SentFrame) → IsStream plan s → Expects plan lead → IsFrameOf s f → AreCarried s.journal lead given → AreCarried s.journal lead (f ∷ given)
+one_more plan s lead f given is expects (inl of) rest =
+    subst (λ (f : SentFrame). AreCarried s.journal lead (f ∷ given)) (sym of.same) (record {
+      origins = OfStream of.number ∷ rest.origins;
+      carry = (carried plan s lead of.number is expects of.known, rest.carry);
+      numbers = ap (λ (numbers : List ℕ). of.number ∷ numbers) rest.numbers;
+    })
+one_more plan s lead f given is expects (inr of) rest =
+    subst (λ (f : SentFrame). AreCarried s.journal lead (f ∷ given)) (sym of.same) (record {
+      origins = OfClock of.number ∷ rest.origins;
+      carry = (clock_carried plan s of.number of.known, rest.carry);
+      numbers = rest.numbers;
+    })
 
 pub some_carried : (plan : TalkPlan) (s : Stream) (lead : ℕ) (given : List SentFrame) → IsStream plan s → Expects plan lead → AllByRecursion (IsFrameOf s) given
-    → AreCarried s.journal lead (map record_of given)
-some_carried plan s lead [] is expects all = record { origins = []; carry = tt }
-some_carried plan s lead (f ∷ given) is expects all = one_more plan s lead f (map record_of given) is expects all.0 (some_carried plan s lead given is expects all.1)
+    → AreCarried s.journal lead given
+some_carried plan s lead [] is expects all = record { origins = []; carry = tt; numbers = refl }
+some_carried plan s lead (f ∷ given) is expects all = one_more plan s lead f given is expects all.0 (some_carried plan s lead given is expects all.1)
+
+-- the numbers of a stream's frames
+pub numbers_of : (s : Stream) (a n : ℕ) → packet_numbers (map (frame_of s) (range_with_len a n)) ≡ range_with_len a n
+numbers_of s a zero = refl
+numbers_of s a (suc n) = ap (λ (numbers : List ℕ). a ∷ numbers) (numbers_of s (a + 1) n)
+
+-- packets that follow each other are near
+pub next_near : (j : Journal) (a n : ℕ) → AreNear j (range_with_len a n)
+next_near j a zero = tt
+next_near j a (suc zero) = tt
+next_near j a (suc (suc n)) = ((λ first second unstamped. (omega arith, omega arith)), next_near j (a + 1) (suc n))
 
 -- ---- one frame after another
 

@@ -18,22 +18,27 @@ use Rattle.talker.specs.Audio.{Audio, audio_by}
 use Rattle.talker.specs.Clock.{clock_arrival, clock_by, clock_packet, clock_packets}
 use Rattle.crf_format.specs.Crf.{Crf}
 use Rattle.talker.specs.Faults.{arrives_too_late}
-use Rattle.talker.specs.Frames.{SentFrame, capture_style, clock_bytes, clock_frame_of, clock_frames, frame_of, frames, left_of, numbered_clock, packet_bytes, record_of, stream_frames}
-use Rattle.talker.specs.Journal.{Stream, clock_arrival_by, clock_packet_by, journal, samples_in, stream_by, stream_of}
-use Rattle.talker.specs.Plan.{IsPlan, IsTalked, fdf_of, rate_code}
-use Rattle.talker.specs.Talking.{IsAudio, IsClockFirst, IsClockIn, IsClockOf, IsFormat, Talking, audio_in, audio_of, gone_on, headers_by, headers_of, most_input, packets_of, samples_size}
-use Rattle.talker.specs.Timing.{arrival_of, run_of}
+use Rattle.talker.specs.Frames.{SentFrame, capture_style, clock_bytes, clock_frame_of, frame_of, frames, left_of, numbered_clock, numbered_frames, packet_bytes, record_of, stream_frames}
+use Rattle.talker.specs.Journal.{Stream, clock_arrival_by, clock_packet_by, journal, samples_in, stamps_last, stream_by, stream_of, video_stream}
+use Rattle.talker.specs.Plan.{IsAudioKind, IsAudioPlan, IsPlan, IsPlanOf, IsVideoPlan, fdf_of, rate_code}
+use Rattle.talker.specs.Talking.{IsAudio, IsClockFirst, IsClockIn, IsClockOf, IsFormat, IsSource, Talking, audio_in, audio_of, clocks_of, gone_on, headers_by, headers_of, input_in, most_input, packets_of, plan_in, samples_size, stream_in as stream_in_source}
+use Rattle.talker.specs.Units.{sent_units}
+use Rattle.talker.specs.Timing.{run_of}
+use Rattle.talker.specs.declared.source.Source.{Source}
+use Rattle.talker.specs.declared.source.Source.TheVariants.{Audio as OfAudio, Video as OfVideo}
 use Rattle.talker.proofs.Am824Lemmas.{am824_format, some_interval}
 use Rattle.talker.proofs.AudioLemmas.{IsFormatOf, audio_stream, stream_in}
 use Rattle.talker.proofs.DueLemmas.{has_head}
 use Rattle.talker.proofs.PcmLemmas.{pcm_format}
 use Rattle.talker.proofs.RateLemmas.{known_fdf}
 use Rattle.talker.proofs.SampleLemmas.{whole_samples}
-use Rattle.talker.proofs.StreamLemmas.{IsStream, clock_at_number, clock_first, clock_has_spelling, clocks_in, packet_first, packets_in, rises, at_number, count_all, count_clock, count_of, has_spelling, in_turn, never_late}
+use Rattle.talker.proofs.StreamLemmas.{IsStream, at_number, clock_at_number, clock_first, clock_has_spelling, clocks_in, frames_of, has_spelling, in_turn, never_late, packet_first, packets_in, rises}
+use Rattle.talker.proofs.VideoLemmas.{video_stream_keeps}
+use Rattle.talker.proofs.VideoRules.{sent_are}
 
 -- ---- a plan, with its format
 
-format_by : (format : Format) (plan : TalkPlan) → IsPlan plan → IsFormat format plan → IsFormatOf plan (audio_in format plan) (headers_by format)
+format_by : (format : Format) (plan : TalkPlan) → IsAudioPlan plan → IsFormat format plan → IsFormatOf plan (audio_in format plan) (headers_by format)
 format_by (OfPcm f) plan p is = pcm_format f plan p is
 format_by (OfAm824 f) plan p is = am824_format f plan p is
 
@@ -56,7 +61,7 @@ pub record HasFormat (plan : TalkPlan) : Type 0 where
   pub audio : IsAudio stream
   pub plan_is : stream.plan ≡ plan
 
-pcm_by : (plan : TalkPlan) (format : AafFormat) (sparse : Bool) (code : Option ℕ) → IsPlan plan → plan.kind ≡ Aaf format sparse → rate_code plan.rate ≡ code → IsSome code → HasFormat plan
+pcm_by : (plan : TalkPlan) (format : AafFormat) (sparse : Bool) (code : Option ℕ) → IsAudioPlan plan → plan.kind ≡ Aaf format sparse → rate_code plan.rate ≡ code → IsSome code → HasFormat plan
 pcm_by plan format sparse None p kind e some = absurd cc
 pcm_by plan format sparse (Some code) p kind e some = record {
   stream = record { plan = plan; format = OfPcm (record { format = format; sparse = sparse; code = code }) };
@@ -64,7 +69,7 @@ pcm_by plan format sparse (Some code) p kind e some = record {
   plan_is = refl;
 }
 
-interval_by : (plan : TalkPlan) (fdf : ℕ) (interval : Option ℕ) → IsPlan plan → plan.kind ≡ Am824 → fdf_of plan.rate ≡ Some fdf → syt_interval fdf ≡ interval → IsSome interval → HasFormat plan
+interval_by : (plan : TalkPlan) (fdf : ℕ) (interval : Option ℕ) → IsAudioPlan plan → plan.kind ≡ Am824 → fdf_of plan.rate ≡ Some fdf → syt_interval fdf ≡ interval → IsSome interval → HasFormat plan
 interval_by plan fdf None p kind e f some = absurd cc
 interval_by plan fdf (Some interval) p kind e f some = record {
   stream = record { plan = plan; format = OfAm824 (record { fdf = fdf; interval = interval }) };
@@ -72,31 +77,70 @@ interval_by plan fdf (Some interval) p kind e f some = record {
   plan_is = refl;
 }
 
-am824_by : (plan : TalkPlan) (fdf : Option ℕ) → IsPlan plan → plan.kind ≡ Am824 → fdf_of plan.rate ≡ fdf → IsSome fdf → HasFormat plan
+am824_by : (plan : TalkPlan) (fdf : Option ℕ) → IsAudioPlan plan → plan.kind ≡ Am824 → fdf_of plan.rate ≡ fdf → IsSome fdf → HasFormat plan
 am824_by plan None p kind e some = absurd cc
 am824_by plan (Some fdf) p kind e some = interval_by plan fdf (syt_interval fdf) p kind e refl (some_interval fdf (known_fdf plan.rate fdf e).few)
 
-has_by : (plan : TalkPlan) (kind : TalkKind) → plan.kind ≡ kind → IsTalked kind → IsPlan plan → HasFormat plan
+has_by : (plan : TalkPlan) (kind : TalkKind) → plan.kind ≡ kind → IsAudioKind kind → IsAudioPlan plan → HasFormat plan
 has_by plan (Aaf format sparse) e talked p = pcm_by plan format sparse (rate_code plan.rate) p e refl (rw e at p.rate)
 has_by plan Am824 e talked p = am824_by plan (fdf_of plan.rate) p e refl (rw e at p.rate)
 has_by plan (H264 last_stamp) e talked p = absurd talked
 
-pub has_format : (plan : TalkPlan) → IsPlan plan → HasFormat plan
+pub has_format : (plan : TalkPlan) → IsAudioPlan plan → HasFormat plan
 has_format plan p = has_by plan plan.kind refl p.kind p
 
 -- ---- so its stream keeps what streams keep
 
-pub stream_keeps : (s : AudioStream) (input : List ℕ) → IsAudio s → length input ≤ most_input → IsStream s.plan (stream_of s.plan input)
+stream_keeps : (s : AudioStream) (input : List ℕ) → IsAudio s → length input ≤ most_input → IsStream s.plan (stream_of s.plan input)
 stream_keeps s input is limit = rw (stream_is s input is) (audio_stream s.plan (audio_of s) (headers_of s) input is.plan (format_of s is) limit)
 
-pub plan_keeps : (plan : TalkPlan) (input : List ℕ) → IsPlan plan → length input ≤ most_input → IsStream plan (stream_of plan input)
-plan_keeps plan input p limit =
+audio_keeps : (plan : TalkPlan) (input : List ℕ) → IsAudioPlan plan → length input ≤ most_input → IsStream plan (stream_of plan input)
+audio_keeps plan input p limit =
     let has = has_format plan p in
     subst (λ (plan : TalkPlan). IsStream plan (stream_of plan input)) has.plan_is (stream_keeps has.stream input has.audio limit)
 
--- ---- and its packets have heads
+-- the stream of a plan of H.264
+pub video_is : (plan : TalkPlan) (input : List ℕ) (last_stamp : Bool) → plan.kind ≡ H264 last_stamp → stream_of plan input ≡ video_stream last_stamp plan input (sent_units input)
+video_is plan input last_stamp kind =
+    ap (λ (k : TalkKind). stream_by (audio_by k plan) plan input) kind
+    ∙ ap (λ (k : TalkKind). video_stream (stamps_last k) plan input (sent_units input)) kind
 
-pub plan_heads : (plan : TalkPlan) (input : List ℕ) (n : ℕ) → IsPlan plan → 7 ≤ n → run_of plan (n - 7) ≡ run_of plan n → IsSome (head_of (journal plan input).times n)
+video_keeps : (plan : TalkPlan) (input : List ℕ) (last_stamp : Bool) → IsVideoPlan plan → plan.kind ≡ H264 last_stamp → length input ≤ most_input → IsStream plan (stream_of plan input)
+video_keeps plan input last_stamp p kind limit =
+    subst (λ (s : Stream). IsStream plan s) (sym (video_is plan input last_stamp kind))
+    (video_stream_keeps last_stamp plan input (sent_units input) p kind (sent_are input) limit)
+
+keeps_by : (kind : TalkKind) (plan : TalkPlan) (input : List ℕ) → plan.kind ≡ kind → IsPlanOf kind plan → length input ≤ most_input → IsStream plan (stream_of plan input)
+keeps_by (Aaf format sparse) plan input e p limit = audio_keeps plan input p limit
+keeps_by Am824 plan input e p limit = audio_keeps plan input p limit
+keeps_by (H264 last_stamp) plan input e p limit = video_keeps plan input last_stamp p e limit
+
+pub plan_keeps : (plan : TalkPlan) (input : List ℕ) → IsPlan plan → length input ≤ most_input → IsStream plan (stream_of plan input)
+plan_keeps plan input p limit = keeps_by plan.kind plan input refl p limit
+
+-- ---- plans of audio
+
+plan_by : (kind : TalkKind) (plan : TalkPlan) → IsAudioKind kind → IsAudioPlan plan → IsPlanOf kind plan
+plan_by (Aaf format sparse) plan kind p = p
+plan_by Am824 plan kind p = p
+plan_by (H264 last_stamp) plan kind p = absurd kind
+
+-- a plan of audio is one that is talked
+pub audio_plan : (plan : TalkPlan) → IsAudioPlan plan → IsPlan plan
+audio_plan plan p = plan_by plan.kind plan p.kind p
+
+clocked_by : (kind : TalkKind) (plan : TalkPlan) (crf : CrfPlan) → plan.crf ≡ Some crf → IsPlanOf kind plan → IsAudioPlan plan
+clocked_by (Aaf format sparse) plan crf e p = p
+clocked_by Am824 plan crf e p = p
+clocked_by (H264 last_stamp) plan crf e p = absurd (let none = p.crf in cc)
+
+-- a plan with a media clock is one of audio
+pub clocked_plan : (plan : TalkPlan) (crf : CrfPlan) → IsPlan plan → plan.crf ≡ Some crf → IsAudioPlan plan
+clocked_plan plan crf p e = clocked_by plan.kind plan crf e p
+
+-- ---- packets of audio have heads
+
+pub plan_heads : (plan : TalkPlan) (input : List ℕ) (n : ℕ) → IsAudioPlan plan → 7 ≤ n → run_of plan (n - 7) ≡ run_of plan n → IsSome (head_of (journal plan input).times n)
 plan_heads plan input n p behind same =
     let has = has_format plan p in
     let s = has.stream in
@@ -120,56 +164,47 @@ pub frames_alone : (plan : TalkPlan) (input : List ℕ) → IsPlan plan → plan
 frames_alone plan input p none limit =
     rw (no_clock_by (audio_by plan.kind plan) plan.crf plan input refl none) (in_turn plan (stream_of plan input) (plan_keeps plan input p limit))
 
-pub packets_are : (s : AudioStream) (input : List ℕ) → IsAudio s → length (stream_frames s.plan input) ≡ packets_of s input
-packets_are s input is = rw (stream_is s input is) (count_of (stream_in (audio_of s) s.plan input))
-
--- the packets of the clock beside the stream
-abbrev pub clocks_of : AudioStream → List ℕ → ℕ
-clocks_of s input = (clock_by s.plan.crf s.plan (packets_of s input)).packets
-
-pub clocks_are : (s : AudioStream) (input : List ℕ) → IsAudio s → length (clock_frames s.plan input) ≡ clocks_of s input
-clocks_are s input is = rw (stream_is s input is) (count_clock (stream_in (audio_of s) s.plan input))
-
-pub count_is : (s : AudioStream) (input : List ℕ) → IsAudio s → length (frames s.plan input) ≡ clocks_of s input + packets_of s input
-count_is s input is = rw (stream_is s input is) (count_all (stream_in (audio_of s) s.plan input))
-
 pub went_on : (t : Talking) → t.given < length (frames t.plan t.input) → record t { given = t.given + 1 } ≡ gone_on t
 went_on t h = let one : t.given + 1 ≡ min (t.given + 1) (length (frames t.plan t.input)) = omega arith in ap (λ (k : ℕ). record t { given = k }) one
 
 pub stopped : (t : Talking) → t.given ≡ length (frames t.plan t.input) → t ≡ gone_on t
 stopped t h = let same : t.given ≡ min (t.given + 1) (length (frames t.plan t.input)) = omega arith in ap (λ (k : ℕ). record t { given = k }) same
 
--- ---- packet n as it is sent, and its place among the others
-
-pub record IsSent (s : AudioStream) (input : List ℕ) (n : ℕ) : Type 0 where
-  pub early : arrival_of s.plan n < 2 ^ 32 * 1000000000
-  pub frame : slice_get (stream_frames s.plan input) n ≡ Some (frame_of (stream_in (audio_of s) s.plan input) n)
-  pub fits : HasSpelling capture_style (record_of (frame_of (stream_in (audio_of s) s.plan input) n))
-  pub size : length (packet_bytes ((audio_of s).packet n (samples_in (audio_of s) s.plan input n))) ≤ 1518
-
-pub sent_as : (s : AudioStream) (input : List ℕ) (n : ℕ) → IsAudio s → length input ≤ most_input → n < packets_of s input → IsSent s input n
-sent_as s input n is limit h =
-    let stream = stream_in (audio_of s) s.plan input in
-    let keeps = audio_stream s.plan (audio_of s) (headers_of s) input is.plan (format_of s is) limit in
-    record {
-      early = keeps.sent n h;
-      frame = rw (stream_is s input is) (at_number stream n h);
-      fits = has_spelling s.plan stream n keeps h;
-      size = keeps.size n h;
-    }
-
 -- the samples of a packet that the input has wholly
 pub whole_of : (s : AudioStream) (input : List ℕ) (n : ℕ) → IsAudio s → samples_size s ≤ length (drop (n * samples_size s) input)
     → take (samples_size s) (drop (n * samples_size s) input) ≡ samples_in (audio_of s) s.plan input n
 whole_of s input n is whole = whole_samples (audio_of s).silence (audio_of s).frame s.plan.count n input (format_of s is).silence whole
 
--- ---- the clock of a talker
+-- ---- the clock beside a stream
 
-abbrev pub stream_of_audio : AudioStream → List ℕ → Stream
-stream_of_audio s input = stream_in (audio_of s) s.plan input
+pub record HasPlanClock (plan : TalkPlan) (s : Stream) : Type 0 where
+  pub packets : clocks_in s ≡ (clock_by plan.crf plan (packets_in s)).packets
+  pub arrival : (m : ℕ) → s.clock_arrival m ≡ clock_arrival_by plan.crf plan m
+  pub packet : (m : ℕ) → s.journal.clock_packet m ≡ clock_packet_by plan.crf plan (packets_in s) m
 
-pub keeps : (s : AudioStream) (input : List ℕ) → IsAudio s → length input ≤ most_input → IsStream s.plan (stream_of_audio s input)
-keeps s input is limit = audio_stream s.plan (audio_of s) (headers_of s) input is.plan (format_of s is) limit
+clock_by_kind : (audio : Option Audio) (plan : TalkPlan) (input : List ℕ) → HasPlanClock plan (stream_by audio plan input)
+clock_by_kind None plan input = record { packets = refl; arrival = λ m. refl; packet = λ m. refl }
+clock_by_kind (Some a) plan input = record { packets = refl; arrival = λ m. refl; packet = λ m. refl }
+
+-- a stream of a plan, with what it keeps
+pub record IsOf (plan : TalkPlan) (s : Stream) : Type 0 where
+  pub keeps : IsStream plan s
+  pub clock : HasPlanClock plan s
+
+pub is_of : (plan : TalkPlan) (input : List ℕ) → IsPlan plan → length input ≤ most_input → IsOf plan (stream_of plan input)
+is_of plan input p limit = record { keeps = plan_keeps plan input p limit; clock = clock_by_kind (audio_by plan.kind plan) plan input }
+
+source_plan : (source : Source) → IsSource source → IsPlan (plan_in source)
+source_plan (OfAudio stream input) is = audio_plan stream.plan is.0.plan
+source_plan (OfVideo v) is = let P : TalkKind → Type 0 = λ k. IsPlanOf k v.plan in subst P (sym is.kind) is.plan
+
+source_limit : (source : Source) → IsSource source → length (input_in source) ≤ most_input
+source_limit (OfAudio stream input) is = is.1
+source_limit (OfVideo v) is = is.limit
+
+-- that of a source is one
+pub source_is : (source : Source) → IsSource source → IsOf (plan_in source) (stream_in_source source)
+source_is source is = is_of (plan_in source) (input_in source) (source_plan source is) (source_limit source is)
 
 crf_is : (c : ClockStream) (plan : TalkPlan) (packets : ℕ) → IsClockIn c plan packets → plan.crf ≡ Some c.crf
 crf_is c plan packets is = ap (λ (plan : TalkPlan). plan.crf) (sym is.plan_is) ∙ is.clock.clock
@@ -192,89 +227,100 @@ packet_in_is c plan packets m is =
     ∙ ap (λ (plan : TalkPlan). clock_packet_by (Some c.crf) plan packets m) (sym is.plan_is)
     ∙ ap (λ (n : ℕ). clock_packet_by (Some c.crf) c.plan n m) (sym is.stream)
 
--- its packet m as it is sent
-pub record IsClockSent (s : AudioStream) (c : ClockStream) (input : List ℕ) (m : ℕ) : Type 0 where
+-- the clock of a talker stands beside the stream
+pub record IsBeside (c : ClockStream) (s : Stream) : Type 0 where
+  pub count : clocks_in s ≡ clock_packets c.crf c.plan c.stream
+  pub arrival : (m : ℕ) → s.clock_arrival m ≡ clock_arrival c.crf c.plan m
+  pub packet : (m : ℕ) → s.journal.clock_packet m ≡ clock_packet c.crf c.plan c.stream m
+
+pub beside : (c : ClockStream) (plan : TalkPlan) (s : Stream) (packets : ℕ) → IsOf plan s → packets ≡ packets_in s → IsClockIn c plan packets → IsBeside c s
+beside c plan s packets of e clock =
+    let there : IsClockIn c plan (packets_in s) = subst (λ (n : ℕ). IsClockIn c plan n) e clock in
+    record {
+      count = of.clock.packets ∙ clocks_in_is c plan (packets_in s) there;
+      arrival = λ m. of.clock.arrival m ∙ arrival_in_is c plan (packets_in s) m there;
+      packet = λ m. of.clock.packet m ∙ packet_in_is c plan (packets_in s) m there;
+    }
+
+none_sent : (plan : TalkPlan) (s : Stream) → IsOf plan s → plan.crf ≡ None → clocks_in s ≡ 0
+none_sent plan s of e = of.clock.packets ∙ ap (λ (o : Option CrfPlan). (clock_by o plan (packets_in s)).packets) e
+
+pub clocks_are : (clock : Option ClockStream) (plan : TalkPlan) (s : Stream) (packets : ℕ) → IsOf plan s → packets ≡ packets_in s → IsClockOf clock plan packets → clocks_in s ≡ clocks_of clock
+clocks_are None plan s packets of e clock = none_sent plan s of clock
+clocks_are (Some c) plan s packets of e clock = (beside c plan s packets of e clock).count
+
+-- ---- packet n as it is sent, and packet m of the clock
+
+pub record IsSent (s : Stream) (n : ℕ) : Type 0 where
+  pub early : s.arrival n < 2 ^ 32 * 1000000000
+  pub frame : slice_get (numbered_frames s) n ≡ Some (frame_of s n)
+  pub fits : HasSpelling capture_style (record_of (frame_of s n))
+  pub size : length (packet_bytes (s.journal.packet n)) ≤ 1518
+
+pub sent_as : (plan : TalkPlan) (s : Stream) (n : ℕ) → IsOf plan s → n < packets_in s → IsSent s n
+sent_as plan s n of h = record {
+  early = of.keeps.sent n h;
+  frame = at_number s n h;
+  fits = has_spelling plan s n of.keeps h;
+  size = of.keeps.size n h;
+}
+
+pub record IsClockSent (s : Stream) (c : ClockStream) (m : ℕ) : Type 0 where
   pub early : clock_arrival c.crf c.plan m < 2 ^ 32 * 1000000000
-  pub frame : slice_get (clock_frames s.plan input) m ≡ Some (clock_frame_of (stream_of_audio s input) m)
-  pub same : clock_frame_of (stream_of_audio s input) m ≡ record { arrival = pos (clock_arrival c.crf c.plan m); number = m; clock = true; bytes = clock_bytes (clock_packet c.crf c.plan c.stream m) }
-  pub fits : HasSpelling capture_style (record_of (clock_frame_of (stream_of_audio s input) m))
+  pub frame : slice_get (numbered_clock s) m ≡ Some (clock_frame_of s m)
+  pub same : clock_frame_of s m ≡ record { arrival = pos (clock_arrival c.crf c.plan m); number = m; clock = true; bytes = clock_bytes (clock_packet c.crf c.plan c.stream m) }
+  pub fits : HasSpelling capture_style (record_of (clock_frame_of s m))
   pub size : length (clock_bytes (clock_packet c.crf c.plan c.stream m)) ≤ 1518
 
-in_packets : (c : ClockStream) (plan : TalkPlan) (packets n : ℕ) → packets ≡ n → IsClockIn c plan packets → IsClockIn c plan n
-in_packets c plan packets n e is = subst (λ (n : ℕ). IsClockIn c plan n) e is
-
-pub clock_known : (s : AudioStream) (c : ClockStream) (input : List ℕ) (packets m : ℕ) → IsAudio s → packets ≡ packets_of s input → IsClockIn c s.plan packets
-    → m < length (clock_frames s.plan input) → m < clock_packets c.crf c.plan c.stream
-clock_known s c input packets m is e of h =
-    let there = in_packets c s.plan packets (packets_of s input) e of in
-    let count = clocks_in_is c s.plan (packets_of s input) there in
-    omega (arith, clocks_are s input is, count, h)
-
-pub clock_sent_as : (s : AudioStream) (c : ClockStream) (input : List ℕ) (packets m : ℕ) → IsAudio s → length input ≤ most_input → packets ≡ packets_of s input → IsClockIn c s.plan packets
-    → m < clock_packets c.crf c.plan c.stream → IsClockSent s c input m
-clock_sent_as s c input packets m is limit e of h =
-    let stream = stream_of_audio s input in
-    let k = keeps s input is limit in
-    let there = in_packets c s.plan packets (packets_of s input) e of in
-    let count = clocks_in_is c s.plan (packets_of s input) there in
-    let arrival = arrival_in_is c s.plan (packets_of s input) m there in
-    let packet = packet_in_is c s.plan (packets_of s input) m there in
-    let known : m < clocks_in stream = omega (arith, count, h) in
+pub clock_sent_as : (plan : TalkPlan) (s : Stream) (c : ClockStream) (m : ℕ) → IsOf plan s → IsBeside c s → m < clocks_in s → IsClockSent s c m
+clock_sent_as plan s c m of by known =
+    let arrival = by.arrival m in
+    let packet = by.packet m in
     record {
-      early = omega (arith, arrival, k.clock_sent m known);
-      frame = rw (stream_is s input is) (clock_at_number stream m known);
-      same = ap (λ (x : ℕ). record { arrival = pos x; number = m; clock = true; bytes = clock_bytes (stream.journal.clock_packet m) }) arrival
+      early = omega (arith, arrival, of.keeps.clock_sent m known);
+      frame = clock_at_number s m known;
+      same = ap (λ (x : ℕ). record { arrival = pos x; number = m; clock = true; bytes = clock_bytes (s.journal.clock_packet m) }) arrival
           ∙ ap (λ (v : Crf). record { arrival = pos (clock_arrival c.crf c.plan m); number = m; clock = true; bytes = clock_bytes v }) packet;
-      fits = clock_has_spelling s.plan stream m k known;
-      size = subst (λ (v : Crf). length (clock_bytes v) ≤ 1518) packet (k.clock_size m known);
+      fits = clock_has_spelling plan s m of.keeps known;
+      size = subst (λ (v : Crf). length (clock_bytes v) ≤ 1518) packet (of.keeps.clock_size m known);
     }
 
 -- ---- which frame comes next
 
-none_sent : (plan : TalkPlan) (n : ℕ) → plan.crf ≡ None → (clock_by plan.crf plan n).packets ≡ 0
-none_sent plan n e = ap (λ (o : Option CrfPlan). (clock_by o plan n).packets) e
-
-pub sooner : (clock : Option ClockStream) (s : AudioStream) (input : List ℕ) (packets a b : ℕ) → IsAudio s → length input ≤ most_input → packets ≡ packets_of s input
-    → IsClockOf clock s.plan packets → IsClockFirst clock s.plan a b packets
-    → (a < clocks_in (stream_of_audio s input)) × ((k : ℕ) → b ≤ k → k < packets_in (stream_of_audio s input) → (stream_of_audio s input).clock_arrival a ≤ (stream_of_audio s input).arrival k)
-sooner None s input packets a b is limit e of first = absurd first
-sooner (Some c) s input packets a b is limit e of first =
-    let stream = stream_of_audio s input in
-    let k = keeps s input is limit in
-    let there = in_packets c s.plan packets (packets_of s input) e of in
-    let count = clocks_in_is c s.plan (packets_of s input) there in
-    let arrival = arrival_in_is c s.plan (packets_of s input) a there in (
+pub sooner : (clock : Option ClockStream) (plan : TalkPlan) (s : Stream) (packets a b : ℕ) → IsOf plan s → packets ≡ packets_in s → IsClockOf clock plan packets → IsClockFirst clock s a b
+    → (a < clocks_in s) × ((k : ℕ) → b ≤ k → k < packets_in s → s.clock_arrival a ≤ s.arrival k)
+sooner None plan s packets a b of e clock first = absurd first
+sooner (Some c) plan s packets a b of e clock first =
+    let by = beside c plan s packets of e clock in
+    let count = by.count in
+    let arrival = by.arrival a in (
       omega (arith, count, first.0),
       λ j from below. (elim first.1 [
         | inl ended ↦ absurd (omega arith)
-        | inr before ↦ let rise = rises stream.arrival k.rising b j from in omega (arith, arrival, before, rise)
+        | inr before ↦ let rise = rises s.arrival of.keeps.rising b j from in omega (arith, arrival, before, rise)
       ]),
     )
 
-pub later : (clock : Option ClockStream) (s : AudioStream) (input : List ℕ) (packets a b : ℕ) → IsAudio s → length input ≤ most_input → packets ≡ packets_of s input
-    → IsClockOf clock s.plan packets → ¬ IsClockFirst clock s.plan a b packets → b < packets
-    → (m : ℕ) → a ≤ m → m < clocks_in (stream_of_audio s input) → (stream_of_audio s input).arrival b < (stream_of_audio s input).clock_arrival m
-later None s input packets a b is limit e of other more m from known =
-    absurd (let none = none_sent s.plan (packets_of s input) of in omega (arith, none, known))
-later (Some c) s input packets a b is limit e of other more m from known =
-    let stream = stream_of_audio s input in
-    let k = keeps s input is limit in
-    let there = in_packets c s.plan packets (packets_of s input) e of in
-    let count = clocks_in_is c s.plan (packets_of s input) there in
-    let arrival = arrival_in_is c s.plan (packets_of s input) a there in
-    let rise = rises stream.clock_arrival k.clock_rising a m from in
-    elim (cases_lt (stream.arrival b) (stream.clock_arrival a)) [
+pub later : (clock : Option ClockStream) (plan : TalkPlan) (s : Stream) (packets a b : ℕ) → IsOf plan s → packets ≡ packets_in s → IsClockOf clock plan packets → ¬ IsClockFirst clock s a b → b < packets
+    → (m : ℕ) → a ≤ m → m < clocks_in s → s.arrival b < s.clock_arrival m
+later None plan s packets a b of e clock other more m from known = absurd (let none = none_sent plan s of clock in omega (arith, none, known))
+later (Some c) plan s packets a b of e clock other more m from known =
+    let by = beside c plan s packets of e clock in
+    let count = by.count in
+    let arrival = by.arrival a in
+    let rise = rises s.clock_arrival of.keeps.clock_rising a m from in
+    elim (cases_lt (s.arrival b) (s.clock_arrival a)) [
       | inl before ↦ omega (arith, rise, before)
       | inr not ↦ absurd (other (omega (arith, count, known), inr (omega (arith, arrival, not))))
     ]
 
-pub ended : (clock : Option ClockStream) (s : AudioStream) (input : List ℕ) (packets a b : ℕ) → packets ≡ packets_of s input
-    → IsClockOf clock s.plan packets → ¬ IsClockFirst clock s.plan a b packets → b ≡ packets → a ≤ clocks_in (stream_of_audio s input) → a ≡ clocks_in (stream_of_audio s input)
-ended None s input packets a b e of other at most = let none = none_sent s.plan (packets_of s input) of in omega (arith, none, most)
-ended (Some c) s input packets a b e of other at most =
-    let there = in_packets c s.plan packets (packets_of s input) e of in
-    let count = clocks_in_is c s.plan (packets_of s input) there in
-    elim (cases_lt a (clocks_in (stream_of_audio s input))) [
+pub ended : (clock : Option ClockStream) (plan : TalkPlan) (s : Stream) (packets a b : ℕ) → IsOf plan s → packets ≡ packets_in s → IsClockOf clock plan packets → ¬ IsClockFirst clock s a b → b ≡ packets
+    → a ≤ clocks_in s → a ≡ clocks_in s
+ended None plan s packets a b of e clock other at most = let none = none_sent plan s of clock in omega (arith, none, most)
+ended (Some c) plan s packets a b of e clock other at most =
+    let by = beside c plan s packets of e clock in
+    let count = by.count in
+    elim (cases_lt a (clocks_in s)) [
       | inl more ↦ absurd (other (omega (arith, count, more), inl (omega arith)))
       | inr not ↦ omega arith
     ]
@@ -301,27 +347,15 @@ first_is (x ∷ xs) (suc k) f rest e =
     let more : suc k + 1 ≡ suc (k + 1) = omega arith in
     record { at = is.at; next = rw more is.next; below = (let below = is.below in omega arith) }
 
-pub clock_step : (s : AudioStream) (input : List ℕ) (a b : ℕ) → IsAudio s → length input ≤ most_input → a < clocks_in (stream_of_audio s input)
-    → ((k : ℕ) → b ≤ k → k < packets_in (stream_of_audio s input) → (stream_of_audio s input).clock_arrival a ≤ (stream_of_audio s input).arrival k)
-    → drop (a + b) (frames s.plan input) ≡ left_of (stream_of_audio s input) a b
-    → IsFirst (frames s.plan input) (a + b) (clock_frame_of (stream_of_audio s input) a) (left_of (stream_of_audio s input) (a + 1) b)
-clock_step s input a b is limit more soon left =
-    first_is (frames s.plan input) (a + b) (clock_frame_of (stream_of_audio s input) a) (left_of (stream_of_audio s input) (a + 1) b)
-    (left ∙ clock_first s.plan (stream_of_audio s input) a b (keeps s input is limit) more soon)
+pub clock_step : (plan : TalkPlan) (s : Stream) (a b : ℕ) → IsOf plan s → a < clocks_in s → ((k : ℕ) → b ≤ k → k < packets_in s → s.clock_arrival a ≤ s.arrival k)
+    → drop (a + b) (frames_of s) ≡ left_of s a b → IsFirst (frames_of s) (a + b) (clock_frame_of s a) (left_of s (a + 1) b)
+clock_step plan s a b of more soon left =
+    first_is (frames_of s) (a + b) (clock_frame_of s a) (left_of s (a + 1) b) (left ∙ clock_first plan s a b of.keeps more soon)
 
-pub packet_step : (s : AudioStream) (input : List ℕ) (a b : ℕ) → IsAudio s → length input ≤ most_input → b < packets_in (stream_of_audio s input)
-    → ((m : ℕ) → a ≤ m → m < clocks_in (stream_of_audio s input) → (stream_of_audio s input).arrival b < (stream_of_audio s input).clock_arrival m)
-    → drop (a + b) (frames s.plan input) ≡ left_of (stream_of_audio s input) a b
-    → IsFirst (frames s.plan input) (a + b) (frame_of (stream_of_audio s input) b) (left_of (stream_of_audio s input) a (b + 1))
-packet_step s input a b is limit more soon left =
-    first_is (frames s.plan input) (a + b) (frame_of (stream_of_audio s input) b) (left_of (stream_of_audio s input) a (b + 1))
-    (left ∙ packet_first s.plan (stream_of_audio s input) a b (keeps s input is limit) more soon)
+pub packet_step : (plan : TalkPlan) (s : Stream) (a b : ℕ) → IsOf plan s → b < packets_in s → ((m : ℕ) → a ≤ m → m < clocks_in s → s.arrival b < s.clock_arrival m)
+    → drop (a + b) (frames_of s) ≡ left_of s a b → IsFirst (frames_of s) (a + b) (frame_of s b) (left_of s a (b + 1))
+packet_step plan s a b of more soon left =
+    first_is (frames_of s) (a + b) (frame_of s b) (left_of s a (b + 1)) (left ∙ packet_first plan s a b of.keeps more soon)
 
 pub moved : {k n : ℕ} (xs rest : List SentFrame) → k ≡ n → drop k xs ≡ rest → drop n xs ≡ rest
 moved xs rest e h = rw (← e) h
-
-pub clock_at : (s : AudioStream) (input : List ℕ) (m : ℕ) → IsAudio s → m < clocks_in (stream_of_audio s input) → slice_get (clock_frames s.plan input) m ≡ Some (clock_frame_of (stream_of_audio s input) m)
-clock_at s input m is h = rw (stream_is s input is) (clock_at_number (stream_of_audio s input) m h)
-
-pub packet_at : (s : AudioStream) (input : List ℕ) (n : ℕ) → IsAudio s → n < packets_in (stream_of_audio s input) → slice_get (stream_frames s.plan input) n ≡ Some (frame_of (stream_of_audio s input) n)
-packet_at s input n is h = rw (stream_is s input is) (at_number (stream_of_audio s input) n h)

@@ -4,7 +4,7 @@ use Rattle.std.proofs.Math.Nat.{div-mul-le_self, lt-div-mul-add, mul-le-mul_left
 use Rattle.std.proofs.lemmas.Bool.{cases_lt}
 use Rattle.std.proofs.lemmas.Int.{ints}
 use Rattle.talker.specs.declared.plan.TalkPlan.{TalkPlan}
-use Rattle.talker.specs.Plan.{IsPlan}
+use Rattle.talker.specs.Plan.{IsAudioPlan}
 use Rattle.talker.specs.Timing.{arrival_of, event_of, first_instant, first_packet, nominal_instant, nominal_offset, run_of}
 use Rattle.talker.proofs.RateLemmas.{rate_from, rate_range}
 use Rattle.talker.proofs.RunLemmas.{in_run, later_run}
@@ -54,14 +54,14 @@ sum_of rate a b c some e =
 
 -- ---- packet n of a plan
 
-pub few_jumps : (plan : TalkPlan) (n : ℕ) → IsPlan plan → n * plan.count ≤ 268435456 → run_of plan n * plan.jump ≤ 33554432000000000
+pub few_jumps : (plan : TalkPlan) (n : ℕ) → IsAudioPlan plan → n * plan.count ≤ 268435456 → run_of plan n * plan.jump ≤ 33554432000000000
 few_jumps plan n p events =
     let in_its = in_run plan.restart plan.jump plan.count n p.restart in
     let packets : n * 1 ≤ n * plan.count = mul-le-mul_left n p.some_count in
     omega (arith, in_its.jumps)
 
 -- no instant of it passes what captures can say
-pub in_time : (plan : TalkPlan) (n i : ℕ) → IsPlan plan → n * plan.count ≤ 268435456 → i < plan.count
+pub in_time : (plan : TalkPlan) (n i : ℕ) → IsAudioPlan plan → n * plan.count ≤ 268435456 → i < plan.count
     → nominal_instant plan n i < plan.lead + 2 ^ 32 * 1000000000
 unfolding nominal_instant
 in_time plan n i p events within =
@@ -83,7 +83,7 @@ apart_by : (s j x y k z w a b c d n count rate : ℕ) → a + b ≡ n → c + d 
 apart_by s j x y k z w a b c d n count rate e f jumps wide under also over and = omega arith
 
 -- two first instants are 3/4 of a packet's time apart, and 4 nanoseconds
-pub apart : (plan : TalkPlan) (n : ℕ) → IsPlan plan
+pub apart : (plan : TalkPlan) (n : ℕ) → IsAudioPlan plan
     → 4 * (first_instant plan n * plan.rate) + 3 * (plan.count * 1000000000) + 16 * plan.rate ≤ 4 * (first_instant plan (suc n) * plan.rate)
 unfolding nominal_instant
 apart plan n p =
@@ -113,7 +113,7 @@ not_before x y rate time some h = elim (cases_lt y x) [
 ]
 
 -- no packet is sent before the one in front of it
-pub rising : (plan : TalkPlan) (n : ℕ) → IsPlan plan → arrival_of plan n ≤ arrival_of plan (n + 1)
+pub rising : (plan : TalkPlan) (n : ℕ) → IsAudioPlan plan → arrival_of plan n ≤ arrival_of plan (n + 1)
 rising plan n p =
     let least = rate_from plan p in
     let next : n + 1 ≡ suc n = omega arith in

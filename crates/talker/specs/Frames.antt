@@ -10,9 +10,13 @@ use Rattle.avtp_header.specs.Numbers.{avtp_ethertype}
 use Rattle.aaf_format.specs.declared.aaf.AafFormat.{AafFormat}
 use Rattle.crf_format.specs.Crf.{Crf, crf_spelling}
 use Rattle.packet_journal.specs.Packets.{PacketView, Pcm, spelling_of}
+use Rattle.stream_journal.specs.Delivered.{AreNear}
+use Rattle.stream_journal.specs.Journal.{Journal}
+use Rattle.talker.specs.declared.plan.TalkKind.{TalkKind}
+use Rattle.talker.specs.declared.plan.TalkKind.TheVariants.{Aaf, Am824, H264}
 use Rattle.talker.specs.declared.plan.TalkPlan.{TalkPlan}
 use Rattle.talker.specs.declared.sent.Sent.{Sent}
-use Rattle.talker.specs.Journal.{Stream, stream_of}
+use Rattle.talker.specs.Journal.{Stream, journal, stream_of}
 use Rattle.talker.specs.Packets.{aaf_packet}
 
 -- A frame as it is sent: when, the number of its packet in the stream or in the clock, which of these it is, and its bytes.
@@ -118,6 +122,24 @@ RiseByArrival (f ∷ g ∷ frames) = (f.arrival ≤ℤ g.arrival) × RiseByArriv
 -- the frames in these places, in this order: some may be missing, come again, or change places
 abbrev pub frames_at : TalkPlan → List ℕ → List ℕ → List SentFrame
 frames_at plan input places = filter_map (slice_get (frames plan input)) places
+
+-- ---- what is near in a capture
+
+-- the numbers of the stream's packets among some frames
+abbrev pub packet_numbers : List SentFrame → List ℕ
+packet_numbers [] = []
+packet_numbers (f ∷ frames) = if f.clock then packet_numbers frames else f.number ∷ packet_numbers frames
+
+abbrev pub StaysNearBy : TalkKind → Journal → List ℕ → Type 0
+StaysNearBy (Aaf format sparse) j numbers = ⊤
+StaysNearBy Am824 j numbers = ⊤
+StaysNearBy (H264 false) j numbers = ⊤
+StaysNearBy (H264 true) j numbers = AreNear j numbers
+
+-- Fragments without a timestamp are told apart by their sequence numbers alone. So where a plan stamps the last fragments of
+-- units alone, fragments that are captured beside each other are of packets at most 254 apart, unless both are stamped.
+abbrev pub StaysNear : TalkPlan → List ℕ → List SentFrame → Type 0
+StaysNear plan input frames = StaysNearBy plan.kind (journal plan input).times (packet_numbers frames)
 
 -- ---- the capture
 

@@ -1,17 +1,21 @@
 -- The journal of a plan: its packets in true numbers and at true instants.
-use Rattle.std.specs.Prelude.{ℕ, nat_abs, false, List, [], Option, Some, None}
-use Rattle.aaf_format.specs.declared.aaf.AafFormat.TheVariants.{Int16}
+use Rattle.std.specs.Prelude.{ℕ, nat_abs, Bool, false, List, [], Option, Some, None}
 use Rattle.crf_format.specs.Crf.{Crf, crf_of}
 use Rattle.time_unfold.specs.declared.head_rule.Head.{Head}
-use Rattle.stream_journal.specs.Journal.{Journal, Kind, DenseAaf, head_of, nominal_instant}
-use Rattle.packet_journal.specs.Packets.{PacketJournal, Pcm}
+use Rattle.stream_journal.specs.Journal.{Journal, Kind, head_of, nominal_instant}
+use Rattle.packet_journal.specs.Packets.{PacketJournal, H264Data}
 use Rattle.talker.specs.declared.plan.CrfPlan.{CrfPlan}
+use Rattle.talker.specs.declared.plan.TalkKind.{TalkKind}
+use Rattle.talker.specs.declared.plan.TalkKind.TheVariants.{Aaf, Am824, H264}
 use Rattle.talker.specs.declared.plan.TalkPlan.{TalkPlan}
 use Rattle.talker.specs.Audio.{Audio, audio_by}
 use Rattle.talker.specs.Clock.{clock_arrival, clock_by, clock_packet}
-use Rattle.talker.specs.Packets.{aaf_packet, stamp_of}
+use Rattle.talker.specs.Fragments.{all_packets}
+use Rattle.talker.specs.Packets.{stamp_of}
 use Rattle.talker.specs.Samples.{packets_for, samples_of}
 use Rattle.talker.specs.Timing.{arrival_of, first_instant, mr_of}
+use Rattle.talker.specs.Units.{sent_units}
+use Rattle.talker.specs.Video.{cvf_packet, video_arrival, video_times}
 
 -- ---- audio
 
@@ -66,7 +70,7 @@ audio_journal audio plan input = record {
   clock_packet = λ m. clock_packet_by plan.crf plan (packets_of audio plan input) m;
 }
 
--- ---- all streams
+-- ---- streams
 
 -- A stream as it is sent: its packets and those of its clock with their times, and when each is sent.
 pub record Stream : Type 0 where
@@ -78,19 +82,31 @@ abbrev pub clock_arrival_by : Option CrfPlan → TalkPlan → ℕ → ℕ
 clock_arrival_by None plan m = 0
 clock_arrival_by (Some crf) plan m = clock_arrival crf plan m
 
--- a stream without packets, for what is not talked so far
-abbrev pub silent : TalkPlan → Stream
-silent plan = record {
-  journal = record {
-    times = nominal_times DenseAaf plan 0;
-    stream = plan.id;
-    packet = λ n. Pcm (aaf_packet Int16 false plan n []);
-    clock = clock_id plan.crf;
-    clock_packet = λ m. clock_packet_by plan.crf plan 0 m;
-  };
-  arrival = λ n. 0;
-  clock_arrival = λ m. 0;
+-- ---- H.264
+
+abbrev pub video_journal : Bool → TalkPlan → List ℕ → List (ℕ × ℕ) → PacketJournal
+video_journal last_stamp plan input units = record {
+  times = video_times last_stamp plan input units;
+  stream = plan.id;
+  packet = λ n. H264Data (cvf_packet last_stamp plan input units n);
+  clock = clock_id plan.crf;
+  clock_packet = λ m. clock_packet_by plan.crf plan (all_packets units) m;
 }
+
+abbrev pub video_stream : Bool → TalkPlan → List ℕ → List (ℕ × ℕ) → Stream
+video_stream last_stamp plan input units = record {
+  journal = video_journal last_stamp plan input units;
+  arrival = λ n. video_arrival plan input units n;
+  clock_arrival = λ m. clock_arrival_by plan.crf plan m;
+}
+
+-- fragments of H.264 may be stamped on the last of a unit alone
+abbrev pub stamps_last : TalkKind → Bool
+stamps_last (Aaf format sparse) = false
+stamps_last Am824 = false
+stamps_last (H264 last_stamp) = last_stamp
+
+-- ---- all streams
 
 abbrev pub stream_by : Option Audio → TalkPlan → List ℕ → Stream
 stream_by (Some audio) plan input = record {
@@ -98,7 +114,7 @@ stream_by (Some audio) plan input = record {
   arrival = λ n. arrival_of plan n;
   clock_arrival = λ m. clock_arrival_by plan.crf plan m;
 }
-stream_by None plan input = silent plan
+stream_by None plan input = video_stream (stamps_last plan.kind) plan input (sent_units input)
 
 abbrev pub stream_of : TalkPlan → List ℕ → Stream
 stream_of plan input = stream_by (audio_by plan.kind plan) plan input

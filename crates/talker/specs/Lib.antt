@@ -14,3 +14,9 @@ pub mod Lending
 pub mod Examples
 pub mod Noise
 pub mod Soak
+pub mod AccessUnits
+pub mod Fragments
+pub mod Rows
+pub mod Units
+pub mod Video
+pub mod Listing

@@ -44,11 +44,13 @@ most_samples = 1476
 abbrev pub most_blocks : ℕ
 most_blocks = 1468
 
--- PCM and AM824. (So far no other kind is talked.)
-abbrev pub IsTalked : TalkKind → Type 0
-IsTalked (Aaf format sparse) = ⊤
-IsTalked Am824 = ⊤
-IsTalked (H264 last_stamp) = ⊥
+-- ---- audio
+
+-- PCM and AM824
+abbrev pub IsAudioKind : TalkKind → Type 0
+IsAudioKind (Aaf format sparse) = ⊤
+IsAudioKind Am824 = ⊤
+IsAudioKind (H264 last_stamp) = ⊥
 
 -- the rate is one that the format names
 abbrev pub HasRate : TalkKind → ℕ → Type 0
@@ -116,10 +118,10 @@ abbrev pub IsAhead : Option CrfPlan → ℕ → Type 0
 IsAhead None lead = ⊤
 IsAhead (Some crf) lead = 3 ≤ lead
 
--- A plan that is talked: PCM in the AVTP audio format, sparse or not, or AM824, with restarts or without, and with a media
--- clock or without.
-pub record IsPlan (plan : TalkPlan) : Type 0 where
-  pub kind : IsTalked plan.kind
+-- A plan of audio: PCM in the AVTP audio format, sparse or not, or AM824, with restarts or without, and with a media clock
+-- or without.
+pub record IsAudioPlan (plan : TalkPlan) : Type 0 where
+  pub kind : IsAudioKind plan.kind
   pub rate : HasRate plan.kind plan.rate
   pub some_channels : 1 ≤ plan.channels
   pub channels : plan.channels ≤ 1023
@@ -132,6 +134,31 @@ pub record IsPlan (plan : TalkPlan) : Type 0 where
   pub lead : plan.lead ≤ 1000000000
   pub restart : Restarts plan.restart plan.jump
   pub crf : HasClock plan.crf plan.rate plan.count plan.restart
+
+-- ---- H.264
+
+-- A plan of H.264 has 1 to 240 access units a second, no restarts and no media clock. Its channels and its count have no
+-- meaning.
+pub record IsVideoPlan (plan : TalkPlan) : Type 0 where
+  pub some_rate : 1 ≤ plan.rate
+  pub rate : plan.rate ≤ 240
+  pub started : pos 0 ≤ℤ plan.start
+  pub start : plan.start ≤ℤ pos (4 * 10 ^ 18)
+  pub some_lead : 1 ≤ plan.lead
+  pub lead : plan.lead ≤ 1000000000
+  pub restart : plan.restart ≡ None
+  pub crf : plan.crf ≡ None
+
+-- ---- all plans
+
+abbrev pub IsPlanOf : TalkKind → TalkPlan → Type 0
+IsPlanOf (Aaf format sparse) plan = IsAudioPlan plan
+IsPlanOf Am824 plan = IsAudioPlan plan
+IsPlanOf (H264 last_stamp) plan = IsVideoPlan plan
+
+-- a plan that is talked
+abbrev pub IsPlan : TalkPlan → Type 0
+IsPlan plan = IsPlanOf plan.kind plan
 
 -- ---- listeners
 

@@ -4,7 +4,7 @@ ghost use Rattle.std.specs.Prelude.{◌≡◌, ◌+◌, ◌*◌, ◌≤◌, ◌<
 ghost use Rattle.iec61883_format.specs.Iec.{block_size as block_size_of, iec_shape, iec_spelling};
 ghost use Rattle.talker.specs.Audio.{silent_quadlets as silent_quadlets_of};
 ghost use Rattle.talker.specs.Packets.{am824_kind, dbc_of, iec_packet, stamp_of};
-ghost use Rattle.talker.specs.Plan.{IsPlan, fdf_of as fdf_of_rate};
+ghost use Rattle.talker.specs.Plan.{IsAudioPlan, fdf_of as fdf_of_rate};
 ghost use Rattle.talker.specs.Talking.{IsAm824};
 
 use crate::audio::SAMPLES_LIMIT;
@@ -72,7 +72,7 @@ fn block_count(plan: &TalkPlan, n: u64) -> u8
 impl Am824Format {
     /// The format of a plan of AM824.
     pub fn of(plan: &TalkPlan) -> Self
-        requires plan { IsPlan plan.now }
+        requires plan { IsAudioPlan plan.now }
         requires kind { plan.now.kind ≡ TalkKind.Am824 }
         ensures { IsAm824 result plan.now }
     {
@@ -88,7 +88,7 @@ impl Am824Format {
     /// The instant with which packet `n` is stamped: that of the first block whose count is a multiple of the interval, where
     /// the packet has it (IEC 61883-6).
     fn stamp(&self, plan: &TalkPlan, n: u64) -> Option<u64>
-        requires plan { IsPlan plan.now }
+        requires plan { IsAudioPlan plan.now }
         requires format { IsAm824 self.now plan.now }
         requires frames { n * plan.now.count ≤ 2 ^ 28 }
         ensures { result ≡ stamp_of (am824_kind plan.now) plan.now n }
@@ -103,7 +103,7 @@ impl Am824Format {
 
     /// Packet `n`, with its data blocks.
     fn packet<'a>(&self, plan: &TalkPlan, n: u64, blocks: &'a [u8]) -> IecView<'a>
-        requires plan { IsPlan plan.now }
+        requires plan { IsAudioPlan plan.now }
         requires format { IsAm824 self.now plan.now }
         requires frames { n * plan.now.count ≤ 2 ^ 28 }
         requires whole { length blocks.now ≡ plan.now.count * block_size_of plan.now.channels }
@@ -131,7 +131,7 @@ impl Am824Format {
 
     /// Writes packet `n`, with its data blocks.
     pub fn write(&self, plan: &TalkPlan, out: &mut [u8], n: u64, blocks: &[u8])
-        requires plan { IsPlan plan.now }
+        requires plan { IsAudioPlan plan.now }
         requires format { IsAm824 self.now plan.now }
         requires frames { n * plan.now.count ≤ 2 ^ 28 }
         requires whole { length blocks.now ≡ plan.now.count * block_size_of plan.now.channels }

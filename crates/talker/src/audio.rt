@@ -4,11 +4,10 @@ ghost use Rattle.std.specs.Prelude.{◌≡◌, ◌+◌, ◌*◌, ◌≤◌, ◌<
 ghost use Rattle.avtp_base.specs.Layout.{spelling};
 ghost use Rattle.packet_journal.specs.Packets.{spelling_of};
 ghost use Rattle.pcap_frames.specs.Frame.{frame_layout};
-ghost use Rattle.talker.specs.declared.fault.TalkFault.TheVariants.{Memory};
 ghost use Rattle.talker.specs.Faults.{fault_of};
 ghost use Rattle.talker.specs.Frames.{ethernet, packet_bytes};
 ghost use Rattle.talker.specs.Journal.{samples_in};
-ghost use Rattle.talker.specs.Plan.{IsPlan};
+ghost use Rattle.talker.specs.Plan.{IsAudioPlan};
 ghost use Rattle.talker.specs.Samples.{filled_up};
 ghost use Rattle.talker.specs.Talking.{IsAudio, audio_of, headers_of, most_input, packets_of, samples_size};
 ghost use Rattle.talker.specs.Timing.{arrival_of};
@@ -19,7 +18,6 @@ use crate::pcm::{PCM_HEADER, PcmFormat};
 use crate::plan::{TalkKind, TalkPlan};
 use avtp_header::ETHERTYPE;
 use pcap_frames::{FrameView, Tag, write_frame};
-use std::alloc::Global;
 
 /// The format of an audio stream.
 #[derive(Clone, Copy, Debug)]
@@ -43,7 +41,7 @@ pub(crate) const SAMPLES_LIMIT: usize = 1476;
 
 impl AudioStream {
     pub fn of(plan: TalkPlan) -> Self
-        requires { IsPlan plan }
+        requires { IsAudioPlan plan }
         ensures plan { result.plan ≡ plan }
         ensures whole { IsAudio result }
     {
@@ -112,16 +110,13 @@ impl AudioStream {
         }
     }
 
-    /// Memory for one frame.
-    pub fn room(&self, alloc: Global) -> Result<Vec<u8>, TalkFault>
+    /// The bytes of a frame.
+    pub fn frame_limit(&self) -> usize
         requires { IsAudio self.now }
-        ensures room { IfOk result (λ frame. length frame.items ≡ headers_of self.now + samples_size self.now) }
-        ensures only { IfErr result (λ fault. fault ≡ Memory) }
+        ensures value { result ≡ headers_of self.now + samples_size self.now }
+        ensures bound { result ≤ 1526 }
     {
-        match vec![in alloc; 0; self.headers() + self.samples_size()] {
-            Ok(frame) => Ok(frame),
-            Err(_) => Err(TalkFault::Memory),
-        }
+        self.headers() + self.samples_size()
     }
 
     /// When packet `n` is sent, in nanoseconds of gPTP.

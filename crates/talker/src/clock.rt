@@ -5,7 +5,7 @@ ghost use Rattle.byteorder.specs.Endian.{big_bytes};
 ghost use Rattle.crf_format.specs.Crf.{crf_shape, crf_spelling};
 ghost use Rattle.talker.specs.Clock.{AreFew, clock_arrival, clock_frame_size, clock_mr, clock_packet, clock_packets, clock_point, first_point, frame_at, points_for, points_in, points_size};
 ghost use Rattle.talker.specs.Frames.{clock_bytes};
-ghost use Rattle.talker.specs.Plan.{IsPlan};
+ghost use Rattle.talker.specs.Plan.{IsAudioPlan};
 ghost use Rattle.talker.specs.Talking.{IsClockOf, IsClockStream};
 
 use crate::audio::{HEADER, write_ethernet};
@@ -40,7 +40,7 @@ const AUDIO_SAMPLE: u8 = 1;
 impl ClockStream {
     /// The clock of a plan, where it has one, beside a stream of so many packets.
     pub fn of(plan: TalkPlan, stream: u64) -> Option<Self>
-        requires plan { IsPlan plan }
+        requires plan { IsAudioPlan plan }
         requires few { AreFew plan stream }
         ensures { IsClockOf result plan stream }
     {

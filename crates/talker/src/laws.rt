@@ -1,13 +1,14 @@
 //! Laws of plans and their frames. Each call is its contract, and does nothing.
 
-ghost use Rattle.std.specs.Prelude.{◌≡◌, ◌↔◌, ◌<◌, ◌≤◌, ◌≤ℤ◌, ◌+◌, ◌-◌, ◌*◌, ◌/◌, ◌%◌, ◌^◌, ◌==◌, suc, Bool, length, map, nat_abs, pos, slice_get, List, ℕ, Option, Some, None, IsSome, IsSomeAnd};
+ghost use Rattle.std.specs.Prelude.{◌≡◌, ◌⊎◌, ◌↔◌, true, ◌<◌, ◌≤◌, ◌≤ℤ◌, ◌+◌, ◌-◌, ◌*◌, ◌/◌, ◌%◌, ◌^◌, ◌==◌, suc, Bool, length, map, nat_abs, pos, slice_get, List, ℕ, Option, Some, None, IsSome, IsSomeAnd};
 ghost use Rattle.aaf_format.specs.declared.aaf.AafFormat.{AafFormat};
 ghost use Rattle.aaf_format.specs.Aaf.{SpellsAaf, aaf_spelling, frame_size, rate_of};
 ghost use Rattle.iec61883_format.specs.Iec.{SpellsIec, block_size, iec_spelling, rate_of_fdf, syt_interval};
-ghost use Rattle.std.specs.List.{range_with_len};
-ghost use Rattle.packet_journal.specs.Carried.{AllCarry};
+ghost use Rattle.std.specs.List.{flat_map, range_with_len};
+ghost use Rattle.cvf_format.specs.Cvf.{SpellsCvf, cvf_spelling};
+ghost use Rattle.packet_journal.specs.Carried.{AllCarry, IsReadKind};
 ghost use Rattle.packet_journal.specs.Delivered.{Delivers};
-ghost use Rattle.packet_journal.specs.Packets.{Am824Data, IsConforming};
+ghost use Rattle.packet_journal.specs.Packets.{Am824Data, H264Data, IsConforming};
 ghost use Rattle.pcap_frames.specs.Capture.{IsCapture, first_refusal, whole_records};
 ghost use Rattle.pcap_frames.specs.Frame.{SpellsFrame};
 ghost use Rattle.stream_journal.specs.Journal.{head_of};
@@ -17,11 +18,15 @@ ghost use Rattle.stream_journal.specs.Conforming.{IsSteady};
 ghost use Rattle.talker.specs.Beats.{Beat, IsBeat, IsNextStart, IsOnEvent, pair_from, point_at, stamped_at};
 ghost use Rattle.talker.specs.declared.plan.CrfPlan.{CrfPlan};
 ghost use Rattle.talker.specs.declared.plan.TalkPlan.{TalkPlan};
+ghost use Rattle.talker.specs.AccessUnits.{HasSlice, access_unit, may_begin, unit_at};
+ghost use Rattle.talker.specs.Fragments.{access_unit_of, all_packets, body_of, packets_at, packets_before, packets_for, place_of, rest_in};
+ghost use Rattle.talker.specs.Units.{sent_units};
+ghost use Rattle.talker.specs.Video.{sent_packet, video_arrival};
 ghost use Rattle.talker.specs.Clock.{clock_mr, clock_point, points_for, run_points};
-ghost use Rattle.talker.specs.Frames.{RiseByArrival, aaf_bytes, capture, capture_of, capture_style, ethernet, frames, frames_at, packet_bytes, record_of, records, stream_frames};
+ghost use Rattle.talker.specs.Frames.{RiseByArrival, StaysNear, aaf_bytes, capture, capture_of, capture_style, ethernet, frames, frames_at, packet_bytes, record_of, records, stream_frames};
 ghost use Rattle.talker.specs.Journal.{journal};
 ghost use Rattle.talker.specs.Packets.{aaf_packet, iec_packet};
-ghost use Rattle.talker.specs.Plan.{Expects, IsAhead, IsPlan, fdf_of, interval_of, rate_code, spacing_of};
+ghost use Rattle.talker.specs.Plan.{Expects, IsAhead, IsAudioPlan, IsPlan, fdf_of, interval_of, rate_code, spacing_of};
 ghost use Rattle.talker.specs.Talking.{most_input};
 ghost use Rattle.talker.specs.Timing.{arrival_of, nominal_offset, run_of, run_start};
 
@@ -35,10 +40,12 @@ pub fn rates_are_named()
 {}
 
 /// Packet `n` is sent at the plan's start and the time of the sample frames before its own, rounded down. With restarts
-/// each run begins so much later as all jumps before it make, and the time of its sample frames is counted anew.
+/// each run begins so much later as all jumps before it make, and the time of its sample frames is counted anew. Packets of
+/// H.264 are sent at the plan's start and the time of the access units before their own.
 pub fn packets_are_paced()
     ensures steady { (plan : TalkPlan) (n : ℕ) → plan.restart ≡ None → arrival_of plan n ≡ nat_abs plan.start + n * plan.count * 1000000000 / plan.rate }
     ensures restarting { (plan : TalkPlan) (packets n : ℕ) → plan.restart ≡ Some packets → arrival_of plan n ≡ nat_abs plan.start + n / packets * plan.jump + n / packets * packets * plan.count * 1000000000 / plan.rate + n % packets * plan.count * 1000000000 / plan.rate }
+    ensures video { (plan : TalkPlan) (input : List ℕ) (units : List (ℕ × ℕ)) (n : ℕ) → video_arrival plan input units n ≡ nat_abs plan.start + access_unit_of input units n * 1000000000 / plan.rate }
 {}
 
 /// The clock has a point at the first sample frame of the stream, and at each further sample frame whose number is a multiple
@@ -66,10 +73,25 @@ pub fn packets_are_sent_in_time()
 /// Where no restart lies between a packet and the seventh before it, one of these eight is stamped, and the packet is
 /// counted from that: it has a head in the plan's journal.
 pub fn packets_have_heads()
-    ensures { (plan : TalkPlan) (input : List ℕ) (n : ℕ) → IsPlan plan → 7 ≤ n → run_of plan (n - 7) ≡ run_of plan n → IsSome (head_of (journal plan input).times n) }
+    ensures { (plan : TalkPlan) (input : List ℕ) (n : ℕ) → IsAudioPlan plan → 7 ≤ n → run_of plan (n - 7) ≡ run_of plan n → IsSome (head_of (journal plan input).times n) }
 {}
 
-/// The bytes of a packet's frame spell the frame, and its payload the packet, of PCM or of AM824.
+/// The first NAL unit is of access unit 0. Each further one is of the same access unit as the unit before it, or of the next:
+/// of the next exactly where the access unit of the unit before it has a slice already, and it is of those that begin one.
+pub fn access_units_begin()
+    ensures first { (bytes : List ℕ) (units : List (ℕ × ℕ)) → access_unit bytes units 0 ≡ 0 }
+    ensures further { (bytes : List ℕ) (units : List (ℕ × ℕ)) (i : ℕ) → (access_unit bytes units (suc i) ≡ access_unit bytes units i) ⊎ (access_unit bytes units (suc i) ≡ suc (access_unit bytes units i)) }
+    ensures next { (bytes : List ℕ) (units : List (ℕ × ℕ)) (i : ℕ) → access_unit bytes units (suc i) ≡ suc (access_unit bytes units i) ↔ (HasSlice bytes units i × (may_begin bytes (unit_at units (suc i)) ≡ true)) }
+{}
+
+/// Packet `n` of H.264 carries fragment `k` of unit `i` exactly where so many packets stand before it: those of the units
+/// before `i`, and `k`. What the packets of a unit carry, put together behind its first byte, is the unit.
+pub fn units_are_carried()
+    ensures place { (units : List (ℕ × ℕ)) (n i k : ℕ) → place_of units n ≡ record { unit = i; fragment = k } ↔ ((packets_before units i + k ≡ n) × (k < packets_at units i)) }
+    ensures whole { (bytes : List ℕ) (unit : ℕ × ℕ) → flat_map (body_of bytes unit) (range_with_len 0 (packets_for unit)) ≡ rest_in bytes unit }
+{}
+
+/// The bytes of a packet's frame spell the frame, and its payload the packet, of PCM, of AM824 or of H.264.
 pub fn packets_read_back()
     ensures frame { (plan : TalkPlan) (format : AafFormat) (sparse : Bool) (n : ℕ) (samples : List ℕ) → SpellsFrame (aaf_bytes format sparse plan n samples) (ethernet (aaf_spelling (aaf_packet format sparse plan n samples))) }
     ensures packet { (plan : TalkPlan) (format : AafFormat) (sparse : Bool) (n : ℕ) (samples : List ℕ) → IsPlan plan → plan.kind ≡ Aaf format sparse → plan.id < 2 ^ 64
@@ -77,7 +99,11 @@ pub fn packets_read_back()
     ensures blocks_frame { (plan : TalkPlan) (n : ℕ) (blocks : List ℕ) → SpellsFrame (packet_bytes (Am824Data (iec_packet plan n blocks))) (ethernet (iec_spelling (iec_packet plan n blocks))) }
     ensures blocks { (plan : TalkPlan) (n : ℕ) (blocks : List ℕ) → IsPlan plan → plan.kind ≡ Am824 → plan.id < 2 ^ 64
         → length blocks ≡ plan.count * block_size plan.channels → SpellsIec (iec_spelling (iec_packet plan n blocks)) (iec_packet plan n blocks) }
-{}
+    ensures video_frame { (plan : TalkPlan) (input : List ℕ) (last_stamp : Bool) (n : ℕ) → SpellsFrame (packet_bytes (H264Data (sent_packet last_stamp plan input n))) (ethernet (cvf_spelling (sent_packet last_stamp plan input n))) }
+    ensures video { (plan : TalkPlan) (input : List ℕ) (last_stamp : Bool) (n : ℕ) → plan.id < 2 ^ 64 → n < all_packets (sent_units input) → SpellsCvf (cvf_spelling (sent_packet last_stamp plan input n)) (sent_packet last_stamp plan input n) }
+{
+    cvf_format::laws::packet_again();
+}
 
 /// The capture of a plan is a capture of just the records of its frames, so it reads back.
 pub fn capture_reads_back()
@@ -94,20 +120,25 @@ pub fn journal_conforms()
 /// The capture of a plan delivers its journal: its records carry the packets of the stream and of its clock, each once, and
 /// without a clock those of the stream in their order. It does so to every listener where each packet is stamped. Of a
 /// sparse stream, or one of AM824 with fewer data blocks in a packet than its interval, it does so to every listener that
-/// expects packets by about the plan's lead before their first instants.
+/// expects packets by about the plan's lead before their first instants. Packets of H.264 are delivered where listeners take
+/// their kind for one of a stream's.
 pub fn capture_delivers()
     ensures carries { (plan : TalkPlan) (input : List ℕ) (lead : ℕ) → IsPlan plan → plan.crf ≡ None → length input ≤ most_input → Expects plan lead → AllCarry (journal plan input) lead (range_with_len 0 (journal plan input).times.packets) (records plan input) }
-    ensures delivers { (plan : TalkPlan) (input : List ℕ) (clock : Option ℕ) (lead : ℕ) → IsPlan plan → plan.id < 2 ^ 64 → length input ≤ most_input → Expects plan lead → Delivers (journal plan input) clock lead (records plan input) }
+    ensures delivers { (plan : TalkPlan) (input : List ℕ) (clock : Option ℕ) (lead : ℕ) → IsAudioPlan plan → plan.id < 2 ^ 64 → length input ≤ most_input → Expects plan lead → Delivers (journal plan input) clock lead (records plan input) }
+    ensures delivers_all { (plan : TalkPlan) (input : List ℕ) (clock : Option ℕ) (lead : ℕ) → IsPlan plan → plan.id < 2 ^ 64 → length input ≤ most_input → Expects plan lead → IsReadKind (journal plan input).times.kind → Delivers (journal plan input) clock lead (records plan input) }
 {
     records_of_both_are_delivered();
 }
 
 /// Whatever a capture loses, repeats or reorders of a plan's frames, each captured when it was sent: it reads back as just
 /// the records of these frames, and delivers the plan's journal to the same listeners as the whole capture, those of the
-/// law above, whichever packets of the stream and of the clock are lost, come again or change places.
+/// law above, whichever packets of the stream and of the clock are lost, come again or change places. Of H.264 whose units
+/// are stamped on their last fragments alone, fragments that are captured beside each other have to be of packets that are
+/// at most 254 apart.
 pub fn losses_are_delivered()
     ensures records { (plan : TalkPlan) (input places : List ℕ) → IsPlan plan → length input ≤ most_input → whole_records (capture_of (frames_at plan input places)) ≡ map record_of (frames_at plan input places) }
-    ensures delivers { (plan : TalkPlan) (input places : List ℕ) (clock : Option ℕ) (lead : ℕ) → IsPlan plan → plan.id < 2 ^ 64 → length input ≤ most_input → Expects plan lead → Delivers (journal plan input) clock lead (whole_records (capture_of (frames_at plan input places))) }
+    ensures delivers { (plan : TalkPlan) (input places : List ℕ) (clock : Option ℕ) (lead : ℕ) → IsAudioPlan plan → plan.id < 2 ^ 64 → length input ≤ most_input → Expects plan lead → Delivers (journal plan input) clock lead (whole_records (capture_of (frames_at plan input places))) }
+    ensures delivers_all { (plan : TalkPlan) (input places : List ℕ) (clock : Option ℕ) (lead : ℕ) → IsPlan plan → plan.id < 2 ^ 64 → length input ≤ most_input → Expects plan lead → IsReadKind (journal plan input).times.kind → StaysNear plan input (frames_at plan input places) → Delivers (journal plan input) clock lead (whole_records (capture_of (frames_at plan input places))) }
 {
     records_of_both_are_delivered();
 }

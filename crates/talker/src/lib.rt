@@ -1,4 +1,5 @@
-//! A talker: the packets of a stream, made from raw samples, and those of a media clock beside it.
+//! A talker: the packets of a stream, made from raw samples or from a byte stream of H.264, and those of a media clock beside
+//! it.
 #![tactic(auto)]
 
 mod am824;
@@ -12,8 +13,11 @@ mod pcm;
 mod plan;
 mod sent;
 mod soak;
+mod source;
 mod talker;
 mod timing;
+mod units;
+mod video;
 
 pub use fault::TalkFault;
 pub use noise::Noise;

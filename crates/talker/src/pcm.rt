@@ -3,7 +3,7 @@
 ghost use Rattle.std.specs.Prelude.{◌≡◌, ◌+◌, ◌*◌, ◌≤◌, ◌<◌, ◌^◌, length, Option, Some, None};
 ghost use Rattle.aaf_format.specs.Aaf.{aaf_shape, aaf_spelling, frame_size as frame_size_of};
 ghost use Rattle.talker.specs.Packets.{aaf_packet, kind_of, stamp_of};
-ghost use Rattle.talker.specs.Plan.{IsPlan, rate_code as rate_code_of};
+ghost use Rattle.talker.specs.Plan.{IsAudioPlan, rate_code as rate_code_of};
 ghost use Rattle.talker.specs.Talking.{IsPcm};
 
 use crate::plan::{TalkKind, TalkPlan};
@@ -45,7 +45,7 @@ fn rate_code(rate: u32) -> Option<u8>
 impl PcmFormat {
     /// The format of a plan of PCM.
     pub fn of(plan: &TalkPlan, format: AafFormat, sparse: bool) -> Self
-        requires plan { IsPlan plan.now }
+        requires plan { IsAudioPlan plan.now }
         requires kind { plan.now.kind ≡ TalkKind.Aaf format sparse }
         ensures { IsPcm result plan.now }
     {
@@ -68,7 +68,7 @@ impl PcmFormat {
 
     /// The instant with which packet `n` is stamped. In sparse mode one packet in eight is (IEEE 1722-2016, 7).
     fn stamp(&self, plan: &TalkPlan, n: u64) -> Option<u64>
-        requires plan { IsPlan plan.now }
+        requires plan { IsAudioPlan plan.now }
         requires frames { n * plan.now.count ≤ 2 ^ 28 }
         ensures { result ≡ stamp_of (kind_of self.now.sparse) plan.now n }
     {
@@ -81,7 +81,7 @@ impl PcmFormat {
 
     /// Packet `n`, with its samples.
     fn packet<'a>(&self, plan: &TalkPlan, n: u64, samples: &'a [u8]) -> AafView<'a>
-        requires plan { IsPlan plan.now }
+        requires plan { IsAudioPlan plan.now }
         requires format { IsPcm self.now plan.now }
         requires frames { n * plan.now.count ≤ 2 ^ 28 }
         requires whole { length samples.now ≡ plan.now.count * frame_size_of plan.now.channels self.now.format }
@@ -103,7 +103,7 @@ impl PcmFormat {
 
     /// Writes packet `n`, with its samples.
     pub fn write(&self, plan: &TalkPlan, out: &mut [u8], n: u64, samples: &[u8])
-        requires plan { IsPlan plan.now }
+        requires plan { IsAudioPlan plan.now }
         requires format { IsPcm self.now plan.now }
         requires frames { n * plan.now.count ≤ 2 ^ 28 }
         requires whole { length samples.now ≡ plan.now.count * frame_size_of plan.now.channels self.now.format }

@@ -7,24 +7,23 @@ ghost use Rattle.talker.specs.declared.fault.TalkFault.TheVariants.{Memory};
 ghost use Rattle.talker.specs.Faults.{fault_of};
 ghost use Rattle.talker.specs.Frames.{capture_style, clock_frames, frames, record_of, sent_frame, stream_frames};
 ghost use Rattle.talker.specs.Plan.{IsPlan};
-ghost use Rattle.talker.specs.Clock.{AreFew};
-ghost use Rattle.talker.specs.Talking.{IsAudio, IsClockFirst, IsClockOf, IsClockStream, clock_room, clocks_of, most_input, gone_on};
+ghost use Rattle.talker.specs.Talking.{IsClockFirst, IsClockOf, IsClockStream, IsSource, clock_room, clocks_of, gone_on, most_input, plan_in, stream_in};
 
-use crate::audio::AudioStream;
 use crate::clock::{CLOCK_FRAME_LIMIT, ClockStream};
 use crate::fault::TalkFault;
 use crate::plan::TalkPlan;
 use crate::sent::Sent;
+use crate::source::Source;
 use std::alloc::Global;
 use std::marker::Model;
 
-/// Makes the frames of a plan from its samples, each on its own or one after another. The memory of one frame of the stream
-/// and of one of the clock is taken at the beginning, and no more later: a frame is lent until the next is made.
+/// Makes the frames of a plan from its input, each on its own or one after another. The memory of one frame of the stream and
+/// of one of the clock, and of the list of an H.264 stream's units, is taken at the beginning, and no more later: a frame is
+/// lent until the next is made.
 #[derive(Debug, Drop)]
 pub struct Talker<'a> {
-    stream: AudioStream,
+    source: Source<'a>,
     clock: Option<ClockStream>,
-    input: &'a [u8],
     packets: u64,
     clocks: u64,
     /// How many packets of the stream `next` gave, and how many of the clock.
@@ -37,13 +36,13 @@ pub struct Talker<'a> {
 
 impl<'a> Model for Talker<'a> {
     ghost use Rattle.std.specs.Prelude.{◌+◌};
-    ghost use Rattle.talker.specs.Talking.{Talking};
+    ghost use Rattle.talker.specs.Talking.{Talking, input_in, plan_in};
 
     ghost Value = { Talking };
 
     ghost use Rattle.talker.specs.Kept.{IsTalker};
 
-    ghost view = { λ t. record { plan = t.stream.plan; input = t.input.now; given = t.given_clocks + t.given_packets } };
+    ghost view = { λ t. record { plan = plan_in t.source; input = input_in t.source; given = t.given_clocks + t.given_packets } };
 
     ghost invariant = { IsTalker };
 }
@@ -52,21 +51,25 @@ impl<'a> Talker<'a> {
     ghost use Rattle.std.specs.Borrow.{sem};
     ghost use Rattle.talker.specs.Lending.{EndsAs};
 
-    /// A talker of the plan and the input, which is sample frames, one after another: the channels of each in order. A
-    /// sample of PCM has its highest byte first; one of AM824 is a quadlet as it is sent, a label and 24 bits (IEC 61883-6).
+    /// A talker of the plan and the input. Of audio the input is sample frames, one after another: the channels of each in
+    /// order. A sample of PCM has its highest byte first; one of AM824 is a quadlet as it is sent, a label and 24 bits
+    /// (IEC 61883-6). Of H.264 it is a byte stream of NAL units (ITU-T H.264, annex B). The input has at most 268,435,456
+    /// bytes.
     ///
-    /// The plan is one that is talked so far, with a start of 0 to 4 * 10^18, a lead of 1 to 10^9, no restart or one after
-    /// each 8 to 10^9 packets with a jump of 4 to 10^9. PCM, sparse or not, has one of AAF's rates, 1 to 1023 channels, and
-    /// 1 to 1476 sample frames in a packet that have at most 1476 bytes. AM824 has one of the rates of IEC 61883-6, 1 to 256
-    /// channels, and data blocks in a packet that have at most 1468 bytes and are at least an eighth of SYT_INTERVAL. The
-    /// input has at most 268,435,456 bytes.
+    /// A plan has a start of 0 to 4 * 10^18 and a lead of 1 to 10^9. Of audio it has no restart, or one after each 8 to 10^9
+    /// packets with a jump of 4 to 10^9. PCM, sparse or not, has one of AAF's rates, 1 to 1023 channels, and 1 to 1476 sample
+    /// frames in a packet that have at most 1476 bytes. AM824 has one of the rates of IEC 61883-6, 1 to 256 channels, and data
+    /// blocks in a packet that have at most 1468 bytes and are at least an eighth of SYT_INTERVAL. H.264 has a rate of 1 to 240
+    /// and neither restarts nor a clock; its channels and its count are not read.
     ///
     /// A media clock has a base frequency of 1 to 200,000,000 Hz, a pull of 0 to 5, and 1 to 180 timestamps in a packet. The
     /// time from one to the next, 1 to 65,535 events of the clock, is that of whole sample frames, and with restarts a run of
     /// the stream is 8 packets of the clock or a multiple of that.
     ///
-    /// `Frames` comes exactly where the input is not whole sample frames, and `Arrival` exactly where a packet would
-    /// arrive 2^32 seconds after 0 or later, which no such plan does. `Memory` comes where no memory is found.
+    /// `Frames` comes exactly where an input of audio is not whole sample frames. Of H.264 `StartCode` comes exactly where the
+    /// input has no start code; else `NalType` where a NAL unit has another type than 1 to 23; else `Packets` where an access
+    /// unit needs more than 255 packets. `Arrival` comes exactly where none of these holds and a packet would arrive 2^32
+    /// seconds after 0 or later, which no such plan does. `Memory` comes where no memory is found.
     pub fn begin(alloc: Global, plan: TalkPlan, input: &'a [u8]) -> Result<Self, TalkFault>
         requires plan { IsPlan plan }
         requires limit { length input.now ≤ most_input }
@@ -75,18 +78,14 @@ impl<'a> Talker<'a> {
         ensures fault { IfSome (fault_of plan input.now) (λ fault. result ≡ Err fault) }
         ensures only { IfErr result (λ fault. (fault_of plan input.now ≡ Some fault) ⊎ (fault ≡ Memory)) }
     {
-        let stream = AudioStream::of(plan);
-        if let Some(fault) = stream.fault(input) {
-            return Err(fault);
-        }
-        let packets = stream.packets(input);
-        let clock = ClockStream::of(plan, packets);
-        let frame = stream.room(alloc)?;
+        let source = Source::of(alloc, plan, input)?;
+        let packets = source.packets();
+        let clock = source.clock(packets);
+        let frame = source.room(alloc)?;
         let clock_frame = clock_memory(alloc, &clock)?;
         Ok(Talker {
-            stream,
+            source,
             clock,
-            input,
             packets,
             clocks: clock_packets(&clock),
             given_packets: 0,
@@ -118,12 +117,12 @@ impl<'a> Talker<'a> {
         ensures size { length result.bytes.now ≤ 1518 }
         ensures* after { sem 𝓛 (EndsAs self.entry (λ last. last ≡ self.old)) }
     {
-        self.stream.write(self.frame.as_mut_slice(), self.input, n);
+        let size = self.source.write(self.frame.as_mut_slice(), n);
         Sent {
-            arrival: self.stream.arrival(n),
+            arrival: self.source.arrival(n),
             number: n,
             clock: false,
-            bytes: self.frame.as_slice(),
+            bytes: &self.frame.as_slice()[..size],
         }
     }
 
@@ -156,7 +155,7 @@ impl<'a> Talker<'a> {
         ensures* after { sem 𝓛 (EndsAs self.entry (λ last. last ≡ gone_on self.old)) }
     {
         let (m, n) = (self.given_clocks, self.given_packets);
-        if clock_is_first(&self.clock, &self.stream, m, n, self.packets) {
+        if clock_is_first(&self.clock, &self.source, m, n, self.packets) {
             self.given_clocks += 1;
             return Some(self.clock_packet(m));
         }
@@ -197,20 +196,20 @@ fn clock_memory(alloc: Global, clock: &Option<ClockStream>) -> Result<Vec<u8>, T
 /// Packet `m` of the clock, where there is one, is sent before packet `n` of a stream of so many, or at the same time.
 fn clock_is_first(
     clock: &Option<ClockStream>,
-    stream: &AudioStream,
+    source: &Source<'_>,
     m: u64,
     n: u64,
     packets: u64,
 ) -> bool
-    requires stream { IsAudio stream.now }
-    requires clock { IsClockOf clock.now stream.now.plan packets }
-    requires few { AreFew stream.now.plan packets }
-    ensures { IsTrue result ↔ IsClockFirst clock.now stream.now.plan m n packets }
+    requires source { IsSource source.now }
+    requires clock { IsClockOf clock.now (plan_in source.now) packets }
+    requires packets { packets ≡ (stream_in source.now).journal.times.packets }
+    ensures { IsTrue result ↔ IsClockFirst clock.now (stream_in source.now) m n }
 {
     match clock {
         None => false,
         Some(clock) => {
-            m < clock.packets() && (n >= packets || clock.arrival(m) <= stream.arrival(n))
+            m < clock.packets() && (n >= packets || clock.arrival(m) <= source.arrival(n))
         }
     }
 }

@@ -6,7 +6,7 @@ ghost use Rattle.packet_journal.specs.Packets.{IsConforming};
 ghost use Rattle.pcap_frames.specs.Capture.{HasSpelling, record_spelling, whole_records};
 ghost use Rattle.talker.specs.Frames.{capture_of, capture_style, frames_at, record_of, sent_frame};
 ghost use Rattle.talker.specs.Journal.{journal};
-ghost use Rattle.talker.specs.Plan.{Expects, IsPlan};
+ghost use Rattle.talker.specs.Plan.{Expects, IsAudioPlan, IsPlan};
 ghost use Rattle.talker.specs.Talking.{most_input};
 
 use super::{CrfPlan, Sent, TalkFault, TalkKind, TalkPlan, Talker, laws};
@@ -157,7 +157,7 @@ fn check_heard(_plan: TalkPlan, _input: &[u8], _bytes: &[u8])
 
 /// The length of the capture of the frames with these numbers. It has what a listener relies on.
 fn heard(rt: &HostRuntime, plan: TalkPlan, input: &[u8], numbers: &[u64]) -> Result<usize, Fail>
-    requires plan { IsPlan plan }
+    requires plan { IsAudioPlan plan }
     requires alone { plan.crf ≡ None }
     requires limit { length input.now ≤ most_input }
     requires lead { Expects plan 2000000 }

@@ -3,7 +3,7 @@
 ghost use Rattle.std.specs.Prelude.{◌≡◌, ◌+◌, ◌*◌, ◌/◌, ◌≤◌, ◌<◌, ◌^◌, pos, Option, Some, None};
 ghost use Rattle.talker.specs.Clock.{stamped_by, stamped_instant as stamped_instant_of};
 ghost use Rattle.talker.specs.Packets.{header_of};
-ghost use Rattle.talker.specs.Plan.{IsPlan, spacing_of};
+ghost use Rattle.talker.specs.Plan.{IsAudioPlan, Restarts, spacing_of};
 ghost use Rattle.talker.specs.Timing.{arrival_of, event_of, mr_of, first_packet as first_packet_of, nominal_instant, nominal_offset as nominal_offset_of, run_of, run_start as run_start_of};
 
 use crate::plan::{CrfPlan, TalkPlan};
@@ -25,7 +25,7 @@ impl TalkPlan {
     /// The run of packet `n`: one begins with the stream, and one with each restart.
     #[tactic(auto, using(crate::proofs::RunLemmas::some_packets))]
     fn run(&self, n: u64) -> u64
-        requires { IsPlan self.now }
+        requires { Restarts self.now.restart self.now.jump }
         ensures { result ≡ run_of self.now n }
     {
         match self.restart {
@@ -37,7 +37,7 @@ impl TalkPlan {
     /// The first packet of that run.
     #[tactic(auto, using(crate::proofs::RunLemmas::some_packets, crate::proofs::RunLemmas::begun))]
     fn first_packet(&self, n: u64) -> u64
-        requires { IsPlan self.now }
+        requires { IsAudioPlan self.now }
         ensures value { result ≡ first_packet_of self.now (run_of self.now n) }
         ensures bound { result ≤ n }
     {
@@ -50,7 +50,7 @@ impl TalkPlan {
     /// How far the restarts before packet `n` set presentation times forward, in nanoseconds.
     #[tactic(auto, using(crate::proofs::TimingLemmas::few_jumps))]
     fn jumps(&self, n: u64) -> u64
-        requires plan { IsPlan self.now }
+        requires plan { IsAudioPlan self.now }
         requires frames { n * self.now.count ≤ 2 ^ 28 }
         ensures value { result ≡ run_of self.now n * self.now.jump }
         ensures bound { result ≤ 2 ^ 25 * 1000000000 }
@@ -61,7 +61,7 @@ impl TalkPlan {
     /// How long so many sample frames take, in nanoseconds.
     #[tactic(auto, using(crate::proofs::RateLemmas::rate_from, crate::proofs::TimingLemmas::short_offset))]
     fn offset(&self, frames: u64) -> u64
-        requires plan { IsPlan self.now }
+        requires plan { IsAudioPlan self.now }
         requires frames { frames ≤ 2 ^ 29 }
         ensures value { result ≡ nominal_offset_of self.now.rate frames }
         ensures bound { result ≤ frames * 125000 }
@@ -72,7 +72,7 @@ impl TalkPlan {
     /// The instant of event 0 of the run of packet `n`, in nanoseconds of gPTP.
     #[tactic(auto, using(crate::proofs::RunLemmas::in_run))]
     fn run_start(&self, n: u64) -> u64
-        requires plan { IsPlan self.now }
+        requires plan { IsAudioPlan self.now }
         requires frames { n * self.now.count ≤ 2 ^ 28 }
         ensures value { result ≡ run_start_of self.now (run_of self.now n) }
         ensures bound { result ≤ 2 ^ 63 }
@@ -87,7 +87,7 @@ impl TalkPlan {
     /// The event of sample frame `i` of packet `n` in the packet's run.
     #[tactic(auto, using(crate::proofs::RunLemmas::in_run))]
     fn event(&self, n: u64, i: u32) -> u64
-        requires plan { IsPlan self.now }
+        requires plan { IsAudioPlan self.now }
         requires frames { n * self.now.count ≤ 2 ^ 28 }
         requires within { i < self.now.count }
         ensures value { result ≡ event_of self.now n i }
@@ -99,7 +99,7 @@ impl TalkPlan {
     /// The instant of sample frame `i` of packet `n`, in nanoseconds of gPTP.
     #[tactic(auto, using(crate::proofs::TimingLemmas::in_time), unfolding(crate::specs::Timing::nominal_instant))]
     pub(crate) fn instant(&self, n: u64, i: u32) -> u64
-        requires plan { IsPlan self.now }
+        requires plan { IsAudioPlan self.now }
         requires frames { n * self.now.count ≤ 2 ^ 28 }
         requires within { i < self.now.count }
         ensures value { result ≡ nominal_instant self.now n i }
@@ -111,7 +111,7 @@ impl TalkPlan {
 
     /// The sample frames from one point of the plan's clock to the next.
     pub(crate) fn spacing(&self, crf: &CrfPlan) -> u64
-        requires plan { IsPlan self.now }
+        requires plan { IsAudioPlan self.now }
         requires clock { self.now.crf ≡ Some crf.now }
         ensures value { result ≡ spacing_of crf.now self.now.rate }
         ensures some { 1 ≤ result }
@@ -123,7 +123,7 @@ impl TalkPlan {
     /// The instant with which sample frame `i` of packet `n` is stamped on the plan's clock, in nanoseconds of gPTP: so far
     /// behind the last point of the clock as the period before it tells.
     fn clocked_instant(&self, crf: &CrfPlan, n: u64, i: u32) -> u64
-        requires plan { IsPlan self.now }
+        requires plan { IsAudioPlan self.now }
         requires clock { self.now.crf ≡ Some crf.now }
         requires frames { n * self.now.count ≤ 2 ^ 28 }
         requires within { i < self.now.count }
@@ -142,7 +142,7 @@ impl TalkPlan {
 
     /// The instant with which sample frame `i` of packet `n` is stamped, in nanoseconds of gPTP.
     pub(crate) fn stamped_instant(&self, n: u64, i: u32) -> u64
-        requires plan { IsPlan self.now }
+        requires plan { IsAudioPlan self.now }
         requires frames { n * self.now.count ≤ 2 ^ 28 }
         requires within { i < self.now.count }
         ensures { result ≡ stamped_instant_of self.now n i }
@@ -155,7 +155,7 @@ impl TalkPlan {
 
     /// When packet `n` is sent, in nanoseconds of gPTP.
     pub(crate) fn arrival(&self, n: u64) -> i64
-        requires plan { IsPlan self.now }
+        requires plan { IsAudioPlan self.now }
         requires frames { n * self.now.count ≤ 2 ^ 28 }
         ensures { result ≡ pos (arrival_of self.now n) }
     {
@@ -164,7 +164,7 @@ impl TalkPlan {
 
     /// The media clock restart bit of packet `n`, which toggles with each run.
     pub(crate) fn restart_bit(&self, n: u64) -> bool
-        requires { IsPlan self.now }
+        requires { Restarts self.now.restart self.now.jump }
         ensures { result ≡ mr_of self.now n }
     {
         self.run(n) % 2 == 1
@@ -178,7 +178,7 @@ impl TalkPlan {
         n: u64,
         length: u16,
     ) -> StreamHeader
-        requires { IsPlan self.now }
+        requires { Restarts self.now.restart self.now.jump }
         ensures { result ≡ header_of subtype stamp self.now n length }
     {
         StreamHeader {

@@ -13,9 +13,10 @@ returns-clause-ended g c = (
   refl,
   λ records stands.
       elim c.match-end.branch [
-      in-Whole+in_ok-print_due-in-Whole w ↦
-      let here = w.in_ok-print_due-in-Whole.ensures in
-      let closed = w.close.ensures.stands records _ stands in
-      rw (c.counts.ensures, w.listener-is, w.text-is, w.out-is) (all_left c.args.end records w.in-Whole.is w.close.ensures.plan w.close.ensures.closed here.keeps (here.stands records _ closed) (here.prints records _ closed).written)
-      | in-ReadFault w ↦ rw (c.counts.ensures, w.listener-is, w.text-is, w.out-is) (nothing_left c.args.end c.args.listener.now records w.in-ReadFault.is c.requires.open stands) ],
+        | in-Whole+in_ok-print_due-in-Whole w ↦
+            let here = w.in_ok-print_due-in-Whole.ensures in
+            let closed = w.close.ensures.stands records _ stands in
+            rw (c.counts.ensures, w.listener-is, w.text-is, w.out-is) (all_left c.args.end records w.in-Whole.is w.close.ensures.plan w.close.ensures.closed here.keeps (here.stands records _ closed) (here.prints records _ closed).written)
+        | in-ReadFault w ↦ rw (c.counts.ensures, w.listener-is, w.text-is, w.out-is) (nothing_left c.args.end c.args.listener.now records w.in-ReadFault.is c.requires.open stands)
+      ],
 )

@@ -18,7 +18,7 @@ returns-in-End g c = record {
 pub returns-in-Fault : goal.returns-in-Fault
 returns-in-Fault g c = record {
   tells = λ bytes has. tells_line (c.in-Fault.is, refl) c.print_fault.ensures;
-  makes = (search rules);
+  makes = λ bytes has. makes_none _ c.print_fault.result (ends_not status.Done (λ e. cc) c.print_fault.ensures);
   writes = writes_none c.args.output.now c.print_fault.result (undone_by _ status.ReadFault refl c.print_fault.ensures.status) (ends_not status.WriteFault (λ e. cc) c.print_fault.ensures);
   counts = stops_fault c.args.contents.now.stop c.print_fault.result c.in-Fault.is c.print_fault.ensures;
   sink = (search rules);

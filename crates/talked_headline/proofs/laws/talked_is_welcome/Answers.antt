@@ -4,6 +4,7 @@ use Rattle.packet_journal.specs.Deliveries.{deliveries, delivery}
 use Rattle.listener.specs.Items.{made_of_one}
 use Rattle.talker.specs.Frames.{SentFrame, frames, frames_at, record_of}
 use Rattle.talker.specs.Journal.{journal}
+use Rattle.talker.proofs.TalkLemmas.{audio_plan}
 use Rattle.talked_headline.specs.Premises.{captured}
 use Rattle.talked_headline.proofs.Talked.{carries_at, early_frame, first_delivery, first_kept, kind_read, stream_is}
 use Rattle.talked_headline.proofs.laws.talked_is_welcome.Goals as goal
@@ -12,13 +13,13 @@ pub returns : goal.returns
 returns c plan input places listen n l room =
     let p = journal plan input in
     let all = captured plan input (n ∷ places) in
-    let found = early_frame plan input n (c.packets_are_sent_in_time.ensures.alone plan input n l.talked room.alone l.limit room.known) in
+    let found = early_frame plan input n (c.packets_are_sent_in_time.ensures.alone plan input n (audio_plan plan l.talked) room.alone l.limit room.known) in
     let r = record_of found.0 in
-    let carries = carries_at p listen.lead 0 p.times.packets n n (frames plan input) found.0 (omega arith) (c.capture_delivers.ensures.carries plan input listen.lead l.talked room.alone l.limit l.lead) room.known found.1.there in
-    let conforming = c.journal_conforms.ensures plan input l.talked l.id l.limit in
-    let in_it = c.carried_packet_is_delivered.ensures.belongs (pos 0) p listen.lead n r conforming (kind_read plan input) carries in
+    let carries = carries_at p listen.lead 0 p.times.packets n n (frames plan input) found.0 (omega arith) (c.capture_delivers.ensures.carries plan input listen.lead (audio_plan plan l.talked) room.alone l.limit l.lead) room.known found.1.there in
+    let conforming = c.journal_conforms.ensures plan input (audio_plan plan l.talked) l.id l.limit in
+    let in_it = c.carried_packet_is_delivered.ensures.belongs (pos 0) p listen.lead n r conforming (kind_read plan input l.talked) carries in
     let records : all ≡ r ∷ map record_of (frames_at plan input places) =
-    c.losses_are_delivered.ensures.records plan input (n ∷ places) l.talked l.limit ∙ ap (λ (fs : List SentFrame). map record_of fs) (first_kept plan input places n found.0 found.1.there) in
+    c.losses_are_delivered.ensures.records plan input (n ∷ places) (audio_plan plan l.talked) l.limit ∙ ap (λ (fs : List SentFrame). map record_of fs) (first_kept plan input places n found.0 found.1.there) in
     let first : slice_get (deliveries listen.stream listen.clock all) 0 ≡ Some (delivery 1 r) =
     first_delivery listen.stream p.stream listen.clock all r (map record_of (frames_at plan input places)) (l.stream ∙ stream_is plan input) records in_it in (
       made_of_one (delivery 1 r),

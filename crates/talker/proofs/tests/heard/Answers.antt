@@ -1,5 +1,12 @@
 use Rattle.std.proofs.Common.{None, arith}
+use Rattle.talker.proofs.TalkLemmas.{audio_plan}
 use Rattle.talker.proofs.tests.heard.Goals as goal
+
+pub capture-requires-clause-plan : goal.capture-requires-clause-plan
+capture-requires-clause-plan c = audio_plan c.args.plan c.requires.plan
+
+pub check_heard-requires-clause-conforming : goal.check_heard-requires-clause-conforming
+check_heard-requires-clause-conforming c = c.journal_conforms.ensures c.args.plan c.args.input.now (audio_plan c.args.plan c.requires.plan) (omega arith) c.requires.limit
 
 pub check_heard-requires-clause-delivers : goal.check_heard-requires-clause-delivers
 check_heard-requires-clause-delivers c =

@@ -1,6 +1,7 @@
 use Rattle.std.proofs.Common.{sym, ◌∙◌}
-use Rattle.talker.proofs.TalkLemmas.{packets_are}
+use Rattle.talker.specs.Talking.{stream_in}
+use Rattle.talker.proofs.StreamLemmas.{count_of}
 use Rattle.talker.proofs.talker.Talker.packets.Goals as goal
 
 pub returns : goal.returns
-returns c = rw (← c.self.view_is) (c.self.invariant.packets ∙ sym (packets_are c.self.inside.stream c.self.inside.input.now c.self.invariant.stream))
+returns c = rw (← c.self.view_is) (c.self.invariant.packets ∙ sym (count_of (stream_in c.self.inside.source)))

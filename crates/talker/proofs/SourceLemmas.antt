@@ -1,0 +1,61 @@
+-- What makes the packets of a stream.
+use Rattle.std.proofs.Common.{◌≡◌, ℕ, ◌*◌, ◌^◌, ◌<◌, ◌≤◌, Bool, true, false, not, List, [], ◌∷◌, ◌++◌, length, Option, Some, None, refl, sym, ap, subst, ◌∙◌, arith}
+use Rattle.cvf_format.specs.AnnexB.{nal_units}
+use Rattle.talker.specs.declared.audio.AudioStream.{AudioStream}
+use Rattle.talker.specs.declared.fault.TalkFault.{TalkFault}
+use Rattle.talker.specs.declared.fault.TalkFault.TheVariants.{Arrival, NalType, Packets, StartCode}
+use Rattle.talker.specs.declared.plan.TalkKind.{TalkKind}
+use Rattle.talker.specs.declared.plan.TalkKind.TheVariants.{H264}
+use Rattle.talker.specs.declared.plan.TalkPlan.{TalkPlan}
+use Rattle.talker.specs.declared.video.VideoStream.{VideoStream}
+use Rattle.talker.specs.Audio.{audio_by}
+use Rattle.talker.specs.Clock.{AreFew}
+use Rattle.talker.specs.Faults.{arrives_too_late, fault_of, faults_by}
+use Rattle.talker.specs.Journal.{Stream, stream_of, video_stream}
+use Rattle.talker.specs.Plan.{IsPlan, IsPlanOf, IsVideoPlan}
+use Rattle.talker.specs.Rows.{Row, first_of, row}
+use Rattle.talker.specs.Talking.{IsAudio, IsVideo, audio_of, headers_of, most_input, packets_of}
+use Rattle.talker.specs.Units.{has_long_access_unit, has_other_type, has_start_code, unit_faults, units_fault}
+use Rattle.talker.proofs.AudioLemmas.{timely}
+use Rattle.talker.proofs.StreamLemmas.{packets_in}
+use Rattle.talker.proofs.TalkLemmas.{format_of, none_late, plan_keeps, stream_is, video_is}
+use Rattle.talker.proofs.VideoRules.{all_sent}
+
+-- ---- audio
+
+pub audio_packets : (s : AudioStream) (input : List ℕ) → IsAudio s → packets_in (stream_of s.plan input) ≡ packets_of s input
+audio_packets s input is = ap packets_in (stream_is s input is)
+
+-- its sample frames can be counted
+pub audio_few : (s : AudioStream) (input : List ℕ) (packets : ℕ) → IsAudio s → length input ≤ most_input → packets ≡ packets_in (stream_of s.plan input) → AreFew s.plan packets
+audio_few s input packets is limit e n h =
+    timely s.plan (audio_of s) (headers_of s) input n is.plan (format_of s is) limit (omega (arith, audio_packets s input is))
+
+-- ---- H.264
+
+pub video_stream_is : (v : VideoStream) → IsVideo v → stream_of v.plan v.input.now ≡ video_stream v.last_stamp v.plan v.input.now (nal_units v.input.now)
+video_stream_is v is = video_is v.plan v.input.now v.last_stamp is.kind ∙ ap (video_stream v.last_stamp v.plan v.input.now) (all_sent v.input.now is.accepted)
+
+pub video_packets : (v : VideoStream) → IsVideo v → v.packets ≡ packets_in (stream_of v.plan v.input.now)
+video_packets v is = is.packets ∙ sym (ap packets_in (video_stream_is v is))
+
+none_more : (a b c late : Bool) → late ≡ false
+    → first_of ((row StartCode (not a) ∷ row NalType b ∷ row Packets c ∷ []) ++ row Arrival late ∷ []) ≡ first_of (row StartCode (not a) ∷ row NalType b ∷ row Packets c ∷ [])
+none_more false b c late e = refl
+none_more true true c late e = refl
+none_more true false true late e = refl
+none_more true false false late e = rw e refl
+
+-- no packet arrives too late for a capture
+pub video_fault : (plan : TalkPlan) (input : List ℕ) (last_stamp : Bool) → IsVideoPlan plan → plan.kind ≡ H264 last_stamp → length input ≤ most_input → fault_of plan input ≡ units_fault input
+unfolding fault_of units_fault
+video_fault plan input last_stamp p kind limit =
+    let plan_is : IsPlan plan = subst (λ (k : TalkKind). IsPlanOf k plan) (sym kind) p in
+    ap (λ (k : TalkKind). first_of (faults_by (audio_by k plan) plan input)) kind
+    ∙ none_more (has_start_code input) (has_other_type input) (has_long_access_unit input) (arrives_too_late plan input) (none_late plan input plan_is limit)
+
+-- each packet is sent before the end of what captures can say
+pub video_early : (v : VideoStream) (n : ℕ) → IsVideo v → n < v.packets → (stream_of v.plan v.input.now).arrival n < 2 ^ 32 * 1000000000
+video_early v n is h =
+    let plan_is : IsPlan v.plan = subst (λ (k : TalkKind). IsPlanOf k v.plan) (sym is.kind) is.plan in
+    (plan_keeps v.plan v.input.now plan_is is.limit).sent n (omega (arith, video_packets v is))

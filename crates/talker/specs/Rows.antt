@@ -1,0 +1,15 @@
+-- Faults that are tested one after another.
+use Rattle.std.specs.Prelude.{Bool, if◌then◌else◌, List, [], ◌∷◌, Option, Some, None}
+use Rattle.talker.specs.declared.fault.TalkFault.{TalkFault}
+
+-- a fault, and whether it is there
+pub record Row : Type 0 where
+  pub fault : TalkFault
+  pub holds : Bool
+
+abbrev pub row : TalkFault → Bool → Row
+row fault holds = record { fault = fault; holds = holds }
+
+abbrev pub first_of : List Row → Option TalkFault
+first_of [] = None
+first_of (r ∷ rows) = if r.holds then Some r.fault else first_of rows

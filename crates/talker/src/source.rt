@@ -1,0 +1,148 @@
+//! What makes the packets of a stream.
+
+ghost use Rattle.std.specs.Prelude.{◌≡◌, ◌⊎◌, ◌<◌, ◌≤◌, length, pos, take, Err, Some, None, IfOk, IfErr, IfSome, OnOk};
+ghost use Rattle.talker.specs.declared.fault.TalkFault.TheVariants.{Memory};
+ghost use Rattle.talker.specs.declared.plan.TalkKind.TheVariants.{H264};
+ghost use Rattle.talker.specs.Faults.{fault_of};
+ghost use Rattle.talker.specs.Frames.{packet_bytes};
+ghost use Rattle.talker.specs.Plan.{IsAudioPlan, IsPlan, IsVideoPlan};
+ghost use Rattle.talker.specs.Talking.{IsClockOf, IsSource, IsSourceOf, most_input, plan_in, room_of, stream_in};
+
+use crate::audio::AudioStream;
+use crate::clock::ClockStream;
+use crate::fault::TalkFault;
+use crate::plan::{TalkKind, TalkPlan};
+use crate::units::units_fault;
+use crate::video::{VIDEO_FRAME_LIMIT, VideoStream};
+use std::alloc::Global;
+
+/// What makes the packets of a stream, of its input.
+#[derive(Debug, Drop)]
+pub(crate) enum Source<'a> {
+    Audio {
+        stream: AudioStream,
+        input: &'a [u8],
+    },
+    Video(VideoStream<'a>),
+}
+
+impl<'a> Source<'a> {
+    /// The source of a plan and an input. A fault of these comes before want of memory.
+    pub fn of(alloc: Global, plan: TalkPlan, input: &'a [u8]) -> Result<Self, TalkFault>
+        requires plan { IsPlan plan }
+        requires limit { length input.now ≤ most_input }
+        ensures made { IfOk result (IsSourceOf plan input.now) }
+        ensures accepted { OnOk result (fault_of plan input.now ≡ None) }
+        ensures fault { IfSome (fault_of plan input.now) (λ fault. result ≡ Err fault) }
+        ensures only { IfErr result (λ fault. (fault_of plan input.now ≡ Some fault) ⊎ (fault ≡ Memory)) }
+    {
+        match plan.kind {
+            TalkKind::H264 { last_stamp } => Source::of_video(alloc, plan, last_stamp, input),
+            TalkKind::Aaf { .. } | TalkKind::Am824 => Source::of_audio(plan, input),
+        }
+    }
+
+    fn of_audio(plan: TalkPlan, input: &'a [u8]) -> Result<Self, TalkFault>
+        requires plan { IsAudioPlan plan }
+        requires limit { length input.now ≤ most_input }
+        ensures made { IfOk result (IsSourceOf plan input.now) }
+        ensures accepted { OnOk result (fault_of plan input.now ≡ None) }
+        ensures fault { IfSome (fault_of plan input.now) (λ fault. result ≡ Err fault) }
+        ensures only { IfErr result (λ fault. (fault_of plan input.now ≡ Some fault) ⊎ (fault ≡ Memory)) }
+    {
+        let stream = AudioStream::of(plan);
+        match stream.fault(input) {
+            Some(fault) => Err(fault),
+            None => Ok(Source::Audio { stream, input }),
+        }
+    }
+
+    fn of_video(
+        alloc: Global,
+        plan: TalkPlan,
+        last_stamp: bool,
+        input: &'a [u8],
+    ) -> Result<Self, TalkFault>
+        requires plan { IsVideoPlan plan }
+        requires kind { plan.kind ≡ H264 last_stamp }
+        requires limit { length input.now ≤ most_input }
+        ensures made { IfOk result (IsSourceOf plan input.now) }
+        ensures accepted { OnOk result (fault_of plan input.now ≡ None) }
+        ensures fault { IfSome (fault_of plan input.now) (λ fault. result ≡ Err fault) }
+        ensures only { IfErr result (λ fault. (fault_of plan input.now ≡ Some fault) ⊎ (fault ≡ Memory)) }
+    {
+        if let Some(fault) = units_fault(input) {
+            return Err(fault);
+        }
+        let stream = VideoStream::of(alloc, plan, last_stamp, input)?;
+        Ok(Source::Video(stream))
+    }
+
+    /// The number of the stream's packets.
+    pub fn packets(&self) -> u64
+        requires { IsSource self.now }
+        ensures { result ≡ (stream_in self.now).journal.times.packets }
+    {
+        match self {
+            Source::Audio { stream, input } => stream.packets(input),
+            Source::Video(stream) => stream.packets,
+        }
+    }
+
+    /// The media clock beside so many packets, where there is one.
+    pub fn clock(&self, packets: u64) -> Option<ClockStream>
+        requires source { IsSource self.now }
+        requires packets { packets ≡ (stream_in self.now).journal.times.packets }
+        ensures { IsClockOf result (plan_in self.now) packets }
+    {
+        match self {
+            Source::Audio { stream, .. } => ClockStream::of(stream.plan, packets),
+            Source::Video(_) => None,
+        }
+    }
+
+    /// Memory for one frame.
+    pub fn room(&self, alloc: Global) -> Result<Vec<u8>, TalkFault>
+        requires { IsSource self.now }
+        ensures room { IfOk result (λ frame. length frame.items ≡ room_of self.now) }
+        ensures only { IfErr result (λ fault. fault ≡ Memory) }
+    {
+        let size = match self {
+            Source::Audio { stream, .. } => stream.frame_limit(),
+            Source::Video(_) => VIDEO_FRAME_LIMIT,
+        };
+        match vec![in alloc; 0; size] {
+            Ok(frame) => Ok(frame),
+            Err(_) => Err(TalkFault::Memory),
+        }
+    }
+
+    /// When packet `n` is sent, in nanoseconds of gPTP.
+    pub fn arrival(&self, n: u64) -> i64
+        requires source { IsSource self.now }
+        requires known { n < (stream_in self.now).journal.times.packets }
+        ensures { result ≡ pos ((stream_in self.now).arrival n) }
+    {
+        match self {
+            Source::Audio { stream, .. } => stream.arrival(n),
+            Source::Video(stream) => stream.arrival(n),
+        }
+    }
+
+    /// Writes the frame of packet `n` in front, and answers its length.
+    pub fn write(&self, out: &mut [u8], n: u64) -> usize
+        requires source { IsSource self.now }
+        requires known { n < (stream_in self.now).journal.times.packets }
+        requires room { length out.old ≡ room_of self.now }
+        ensures bytes { take result out.new ≡ packet_bytes ((stream_in self.now).journal.packet n) }
+        ensures bound { result ≤ room_of self.now }
+    {
+        match self {
+            Source::Audio { stream, input } => {
+                stream.write(out, input, n);
+                stream.frame_limit()
+            }
+            Source::Video(stream) => stream.write(out, n),
+        }
+    }
+}
