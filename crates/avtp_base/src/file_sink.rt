@@ -10,16 +10,16 @@ use std::rt::Files;
 
 /// A real file. It tells nothing of what it holds.
 #[derive(Drop)]
-pub struct FileSink<'a, R: Files> {
-    rt: &'a R,
+pub struct FileSink<R: Files> {
+    rt: R,
     name: String,
     file: Option<R::File>,
     faults: u64,
 }
 
-impl<'a, R: Files> FileSink<'a, R> {
+impl<R: Files> FileSink<R> {
     /// The file with the path. None is made yet: the first `write` makes or empties it.
-    pub fn named(rt: &'a R, name: String) -> Self
+    pub fn named(rt: R, name: String) -> Self
         ensures { result.faults ≡ 0 }
     {
         FileSink {
@@ -37,7 +37,7 @@ impl<'a, R: Files> FileSink<'a, R> {
         ensures faults { self.new.faults ≡ self.old.faults }
     {
         if self.file.is_none() {
-            self.file = fs::create(self.rt, self.name.as_str()).ok();
+            self.file = fs::create(&self.rt, self.name.as_str()).ok();
         }
         let file = self.file.as_mut()?;
         let taken = file.write(piece).ok()?;
@@ -45,7 +45,7 @@ impl<'a, R: Files> FileSink<'a, R> {
     }
 }
 
-impl<R: Files + Sync> Sink for FileSink<'_, R>
+impl<R: Files + Send> Sink for FileSink<R>
 where
     R::File: Send,
 {

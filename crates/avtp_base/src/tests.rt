@@ -121,7 +121,7 @@ fn real_file_sink(rt: HostRuntime) -> Result<(), Fail> {
     let path = path.to_str().ok_or("a path of text")?;
     let mut shelf = FileShelf::new(rt.alloc(), &rt);
     for pieces in [["abc", "de"], ["f", "ghi"]] {
-        let mut sink = FileSink::named(&rt, String::from_str(rt.alloc(), path)?);
+        let mut sink = FileSink::named(rt, String::from_str(rt.alloc(), path)?);
         for piece in pieces {
             assert_eq!(rt; sink.write(piece.as_bytes()), Ok(piece.len()));
         }
@@ -135,10 +135,10 @@ fn real_file_sink(rt: HostRuntime) -> Result<(), Fail> {
     assert_eq!(rt; shelf.read(slot, &mut buf), Ok(0));
     shelf.close_file(slot);
     fs::remove_file(&rt, path)?;
-    let sink = FileSink::named(&rt, String::from_str(rt.alloc(), path)?);
+    let sink = FileSink::named(rt, String::from_str(rt.alloc(), path)?);
     drop(sink);
     assert_eq!(rt; shelf.open_file(path), Err(OpenFault::Failed));
-    let mut sink = FileSink::named(&rt, String::from_str(rt.alloc(), "/")?);
+    let mut sink = FileSink::named(rt, String::from_str(rt.alloc(), "/")?);
     assert_eq!(rt; sink.write(b"a"), Err(Failed));
     Ok(())
 }

@@ -254,9 +254,9 @@ fn real_files(rt: HostRuntime) -> Result<(), Fail> {
     let path = path.to_str().ok_or("a path of text")?;
     let batch = shown(alloc, lasting(0, AUDIO, 1, 4, 7))?;
     let unit = unit(alloc, &[0x67, 0x42, 0x00, 0x0a])?;
-    let sink = FileSink::named(&rt, String::from_str(alloc, path)?);
+    let sink = FileSink::named(rt, String::from_str(alloc, path)?);
     let mut raw = RawDevice::over(sink, Silence::Zero);
-    let sink = FileSink::named(&rt, String::from_str(alloc, "/")?);
+    let sink = FileSink::named(rt, String::from_str(alloc, "/")?);
     let mut units = AnnexBDevice::over(sink);
     for item in [&batch, &LATE, &unit] {
         assert!(rt; raw.take(item).is_ok());
