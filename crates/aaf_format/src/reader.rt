@@ -100,6 +100,7 @@ fn sets_reserved(pdu: &[u8]) -> bool
         || bits_at(pdu, 23, 0, 8) != 0
 }
 
+#[inline(always)]
 fn read_packet(pdu: &[u8]) -> Result<AafView<'_>, Refusal>
     ensures { Reads aaf_shape (aaf_refusal pdu.now) (aaf_of pdu.now) result }
 {
@@ -130,6 +131,7 @@ fn read_packet(pdu: &[u8]) -> Result<AafView<'_>, Refusal>
 /// subtype other than AAF; a version other than 0; a format that is not PCM; a reserved code of the sample rate; no
 /// channels; a bit depth of more than a sample's width; a stated length of more than what stands there; one that is no
 /// multiple of a sample frame. Reserved bits may be set, and what follows the stated length is ignored.
+#[inline(always)]
 pub fn read_aaf(pdu: &[u8]) -> Result<AafView<'_>, Refusal>
     ensures exact { Reads aaf_shape (aaf_refusal pdu.now) (aaf_of pdu.now) result }
     ensures spelled { IfOk result (λ view. SpellsAaf pdu.now (aaf_shape view)) }

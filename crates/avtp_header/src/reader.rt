@@ -70,6 +70,7 @@ pub fn exceeds(header: usize, stated: u16, len: usize) -> bool
 
 /// Reads a stream header, of any subtype. Refused are, in this order, the first field that does not lie wholly in the
 /// slice, and a version other than 0.
+#[inline(always)]
 pub fn read_stream_header(pdu: &[u8]) -> Result<StreamHeader, Refusal>
     ensures exact { Reads (λ h. h) (header_refusal pdu.now) (header_of pdu.now) result }
     ensures spelled { IfOk result (λ h. SpellsHeader pdu.now h) }
@@ -78,6 +79,7 @@ pub fn read_stream_header(pdu: &[u8]) -> Result<StreamHeader, Refusal>
     read_any(pdu)
 }
 
+#[inline(always)]
 fn read_any(pdu: &[u8]) -> Result<StreamHeader, Refusal>
     ensures { Reads (λ h. h) (header_refusal pdu.now) (header_of pdu.now) result }
 {
@@ -92,6 +94,7 @@ fn read_any(pdu: &[u8]) -> Result<StreamHeader, Refusal>
 
 /// Reads the stream header of a packet of one format: as `read_stream_header`, and a subtype that is not the format's
 /// is refused before the version.
+#[inline(always)]
 pub fn read_header_of(subtype: u8, pdu: &[u8]) -> Result<StreamHeader, Refusal>
     ensures { Reads (λ h. h) (kind_refusal subtype pdu.now) (header_of pdu.now) result }
 {
@@ -124,6 +127,7 @@ pub fn peek(pdu: &[u8]) -> Option<Peeked>
 }
 
 /// The subtype of a packet. An empty slice is refused by it.
+#[inline(always)]
 pub fn peek_subtype(pdu: &[u8]) -> Result<u8, Refusal>
     ensures { Reads (λ s. s) (first_short (part Subtype 0 (holds 8 (λ s. s) ∷ []) ∷ []) (length pdu.now)) (bits 0 0 8 pdu.now) result }
 {

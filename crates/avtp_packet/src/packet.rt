@@ -34,6 +34,7 @@ pub enum Packet<'a> {
 ///
 /// It is refused by `subtype`, short, exactly where it has no byte, and else exactly as its format refuses it. A packet of
 /// another subtype is never refused. A clock reference packet has at least one timestamp.
+#[inline(always)]
 pub fn read_packet(pdu: &[u8]) -> Result<Packet<'_>, Refusal>
     ensures exact { Reads packet_shape (packet_refusal pdu.now) (packet_of pdu.now) result }
     ensures near { IfErr result (λ refusal. refusal.at < 2 ^ 32) }
@@ -43,6 +44,7 @@ pub fn read_packet(pdu: &[u8]) -> Result<Packet<'_>, Refusal>
     read_kind(subtype, pdu)
 }
 
+#[inline(always)]
 #[tactic(auto, unfolding(crate::specs::Packet::kind_of, crate::specs::Packet::kind_refusal))]
 fn read_kind(subtype: u8, pdu: &[u8]) -> Result<Packet<'_>, Refusal>
     ensures exact { Reads packet_shape (kind_refusal subtype pdu.now) (kind_of subtype pdu.now) result }
@@ -58,6 +60,7 @@ fn read_kind(subtype: u8, pdu: &[u8]) -> Result<Packet<'_>, Refusal>
     }
 }
 
+#[inline(always)]
 fn iec(pdu: &[u8]) -> Result<Packet<'_>, Refusal>
     ensures exact { Reads packet_shape (iec_refusal pdu.now) (OfIec (iec_of pdu.now)) result }
     ensures near { IfErr result (λ refusal. refusal.at < 2 ^ 32) }
@@ -69,6 +72,7 @@ fn iec(pdu: &[u8]) -> Result<Packet<'_>, Refusal>
     }
 }
 
+#[inline(always)]
 fn aaf(pdu: &[u8]) -> Result<Packet<'_>, Refusal>
     ensures exact { Reads packet_shape (aaf_refusal pdu.now) (OfAaf (aaf_of pdu.now)) result }
     ensures near { IfErr result (λ refusal. refusal.at < 2 ^ 32) }
@@ -80,6 +84,7 @@ fn aaf(pdu: &[u8]) -> Result<Packet<'_>, Refusal>
     }
 }
 
+#[inline(always)]
 fn h264(pdu: &[u8]) -> Result<Packet<'_>, Refusal>
     ensures exact { Reads packet_shape (cvf_refusal pdu.now) (OfH264 (cvf_of pdu.now)) result }
     ensures near { IfErr result (λ refusal. refusal.at < 2 ^ 32) }
@@ -91,6 +96,7 @@ fn h264(pdu: &[u8]) -> Result<Packet<'_>, Refusal>
     }
 }
 
+#[inline(always)]
 fn crf(pdu: &[u8]) -> Result<Packet<'_>, Refusal>
     ensures exact { Reads packet_shape (crf_refusal pdu.now) (OfCrf (crf_of pdu.now)) result }
     ensures near { IfErr result (λ refusal. refusal.at < 2 ^ 32) }

@@ -135,6 +135,7 @@ fn sets_reserved(pdu: &[u8]) -> bool
     bits_at(pdu, 1, 5, 1) != 0 || bits_at(pdu, 3, 0, 7) != 0 || bits_at(pdu, 26, 6, 2) != 0
 }
 
+#[inline(always)]
 fn read_packet(pdu: &[u8]) -> Result<IecView<'_>, Refusal>
     ensures { Reads iec_shape (iec_refusal pdu.now) (iec_of pdu.now) result }
 {
@@ -170,6 +171,7 @@ fn read_packet(pdu: &[u8]) -> Result<IecView<'_>, Refusal>
 /// other than 2, another format than audio, an FDF that names neither a rate nor no data; a stated length after the CIP
 /// header that is no multiple of a data block, unless there is no data. Reserved bits may be set, and what follows the
 /// stated length is ignored.
+#[inline(always)]
 pub fn read_iec(pdu: &[u8]) -> Result<IecView<'_>, Refusal>
     ensures exact { Reads iec_shape (iec_refusal pdu.now) (iec_of pdu.now) result }
     ensures spelled { IfOk result (λ view. SpellsIec pdu.now (iec_shape view)) }

@@ -73,6 +73,7 @@ fn tag_in(frame: &[u8]) -> Tag
     }
 }
 
+#[inline(always)]
 fn read_untagged(frame: &[u8]) -> FrameView<'_>
     requires whole { 14 ≤ length frame.now }
     requires untagged { is_tagged frame.now ≡ false }
@@ -88,6 +89,7 @@ fn read_untagged(frame: &[u8]) -> FrameView<'_>
     }
 }
 
+#[inline(always)]
 fn read_tagged(frame: &[u8]) -> FrameView<'_>
     requires whole { 18 ≤ length frame.now }
     requires tagged { is_tagged frame.now ≡ true }
@@ -103,6 +105,7 @@ fn read_tagged(frame: &[u8]) -> FrameView<'_>
     }
 }
 
+#[inline(always)]
 fn read_either(frame: &[u8]) -> Result<FrameView<'_>, Refusal>
     ensures { Reads frame_shape (frame_refusal frame.now) (frame_of frame.now) result }
 {
@@ -120,6 +123,7 @@ fn read_either(frame: &[u8]) -> Result<FrameView<'_>, Refusal>
 
 /// Reads an Ethernet frame: one tag at most, and all that follows the header as payload. Refused is only the first field of
 /// the header that does not lie wholly in the slice.
+#[inline(always)]
 pub fn read_frame(frame: &[u8]) -> Result<FrameView<'_>, Refusal>
     ensures exact { Reads frame_shape (frame_refusal frame.now) (frame_of frame.now) result }
     ensures spelled { IfOk result (λ view. SpellsFrame frame.now (frame_shape view)) }

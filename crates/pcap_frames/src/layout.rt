@@ -1,7 +1,7 @@
 //! The fields of a capture: where they stand, how their numbers are spelled, and which values are refused
 //! (draft-ietf-opsawg-pcap, "PCAP Capture File Format", sections 4 and 5).
 
-ghost use Rattle.std.specs.Prelude.{◌≡◌, ◌+◌, ◌<◌, ◌≤◌, ◌^◌, length, pos, true, false, Some};
+ghost use Rattle.std.specs.Prelude.{◌≡◌, ◌+◌, ◌<◌, ◌≤◌, ◌^◌, length, pos, true, false, Some, IfSome};
 ghost use Rattle.pcap_frames.specs.Capture.{record_of};
 ghost use Rattle.pcap_frames.specs.Reading.{shown};
 ghost use Rattle.pcap_frames.specs.Layout.{number_at, style_at as style_of_bytes, file_header, first_refused, certain as certain_of, file_refusal as refusal_of_file, record_refusal as refusal_of_record, instant, IsRecordTime};
@@ -160,6 +160,23 @@ pub fn record_refusal(order: Order, start: u64, bytes: &[u8]) -> Option<Refusal>
         return short(Field::PacketBytes, start + 16);
     }
     None
+}
+
+/// The size of the record that the bytes begin with, where it lies whole in them and nothing in it is refused.
+pub fn whole_size(order: Order, bytes: &[u8]) -> Option<usize>
+    ensures size { IfSome result (λ size. size ≡ 16 + number_at order 8 4 bytes.now) }
+    ensures limit { IfSome result (λ size. size ≤ 262160) }
+    ensures whole { IfSome result (λ size. size ≤ length bytes.now) }
+{
+    if bytes.len() < RECORD_HEADER {
+        return None;
+    }
+    let captured = u32_at(order, bytes, 8);
+    let size = RECORD_HEADER + captured as usize;
+    if captured > RECORD_LIMIT || bytes.len() < size {
+        return None;
+    }
+    Some(size)
 }
 
 /// A refusal that stands however the bytes go on: its field is whole.

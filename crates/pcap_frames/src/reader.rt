@@ -1,7 +1,7 @@
 //! Records from the bytes of a capture, in pieces of any length.
 
 ghost use Rattle.std.specs.Option.{option_map, option_to_list};
-ghost use Rattle.pcap_frames.specs.Layout.{certain, IsRecordTime};
+ghost use Rattle.pcap_frames.specs.Layout.{certain, number_at, IsRecordTime};
 ghost use Rattle.pcap_frames.specs.Capture.{Record, Holds, first_refusal, style_of, whole_records};
 ghost use Rattle.std.specs.Result.{result_err};
 ghost use Rattle.pcap_frames.specs.Reading.{Feeds, GoesOn, HasRead, ending, held, nothing_read, shown, taken};
@@ -23,18 +23,21 @@ pub struct Reader {
     start: u64,
     /// What has come of it.
     part: Vec<u8>,
+    /// Whether that is a whole record.
+    whole: bool,
     refusal: Option<Refusal>,
 }
 
 impl Model for Reader {
-    ghost use Rattle.std.specs.Prelude.{◌≤◌, ◌+◌, ◌^◌, length, vec_capacity};
-    ghost use Rattle.pcap_frames.specs.Reading.{Reading, IsReading};
+    ghost use Rattle.std.specs.Prelude.{◌≡◌, ◌≤◌, ◌+◌, ◌^◌, is_some, length, vec_capacity};
+    ghost use Rattle.pcap_frames.specs.Reading.{Reading, IsReading, held_by};
 
     ghost Value = { Reading };
 
     ghost view = { λ r. record { style = r.style; start = r.start; part = r.part.items; refusal = r.refusal } };
 
-    ghost invariant = { λ r. (262160 ≤ vec_capacity r.part) × (r.start + length r.part.items ≤ 2 ^ 62) × IsReading r.refusal r.style r.start r.part.items };
+    ghost invariant = { λ r. (262160 ≤ vec_capacity r.part) × (r.start + length r.part.items ≤ 2 ^ 62) × IsReading r.refusal r.style r.start r.part.items
+        × (r.whole ≡ is_some (held_by r.refusal r.style r.start r.part.items)) };
 }
 
 impl Reader {
@@ -50,6 +53,7 @@ impl Reader {
                 style: None,
                 start: 0,
                 part,
+                whole: false,
                 refusal: None,
             }),
             Err(_) => Err(NoMemory),
@@ -61,6 +65,8 @@ impl Reader {
     /// A reader that is not refused answers `Ok(0)` exactly where the piece is empty or a whole record is held.
     /// The refusal is the capture's first, and comes as soon as the bytes so far show it; from then on every
     /// `feed` and every `finish` answers it.
+    ///
+    /// At most 2^62 bytes may be taken in all, the piece among them.
     pub fn feed(&mut self, piece: &[u8]) -> Result<usize, Refusal>
         requires { taken self.old + length piece.now ≤ 2 ^ 62 }
         ensures within { IfOk result (λ n. n ≤ length piece.now) }
@@ -139,6 +145,38 @@ impl Reader {
         ensures end { IfOk result (λ n. n < length piece.now → IsSome (held self.new)) }
         ensures fed { Feeds self.old piece.now result self.new }
     {
+        if let Some(size) = self.whole_ahead(style, piece) {
+            let taken = gather(&mut self.part, size, piece);
+            self.whole = true;
+            return Ok(taken);
+        }
+        let taken = self.feed_parts(style, piece)?;
+        Ok(taken)
+    }
+
+    /// The size of a record that lies whole in the piece, where none has begun.
+    fn whole_ahead(&self, style: Style, piece: &[u8]) -> Option<usize>
+        ensures begins { IfSome result (λ size. self.now.part ≡ []) }
+        ensures size { IfSome result (λ size. size ≡ 16 + number_at style.order 8 4 piece.now) }
+        ensures limit { IfSome result (λ size. size ≤ 262160) }
+        ensures whole { IfSome result (λ size. size ≤ length piece.now) }
+    {
+        if !self.part.is_empty() {
+            return None;
+        }
+        layout::whole_size(style.order, piece)
+    }
+
+    /// Takes bytes up to the end of a record, of which some came or not all are in the piece.
+    fn feed_parts(&mut self, style: Style, piece: &[u8]) -> Result<usize, Refusal>
+        requires accepted { self.old.refusal ≡ None }
+        requires style { self.old.style ≡ Some style }
+        requires bounded { taken self.old + length piece.now ≤ 2 ^ 62 }
+        ensures blocked { IfOk result (λ n. IsSome (held self.old) → n ≡ 0) }
+        ensures still { IfOk result (λ n. n ≡ 0 → self.new ≡ self.old) }
+        ensures end { IfOk result (λ n. n < length piece.now → IsSome (held self.new)) }
+        ensures fed { Feeds self.old piece.now result self.new }
+    {
         let header = self.feed_record_header(style, piece)?;
         let bytes = self.feed_packet_bytes(style, &piece[header..]);
         Ok(header + bytes)
@@ -157,6 +195,7 @@ impl Reader {
     {
         let taken = gather(&mut self.part, RECORD_HEADER, piece);
         let refusal = layout::record_refusal(style.order, self.start, self.part.as_slice());
+        self.whole = refusal.is_none();
         match layout::certain(refusal) {
             None => Ok(taken),
             Some(refusal) => {
@@ -184,7 +223,10 @@ impl Reader {
             return 0;
         }
         let captured = layout::u32_at(style.order, self.part.as_slice(), 8);
-        gather(&mut self.part, RECORD_HEADER + captured as usize, piece)
+        let size = RECORD_HEADER + captured as usize;
+        let taken = gather(&mut self.part, size, piece);
+        self.whole = self.part.len() == size;
+        taken
     }
 
     /// The capture's style, once the whole file header was taken and accepted.
@@ -201,15 +243,11 @@ impl Reader {
         ensures exact { option_map shown result ≡ held self.now }
         ensures time { IfSome result (λ r. IsRecordTime r.arrival) }
     {
-        if self.refusal.is_some() {
+        if !self.whole {
             return None;
         }
         let style = self.style?;
-        let bytes = self.part.as_slice();
-        if layout::record_refusal(style.order, self.start, bytes).is_some() {
-            return None;
-        }
-        Some(layout::view(style, bytes))
+        Some(layout::view(style, self.part.as_slice()))
     }
 
     /// Drops the held record, so that the next can be taken. Answers whether there was one.
@@ -221,12 +259,13 @@ impl Reader {
         ensures style { self.new.style ≡ self.old.style }
         ensures refusal { self.new.refusal ≡ self.old.refusal }
     {
-        let held = self.held().is_some();
-        if held {
-            self.start += self.part.len() as u64;
-            self.part.clear();
+        if !self.whole {
+            return false;
         }
-        held
+        self.start += self.part.len() as u64;
+        self.part.clear();
+        self.whole = false;
+        true
     }
 
     /// Whether the bytes so far are a whole capture: a file header and whole records.

@@ -45,8 +45,8 @@ pub fn write_header(out: &mut [u8], style: Style) -> Result<usize, Room>
 /// Writes a record (draft-ietf-opsawg-pcap, section 5): its header, with a fraction below one second, and its bytes. Answers its length.
 ///
 /// `arrival` is in nanoseconds, 32 bits of seconds at most, and a multiple of 1000 in a capture that counts
-/// microseconds. `orig_len` is the frame's length on the wire. `Room` comes exactly where `out` has less room than 16
-/// bytes and the record's, and then nothing is written.
+/// microseconds. `orig_len` is the frame's length on the wire, and `bytes` are at most 262,144. `Room` comes exactly where
+/// `out` has less room than 16 bytes and the record's, and then nothing is written.
 pub fn write_record(
     out: &mut [u8],
     style: Style,

@@ -1,12 +1,13 @@
 -- Facts about numbers.
-use Rattle.std.proofs.Common.{◌≡◌, ℕ, ◌^◌, ◌≤◌, ◌<◌, true, ◌+◌, ℤ, pos, List, length, drop, slice_index_or, is_some, IfSome, Option, Some, None, refl, arith, length-drop}
+use Rattle.std.proofs.Common.{◌≡◌, ℕ, ◌+◌, ◌-◌, ◌*◌, ◌/◌, ◌^◌, ◌≤◌, ◌<◌, ◌∙◌, sym, ap, true, ℤ, pos, List, length, drop, slice_index_or, is_some, IfSome, Option, Some, None, refl, arith, length-drop}
 use Rattle.std.proofs.lemmas.List.{take_all}
 use Rattle.pcap_frames.specs.declared.style.Order.{Order}
 use Rattle.pcap_frames.specs.Layout.{number_at}
 use Rattle.pcapng_frames.specs.declared.block.PacketHead.{PacketHead}
 use Rattle.pcapng_frames.specs.Blocks.{record_by}
 use Rattle.pcapng_frames.specs.Reading.{packet_of}
-use Rattle.std.proofs.Math.Nat.{one-le-pow}
+use Rattle.std.proofs.Math.Nat.{one-le-pow, div-eq_of_eq-mul_left, mul_assoc, mul-div-mul_right, div-le_self}
+use Rattle.std.proofs.lemmas.Nat.{pow-add}
 use Rattle.std.proofs.lemmas.List.Elements.{All-get_or}
 use Rattle.pcapng_frames.specs.declared.interface.Interface.{Interface}
 use Rattle.pcapng_frames.specs.Interface.{is_resolution}
@@ -15,6 +16,25 @@ use Rattle.pcapng_frames.specs.Fields.{AllResolved}
 -- a power is not zero
 pub power_some : (a k : ℕ) → 1 ≤ a → 1 ≤ a ^ k
 power_some a k h = one-le-pow k a h
+
+-- units of a nanosecond and longer: so many whole nanoseconds each
+pub long_units : (x k : ℕ) → k ≤ 9 → x * 10 ^ (9 - k) ≡ x * 1000000000 / 10 ^ k
+long_units x k h =
+    let nine : (9 - k) + k ≡ 9 = omega arith in
+    let whole : 10 ^ (9 - k) * 10 ^ k ≡ 1000000000 = sym (pow-add 10 (9 - k) k) ∙ ap (λ (n : ℕ). 10 ^ n) nine in
+    let all : x * 1000000000 ≡ x * 10 ^ (9 - k) * 10 ^ k = ap (λ (n : ℕ). x * n) (sym whole) ∙ sym (mul_assoc x (10 ^ (9 - k)) (10 ^ k)) in
+    sym (div-eq_of_eq-mul_left (power_some 10 k (omega arith)) all)
+
+-- shorter units: so many whole ones each nanosecond
+pub short_units : (x k : ℕ) → 9 ≤ k → x / 10 ^ (k - 9) ≡ x * 1000000000 / 10 ^ k
+short_units x k h =
+    let more : k ≡ (k - 9) + 9 = omega arith in
+    let whole : 10 ^ k ≡ 10 ^ (k - 9) * 1000000000 = ap (λ (n : ℕ). 10 ^ n) more ∙ pow-add 10 (k - 9) 9 in
+    sym (ap (λ (n : ℕ). x * 1000000000 / n) whole ∙ mul-div-mul_right x (10 ^ (k - 9)) (omega arith))
+
+-- the nanoseconds of a timestamp of 64 bits
+pub time_limit : (x units : ℕ) → x < 2 ^ 64 → x * 1000000000 / units < 2 ^ 94
+time_limit x units h = omega (arith, div-le_self (x * 1000000000) units)
 
 -- one of the interfaces whose resolutions are all read
 pub one_resolved : (interfaces : List Interface) (id : ℕ) (d : Interface) → AllResolved interfaces → id < length interfaces → is_resolution (slice_index_or interfaces id d).resolution ≡ true

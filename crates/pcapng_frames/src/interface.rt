@@ -1,6 +1,6 @@
 //! The clock of an interface.
 
-ghost use Rattle.std.specs.Prelude.{◌≡◌, ◌≤◌, ◌<◌, ◌^◌, true, pos, IfSome};
+ghost use Rattle.std.specs.Prelude.{◌≡◌, ◌≤◌, ◌<◌, ◌*◌, ◌/◌, ◌^◌, true, pos, IfSome};
 ghost use Rattle.std.specs.Option.{option_map};
 ghost use Rattle.pcapng_frames.specs.Interface.{arrival_of, instant, is_resolution, units};
 
@@ -50,13 +50,32 @@ fn units_in(resolution: u8) -> u64
     }
 }
 
+/// The nanoseconds of a timestamp, rounded down.
+///
+/// Decimal units need no long division: those of a nanosecond and more are whole nanoseconds, and of shorter ones a
+/// nanosecond has a whole number.
+#[tactic(auto, using(crate::proofs::Numbers::long_units, crate::proofs::Numbers::short_units, crate::proofs::Numbers::power_some, crate::proofs::Numbers::time_limit))]
+fn nanoseconds(resolution: u8, timestamp: u64) -> u128
+    requires { is_resolution resolution ≡ true }
+    ensures exact { result ≡ timestamp * 1000000000 / units resolution }
+    ensures limit { result < 2 ^ 94 }
+{
+    if resolution >= 128 {
+        u128::from(timestamp) * SECOND / u128::from(units_in(resolution))
+    } else if resolution <= 9 {
+        u128::from(timestamp) * u128::from(10u64.pow(9 - u32::from(resolution)))
+    } else {
+        u128::from(timestamp / 10u64.pow(u32::from(resolution) - 9))
+    }
+}
+
 /// The instant of a timestamp, in nanoseconds, rounded down.
 #[tactic(auto, unfolding(crate::specs::Interface::instant))]
 fn instant_of(interface: Interface, timestamp: u64) -> i128
     requires { is_resolution interface.resolution ≡ true }
     ensures { result ≡ instant interface timestamp }
 {
-    let nanoseconds = u128::from(timestamp) * SECOND / u128::from(units_in(interface.resolution));
+    let nanoseconds = nanoseconds(interface.resolution, timestamp);
     i128::from(interface.offset) * 1_000_000_000 + nanoseconds as i128
 }
 

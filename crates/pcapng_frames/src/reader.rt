@@ -9,10 +9,11 @@ ghost use Rattle.pcapng_frames.specs.declared.block.Stage.TheVariants as stage;
 ghost use Rattle.pcapng_frames.specs.Interface.{is_resolution, microseconds};
 ghost use Rattle.pcapng_frames.specs.Fields.{AllResolved};
 ghost use Rattle.pcapng_frames.specs.Blocks.{contents, whole_records, first_refusal, settled, after_trailer};
-ghost use Rattle.pcapng_frames.specs.Reading.{CanFeed, Reading, lacks, refused_after, Takes, Feeds, GoesOn, HasRead, held, need_by, nothing_read, rest_of, shown, taken};
+ghost use Rattle.pcapng_frames.specs.Reading.{CanFeed, Reading, lacks, refused_after, Takes, Feeds, GoesOn, HasRead, IsWholePacket, held, need_by, nothing_read, rest_of, shown, taken};
 
-use crate::block::{Cursor, Kind, Stage};
+use crate::block::{Cursor, Kind, Stage, WholePacket};
 use crate::interface::Interface;
+use crate::layout::PACKET_HEAD;
 use crate::{layout, refusals, steps};
 use avtp_base::{Field, NoMemory, Refusal};
 use pcap_frames::{Order, RecordView};
@@ -85,6 +86,8 @@ impl Ng {
     /// A reader that is not refused answers `Ok(0)` exactly where the piece is empty or a whole packet is held.
     /// The refusal is the capture's first, and comes as soon as the bytes so far show it; from then on every
     /// `feed` and every `finish` answers it.
+    ///
+    /// At most 2^62 bytes may be taken in all, the piece among them.
     pub fn feed(&mut self, piece: &[u8]) -> Result<usize, Refusal>
         requires { taken self.old + length piece.now ≤ 2 ^ 62 }
         ensures within { IfOk result (λ n. n ≤ length piece.now) }
@@ -122,6 +125,10 @@ impl Ng {
         }
         match self.cursor.stage {
             Stage::Block => {
+                if let Some(packet) = self.packet_ahead(piece) {
+                    let taken = self.feed_packet(packet, piece);
+                    return Ok(taken);
+                }
                 let taken = self.feed_block(piece)?;
                 Ok(taken)
             }
@@ -207,6 +214,52 @@ impl Ng {
         let taken = piece.len().min(self.cursor.skip as usize);
         self.cursor.skip -= taken as u32;
         taken
+    }
+
+    /// The packet whose block lies whole in the piece, where no block has begun and nothing in it is refused.
+    fn packet_ahead(&self, piece: &[u8]) -> Option<WholePacket>
+        requires { self.now.place.stage ≡ stage.Block }
+        ensures begins { IfSome result (λ packet. self.now.part ≡ []) }
+        ensures whole { IfSome result (λ packet. IsWholePacket self.now.place.order self.now.place.interfaces piece.now packet) }
+    {
+        if !self.part.is_empty() {
+            return None;
+        }
+        steps::whole_packet(self.cursor.order, self.interfaces.as_slice(), piece)
+    }
+
+    /// Takes the whole block of a packet.
+    fn feed_packet(&mut self, packet: WholePacket, piece: &[u8]) -> usize
+        requires can { CanFeed self.old piece.now }
+        requires stage { self.old.place.stage ≡ stage.Block }
+        requires begins { self.old.part ≡ [] }
+        requires whole { IsWholePacket self.old.place.order self.old.place.interfaces piece.now packet }
+        ensures some { 0 < result }
+        ensures within { result ≤ length piece.now }
+        ensures counted { taken self.new ≡ taken self.old + result }
+        ensures takes { Takes self.old (take result piece.now) self.new }
+        ensures accepted { self.new.refusal ≡ None }
+    {
+        let size = packet.total as usize;
+        gather(
+            &mut self.part,
+            PACKET_HEAD + packet.captured as usize,
+            piece,
+        );
+        self.tail.clear();
+        gather(&mut self.tail, 4, &piece[size - 4..]);
+        self.cursor = Cursor {
+            stage: Stage::Trailer,
+            order: self.cursor.order,
+            interface: None,
+            start: self.cursor.start,
+            total: packet.total,
+            left: 0,
+            skip: 0,
+            packet: Some(packet.head),
+        };
+        self.whole = true;
+        size
     }
 
     /// Takes bytes up to where more is known of a block.

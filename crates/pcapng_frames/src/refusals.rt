@@ -39,7 +39,7 @@ pub fn short(field: Field, at: u64) -> Option<Refusal>
 }
 
 /// Whether a total length is too small for the kind of block, or no multiple of 4.
-fn bad_length(kind: Kind, total: u32) -> bool
+pub fn bad_length(kind: Kind, total: u32) -> bool
     ensures { result ≡ is_bad_length kind total }
 {
     let least = match kind {

@@ -3,19 +3,20 @@
 ghost use Rattle.std.specs.Prelude.{ℕ, List, [], ◌++◌, true, ◌≡◌, ◌+◌, ◌-◌, ◌<◌, ◌≤◌, ◌^◌, ◌%◌, is_some, vec_capacity, length, pos, IfSome, Some};
 ghost use Rattle.std.specs.Option.{option_to_list};
 ghost use Rattle.pcap_frames.specs.Layout.{number_at};
-ghost use Rattle.pcapng_frames.specs.Reading.{HasEntered, IsAhead, IsResolved, passed_by, block_need as need_of_block, option_need as need_of_option, head_need, place_of};
+ghost use Rattle.pcapng_frames.specs.Reading.{HasEntered, IsAhead, IsResolved, IsWholePacket, passed_by, block_need as need_of_block, option_need as need_of_option, head_need, place_of};
 ghost use Rattle.pcapng_frames.specs.declared.interface.Interface.{Interface};
 ghost use Rattle.pcapng_frames.specs.Fields.{AllResolved, first_refused, interface_rows, option_code, other_rows, packet_arrival as arrival_in, packet_rows};
 ghost use Rattle.pcapng_frames.specs.Blocks.{after_trailer as trailer_after, block_refused as refused_in_block, option_refused as refused_in_option, next_by, after_any, described as interface_described, interfaces_after, size_of_option, size_of_any, after_block as block_after, block_size, kind_at as kind_in, kind_rows, order_at as order_in, order_or_little as order_or};
 ghost use Rattle.pcapng_frames.specs.declared.block.Kind.TheVariants as kind;
 ghost use Rattle.pcapng_frames.specs.declared.block.Stage.TheVariants as stage;
 
-use crate::block::{Cursor, Kind, PacketHead, Stage};
+use crate::block::{Cursor, Kind, PacketHead, Stage, WholePacket};
 use crate::interface::{Interface, MICROSECONDS};
 use crate::layout::{
-    END_OF_OPTIONS, IF_TSOFFSET, IF_TSRESOL, PACKET_HEAD, i64_at, kind_at, order_or_little,
-    packet_arrival, padded, section_order, u16_at, u32_at,
+    END_OF_OPTIONS, ENHANCED_PACKET, IF_TSOFFSET, IF_TSRESOL, PACKET_HEAD, PACKET_LIMIT, i64_at,
+    kind_at, order_or_little, packet_arrival, padded, section_order, u16_at, u32_at,
 };
+use crate::refusals::bad_length;
 use pcap_frames::Order;
 
 /// How many bytes of a block are to come before more is known of it.
@@ -163,6 +164,55 @@ fn packet_head(order: Order, interfaces: &[Interface], part: &[u8]) -> Option<Pa
     Some(PacketHead {
         arrival,
         orig_len: u32_at(order, part, 24),
+    })
+}
+
+/// What the fixed fields of an enhanced packet say, where none of them is refused.
+fn accepted_head(order: Order, interfaces: &[Interface], bytes: &[u8]) -> Option<PacketHead>
+    requires stands { 28 ≤ length bytes.now }
+    requires resolved { AllResolved interfaces.now }
+    ensures accepted { IfSome result (λ head. (start : ℕ) → first_refused start (length bytes.now) (packet_rows order interfaces.now bytes.now) ≡ None) }
+    ensures arrival { IfSome result (λ head. arrival_in order interfaces.now bytes.now ≡ Some (pos head.arrival)) }
+    ensures limit { IfSome result (λ head. head.arrival ≤ 2 ^ 62) }
+    ensures orig_len { IfSome result (λ head. number_at order 24 4 bytes.now ≡ head.orig_len) }
+    ensures held { IfSome result (λ head. number_at order 20 4 bytes.now ≤ 262144) }
+    ensures room { IfSome result (λ head. 32 + number_at order 20 4 bytes.now ≤ number_at order 4 4 bytes.now) }
+{
+    let total = u32_at(order, bytes, 4);
+    if bad_length(Kind::Packet, total) || u32_at(order, bytes, 8) as usize >= interfaces.len() {
+        return None;
+    }
+    let head = packet_head(order, interfaces, bytes)?;
+    let captured = u32_at(order, bytes, 20);
+    if captured > PACKET_LIMIT || u64::from(total) < 32 + padded(captured) {
+        return None;
+    }
+    Some(head)
+}
+
+/// The enhanced packet that the bytes begin with, where its block lies whole in them and nothing in it is refused.
+pub fn whole_packet(
+    order: Option<Order>,
+    interfaces: &[Interface],
+    bytes: &[u8],
+) -> Option<WholePacket>
+    requires resolved { AllResolved interfaces.now }
+    ensures { IfSome result (λ packet. IsWholePacket order interfaces.now bytes.now packet) }
+{
+    let order = order?;
+    if bytes.len() < PACKET_HEAD || u32_at(order, bytes, 0) != ENHANCED_PACKET {
+        return None;
+    }
+    let head = accepted_head(order, interfaces, bytes)?;
+    let total = u32_at(order, bytes, 4);
+    let end = total as usize;
+    if bytes.len() < end || u32_at(order, &bytes[end - 4..], 0) != total {
+        return None;
+    }
+    Some(WholePacket {
+        head,
+        total,
+        captured: u32_at(order, bytes, 20),
     })
 }
 

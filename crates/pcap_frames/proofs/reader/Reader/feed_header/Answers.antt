@@ -2,6 +2,7 @@ use Rattle.std.proofs.Common.{◌∙◌, sym, ap, Some, arith, rules, refl, is_s
 use Rattle.std.proofs.lemmas.List.{take-append-drop}
 use Rattle.pcap_frames.specs.Reading.{HasRead}
 use Rattle.pcap_frames.proofs.Fields.{file_whole, file_short, file_style, opened, in_header, still_in_header, short_only}
+use Rattle.pcap_frames.proofs.Flag.{flag_begins, flag_unopened, still_unopened}
 use Rattle.pcap_frames.proofs.Steps.{reading, header_goes_on, header_ends, header_refuses}
 use Rattle.pcap_frames.proofs.reader.Reader.feed_header.Goals as goal
 
@@ -14,7 +15,13 @@ pub invariant_of-self : goal.invariant_of-self
 invariant_of-self c =
     let none = c.requires.accepted in
     let mine = rw (← c.self.view_is) at none in
-    (omega arith, search rules, opened _ _ _ _ mine (ap is_some c.style_at-self-inside.ensures ∙ file_style _ (sym c.file_refusal.ensures ∙ c.in-None.is)) c.clear.ensures.items)
+    let header = c.requires.header in
+    let unopened = rw (← c.self.view_is) at header in (
+      omega arith,
+      search rules,
+      opened _ _ _ _ mine (ap is_some c.style_at-self-inside.ensures ∙ file_style _ (sym c.file_refusal.ensures ∙ c.in-None.is)) c.clear.ensures.items,
+      flag_begins _ _ _ _ _ c.clear.ensures.items (flag_unopened _ _ _ _ _ mine unopened c.self.invariant.3),
+    )
 
 pub invariant_of-self-then-refusal : goal.invariant_of-self-then-refusal
 invariant_of-self-then-refusal c =
@@ -33,6 +40,7 @@ invariant_of-self-then-refusal c =
         accepted = rw (← c.as_slice-header.ensures.value) (short_only _ _ (sym c.file_refusal.ensures ∙ c.in-Some.is) c.if-refusal.true);
         partial = rw (← c.as_slice-header.ensures.value) short;
       }),
+      still_unopened _ _ _ _ _ accepted unopened (flag_unopened _ _ _ _ _ accepted unopened c.self.invariant.3),
     )
 
 pub returns-in-None-clause-fed : goal.returns-in-None-clause-fed
