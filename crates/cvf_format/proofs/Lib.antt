@@ -2,8 +2,9 @@ mod AnnexBLemmas
 pub mod AssemblyLemmas
 mod CvfLemmas
 mod NalLemmas
+mod NextUnit
 mod PlaceLemmas
-mod RuleLemmas
-mod SettledLemmas
+pub mod RuleLemmas
+pub mod SettledLemmas
 pub mod StretchLemmas
 mod UnitLemmas

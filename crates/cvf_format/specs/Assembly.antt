@@ -9,7 +9,7 @@ use Rattle.cvf_format.specs.declared.piece.Lost.TheVariants.{Broken}
 use Rattle.cvf_format.specs.declared.piece.Pushed.{Pushed}
 use Rattle.cvf_format.specs.declared.piece.Piece.{Piece}
 use Rattle.cvf_format.specs.declared.piece.Piece.TheVariants as variant
-use Rattle.cvf_format.specs.Stretches.{Fragment, Event, mark_of, unit_of, stamps, held, given_up, reason, piece, lost_marks, whole_unit, goes_on, completes, sequence_numbers, longest_unit, most_fragments}
+use Rattle.cvf_format.specs.Stretches.{Fragment, Event, mark_of, unit_of, stamps, held, given_up, reason, piece, lost_marks, whole_unit, goes_on, begins, completes, sequence_numbers, longest_unit, most_fragments}
 
 -- the bytes of the unit so far, the marks of those that wait and of those that were given up last, what the next
 -- fragment must carry, and whether the unit is whole
@@ -129,3 +129,11 @@ with_next a f = record {
   instant = or_first a.instant f.instant;
   whole = completes f.part;
 }
+
+-- how many bytes the unit has that a packet would make whole, and 0 where it would make none
+abbrev pub size_with : Assembly → Fragment → ℕ
+size_with a f =
+    if not (completes f.part) then 0
+    else if begins f.part then 1 + length f.body
+    else if goes_on_here a f && has_room a f.body then length a.bytes + length f.body
+    else 0

@@ -67,6 +67,7 @@ fn without_zeros(bytes: &[u8], from: usize, end: usize) -> Option<(usize, usize)
 
 /// The first NAL unit whose start code stands at `from` or after it: the place of its first byte, and the place after its
 /// last. `None` comes where there is none. So all units come, in order, from 0 and then from the end of the one before.
+/// `from` is at most the number of bytes.
 pub fn next_unit(bytes: &[u8], from: usize) -> Option<(usize, usize)>
     requires { from ≤ length bytes.now }
     ensures next { MatchOption result (units_from bytes.now from ≡ []) (λ unit. units_from bytes.now from ≡ unit ∷ units_from bytes.now unit.1) }

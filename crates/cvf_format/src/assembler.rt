@@ -2,7 +2,7 @@
 
 ghost use Rattle.std.specs.Prelude.{◌≡◌, ◌+◌, ◌%◌, ◌≤◌, ◌<◌, ◌++◌, ◌∷◌, [], length, slice_get, List, IfOk, IsTrue, IsSome, if◌then◌else◌};
 ghost use Rattle.cvf_format.specs.Stretches.{Event, cut as cut_event, packet, given_up, lost_marks, piece as piece_after, reason, sequence_numbers, whole_unit, completes, goes_on, begins};
-ghost use Rattle.cvf_format.specs.Assembly.{IsPushed, StandsFor, agree, fragment_of, broken, gave_up, goes_on_here, has_room, longest_body, lost_for, or_first, settled, shown_unit, with_first, with_next};
+ghost use Rattle.cvf_format.specs.Assembly.{IsPushed, StandsFor, agree, fragment_of, broken, gave_up, goes_on_here, has_room, longest_body, lost_for, or_first, settled, shown_unit, size_with, with_first, with_next};
 
 use crate::cvf::{CvfView, NalPart};
 use crate::piece::{Lost, Mark, Piece, Pushed};
@@ -126,7 +126,7 @@ impl Assembler {
     ///
     /// A unit is whole with its last packet. A packet that does not go on with the fragments that wait gives them up, and
     /// so does one with which the unit would have more than 4,194,304 bytes or 4,096 fragments, which is then lost too. A
-    /// packet that completes a unit must be stamped. Takes no memory.
+    /// packet that completes a unit must be stamped, and a body has at most 65,530 bytes. Takes no memory.
     pub fn push(&mut self, mark: Mark, instant: Option<i64>, view: &CvfView<'_>) -> Pushed
         requires body { length view.now.body.now ≤ longest_body }
         requires stamped { IsTrue (completes view.now.part) → IsSome instant }
@@ -144,7 +144,7 @@ impl Assembler {
     }
 
     /// The mark of one of the fragments that were given up by the last packet or cut: these are counted from 0, in the
-    /// order in which they came.
+    /// order in which they came, and `i` is below their number.
     pub fn lost_mark(&self, i: u32) -> Mark
         requires { i < length self.now.lost }
         ensures { (events : List Event) → StandsFor self.now events → slice_get (lost_marks events) i ≡ Some result }
@@ -167,6 +167,32 @@ impl Assembler {
         ensures { (events : List Event) → StandsFor self.now events → result.now ≡ whole_unit events }
     {
         self.shown()
+    }
+
+    /// How many bytes the unit has that this packet would make whole, and 0 where it would make none. The same holds of the
+    /// packet as for `push`. So memory for the unit can be found before the packet is pushed.
+    pub fn unit_with(&self, mark: Mark, instant: Option<i64>, view: &CvfView<'_>) -> usize
+        requires { length view.now.body.now ≤ longest_body }
+        ensures { (events : List Event) → StandsFor self.now events
+            → result ≡ length (whole_unit (events ++ packet (fragment_of mark instant view.now) ∷ [])) }
+    {
+        self.size_with(mark, instant, view)
+    }
+
+    fn size_with(&self, mark: Mark, instant: Option<i64>, view: &CvfView<'_>) -> usize
+        requires { length view.now.body.now ≤ longest_body }
+        ensures { result ≡ size_with self.now (fragment_of mark instant view.now) }
+    {
+        if !completes_unit(view.part) {
+            return 0;
+        }
+        if begins_unit(view.part) {
+            return 1 + view.body.len();
+        }
+        if self.goes_on_with(mark, instant, view) && self.has_room_for(view.body) {
+            return self.bytes.len() + view.body.len();
+        }
+        0
     }
 
     fn shown(&self) -> &[u8]

@@ -121,6 +121,7 @@ fn sets_reserved(pdu: &[u8], part: NalPart) -> bool
     }
 }
 
+#[inline(always)]
 fn read_packet(pdu: &[u8]) -> Result<CvfView<'_>, Refusal>
     ensures { Reads cvf_shape (cvf_refusal pdu.now) (cvf_of pdu.now) result }
 {
@@ -149,6 +150,7 @@ fn read_packet(pdu: &[u8]) -> Result<CvfView<'_>, Refusal>
 /// stated length of fewer than 5 bytes, or of more than what stands there; a NAL type that is neither that of a single
 /// unit, 1 to 23, nor FU-A; a fragment without an FU header; one that is both first and last, or whose type is not 1 to
 /// 23. A body may be empty. Reserved bits may be set, and what follows the stated length is ignored.
+#[inline(always)]
 pub fn read_cvf(pdu: &[u8]) -> Result<CvfView<'_>, Refusal>
     ensures exact { Reads cvf_shape (cvf_refusal pdu.now) (cvf_of pdu.now) result }
     ensures spelled { IfOk result (λ view. SpellsCvf pdu.now (cvf_shape view)) }

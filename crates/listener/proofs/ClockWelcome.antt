@@ -1,5 +1,5 @@
 -- With a clock, a packet that two points of the clock before it cover is one that must be presented.
-use Rattle.std.proofs.Common.{◌≡◌, ℕ, zero, suc, ◌+◌, ◌-◌, ◌%◌, ◌^◌, ◌<◌, ◌≤◌, Bool, true, false, ℤ, pos, ◌+ℤ◌, ◌≤ℤ◌, List, [], ◌∷◌, ◌++◌, All, length, take, Option, Some, None, is_some, refl, sym, ap, ◌∙◌, subst, eq-eqb, arith}
+use Rattle.std.proofs.Common.{◌≡◌, ℕ, suc, ◌+◌, ◌-◌, ◌%◌, ◌^◌, ◌<◌, ◌≤◌, Bool, true, false, ℤ, pos, ◌+ℤ◌, ◌≤ℤ◌, List, [], ◌∷◌, ◌++◌, length, take, Option, Some, None, is_some, refl, sym, ap, ◌∙◌, subst, eq-eqb, arith}
 use Rattle.std.specs.Prelude.{◌==◌, nat_lt, if◌then◌else◌, IfSome, option_and_then, option_map, slice_get}
 use Rattle.std.specs.Int.{int_max}
 use Rattle.std.specs.List.{filter_map, range_with_len}
@@ -34,11 +34,10 @@ use Rattle.listener.specs.declared.plan.ListenPlan.{ListenPlan}
 use Rattle.listener.specs.Heard.{deliveries_of, entries_in, items_in, schedule_plan}
 use Rattle.listener.specs.Items.{clock_row, entry_of, made_of_one}
 use Rattle.listener.specs.Laws.{AreJoined, CoversPacket, FollowsClock, HearsTalker, IsOfPacket, IsWelcome, by_clock, first_of, is_known, last_of, spot_in, time_of}
-use Rattle.listener.proofs.Shown.{item_there}
 use Rattle.listener.proofs.TrueHeard.{IsTrueHead, head_true}
 use Rattle.listener.proofs.TrueItems.{Shows, all_shown, clock_entry, copied_row, copy_entry, sent}
-use Rattle.listener.proofs.TrueList.{IsTrueEntry, entries_true, followed, one_copy, prefix_true}
-use Rattle.listener.proofs.TrueTimely.{at_place, entry_there}
+use Rattle.listener.proofs.TrueList.{IsTrueEntry, entries_true, followed, one_copy, others, prefix_true}
+use Rattle.listener.proofs.TrueTimely.{at_place, entry_there, item_there}
 use Rattle.listener.proofs.Welcome.{arrives, first_time, has_room, own_head}
 
 -- ---- two packets of the clock beside each other
@@ -156,6 +155,7 @@ pub clock_welcome : (p : PacketJournal) (plan : ListenPlan) (records : List Reco
 clock_welcome p plan records m n instant x d0 d1 d2 h clocked look at0 at1 at2 first second copy c at past early0 early1 early2 some fits =
     let sp = schedule_plan plan in
     let ds = deliveries_of plan records in
+    let all = others (pos 0) p plan records h in
     let es = entries_in plan records in
     let items = items_in plan records in
     let is = followed (pos 0) p plan records h in
@@ -166,9 +166,9 @@ clock_welcome p plan records m n instant x d0 d1 d2 h clocked look at0 at1 at2 f
     let row1 = clock_row d1 in
     let packet = sent p.times n d2.frame copy.arrival (carried (p.packet n)) in
     let same : entry_of d2 ≡ OfItem (OfPacket packet) = copy_entry (pos 0) p plan.lead n d2 h.conforming h.kind copy (at_place Shows ds 2 d2 shows at2) in
-    let e0 : slice_get es 0 ≡ Some (OfClock d0.arrival row0) = entry_there ds 0 d0 at0 ∙ ap Some (clock_entry (pos 0) p m d0 h.conforming first (at_place Shows ds 0 d0 shows at0)) in
-    let e1 : slice_get es 1 ≡ Some (OfClock d1.arrival row1) = entry_there ds 1 d1 at1 ∙ ap Some (clock_entry (pos 0) p (suc m) d1 h.conforming second (at_place Shows ds 1 d1 shows at1)) in
-    let e2 : slice_get es 2 ≡ Some (OfItem (OfPacket packet)) = entry_there ds 2 d2 at2 ∙ ap Some same in
+    let e0 : slice_get es 0 ≡ Some (OfClock d0.arrival row0) = entry_there ds 0 d0 all at0 ∙ ap Some (clock_entry (pos 0) p m d0 h.conforming first (at_place Shows ds 0 d0 shows at0)) in
+    let e1 : slice_get es 1 ≡ Some (OfClock d1.arrival row1) = entry_there ds 1 d1 all at1 ∙ ap Some (clock_entry (pos 0) p (suc m) d1 h.conforming second (at_place Shows ds 1 d1 shows at1)) in
+    let e2 : slice_get es 2 ≡ Some (OfItem (OfPacket packet)) = entry_there ds 2 d2 all at2 ∙ ap Some same in
     let none : accepted clock_spot sp es 2 ≡ [] = none_more sp es 1 d1.arrival row1 e1 (none_more sp es 0 d0.arrival row0 e0 (nothing sp es)) in
     let prefix = prefix_of sp es 2 in
     let long : 2 + plan.look + 1 ≡ 3 = omega (arith, look) in
@@ -183,10 +183,10 @@ clock_welcome p plan records m n instant x d0 d1 d2 h clocked look at0 at1 at2 f
     let spot : is_some (spot_in sp prefix packet) ≡ true =
     on_line p.times.rate (pos instant) plan.shift sp.clock (filter_map row_of prefix) (heads.head_of sp prefix packet) by_is shift (head_instant p.times n instant (heads.head_of sp prefix packet) c.stamped head) has found in
     let time : time_of plan records 2 ≤ℤ x =
-    rw (now-next es 2 (entry_of d2) (entry_there ds 2 d2 at2), now-next es 1 (entry_of d1) (entry_there ds 1 d1 at1), first_time es (entry_of d0) (entry_there ds 0 d0 at0), arrives d0, arrives d1, arrives d2) (latest_of x d0.arrival d1.arrival d2.arrival past early0 early1 early2) in
+    rw (now-next es 2 (entry_of d2) (entry_there ds 2 d2 all at2), now-next es 1 (entry_of d1) (entry_there ds 1 d1 all at1), first_time es (entry_of d0) (entry_there ds 0 d0 all at0), arrives d0, arrives d1, arrives d2) (latest_of x d0.arrival d1.arrival d2.arrival past early0 early1 early2) in
     record {
       timely = record {
-        there = item_there ds 2 d2 at2;
+        there = item_there ds 2 d2 all at2;
         copy = one_copy p plan.lead n d2 copy;
         known = subst (λ (e : Entry). is_known sp prefix e ≡ true) (sym same) spot;
         instant = x;

@@ -1,10 +1,11 @@
 -- Each packet of the stream is shown once and those of the clock never, so the counts add up.
-use Rattle.std.proofs.Common.{◌≡◌, ℕ, zero, suc, ◌+◌, ◌<◌, ◌≤◌, Bool, true, false, cond, List, [], ◌∷◌, length, Option, Some, None, refl, sym, ap, ◌∙◌, arith, take_all, inl, inr}
-use Rattle.std.specs.Prelude.{◌==◌, ◌&&◌, ◌||◌, if◌then◌else◌, count_by, nat_lt, slice_get, take, map, filter}
+use Rattle.std.proofs.Common.{◌≡◌, ℕ, zero, suc, ◌+◌, ◌-◌, ◌<◌, ◌≤◌, Bool, true, false, cond, List, [], ◌∷◌, All, length, Option, Some, None, refl, sym, ap, ◌∙◌, arith, take_all, inl, inr}
+use Rattle.std.specs.Prelude.{⊤, ◌==◌, ◌&&◌, ◌||◌, if◌then◌else◌, count_by, nat_lt, slice_get, take, map, filter}
 use Rattle.std.specs.List.{enumerate_from, list_any}
 use Rattle.std.proofs.lemmas.Bool.{cases_lt}
 use Rattle.std.proofs.lemmas.Bool.Decides.{nat_tests}
 use Rattle.std.proofs.lemmas.List.{length-map}
+use Rattle.std.proofs.lemmas.List.Elements.{All-cons, All-head, All-nil, All-tail}
 use Rattle.std.proofs.lemmas.List.Sums.{sum_by-cons}
 use Rattle.avtp_base.proofs.RowLemmas.{unequal}
 use Rattle.avtp_header.specs.Header.{peeked_of}
@@ -22,8 +23,11 @@ use Rattle.sample_schedule.specs.Verdicts.{Clock}
 use Rattle.sample_schedule.proofs.LawLemmas.{each-once}
 use Rattle.packet_journal.specs.Deliveries.{Delivery, belongs, belongs_to_clock, clock_kinds, delivery, is_avtp, is_delivered, packet_in, stream_kinds}
 use Rattle.listener.specs.declared.plan.ListenPlan.{ListenPlan}
-use Rattle.listener.specs.Heard.{counts_of, entries_in, is_flag, is_present, schedule_plan, shown_of as shown_list}
-use Rattle.listener.specs.Items.{entries, entry_of}
+use Rattle.listener.specs.Heard.{counts_of, deliveries_of, entries_in, is_flag, is_present, items_in, schedule_plan, shown_of as shown_list}
+use Rattle.cvf_format.specs.Stretches.{last_stretch}
+use Rattle.listener.specs.Items.{MadeItem, events_to, items_of, made_entry, made_of_one, sources, unit_by}
+use Rattle.listener.specs.Laws.{fragments_in}
+use Rattle.listener.proofs.Made.{IsStreamed, OfEach, all_made, count-append, is_streamed, items_all, last_streamed, tally, tally-cons}
 
 abbrev counted : Bool → ℕ
 counted b = cond b 1 0
@@ -139,7 +143,7 @@ of_kind kinds id r e =
 not_crf : (subtype : ℕ) → list_any (λ kind. subtype == kind) stream_kinds ≡ true → (subtype == crf_subtype) ≡ false
 not_crf subtype e = elim (cases_lt subtype 4) [
   | inl within ↦ unequal subtype 4 (λ same. omega arith)
-  | inr past ↦ absurd (let none : list_any (λ kind. subtype == kind) stream_kinds ≡ false = rw (unequal subtype 0 (λ same. omega arith), unequal subtype 2 (λ same. omega arith)) refl in cc)
+  | inr past ↦ absurd (let none : list_any (λ kind. subtype == kind) stream_kinds ≡ false = rw (unequal subtype 0 (λ same. omega arith), unequal subtype 2 (λ same. omega arith), unequal subtype 3 (λ same. omega arith)) refl in cc)
 ]
 
 is_crf : (subtype : ℕ) → list_any (λ kind. subtype == kind) clock_kinds ≡ true → (subtype == crf_subtype) ≡ true
@@ -149,39 +153,84 @@ is_crf subtype e = by (subtype == crf_subtype) refl e
     by true f g = refl
     by false f g = absurd cc
 
-stream_item : (r : Record) (i : ℕ) → (subtype_in r == crf_subtype) ≡ false → is_item (entry_of (delivery i r)) ≡ true
+stream_item : (r : Record) (i : ℕ) → (subtype_in r == crf_subtype) ≡ false → is_streamed (delivery i r) ≡ true
 stream_item r i e = rw e refl
 
-clock_item : (r : Record) (i : ℕ) → (subtype_in r == crf_subtype) ≡ true → is_item (entry_of (delivery i r)) ≡ false
+clock_item : (r : Record) (i : ℕ) → (subtype_in r == crf_subtype) ≡ true → is_streamed (delivery i r) ≡ false
 clock_item r i e = rw e refl
 
 clock_kind : (clock : Option ℕ) (r : Record) → belongs_to_clock clock r.bytes ≡ true → (subtype_in r == crf_subtype) ≡ true
 clock_kind None r e = absurd cc
 clock_kind (Some id) r e = is_crf (subtype_in r) (of_kind clock_kinds id r e)
 
--- a record counts as an item where it belongs to the stream
+-- a record counts as one of the stream where it belongs to it
 one_counted : (stream : ℕ) (clock : Option ℕ) (i : ℕ) (r : Record) (rest : List (ℕ × Record)) (a b : Bool) → belongs stream_kinds stream r.bytes ≡ a → belongs_to_clock clock r.bytes ≡ b
-    → count_by is_item (entries (made (if a || b then (i, r) ∷ rest else rest))) ≡ counted a + count_by is_item (entries (made rest))
+    → count_by is_streamed (made (if a || b then (i, r) ∷ rest else rest)) ≡ counted a + count_by is_streamed (made rest)
 one_counted stream clock i r rest true b e f =
     let item = stream_item r i (not_crf (subtype_in r) (of_kind stream_kinds stream r e)) in
-    count-next is_item (entry_of (delivery i r)) (entries (made rest)) ∙ ap (λ (x : Bool). counted x + count_by is_item (entries (made rest))) item
+    count-next is_streamed (delivery i r) (made rest) ∙ ap (λ (x : Bool). counted x + count_by is_streamed (made rest)) item
 one_counted stream clock i r rest false true e f =
     let none = clock_item r i (clock_kind clock r f) in
-    count-next is_item (entry_of (delivery i r)) (entries (made rest)) ∙ (ap (λ (x : Bool). counted x + count_by is_item (entries (made rest))) none ∙ omega arith)
+    count-next is_streamed (delivery i r) (made rest) ∙ (ap (λ (x : Bool). counted x + count_by is_streamed (made rest)) none ∙ omega arith)
 one_counted stream clock i r rest false false e f = omega arith
 
 one_long : (i : ℕ) (r : Record) (rest : List (ℕ × Record)) (a : Bool) → length (made (if a || false then (i, r) ∷ rest else rest)) ≡ counted a + length (made rest)
 one_long i r rest true = omega arith
 one_long i r rest false = omega arith
 
-items-counted : (stream : ℕ) (clock : Option ℕ) (i : ℕ) (records : List Record) → count_by is_item (entries (made (kept stream clock (enumerate_from i records)))) ≡ length (made (kept stream None (enumerate_from i records)))
-items-counted stream clock i [] = refl
-items-counted stream clock i (r ∷ records) =
+streamed-counted : (stream : ℕ) (clock : Option ℕ) (i : ℕ) (records : List Record) → count_by is_streamed (made (kept stream clock (enumerate_from i records))) ≡ length (made (kept stream None (enumerate_from i records)))
+streamed-counted stream clock i [] = refl
+streamed-counted stream clock i (r ∷ records) =
     one_counted stream clock i r (kept stream clock (enumerate_from (i + 1) records)) (belongs stream_kinds stream r.bytes) (belongs_to_clock clock r.bytes) refl refl
-    ∙ (ap (λ (n : ℕ). counted (belongs stream_kinds stream r.bytes) + n) (items-counted stream clock (i + 1) records)
+    ∙ (ap (λ (n : ℕ). counted (belongs stream_kinds stream r.bytes) + n) (streamed-counted stream clock (i + 1) records)
     ∙ sym (one_long i r (kept stream None (enumerate_from (i + 1) records)) (belongs stream_kinds stream r.bytes)))
 
-pub counts-add-up : (plan : ListenPlan) (records : List Record) → (counts_of plan records (shown_list plan records)).presented + (counts_of plan records (shown_list plan records)).flagged ≡ (counts_of plan records (shown_list plan records)).packets
+-- ---- each delivery of the stream is an item, or a fragment before the last of a unit
+
+-- an item has its own delivery of the stream and those before it; a packet of the clock has none
+record IsWeighed (m : MadeItem) : Type 0 where
+  weight : count_by is_streamed (sources m) ≡ counted (is_item m.entry) + length m.earlier
+
+count-streamed : (ds : List Delivery) → All IsStreamed ds → count_by is_streamed ds ≡ length ds
+count-streamed [] all = refl
+count-streamed (d ∷ ds) all = omega (arith, count-next is_streamed d ds, ap counted (All-head IsStreamed d ds all), count-streamed ds (All-tail IsStreamed d ds all))
+
+one_weighed : (d : Delivery) → IsWeighed (made_of_one d)
+one_weighed d = by (d.subtype == crf_subtype) refl
+  where
+    by : (b : Bool) → (d.subtype == crf_subtype) ≡ b → IsWeighed (made_of_one d)
+    by true e = record { weight = rw e refl }
+    by false e = record { weight = rw e refl }
+
+weighed : OfEach (λ d. ⊤) IsWeighed
+weighed = record {
+  one = λ d here. one_weighed d;
+  flag = λ why d here streamed. record { weight = rw streamed refl };
+  unit = λ before d all here streamed.
+      let earlier = (unit_by before d).earlier in
+      let last : count_by is_streamed (d ∷ []) ≡ 1 = rw streamed refl in
+      record { weight = omega (arith, count-append is_streamed earlier (d ∷ []), last, count-streamed earlier (last_streamed (length (last_stretch (events_to before d)) - 1) before)) };
+}
+
+weights : (ms : List MadeItem) → All IsWeighed ms → tally is_streamed ms ≡ count_by is_item (map made_entry ms) + fragments_in ms
+weights [] all = refl
+weights (m ∷ ms) all =
+    omega (
+      arith,
+      tally-cons is_streamed m ms,
+      count-next is_item m.entry (map made_entry ms),
+      sum_by-cons (λ (n : MadeItem). length n.earlier) m ms,
+      (All-head IsWeighed m ms all).weight,
+      weights ms (All-tail IsWeighed m ms all),
+    )
+
+all_there : (ds : List Delivery) → All (λ (d : Delivery). ⊤) ds
+all_there [] = All-nil (λ (d : Delivery). ⊤)
+all_there (d ∷ ds) = All-cons (λ (d : Delivery). ⊤) d ds tt (all_there ds)
+
+pub counts-add-up : (plan : ListenPlan) (records : List Record)
+    → (counts_of plan records (shown_list plan records)).presented + (counts_of plan records (shown_list plan records)).flagged + fragments_in (items_in plan records) ≡ (counts_of plan records (shown_list plan records)).packets
 counts-add-up plan records =
-    added clock_spot (schedule_plan plan) (entries_in plan records)
-    ∙ items-counted plan.stream plan.clock 1 records
+    let ds = deliveries_of plan records in
+    let each = weights (items_of ds) (items_all (λ d. ⊤) IsWeighed ds weighed (all_there ds)) in
+    omega (arith, added clock_spot (schedule_plan plan) (entries_in plan records), each, all_made is_streamed ds, streamed-counted plan.stream plan.clock 1 records)

@@ -271,3 +271,12 @@ heard_whole plan bytes list fed counts refused same ended all counted first =
   where
     heard_with : List Shown → Counts → Option Refusal → Heard
     heard_with shown counts refused = record { shown = shown; counts = counts; refused = refused }
+
+-- where nothing is due, all that is counted was given
+pub stands_quiet : (bytes : List ℕ) (given : ℕ) (fed : Feeding) → StandsFor bytes given fed → fed.next ≡ None → RecordsStandFor (whole_records bytes) given fed.listener
+stands_quiet bytes given fed st quiet =
+    let same : given + length (option_to_list fed.next) ≡ given = ap (λ (o : Option Shown). given + length (option_to_list o)) quiet ∙ none given in
+    subst (λ (n : ℕ). RecordsStandFor (whole_records bytes) n fed.listener) same st.stands
+  where
+    none : (n : ℕ) → n + 0 ≡ n
+    none n = omega arith

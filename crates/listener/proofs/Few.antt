@@ -19,8 +19,9 @@ use Rattle.sample_schedule.proofs.Growing.{due-first}
 use Rattle.sample_schedule.proofs.LawLemmas.{each-once}
 use Rattle.packet_journal.specs.Deliveries.{deliveries, delivery, is_delivered}
 use Rattle.listener.specs.declared.plan.ListenPlan.{ListenPlan}
-use Rattle.listener.specs.Heard.{deliveries_of, entries_in}
-use Rattle.listener.specs.Items.{MadeItem, items_of, made_of_one}
+use Rattle.listener.specs.Heard.{deliveries_of, entries_in, entries_so_far_in}
+use Rattle.listener.specs.Items.{items_of, items_so_far, made_entry}
+use Rattle.listener.proofs.Made.{items_few, so_far_few}
 
 abbrev counted : Bool → ℕ
 counted b = cond b 1 0
@@ -88,9 +89,9 @@ due-few clock plan es =
     let first = due-first clock plan es in
     omega (arith, ap length first.1, length-append (due clock plan es) first.0, shown-few clock plan es)
 
-out-few : (b : Bool) (clock : Clock) (plan : SchedulePlan) (es : List Entry) → length (if b then shown clock plan es else due clock plan es) ≤ length es
-out-few true clock plan es = shown-few clock plan es
-out-few false clock plan es = due-few clock plan es
+out-few : (b : Bool) (clock : Clock) (plan : SchedulePlan) (es so_far : List Entry) → length so_far ≤ length es → length (if b then shown clock plan es else due clock plan so_far) ≤ length es
+out-few true clock plan es so_far le = shown-few clock plan es
+out-few false clock plan es so_far le = omega (arith, due-few clock plan so_far, le)
 
 pub deliveries-few : (stream : ℕ) (clock : Option ℕ) (records : List Record) → length (deliveries stream clock records) ≤ length records
 deliveries-few stream clock records =
@@ -101,9 +102,14 @@ deliveries-few stream clock records =
 pub entries-few : (plan : ListenPlan) (records : List Record) → length (entries_in plan records) ≤ length records
 entries-few plan records =
     let ds = deliveries_of plan records in
-    omega (arith, length-map (items_of ds) (λ (made : MadeItem). made.entry), length-map ds made_of_one, deliveries-few plan.stream plan.clock records)
+    omega (arith, length-map (items_of ds) made_entry, items_few ds, deliveries-few plan.stream plan.clock records)
+
+pub so-far-few : (plan : ListenPlan) (records : List Record) → length (entries_so_far_in plan records) ≤ length (entries_in plan records)
+so-far-few plan records =
+    let ds = deliveries_of plan records in
+    omega (arith, length-map (items_of ds) made_entry, length-map (items_so_far ds) made_entry, so_far_few ds)
 
 -- what is shown of records is not more than they
 pub few : (b : Bool) (clock : Clock) (schedule : SchedulePlan) (plan : ListenPlan) (records : List Record)
-    → length (if b then shown clock schedule (entries_in plan records) else due clock schedule (entries_in plan records)) ≤ length records
-few b clock schedule plan records = omega (arith, out-few b clock schedule (entries_in plan records), entries-few plan records)
+    → length (if b then shown clock schedule (entries_in plan records) else due clock schedule (entries_so_far_in plan records)) ≤ length records
+few b clock schedule plan records = omega (arith, out-few b clock schedule (entries_in plan records) (entries_so_far_in plan records) (so-far-few plan records), entries-few plan records)

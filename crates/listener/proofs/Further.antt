@@ -12,7 +12,7 @@ use Rattle.avtp_header.specs.Numbers.{crf_subtype}
 use Rattle.pcap_frames.specs.Capture.{Record}
 use Rattle.sample_schedule.specs.declared.entry.Entry.TheVariants.{Item as OfItem, Clock as OfClock}
 use Rattle.packet_journal.specs.Deliveries.{Delivery, belongs, belongs_to_clock, clock_kinds, deliveries, delivery, is_avtp, is_delivered, packet_in, stream_kinds}
-use Rattle.listener.specs.Items.{MadeItem, clock_row, entries, entry_of, item_of, made_of_one}
+use Rattle.listener.specs.Items.{clock_row, entry_of, item_of}
 
 numbered : {X : Type 0} (n : ℕ) (xs ys : List X) → enumerate_from n (xs ++ ys) ≡ enumerate_from n xs ++ enumerate_from (n + length xs) ys
 numbered {X} n [] ys = let e : n ≡ n + 0 = omega arith in ap {B = List (ℕ × X)} (λ k. enumerate_from k ys) e
@@ -56,11 +56,6 @@ more_by true stream clock records r in_it =
 more_by false stream clock records r out =
     let none : length (deliveries stream clock records) ≡ length (deliveries stream clock records) + 0 = omega arith in
     ap length (none_more stream clock records r out) ∙ none
-
-pub entries_further : (ds more : List Delivery) → entries (ds ++ more) ≡ entries ds ++ entries more
-entries_further ds more =
-    ap (map (λ (made : MadeItem). made.entry)) (map-append made_of_one ds more)
-    ∙ map-append (λ (made : MadeItem). made.entry) (map made_of_one ds) (map made_of_one more)
 
 -- ---- which deliveries are the stream's
 

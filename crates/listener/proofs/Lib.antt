@@ -1,6 +1,9 @@
+pub mod Made
+pub mod Gathered
 pub mod Further
 pub mod Bounds
 pub mod Few
+pub mod Judging
 pub mod Listened
 pub mod Fed
 pub mod Counted

@@ -1,10 +1,11 @@
 -- Each packet of the stream is shown once, as its verdict has it.
 use Rattle.std.proofs.Common.{◌≡◌, ℕ, zero, suc, ◌+◌, ◌<◌, ◌≤◌, Bool, true, false, cond, List, [], ◌∷◌, All, Option, Some, None, refl, sym, ap, ◌∙◌, subst, inl, inr, arith, eq-eqb}
-use Rattle.std.specs.Prelude.{◌==◌, if◌then◌else◌, filter, map, slice_get, slice_index_or, Contains, Result, Ok, Err, IfOk}
+use Rattle.std.specs.Prelude.{◌==◌, ◌-◌, ⊤, if◌then◌else◌, count_by, filter, length, map, slice_get, slice_index_or, Contains, Result, Ok, Err, IfOk}
 use Rattle.std.specs.List.{enumerate_from}
 use Rattle.std.proofs.lemmas.Bool.{cases_lt}
-use Rattle.std.proofs.lemmas.List.Elements.{All-cons, All-nil}
-use Rattle.std.proofs.lemmas.Option.{slice_get-get_or}
+use Rattle.std.proofs.lemmas.Bool.{eqb-true}
+use Rattle.std.proofs.lemmas.List.Elements.{All-append, All-cons, All-contains_itself, All-head, All-nil, All-tail}
+use Rattle.std.proofs.lemmas.Option.{slice_get-get_or, slice_get_within}
 use Rattle.avtp_base.proofs.RowLemmas.{unequal}
 use Rattle.avtp_base.specs.declared.refusal.Refusal.{Refusal}
 use Rattle.aaf_format.specs.Aaf.{aaf_of, aaf_refusal, aaf_subtype}
@@ -20,15 +21,16 @@ use Rattle.sample_schedule.specs.declared.plan.SchedulePlan.{SchedulePlan}
 use Rattle.sample_schedule.specs.declared.shown.Reason.{Reason}
 use Rattle.sample_schedule.specs.declared.shown.Shown.{Shown}
 use Rattle.sample_schedule.specs.Laws.{given_by, place_of, presented, verdict_in}
-use Rattle.sample_schedule.specs.Schedule.{Given, Presents, Flags, frame_of as item_frame, given, seq_of as item_seq, shown, shown_of as given_shown}
+use Rattle.sample_schedule.specs.Schedule.{Given, Presents, Flags, frame_of as item_frame, given, seq_of as item_seq, shown_of as given_shown}
 use Rattle.sample_schedule.specs.Verdicts.{Clock}
 use Rattle.sample_schedule.proofs.Judged.{In, IsJudged, all-judged, as-judged, judged-frame}
 use Rattle.packet_journal.specs.Deliveries.{Delivery, delivery, is_delivered}
 use Rattle.listener.specs.declared.plan.ListenPlan.{ListenPlan}
 use Rattle.listener.specs.Heard.{deliveries_of, items_in, schedule_plan, shown_of}
-use Rattle.listener.specs.Items.{MadeItem, aaf_item, blocks_of, clock_row, entries, entry_of, iec_item, item_of, items_of, made_of_one, refused_or, samples_of, sources}
+use Rattle.listener.specs.Items.{MadeItem, aaf_item, events_to, flagged, made_entry, unit_by, blocks_of, clock_row, entries, entry_of, iec_item, item_of, items_of, refused_or, samples_of, sources}
 use Rattle.listener.specs.Laws.{IsInOneItem, frame_of, shown_by, shown_of_frame, verdict_of}
-use Rattle.listener.proofs.TrueTimely.{entry_there, of_one}
+use Rattle.cvf_format.specs.Stretches.{last_stretch}
+use Rattle.listener.proofs.Made.{OfEach, all_made, count-cons, find_one, items_all, last_all, last_counts, same_place, tally}
 
 -- ---- each record is one delivery at most
 
@@ -111,12 +113,9 @@ kind_is false d = refused_is d (iec_refusal d.packet) (blocks_of d (iec_of d.pac
 item_is : (d : Delivery) → IsItemOf d (item_of d)
 item_is d = kind_is (d.subtype == aaf_subtype) d
 
-frame_is : (d : Delivery) → item_frame (item_of d) ≡ d.frame
-frame_is d = (item_is d).frame
-
-shown_so : (place : ℕ) (d : Delivery) (r : Result Accepted Reason) → given_shown (given_by place (item_of d) r) ≡ shown_by d r
-shown_so place d (Ok a) = refl
-shown_so place d (Err reason) = rw (frame_is d, (item_is d).seq) refl
+shown_so : (place : ℕ) (d : Delivery) (item : Item) (r : Result Accepted Reason) → IsItemOf d item → given_shown (given_by place item r) ≡ shown_by d r
+shown_so place d item (Ok a) is = refl
+shown_so place d item (Err reason) is = rw (is.frame, is.seq) refl
 
 -- where an entry is an item, it is that of its delivery
 pub item_by : (d : Delivery) (item : Item) → entry_of d ≡ OfItem item → item_of d ≡ item
@@ -126,19 +125,165 @@ item_by d item e = by (d.subtype == crf_subtype) e
     by true f = absurd cc
     by false f = cc
 
--- the delivery of an item
-record IsMade (ds : List Delivery) (n : ℕ) (item : Item) : Type 0 where
-  delivery : Delivery
-  there : slice_get ds n ≡ Some delivery
-  same : item_of delivery ≡ item
+-- ---- items and their entries
+
+-- the item of an entry has the frame and the sequence number of its last delivery
+record IsOwn (m : MadeItem) : Type 0 where
+  of_last : (item : Item) → m.entry ≡ OfItem item → IsItemOf m.last item
+
+same_item : (a b : Item) → OfItem a ≡ OfItem b → a ≡ b
+same_item a b e = cc
+
+own_is : (m : MadeItem) (a : Item) → m.entry ≡ OfItem a → IsItemOf m.last a → IsOwn m
+own_is m a e is = record { of_last = λ item f. subst (IsItemOf m.last) (same_item a item (sym e ∙ f)) is }
+
+owns : OfEach (λ d. ⊤) IsOwn
+owns = record {
+  one = λ d here. record { of_last = λ item e. subst (IsItemOf d) (item_by d item e) (item_is d) };
+  flag = λ why d here streamed. own_is (flagged why d) _ refl (record { frame = refl; seq = refl });
+  unit = λ before d all here streamed. own_is (unit_by before d) _ refl (record { frame = refl; seq = refl });
+}
+
+all_there : (ds : List Delivery) → All (λ (d : Delivery). ⊤) ds
+all_there [] = All-nil (λ (d : Delivery). ⊤)
+all_there (d ∷ ds) = All-cons (λ (d : Delivery). ⊤) d ds tt (all_there ds)
+
+all_own : (ds : List Delivery) → All IsOwn (items_of ds)
+all_own ds = items_all (λ d. ⊤) IsOwn ds owns (all_there ds)
+
+-- an item of these is the entry at its place
+record IsMade (ms : List MadeItem) (n : ℕ) (item : Item) : Type 0 where
+  made : MadeItem
+  there : slice_get ms n ≡ Some made
+  same : made.entry ≡ OfItem item
 
 an_entry : (x y : Entry) → Some x ≡ Some y → x ≡ y
 an_entry x y e = cc
 
-made_of : (ds : List Delivery) (n : ℕ) (item : Item) → slice_get (entries ds) n ≡ Some (OfItem item) → IsMade ds n item
+made_of : (ms : List MadeItem) (n : ℕ) (item : Item) → slice_get (map made_entry ms) n ≡ Some (OfItem item) → IsMade ms n item
 made_of [] n item e = absurd cc
-made_of (d ∷ ds) zero item e = record { delivery = d; there = refl; same = item_by d item (an_entry (entry_of d) (OfItem item) e) }
-made_of (d ∷ ds) (suc n) item e = let m = made_of ds n item e in record { delivery = m.delivery; there = m.there; same = m.same }
+made_of (m ∷ ms) zero item e = record { made = m; there = refl; same = an_entry m.entry (OfItem item) e }
+made_of (m ∷ ms) (suc n) item e = let rest = made_of ms n item e in record { made = rest.made; there = rest.there; same = rest.same }
+
+pub entry_at : (ms : List MadeItem) (n : ℕ) (m : MadeItem) → slice_get ms n ≡ Some m → slice_get (map made_entry ms) n ≡ Some m.entry
+entry_at [] n m e = absurd cc
+entry_at (x ∷ ms) zero m e = let same : x ≡ m = cc in ap (λ (y : MadeItem). Some y.entry) same
+entry_at (x ∷ ms) (suc n) m e = entry_at ms n m e
+
+-- ---- each frame is in one item
+
+abbrev pub of_frame : ℕ → Delivery → Bool
+of_frame frame d = d.frame == frame
+
+none_of_frame : (n : ℕ) (ds : List Delivery) → ((k : ℕ) (x : Delivery) → slice_get ds k ≡ Some x → ¬ (x.frame ≡ n)) → count_by (of_frame n) ds ≡ 0
+none_of_frame n [] other = refl
+none_of_frame n (d ∷ ds) other =
+    let here : count_by (of_frame n) (d ∷ []) ≡ 0 = rw (unequal d.frame n (other 0 d refl)) refl in
+    omega (arith, count-cons (of_frame n) d ds, here, none_of_frame n ds (λ k x e. other (suc k) x e))
+
+one_frame : (n : ℕ) (ds : List Delivery) → Rising ds → count_by (of_frame n) ds ≤ 1
+unfolding Rising
+one_frame n [] rises = omega arith
+one_frame n (d ∷ ds) rises = by (d.frame == n) refl (one_frame n ds (λ i k x y e f lt. rises (suc i) (suc k) x y e f (omega arith)))
+  where
+    by : (b : Bool) → (d.frame == n) ≡ b → count_by (of_frame n) ds ≤ 1 → count_by (of_frame n) (d ∷ ds) ≤ 1
+    by true e rest =
+        let same = eqb-true d.frame n e in
+        let here : count_by (of_frame n) (d ∷ []) ≡ 1 = rw e refl in
+        let none = none_of_frame n ds (λ k x f g. let above = rises 0 (suc k) d x refl f (omega arith) in omega arith) in
+        omega (arith, count-cons (of_frame n) d ds, here, none)
+    by false e rest =
+        let here : count_by (of_frame n) (d ∷ []) ≡ 0 = rw e refl in
+        omega (arith, count-cons (of_frame n) d ds, here, rest)
+
+some_at : (p : Delivery → Bool) (xs : List Delivery) (k : ℕ) (x : Delivery) → slice_get xs k ≡ Some x → p x ≡ true → 1 ≤ count_by p xs
+some_at p [] k x e is = absurd cc
+some_at p (y ∷ xs) zero x e is = let same : y ≡ x = cc in let here : count_by p (y ∷ []) ≡ 1 = rw (same, is) refl in omega (arith, count-cons p y xs, here)
+some_at p (y ∷ xs) (suc k) x e is = omega (arith, count-cons p y xs, some_at p xs k x e is)
+
+contained_at : (xs : List Delivery) (d : Delivery) → (c : Contains xs d) → slice_get xs c.0 ≡ Some d
+contained_at xs d (k, within, there) = slice_get-get_or xs k d within ∙ ap Some there
+
+-- a delivery of a list that passes a test
+record IsFound (p : Delivery → Bool) (xs : List Delivery) : Type 0 where
+  place : ℕ
+  found : Delivery
+  there : slice_get xs place ≡ Some found
+  passes : p found ≡ true
+
+find : (p : Delivery → Bool) (xs : List Delivery) → 1 ≤ count_by p xs → IsFound p xs
+find p [] some = absurd (omega arith)
+find p (x ∷ xs) some = by (p x) refl (find p xs)
+  where
+    by : (b : Bool) → p x ≡ b → (1 ≤ count_by p xs → IsFound p xs) → IsFound p (x ∷ xs)
+    by true e later = record { place = 0; found = x; there = refl; passes = e }
+    by false e later =
+        let here : count_by p (x ∷ []) ≡ 0 = rw e refl in
+        let rest = later (omega (arith, count-cons p x xs, here, some)) in
+        record { place = suc rest.place; found = rest.found; there = rest.there; passes = rest.passes }
+
+contains_at : (xs : List Delivery) (k : ℕ) (d : Delivery) → slice_get xs k ≡ Some d → Contains xs d
+contains_at xs k d e =
+    let within = slice_get_within xs k d e in
+    (k, within, one (slice_index_or xs k d) d (sym (slice_get-get_or xs k d within) ∙ e))
+
+-- the deliveries of an item are some of the list
+abbrev AreIn : List Delivery → MadeItem → Type 0
+AreIn ds m = All (Contains ds) (sources m)
+
+all_in : (ds : List Delivery) → All (AreIn ds) (items_of ds)
+all_in ds = items_all (Contains ds) (AreIn ds) ds each (All-contains_itself ds)
+  where
+    each : OfEach (Contains ds) (AreIn ds)
+    each = record {
+      one = λ d here. All-cons (Contains ds) d [] here (All-nil (Contains ds));
+      flag = λ why d here streamed. All-cons (Contains ds) d [] here (All-nil (Contains ds));
+      unit = λ before d all here streamed.
+          All-append (Contains ds) (unit_by before d).earlier (d ∷ []) (last_all (Contains ds) (length (last_stretch (events_to before d)) - 1) before all) (All-cons (Contains ds) d [] here (All-nil (Contains ds)));
+    }
+
+at_place : {X : Type 0} (P : X → Type 0) (xs : List X) (n : ℕ) (x : X) → All P xs → slice_get xs n ≡ Some x → P x
+at_place {X} P [] n x all e = absurd cc
+at_place {X} P (y ∷ xs) zero x all e = let same : y ≡ x = cc in subst P same (All-head P y xs all)
+at_place {X} P (y ∷ xs) (suc n) x all e = at_place P xs n x (All-tail P y xs all) e
+
+frames_few : (n : ℕ) (ds : List Delivery) → Rising ds → tally (of_frame n) (items_of ds) ≤ 1
+frames_few n ds rises = omega (arith, all_made (of_frame n) ds, one_frame n ds rises)
+
+itself : (n : ℕ) → (n == n) ≡ true
+itself n = eq-eqb n n refl
+
+-- items with one frame are one
+same_item_at : (ds : List Delivery) (i k : ℕ) (m n : MadeItem) → Rising ds → slice_get (items_of ds) i ≡ Some m → slice_get (items_of ds) k ≡ Some n → m.last.frame ≡ n.last.frame → i ≡ k
+same_item_at ds i k m n rises e f same =
+    same_place (of_frame n.last.frame) (items_of ds) i k m n (frames_few n.last.frame ds rises) e f
+    (last_counts (of_frame n.last.frame) m (eq-eqb m.last.frame n.last.frame same)) (last_counts (of_frame n.last.frame) n (itself n.last.frame))
+
+in_one_item : (ds : List Delivery) (place : ℕ) (d : Delivery) → Rising ds → slice_get ds place ≡ Some d → IsInOneItem (items_of ds) d
+unfolding Distinct
+in_one_item ds place d rises at =
+    let p = of_frame d.frame in
+    let items = items_of ds in
+    let found = find_one p items (omega (arith, all_made p ds, some_at p ds place d at (itself d.frame))) in
+    let source = find p (sources found.item) found.some in
+    let listed = at_place (Contains ds) (sources found.item) source.place source.found (at_place (AreIn ds) items found.place found.item (all_in ds) found.there) source.there in
+    let here : slice_get ds listed.0 ≡ Some source.found = contained_at ds source.found listed in
+    let spot = distinct ds rises listed.0 place source.found d here at (eqb-true source.found.frame d.frame source.passes) in
+    let same : source.found ≡ d = one source.found d (sym here ∙ (ap (slice_get ds) spot ∙ at)) in
+    record {
+      place = found.place;
+      item = found.item;
+      there = found.there;
+      in_it = subst (Contains (sources found.item)) same (contains_at (sources found.item) source.place source.found source.there);
+      only = λ k other there in_it.
+          same_place p items k found.place other found.item (frames_few d.frame ds rises) there found.there
+          (some_at p (sources other) in_it.0 d (contained_at (sources other) d in_it) (itself d.frame)) found.some;
+    }
+
+pub each_in_one_item : (plan : ListenPlan) (records : List Record) → All (IsInOneItem (items_in plan records)) (deliveries_of plan records)
+each_in_one_item plan records k d within =
+    let ds = deliveries_of plan records in
+    in_one_item ds k (slice_index_or ds k d) (deliveries_rise plan records) (slice_get-get_or ds k d within)
 
 -- ---- what is shown of a frame is what is shown at its place
 
@@ -158,40 +303,43 @@ same_tests a b c d to from = elim (cases_lt a b) [
     apart : ¬ (a ≡ b) → (a == b) ≡ (c == d)
     apart other = rw (unequal a b other, unequal c d (λ e. other (from e))) refl
 
--- what is shown stands at the place of a delivery, and has its frame
-pub record IsPlaced (ds : List Delivery) (g : Given) : Type 0 where
-  pub delivery : Delivery
-  pub there : slice_get ds (place_of g) ≡ Some delivery
-  pub frame : frame_of (given_shown g) ≡ delivery.frame
+-- what is shown stands at the place of an item, and has its frame
+pub record IsPlaced (ms : List MadeItem) (g : Given) : Type 0 where
+  pub made : MadeItem
+  pub there : slice_get ms (place_of g) ≡ Some made
+  pub frame : frame_of (given_shown g) ≡ made.last.frame
 
-placed : (clock : Clock) (plan : SchedulePlan) (ds : List Delivery) (g : Given) → IsJudged clock plan (entries ds) g → IsPlaced ds g
-placed clock plan ds g j =
-    let m = made_of ds (place_of g) j.item j.there in
+placed : (clock : Clock) (plan : SchedulePlan) (ms : List MadeItem) (g : Given) → All IsOwn ms → IsJudged clock plan (map made_entry ms) g → IsPlaced ms g
+placed clock plan ms g own j =
+    let m = made_of ms (place_of g) j.item j.there in
+    let is = (at_place IsOwn ms (place_of g) m.made own m.there).of_last j.item m.same in
     record {
-      delivery = m.delivery;
+      made = m.made;
       there = m.there;
       frame = ap (λ (h : Given). frame_of (given_shown h)) (sym j.same)
-          ∙ (given_frame (place_of g) j.item (verdict_in clock plan (entries ds) (place_of g) j.item) (judged-frame clock plan (entries ds) (place_of g) j.item)
-          ∙ (ap item_frame (sym m.same) ∙ frame_is m.delivery));
+          ∙ (given_frame (place_of g) j.item (verdict_in clock plan (map made_entry ms) (place_of g) j.item) (judged-frame clock plan (map made_entry ms) (place_of g) j.item)
+          ∙ is.frame);
     }
 
-placed_by : (ds : List Delivery) (gs : List Given) → ((g : Given) → In gs g → IsPlaced ds g) → All (λ (a : Accepted). IsPlaced ds (Presents a)) (presented gs)
+placed_by : (ms : List MadeItem) (gs : List Given) → ((g : Given) → In gs g → IsPlaced ms g) → All (λ (a : Accepted). IsPlaced ms (Presents a)) (presented gs)
 unfolding In
-placed_by ds [] each = All-nil (λ (a : Accepted). IsPlaced ds (Presents a))
-placed_by ds (Presents a ∷ gs) each = All-cons (λ (a : Accepted). IsPlaced ds (Presents a)) a (presented gs) (each (Presents a) (inl refl)) (placed_by ds gs (λ g h. each g (inr h)))
-placed_by ds (Flags place item reason ∷ gs) each = placed_by ds gs (λ g h. each g (inr h))
+placed_by ms [] each = All-nil (λ (a : Accepted). IsPlaced ms (Presents a))
+placed_by ms (Presents a ∷ gs) each = All-cons (λ (a : Accepted). IsPlaced ms (Presents a)) a (presented gs) (each (Presents a) (inl refl)) (placed_by ms gs (λ g h. each g (inr h)))
+placed_by ms (Flags place item reason ∷ gs) each = placed_by ms gs (λ g h. each g (inr h))
 
-pub all_placed : (clock : Clock) (plan : SchedulePlan) (ds : List Delivery) → All (λ (a : Accepted). IsPlaced ds (Presents a)) (presented (given clock plan (entries ds)))
-all_placed clock plan ds = placed_by ds (given clock plan (entries ds)) (λ g h. placed clock plan ds g (all-judged clock plan (entries ds) g h))
+pub all_placed : (clock : Clock) (plan : SchedulePlan) (ds : List Delivery) → All (λ (a : Accepted). IsPlaced (items_of ds) (Presents a)) (presented (given clock plan (entries ds)))
+all_placed clock plan ds = placed_by (items_of ds) (given clock plan (entries ds)) (λ g h. placed clock plan (items_of ds) g (all_own ds) (all-judged clock plan (entries ds) g h))
 
-one_test : (clock : Clock) (plan : SchedulePlan) (ds : List Delivery) (place : ℕ) (d : Delivery) (g : Given) → Distinct ds → slice_get ds place ≡ Some d → IsJudged clock plan (entries ds) g
-    → (frame_of (given_shown g) == d.frame) ≡ (place_of g == place)
-unfolding Distinct
-one_test clock plan ds place d g apart at j =
-    let m = placed clock plan ds g j in
-    same_tests (frame_of (given_shown g)) d.frame (place_of g) place
-    (λ e. apart (place_of g) place m.delivery d m.there at (sym m.frame ∙ e))
-    (λ e. m.frame ∙ ap (λ (x : Delivery). x.frame) (one m.delivery d (sym m.there ∙ (ap (slice_get ds) e ∙ at))))
+one_test : (clock : Clock) (plan : SchedulePlan) (ds : List Delivery) (place : ℕ) (m : MadeItem) (g : Given) → Rising ds → slice_get (items_of ds) place ≡ Some m → IsJudged clock plan (entries ds) g
+    → (frame_of (given_shown g) == m.last.frame) ≡ (place_of g == place)
+one_test clock plan ds place m g rises at j =
+    let n = placed clock plan (items_of ds) g (all_own ds) j in
+    same_tests (frame_of (given_shown g)) m.last.frame (place_of g) place
+    (λ e. same_item_at ds (place_of g) place n.made m rises n.there at (sym n.frame ∙ e))
+    (λ e. n.frame ∙ ap (λ (x : MadeItem). x.last.frame) (one_made n.made m (sym n.there ∙ (ap (slice_get (items_of ds)) e ∙ at))))
+  where
+    one_made : (x y : MadeItem) → Some x ≡ Some y → x ≡ y
+    one_made x y e = cc
 
 filter_map_is : (frame : ℕ) (gs : List Given) → shown_of_frame frame (map given_shown gs) ≡ map given_shown (filter (λ g. frame_of (given_shown g) == frame) gs)
 filter_map_is frame [] = refl
@@ -205,52 +353,17 @@ unfolding In
 same_filter p q [] same = refl
 same_filter p q (g ∷ gs) same = rw (same g (inl refl), same_filter p q gs (λ h at. same h (inr at))) refl
 
-shown_once : (clock : Clock) (plan : SchedulePlan) (ds : List Delivery) (place : ℕ) (d : Delivery) → Distinct ds → slice_get ds place ≡ Some d → entry_of d ≡ OfItem (item_of d)
-    → shown_of_frame d.frame (shown clock plan (entries ds)) ≡ shown_by d (verdict_in clock plan (entries ds) place (item_of d)) ∷ []
-shown_once clock plan ds place d apart at is =
-    let gs = given clock plan (entries ds) in
-    let r = verdict_in clock plan (entries ds) place (item_of d) in
-    filter_map_is d.frame gs
-    ∙ (ap (map given_shown) (same_filter (λ g. frame_of (given_shown g) == d.frame) (λ g. place_of g == place) gs (λ g here. one_test clock plan ds place d g apart at (all-judged clock plan (entries ds) g here)))
-    ∙ (ap (map given_shown) (as-judged clock plan (entries ds) place (item_of d) (entry_there ds place d at ∙ ap Some is))
-    ∙ ap (λ (s : Shown). s ∷ []) (shown_so place d r)))
-
 -- ---- the items of a capture
 
 pub item_shown : (plan : ListenPlan) (records : List Record) (place : ℕ) (made : MadeItem) (item : Item) → slice_get (items_in plan records) place ≡ Some made → made.entry ≡ OfItem item
     → shown_of_frame made.last.frame (shown_of plan records) ≡ shown_by made.last (verdict_of plan records place item) ∷ []
 item_shown plan records place made item at is =
     let ds = deliveries_of plan records in
-    let m = of_one ds place made at in
-    let entry : entry_of m.delivery ≡ OfItem item = ap (λ (n : MadeItem). n.entry) m.same ∙ is in
-    let same = item_by m.delivery item entry in
-    subst (λ (n : MadeItem). shown_of_frame n.last.frame (shown_of plan records) ≡ shown_by n.last (verdict_of plan records place item) ∷ []) m.same
-    (subst (λ (i : Item). shown_of_frame m.delivery.frame (shown_of plan records) ≡ shown_by m.delivery (verdict_of plan records place i) ∷ []) same
-    (shown_once clock_spot (schedule_plan plan) ds place m.delivery (distinct ds (deliveries_rise plan records)) m.there (entry ∙ ap OfItem (sym same))))
-
-pub item_there : (ds : List Delivery) (n : ℕ) (d : Delivery) → slice_get ds n ≡ Some d → slice_get (items_of ds) n ≡ Some (made_of_one d)
-item_there [] n d e = absurd cc
-item_there (x ∷ ds) zero d e = ap (λ (y : Delivery). Some (made_of_one y)) (one x d e)
-item_there (x ∷ ds) (suc n) d e = item_there ds n d e
-
-only_source : (d e : Delivery) → Contains (d ∷ []) e → d ≡ e
-only_source d e (zero, within, there) = there
-only_source d e (suc k, within, there) = absurd (omega arith)
-
-in_one_item : (ds : List Delivery) (place : ℕ) (d : Delivery) → Distinct ds → slice_get ds place ≡ Some d → IsInOneItem (items_of ds) d
-unfolding Distinct
-in_one_item ds place d apart at = record {
-  place = place;
-  item = made_of_one d;
-  there = item_there ds place d at;
-  in_it = (0, omega arith, refl);
-  only = λ k other there in_it.
-      let m = of_one ds k other there in
-      let source = subst (λ (n : MadeItem). Contains (sources n) d) (sym m.same) in_it in
-      apart k place m.delivery d m.there at (ap (λ (x : Delivery). x.frame) (only_source m.delivery d source));
-}
-
-pub each_in_one_item : (plan : ListenPlan) (records : List Record) → All (IsInOneItem (items_in plan records)) (deliveries_of plan records)
-each_in_one_item plan records k d within =
-    let ds = deliveries_of plan records in
-    in_one_item ds k (slice_index_or ds k d) (distinct ds (deliveries_rise plan records)) (slice_get-get_or ds k d within)
+    let sp = schedule_plan plan in
+    let gs = given clock_spot sp (entries ds) in
+    let own = (at_place IsOwn (items_of ds) place made (all_own ds) at).of_last item is in
+    let there = entry_at (items_of ds) place made at ∙ ap Some is in
+    filter_map_is made.last.frame gs
+    ∙ (ap (map given_shown) (same_filter (λ g. frame_of (given_shown g) == made.last.frame) (λ g. place_of g == place) gs (λ g here. one_test clock_spot sp ds place made g (deliveries_rise plan records) at (all-judged clock_spot sp (entries ds) g here)))
+    ∙ (ap (map given_shown) (as-judged clock_spot sp (entries ds) place item there)
+    ∙ ap (λ (s : Shown). s ∷ []) (shown_so place made.last item (verdict_of plan records place item) own)))

@@ -1,5 +1,5 @@
 -- What is heard of a talker that keeps the rules keeps the headline.
-use Rattle.std.proofs.Common.{◌≡◌, ℕ, ℤ, List, [], ◌∷◌, Some, refl, sym, ap, ◌∙◌, subst}
+use Rattle.std.proofs.Common.{◌≡◌, ℕ, ℤ, List, [], ◌∷◌, Some, sym, ap, ◌∙◌, subst}
 use Rattle.std.specs.Prelude.{Result, slice_get}
 use Rattle.clock_track.specs.Rows.{clock_spot}
 use Rattle.pcap_frames.specs.Capture.{Record}
@@ -16,7 +16,7 @@ use Rattle.listener.specs.Heard.{deliveries_of, entries_in, schedule_plan, shown
 use Rattle.listener.specs.Items.{MadeItem, item_of, made_of_one}
 use Rattle.listener.specs.Laws.{HearsTalker, IsFurther, by_clock, shown_by, shown_of_frame}
 use Rattle.listener.proofs.Shown.{each_in_one_item, item_shown}
-use Rattle.listener.proofs.TrueList.{presented_heard}
+use Rattle.listener.proofs.TrueList.{others, presented_heard}
 use Rattle.listener.proofs.TrueOnce.{all_agree, presented_once}
 use Rattle.listener.proofs.TrueOrder.{never_falls}
 use Rattle.listener.proofs.TrueTimely.{further_judged, of_one, welcome_shown}
@@ -31,7 +31,7 @@ further_one shift p plan records place n d h at w =
 pub further_flagged : (shift : ℤ) (p : PacketJournal) (plan : ListenPlan) (records : List Record) (place n : ℕ) (made : MadeItem) → HearsTalker shift p plan records → IsFurther p plan records place n made
     → shown_of_frame made.last.frame (shown_of plan records) ≡ Flag made.last.frame made.last.seq Repeat ∷ []
 further_flagged shift p plan records place n made h w =
-    let one = of_one (deliveries_of plan records) place made w.timely.there in
+    let one = of_one (deliveries_of plan records) place made (others shift p plan records h) w.timely.there in
     subst (λ (m : MadeItem). shown_of_frame m.last.frame (shown_of plan records) ≡ Flag m.last.frame m.last.seq Repeat ∷ []) one.same
     (further_one shift p plan records place n one.delivery h one.there (subst (λ (m : MadeItem). IsFurther p plan records place n m) (sym one.same) w))
 

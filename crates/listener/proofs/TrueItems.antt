@@ -1,5 +1,5 @@
 -- What is made of a copy of a packet is that packet.
-use Rattle.std.proofs.Common.{◌≡◌, ℕ, ◌+◌, ◌%◌, ◌^◌, ◌<◌, Bool, true, false, ℤ, pos, List, [], ◌∷◌, All, Option, Some, None, refl, sym, ap, ◌∙◌, subst, inl, inr}
+use Rattle.std.proofs.Common.{◌≡◌, ℕ, ◌%◌, ◌^◌, ◌<◌, Bool, true, false, ℤ, pos, List, [], ◌∷◌, All, Option, Some, None, refl, sym, ap, ◌∙◌, subst, inl, inr}
 use Rattle.std.specs.Prelude.{◌==◌, ◌⊎◌, is_some, if◌then◌else◌, unwrap_or, option_map, IfSome, map, filter}
 use Rattle.std.specs.List.{enumerate_from}
 use Rattle.std.proofs.lemmas.List.Elements.{All-cons, All-head, All-nil, All-tail}
@@ -23,9 +23,11 @@ use Rattle.stream_journal.specs.Clocks.{ClockJournal}
 use Rattle.stream_journal.specs.Delivered.{IsAudioKind}
 use Rattle.stream_journal.specs.Journal.{Journal, Kind, DenseAaf, SparseAaf, Am824, H264, rule_of}
 use Rattle.packet_journal.specs.Deliveries.{Delivery, deliveries, delivery, is_delivered}
-use Rattle.packet_journal.specs.Delivered.{AreFrom, IsClockCopyOf, IsCopyOf, IsFrom, Origin, Spells}
+use Rattle.packet_journal.specs.Delivered.{AreFrom, IsClockCopyOf, IsCopyOf, IsFrom, OfClock as OfClockPacket, OfStream, Origin, Spells}
 use Rattle.packet_journal.specs.Packets.{IsAafPacket, IsClockPacket, IsConforming, IsIecPacket, IsPacket, PacketJournal, PacketView, Pcm, Am824Data, H264Data, carried, spelling_of}
 use Rattle.packet_journal.proofs.Copies.{clock_copy_read}
+use Rattle.cvf_format.specs.Cvf.{cvf_subtype}
+use Rattle.listener.proofs.Made.{IsOther}
 use Rattle.listener.specs.Items.{aaf_item, block_rule, blocks_of, clock_row, entry_of, iec_item, item_of, points_of, points_or_none, refused_or, samples_of}
 
 -- ---- the item of a copy
@@ -225,3 +227,20 @@ clock_entry shift p m d is copy shows =
     let read = clock_copy_read shift p m d is copy in
     let kind : d.subtype ≡ crf_subtype = shows.subtype ∙ read.fields.0.0 in
     rw kind refl
+
+-- ---- none is a packet of H.264
+
+other_kind : (subtype : ℕ) → (subtype ≡ aaf_subtype) ⊎ (subtype ≡ iec_subtype) → (subtype == cvf_subtype) ≡ false
+other_kind subtype (inl e) = rw e refl
+other_kind subtype (inr e) = rw e refl
+
+origin_other : (shift : ℤ) (p : PacketJournal) (lead : ℕ) (o : Origin) (d : Delivery) → IsConforming shift p → IsAudioKind p.times.kind → IsFrom p lead o d → Shows d → IsOther d
+origin_other shift p lead (OfStream n) d is heard copy shows =
+    other_kind d.subtype (audio_kind p.times p.times.kind p.stream n (p.packet n) d heard (is.packets n copy.delivered.known) copy.spelled shows)
+origin_other shift p lead (OfClockPacket m) d is heard copy shows =
+    let read = clock_copy_read shift p m d is copy in
+    let kind : d.subtype ≡ crf_subtype = shows.subtype ∙ read.fields.0.0 in
+    rw kind refl
+
+pub copied_other : (shift : ℤ) (p : PacketJournal) (lead : ℕ) (d : Delivery) → IsConforming shift p → IsAudioKind p.times.kind → IsCopied p lead d → IsOther d
+copied_other shift p lead d is heard c = origin_other shift p lead c.origin d is heard c.copy c.shows

@@ -30,9 +30,10 @@ use Rattle.packet_journal.specs.Delivered.{IsCopyOf, IsFrom, Origin, OfStream, O
 use Rattle.packet_journal.specs.Packets.{IsConforming, PacketJournal, carried}
 use Rattle.listener.specs.declared.plan.ListenPlan.{ListenPlan}
 use Rattle.listener.specs.Heard.{deliveries_of, entries_in, items_in, schedule_plan, shown_of}
-use Rattle.listener.specs.Items.{MadeItem, clock_row, entry_of, items_of, made_of_one}
+use Rattle.listener.specs.Items.{MadeItem, clock_row, entry_of, items_of, made_entry, made_of_one}
 use Rattle.listener.specs.Laws.{FollowsClock, HearsTalker, IsHeardFrom, IsMadeOf, IsOfJournal, by_clock, presented_of}
-use Rattle.listener.proofs.TrueItems.{IsCopied, Shows, clock_entry, copy_entry, copy_row, deliveries_copied, sent}
+use Rattle.listener.proofs.Made.{IsOther, items_other}
+use Rattle.listener.proofs.TrueItems.{IsCopied, Shows, clock_entry, copied_other, copy_entry, copy_row, deliveries_copied, sent}
 use Rattle.listener.proofs.TrueHeard.{IsBatchOf, IsFollowed, IsTruePrefix, timed_true, true_stamp}
 
 -- ---- entries
@@ -78,8 +79,20 @@ followed shift p plan records h = record {
 }
 
 -- the item of a delivery is among those of all
-made_there : (ds : List Delivery) (d : Delivery) → Contains ds d → Contains (items_of ds) (made_of_one d)
-made_there ds d (k, within, there) = (k, omega (arith, length-map ds made_of_one), get_or-map made_of_one ds k d (made_of_one d) within ∙ ap made_of_one there)
+made_there : (ds : List Delivery) (d : Delivery) → All IsOther ds → Contains ds d → Contains (items_of ds) (made_of_one d)
+made_there ds d others (k, within, there) =
+    rw (items_other ds others) (k, omega (arith, length-map ds made_of_one), get_or-map made_of_one ds k d (made_of_one d) within ∙ ap made_of_one there)
+
+deliveries_are : (shift : ℤ) (p : PacketJournal) (plan : ListenPlan) (records : List Record) → HearsTalker shift p plan records → All (IsCopied p plan.lead) (deliveries_of plan records)
+deliveries_are shift p plan records h =
+    let from = h.delivered in
+    let copies = deliveries_copied p plan.clock plan.lead p.stream from.origins records from.copies in
+    rw h.stream copies
+
+-- none of them is a packet of H.264
+pub others : (shift : ℤ) (p : PacketJournal) (plan : ListenPlan) (records : List Record) → HearsTalker shift p plan records → All IsOther (deliveries_of plan records)
+others shift p plan records h =
+    All-weaker (IsCopied p plan.lead) IsOther (λ d. copied_other shift p plan.lead d h.conforming h.kind) (deliveries_of plan records) (deliveries_are shift p plan records h)
 
 true_entry : (items : List MadeItem) (shift : ℤ) (p : PacketJournal) (lead : ℕ) (d : Delivery) (o : Origin) → IsConforming shift p → IsAudioKind p.times.kind → IsFrom p lead o d → Shows d → Contains items (made_of_one d)
     → IsTrueEntry items shift p lead (entry_of d)
@@ -88,16 +101,15 @@ true_entry items shift p lead d (OfClock m) is heard copy shows listed = inr (re
 
 pub entries_true : (shift : ℤ) (p : PacketJournal) (plan : ListenPlan) (records : List Record) → HearsTalker shift p plan records → All (IsTrueEntry (items_in plan records) shift p plan.lead) (entries_in plan records)
 entries_true shift p plan records h =
-    let from = h.delivered in
     let ds = deliveries_of plan records in
-    let copies = deliveries_copied p plan.clock plan.lead p.stream from.origins records from.copies in
-    let here : All (IsCopied p plan.lead) ds = rw h.stream copies in
+    let here = deliveries_are shift p plan records h in
+    let other = others shift p plan records h in
     let items = items_of ds in
-    All-map (IsTrueEntry items shift p plan.lead) (λ (made : MadeItem). made.entry) items
-    (All-map (λ (made : MadeItem). IsTrueEntry items shift p plan.lead made.entry) made_of_one ds
+    All-map (IsTrueEntry items shift p plan.lead) made_entry items
+    (subst (λ (l : List MadeItem). All (λ (made : MadeItem). IsTrueEntry items shift p plan.lead made.entry) l) (sym (items_other ds other)) (All-map (λ (made : MadeItem). IsTrueEntry items shift p plan.lead made.entry) made_of_one ds
     (All-weaker (λ (d : Delivery). IsCopied p plan.lead d × Contains items (made_of_one d)) (λ (d : Delivery). IsTrueEntry items shift p plan.lead (entry_of d))
     (λ d c. true_entry items shift p plan.lead d c.0.origin h.conforming h.kind c.0.copy c.0.shows c.1) ds
-    (λ k d lt. (here k d lt, made_there ds _ (All-contains_itself ds k d lt)))))
+    (λ k d lt. (here k d lt, made_there ds _ other (All-contains_itself ds k d lt))))))
 
 -- ---- what is known
 

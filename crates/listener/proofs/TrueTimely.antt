@@ -1,5 +1,5 @@
 -- A copy that must be presented is, and a further one is flagged as such.
-use Rattle.std.proofs.Common.{◌≡◌, inl, inr, ℕ, zero, suc, ◌+◌, ◌%◌, Bool, true, false, ℤ, ◌≤ℤ◌, List, [], ◌∷◌, All, length, Option, Some, None, Ok, is_some, refl, sym, ap, ◌∙◌, subst, eq-eqb, arith}
+use Rattle.std.proofs.Common.{◌≡◌, inl, inr, ℕ, zero, suc, ◌+◌, ◌%◌, Bool, true, false, ℤ, ◌≤ℤ◌, List, [], ◌∷◌, All, length, Some, Ok, refl, sym, ap, ◌∙◌, subst, eq-eqb, arith}
 use Rattle.std.specs.Prelude.{◌==◌, if◌then◌else◌, IfOk, Result, Err, Any, map, slice_get}
 use Rattle.std.specs.List.{list_any}
 use Rattle.std.proofs.lemmas.Bool.{eqb-true}
@@ -8,14 +8,13 @@ use Rattle.std.proofs.lemmas.List.Folds.{list_any_at}
 use Rattle.std.proofs.lemmas.List.Elements.{All-head, All-tail, All-take}
 use Rattle.clock_track.specs.Rows.{clock_spot}
 use Rattle.pcap_frames.specs.Capture.{Record}
-use Rattle.stream_journal.specs.Conforming.{Conforms, IsAudio}
+use Rattle.stream_journal.specs.Conforming.{Conforms}
 use Rattle.stream_journal.specs.Delivered.{IsAudioKind}
 use Rattle.stream_journal.specs.Journal.{IsAt}
 use Rattle.stream_journal.proofs.OneInstant.{one_instant}
 use Rattle.sample_schedule.specs.declared.accepted.Accepted.{Accepted}
 use Rattle.sample_schedule.specs.declared.entry.Entry.{Entry}
 use Rattle.sample_schedule.specs.declared.entry.Entry.TheVariants.{Item as OfItem}
-use Rattle.sample_schedule.specs.declared.item.Item.{Item}
 use Rattle.sample_schedule.specs.declared.item.Item.TheVariants.{Packet as OfPacket}
 use Rattle.sample_schedule.specs.declared.plan.SchedulePlan.{SchedulePlan}
 use Rattle.sample_schedule.specs.declared.shown.Reason.{Reason}
@@ -31,12 +30,13 @@ use Rattle.packet_journal.specs.Deliveries.{Delivery}
 use Rattle.packet_journal.specs.Packets.{PacketJournal, carried}
 use Rattle.listener.specs.declared.plan.ListenPlan.{ListenPlan}
 use Rattle.listener.specs.Heard.{deliveries_of, entries_in, items_in, schedule_plan, shown_of}
-use Rattle.listener.specs.Items.{MadeItem, entries, entry_of, item_of, items_of, made_of_one}
+use Rattle.listener.specs.Items.{MadeItem, entries, entry_of, item_of, items_of, made_entry, made_of_one}
 use Rattle.listener.specs.Laws.{HearsTalker, IsFurther, IsOfPacket, IsPresentedOf, IsTimely, IsWelcome, accepted_before, by_clock, is_known, presented_of, time_of, verdict_of}
 use Rattle.listener.proofs.TrueItems.{Shows, all_shown, copy_entry, copy_item, sent}
 use Rattle.listener.proofs.TrueHeard.{IsBatchOf, timed_ok, timed_true}
-use Rattle.listener.proofs.TrueList.{IsTrueAccepted, IsTrueEntry, accepted_true, audio, batches_are, entries_true, followed, prefix_true}
-use Rattle.listener.proofs.TrueOnce.{first_at, one_packet, same_samples}
+use Rattle.listener.proofs.TrueList.{IsTrueAccepted, IsTrueEntry, accepted_true, audio, batches_are, entries_true, followed, others, prefix_true}
+use Rattle.listener.proofs.Made.{IsOther, items_other}
+use Rattle.listener.proofs.TrueOnce.{first_at, one_packet}
 
 -- ---- elements of lists
 
@@ -53,10 +53,21 @@ at_place {X} P [] n x all e = absurd cc
 at_place {X} P (y ∷ xs) zero x all e = let same : y ≡ x = cc in subst P same (All-head P y xs all)
 at_place {X} P (y ∷ xs) (suc n) x all e = at_place P xs n x (All-tail P y xs all) e
 
-pub entry_there : (ds : List Delivery) (n : ℕ) (d : Delivery) → slice_get ds n ≡ Some d → slice_get (entries ds) n ≡ Some (entry_of d)
-entry_there [] n d e = absurd cc
-entry_there (x ∷ ds) zero d e = let same : x ≡ d = cc in ap (λ (y : Delivery). Some (entry_of y)) same
-entry_there (x ∷ ds) (suc n) d e = entry_there ds n d e
+one_there : (ds : List Delivery) (n : ℕ) (d : Delivery) → slice_get ds n ≡ Some d → slice_get (map made_of_one ds) n ≡ Some (made_of_one d)
+one_there [] n d e = absurd cc
+one_there (x ∷ ds) zero d e = let same : x ≡ d = cc in ap (λ (y : Delivery). Some (made_of_one y)) same
+one_there (x ∷ ds) (suc n) d e = one_there ds n d e
+
+entry_of_item : (ms : List MadeItem) (n : ℕ) (m : MadeItem) → slice_get ms n ≡ Some m → slice_get (map made_entry ms) n ≡ Some m.entry
+entry_of_item [] n m e = absurd cc
+entry_of_item (x ∷ ms) zero m e = let same : x ≡ m = cc in ap (λ (y : MadeItem). Some y.entry) same
+entry_of_item (x ∷ ms) (suc n) m e = entry_of_item ms n m e
+
+pub item_there : (ds : List Delivery) (n : ℕ) (d : Delivery) → All IsOther ds → slice_get ds n ≡ Some d → slice_get (items_of ds) n ≡ Some (made_of_one d)
+item_there ds n d others e = rw (items_other ds others) (one_there ds n d e)
+
+pub entry_there : (ds : List Delivery) (n : ℕ) (d : Delivery) → All IsOther ds → slice_get ds n ≡ Some d → slice_get (entries ds) n ≡ Some (entry_of d)
+entry_there ds n d others e = entry_of_item (items_of ds) n (made_of_one d) (item_there ds n d others e)
 
 -- the delivery of an item
 pub record IsOfOne (ds : List Delivery) (n : ℕ) (made : MadeItem) : Type 0 where
@@ -64,10 +75,13 @@ pub record IsOfOne (ds : List Delivery) (n : ℕ) (made : MadeItem) : Type 0 whe
   pub there : slice_get ds n ≡ Some delivery
   pub same : made_of_one delivery ≡ made
 
-pub of_one : (ds : List Delivery) (n : ℕ) (made : MadeItem) → slice_get (items_of ds) n ≡ Some made → IsOfOne ds n made
-of_one [] n made e = absurd cc
-of_one (d ∷ ds) zero made e = record { delivery = d; there = refl; same = cc }
-of_one (d ∷ ds) (suc n) made e = let m = of_one ds n made e in record { delivery = m.delivery; there = m.there; same = m.same }
+of_ones : (ds : List Delivery) (n : ℕ) (made : MadeItem) → slice_get (map made_of_one ds) n ≡ Some made → IsOfOne ds n made
+of_ones [] n made e = absurd cc
+of_ones (d ∷ ds) zero made e = record { delivery = d; there = refl; same = cc }
+of_ones (d ∷ ds) (suc n) made e = let m = of_ones ds n made e in record { delivery = m.delivery; there = m.there; same = m.same }
+
+pub of_one : (ds : List Delivery) (n : ℕ) (made : MadeItem) → All IsOther ds → slice_get (items_of ds) n ≡ Some made → IsOfOne ds n made
+of_one ds n made others e = of_ones ds n made (rw (items_other ds others) at e)
 
 -- ---- no copy was accepted
 
@@ -208,7 +222,7 @@ welcome_one shift p plan records place n d h at w =
     let sp = schedule_plan plan in
     let es = entries_in plan records in
     let t = welcome_judged shift p plan records place n d h at w in
-    let there = entry_there (deliveries_of plan records) place d at ∙ ap Some t.item in
+    let there = entry_there (deliveries_of plan records) place d (others shift p plan records h) at ∙ ap Some t.item in
     let shown = ok-presented clock_spot sp es place (item_of d) (taken place t.batch) there t.verdict_is_ok in
     let gs = given clock_spot sp es in
     subst (λ (l : List Presented). Any (IsPresentedOf by p n (made_of_one d)) l) (sym (batches_are gs))
@@ -217,7 +231,7 @@ welcome_one shift p plan records place n d h at w =
 pub welcome_shown : (shift : ℤ) (p : PacketJournal) (plan : ListenPlan) (records : List Record) (place n : ℕ) (made : MadeItem) → HearsTalker shift p plan records → IsWelcome p plan records place n made
     → Any (IsPresentedOf (by_clock plan) p n made) (presented_of (shown_of plan records))
 welcome_shown shift p plan records place n made h w =
-    let one = of_one (deliveries_of plan records) place made w.timely.there in
+    let one = of_one (deliveries_of plan records) place made (others shift p plan records h) w.timely.there in
     subst (λ (m : MadeItem). Any (IsPresentedOf (by_clock plan) p n m) (presented_of (shown_of plan records))) one.same
     (welcome_one shift p plan records place n one.delivery h one.there (subst (λ (m : MadeItem). IsWelcome p plan records place n m) (sym one.same) w))
 

@@ -1,12 +1,11 @@
 -- Without a clock the first packet of a capture is one that must be presented, and the same once more is a further copy.
-use Rattle.std.proofs.Common.{◌≡◌, ℕ, ◌+◌, ◌<◌, ◌≤◌, Bool, true, false, ℤ, pos, ◌≤ℤ◌, List, [], ◌∷◌, length, Option, Some, None, Ok, is_some, refl, sym, ap, ◌∙◌, subst, arith}
+use Rattle.std.proofs.Common.{All, ◌≡◌, ℕ, ◌+◌, ◌<◌, ◌≤◌, Bool, true, false, ℤ, pos, ◌≤ℤ◌, List, [], ◌∷◌, length, Option, Some, None, Ok, is_some, refl, sym, ap, ◌∙◌, subst, arith}
 use Rattle.std.specs.Prelude.{◌==◌, nat_le, nat_lt, if◌then◌else◌, slice_get, option_and_then, option_map}
 use Rattle.std.specs.Int.{int_max}
 use Rattle.std.specs.List.{filter_map}
 use Rattle.std.proofs.lemmas.Bool.Decides.{nat_tests}
 use Rattle.std.proofs.lemmas.Int.{ints}
 use Rattle.std.proofs.lemmas.List.Elements.{All-nil}
-use Rattle.clock_track.specs.Pairs.{Spot}
 use Rattle.clock_track.specs.Rows.{clock_spot}
 use Rattle.pcap_frames.specs.Capture.{Record}
 use Rattle.stream_journal.specs.Journal.{IsAt, IsAtBy, IsAtNominal, Journal, Kind, DenseAaf, SparseAaf, Am824, H264, head_of}
@@ -23,7 +22,7 @@ use Rattle.sample_schedule.specs.Order.{standing}
 use Rattle.sample_schedule.specs.Laws.{verdict_in}
 use Rattle.sample_schedule.specs.Schedule.{accepted, arrival_of, item_arrival, latest, now_at, prefix_of}
 use Rattle.sample_schedule.proofs.StageLemmas.{now-next, verdict-at}
-use Rattle.sample_schedule.specs.Verdicts.{Clock, is_full, moved, nominal_spot, row_of, spot_of}
+use Rattle.sample_schedule.specs.Verdicts.{Clock, is_full, moved, nominal_spot, row_of}
 use Rattle.time_unfold.specs.declared.head_rule.Head.{Head}
 use Rattle.packet_journal.specs.Deliveries.{Delivery}
 use Rattle.packet_journal.specs.Delivered.{IsCopyOf}
@@ -36,12 +35,12 @@ use Rattle.crf_format.specs.Crf.{crf_subtype}
 use Rattle.iec61883_format.specs.Iec.{iec_of, iec_refusal}
 use Rattle.listener.specs.Items.{MadeItem, aaf_item, blocks_of, clock_row, entry_of, iec_item, item_of, made_of_one, refused_or, samples_of}
 use Rattle.listener.specs.Laws.{HearsTalker, IsFurther, IsOfPacket, IsTimely, IsWelcome, by_clock, is_known, spot_in, time_of}
-use Rattle.listener.proofs.Shown.{item_there}
 use Rattle.listener.proofs.TrueHeard.{usable}
 use Rattle.listener.proofs.TrueItems.{Shows, all_shown, copy_entry, sent}
-use Rattle.listener.proofs.TrueList.{audio, one_copy}
+use Rattle.listener.proofs.TrueList.{audio, one_copy, others}
 use Rattle.listener.proofs.TrueOnce.{nominal_due}
-use Rattle.listener.proofs.TrueTimely.{at_place, entry_there, taken, welcome_judged}
+use Rattle.listener.proofs.TrueTimely.{at_place, entry_there, item_there, taken, welcome_judged}
+use Rattle.listener.proofs.Made.{IsOther}
 
 -- a stamped packet has its head in itself
 pub own_head : (j : Journal) (plan : SchedulePlan) (prefix : List Entry) (n frame arrival instant : ℕ) (bytes : List ℕ) → IsAudio j → n < j.packets → j.stamp n ≡ Some instant
@@ -101,7 +100,7 @@ timely_at shift p plan records place n instant d h off at copy stamped early =
     let head = own_head p.times sp prefix n d.frame copy.arrival instant (carried (p.packet n)) is copy.delivered.known stamped in
     let spot : is_some (spot_in sp prefix packet) ≡ true = nominal_known sp.clock sp prefix p.times.rate (heads.head_of sp prefix packet) by_is head in
     record {
-      there = item_there (deliveries_of plan records) place d at;
+      there = item_there (deliveries_of plan records) place d (others shift p plan records h) at;
       copy = one_copy p plan.lead n d copy;
       known = subst (λ (e : Entry). is_known sp prefix e ≡ true) (sym same) spot;
       instant = pos (p.times.due n);
@@ -128,14 +127,14 @@ arrives d = entry_arrival (d.subtype == crf_subtype) d
 both_early : (x y : ℤ) (due : ℕ) → x ≤ℤ pos due → y ≤ℤ pos due → int_max x y ≤ℤ pos due
 both_early x y due e f = grind (arith, ints)
 
-first_early : (plan : ListenPlan) (records : List Record) (due : ℕ) (d : Delivery) → slice_get (deliveries_of plan records) 0 ≡ Some d → d.arrival ≤ℤ pos due → time_of plan records 0 ≤ℤ pos due
-first_early plan records due d at early =
-    rw (first_time (entries_in plan records) (entry_of d) (entry_there (deliveries_of plan records) 0 d at), arrives d)
+first_early : (plan : ListenPlan) (records : List Record) (due : ℕ) (d : Delivery) → All IsOther (deliveries_of plan records) → slice_get (deliveries_of plan records) 0 ≡ Some d → d.arrival ≤ℤ pos due → time_of plan records 0 ≤ℤ pos due
+first_early plan records due d all at early =
+    rw (first_time (entries_in plan records) (entry_of d) (entry_there (deliveries_of plan records) 0 d all at), arrives d)
     (both_early (pos 0) d.arrival due (omega (arith, ints)) early)
 
-second_early : (plan : ListenPlan) (records : List Record) (due : ℕ) (d : Delivery) → slice_get (deliveries_of plan records) 1 ≡ Some d → time_of plan records 0 ≤ℤ pos due → d.arrival ≤ℤ pos due → time_of plan records 1 ≤ℤ pos due
-second_early plan records due d at first early =
-    rw (now-next (entries_in plan records) 1 (entry_of d) (entry_there (deliveries_of plan records) 1 d at), arrives d)
+second_early : (plan : ListenPlan) (records : List Record) (due : ℕ) (d : Delivery) → All IsOther (deliveries_of plan records) → slice_get (deliveries_of plan records) 1 ≡ Some d → time_of plan records 0 ≤ℤ pos due → d.arrival ≤ℤ pos due → time_of plan records 1 ≤ℤ pos due
+second_early plan records due d all at first early =
+    rw (now-next (entries_in plan records) 1 (entry_of d) (entry_there (deliveries_of plan records) 1 d all at), arrives d)
     (both_early (time_of plan records 0) d.arrival due first early)
 
 pub first_welcome : (shift : ℤ) (p : PacketJournal) (plan : ListenPlan) (records : List Record) (n instant : ℕ) (d : Delivery) → HearsTalker shift p plan records → plan.clock ≡ None → slice_get (deliveries_of plan records) 0 ≡ Some d
@@ -144,7 +143,7 @@ first_welcome shift p plan records n instant d h off at copy stamped early some 
     let sp = schedule_plan plan in
     let none = nothing clock_spot sp (entries_in plan records) in
     record {
-      timely = timely_at shift p plan records 0 n instant d h off at copy stamped (first_early plan records (p.times.due n) d at early);
+      timely = timely_at shift p plan records 0 n instant d h off at copy stamped (first_early plan records (p.times.due n) d (others shift p plan records h) at early);
       first = rw none (All-nil (λ (a : Accepted). ¬ IsOfPacket (by_clock plan) p n a.batch));
       room = rw none (has_room sp (time_of plan records 0) (length (carried (p.packet n))) some fits);
     }
@@ -166,9 +165,9 @@ pub second_further : (shift : ℤ) (p : PacketJournal) (plan : ListenPlan) (reco
     → IsFurther p plan records 1 n (made_of_one second)
 second_further shift p plan records n instant first second h off w here at copy stamped early =
     let judged = welcome_judged shift p plan records 0 n first h here w in
-    let there = entry_there (deliveries_of plan records) 0 first here ∙ ap Some judged.item in
+    let there = entry_there (deliveries_of plan records) 0 first (others shift p plan records h) here ∙ ap Some judged.item in
     let earlier = first_accepted clock_spot (schedule_plan plan) (entries_in plan records) (item_of first) (taken 0 judged.batch) there judged.verdict_is_ok in
     record {
-      timely = timely_at shift p plan records 1 n instant second h off at copy stamped (second_early plan records (p.times.due n) second at (by_due p plan records n (made_of_one first) off h.kind (audio p h.kind h.conforming.times) copy.delivered.known w.timely) early);
+      timely = timely_at shift p plan records 1 n instant second h off at copy stamped (second_early plan records (p.times.due n) second (others shift p plan records h) at (by_due p plan records n (made_of_one first) off h.kind (audio p h.kind h.conforming.times) copy.delivered.known w.timely) early);
       before = rw earlier (0, taken 0 judged.batch, omega arith, refl, judged.is.is);
     }

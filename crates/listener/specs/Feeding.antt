@@ -4,11 +4,10 @@ use mathlib.Core.List.{IsPrefix}
 use Rattle.std.specs.Option.{option_to_list}
 use Rattle.pcap_frames.specs.Capture.{Record, whole_records}
 use Rattle.pcap_frames.specs.Reading.{HasRead, Reading, taken}
-use Rattle.sample_schedule.specs.Judge.{work as judge_work}
 use Rattle.sample_schedule.specs.declared.shown.Shown.{Shown}
 use Rattle.listener.specs.declared.listener.ListenFault.{ListenFault}
 use Rattle.listener.specs.declared.listener.ListenFault.TheVariants.{Refused, Memory}
-use Rattle.listener.specs.Listening.{IsIdle, ListenState, StandsFor as RecordsStandFor, is_closed, out as out_of}
+use Rattle.listener.specs.Listening.{IsIdle, ListenState, StandsFor as RecordsStandFor, is_closed, out as out_of, work as listener_work}
 
 -- Its reader; the listener of the records that were read; what is due next; and whether no memory was found once.
 pub record Feeding : Type 0 where
@@ -67,9 +66,9 @@ pub record HasHeard (bytes : List ℕ) (given : ℕ) (reader : Reading) (listene
   pub read : HasRead reader bytes records
   pub stands : RecordsStandFor records given listener
 
--- what is left to be judged and to be given
+-- how many items may still be given
 abbrev pub work : Feeding → ℕ
-work fed = judge_work fed.listener.judge + length (option_to_list fed.next)
+work fed = listener_work fed.listener + length (option_to_list fed.next)
 
 -- What no call changes but the one that is for it: what was read, the plan, and whether the capture has ended and no memory was
 -- found once.

@@ -11,7 +11,7 @@ use Rattle.listener.specs.declared.heard.Counts.{Counts}
 use Rattle.listener.specs.declared.heard.Heard.{Heard}
 use Rattle.listener.specs.declared.plan.ListenPlan.{ListenPlan}
 use Rattle.packet_journal.specs.Deliveries.{Delivery, deliveries}
-use Rattle.listener.specs.Items.{MadeItem, entries, items_of}
+use Rattle.listener.specs.Items.{MadeItem, entries, entries_so_far, items_of}
 
 -- the schedule's part of a plan
 abbrev pub schedule_plan : ListenPlan → SchedulePlan
@@ -34,13 +34,17 @@ items_in plan records = items_of (deliveries_of plan records)
 abbrev pub entries_in : ListenPlan → List Record → List Entry
 entries_in plan records = entries (deliveries_of plan records)
 
+-- the same while further records may follow
+abbrev pub entries_so_far_in : ListenPlan → List Record → List Entry
+entries_so_far_in plan records = entries_so_far (deliveries_of plan records)
+
 -- what is shown of a list of records
 abbrev pub shown_of : ListenPlan → List Record → List Shown
 shown_of plan records = shown clock_spot (schedule_plan plan) (entries_in plan records)
 
 -- what of it is certain while further records may follow
 abbrev pub due_of : ListenPlan → List Record → List Shown
-due_of plan records = due clock_spot (schedule_plan plan) (entries_in plan records)
+due_of plan records = due clock_spot (schedule_plan plan) (entries_so_far_in plan records)
 
 abbrev pub is_present : Shown → Bool
 is_present (Present batch) = true

@@ -1,19 +1,28 @@
--- What the deliveries of a stream and of its clock are made into: packets of samples, those that cannot be read, and points of the
--- clock.
-use Rattle.std.specs.Prelude.{if◌then◌else◌, ℕ, ◌==◌, ◌&&◌, not, false, List, [], ◌∷◌, ◌++◌, map, Option, Some, None, unwrap_or}
+-- What the deliveries of a stream and of its clock are made into: packets of samples, units of H.264, those that are not
+-- presented, and points of the clock.
+use Rattle.std.specs.Prelude.{if◌then◌else◌, ℕ, ◌-◌, ◌==◌, ◌&&◌, not, false, List, [], ◌∷◌, ◌++◌, length, map, Option, Some, None, unwrap_or}
 use Rattle.avtp_base.specs.declared.refusal.Refusal.{Refusal}
 use Rattle.clock_track.specs.declared.clock_row.ClockRow.{ClockRow}
 use Rattle.crf_format.specs.Crf.{Crf, crf_of, crf_refusal, crf_subtype}
 use Rattle.aaf_format.specs.Aaf.{Aaf, aaf_of, aaf_refusal, aaf_subtype, rate_of}
 use Rattle.iec61883_format.specs.Iec.{Iec, iec_of, iec_refusal, rate_of_fdf, syt_interval}
+use Rattle.cvf_format.specs.Cvf.{cvf_of, cvf_subtype}
+use Rattle.cvf_format.specs.declared.piece.Lost.{Lost as LostFor}
+use Rattle.cvf_format.specs.declared.piece.Lost.TheVariants.{Broken, Long}
+use Rattle.cvf_format.specs.declared.piece.Piece.{Piece}
+use Rattle.cvf_format.specs.declared.piece.Piece.TheVariants.{Whole, Held, Lost}
+use Rattle.cvf_format.specs.Stretches.{Event, given_up, last_stretch, piece, reason, whole_unit}
 use Rattle.sample_schedule.specs.declared.entry.Entry.{Entry}
 use Rattle.sample_schedule.specs.declared.entry.Entry.TheVariants.{Item as OfItem, Clock as OfClock}
 use Rattle.time_unfold.specs.declared.head_rule.HeadRule.{HeadRule}
 use Rattle.time_unfold.specs.declared.head_rule.HeadRule.TheVariants.{Own, Eight, Blocks}
 use Rattle.sample_schedule.specs.declared.item.Item.{Item}
-use Rattle.sample_schedule.specs.declared.item.Item.TheVariants.{Packet as OfPacket, Bad as OfBad}
-use Rattle.sample_schedule.specs.declared.shown.Reason.TheVariants.{Malformed}
+use Rattle.sample_schedule.specs.declared.item.Item.TheVariants.{Packet as OfPacket, Unit as OfUnit, Bad as OfBad}
+use Rattle.sample_schedule.specs.declared.shown.Reason.{Reason}
+use Rattle.sample_schedule.specs.declared.shown.Reason.TheVariants.{Malformed, Broken as BrokenUnit, Long as LongUnit}
+use Rattle.time_unfold.specs.Time.{unfolded}
 use Rattle.packet_journal.specs.Deliveries.{Delivery}
+use Rattle.listener.specs.Units.{event_of, events, flaw_of, in_stream, last_ones, waiting}
 use Rattle.packet_journal.specs.Packets.{audio_sample_type}
 
 -- A packet of AAF (IEEE 1722-2016, 7). Its timestamp counts where it is valid. In sparse mode a packet without one is
@@ -106,7 +115,7 @@ clock_row d = points_or_none (crf_refusal d.packet) (crf_of d.packet)
 
 -- ---- items
 
--- A delivery of the clock is never shown, whether it gives points or not; any other is an item.
+-- A delivery of the clock is never shown, whether it gives points or not; one of audio is an item.
 abbrev pub entry_of : Delivery → Entry
 entry_of d = if d.subtype == crf_subtype then OfClock d.arrival (clock_row d) else OfItem (item_of d)
 
@@ -121,15 +130,92 @@ pub record MadeItem : Type 0 where
 abbrev pub sources : MadeItem → List Delivery
 sources made = made.earlier ++ made.last ∷ []
 
--- an item that was made of one delivery
+-- an item that was made of one delivery, of audio or of the clock
 abbrev pub made_of_one : Delivery → MadeItem
 made_of_one d = record { entry = entry_of d; earlier = []; last = d }
 
--- The items of a list of deliveries, in its order. Each delivery of AAF, of IEC 61883-6 and of the clock is one. (So far there
--- are no others.)
+-- A delivery that is shown by itself, and not presented: a fragment that is in no unit, or a packet that cannot be in one.
+abbrev pub flagged : Reason → Delivery → MadeItem
+flagged reason d = record {
+  entry = OfItem (OfBad (record { frame = d.frame; arrival = d.arrival; seq = d.seq; reason = reason }));
+  earlier = [];
+  last = d;
+}
+
+abbrev pub lost_for : LostFor → Reason
+lost_for Broken = BrokenUnit
+lost_for Long = LongUnit
+
+-- ---- what a delivery gives
+
+-- the events of the stream up to a delivery
+abbrev pub events_to : List Delivery → Delivery → List Event
+events_to before d = events before ++ event_of d ∷ []
+
+-- the fragments that it gives up
+abbrev pub given_up_by : List Delivery → Delivery → List MadeItem
+given_up_by before d =
+    map (flagged (lost_for (reason (events_to before d)))) (last_ones (length (given_up (events_to before d))) (in_stream before))
+
+-- The unit that a delivery completes: its frame number, its arrival, its sequence number and its presentation time are those
+-- of that delivery, the last of the stretch.
+abbrev pub unit_by : List Delivery → Delivery → MadeItem
+unit_by before d = record {
+  entry = OfItem (OfUnit (record {
+    frame = d.frame;
+    arrival = d.arrival;
+    seq = d.seq;
+    instant = unfolded (cvf_of d.packet).header.timestamp d.arrival;
+    bytes = whole_unit (events_to before d);
+  }));
+  earlier = last_ones (length (last_stretch (events_to before d)) - 1) (in_stream before);
+  last = d;
+}
+
+-- a good packet of H.264 makes a unit whole, or waits for the rest of it, or is lost
+abbrev pub piece_by : List Delivery → Delivery → Piece → List MadeItem
+piece_by before d Whole = unit_by before d ∷ []
+piece_by before d Held = []
+piece_by before d (Lost why) = flagged (lost_for why) d ∷ []
+
+abbrev pub video_by : List Delivery → Delivery → Option Reason → List MadeItem
+video_by before d None = piece_by before d (piece (events_to before d))
+video_by before d (Some reason) = flagged reason d ∷ []
+
+-- its own item, which a fragment that waits has not
+abbrev pub own_by : List Delivery → Delivery → List MadeItem
+own_by before d = if d.subtype == cvf_subtype then video_by before d (flaw_of d) else made_of_one d ∷ []
+
+-- What a delivery gives after those before it. One of the clock gives its points. One of the stream gives the fragments that
+-- it gives up, in order, and then its own item.
+abbrev pub given_by : List Delivery → Delivery → List MadeItem
+given_by before d = if d.subtype == crf_subtype then made_of_one d ∷ [] else given_up_by before d ++ own_by before d
+
+-- what these deliveries give, one after the other
+abbrev pub given_after : List Delivery → List Delivery → List MadeItem
+given_after before [] = []
+given_after before (d ∷ ds) = given_by before d ++ given_after (before ++ d ∷ []) ds
+
+-- ---- items
+
+-- the items that deliveries give while further ones may follow
+abbrev pub items_so_far : List Delivery → List MadeItem
+items_so_far ds = given_after [] ds
+
+-- the fragments that only the end of a list of deliveries gives up
+abbrev pub left_at_end : List Delivery → List MadeItem
+left_at_end ds = map (flagged BrokenUnit) (waiting ds)
+
+-- the items of a list of deliveries
 abbrev pub items_of : List Delivery → List MadeItem
-items_of deliveries = map made_of_one deliveries
+items_of ds = items_so_far ds ++ left_at_end ds
 
 -- what a schedule is made of
+abbrev pub made_entry : MadeItem → Entry
+made_entry made = made.entry
+
 abbrev pub entries : List Delivery → List Entry
-entries deliveries = map (λ made. made.entry) (items_of deliveries)
+entries ds = map made_entry (items_of ds)
+
+abbrev pub entries_so_far : List Delivery → List Entry
+entries_so_far ds = map made_entry (items_so_far ds)

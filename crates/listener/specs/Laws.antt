@@ -1,5 +1,6 @@
 -- What a listener hears of a talker that keeps the rules.
 use Rattle.std.specs.Prelude.{Any, Contains, true, ◌≡◌, ◌⊎◌, ℕ, suc, ◌+◌, ◌-◌, ◌^◌, ◌<◌, ◌%◌, ◌==◌, ⊤, Bool, false, ℤ, pos, ◌≤ℤ◌, ◌<ℤ◌, List, [], ◌∷◌, length, filter, All, slice_get, Option, Some, None, is_some, option_and_then, Result, Ok, Err}
+use Rattle.std.specs.List.{sum_by}
 use Rattle.clock_track.specs.Pairs.{Covers, Spot}
 use Rattle.clock_track.specs.Rows.{clock_spot}
 use Rattle.pcap_frames.specs.Capture.{Record}
@@ -96,6 +97,10 @@ pub record IsInOneItem (items : List MadeItem) (d : Delivery) : Type 0 where
   pub there : slice_get items place ≡ Some item
   pub in_it : Contains (sources item) d
   pub only : (k : ℕ) (other : MadeItem) → slice_get items k ≡ Some other → Contains (sources other) d → k ≡ place
+
+-- how many fragments the whole units among the items have before their last
+abbrev pub fragments_in : List MadeItem → ℕ
+fragments_in items = sum_by (λ (made : MadeItem). length made.earlier) items
 
 -- the deliveries are copies of packets that follow each other, from packet n on
 abbrev pub AreCopiesFrom : PacketJournal → ℕ → ℕ → List Delivery → Type 0

@@ -1,6 +1,8 @@
 pub mod Views
+pub mod Units
 pub mod Items
 pub mod Heard
+pub mod Gathering
 pub mod Listening
 pub mod Feeding
 pub mod Laws

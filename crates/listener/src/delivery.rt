@@ -30,7 +30,7 @@ pub struct DeliveryView<'a> {
 fn is_read(subtype: u8) -> bool
     ensures { result ≡ list_any (λ kind. subtype == kind) stream_kinds }
 {
-    matches!(subtype, subtype::IEC_61883 | subtype::AAF)
+    matches!(subtype, subtype::IEC_61883 | subtype::AAF | subtype::CVF)
 }
 
 fn is_of_stream(stream: u64, peeked: Peeked) -> bool

@@ -14,7 +14,7 @@ use iec61883_format::read_iec;
 use sample_schedule::{Bad, HeadRule, Item, Packet, Reason};
 use std::alloc::Global;
 
-fn malformed(delivery: &DeliveryView<'_>, refusal: Refusal) -> Item
+pub(crate) fn malformed(delivery: &DeliveryView<'_>, refusal: Refusal) -> Item
     ensures { result ≡ malformed_of (delivery_shape delivery.now) refusal }
 {
     Item::Bad(Bad {
@@ -70,7 +70,7 @@ fn iec_item(alloc: Global, delivery: &DeliveryView<'_>) -> Result<Item, NoMemory
     }
 }
 
-/// The item that a delivery is: its samples, or the field by which its packet is refused.
+/// The item that a delivery of audio is: its samples, or the field by which its packet is refused.
 pub fn item_of(alloc: Global, delivery: &DeliveryView<'_>) -> Result<Item, NoMemory>
     ensures { IfOk result (λ item. item ≡ item_of_delivery (delivery_shape delivery.now)) }
 {

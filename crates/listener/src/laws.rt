@@ -18,19 +18,20 @@ ghost use Rattle.listener.specs.declared.plan.ListenPlan.{ListenPlan};
 ghost use Rattle.listener.specs.Heard.{counts_of, deliveries_of, due_of, items_in, shown_of};
 ghost use Rattle.listener.specs.Headline.{KeepsHeadline};
 ghost use Rattle.listener.specs.Items.{MadeItem, made_of_one};
-ghost use Rattle.listener.specs.Laws.{Agree, AreOther, CoversPacket, FollowsClock, HearsTalker, IsFurther, IsHeardFrom, IsInOneItem, IsOfJournal, IsOfPacket, IsPresentedOf, IsWelcome, ComesBefore, by_clock, presented_of, shown_by, shown_of_frame, verdict_of};
+ghost use Rattle.listener.specs.Laws.{Agree, AreOther, CoversPacket, FollowsClock, HearsTalker, IsFurther, IsHeardFrom, IsInOneItem, IsOfJournal, IsOfPacket, IsPresentedOf, IsWelcome, ComesBefore, by_clock, fragments_in, presented_of, shown_by, shown_of_frame, verdict_of};
 
 use packet_journal::laws::records_of_both_are_delivered;
 
-/// Each packet of the stream is shown once, and one of the clock never: the counts of what is presented and of what is flagged
-/// make the count of the stream's packets.
+/// Each packet of the stream is shown once, or is a fragment of one unit that is shown, and one of the clock is never shown: the
+/// counts of what is presented and of what is flagged, with the number of fragments that units have before their last, make the
+/// count of the stream's packets.
 pub fn each_packet_is_shown_once()
-    ensures { (plan : ListenPlan) (records : List Record) → (counts_of plan records (shown_of plan records)).presented + (counts_of plan records (shown_of plan records)).flagged ≡ (counts_of plan records (shown_of plan records)).packets }
+    ensures { (plan : ListenPlan) (records : List Record) → (counts_of plan records (shown_of plan records)).presented + (counts_of plan records (shown_of plan records)).flagged + fragments_in (items_in plan records) ≡ (counts_of plan records (shown_of plan records)).packets }
 {}
 
-/// Each packet of the stream and of its clock is in one item, and each item of the stream is shown once, as its verdict has it: it
-/// is presented, or flagged with the first reason that holds of it. So the list says of each frame of the stream why its
-/// samples are not presented.
+/// Each packet of the stream and of its clock is in one item: it is an item by itself, or one of the fragments of one whole unit,
+/// which has the frame number of the last of them. Each item of the stream is shown once, as its verdict has it: it is presented,
+/// or flagged with the first reason that holds of it. So the list says of each frame of the stream why it is not presented.
 pub fn each_delivery_is_shown()
     ensures in_one_item { (plan : ListenPlan) (records : List Record) → All (IsInOneItem (items_in plan records)) (deliveries_of plan records) }
     ensures shown { (plan : ListenPlan) (records : List Record) (place : ℕ) (made : MadeItem) (item : Item) → slice_get (items_in plan records) place ≡ Some made → made.entry ≡ Entry.Item item

@@ -11,6 +11,7 @@ pub mod laws;
 mod listener;
 mod plan;
 mod record_listener;
+mod units;
 
 pub use capture::whole;
 pub use heard::{Counts, Heard, ShownList};

@@ -1,17 +1,18 @@
 //! What a listener shows, from one record of a capture at a time.
 
-ghost use Rattle.std.specs.Prelude.{◌≡◌, ◌+◌, ◌^◌, ◌<◌, ◌≤◌, ◌++◌, ◌∷◌, [], ℕ, true, false, List, length, slice_get, IfNone, IfOk, OnErr, OnOk};
+ghost use Rattle.std.specs.Prelude.{◌≡◌, ◌+◌, ◌^◌, ◌<◌, ◌≤◌, ◌++◌, ◌∷◌, [], ℕ, true, false, List, length, map, slice_get, IfNone, IfOk, OnErr, OnOk};
 ghost use Rattle.std.specs.Option.{option_to_list};
-ghost use Rattle.clock_track.specs.Rows.{clock_spot};
 ghost use Rattle.pcap_frames.specs.Capture.{Record};
 ghost use Rattle.pcap_frames.specs.Reading.{shown};
 ghost use Rattle.sample_schedule.specs.declared.entry.Entry.{Entry as EntryValue};
-ghost use Rattle.sample_schedule.specs.Judge.{IsIdle as IsIdleJudge, StandsFor as JudgeStandsFor, taken, work};
+ghost use Rattle.sample_schedule.specs.Judge.{IsIdle as IsIdleJudge, taken};
 ghost use Rattle.sample_schedule.specs.Limits.{IsPlan};
 ghost use Rattle.time_unfold.specs.Time.{IsArrival};
+ghost use Rattle.packet_journal.specs.Deliveries.{Delivery};
+ghost use Rattle.listener.specs.Gathering.{HasUnits, left};
 ghost use Rattle.listener.specs.Heard.{schedule_plan};
-ghost use Rattle.listener.specs.Items.{entry_of};
-ghost use Rattle.listener.specs.Listening.{IsIdle, Keeps, StandsFor, is_closed, out};
+ghost use Rattle.listener.specs.Items.{given_by, made_entry};
+ghost use Rattle.listener.specs.Listening.{Closes, IsIdle, Judges, JudgesNext, Keeps, StandsFor, is_closed, out, shown_by, work};
 ghost use Rattle.listener.specs.Views.{delivery_shape};
 
 use crate::clock::clock_points;
@@ -19,6 +20,7 @@ use crate::delivery::{DeliveryView, delivery_of};
 use crate::heard::Counts;
 use crate::item::item_of;
 use crate::plan::ListenPlan;
+use crate::units::Units;
 use avtp_base::NoMemory;
 use avtp_header::subtype;
 use pcap_frames::RecordView;
@@ -29,23 +31,29 @@ use std::marker::Model;
 /// A listener that is given a capture's records one at a time, in the capture's order, and shows each item of the stream once:
 /// presented, or flagged with the first reason why not. It shows an item as soon as no further record can change that.
 ///
-/// After each record, and after `close`, all that is due is taken by `next_out` before the listener is given more. Memory is
-/// reserved when it is made; later each packet's samples are copied once, into the batch that is shown.
+/// After each record, and after `close`, all that is due is taken by `next_out` before the listener is given more. A record may
+/// give up to 4,097 items, since it may give up fragments of H.264; they are judged one after the other by `next_out`. Memory is
+/// reserved when it is made; later each packet's samples, and each whole unit, are copied once, into the batch that is shown.
 #[derive(Drop)]
 pub struct RecordListener {
     plan: ListenPlan,
+    units: Units,
     judge: Judge,
+    ended: bool,
+    /// The judge was told that nothing follows.
+    closed: bool,
     counts: Counts,
 }
 
 impl Model for RecordListener {
+    ghost use Rattle.std.specs.Prelude.{◌≡◌};
     ghost use Rattle.listener.specs.Listening.{IsSound, ListenState};
 
     ghost Value = { ListenState };
 
-    ghost view = { λ listener. record { plan = listener.plan; judge = listener.judge; counts = listener.counts } };
+    ghost view = { λ listener. record { plan = listener.plan; units = listener.units; judge = listener.judge; ended = listener.ended; counts = listener.counts } };
 
-    ghost invariant = { λ listener. IsSound (record { plan = listener.plan; judge = listener.judge; counts = listener.counts }) };
+    ghost invariant = { λ listener. IsSound (record { plan = listener.plan; units = listener.units; judge = listener.judge; ended = listener.ended; counts = listener.counts }) × (listener.closed ≡ listener.judge.closed) };
 }
 
 impl RecordListener {
@@ -58,18 +66,23 @@ impl RecordListener {
         ensures idle { IfOk result IsIdle }
         ensures none { IfOk result (λ listener. listener.counts.frames ≡ 0) }
     {
+        let units = Units::new(alloc)?;
         let judge = Judge::begin(alloc, plan.schedule_plan())?;
         Ok(RecordListener {
             plan,
+            units,
             judge,
+            ended: false,
+            closed: false,
             counts: Counts::none(),
         })
     }
 
     /// Takes the next record. Nothing is due of those before it, fewer than 2^62 were taken, and the listener is not closed.
+    /// The record's time is from 0 to 2^62 ns.
     ///
     /// A record that belongs neither to the stream nor to its clock is counted and passed. `NoMemory` comes where no memory is
-    /// found for the packet's samples; the listener is then as it was.
+    /// found for the packet's samples or the unit; the listener is then as it was.
     pub fn take_record(&mut self, alloc: Global, held: &RecordView<'_>) -> Result<(), NoMemory>
         requires open { is_closed self.old ≡ false }
         requires idle { IsIdle self.old }
@@ -87,7 +100,7 @@ impl RecordListener {
                 Ok(())
             }
             Some(delivery) => {
-                take_delivery(alloc, &mut self.judge, &delivery)?;
+                take_delivery(alloc, &mut self.units, &mut self.judge, &delivery)?;
                 self.counts = self.counts.with_record(delivery.subtype != subtype::CRF);
                 Ok(())
             }
@@ -101,9 +114,14 @@ impl RecordListener {
         ensures stands { (records : List Record) (given : ℕ) → StandsFor records given self.old → StandsFor records (given + length (option_to_list result)) self.new }
         ensures idle { IfNone result (IsIdle self.new) }
         ensures keeps { Keeps self.old self.new }
-        ensures less { work self.new.judge + length (option_to_list result) ≤ work self.old.judge }
+        ensures less { work self.new + length (option_to_list result) ≤ work self.old }
     {
-        let shown = self.judge.next_out()?;
+        let shown = next_shown(
+            &mut self.units,
+            &mut self.judge,
+            self.ended,
+            &mut self.closed,
+        )?;
         self.counts = self.counts.with_shown(&shown);
         Some(shown)
     }
@@ -116,9 +134,10 @@ impl RecordListener {
         ensures plan { self.new.plan ≡ self.old.plan }
         ensures frames { self.new.counts.frames ≡ self.old.counts.frames }
         ensures closed { is_closed self.new ≡ true }
-        ensures work { work self.new.judge ≡ work self.old.judge }
+        ensures work { work self.new ≡ work self.old }
     {
-        self.judge.close();
+        self.units.end();
+        self.ended = true;
     }
 
     /// The numbers of the records so far, of those that belong to the stream, and of the batches and flags that were shown.
@@ -129,26 +148,86 @@ impl RecordListener {
     }
 }
 
-/// Has a delivery judged: samples of the stream, or points of its clock.
+/// Takes a delivery: points of the clock are judged, and what one of the stream gives waits to be judged.
 fn take_delivery(
     alloc: Global,
+    units: &mut Units,
     judge: &mut Judge,
     delivery: &DeliveryView<'_>,
 ) -> Result<(), NoMemory>
     requires open { judge.old.closed ≡ false }
     requires idle { IsIdleJudge judge.old }
+    requires none { left units.old ≡ [] }
     requires taken { taken judge.old < 2 ^ 62 }
     requires arrival { IsArrival delivery.now.arrival }
-    ensures stands { OnOk result ((entries : List EntryValue) (given : ℕ) → JudgeStandsFor clock_spot entries given judge.old → JudgeStandsFor clock_spot (entries ++ entry_of (delivery_shape delivery.now) ∷ []) given judge.new) }
-    ensures same { OnErr result (judge.new ≡ judge.old) }
+    ensures units { OnOk result ((ds : List Delivery) → HasUnits ds units.old → HasUnits (ds ++ delivery_shape delivery.now ∷ []) units.new) }
+    ensures judges { OnOk result ((ds : List Delivery) (entries : List EntryValue) (given : ℕ) → HasUnits ds units.old → Judges entries given judge.old units.old → Judges (entries ++ map made_entry (given_by ds (delivery_shape delivery.now))) given judge.new units.new) }
+    ensures same { OnErr result ((judge.new ≡ judge.old) × (units.new ≡ units.old)) }
     ensures plan { judge.new.plan ≡ judge.old.plan }
     ensures open { judge.new.closed ≡ false }
 {
     if delivery.subtype == subtype::CRF {
         judge.step_clock(delivery.arrival, &clock_points(delivery.packet));
     } else {
-        let item = item_of(alloc, delivery)?;
-        judge.step(item);
+        units.take_delivery(alloc, delivery)?;
     }
     Ok(())
+}
+
+/// The next item that is shown, where the items that wait are judged one after the other, and the judge is closed once all
+/// items of a list that has ended are judged.
+fn next_shown(units: &mut Units, judge: &mut Judge, ended: bool, closed: &mut bool) -> Option<Shown>
+    requires closed { closed.old ≡ judge.old.closed }
+    requires over { judge.old.closed ≡ true → (ended ≡ true) × (left units.old ≡ []) }
+    requires few { taken judge.old + length (left units.old) ≤ 2 ^ 62 }
+    ensures given { (entries : List EntryValue) (given : ℕ) → Judges entries given judge.old units.old → result ≡ slice_get (shown_by ended judge.old.plan entries) given }
+    ensures judges { (entries : List EntryValue) (given : ℕ) → Judges entries given judge.old units.old → Judges entries (given + length (option_to_list result)) judge.new units.new }
+    ensures units { (ds : List Delivery) → HasUnits ds units.old → HasUnits ds units.new }
+    ensures idle { IfNone result (IsIdleJudge judge.new × (left units.new ≡ [])) }
+    ensures plan { judge.new.plan ≡ judge.old.plan }
+    ensures closed { closed.new ≡ judge.new.closed }
+    ensures over { judge.new.closed ≡ true → (ended ≡ true) × (left units.new ≡ []) }
+{
+    loop {
+        if let Some(shown) = judge.next_out() {
+            return Some(shown);
+        }
+        if !judge_next(units, judge, ended, closed) {
+            return None;
+        }
+    }
+}
+
+/// Gives the judge the next item that waits, or, where none does and the list has ended, closes it. Whether it did.
+fn judge_next(units: &mut Units, judge: &mut Judge, ended: bool, closed: &mut bool) -> bool
+    requires idle { IsIdleJudge judge.old }
+    requires closed { closed.old ≡ judge.old.closed }
+    requires over { judge.old.closed ≡ true → (ended ≡ true) × (left units.old ≡ []) }
+    requires few { taken judge.old + length (left units.old) ≤ 2 ^ 62 }
+    ensures step { JudgesNext ended result units.old units.new judge.old judge.new }
+    ensures units { (ds : List Delivery) → HasUnits ds units.old → HasUnits ds units.new }
+    ensures closed { closed.new ≡ judge.new.closed }
+{
+    match units.next() {
+        Some(item) => {
+            judge.step(item);
+            true
+        }
+        None => close_ended(judge, ended, closed),
+    }
+}
+
+/// Closes the judge, where the list has ended and it was not closed before. Whether it did.
+fn close_ended(judge: &mut Judge, ended: bool, closed: &mut bool) -> bool
+    requires idle { IsIdleJudge judge.old }
+    requires closed { closed.old ≡ judge.old.closed }
+    ensures closes { Closes ended result judge.old judge.new }
+    ensures closed { closed.new ≡ judge.new.closed }
+{
+    if !ended || *closed {
+        return false;
+    }
+    judge.close();
+    *closed = true;
+    true
 }

@@ -15,6 +15,7 @@ use std::test::Fail;
 mod blocks;
 mod clock;
 mod pieces;
+mod video;
 
 /// A capture of one AAF packet of six sample frames, due at 1.002 s.
 const ONE: [u8; 106] = [
@@ -537,7 +538,7 @@ fn passes_other_records(rt: HostRuntime) -> Result<(), Fail> {
     let rows = [
         (Some((1, 0x01)), 66),
         (Some((11, 0x02)), 66),
-        (Some((0, 0x03)), 66),
+        (Some((0, 0x05)), 66),
         (Some((0, 0x04)), 66),
         (None, PACKET + 11),
         (None, PACKET),

@@ -5,15 +5,15 @@ use Rattle.pcap_frames.specs.Capture.{Record}
 use Rattle.pcap_frames.specs.Frame.{frame_of, frame_refusal}
 use Rattle.avtp_header.specs.declared.header.Peeked.{Peeked}
 use Rattle.avtp_header.specs.Header.{peeked_of}
-use Rattle.avtp_header.specs.Numbers.{aaf_subtype, crf_subtype, iec_subtype}
+use Rattle.avtp_header.specs.Numbers.{aaf_subtype, crf_subtype, cvf_subtype, iec_subtype}
 pub use Rattle.avtp_header.specs.Numbers.{avtp_ethertype}
 
--- The kinds of packets of a stream that are read, by their subtypes (IEEE 1722-2016, table 6). A stream may also consist
--- of packets of CVF (0x03); they are passed so far.
+-- the kinds of packets of a stream, by their subtypes (IEEE 1722-2016, table 6)
 abbrev pub stream_kinds : List ℕ
 stream_kinds =
     iec_subtype ∷
     aaf_subtype ∷
+    cvf_subtype ∷
     []
 
 -- the kinds of packets of a media clock (CRF)

@@ -1,30 +1,30 @@
-use Rattle.std.proofs.Common.{◌+◌, ◌++◌, ◌∷◌, [], refl, sym, subst, ap, ◌∙◌, arith}
+use Rattle.std.proofs.Common.{◌+◌, ◌++◌, ◌∷◌, [], refl, sym, subst, ap, ◌∙◌, arith, map}
 use Rattle.std.specs.Prelude.{◌==◌, not}
 use Rattle.avtp_header.specs.Numbers.{crf_subtype}
-use Rattle.clock_track.specs.Rows.{clock_spot}
 use Rattle.pcap_frames.specs.Reading.{shown}
 use Rattle.time_unfold.specs.Time.{IsArrival}
-use Rattle.sample_schedule.specs.Judge.{StandsFor as JudgeStandsFor}
 use Rattle.packet_journal.specs.Deliveries.{Delivery, delivery, is_delivered}
-use Rattle.listener.specs.Heard.{entries_in}
-use Rattle.listener.specs.Items.{entry_of}
-use Rattle.listener.specs.Listening.{ListenState, StandsFor, is_closed, with_record}
+use Rattle.listener.specs.declared.heard.Counts.{Counts}
+use Rattle.listener.specs.Gathering.{HasUnits}
+use Rattle.listener.specs.Heard.{deliveries_of, entries_so_far_in}
+use Rattle.listener.specs.Items.{given_by, made_entry}
+use Rattle.listener.specs.Listening.{Judges, ListenState, StandsFor, is_closed, with_record}
 use Rattle.listener.specs.Views.{delivery_shape}
 use Rattle.listener.proofs.Further.{chosen, not_chosen}
-use Rattle.listener.proofs.Listened.{packets_few, stands_with, stands_without, taken_few}
+use Rattle.listener.proofs.Listened.{judge_open, judges_open, packets_few, stands_with, stands_without, taken_few}
 use Rattle.listener.proofs.record_listener.RecordListener.take_record.Goals as goal
 
 pub with_record-self-inside-requires-clause-within : goal.with_record-self-inside-requires-clause-within
 with_record-self-inside-requires-clause-within c =
-    let sound = c.self.invariant in packets_few sound.records sound.given _ sound.stands
+    let sound = c.self.invariant.0 in packets_few sound.records sound.given _ sound.stands
 
 pub with_record-self-inside-requires-in-Some-clause-within : goal.with_record-self-inside-requires-in-Some-clause-within
 with_record-self-inside-requires-in-Some-clause-within c =
-    let sound = c.self.invariant in packets_few sound.records sound.given _ sound.stands
+    let sound = c.self.invariant.0 in packets_few sound.records sound.given _ sound.stands
 
 pub take_delivery-requires-clause-taken : goal.take_delivery-requires-clause-taken
 take_delivery-requires-clause-taken c =
-    let sound = c.self.invariant in
+    let sound = c.self.invariant.0 in
     omega (arith, taken_few sound.records sound.given _ sound.stands, c.requires.few, ap (λ (l : ListenState). l.counts.frames) c.self.view_is)
 
 pub take_delivery-requires-clause-arrival : goal.take_delivery-requires-clause-arrival
@@ -37,43 +37,63 @@ pub returns-in-None-clause-stands : goal.returns-in-None-clause-stands
 returns-in-None-clause-stands c records given stands =
     let st = subst (StandsFor records given) (sym c.self.view_is) stands in
     let read = shown c.args.held.now in
+    let opened = ap is_closed c.self.view_is ∙ c.requires.open in
     let out = not_chosen (is_delivered c.self.inside.plan.stream c.self.inside.plan.clock read.bytes) (delivery (c.self.inside.counts.frames + 1) read) c.in-None.ensures in
-    stands_without records read given _ _ st (ap is_closed c.self.view_is ∙ c.requires.open) out refl refl c.with_record-self-inside.ensures
+    stands_without records read given _ _ st opened out refl opened refl refl c.with_record-self-inside.ensures
 
 pub invariant_of-self : goal.invariant_of-self
 invariant_of-self c =
-    let sound = c.self.invariant in
+    let sound = c.self.invariant.0 in
     let read = shown c.args.held.now in
-    let out = not_chosen (is_delivered c.self.inside.plan.stream c.self.inside.plan.clock read.bytes) (delivery (c.self.inside.counts.frames + 1) read) c.in-None.ensures in
-    record {
-      records = sound.records ++ read ∷ [];
-      given = sound.given;
-      stands = stands_without sound.records read sound.given _ _ sound.stands (ap is_closed c.self.view_is ∙ c.requires.open) out refl refl c.with_record-self-inside.ensures;
-    }
+    let opened = ap is_closed c.self.view_is ∙ c.requires.open in
+    let out = not_chosen (is_delivered c.self.inside.plan.stream c.self.inside.plan.clock read.bytes) (delivery (c.self.inside.counts.frames + 1) read) c.in-None.ensures in (
+      record {
+        records = sound.records ++ read ∷ [];
+        given = sound.given;
+        stands = stands_without sound.records read sound.given _ _ sound.stands opened out refl opened refl refl c.with_record-self-inside.ensures;
+        few = omega (arith, c.requires.few, ap (λ (l : ListenState). l.counts.frames) c.self.view_is, ap (λ (n : Counts). n.frames) c.with_record-self-inside.ensures);
+      },
+      c.self.invariant.1,
+    )
 
 pub returns-in_ok-take_delivery-in-Some-clause-stands : goal.returns-in_ok-take_delivery-in-Some-clause-stands
 returns-in_ok-take_delivery-in-Some-clause-stands c records given stands =
     let st = subst (StandsFor records given) (sym c.self.view_is) stands in
     let read = shown c.args.held.now in
     let number = c.self.inside.counts.frames + 1 in
-    let here = chosen (is_delivered c.self.inside.plan.stream c.self.inside.plan.clock read.bytes) (delivery_shape c.in-Some.delivery) (delivery number read) c.in-Some.ensures in
-    let es = entries_in c.self.inside.plan records in
-    stands_with records read given _ _ st (ap is_closed c.self.view_is ∙ c.requires.open) here.0 refl c.in_ok-take_delivery-in-Some.ensures.open c.in_ok-take_delivery-in-Some.ensures.plan
-    (subst (λ (d : Delivery). JudgeStandsFor clock_spot (es ++ entry_of d ∷ []) given c.take_delivery.new.judge) here.1 (c.in_ok-take_delivery-in-Some.ensures.stands es given st.judge))
+    let plan = c.self.inside.plan in
+    let opened = ap is_closed c.self.view_is ∙ c.requires.open in
+    let here = chosen (is_delivered plan.stream plan.clock read.bytes) (delivery_shape c.in-Some.delivery) (delivery number read) c.in-Some.ensures in
+    let ds = deliveries_of plan records in
+    let es = entries_so_far_in plan records in
+    let ok = c.in_ok-take_delivery-in-Some.ensures in
+    stands_with records read given _ _ st opened here.0 refl opened ok.plan ok.open
+    (subst (λ (d : Delivery). HasUnits (ds ++ d ∷ []) c.take_delivery.new.units) here.1 (ok.units ds (st.units opened)))
+    (subst (λ (d : Delivery). Judges (es ++ map made_entry (given_by ds d)) given c.take_delivery.new.judge c.take_delivery.new.units) here.1 (ok.judges ds es given (st.units opened) (judges_open records given _ st opened)))
     (c.with_record-self-inside-in-Some.ensures ∙ ap (λ (d : Delivery). with_record c.self.inside.counts (not (d.subtype == crf_subtype))) here.1)
 
 pub invariant_of-self-in-Some : goal.invariant_of-self-in-Some
 invariant_of-self-in-Some c =
-    let sound = c.self.invariant in
+    let sound = c.self.invariant.0 in
     let st = sound.stands in
+    let records = sound.records in
+    let given = sound.given in
     let read = shown c.args.held.now in
     let number = c.self.inside.counts.frames + 1 in
-    let here = chosen (is_delivered c.self.inside.plan.stream c.self.inside.plan.clock read.bytes) (delivery_shape c.in-Some.delivery) (delivery number read) c.in-Some.ensures in
-    let es = entries_in c.self.inside.plan sound.records in
-    record {
-      records = sound.records ++ read ∷ [];
-      given = sound.given;
-      stands = stands_with sound.records read sound.given _ _ st (ap is_closed c.self.view_is ∙ c.requires.open) here.0 refl c.in_ok-take_delivery-in-Some.ensures.open c.in_ok-take_delivery-in-Some.ensures.plan
-          (subst (λ (d : Delivery). JudgeStandsFor clock_spot (es ++ entry_of d ∷ []) sound.given c.take_delivery.new.judge) here.1 (c.in_ok-take_delivery-in-Some.ensures.stands es sound.given st.judge))
-          (c.with_record-self-inside-in-Some.ensures ∙ ap (λ (d : Delivery). with_record c.self.inside.counts (not (d.subtype == crf_subtype))) here.1);
-    }
+    let plan = c.self.inside.plan in
+    let opened = ap is_closed c.self.view_is ∙ c.requires.open in
+    let here = chosen (is_delivered plan.stream plan.clock read.bytes) (delivery_shape c.in-Some.delivery) (delivery number read) c.in-Some.ensures in
+    let ds = deliveries_of plan records in
+    let es = entries_so_far_in plan records in
+    let ok = c.in_ok-take_delivery-in-Some.ensures in (
+      record {
+        records = records ++ read ∷ [];
+        given = given;
+        stands = stands_with records read given _ _ st opened here.0 refl opened ok.plan ok.open
+            (subst (λ (d : Delivery). HasUnits (ds ++ d ∷ []) c.take_delivery.new.units) here.1 (ok.units ds (st.units opened)))
+            (subst (λ (d : Delivery). Judges (es ++ map made_entry (given_by ds d)) given c.take_delivery.new.judge c.take_delivery.new.units) here.1 (ok.judges ds es given (st.units opened) (judges_open records given _ st opened)))
+            (c.with_record-self-inside-in-Some.ensures ∙ ap (λ (d : Delivery). with_record c.self.inside.counts (not (d.subtype == crf_subtype))) here.1);
+        few = omega (arith, c.requires.few, ap (λ (l : ListenState). l.counts.frames) c.self.view_is, ap (λ (n : Counts). n.frames) c.with_record-self-inside-in-Some.ensures);
+      },
+      c.self.invariant.1 ∙ (judge_open records given _ st opened ∙ sym ok.open),
+    )

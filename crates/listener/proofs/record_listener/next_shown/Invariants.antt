@@ -1,0 +1,22 @@
+use Rattle.std.proofs.Common.{◌≡◌, ◌≤◌, ◌+◌, ◌^◌, ℕ, List, [], true, cond, length}
+use Rattle.packet_journal.specs.Deliveries.{Delivery}
+use Rattle.sample_schedule.specs.declared.entry.Entry.{Entry}
+use Rattle.sample_schedule.specs.Judge.{taken}
+use Rattle.listener.specs.Gathering.{HasUnits, left}
+use Rattle.listener.specs.Listening.{Judges}
+use Rattle.listener.proofs.record_listener.next_shown.Given as goal
+
+-- some of the items that waited were judged, or the judge was closed
+abbrev pub invariant-loop-shown : goal.invariant-loop-shown
+invariant-loop-shown l =
+    record {
+      judges : (entries : List Entry) (given : ℕ) → Judges entries given l.fn.judge l.fn.units → Judges entries given l.judge l.units;
+      units : (ds : List Delivery) → HasUnits ds l.fn.units → HasUnits ds l.units;
+      plan : l.judge.plan ≡ l.fn.judge.plan;
+      closed : l.closed ≡ l.judge.closed;
+      over : l.judge.closed ≡ true → (l.ended ≡ true) × (left l.units ≡ []);
+      few : taken l.judge + length (left l.units) ≤ 2 ^ 62;
+    }
+
+abbrev pub decreases-loop-shown : goal.decreases-loop-shown
+decreases-loop-shown l = length (left l.units) + cond l.judge.closed 0 1

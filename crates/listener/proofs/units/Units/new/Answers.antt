@@ -1,0 +1,15 @@
+use Rattle.std.proofs.Common.{[], arith}
+use Rattle.std.proofs.lemmas.List.Elements.{All-nil}
+use Rattle.listener.specs.Gathering.{IsTimelyEvent}
+use Rattle.listener.proofs.Gathered.{begun_left, none_lost}
+use Rattle.listener.proofs.units.Units.new.Goals as goal
+
+pub invariant_of-result : goal.invariant_of-result
+invariant_of-result c = (
+  record { events = []; stands = c.in_ok-new.ensures; arrivals = All-nil IsTimelyEvent; own = tt },
+  none_lost _ c.in_ok-new.ensures,
+  omega arith,
+)
+
+pub returns-clause-none : goal.returns-clause-none
+returns-clause-none c = begun_left _ c.in_ok-new.ensures

@@ -1,0 +1,66 @@
+-- How the deliveries of a stream make the units of H.264.
+use Rattle.std.specs.Prelude.{ℕ, ◌-◌, ◌==◌, ◌&&◌, not, if◌then◌else◌, List, length, drop, filter, map, Option, Some, None}
+use Rattle.avtp_base.specs.declared.refusal.Refusal.{Refusal}
+use Rattle.crf_format.specs.Crf.{crf_subtype}
+use Rattle.cvf_format.specs.Cvf.{Cvf, cvf_of, cvf_refusal, cvf_subtype}
+use Rattle.cvf_format.specs.declared.piece.Mark.{Mark}
+use Rattle.cvf_format.specs.Stretches.{Event, Fragment, completes, cut, held, packet}
+use Rattle.sample_schedule.specs.declared.shown.Reason.{Reason}
+use Rattle.sample_schedule.specs.declared.shown.Reason.TheVariants.{Malformed, Uncertain, Untimed}
+use Rattle.time_unfold.specs.Time.{unfolded}
+use Rattle.packet_journal.specs.Deliveries.{Delivery}
+
+-- ---- packets of H.264
+
+-- why a packet is in no unit: its time is uncertain, or it completes a unit and has no timestamp
+abbrev pub flaw_in : Cvf → Option Reason
+flaw_in v =
+    if v.header.tu then Some Uncertain
+    else if completes v.part && not v.header.tv then Some Untimed
+    else None
+
+abbrev pub flaw_or : Option Refusal → Cvf → Option Reason
+flaw_or None v = flaw_in v
+flaw_or (Some refusal) v = Some (Malformed refusal.field)
+
+-- why a delivery of H.264 is in no unit, whatever stands beside it; its reader may refuse it, too
+abbrev pub flaw_of : Delivery → Option Reason
+flaw_of d = flaw_or (cvf_refusal d.packet) (cvf_of d.packet)
+
+abbrev pub mark_of : Delivery → Mark
+mark_of d = record { frame = d.frame; seq = d.seq; arrival = d.arrival }
+
+-- a unit or a fragment, with its presentation time where it is stamped (IEEE 1722-2016, 8)
+abbrev pub fragment_in : Delivery → Cvf → Fragment
+fragment_in d v = record {
+  mark = mark_of d;
+  instant = if v.header.tv then Some (unfolded v.header.timestamp d.arrival) else None;
+  nal = v.nal;
+  part = v.part;
+  body = v.body;
+}
+
+-- ---- events
+
+abbrev pub event_by : Delivery → Option Reason → Event
+event_by d None = packet (fragment_in d (cvf_of d.packet))
+event_by d (Some reason) = cut
+
+-- A delivery of the stream is a packet of H.264, or no unit goes on over it.
+abbrev pub event_of : Delivery → Event
+event_of d = if d.subtype == cvf_subtype then event_by d (flaw_of d) else cut
+
+-- the deliveries of the stream among those of the stream and of its clock
+abbrev pub in_stream : List Delivery → List Delivery
+in_stream ds = filter (λ (d : Delivery). not (d.subtype == crf_subtype)) ds
+
+abbrev pub events : List Delivery → List Event
+events ds = map event_of (in_stream ds)
+
+-- the last n of a list
+abbrev pub last_ones : {X : Type 0} → ℕ → List X → List X
+last_ones n xs = drop (length xs - n) xs
+
+-- the deliveries that wait for the rest of their unit
+abbrev pub waiting : List Delivery → List Delivery
+waiting ds = last_ones (length (held (events ds))) (in_stream ds)

@@ -1,0 +1,284 @@
+//! The units of H.264 that a stream's deliveries make.
+
+ghost use Rattle.std.specs.Prelude.{◌≡◌, ◌≢◌, ◌+◌, ◌++◌, ◌∷◌, [], ◌≤◌, None, vec_len, vec_capacity, List, length, map, IfOk, IfNone, IfSome, IsTrue, IsSome, OnErr, OnOk};
+ghost use Rattle.std.specs.Option.{option_to_list};
+ghost use Rattle.cvf_format.specs.Assembly.{longest_body};
+ghost use Rattle.cvf_format.specs.Cvf.{cvf_of, cvf_shape};
+ghost use Rattle.cvf_format.specs.Stretches.{completes};
+ghost use Rattle.crf_format.specs.Crf.{crf_subtype};
+ghost use Rattle.packet_journal.specs.Deliveries.{Delivery};
+ghost use Rattle.sample_schedule.specs.Limits.{IsItem};
+ghost use Rattle.time_unfold.specs.Time.{IsArrival, Unfolds, unfolded};
+ghost use Rattle.listener.specs.Gathering.{Cuts, HasUnits, Pushes, Takes, item_entry, left, lost_item as lost_item_of, own_item as own_item_of};
+ghost use Rattle.listener.specs.Items.{given_by, left_at_end, lost_for as lost_reason, made_entry};
+ghost use Rattle.listener.specs.Units.{flaw_in, flaw_of, fragment_in, mark_of as mark_of_delivery};
+ghost use Rattle.listener.specs.Views.{delivery_shape};
+
+use crate::delivery::DeliveryView;
+use crate::item::{item_of, malformed};
+use avtp_base::{Bytes, NoMemory};
+use avtp_header::subtype;
+use cvf_format::{Assembler, CvfView, Lost, Mark, NalPart, Piece, read_cvf};
+use sample_schedule::{Bad, Item, Reason, Unit};
+use std::alloc::Global;
+use std::marker::Model;
+use time_unfold::unfold;
+
+/// Puts the units of a stream together, and holds the items that the last delivery gave, until they are taken: the fragments
+/// that it gave up, and then its own item. Memory for the fragments is reserved when it is made.
+#[derive(Drop)]
+pub struct Units {
+    assembler: Assembler,
+    /// Why the last fragments were given up, how many these are, and how many of them were taken.
+    why: Lost,
+    lost: u32,
+    taken: u32,
+    /// The last delivery's own item.
+    own: Option<Item>,
+}
+
+impl Model for Units {
+    ghost use Rattle.std.specs.Prelude.{◌≡◌, ◌≤◌, length};
+    ghost use Rattle.listener.specs.Gathering.{Gathered, IsSound};
+
+    ghost Value = { Gathered };
+
+    ghost view = { λ units. record { assembly = units.assembler; why = units.why; taken = units.taken; own = units.own } };
+
+    ghost invariant = { λ units. IsSound (record { assembly = units.assembler; why = units.why; taken = units.taken; own = units.own })
+        × (units.lost ≡ length units.assembler.lost)
+        × (units.taken ≤ units.lost) };
+}
+
+fn mark_of(delivery: &DeliveryView<'_>) -> Mark
+    ensures { result ≡ mark_of_delivery (delivery_shape delivery.now) }
+{
+    Mark {
+        frame: delivery.frame,
+        seq: delivery.seq,
+        arrival: delivery.arrival,
+    }
+}
+
+/// A packet that is not presented.
+fn lost_item(mark: Mark, reason: Reason) -> Item
+    ensures { result ≡ lost_item_of reason mark }
+{
+    Item::Bad(Bad {
+        frame: mark.frame,
+        arrival: mark.arrival,
+        seq: mark.seq,
+        reason,
+    })
+}
+
+fn reason_for(lost: Lost) -> Reason
+    ensures { result ≡ lost_reason lost }
+{
+    match lost {
+        Lost::Broken => Reason::Broken,
+        Lost::Long => Reason::Long,
+    }
+}
+
+fn completes_unit(part: NalPart) -> bool
+    ensures { result ≡ completes part }
+{
+    match part {
+        NalPart::Single | NalPart::Last => true,
+        NalPart::First | NalPart::Middle => false,
+    }
+}
+
+/// Why a packet is in no unit, whatever stands beside it: its time is uncertain, or it completes a unit and has no timestamp.
+fn flaw(view: &CvfView<'_>) -> Option<Reason>
+    ensures { result ≡ flaw_in (cvf_shape view.now) }
+{
+    if view.header.tu {
+        return Some(Reason::Uncertain);
+    }
+    if completes_unit(view.part) && !view.header.tv {
+        return Some(Reason::Untimed);
+    }
+    None
+}
+
+/// When a packet is presented.
+fn instant_of(delivery: &DeliveryView<'_>, view: &CvfView<'_>) -> i64
+    requires { IsArrival delivery.now.arrival }
+    ensures value { result ≡ unfolded view.now.header.timestamp delivery.now.arrival }
+    ensures unfolds { Unfolds view.now.header.timestamp delivery.now.arrival result }
+{
+    unfold(view.header.timestamp, delivery.arrival)
+}
+
+fn stamp_of(delivery: &DeliveryView<'_>, view: &CvfView<'_>) -> Option<i64>
+    requires { IsArrival delivery.now.arrival }
+    ensures { result ≡ (fragment_in (delivery_shape delivery.now) (cvf_shape view.now)).instant }
+{
+    if view.header.tv {
+        Some(instant_of(delivery, view))
+    } else {
+        None
+    }
+}
+
+/// The bytes of a unit, in memory that was found for them.
+fn unit_bytes(mut bytes: Vec<u8>, unit: &[u8]) -> Bytes
+    requires { vec_len bytes + length unit.now ≤ vec_capacity bytes }
+    ensures { result ≡ bytes.items ++ unit.now }
+{
+    let Ok(()) = bytes.extend_from_slice(unit) else {
+        unreachable!()
+    };
+    Bytes::over(bytes)
+}
+
+/// The item of a packet that makes these bytes a unit, or waits, or is lost. Memory was found for the unit.
+fn own_item(
+    delivery: &DeliveryView<'_>,
+    view: &CvfView<'_>,
+    bytes: Vec<u8>,
+    unit: &[u8],
+    piece: Piece,
+) -> Option<Item>
+    requires room { vec_len bytes + length unit.now ≤ vec_capacity bytes }
+    requires empty { bytes.items ≡ [] }
+    requires arrival { IsArrival delivery.now.arrival }
+    ensures own { result ≡ own_item_of (delivery_shape delivery.now) (unfolded view.now.header.timestamp delivery.now.arrival) unit.now piece }
+    ensures item { IfSome result IsItem }
+{
+    match piece {
+        Piece::Whole => Some(Item::Unit(Unit {
+            frame: delivery.frame,
+            arrival: delivery.arrival,
+            seq: delivery.seq,
+            instant: instant_of(delivery, view),
+            bytes: unit_bytes(bytes, unit),
+        })),
+        Piece::Held => None,
+        Piece::Lost(why) => Some(lost_item(mark_of(delivery), reason_for(why))),
+    }
+}
+
+impl Units {
+    /// No delivery yet. Reserves the memory for the fragments of a unit.
+    pub fn new(alloc: Global) -> Result<Self, NoMemory>
+        ensures stands { IfOk result (HasUnits []) }
+        ensures none { IfOk result (λ units. left units ≡ []) }
+    {
+        Ok(Units {
+            assembler: Assembler::new(alloc)?,
+            why: Lost::Broken,
+            lost: 0,
+            taken: 0,
+            own: None,
+        })
+    }
+
+    /// No unit goes on over a delivery with this item.
+    fn cut(&mut self, item: Item)
+        requires { IsItem item }
+        ensures { Cuts item self.old self.new }
+    {
+        self.lost = self.assembler.cut();
+        self.why = Lost::Broken;
+        self.taken = 0;
+        self.own = Some(item);
+    }
+
+    /// A packet begins a unit, or goes on with one, or is lost. `NoMemory` comes where no memory is found for the unit that
+    /// it makes whole.
+    fn push(
+        &mut self,
+        alloc: Global,
+        delivery: &DeliveryView<'_>,
+        view: &CvfView<'_>,
+    ) -> Result<(), NoMemory>
+        requires body { length view.now.body.now ≤ longest_body }
+        requires flawless { flaw_in (cvf_shape view.now) ≡ None }
+        requires arrival { IsArrival delivery.now.arrival }
+        ensures pushed { OnOk result (Pushes (delivery_shape delivery.now) (cvf_shape view.now) self.old self.new) }
+        ensures same { OnErr result (self.new ≡ self.old) }
+    {
+        let mark = mark_of(delivery);
+        let stamp = stamp_of(delivery, view);
+        let bytes = Vec::with_capacity(alloc, self.assembler.unit_with(mark, stamp, view))?;
+        let pushed = self.assembler.push(mark, stamp, view);
+        self.lost = pushed.lost;
+        self.why = pushed.why;
+        self.taken = 0;
+        self.own = own_item(delivery, view, bytes, self.assembler.unit(), pushed.piece);
+        Ok(())
+    }
+
+    /// Takes the next delivery of the stream, where all items that those before it gave were taken.
+    ///
+    /// `NoMemory` comes where no memory is found for a packet's samples or for a unit; nothing changes then.
+    pub fn take_delivery(
+        &mut self,
+        alloc: Global,
+        delivery: &DeliveryView<'_>,
+    ) -> Result<(), NoMemory>
+        requires stream { delivery.now.subtype ≢ crf_subtype }
+        requires arrival { IsArrival delivery.now.arrival }
+        ensures stands { OnOk result ((ds : List Delivery) → HasUnits ds self.old → HasUnits (ds ++ delivery_shape delivery.now ∷ []) self.new) }
+        ensures gives { OnOk result ((ds : List Delivery) → HasUnits ds self.old → map item_entry (left self.new) ≡ map made_entry (given_by ds (delivery_shape delivery.now))) }
+        ensures same { OnErr result (self.new ≡ self.old) }
+    {
+        if delivery.subtype != subtype::CVF {
+            let item = item_of(alloc, delivery)?;
+            self.cut(item);
+            return Ok(());
+        }
+        match read_cvf(delivery.packet) {
+            Ok(view) => self.take_packet(alloc, delivery, &view)?,
+            Err(refusal) => self.cut(malformed(delivery, refusal)),
+        }
+        Ok(())
+    }
+
+    /// Takes a packet of H.264 that its reader accepted.
+    fn take_packet(
+        &mut self,
+        alloc: Global,
+        delivery: &DeliveryView<'_>,
+        view: &CvfView<'_>,
+    ) -> Result<(), NoMemory>
+        requires body { length view.now.body.now ≤ longest_body }
+        requires arrival { IsArrival delivery.now.arrival }
+        ensures takes { OnOk result (Takes (flaw_in (cvf_shape view.now)) (delivery_shape delivery.now) (cvf_shape view.now) self.old self.new) }
+        ensures same { OnErr result (self.new ≡ self.old) }
+    {
+        match flaw(view) {
+            Some(reason) => self.cut(lost_item(mark_of(delivery), reason)),
+            None => self.push(alloc, delivery, view)?,
+        }
+        Ok(())
+    }
+
+    /// Nothing follows: the fragments that wait are given up.
+    pub fn end(&mut self)
+        ensures gives { (ds : List Delivery) → HasUnits ds self.old → map item_entry (left self.new) ≡ map made_entry (left_at_end ds) }
+    {
+        self.lost = self.assembler.cut();
+        self.why = Lost::Broken;
+        self.taken = 0;
+        self.own = None;
+    }
+
+    /// The next item that the last delivery gave, or the end. Takes no memory.
+    pub fn next(&mut self) -> Option<Item>
+        ensures stands { (ds : List Delivery) → HasUnits ds self.old → HasUnits ds self.new }
+        ensures left { left self.old ≡ option_to_list result ++ left self.new }
+        ensures none { IfNone result (left self.new ≡ []) }
+        ensures item { IfSome result IsItem }
+    {
+        if self.taken < self.lost {
+            let mark = self.assembler.lost_mark(self.taken);
+            self.taken += 1;
+            return Some(lost_item(mark, reason_for(self.why)));
+        }
+        self.own.take()
+    }
+}
