@@ -15,11 +15,12 @@ use Rattle.avtp_words.specs.declared.option.Takes.TheVariants as takes
 use Rattle.avtp_words.specs.declared.option.Takes.TheVariants.{Number}
 use Rattle.avtp_words.specs.Number.{IsNumber, IsSigned}
 use Rattle.avtp_words.specs.Limits.{NumberOption, SignedOption}
-use Rattle.avtp_words.specs.Operands.{IsId, AreOperands}
+use Rattle.avtp_words.specs.Given.{IsGiven, IsGivenId, IsGivenIdIf, IsGivenIf, IsGivenSigned, IsGivenFormat}
+use Rattle.avtp_words.specs.Operands.{AreOperands}
 use Rattle.avtp_words.specs.Reading.{are_sound, begins_with_dashes, value_after, IsTail, IsRest, IsRestTo, AreOptionsTo, EndsOptions, StopsOptions, IsRead, IsReadId, IsReadIdIf, IsReadIf, IsReadSigned, IsReadFormat}
-use Rattle.avtp_words.specs.Word.{texts, BeginsWithDash, IsName}
+use Rattle.avtp_words.specs.Word.{texts, BeginsWithDash, IsName, IsId}
 use Rattle.avtp_words.specs.Options.{Row, row_named, Setting, words_of, IsValue, IsTaken, stands_alone, format_name, IsSetting, value_in}
-use Rattle.avtp_words.specs.Grammar.{Form, IsOf, IsGiven, IsGivenId, IsGivenIdIf, IsGivenIf, IsGivenSigned, IsGivenFormat, Stops, StopsAt}
+use Rattle.avtp_words.specs.Grammar.{Form, IsOf, Stops, StopsAt}
 use Rattle.avtp_words.proofs.Numbers.{same_spelled}
 use Rattle.avtp_words.proofs.Settings.{name-dash, same-true, found-dashes, setting-value, same_first}
 use Rattle.avtp_words.proofs.Operands.{names, samples, sampled}

@@ -1,5 +1,5 @@
 -- The command lines of each command, and their offences.
-use Rattle.std.proofs.Common.{Contains, ◌↔◌, IsTrue, Bool, not, ◌≡◌, ◌≢◌, ℕ, ◌+◌, ◌<◌, ◌^◌, ◌⊎◌, inl, inr, true, false, List, [], ◌∷◌, ◌++◌, flat_map, length, take, drop, Option, Some, None, slice_get, get_or, IfSome, arith, sym, subst, ap, ◌∙◌, refl, append_assoc, length-append, codes, string_bytes, String, pos, All}
+use Rattle.std.proofs.Common.{Contains, ◌↔◌, ◌≤◌, IsTrue, Bool, ◌≡◌, ◌≢◌, ℕ, ◌+◌, ◌<◌, ◌^◌, ◌⊎◌, inl, inr, true, false, List, [], ◌∷◌, ◌++◌, flat_map, length, take, drop, Option, Some, None, slice_get, get_or, IfSome, arith, sym, subst, ap, ◌∙◌, refl, append_assoc, length-append, codes, string_bytes, String, pos, All}
 use Rattle.std.specs.Prelude.{Result, Ok, Err, IfOk, IfErr, IsOkAnd, IsErrAnd}
 use Rattle.std.specs.Str.{bytes_eq}
 use Rattle.std.specs.declared.alloc.Global.{Global}
@@ -13,17 +13,22 @@ use Rattle.avtp_words.specs.declared.option.Takes.{Takes}
 use Rattle.avtp_words.specs.declared.option.Takes.TheVariants as takes
 use Rattle.avtp_words.specs.declared.command.Command.{Command}
 use Rattle.avtp_words.specs.declared.talk.Kind.{Kind}
-use Rattle.avtp_words.specs.declared.talk.Kind.TheVariants.{Aaf, Am824}
+use Rattle.avtp_words.specs.declared.talk.Kind.TheVariants.{Aaf, Am824, H264}
 use Rattle.avtp_words.specs.declared.command.Offence.{Offence}
-use Rattle.avtp_words.specs.Operands.{IsId, AreOperands}
-use Rattle.avtp_words.specs.Reading.{IsRest, IsRestTo, StopsAfter, are_sound, value_after, IsRead, IsReadId, IsReadIdIf, IsReadIf, IsReadSigned, IsReadFormat, IsReadKind, AreHeard, AreRead}
-use Rattle.avtp_words.specs.Word.{texts, BeginsWithDash, IsName}
+use Rattle.avtp_words.specs.declared.crf.Crf.{Crf}
+use Rattle.avtp_words.specs.Given.{IsGiven, IsGivenId, IsGivenIdIf, IsGivenIf, IsGivenSigned}
+use Rattle.avtp_words.specs.Number.{IsNumber}
+use Rattle.avtp_words.specs.Operands.{AreOperands}
+use Rattle.avtp_words.specs.Reading.{ClockIsWithin, IsRest, IsRestTo, StopsAfter, are_sound, value_after, IsRead, IsReadClock, IsReadId, IsReadIdIf, IsReadIf, IsReadSigned, IsReadFormat, IsReadKind, AreHeard, AreRead}
+use Rattle.avtp_words.specs.Word.{texts, BeginsWithDash, IsName, IsId}
 use Rattle.avtp_words.specs.Limits as limits
-use Rattle.avtp_words.specs.Limits.{NumberOption, number, signed}
+use Rattle.avtp_words.specs.Limits.{NumberOption, default_rate, number, signed, with_default}
 use Rattle.avtp_words.specs.Options.{Row, row_named, Setting, words_of, IsValue, IsSetting, stands_alone, value_in}
-use Rattle.avtp_words.specs.Grammar.{request_of, Request, Listening, Talking, show, check, listen, talk, Form, form_named, show_form, check_form, listen_form, talk_form, IsOf, IsGiven, IsGivenId, IsGivenIdIf, IsGivenIf, IsGivenSigned, IsShow, IsCheck, IsListen, SaysKind, SaysTalk, LacksAaf, KeepsRules, IsCommandLine, IsLine, Begins, Stops, StopsAt, IsOffence, of_a_word, of_a_rule}
+use Rattle.avtp_words.specs.Grammar.{request_of, Request, Listening, Talking, show, check, listen, talk, soak, Form, form_named, show_form, check_form, listen_form, talk_form, soak_form, IsOf, IsShow, IsCheck, IsListen, IsSoak, SaysClock, SaysKind, SaysTalk, KeepsRules, IsCommandLine, IsLine, Begins, Stops, StopsAt, IsOffence, of_a_word, of_a_rule}
 use Rattle.avtp_words.proofs.Settings.{same-true}
-use Rattle.avtp_words.proofs.CommandLines.{same_line, left_is, value_is, value-after, number_given, number_given_if, id_given, id_given_if, signed_given, format_given, same_number, same_number_if, same_id, same_id_given, same_id_given_if, same_signed, same_format_given, options_to, beyond}
+use Rattle.avtp_words.proofs.CommandLines.{same_line, left_is, value_is, value-after, number_given, number_given_if, id_given, id_given_if, signed_given, format_given, within, same_number, same_number_if, same_id, same_id_given, same_id_given_if, same_signed, same_format_given, options_to, beyond}
+use Rattle.avtp_words.proofs.Clocks.{clock_within, same_clock}
+use Rattle.avtp_words.proofs.Numbers.{spells_one}
 use Rattle.avtp_words.proofs.Operands.{names}
 use Rattle.avtp_words.proofs.Steps.{words_before, after_first}
 
@@ -66,6 +71,7 @@ abbrev line_of : (words : List (List ℕ)) (request : Request) → IsCommandLine
 line_of words (show limit file) s = record { form = show_form; known = refl; settings = s.settings; names = file ∷ []; line = s.line }
 line_of words (check limit files) s = record { form = check_form; known = refl; settings = s.settings; names = files; line = s.line }
 line_of words (listen asked) s = record { form = listen_form; known = refl; settings = s.settings; names = s.id ∷ asked.files; line = s.line }
+line_of words (soak packets) s = record { form = soak_form; known = refl; settings = s.settings; names = s.number ∷ []; line = s.line }
 line_of words (talk asked) (s, rules) = record { form = talk_form; known = refl; settings = s.settings; names = asked.input ∷ asked.output ∷ []; line = s.line }
 
 -- ---- no command
@@ -99,8 +105,8 @@ pub words_are : (words rest : List (String Global)) (command : String Global) (n
 words_are words rest command name e same = ap texts e ∙ ap (λ (first : List ℕ). first ∷ texts rest) same
 
 -- a word that is no command's has no form
-no_form : (word : List ℕ) → (word ≡ codes "show" → ⊥) → (word ≡ codes "check" → ⊥) → (word ≡ codes "listen" → ⊥) → (word ≡ codes "talk" → ⊥) → form_named word ≡ None
-no_form word not_show not_check not_listen not_talk = elim (cases_Bool (bytes_eq (codes "show") word)) [
+no_form : (word : List ℕ) → (word ≡ codes "show" → ⊥) → (word ≡ codes "check" → ⊥) → (word ≡ codes "listen" → ⊥) → (word ≡ codes "talk" → ⊥) → (word ≡ codes "soak" → ⊥) → form_named word ≡ None
+no_form word not_show not_check not_listen not_talk not_soak = elim (cases_Bool (bytes_eq (codes "show") word)) [
   | inl same ↦ absurd (not_show (sym (same-true (codes "show") word same)))
   | inr shown ↦ elim (cases_Bool (bytes_eq (codes "check") word)) [
     | inl same ↦ absurd (not_check (sym (same-true (codes "check") word same)))
@@ -108,14 +114,17 @@ no_form word not_show not_check not_listen not_talk = elim (cases_Bool (bytes_eq
       | inl same ↦ absurd (not_listen (sym (same-true (codes "listen") word same)))
       | inr heard ↦ elim (cases_Bool (bytes_eq (codes "talk") word)) [
         | inl same ↦ absurd (not_talk (sym (same-true (codes "talk") word same)))
-        | inr said ↦ rw (shown, checked, heard, said) refl
+        | inr said ↦ elim (cases_Bool (bytes_eq (codes "soak") word)) [
+          | inl same ↦ absurd (not_soak (sym (same-true (codes "soak") word same)))
+          | inr soaked ↦ rw (shown, checked, heard, said, soaked) refl
+        ]
       ]
     ]
   ]
 ]
 
-pub other_first : (words rest : List (String Global)) (command : String Global) → words ≡ command ∷ rest → (string_bytes command ≡ codes "show" → ⊥) → (string_bytes command ≡ codes "check" → ⊥) → (string_bytes command ≡ codes "listen" → ⊥) → (string_bytes command ≡ codes "talk" → ⊥) → IsNoCommand (texts words)
-other_first words rest command e not_show not_check not_listen not_talk = rw e (no_form (string_bytes command) not_show not_check not_listen not_talk)
+pub other_first : (words rest : List (String Global)) (command : String Global) → words ≡ command ∷ rest → (string_bytes command ≡ codes "show" → ⊥) → (string_bytes command ≡ codes "check" → ⊥) → (string_bytes command ≡ codes "listen" → ⊥) → (string_bytes command ≡ codes "talk" → ⊥) → (string_bytes command ≡ codes "soak" → ⊥) → IsNoCommand (texts words)
+other_first words rest command e not_show not_check not_listen not_talk not_soak = rw e (no_form (string_bytes command) not_show not_check not_listen not_talk not_soak)
 
 pub none_first : (words : List (String Global)) → length words ≡ 0 → IsNoCommand (texts words)
 none_first [] e = tt
@@ -246,6 +255,7 @@ listen_is words place id asked r here is next read = record {
       (subst (λ v. IsReadIdIf v asked.clock) (after_options listen_form words place r clock.name clock refl refl refl) read.clock);
   shift = signed_given limits.crf_shift.most limits.crf_shift.default asked.shift (value_in shift.name gs) (omega arith) (value_is listen_form.rows shift.name shift gs refl r.rest.options.each)
       (subst (λ v. IsReadSigned limits.crf_shift.default v asked.shift) (after_options listen_form words place r shift.name shift refl refl refl) read.shift);
+  ring = number_is listen_form words place r limits.ring 64 (2 ^ 32) asked.ring refl refl refl (omega arith) read.ring;
 } where
   gs : List Setting
   gs = r.rest.settings
@@ -304,14 +314,15 @@ after_talk name tells words dash told =
       other : codes "talk" ≡ name → ⊥
       other e = no_dash (subst BeginsWithDash (sym e) dash)
 
-pub talk_says : (words : List (String Global)) (place : ℕ) (tells : Bool) (asked : Talking) → IsRestTo talk_form.rows talk_form.operands (texts words) place
+pub talk_says : (words : List (String Global)) (place : ℕ) (tells_sparse tells_last : Bool) (asked : Talking) → IsRestTo talk_form.rows talk_form.operands (texts words) place
     → slice_get (texts words) place ≡ Some asked.input → slice_get (texts words) (place + 1) ≡ Some asked.output
-    → IsTrue tells ↔ Contains (texts words) (codes "--sparse") → AreRead (texts (take place words)) tells asked → SaysTalk (codes "talk" ∷ texts words) asked
-talk_says words place tells asked r here next sparse read = record {
+    → IsTrue tells_sparse ↔ Contains (texts words) (codes "--sparse") → IsTrue tells_last ↔ Contains (texts words) (codes "--last-stamp")
+    → IsReadKind (texts (take place words)) tells_sparse tells_last asked.kind → AreRead (texts (take place words)) asked → SaysTalk (codes "talk" ∷ texts words) asked
+talk_says words place tells_sparse tells_last asked r here next sparse last read_kind read = record {
   settings = gs;
   line = line_at (texts words) place gs (two_names (texts words) place r) asked.input asked.output here next;
-  kind = kind_says asked.kind read.kind;
-  rate = number_of limits.rate 48000 (2 ^ 32) asked.rate refl refl (omega arith) read.rate;
+  kind = kind_says asked.kind read_kind;
+  rate = number_of (with_default limits.rate (default_rate asked.kind)) (default_rate asked.kind) (2 ^ 32) asked.rate refl refl (omega arith) read.rate;
   channels = number_of limits.channels 2 (2 ^ 16) asked.channels refl refl (omega arith) read.channels;
   count = number_of limits.count 6 (2 ^ 32) asked.count refl refl (omega arith) read.count;
   id = id_given limits.talk_id asked.id (value_in (codes "--id") gs) (given (row (codes "--id") takes.Id) refl)
@@ -323,6 +334,7 @@ talk_says words place tells asked r here next sparse read = record {
   restart = number_given_if limits.restart.low limits.restart.high (2 ^ 32) asked.restart (value_in limits.restart.name gs) (omega arith) (given (number limits.restart) refl)
       (subst (λ v. IsReadIf (2 ^ 32) v asked.restart) (after (number limits.restart) refl refl) read.restart);
   jump = number_of limits.jump 1000000 (2 ^ 32) asked.jump refl refl (omega arith) read.jump;
+  crf = clock_says asked.rate asked.crf read.crf;
 } where
   gs : List Setting
   gs = r.rest.settings
@@ -339,54 +351,99 @@ talk_says words place tells asked r here next sparse read = record {
   number_of : (option : NumberOption) (default bound n : ℕ) → row_named talk_form.rows option.name ≡ Some (number option) → option.default ≡ Some default → option.high < bound → IsRead bound default (value_after option.name (texts (take place words))) n → IsGiven option gs n
   number_of option default bound n is_row has small reads = number_is talk_form words place r option default bound n refl is_row has small reads
 
-  aaf_of : (v : Option (List ℕ)) → IfSome v (IsValue takes.Kind) → IfSome v (λ word. word ≢ codes "am824") → IfSome v (λ word. word ≡ codes "aaf")
-  aaf_of None is other = tt
-  aaf_of (Some word) (inl aaf) other = aaf
-  aaf_of (Some word) (inr am824) other = absurd (other am824)
+  aaf_of : (v : Option (List ℕ)) → IfSome v (IsValue takes.Kind) → IfSome v (λ word. word ≢ codes "am824") → IfSome v (λ word. word ≢ codes "h264") → IfSome v (λ word. word ≡ codes "aaf")
+  aaf_of None is no_blocks no_video = tt
+  aaf_of (Some word) (inl aaf) no_blocks no_video = aaf
+  aaf_of (Some word) (inr (inl am824)) no_blocks no_video = absurd (no_blocks am824)
+  aaf_of (Some word) (inr (inr h264)) no_blocks no_video = absurd (no_video h264)
 
-  kind_says : (kind : Kind) → IsReadKind (texts (take place words)) tells kind → SaysKind (codes "talk" ∷ texts words) gs kind
+  kind_word : value_after (codes "--kind") (texts (take place words)) ≡ value_in (codes "--kind") gs
+  kind_word = after (row (codes "--kind") takes.Kind) refl refl
+
+  kind_says : (kind : Kind) → IsReadKind (texts (take place words)) tells_sparse tells_last kind → SaysKind (codes "talk" ∷ texts words) gs kind
   kind_says (Aaf format is_sparse) read = record {
-    kind = aaf_of (value_in (codes "--kind") gs) (given (row (codes "--kind") takes.Kind) refl) (subst (λ v. IfSome v (λ word. word ≢ codes "am824")) (after (row (codes "--kind") takes.Kind) refl refl) read.other);
+    kind = aaf_of (value_in (codes "--kind") gs) (given (row (codes "--kind") takes.Kind) refl) (subst (λ v. IfSome v (λ word. word ≢ codes "am824")) kind_word read.no_blocks)
+        (subst (λ v. IfSome v (λ word. word ≢ codes "h264")) kind_word read.no_video);
     format_given = format_given Int16 format (value_in (codes "--format") gs) (given (row (codes "--format") takes.Format) refl)
         (subst (λ v. IsReadFormat Int16 v format) (after (row (codes "--format") takes.Format) refl refl) read.format_read);
     sparse_given = after_talk (codes "--sparse") is_sparse (texts words) refl (subst (λ is. IsTrue is ↔ Contains (texts words) (codes "--sparse")) (sym read.sparse_read) sparse);
   }
-  kind_says Am824 read = sym (after (row (codes "--kind") takes.Kind) refl refl) ∙ read
+  kind_says Am824 read = sym kind_word ∙ read
+  kind_says (H264 last_stamp) read = record {
+    kind = sym kind_word ∙ read.kind;
+    last_stamp_given = after_talk (codes "--last-stamp") last_stamp (texts words) refl (subst (λ is. IsTrue is ↔ Contains (texts words) (codes "--last-stamp")) (sym read.last_stamp_read) last);
+  }
 
--- words with no jump need no restart
-pub without_jump : (words : List (List ℕ)) (jumps : Bool) → jumps ≡ false → IsTrue jumps ↔ Contains words (codes "--jump") → IsTrue (not jumps) ↔ (Contains (codes "talk" ∷ words) (codes "--jump") → Contains (codes "talk" ∷ words) (codes "--restart"))
-without_jump words true e told = absurd (cc)
-without_jump words false e told =
-    let all = after_talk (codes "--jump") false words refl told in
-    ((λ yes given. absurd (let no : false ≡ true = all.1 given in cc)), λ needs. refl)
+  clock : Row
+  clock = record { name = codes "--crf"; takes = takes.Id }
 
--- words with a jump need one
-pub with_jump : (words : List (List ℕ)) (jumps restarts : Bool) → jumps ≡ true → IsTrue jumps ↔ Contains words (codes "--jump") → IsTrue restarts ↔ Contains words (codes "--restart") → IsTrue restarts ↔ (Contains (codes "talk" ∷ words) (codes "--jump") → Contains (codes "talk" ∷ words) (codes "--restart"))
-with_jump words false restarts e told restart = absurd (cc)
-with_jump words true restarts e told restart =
-    let jump = after_talk (codes "--jump") true words refl told in
-    let all = after_talk (codes "--restart") restarts words refl restart in
-    ((λ yes given. all.0 yes), λ needs. all.1 (needs (jump.0 refl)))
+  clock_id : (id : Option ℕ) → IsReadIdIf (value_after clock.name (texts (take place words))) id → IsGivenIdIf clock.name gs id
+  clock_id id read = id_given_if id (value_in clock.name gs) (given clock refl) (subst (λ v. IsReadIdIf v id) (after clock refl refl) read)
 
--- a test for an option that is not to be there
-lacks : (name : List ℕ) (tells : Bool) (words : List (List ℕ)) → BeginsWithDash name → IsTrue tells ↔ Contains words name → IsTrue (not tells) ↔ (Contains (codes "talk" ∷ words) name → ⊥)
-lacks name tells words dash told = go tells (after_talk name tells words dash told) where
-  go : (tells : Bool) → IsTrue tells ↔ Contains (codes "talk" ∷ words) name → IsTrue (not tells) ↔ (Contains (codes "talk" ∷ words) name → ⊥)
-  go true all = ((λ no. absurd (let e : false ≡ true = no in cc)), λ none. absurd (none (all.0 refl)))
-  go false all = ((λ yes within. absurd (let e : false ≡ true = all.1 within in cc)), λ none. refl)
+  clock_says : (rate : ℕ) (crf : Option Crf) → IsReadClock (texts (take place words)) rate crf → SaysClock gs rate crf
+  clock_says rate None read = clock_id None read
+  clock_says rate (Some crf) read = record {
+    id = clock_id (Some crf.id) read.id;
+    base = number_of (with_default limits.crf_rate rate) rate (2 ^ 32) crf.rate refl refl (omega arith) read.base;
+    pull = number_of limits.crf_pull 0 (2 ^ 8) crf.pull refl refl (omega arith) read.pull;
+    interval = number_of limits.crf_interval 96 (2 ^ 16) crf.interval refl refl (omega arith) read.interval;
+    points = number_of limits.crf_points 1 (2 ^ 8) crf.points refl refl (omega arith) read.points;
+  }
 
--- words without a format
-pub without_format : (words : List (List ℕ)) (formats sparse : Bool) → formats ≡ false → IsTrue formats ↔ Contains words (codes "--format") → IsTrue sparse ↔ Contains words (codes "--sparse") → IsTrue (not sparse) ↔ LacksAaf (codes "talk" ∷ words)
-without_format words formats sparse e format_told sparse_told =
-    let format = lacks (codes "--format") formats words refl format_told in
-    let other = lacks (codes "--sparse") sparse words refl sparse_told in
-    ((λ yes. record { format = format.0 (ap not e); sparse = other.0 yes }), λ lacks. other.1 lacks.sparse)
+some_rate : (kind : Kind) → 1 ≤ default_rate kind
+some_rate (Aaf format sparse) = omega arith
+some_rate Am824 = omega arith
+some_rate (H264 last_stamp) = omega arith
 
--- words with one
-pub with_format : (words : List (List ℕ)) (formats : Bool) → formats ≡ true → IsTrue formats ↔ Contains words (codes "--format") → IsTrue (not formats) ↔ LacksAaf (codes "talk" ∷ words)
-with_format words formats e told =
-    let format = lacks (codes "--format") formats words refl told in
-    ((λ no. absurd (let t : false ≡ true = sym (ap not e) ∙ no in cc)), λ lacks. format.1 lacks.format)
+few_rate : (kind : Kind) → default_rate kind ≤ 192000
+few_rate (Aaf format sparse) = omega arith
+few_rate Am824 = omega arith
+few_rate (H264 last_stamp) = omega arith
+
+-- the clock that words of `talk` ask for is within its limits
+pub talk_clock : (words : List (List ℕ)) (asked : Talking) → SaysTalk words asked → ClockIsWithin asked.crf asked.rate
+talk_clock words asked says =
+    let rate = within (with_default limits.rate (default_rate asked.kind)) (default_rate asked.kind) asked.rate says.settings refl (some_rate asked.kind) (few_rate asked.kind) says.rate in
+    clock_within says.settings asked.rate asked.crf rate.0 rate.1 says.crf
+
+-- ---- soak
+
+-- The operand of `soak`.
+pub record OneNumber (words : List (List ℕ)) (place : ℕ) (settings : List Setting) : Type 0 where
+  pub number : List ℕ
+  pub line : IsOf soak_form (codes "soak" ∷ words) settings (number ∷ [])
+  pub at_number : slice_get words place ≡ Some number
+
+one_number : (words : List (List ℕ)) (place : ℕ) (r : IsRestTo soak_form.rows soak_form.operands words place) → OneNumber words place r.rest.settings
+one_number words place r = go r.rest.names r.rest.spelled r.rest.named (first_operand soak_form words place r) where
+  go : (ns : List (List ℕ)) → words ≡ flat_map words_of r.rest.settings ++ ns → AreOperands soak_form.operands ns → slice_get words place ≡ slice_get ns 0 → OneNumber words place r.rest.settings
+  go [] spelled named at_first = absurd named
+  go (number ∷ []) spelled named at_first = record {
+    number = number;
+    line = record { spelled = ap (λ ws. codes "soak" ∷ ws) spelled; options = r.rest.options; operands = named };
+    at_number = at_first;
+  }
+  go (number ∷ more ∷ ns) spelled named at_first = absurd named.1
+
+pub soak_stands : (words : List (List ℕ)) (place : ℕ) → IsRestTo soak_form.rows soak_form.operands words place → slice_get words place ≡ None → ⊥
+soak_stands words place r none = let t = one_number words place r in let both = sym t.at_number ∙ none in cc
+
+pub soak_number : (words : List (List ℕ)) (place : ℕ) (word : List ℕ) → IsRestTo soak_form.rows soak_form.operands words place → slice_get words place ≡ Some word → ((n : ℕ) → IsNumber 0 limits.packets word n → ⊥) → ⊥
+soak_number words place word r here none =
+    let t = one_number words place r in
+    let both = sym t.at_number ∙ here in
+    let same : t.number ≡ word = cc in
+    let n = t.line.operands.0 in
+    none n.0 (subst (λ w. IsNumber 0 limits.packets w n.0) same n.1)
+
+pub soak_is : (words : List (List ℕ)) (place : ℕ) (word : List ℕ) (packets : ℕ) → IsRestTo soak_form.rows soak_form.operands words place → slice_get words place ≡ Some word → IsNumber 0 limits.packets word packets → IsSoak (codes "soak" ∷ words) packets
+soak_is words place word packets r here is =
+    let t = one_number words place r in
+    let both = sym t.at_number ∙ here in
+    let same : t.number ≡ word = cc in
+    record { settings = r.rest.settings; number = word; line = subst (λ (n : List ℕ). IsOf soak_form (codes "soak" ∷ words) r.rest.settings (n ∷ [])) same t.line; packets_given = is }
+
+-- ---- one request
 
 -- words are of one command
 same_command : (form other : Form) (words : List (List ℕ)) (gs hs : List Setting) (ns ms : List (List ℕ)) → IsOf form words gs ns → IsOf other words hs ms → form.command ≡ other.command
@@ -417,6 +474,18 @@ show_talk e = let first = ap (λ (word : List ℕ). get_or word 0 0) e in absurd
 listen_talk : codes "listen" ≡ codes "talk" → ⊥
 listen_talk e = let first = ap (λ (word : List ℕ). get_or word 0 0) e in absurd (omega (arith, first))
 
+show_soak : codes "show" ≡ codes "soak" → ⊥
+show_soak e = let second = ap (λ (word : List ℕ). get_or word 1 0) e in absurd (omega (arith, second))
+
+check_soak : codes "check" ≡ codes "soak" → ⊥
+check_soak e = let first = ap (λ (word : List ℕ). get_or word 0 0) e in absurd (omega (arith, first))
+
+listen_soak : codes "listen" ≡ codes "soak" → ⊥
+listen_soak e = let first = ap (λ (word : List ℕ). get_or word 0 0) e in absurd (omega (arith, first))
+
+talk_soak : codes "talk" ≡ codes "soak" → ⊥
+talk_soak e = let first = ap (λ (word : List ℕ). get_or word 0 0) e in absurd (omega (arith, first))
+
 aaf_am824 : codes "am824" ≡ codes "aaf" → ⊥
 aaf_am824 e = let second = ap (λ (word : List ℕ). get_or word 1 0) e in absurd (omega (arith, second))
 
@@ -425,6 +494,12 @@ same_flag true true P p q = refl
 same_flag true false P p q = sym (q.1 (p.0 refl))
 same_flag false true P p q = p.1 (q.0 refl)
 same_flag false false P p q = refl
+
+aaf_h264 : codes "h264" ≡ codes "aaf" → ⊥
+aaf_h264 e = let first = ap (λ (word : List ℕ). get_or word 0 0) e in absurd (omega (arith, first))
+
+am824_h264 : codes "h264" ≡ codes "am824" → ⊥
+am824_h264 e = let first = ap (λ (word : List ℕ). get_or word 0 0) e in absurd (omega (arith, first))
 
 -- words tell one kind
 same_kind : (words : List (List ℕ)) (gs : List Setting) (a b : Kind) → SaysKind words gs a → SaysKind words gs b → a ≡ b
@@ -435,19 +510,25 @@ same_kind words gs (Aaf format sparse) (Aaf other another) p q =
 same_kind words gs (Aaf format sparse) Am824 p q = absurd (aaf_am824 (subst (λ v. IfSome v (λ word. word ≡ codes "aaf")) q p.kind))
 same_kind words gs Am824 (Aaf format sparse) p q = absurd (aaf_am824 (subst (λ v. IfSome v (λ word. word ≡ codes "aaf")) p q.kind))
 same_kind words gs Am824 Am824 p q = refl
+same_kind words gs (Aaf format sparse) (H264 last_stamp) p q = absurd (aaf_h264 (subst (λ v. IfSome v (λ word. word ≡ codes "aaf")) q.kind p.kind))
+same_kind words gs (H264 last_stamp) (Aaf format sparse) p q = absurd (aaf_h264 (subst (λ v. IfSome v (λ word. word ≡ codes "aaf")) p.kind q.kind))
+same_kind words gs Am824 (H264 last_stamp) p q = absurd (am824_h264 (let both : Some (codes "h264") ≡ Some (codes "am824") = sym q.kind ∙ p in cc))
+same_kind words gs (H264 last_stamp) Am824 p q = absurd (am824_h264 (let both : Some (codes "h264") ≡ Some (codes "am824") = sym p.kind ∙ q in cc))
+same_kind words gs (H264 last_stamp) (H264 other) p q = ap H264 (same_flag last_stamp other (Contains words (codes "--last-stamp")) p.last_stamp_given q.last_stamp_given)
 
 -- words of `talk` say one thing
 same_talk : (words : List (List ℕ)) (a b : Talking) → SaysTalk words a → SaysTalk words b → a ≡ b
 same_talk words a b p q = same inputs outputs
-    (same_kind words q.settings a.kind b.kind (subst (λ gs. SaysKind words gs a.kind) both.0 p.kind) q.kind)
-    (number limits.rate a.rate b.rate (omega arith) p.rate q.rate)
+    kinds
+    rates
     (number limits.channels a.channels b.channels (omega arith) p.channels q.channels)
     (number limits.count a.count b.count (omega arith) p.count q.count)
     (same_id_given (codes "--id") limits.talk_id a.id b.id q.settings (subst (λ gs. IsGivenId (codes "--id") limits.talk_id gs a.id) both.0 p.id) q.id)
     (p.start_is ∙ ap pos (number limits.start p.start_at q.start_at (omega arith) p.start q.start) ∙ sym q.start_is)
     (number limits.talk_lead a.lead b.lead (omega arith) p.lead q.lead)
     (same_number_if limits.restart a.restart b.restart q.settings (omega arith) (subst (λ gs. IsGivenIf limits.restart gs a.restart) both.0 p.restart) q.restart)
-    (number limits.jump a.jump b.jump (omega arith) p.jump q.jump) where
+    (number limits.jump a.jump b.jump (omega arith) p.jump q.jump)
+    (same_clock q.settings b.rate a.crf b.crf (subst (λ rate. SaysClock q.settings rate a.crf) rates (subst (λ gs. SaysClock gs a.rate a.crf) both.0 p.crf)) q.crf) where
       both : (p.settings ≡ q.settings) × ((a.input ∷ a.output ∷ []) ≡ (b.input ∷ b.output ∷ []))
       both = same_line talk_form words p.settings q.settings (a.input ∷ a.output ∷ []) (b.input ∷ b.output ∷ []) p.line q.line
 
@@ -460,18 +541,25 @@ same_talk words a b p q = same inputs outputs
       number : (option : NumberOption) (m n : ℕ) → option.high < 2 ^ 64 → IsGiven option p.settings m → IsGiven option q.settings n → m ≡ n
       number option m n small first second = same_number option m n q.settings small (subst (λ gs. IsGiven option gs m) both.0 first) second
 
-      same : a.input ≡ b.input → a.output ≡ b.output → a.kind ≡ b.kind → a.rate ≡ b.rate → a.channels ≡ b.channels → a.count ≡ b.count → a.id ≡ b.id → a.start ≡ b.start → a.lead ≡ b.lead → a.restart ≡ b.restart → a.jump ≡ b.jump → a ≡ b
-      same inputs outputs kinds rates channels counts ids starts leads restarts jumps = rw (inputs, outputs, kinds, rates, channels, counts, ids, starts, leads, restarts, jumps) refl
+      kinds : a.kind ≡ b.kind
+      kinds = same_kind words q.settings a.kind b.kind (subst (λ gs. SaysKind words gs a.kind) both.0 p.kind) q.kind
+
+      rates : a.rate ≡ b.rate
+      rates = number (with_default limits.rate (default_rate b.kind)) a.rate b.rate (omega arith) (subst (λ kind. IsGiven (with_default limits.rate (default_rate kind)) p.settings a.rate) kinds p.rate) q.rate
+
+      same : a.input ≡ b.input → a.output ≡ b.output → a.kind ≡ b.kind → a.rate ≡ b.rate → a.channels ≡ b.channels → a.count ≡ b.count → a.id ≡ b.id → a.start ≡ b.start → a.lead ≡ b.lead → a.restart ≡ b.restart → a.jump ≡ b.jump → a.crf ≡ b.crf → a ≡ b
+      same inputs outputs kinds rates channels counts ids starts leads restarts jumps clocks = rw (inputs, outputs, kinds, rates, channels, counts, ids, starts, leads, restarts, jumps, clocks) refl
 
 -- every word can stand, and a rule over several of them fails
-pub offence_of_rule : (words : List (List ℕ)) (asked : Talking) → SaysTalk words asked → (KeepsRules words asked → ⊥) → IsOffence words 1
+pub offence_of_rule : (words : List (List ℕ)) (asked : Talking) → SaysTalk words asked → (KeepsRules (drop 1 words) asked → ⊥) → IsOffence words 1
 offence_of_rule words asked says breaks = of_a_rule refl
     (record { form = talk_form; known = refl; settings = says.settings; names = asked.input ∷ asked.output ∷ []; line = says.line }) none where
       none : (request : Request) → IsCommandLine words request → ⊥
       none (show limit file) s = show_talk (same_command show_form talk_form words s.settings says.settings (file ∷ []) (asked.input ∷ asked.output ∷ []) s.line says.line)
       none (check limit files) s = check_talk (same_command check_form talk_form words s.settings says.settings files (asked.input ∷ asked.output ∷ []) s.line says.line)
       none (listen other) s = listen_talk (same_command listen_form talk_form words s.settings says.settings (s.id ∷ other.files) (asked.input ∷ asked.output ∷ []) s.line says.line)
-      none (talk other) (s, rules) = breaks (subst (KeepsRules words) (same_talk words other asked s says) rules)
+      none (soak packets) s = talk_soak (sym (same_command soak_form talk_form words s.settings says.settings (s.number ∷ []) (asked.input ∷ asked.output ∷ []) s.line says.line))
+      none (talk other) (s, rules) = breaks (subst (KeepsRules (drop 1 words)) (same_talk words other asked s says) rules)
 
 -- ---- each line asks for one thing, and words have one offence
 
@@ -486,6 +574,7 @@ same_listen words a b p q = same
     (number limits.listen_lead a.lead b.lead (omega arith) p.lead q.lead)
     (same_id_given_if (codes "--clock") a.clock b.clock q.settings (subst (λ gs. IsGivenIdIf (codes "--clock") gs a.clock) both.0 p.clock) q.clock)
     (same_signed limits.crf_shift a.shift b.shift q.settings (omega arith) (subst (λ gs. IsGivenSigned limits.crf_shift gs a.shift) both.0 p.shift) q.shift)
+    (number limits.ring a.ring b.ring (omega arith) p.ring q.ring)
     files where
       both : (p.settings ≡ q.settings) × ((p.id ∷ a.files) ≡ (q.id ∷ b.files))
       both = same_line listen_form words p.settings q.settings (p.id ∷ a.files) (q.id ∷ b.files) p.line q.line
@@ -499,8 +588,8 @@ same_listen words a b p q = same
       number : (option : NumberOption) (m n : ℕ) → option.high < 2 ^ 64 → IsGiven option p.settings m → IsGiven option q.settings n → m ≡ n
       number option m n small first second = same_number option m n q.settings small (subst (λ gs. IsGiven option gs m) both.0 first) second
 
-      same : a.stream ≡ b.stream → a.limit ≡ b.limit → a.buffer ≡ b.buffer → a.room ≡ b.room → a.look ≡ b.look → a.lead ≡ b.lead → a.clock ≡ b.clock → a.shift ≡ b.shift → a.files ≡ b.files → a ≡ b
-      same streams limits buffers rooms looks leads clocks shifts files = rw (streams, limits, buffers, rooms, looks, leads, clocks, shifts, files) refl
+      same : a.stream ≡ b.stream → a.limit ≡ b.limit → a.buffer ≡ b.buffer → a.room ≡ b.room → a.look ≡ b.look → a.lead ≡ b.lead → a.clock ≡ b.clock → a.shift ≡ b.shift → a.ring ≡ b.ring → a.files ≡ b.files → a ≡ b
+      same streams limits buffers rooms looks leads clocks shifts rings files = rw (streams, limits, buffers, rooms, looks, leads, clocks, shifts, rings, files) refl
 
 -- words ask for one thing
 pub same_request : (words : List (List ℕ)) (r s : Request) → IsCommandLine words r → IsCommandLine words s → r ≡ s
@@ -513,6 +602,18 @@ same_request words (check limit files) (check other names) p q =
     let both = same_line check_form words p.settings q.settings files names p.line q.line in
     let limits : limit ≡ other = same_number limits.limit limit other q.settings (omega arith) (subst (λ gs. IsGiven limits.limit gs limit) both.0 p.limit_given) q.limit_given in
     ap (λ n. check n files) limits ∙ ap (check other) both.1
+same_request words (soak packets) (soak other) p q =
+    let both = same_line soak_form words p.settings q.settings (p.number ∷ []) (q.number ∷ []) p.line q.line in
+    let numbers : p.number ≡ q.number = cc (both.1) in
+    ap soak (spells_one p.number packets other (omega (arith, p.packets_given.most)) (omega (arith, q.packets_given.most)) (numbers ∙ q.packets_given.spelled) p.packets_given.spelled)
+same_request words (show limit file) (soak other) p q = absurd (show_soak (one_command words (show limit file) (soak other) p q))
+same_request words (check limit files) (soak other) p q = absurd (check_soak (one_command words (check limit files) (soak other) p q))
+same_request words (listen asked) (soak other) p q = absurd (listen_soak (one_command words (listen asked) (soak other) p q))
+same_request words (talk asked) (soak other) p q = absurd (talk_soak (one_command words (talk asked) (soak other) p q))
+same_request words (soak packets) (show other name) p q = absurd (show_soak (one_command words (show other name) (soak packets) q p))
+same_request words (soak packets) (check other names) p q = absurd (check_soak (one_command words (check other names) (soak packets) q p))
+same_request words (soak packets) (listen other) p q = absurd (listen_soak (one_command words (listen other) (soak packets) q p))
+same_request words (soak packets) (talk other) p q = absurd (talk_soak (one_command words (talk other) (soak packets) q p))
 same_request words (show limit file) (check other names) p q = absurd (show_check (one_command words (show limit file) (check other names) p q))
 same_request words (show limit file) (listen other) p q = absurd (show_listen (one_command words (show limit file) (listen other) p q))
 same_request words (show limit file) (talk other) p q = absurd (show_talk (one_command words (show limit file) (talk other) p q))

@@ -3,5 +3,8 @@ pub mod Settings
 pub mod Steps
 pub mod Operands
 pub mod CommandLines
+pub mod Rules
+pub mod Clocks
+pub mod Lacking
 pub mod Commands
 pub mod Rates

@@ -1,5 +1,5 @@
 -- A word that spells a number: what `parse` reads of it, and what `{n}` writes.
-use Rattle.std.proofs.Common.{◌≡◌, ◌≢◌, ℕ, zero, suc, ◌^◌, ◌<◌, ◌≤◌, List, [], ◌∷◌, drop, length, get_or, Result, Ok, Err, Option, Some, None, IfSome, IfNone, unwrap_or, arith, sym, subst, ap, ◌∙◌, decimal, nat_le, nat_eq, true, IsTrue, ◌↔◌, refl, ℤ, pos, negsuc, unsigned_abs, w64, FitsSigned}
+use Rattle.std.proofs.Common.{◌≡◌, ◌≢◌, ℕ, zero, suc, ◌^◌, ◌<◌, ◌≤◌, List, [], ◌∷◌, drop, length, get_or, Result, Ok, Err, Option, Some, None, IfSome, IfNone, unwrap_or, arith, sym, subst, ap, ◌∙◌, decimal, nat_le, true, IsTrue, ◌↔◌, refl, ℤ, pos, negsuc, unsigned_abs, w64, FitsSigned}
 use Rattle.std.specs.Result.{result_ok}
 use Rattle.std.specs.Str.Parse.{ParsesUnsigned, AllDigits, digits_value}
 use Rattle.std.proofs.lemmas.Str.Parse.{IsNumeralModel, numerals_by_value, tells_digits, parse_plain, digit_at}
@@ -11,7 +11,7 @@ use Rattle.std.proofs.lemmas.Bool.Decides.{nat_tests}
 use Rattle.std.specs.Result.{OkIff, result_unwrap_or}
 use Rattle.avtp_words.specs.Number.{BeginsAsNumber, IsNumber, IsSigned}
 use Rattle.avtp_words.specs.Reading.{IsRead, IsReadIf, IsReadSigned, begins_with_dashes}
-use Rattle.avtp_words.specs.Word.{BeginsWithDash}
+use Rattle.avtp_words.specs.Word.{BeginsWithDash, IsName}
 
 own : IsNumeralModel (AllDigits 10) (digits_value 10)
 own = numerals_by_value _ tells_digits
@@ -52,6 +52,11 @@ begins-decimal bytes n small e = rw e (record {
 pub no_dash : (word : List ℕ) (n : ℕ) → n < 2 ^ 64 → word ≡ decimal n → BeginsWithDash word → ⊥
 no_dash [] n small e dash = dash
 no_dash (first ∷ more) n small e dash = let begins : BeginsAsNumber (first ∷ more) = begins-decimal (first ∷ more) n small e in omega (arith, begins.low, dash)
+
+-- a number is a name too
+pub number_name : (word : List ℕ) (n : ℕ) → n < 2 ^ 64 → word ≡ decimal n → IsName word
+number_name [] n small e = absurd (let begins : BeginsAsNumber [] = begins-decimal [] n small e in omega (arith, begins.some))
+number_name (first ∷ more) n small e = λ dash. no_dash (first ∷ more) n small e dash
 
 -- what begins with two dashes begins with one, and then with another
 pub one_dash : (word : List ℕ) → begins_with_dashes word ≡ true → BeginsWithDash word

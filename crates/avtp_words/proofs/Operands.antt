@@ -1,5 +1,5 @@
 -- Operands, and where words stop being them.
-use Rattle.std.proofs.Common.{◌≡◌, ℕ, ◌+◌, ◌/◌, ◌%◌, ◌==◌, Bool, true, false, if◌then◌else◌, List, [], ◌∷◌, ◌++◌, take, drop, get_or, length, Option, Some, None, IfSome, IfNone, Result, Ok, Err, arith, sym, subst, ap, ◌∙◌, refl, codes, All, String}
+use Rattle.std.proofs.Common.{◌≡◌, ℕ, ◌+◌, ◌/◌, ◌%◌, ◌==◌, Bool, true, false, if◌then◌else◌, List, [], ◌∷◌, ◌++◌, take, drop, get_or, length, Option, Some, None, IfSome, IfNone, Result, Ok, Err, arith, sym, subst, ap, ◌∙◌, refl, codes, All, String, decimal}
 use Rattle.std.specs.Int.{w64, to_be_bytes}
 use Rattle.std.proofs.lemmas.List.Elements.{All-nil, All-cons, All-head, All-append, All-contains, Contains-append_left, Contains-append_right}
 use Rattle.std.proofs.lemmas.List.{take-append-drop, length-take}
@@ -11,11 +11,12 @@ use Rattle.std.specs.Prelude.{MatchResult}
 use Rattle.hex.specs.declared.error.FromHexError.{FromHexError}
 use Rattle.hex.specs.declared.error.FromHexError.TheVariants.{OddLength, InvalidStringLength}
 use Rattle.avtp_words.specs.declared.operand.Operand.{Operand}
-use Rattle.avtp_words.specs.declared.operand.Operand.TheVariants.{Id, Name, Names}
+use Rattle.avtp_words.specs.declared.operand.Operand.TheVariants.{Id, Name, Names, Packets}
 use Rattle.avtp_words.specs.Grammar.{Stops, StopsAt}
-use Rattle.avtp_words.specs.Operands.{IsId, IsOperand, AreOperands, takes_all}
+use Rattle.avtp_words.specs.Operands.{IsOperand, AreOperands, takes_all}
 use Rattle.std.specs.declared.alloc.Global.{Global}
-use Rattle.avtp_words.specs.Word.{texts, IsName}
+use Rattle.avtp_words.proofs.Numbers.{number_name}
+use Rattle.avtp_words.specs.Word.{texts, IsName, IsId}
 
 -- an id is a name too
 pub id_name : (word : List ℕ) (id : ℕ) → IsId word id → IsName word
@@ -35,6 +36,7 @@ operand_name : (operand : Operand) (word : List ℕ) → IsOperand operand word 
 operand_name Id word (id, is) = id_name word id is
 operand_name Name word is = is
 operand_name Names word is = is
+operand_name Packets word (n, is) = number_name word n (omega (arith, is.most)) is.spelled
 
 pub names : (operands : List Operand) (ns : List (List ℕ)) → AreOperands operands ns → All IsName ns
 names [] [] are = All-nil IsName
@@ -43,24 +45,28 @@ names (o ∷ operands) [] are = absurd are
 names (Id ∷ operands) (n ∷ ns) are = All-cons IsName n ns (operand_name Id n are.0) (names operands ns are.1)
 names (Name ∷ operands) (n ∷ ns) are = All-cons IsName n ns are.0 (names operands ns are.1)
 names (Names ∷ operands) (n ∷ ns) are = are
+names (Packets ∷ operands) (n ∷ ns) are = All-cons IsName n ns (operand_name Packets n are.0) (names operands ns are.1)
 
 -- some operand of each kind
 sample : Operand → List ℕ
 sample Id = codes "0000000000000000"
 sample Name = codes "a"
 sample Names = codes "a"
+sample Packets = decimal 0
 
 sample_is : (operand : Operand) → IsOperand operand (sample operand)
 unfolding sample decode_pairs
 sample_is Id = (0, record { fits = omega arith; digits = refl })
 sample_is Name = λ e. absurd (omega (arith, e))
 sample_is Names = λ e. absurd (omega (arith, e))
+sample_is Packets = (0, record { least = omega arith; most = omega arith; spelled = refl })
 
 pub samples : List Operand → List (List ℕ)
 samples [] = []
 samples (Id ∷ operands) = sample Id ∷ samples operands
 samples (Name ∷ operands) = sample Name ∷ samples operands
 samples (Names ∷ operands) = sample Names ∷ []
+samples (Packets ∷ operands) = sample Packets ∷ samples operands
 
 pub sampled : (operands : List Operand) → AreOperands operands (samples operands)
 unfolding samples
@@ -68,6 +74,7 @@ sampled [] = tt
 sampled (Id ∷ operands) = (sample_is Id, sampled operands)
 sampled (Name ∷ operands) = (sample_is Name, sampled operands)
 sampled (Names ∷ operands) = All-cons IsName (sample Names) [] (sample_is Names) (All-nil IsName)
+sampled (Packets ∷ operands) = (sample_is Packets, sampled operands)
 
 -- one is missing
 missing : (operand : Operand) (operands : List Operand) → StopsAt (AreOperands (operand ∷ operands)) [] 0
@@ -82,6 +89,7 @@ first_is : (operand : Operand) (operands : List Operand) (word : List ℕ) (word
 first_is Id operands word words are = are.0
 first_is Name operands word words are = are.0
 first_is Names operands word words are = All-head IsName word words are
+first_is Packets operands word words are = are.0
 
 -- the first is another
 pub other : (operand : Operand) (operands : List Operand) (word : List ℕ) (words : List (List ℕ)) → (IsOperand operand word → ⊥) → StopsAt (AreOperands (operand ∷ operands)) (word ∷ words) 0
@@ -91,11 +99,13 @@ pub with_first : (operand : Operand) (operands : List Operand) (word : List ℕ)
 with_first Id operands word words single is are = (is, are)
 with_first Name operands word words single is are = (is, are)
 with_first Names operands word words single is are = absurd cc
+with_first Packets operands word words single is are = (is, are)
 
 rest_are : (operand : Operand) (operands : List Operand) (word : List ℕ) (words : List (List ℕ)) → takes_all operand ≡ false → AreOperands (operand ∷ operands) (word ∷ words) → AreOperands operands words
 rest_are Id operands word words single are = are.1
 rest_are Name operands word words single are = are.1
 rest_are Names operands word words single are = absurd cc
+rest_are Packets operands word words single are = are.1
 
 -- a later one is wrong
 pub later : (operand : Operand) (operands : List Operand) (word : List ℕ) (words : List (List ℕ)) (place : ℕ) → takes_all operand ≡ false → IsOperand operand word → StopsAt (AreOperands operands) words place → StopsAt (AreOperands (operand ∷ operands)) (word ∷ words) (place + 1)
@@ -135,12 +145,14 @@ unnamed operands words place u = record {
 pub all_unnamed : (operand : Operand) (operands : List Operand) (words : List (List ℕ)) (wrong : Option ℕ) → takes_all operand ≡ true → IfSome wrong (IsFirstUnnamed words) → IfSome wrong (StopsAt (AreOperands (operand ∷ operands)) words)
 all_unnamed Id operands words wrong all is = absurd cc
 all_unnamed Name operands words wrong all is = absurd cc
+all_unnamed Packets operands words wrong all is = absurd cc
 all_unnamed Names operands words None all is = tt
 all_unnamed Names operands words (Some place) all is = unnamed operands words place is
 
 pub all_named : (operand : Operand) (operands : List Operand) (word : List ℕ) (words : List (List ℕ)) (wrong : Option ℕ) → takes_all operand ≡ true → IfNone wrong (All IsName (word ∷ words)) → IfNone wrong (AreOperands (operand ∷ operands) (word ∷ words))
 all_named Id operands word words wrong all is = absurd cc
 all_named Name operands word words wrong all is = absurd cc
+all_named Packets operands word words wrong all is = absurd cc
 all_named Names operands word words None all is = is
 all_named Names operands word words (Some place) all is = tt
 

@@ -1,5 +1,5 @@
 -- Options as they are given, and how the words fall into them in one way only.
-use Rattle.std.proofs.Common.{◌≡◌, ◌≢◌, ℕ, zero, suc, ◌<◌, ◌^◌, inl, inr, ◌&&◌, Bool, true, false, List, [], ◌∷◌, ◌++◌, flat_map, length, get_or, Option, Some, None, IsSomeAnd, arith, add-zero, sym, subst, ap, ◌∙◌, refl, append_assoc, length-append, All, AllPairs, Contains, codes, IsTrue, option_to_list}
+use Rattle.std.proofs.Common.{◌≡◌, ◌≢◌, ℕ, zero, suc, ◌<◌, ◌^◌, inl, inr, ◌&&◌, Bool, true, false, List, [], ◌∷◌, ◌++◌, flat_map, length, get_or, Option, Some, None, IsSomeAnd, arith, add-zero, sym, subst, ap, ◌∙◌, refl, append_assoc, length-append, All, AllPairs, Contains, IsTrue, option_to_list}
 use Rattle.std.specs.Str.{bytes_eq}
 use Rattle.std.proofs.lemmas.Bool.{cases_Bool, ltb-true}
 use Rattle.std.proofs.lemmas.List.{get_or_append_left, get_or-append-add}
@@ -44,7 +44,8 @@ value-dashes (Signed most) word sound (z, is) dashes =
     no_dashes word z (omega (arith, is.size)) is.spelled dashes
 value-dashes Id word sound (id, is) dashes = name-dash word (id_name word id is) (one_dash word dashes)
 value-dashes Kind word sound (inl is) dashes = plain (subst (λ w. begins_with_dashes w ≡ true) is dashes)
-value-dashes Kind word sound (inr is) dashes = plain (subst (λ w. begins_with_dashes w ≡ true) is dashes)
+value-dashes Kind word sound (inr (inr is)) dashes = plain (subst (λ w. begins_with_dashes w ≡ true) is dashes)
+value-dashes Kind word sound (inr (inl is)) dashes = plain (subst (λ w. begins_with_dashes w ≡ true) is dashes)
 value-dashes Format word sound (format, is) dashes = named format (subst (λ w. begins_with_dashes w ≡ true) is dashes) where
   named : (format : AafFormat) → begins_with_dashes (format_name format) ≡ true → ⊥
   named Int16 found = plain found

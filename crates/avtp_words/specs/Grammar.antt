@@ -1,26 +1,29 @@
 -- The grammar of the command line, and where words leave it.
-use Rattle.std.specs.Prelude.{◌≡◌, ◌≢◌, ℕ, ℤ, pos, ◌+◌, ◌*◌, ◌≤◌, ◌↔◌, Bool, IsTrue, Contains, List, [], ◌∷◌, ◌++◌, flat_map, length, codes, Option, None, Some, MatchOption, IsSomeAnd, IfSome}
+use Rattle.std.specs.Prelude.{◌≡◌, ◌≢◌, ℕ, ℤ, pos, ◌+◌, ◌*◌, ◌/◌, ◌%◌, ◌≤◌, ◌↔◌, ⊤, All, Bool, IsTrue, Contains, List, [], ◌∷◌, ◌++◌, drop, flat_map, length, codes, Option, None, Some, IsSomeAnd, IfSome}
 use Rattle.std.specs.List.{find}
 use Rattle.std.specs.Str.{bytes_eq}
 use Rattle.aaf_format.specs.declared.aaf.AafFormat.{AafFormat}
 use Rattle.aaf_format.specs.declared.aaf.AafFormat.TheVariants.{Int16}
 use Rattle.aaf_format.specs.Aaf.{rate_of, frame_size}
+use Rattle.clock_track.specs.Pairs.{pull_down, pull_up}
 use Rattle.iec61883_format.specs.Iec.{rate_of_fdf, syt_interval, block_size}
 use Rattle.avtp_words.specs.declared.command.Command.{Command}
-use Rattle.avtp_words.specs.declared.command.Command.TheVariants.{Show, Check, Listen, Talk}
+use Rattle.avtp_words.specs.declared.command.Command.TheVariants.{Show, Check, Listen, Talk, Soak}
+use Rattle.avtp_words.specs.declared.crf.Crf.{Crf}
 use Rattle.avtp_words.specs.declared.listen.Listen.{Listen as AskedListen}
 use Rattle.avtp_words.specs.declared.talk.Talk.{Talk as AskedTalk}
 use Rattle.avtp_words.specs.declared.talk.Kind.{Kind}
-use Rattle.avtp_words.specs.declared.talk.Kind.TheVariants.{Aaf, Am824}
+use Rattle.avtp_words.specs.declared.talk.Kind.TheVariants.{Aaf, Am824, H264}
 use Rattle.avtp_words.specs.declared.operand.Operand.{Operand}
 use Rattle.avtp_words.specs.declared.operand.Operand.TheVariants as operand
 use Rattle.avtp_words.specs.declared.option.Takes.TheVariants as takes
-use Rattle.avtp_words.specs.Number.{IsNumber, IsSigned}
+use Rattle.avtp_words.specs.Given.{IsGiven, IsGivenFormat, IsGivenId, IsGivenIdIf, IsGivenIf, IsGivenSigned}
 use Rattle.avtp_words.specs.Limits as limits
-use Rattle.avtp_words.specs.Limits.{NumberOption, SignedOption, number, signed}
-use Rattle.avtp_words.specs.Operands.{AreOperands, IsId}
-use Rattle.avtp_words.specs.Word.{texts}
-use Rattle.avtp_words.specs.Options.{Row, Setting, words_of, AreSettings, value_in, format_name}
+use Rattle.avtp_words.specs.Limits.{default_rate, number, signed, with_default}
+use Rattle.avtp_words.specs.Number.{IsNumber}
+use Rattle.avtp_words.specs.Operands.{AreOperands}
+use Rattle.avtp_words.specs.Word.{texts, IsId}
+use Rattle.avtp_words.specs.Options.{Row, Setting, words_of, AreSettings, value_in}
 
 -- ---- what a command line asks for, without where its names lie in memory
 
@@ -34,6 +37,7 @@ pub record Listening : Type 0 where
   pub lead : ℕ
   pub clock : Option ℕ
   pub shift : ℤ
+  pub ring : ℕ
   pub files : List (List ℕ)
 
 -- the samples to make a capture of, and how they are sent
@@ -47,6 +51,7 @@ pub record Talking : Type 0 where
   pub lead : ℕ
   pub restart : Option ℕ
   pub jump : ℕ
+  pub crf : Option Crf
   pub input : List ℕ
   pub output : List ℕ
 
@@ -55,6 +60,7 @@ pub data Request : Type 0 where
   check : (limit : ℕ) → (files : List (List ℕ)) → Request
   listen : Listening → Request
   talk : Talking → Request
+  soak : (packets : ℕ) → Request
 
 abbrev pub listening_of : AskedListen → Listening
 listening_of asked = record {
@@ -66,6 +72,7 @@ listening_of asked = record {
   lead = asked.lead;
   clock = asked.clock;
   shift = asked.shift;
+  ring = asked.ring;
   files = texts asked.files.now;
 }
 
@@ -80,6 +87,7 @@ talking_of asked = record {
   lead = asked.lead;
   restart = asked.restart;
   jump = asked.jump;
+  crf = asked.crf;
   input = asked.input.now;
   output = asked.output.now;
 }
@@ -89,6 +97,7 @@ request_of (Show limit file) = show limit file.now
 request_of (Check limit files) = check limit (texts files.now)
 request_of (Listen asked) = listen (listening_of asked)
 request_of (Talk asked) = talk (talking_of asked)
+request_of (Soak packets) = soak packets
 
 -- the files that are read, in order
 abbrev pub files_of : Request → List (List ℕ)
@@ -96,6 +105,7 @@ files_of (show limit file) = file ∷ []
 files_of (check limit files) = files
 files_of (listen asked) = asked.files
 files_of (talk asked) = asked.input ∷ []
+files_of (soak packets) = []
 
 -- the file that is written
 abbrev pub output_of : Request → Option (List ℕ)
@@ -103,6 +113,7 @@ output_of (show limit file) = None
 output_of (check limit files) = None
 output_of (listen asked) = None
 output_of (talk asked) = Some asked.output
+output_of (soak packets) = None
 
 -- ---- the commands
 
@@ -139,7 +150,8 @@ listen_form = record {
       number limits.look ∷
       number limits.listen_lead ∷
       record { name = codes "--clock"; takes = takes.Id } ∷
-      signed limits.crf_shift ∷ [];
+      signed limits.crf_shift ∷
+      number limits.ring ∷ [];
   operands = operand.Id ∷ operand.Names ∷ [];
 }
 
@@ -158,12 +170,26 @@ talk_form = record {
       number limits.talk_lead ∷
       record { name = codes "--sparse"; takes = takes.Nothing } ∷
       number limits.restart ∷
-      number limits.jump ∷ [];
+      number limits.jump ∷
+      record { name = codes "--crf"; takes = takes.Id } ∷
+      number limits.crf_interval ∷
+      number limits.crf_points ∷
+      number limits.crf_rate ∷
+      number limits.crf_pull ∷
+      record { name = codes "--last-stamp"; takes = takes.Nothing } ∷ [];
   operands = operand.Name ∷ operand.Name ∷ [];
 }
 
+-- soak N
+abbrev pub soak_form : Form
+soak_form = record {
+  command = codes "soak";
+  rows = [];
+  operands = operand.Packets ∷ [];
+}
+
 abbrev pub forms : List Form
-forms = show_form ∷ check_form ∷ listen_form ∷ talk_form ∷ []
+forms = show_form ∷ check_form ∷ listen_form ∷ talk_form ∷ soak_form ∷ []
 
 -- the form of the command of this word
 abbrev pub form_named : List ℕ → Option Form
@@ -175,31 +201,7 @@ pub record IsOf (form : Form) (words : List (List ℕ)) (settings : List Setting
   pub options : AreSettings form.rows settings
   pub operands : AreOperands form.operands names
 
--- ---- what the options say
-
--- the number that an option gives, within its range, or else its default
-abbrev pub IsGiven : NumberOption → List Setting → ℕ → Type 0
-IsGiven option settings n = MatchOption (value_in option.name settings) (IsSomeAnd option.default (λ default. n ≡ default)) (λ word. IsNumber option.low option.high word n)
-
--- the same of an option without a default
-abbrev pub IsGivenIf : NumberOption → List Setting → Option ℕ → Type 0
-IsGivenIf option settings given = MatchOption (value_in option.name settings) (given ≡ option.default) (λ word. (n : ℕ) × (given ≡ Some n) × IsNumber option.low option.high word n)
-
--- the same of a stream id, by the name of the option and its default
-abbrev pub IsGivenId : List ℕ → ℕ → List Setting → ℕ → Type 0
-IsGivenId name default settings id = MatchOption (value_in name settings) (id ≡ default) (λ word. IsId word id)
-
--- the same of a stream id without a default
-abbrev pub IsGivenIdIf : List ℕ → List Setting → Option ℕ → Type 0
-IsGivenIdIf name settings given = MatchOption (value_in name settings) (given ≡ None) (λ word. (id : ℕ) × (given ≡ Some id) × IsId word id)
-
--- the same of a number that may be below 0
-abbrev pub IsGivenSigned : SignedOption → List Setting → ℤ → Type 0
-IsGivenSigned option settings z = MatchOption (value_in option.name settings) (z ≡ option.default) (λ word. IsSigned option.most word z)
-
--- the same of a format
-abbrev pub IsGivenFormat : List ℕ → AafFormat → List Setting → AafFormat → Type 0
-IsGivenFormat name default settings format = MatchOption (value_in name settings) (format ≡ default) (λ word. word ≡ format_name format)
+-- ---- what the words say
 
 -- what `show` is asked for
 pub record IsShow (words : List (List ℕ)) (limit : ℕ) (file : List ℕ) : Type 0 where
@@ -226,6 +228,14 @@ pub record IsListen (words : List (List ℕ)) (asked : Listening) : Type 0 where
   pub lead : IsGiven limits.listen_lead settings asked.lead
   pub clock : IsGivenIdIf (codes "--clock") settings asked.clock
   pub shift : IsGivenSigned limits.crf_shift settings asked.shift
+  pub ring : IsGiven limits.ring settings asked.ring
+
+-- what `soak` is asked for
+pub record IsSoak (words : List (List ℕ)) (packets : ℕ) : Type 0 where
+  pub settings : List Setting
+  pub number : List ℕ
+  pub line : IsOf soak_form words settings (number ∷ [])
+  pub packets_given : IsNumber 0 limits.packets number packets
 
 -- An AAF stream: of this format of samples, and sparse or not.
 pub record SaysAaf (words : List (List ℕ)) (settings : List Setting) (format : AafFormat) (sparse : Bool) : Type 0 where
@@ -233,17 +243,37 @@ pub record SaysAaf (words : List (List ℕ)) (settings : List Setting) (format :
   pub format_given : IsGivenFormat (codes "--format") Int16 settings format
   pub sparse_given : IsTrue sparse ↔ Contains words (codes "--sparse")
 
+-- An H.264 stream: its NAL units stamped in each packet, or in their last fragment alone.
+pub record SaysVideo (words : List (List ℕ)) (settings : List Setting) (last_stamp : Bool) : Type 0 where
+  pub kind : value_in (codes "--kind") settings ≡ Some (codes "h264")
+  pub last_stamp_given : IsTrue last_stamp ↔ Contains words (codes "--last-stamp")
+
 -- Words ask for a stream of this kind, which is AAF where no kind is given.
 abbrev pub SaysKind : List (List ℕ) → List Setting → Kind → Type 0
 SaysKind words settings (Aaf format sparse) = SaysAaf words settings format sparse
 SaysKind words settings Am824 = value_in (codes "--kind") settings ≡ Some (codes "am824")
+SaysKind words settings (H264 last_stamp) = SaysVideo words settings last_stamp
+
+-- Words ask for this media clock beside a stream of so many sample frames a second. Its base frequency is the stream's rate
+-- where no other is given.
+pub record SaysCrf (settings : List Setting) (rate : ℕ) (crf : Crf) : Type 0 where
+  pub id : IsGivenIdIf (codes "--crf") settings (Some crf.id)
+  pub base : IsGiven (with_default limits.crf_rate rate) settings crf.rate
+  pub pull : IsGiven limits.crf_pull settings crf.pull
+  pub interval : IsGiven limits.crf_interval settings crf.interval
+  pub points : IsGiven limits.crf_points settings crf.points
+
+-- Words ask for this media clock, or for none.
+abbrev pub SaysClock : List Setting → ℕ → Option Crf → Type 0
+SaysClock settings rate None = IsGivenIdIf (codes "--crf") settings None
+SaysClock settings rate (Some crf) = SaysCrf settings rate crf
 
 -- what `talk` is asked for, by the words one by one
 pub record SaysTalk (words : List (List ℕ)) (asked : Talking) : Type 0 where
   pub settings : List Setting
   pub line : IsOf talk_form words settings (asked.input ∷ asked.output ∷ [])
   pub kind : SaysKind words settings asked.kind
-  pub rate : IsGiven limits.rate settings asked.rate
+  pub rate : IsGiven (with_default limits.rate (default_rate asked.kind)) settings asked.rate
   pub channels : IsGiven limits.channels settings asked.channels
   pub count : IsGiven limits.count settings asked.count
   pub id : IsGivenId (codes "--id") limits.talk_id settings asked.id
@@ -253,6 +283,7 @@ pub record SaysTalk (words : List (List ℕ)) (asked : Talking) : Type 0 where
   pub lead : IsGiven limits.talk_lead settings asked.lead
   pub restart : IsGivenIf limits.restart settings asked.restart
   pub jump : IsGiven limits.jump settings asked.jump
+  pub crf : SaysClock settings asked.rate asked.crf
 
 -- An AAF stream has a nominal sample rate of AAF, and the samples of a packet fit into it.
 pub record FitsSamples (format : AafFormat) (asked : Talking) : Type 0 where
@@ -266,21 +297,76 @@ pub record FitsBlocks (asked : Talking) : Type 0 where
   pub quadlets : asked.channels ≤ limits.quadlets
   pub size : asked.count * block_size asked.channels ≤ limits.blocks
 
--- the words have no option that is AAF's alone
-pub record LacksAaf (words : List (List ℕ)) : Type 0 where
-  pub format : Contains words (codes "--format") → ⊥
-  pub sparse : Contains words (codes "--sparse") → ⊥
+abbrev pub FitsKind : Kind → Talking → Type 0
+FitsKind (Aaf format sparse) asked = FitsSamples format asked
+FitsKind Am824 asked = FitsBlocks asked
+FitsKind (H264 last_stamp) asked = asked.rate ≤ limits.access_units
 
-abbrev pub FitsKind : Kind → List (List ℕ) → Talking → Type 0
-FitsKind (Aaf format sparse) words asked = FitsSamples format asked
-FitsKind Am824 words asked = FitsBlocks asked × LacksAaf words
+-- The sample frames from one point of a clock to the next, at so many a second: they take as long as `interval` events at
+-- the clock's frequency, which is its base frequency times the factor of its pull (IEEE 1722-2016, 10).
+abbrev pub spacing_of : Crf → ℕ → ℕ
+spacing_of crf rate = crf.interval * rate * pull_down crf.pull / (crf.rate * pull_up crf.pull)
 
--- What several words of `talk` together must keep: the file written is another than the one read, the stream fits its
--- kind, and there is no jump without a restart.
+-- A run is so many packets of so many sample frames, and whole packets of the clock: 8, or a multiple of 8.
+abbrev pub HasWholeRuns : Crf → ℕ → ℕ → Option ℕ → Type 0
+HasWholeRuns crf rate count None = ⊤
+HasWholeRuns crf rate count (Some packets) = packets * count % (8 * spacing_of crf rate * crf.points) ≡ 0
+
+-- A clock fits a stream of so many sample frames a second, with so many in a packet, and maybe with restarts: its points
+-- stand at whole sample frames, and its runs are whole.
+pub record FitsStream (crf : Crf) (rate count : ℕ) (restart : Option ℕ) : Type 0 where
+  pub whole : crf.interval * rate * pull_down crf.pull % (crf.rate * pull_up crf.pull) ≡ 0
+  pub runs : HasWholeRuns crf rate count restart
+
+abbrev pub FitsClock : Option Crf → ℕ → ℕ → Option ℕ → Type 0
+FitsClock None rate count restart = ⊤
+FitsClock (Some crf) rate count restart = FitsStream crf rate count restart
+
+-- The words have none of these options.
+abbrev pub Lacks : List (List ℕ) → List (List ℕ) → Type 0
+Lacks words options = All (λ option. Contains words option → ⊥) options
+
+-- The words have the option that these need, where they have one of these.
+abbrev pub Need : List (List ℕ) → List ℕ → List (List ℕ) → Type 0
+Need words needed options = All (λ option. Contains words option → Contains words needed) options
+
+-- the options that a kind does not have
+abbrev pub lacking : Kind → List (List ℕ)
+lacking (Aaf format sparse) = codes "--last-stamp" ∷ []
+lacking Am824 = codes "--format" ∷ codes "--sparse" ∷ codes "--last-stamp" ∷ []
+lacking (H264 last_stamp) =
+    codes "--format" ∷
+    codes "--channels" ∷
+    codes "--count" ∷
+    codes "--sparse" ∷
+    codes "--restart" ∷
+    codes "--jump" ∷
+    codes "--crf" ∷
+    codes "--crf-interval" ∷
+    codes "--crf-points" ∷
+    codes "--crf-rate" ∷
+    codes "--crf-pull" ∷ []
+
+-- the options that say more of a restart, and of a media clock
+abbrev pub of_restart : List (List ℕ)
+of_restart = codes "--jump" ∷ []
+
+abbrev pub of_clock : List (List ℕ)
+of_clock = codes "--crf-interval" ∷ codes "--crf-points" ∷ codes "--crf-rate" ∷ codes "--crf-pull" ∷ []
+
+-- Of the options of `talk` the words have none that the kind lacks, and none without the one that it needs.
+pub record FitsOptions (kind : Kind) (words : List (List ℕ)) : Type 0 where
+  pub kind_has : Lacks words (lacking kind)
+  pub restart : Need words (codes "--restart") of_restart
+  pub clock : Need words (codes "--crf") of_clock
+
+-- What several of the words after `talk` together must keep: the file written is another than the one read, the stream
+-- fits its kind and its clock the stream, and the options fit one another.
 pub record KeepsRules (words : List (List ℕ)) (asked : Talking) : Type 0 where
   pub apart : asked.input ≢ asked.output
-  pub fits : FitsKind asked.kind words asked
-  pub restarts : Contains words (codes "--jump") → Contains words (codes "--restart")
+  pub fits : FitsKind asked.kind asked
+  pub clock : FitsClock asked.crf asked.rate asked.count asked.restart
+  pub options : FitsOptions asked.kind words
 
 -- ---- command lines
 
@@ -289,7 +375,8 @@ abbrev pub IsCommandLine : List (List ℕ) → Request → Type 0
 IsCommandLine words (show limit file) = IsShow words limit file
 IsCommandLine words (check limit files) = IsCheck words limit files
 IsCommandLine words (listen asked) = IsListen words asked
-IsCommandLine words (talk asked) = SaysTalk words asked × KeepsRules words asked
+IsCommandLine words (soak packets) = IsSoak words packets
+IsCommandLine words (talk asked) = SaysTalk words asked × KeepsRules (drop 1 words) asked
 
 -- the words fit the form of their command: each can stand in its place, and none is missing
 pub record IsLine (words : List (List ℕ)) : Type 0 where

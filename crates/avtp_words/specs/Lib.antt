@@ -3,5 +3,6 @@ pub mod Number
 pub mod Operands
 pub mod Options
 pub mod Limits
+pub mod Given
 pub mod Grammar
 pub mod Reading

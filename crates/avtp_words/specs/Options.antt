@@ -7,8 +7,7 @@ use Rattle.aaf_format.specs.declared.aaf.AafFormat.TheVariants.{Float32, Int32, 
 use Rattle.avtp_words.specs.declared.option.Takes.{Takes}
 use Rattle.avtp_words.specs.declared.option.Takes.TheVariants.{Number, Signed, Id, Kind, Format, Nothing}
 use Rattle.avtp_words.specs.Number.{IsNumber, IsSigned}
-use Rattle.avtp_words.specs.Operands.{IsId}
-use Rattle.avtp_words.specs.Word.{BeginsWithDash}
+use Rattle.avtp_words.specs.Word.{BeginsWithDash, IsId}
 
 -- an option that a command knows: its name, and what the word after the name may be
 pub record Row : Type 0 where
@@ -39,7 +38,7 @@ abbrev pub IsValue : Takes → List ℕ → Type 0
 IsValue (Number low high) word = (n : ℕ) × IsNumber low high word n
 IsValue (Signed most) word = (z : ℤ) × IsSigned most word z
 IsValue Id word = (id : ℕ) × IsId word id
-IsValue Kind word = (word ≡ codes "aaf") ⊎ (word ≡ codes "am824")
+IsValue Kind word = (word ≡ codes "aaf") ⊎ ((word ≡ codes "am824") ⊎ (word ≡ codes "h264"))
 IsValue Format word = (format : AafFormat) × (word ≡ format_name format)
 IsValue Nothing word = ⊥
 

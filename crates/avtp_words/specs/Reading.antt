@@ -1,22 +1,23 @@
 -- What the steps of the reading answer, for any command's table of options.
-use Rattle.std.specs.Prelude.{◌≡◌, ◌≢◌, ℕ, ℤ, ◌+◌, ◌*◌, ◌^◌, ◌<◌, List, [], ◌∷◌, ◌++◌, map, flat_map, length, decimal, Bool, true, false, nat_le, nat_lt, ◌&&◌, Option, None, Some, option_to_list, if◌then◌else◌, IfSome, IfNone, slice_get, get_or, take, All, IsSomeAnd, pos, codes, nat_eq, unsigned_abs}
+use Rattle.std.specs.Prelude.{◌≡◌, ◌≢◌, ℕ, ℤ, ◌+◌, ◌*◌, ◌^◌, ◌<◌, ◌≤◌, List, [], ◌∷◌, ◌++◌, map, flat_map, length, decimal, Bool, true, false, nat_le, nat_lt, ◌&&◌, Option, None, Some, option_to_list, if◌then◌else◌, IfSome, IfNone, ⊤, slice_get, get_or, take, All, IsSomeAnd, pos, codes, nat_eq, unsigned_abs}
 use Rattle.std.specs.List.{list_all}
 use Rattle.std.specs.Fmt.{signed_decimal}
 use Rattle.std.specs.Str.{bytes_eq}
 use Rattle.aaf_format.specs.declared.aaf.AafFormat.{AafFormat}
 use Rattle.avtp_words.specs.declared.option.Takes.{Takes}
 use Rattle.avtp_words.specs.declared.option.Takes.TheVariants.{Number, Signed, Id, Kind, Format, Nothing}
+use Rattle.avtp_words.specs.declared.crf.Crf.{Crf}
 use Rattle.avtp_words.specs.declared.option.OptionRow.{OptionRow}
 use Rattle.avtp_words.specs.declared.talk.Kind.{Kind as StreamKind}
-use Rattle.avtp_words.specs.declared.talk.Kind.TheVariants.{Aaf, Am824}
+use Rattle.avtp_words.specs.declared.talk.Kind.TheVariants.{Aaf, Am824, H264}
 use Rattle.iec61883_format.specs.Iec.{rate_of_fdf, syt_interval}
 use Rattle.std.specs.Option.{option_eq}
 use Rattle.avtp_words.specs.declared.operand.Operand.{Operand}
-use Rattle.avtp_words.specs.Operands.{AreOperands, IsId}
-use Rattle.avtp_words.specs.Word.{BeginsWithDash, IsName}
+use Rattle.avtp_words.specs.Operands.{AreOperands}
+use Rattle.avtp_words.specs.Word.{BeginsWithDash, IsName, IsId}
 use Rattle.avtp_words.specs.Options.{Row, Setting, words_of, AreSettings, IsTaken, IsValue, format_name, stands_alone}
 use Rattle.avtp_words.specs.Limits as limits
-use Rattle.avtp_words.specs.Limits.{NumberOption}
+use Rattle.avtp_words.specs.Limits.{NumberOption, default_rate, with_default}
 use Rattle.avtp_words.specs.Grammar.{Begins, Stops, StopsAt, Listening, Talking}
 use Rattle.aaf_format.specs.declared.aaf.AafFormat.TheVariants.{Int16}
 
@@ -26,6 +27,9 @@ row_of row = record { name = row.name.now; takes = row.takes }
 
 abbrev pub rows_of : List OptionRow → List Row
 rows_of rows = map row_of rows
+
+abbrev pub names_of : List OptionRow → List (List ℕ)
+names_of rows = map (λ row. row.name.now) rows
 
 -- some word is such a value, and each number has at most 64 bits
 abbrev pub is_sound : Takes → Bool
@@ -93,21 +97,51 @@ pub record AreHeard (options : List (List ℕ)) (asked : Listening) : Type 0 whe
   pub lead : IsReadOf (2 ^ 32) limits.listen_lead options asked.lead
   pub clock : IsReadIdIf (value_after (codes "--clock") options) asked.clock
   pub shift : IsReadSigned limits.crf_shift.default (value_after limits.crf_shift.name options) asked.shift
+  pub ring : IsReadOf (2 ^ 32) limits.ring options asked.ring
 
--- What is read of the kind of a stream, which is sparse if it is AAF and the word for that stands among all words.
+-- What is read of the kind of a stream. Whether the words for `--sparse` and `--last-stamp` stand among all words is told.
 pub record IsReadAaf (options : List (List ℕ)) (tells : Bool) (format : AafFormat) (sparse : Bool) : Type 0 where
-  pub other : IfSome (value_after (codes "--kind") options) (λ word. word ≢ codes "am824")
+  pub no_blocks : IfSome (value_after (codes "--kind") options) (λ word. word ≢ codes "am824")
+  pub no_video : IfSome (value_after (codes "--kind") options) (λ word. word ≢ codes "h264")
   pub format_read : IsReadFormat Int16 (value_after (codes "--format") options) format
   pub sparse_read : sparse ≡ tells
 
-abbrev pub IsReadKind : List (List ℕ) → Bool → StreamKind → Type 0
-IsReadKind options tells (Aaf format sparse) = IsReadAaf options tells format sparse
-IsReadKind options tells Am824 = value_after (codes "--kind") options ≡ Some (codes "am824")
+pub record IsReadVideo (options : List (List ℕ)) (tells last_stamp : Bool) : Type 0 where
+  pub kind : value_after (codes "--kind") options ≡ Some (codes "h264")
+  pub last_stamp_read : last_stamp ≡ tells
 
--- what is read of the options of `talk`
-pub record AreRead (options : List (List ℕ)) (tells : Bool) (asked : Talking) : Type 0 where
-  pub kind : IsReadKind options tells asked.kind
-  pub rate : IsReadOf (2 ^ 32) limits.rate options asked.rate
+abbrev pub IsReadKind : List (List ℕ) → Bool → Bool → StreamKind → Type 0
+IsReadKind options tells_sparse tells_last (Aaf format sparse) = IsReadAaf options tells_sparse format sparse
+IsReadKind options tells_sparse tells_last Am824 = value_after (codes "--kind") options ≡ Some (codes "am824")
+IsReadKind options tells_sparse tells_last (H264 last_stamp) = IsReadVideo options tells_last last_stamp
+
+-- What is read of a media clock beside a stream of this rate.
+pub record IsReadCrf (options : List (List ℕ)) (rate : ℕ) (crf : Crf) : Type 0 where
+  pub id : IsReadIdIf (value_after (codes "--crf") options) (Some crf.id)
+  pub base : IsReadOf (2 ^ 32) (with_default limits.crf_rate rate) options crf.rate
+  pub pull : IsReadOf (2 ^ 8) limits.crf_pull options crf.pull
+  pub interval : IsReadOf (2 ^ 16) limits.crf_interval options crf.interval
+  pub points : IsReadOf (2 ^ 8) limits.crf_points options crf.points
+
+abbrev pub IsReadClock : List (List ℕ) → ℕ → Option Crf → Type 0
+IsReadClock options rate None = IsReadIdIf (value_after (codes "--crf") options) None
+IsReadClock options rate (Some crf) = IsReadCrf options rate crf
+
+-- A media clock and the rate of its stream are within their limits.
+pub record IsWithin (crf : Crf) (rate : ℕ) : Type 0 where
+  pub some_base : 1 ≤ crf.rate
+  pub some_interval : 1 ≤ crf.interval
+  pub some_points : 1 ≤ crf.points
+  pub some_rate : 1 ≤ rate
+  pub most_rate : rate ≤ limits.rate.high
+
+abbrev pub ClockIsWithin : Option Crf → ℕ → Type 0
+ClockIsWithin None rate = ⊤
+ClockIsWithin (Some crf) rate = IsWithin crf rate
+
+-- what is read of the options of `talk` beside the kind
+pub record AreRead (options : List (List ℕ)) (asked : Talking) : Type 0 where
+  pub rate : IsReadOf (2 ^ 32) (with_default limits.rate (default_rate asked.kind)) options asked.rate
   pub channels : IsReadOf (2 ^ 16) limits.channels options asked.channels
   pub count : IsReadOf (2 ^ 32) limits.count options asked.count
   pub id : IsReadId limits.talk_id (value_after (codes "--id") options) asked.id
@@ -115,6 +149,7 @@ pub record AreRead (options : List (List ℕ)) (tells : Bool) (asked : Talking) 
   pub lead : IsReadOf (2 ^ 32) limits.talk_lead options asked.lead
   pub restart : IsReadIf (2 ^ 32) (value_after limits.restart.name options) asked.restart
   pub jump : IsReadOf (2 ^ 32) limits.jump options asked.jump
+  pub crf : IsReadClock options asked.rate asked.crf
 
 -- the words from a place on begin with a value that such an option takes, of so many words
 pub record IsTakenAt (takes : Takes) (words : List (List ℕ)) (place len : ℕ) : Type 0 where

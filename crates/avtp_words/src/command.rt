@@ -4,9 +4,9 @@ ghost use Rattle.std.specs.Prelude.{◌≡◌, ℕ, ◌+◌, ◌-◌, ◌^◌, �
 ghost use Rattle.avtp_words.specs.Grammar.{Request, request_of, IsCommandLine, IsOffence};
 ghost use Rattle.avtp_words.specs.Word.{texts};
 
-use crate::limits::{CHECK_OPTIONS, LIMIT, MAX_LIMIT, SHOW_OPTIONS};
+use crate::limits::{CHECK_OPTIONS, LIMIT, MAX_LIMIT, SHOW_OPTIONS, SOAK_OPTIONS};
 use crate::listen::{Listen, read_listen};
-use crate::operand::{Operand, operands_at};
+use crate::operand::{Operand, operands_at, packets_of};
 use crate::option::word_at;
 use crate::talk::{Talk, read_talk};
 use crate::value::number_after;
@@ -23,6 +23,9 @@ pub enum Command<'a> {
     Listen(Listen<'a>),
     /// Make a capture of raw samples.
     Talk(Talk<'a>),
+    /// Listen to a stream of so many packets, 0 to 1,000,000, of which some are late, lost or repeated, and print what came
+    /// of them.
+    Soak { packets: u32 },
 }
 
 /// The words are no command line.
@@ -49,6 +52,8 @@ const SHOW_OPERANDS: [Operand; 1] = [Operand::Name];
 
 const CHECK_OPERANDS: [Operand; 1] = [Operand::Names];
 
+const SOAK_OPERANDS: [Operand; 1] = [Operand::Packets];
+
 /// The command that the words ask for.
 pub fn parse(words: &[String]) -> Result<Command<'_>, Offence>
     // The words are a command line, and ask for that.
@@ -71,6 +76,7 @@ pub fn parse(words: &[String]) -> Result<Command<'_>, Offence>
         "check" => read_check(rest),
         "listen" => read_listen(rest),
         "talk" => read_talk(rest),
+        "soak" => read_soak(rest),
         _ => Err(Offence { position: 1 }),
     }
 }
@@ -97,4 +103,19 @@ fn read_check(words: &[String]) -> Result<Command<'_>, Offence>
     let limit = number_after(&words[..place], LIMIT.name, MAX_LIMIT);
     let files = &words[place..];
     Ok(Command::Check { limit, files })
+}
+
+/// The words after `soak`.
+fn read_soak(words: &[String]) -> Result<Command<'_>, Offence>
+    ensures ok { IfOk result (λ command. IsCommandLine (codes "soak" ∷ texts words.now) (request_of command)) }
+    ensures err { IfErr result (λ offence. IsOffence (codes "soak" ∷ texts words.now) offence.position) }
+{
+    let place = operands_at(&SOAK_OPTIONS, &SOAK_OPERANDS, words)?;
+    let Some(number) = word_at(words, place) else {
+        unreachable!()
+    };
+    let Some(packets) = packets_of(number) else {
+        unreachable!()
+    };
+    Ok(Command::Soak { packets })
 }

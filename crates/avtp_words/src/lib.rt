@@ -3,6 +3,7 @@
 #![tactic(auto)]
 
 mod command;
+mod crf;
 mod limits;
 mod listen;
 mod number;
@@ -12,6 +13,7 @@ mod talk;
 mod value;
 
 pub use command::{Command, Offence, parse};
+pub use crf::Crf;
 pub use listen::Listen;
 pub use talk::{Kind, Talk};
 

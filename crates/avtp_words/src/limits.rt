@@ -19,7 +19,7 @@ pub const LIMIT: OptionRow = OptionRow {
     },
 };
 
-pub const LISTEN_OPTIONS: [OptionRow; 7] = [
+pub const LISTEN_OPTIONS: [OptionRow; 8] = [
     LIMIT,
     BUFFER,
     ROOM,
@@ -27,6 +27,7 @@ pub const LISTEN_OPTIONS: [OptionRow; 7] = [
     LISTEN_LEAD,
     CLOCK,
     CRF_SHIFT,
+    RING,
 ];
 
 /// How many packets may wait for their presentation time.
@@ -76,6 +77,14 @@ pub const CRF_SHIFT: OptionRow = OptionRow {
 
 pub const CRF_SHIFT_DEFAULT: i64 = 0;
 
+/// How many items the queue holds between the thread that judges and the one that presents.
+pub const RING: OptionRow = OptionRow {
+    name: "--ring",
+    takes: Takes::Number { low: 1, high: 256 },
+};
+
+pub const RING_DEFAULT: u32 = 64;
+
 /// The max transit time in nanoseconds. A listener may expect a packet at its presentation time; a talker sends each
 /// before it.
 pub const LISTEN_LEAD: OptionRow = OptionRow {
@@ -96,9 +105,51 @@ pub const TALK_LEAD: OptionRow = OptionRow {
 
 pub const LEAD_DEFAULT: u32 = 2_000_000;
 
-pub const TALK_OPTIONS: [OptionRow; 11] = [
-    KIND, FORMAT, RATE, CHANNELS, COUNT, ID, START, TALK_LEAD, SPARSE, RESTART, JUMP,
+pub const TALK_OPTIONS: [OptionRow; 17] = [
+    KIND,
+    FORMAT,
+    RATE,
+    CHANNELS,
+    COUNT,
+    ID,
+    START,
+    TALK_LEAD,
+    SPARSE,
+    RESTART,
+    JUMP,
+    CRF,
+    CRF_INTERVAL,
+    CRF_POINTS,
+    CRF_RATE,
+    CRF_PULL,
+    LAST_STAMP,
 ];
+
+/// The options that AAF does not have.
+pub const AAF_LACKS: [OptionRow; 1] = [LAST_STAMP];
+
+/// The options that AM824 does not have.
+pub const AM824_LACKS: [OptionRow; 3] = [FORMAT, SPARSE, LAST_STAMP];
+
+/// The options that H.264 does not have.
+pub const H264_LACKS: [OptionRow; 11] = [
+    FORMAT,
+    CHANNELS,
+    COUNT,
+    SPARSE,
+    RESTART,
+    JUMP,
+    CRF,
+    CRF_INTERVAL,
+    CRF_POINTS,
+    CRF_RATE,
+    CRF_PULL,
+];
+
+/// The options that say more of a restart, and of a media clock.
+pub const RESTART_OPTIONS: [OptionRow; 1] = [JUMP];
+
+pub const CLOCK_OPTIONS: [OptionRow; 4] = [CRF_INTERVAL, CRF_POINTS, CRF_RATE, CRF_PULL];
 
 pub const KIND: OptionRow = OptionRow {
     name: "--kind",
@@ -112,7 +163,7 @@ pub const FORMAT: OptionRow = OptionRow {
 
 pub const FORMAT_DEFAULT: AafFormat = AafFormat::Int16;
 
-/// The sample rate in Hz.
+/// The sample rate in Hz, of H.264 the access units in a second.
 pub const RATE: OptionRow = OptionRow {
     name: "--rate",
     takes: Takes::Number {
@@ -121,7 +172,12 @@ pub const RATE: OptionRow = OptionRow {
     },
 };
 
-pub const RATE_DEFAULT: u32 = 48_000;
+pub const AUDIO_RATE_DEFAULT: u32 = 48_000;
+
+pub const VIDEO_RATE_DEFAULT: u32 = 30;
+
+/// The most access units of H.264 in a second.
+pub const MAX_VIDEO_RATE: u32 = 240;
 
 /// The channels of a sample frame.
 pub const CHANNELS: OptionRow = OptionRow {
@@ -169,6 +225,12 @@ pub const SPARSE: OptionRow = OptionRow {
     takes: Takes::Nothing,
 };
 
+/// Each NAL unit of H.264 is stamped in its last fragment alone.
+pub const LAST_STAMP: OptionRow = OptionRow {
+    name: "--last-stamp",
+    takes: Takes::Nothing,
+};
+
 /// The packets after which the media clock restarts, again and again. Where it is not given there is no restart.
 pub const RESTART: OptionRow = OptionRow {
     name: "--restart",
@@ -188,6 +250,54 @@ pub const JUMP: OptionRow = OptionRow {
 };
 
 pub const JUMP_DEFAULT: u32 = 1_000_000;
+
+/// The stream ID of the media clock that is sent beside the stream. Where it is not given no clock is sent.
+pub const CRF: OptionRow = OptionRow {
+    name: "--crf",
+    takes: Takes::Id,
+};
+
+/// The events of the clock from one timestamp to the next.
+pub const CRF_INTERVAL: OptionRow = OptionRow {
+    name: "--crf-interval",
+    takes: Takes::Number {
+        low: 1,
+        high: 65_535,
+    },
+};
+
+pub const CRF_INTERVAL_DEFAULT: u16 = 96;
+
+/// The timestamps of a packet of the clock.
+pub const CRF_POINTS: OptionRow = OptionRow {
+    name: "--crf-points",
+    takes: Takes::Number { low: 1, high: 180 },
+};
+
+pub const CRF_POINTS_DEFAULT: u8 = 1;
+
+/// The base frequency of the clock in Hz, by default the stream's rate.
+pub const CRF_RATE: OptionRow = OptionRow {
+    name: "--crf-rate",
+    takes: Takes::Number {
+        low: 1,
+        high: 200_000_000,
+    },
+};
+
+/// The code of the factor that the base frequency is multiplied by.
+pub const CRF_PULL: OptionRow = OptionRow {
+    name: "--crf-pull",
+    takes: Takes::Number { low: 0, high: 5 },
+};
+
+pub const CRF_PULL_DEFAULT: u8 = 0;
+
+/// `soak` has no options.
+pub const SOAK_OPTIONS: [OptionRow; 0] = [];
+
+/// The most packets of `soak`.
+pub const MAX_PACKETS: u64 = 1_000_000;
 
 /// The most bytes of samples in a packet of AAF: the 1,500 that an Ethernet frame carries, less the 24 of the header.
 pub const MAX_SAMPLES: u64 = 1_476;

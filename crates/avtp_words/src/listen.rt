@@ -8,7 +8,7 @@ ghost use Rattle.avtp_words.specs.Word.{texts};
 use crate::command::{Command, Offence};
 use crate::limits::{
     BUFFER, BUFFER_DEFAULT, CLOCK, CRF_SHIFT, CRF_SHIFT_DEFAULT, LEAD_DEFAULT, LIMIT, LISTEN_LEAD,
-    LISTEN_OPTIONS, LOOK, LOOK_DEFAULT, MAX_LIMIT, ROOM, ROOM_DEFAULT,
+    LISTEN_OPTIONS, LOOK, LOOK_DEFAULT, MAX_LIMIT, RING, RING_DEFAULT, ROOM, ROOM_DEFAULT,
 };
 use crate::operand::{Operand, id_of, operands_at};
 use crate::option::word_at;
@@ -34,6 +34,8 @@ pub struct Listen<'a> {
     pub clock: Option<u64>,
     /// What is added to each timestamp of the clock, in nanoseconds, from -1,000,000,000 to 1,000,000,000.
     pub shift: i64,
+    /// How many items the queue holds between the thread that judges and the one that presents, 1 to 256.
+    pub ring: u32,
     /// The names of the captures, in order, at least one.
     pub files: &'a [String],
 }
@@ -71,6 +73,7 @@ fn read_bounds<'a>(options: &[String], stream: u64, files: &'a [String]) -> List
         lead: small_number_after(options, LISTEN_LEAD.name, LEAD_DEFAULT),
         clock: id_if(options, CLOCK.name),
         shift: signed_number_after(options, CRF_SHIFT.name, CRF_SHIFT_DEFAULT),
+        ring: small_number_after(options, RING.name, RING_DEFAULT),
         files,
     }
 }

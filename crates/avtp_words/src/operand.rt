@@ -2,11 +2,15 @@
 
 ghost use Rattle.std.specs.Prelude.{◌≡◌, ◌+◌, ◌≤◌, ◌↔◌, ℕ, length, IsTrue, IfOk, IfErr, IfSome, IfNone, All};
 ghost use Rattle.avtp_words.specs.Grammar.{StopsAt};
-ghost use Rattle.avtp_words.specs.Operands.{AreOperands, IsId, IsOperand, takes_all as takes_all_of};
+ghost use Rattle.avtp_words.specs.Limits as limits;
+ghost use Rattle.avtp_words.specs.Number.{IsNumber};
+ghost use Rattle.avtp_words.specs.Operands.{AreOperands, IsOperand, takes_all as takes_all_of};
 ghost use Rattle.avtp_words.specs.Reading.{IsFirstUnnamed, IsRest, IsRestTo, StopsAfter, are_sound, rows_of};
-ghost use Rattle.avtp_words.specs.Word.{texts, IsName};
+ghost use Rattle.avtp_words.specs.Word.{texts, IsName, IsId};
 
 use crate::command::Offence;
+use crate::limits::MAX_PACKETS;
+use crate::number::number_of;
 use crate::option::{OptionRow, begins_with_dash, options_len};
 
 /// What an operand may be.
@@ -16,6 +20,8 @@ pub enum Operand {
     Id,
     /// The name of a file.
     Name,
+    /// The number of packets of `soak`.
+    Packets,
     /// The names of files, all the words that are left, at least one.
     Names,
 }
@@ -26,6 +32,7 @@ impl Operand {
     {
         match self {
             Operand::Id => id_of(word).is_some(),
+            Operand::Packets => packets_of(word).is_some(),
             Operand::Name | Operand::Names => is_name(word),
         }
     }
@@ -47,6 +54,19 @@ pub fn id_of(word: &str) -> Option<u64>
     match hex::decode_to_slice(word.as_bytes(), &mut bytes) {
         Ok(()) => Some(u64::from_be_bytes(bytes)),
         Err(_) => None,
+    }
+}
+
+/// The number of packets that a word spells, 0 to 1,000,000.
+pub fn packets_of(word: &str) -> Option<u32>
+    ensures spelled { IfSome result (IsNumber 0 limits.packets word.now) }
+    ensures none { IfNone result ((n : ℕ) → IsNumber 0 limits.packets word.now n → ⊥) }
+{
+    let n = number_of(word)?;
+    if n <= MAX_PACKETS {
+        Some(n as u32)
+    } else {
+        None
     }
 }
 

@@ -4,8 +4,9 @@ ghost use Rattle.std.specs.Prelude.{◌≡◌, ◌≤◌, ◌↔◌, length, IsT
 ghost use Rattle.std.specs.List.{find, list_any};
 ghost use Rattle.std.specs.Option.{option_copied};
 ghost use Rattle.std.specs.Str.{bytes_eq};
+ghost use Rattle.avtp_words.specs.Grammar.{Lacks, Need};
 ghost use Rattle.avtp_words.specs.Options.{IsValue, stands_alone as stands_alone_of};
-ghost use Rattle.avtp_words.specs.Reading.{EndsOptions, IsTakenAt, LacksValue, StopsOptions, are_sound, rows_of, value_after};
+ghost use Rattle.avtp_words.specs.Reading.{EndsOptions, IsTakenAt, LacksValue, StopsOptions, are_sound, names_of, rows_of, value_after};
 ghost use Rattle.avtp_words.specs.Word.{texts, BeginsWithDash};
 
 use crate::number::{is_number, is_signed};
@@ -21,7 +22,7 @@ pub enum Takes {
     Signed { most: u32 },
     /// A stream id.
     Id,
-    /// The kind of a stream: `aaf` or `am824`.
+    /// The kind of a stream: `aaf`, `am824` or `h264`.
     Kind,
     /// The format of samples, as `int16`.
     Format,
@@ -37,7 +38,7 @@ impl Takes {
             Takes::Number { low, high } => is_number(word, low, high),
             Takes::Signed { most } => is_signed(word, most),
             Takes::Id => id_of(word).is_some(),
-            Takes::Kind => word == "aaf" || word == "am824",
+            Takes::Kind => matches!(word, "aaf" | "am824" | "h264"),
             Takes::Format => format_of(word).is_some(),
             Takes::Nothing => false,
         }
@@ -88,6 +89,27 @@ pub fn contains(words: &[String], name: &str) -> bool
     ensures { result ≡ list_any (λ word. bytes_eq (string_bytes word) name.now) words.now }
 {
     words.iter().any(|word| word.as_str() == name)
+}
+
+/// Whether the words have none of these options.
+pub fn lacks(words: &[String], options: &[OptionRow]) -> bool
+    ensures { IsTrue result ↔ Lacks (texts words.now) (names_of options.now) }
+{
+    !has_one(words, options)
+}
+
+/// Whether one of these options is among the words.
+fn has_one(words: &[String], options: &[OptionRow]) -> bool
+    ensures { result ≡ list_any (λ row. list_any (λ word. bytes_eq (string_bytes word) row.name.now) words.now) options.now }
+{
+    options.iter().any(|option| contains(words, option.name))
+}
+
+/// Whether the words have the option that these need, where they have one of these.
+pub fn have_needed(words: &[String], needed: &str, options: &[OptionRow]) -> bool
+    ensures { IsTrue result ↔ Need (texts words.now) needed.now (names_of options.now) }
+{
+    contains(words, needed) || lacks(words, options)
 }
 
 /// How many words from a place on are the value of an option: none where it stands alone, and else one. None comes

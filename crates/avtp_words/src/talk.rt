@@ -1,23 +1,26 @@
 //! The command `talk`: what to make a capture of.
 
-ghost use Rattle.std.specs.Prelude.{◌≡◌, ℕ, ◌*◌, ◌≤◌, ◌^◌, ◌↔◌, ◌∷◌, pos, codes, Contains, IsTrue, IfOk, IfErr, IsSomeAnd, Some, nat_eq};
+ghost use Rattle.std.specs.Prelude.{◌≡◌, ℕ, ◌*◌, ◌≤◌, ◌^◌, ◌↔◌, ◌∷◌, pos, codes, IsTrue, IfOk, IfErr, IsSomeAnd, Some, nat_eq};
 ghost use Rattle.std.specs.List.{list_any};
 ghost use Rattle.std.specs.Option.{option_eq};
 ghost use Rattle.aaf_format.specs.Aaf.{rate_of as rate_of_code};
 ghost use Rattle.iec61883_format.specs.Iec.{rate_of_fdf as rate_of_fdf_code, syt_interval as interval_of_code};
-ghost use Rattle.avtp_words.specs.Grammar.{FitsBlocks, FitsKind, FitsSamples, IsCommandLine, IsOffence, KeepsRules, LacksAaf, SaysTalk, request_of, talking_of};
-ghost use Rattle.avtp_words.specs.Reading.{AreRead, IsReadKind, IsReadOf, is_long_enough as is_enough, suits as suits_of};
-ghost use Rattle.avtp_words.specs.Limits.{start as start_limits};
+ghost use Rattle.avtp_words.specs.Grammar.{FitsBlocks, FitsKind, FitsSamples, IsCommandLine, FitsOptions, IsOffence, KeepsRules, Lacks, SaysTalk, lacking, request_of, talking_of};
+ghost use Rattle.avtp_words.specs.Reading.{AreRead, ClockIsWithin, IsReadKind, IsReadOf, is_long_enough as is_enough, suits as suits_of};
+ghost use Rattle.avtp_words.specs.Limits.{default_rate as default_rate_of, start as start_limits};
 ghost use Rattle.avtp_words.specs.Word.{texts};
 
 use crate::command::{Command, Offence};
+use crate::crf::{Crf, crf_after, fits_clock};
 use crate::limits::{
-    CHANNELS, CHANNELS_DEFAULT, COUNT, COUNT_DEFAULT, FORMAT, FORMAT_DEFAULT, ID, ID_DEFAULT, JUMP,
-    JUMP_DEFAULT, KIND, LEAD_DEFAULT, MAX_BLOCKS, MAX_QUADLETS, MAX_SAMPLES, RATE, RATE_DEFAULT,
-    RESTART, SPARSE, START, START_DEFAULT, TALK_LEAD, TALK_OPTIONS,
+    AAF_LACKS, AM824_LACKS, AUDIO_RATE_DEFAULT, CHANNELS, CHANNELS_DEFAULT, CLOCK_OPTIONS, COUNT,
+    COUNT_DEFAULT, CRF, FORMAT, FORMAT_DEFAULT, H264_LACKS, ID, ID_DEFAULT, JUMP, JUMP_DEFAULT,
+    KIND, LAST_STAMP, LEAD_DEFAULT, MAX_BLOCKS, MAX_QUADLETS, MAX_SAMPLES, MAX_VIDEO_RATE, RATE,
+    RESTART, RESTART_OPTIONS, SPARSE, START, START_DEFAULT, TALK_LEAD, TALK_OPTIONS,
+    VIDEO_RATE_DEFAULT,
 };
 use crate::operand::{Operand, operands_at};
-use crate::option::{contains, word_after, word_at};
+use crate::option::{contains, have_needed, lacks, word_after, word_at};
 use crate::value::{
     format_after, id_after, number_after, short_number_after, small_number_after, small_number_if,
 };
@@ -32,6 +35,9 @@ pub enum Kind {
     Aaf { format: AafFormat, sparse: bool },
     /// AM824 (IEC 61883-6): the input is quadlets as they are sent.
     Am824,
+    /// H.264 (IEEE 1722-2016, 8; RFC 6184): the input is a byte stream of NAL units. Each is stamped in each of its packets,
+    /// or in its last fragment alone.
+    H264 { last_stamp: bool },
 }
 
 /// What to make a capture of, and how its packets are sent.
@@ -39,9 +45,9 @@ pub enum Kind {
 pub struct Talk<'a> {
     /// What the stream is made of.
     pub kind: Kind,
-    /// The sample rate in Hz, one of those that the kind names.
+    /// The sample rate in Hz, one of those that the kind names; of H.264 the access units in a second, 1 to 240.
     pub rate: u32,
-    /// The channels of each sample frame, 1 to 1023, of AM824 at most 256.
+    /// The channels of each sample frame, 1 to 1023, of AM824 at most 256. In H.264 they have no meaning, nor has the count.
     pub channels: u16,
     /// The sample frames of a packet, or data blocks of AM824: at least 1, of AM824 at least an eighth of SYT_INTERVAL,
     /// and of at most 1,476 bytes together, of AM824 of at most 1,468.
@@ -57,7 +63,9 @@ pub struct Talk<'a> {
     pub restart: Option<u32>,
     /// How far each restart sets presentation times forward, in nanoseconds, 4 to 1,000,000,000.
     pub jump: u32,
-    /// The file of raw samples.
+    /// The media clock that is sent beside the stream, where one is asked for.
+    pub crf: Option<Crf>,
+    /// The file of raw samples, or of an H.264 byte stream.
     pub input: &'a str,
     /// The capture that is written.
     pub output: &'a str,
@@ -95,18 +103,22 @@ fn read_words(words: &[String]) -> Result<Talk<'_>, Offence>
         unreachable!()
     };
     let sparse = contains(words, SPARSE.name);
-    Ok(read_options(&words[..place], sparse, input, output))
+    let last_stamp = contains(words, LAST_STAMP.name);
+    let kind = kind_after(&words[..place], sparse, last_stamp);
+    Ok(read_options(&words[..place], kind, input, output))
 }
 
-/// What the options of `talk` give, each by itself.
-fn read_options<'a>(options: &[String], sparse: bool, input: &'a str, output: &'a str) -> Talk<'a>
+/// What the options of `talk` give beside the kind, each by itself.
+fn read_options<'a>(options: &[String], kind: Kind, input: &'a str, output: &'a str) -> Talk<'a>
+    ensures kind { result.kind ≡ kind }
     ensures input { result.input.now ≡ input.now }
     ensures output { result.output.now ≡ output.now }
-    ensures read { AreRead (texts options.now) sparse (talking_of result) }
+    ensures read { AreRead (texts options.now) (talking_of result) }
 {
+    let rate = small_number_after(options, RATE.name, kind.default_rate());
     Talk {
-        kind: kind_after(options, sparse),
-        rate: small_number_after(options, RATE.name, RATE_DEFAULT),
+        kind,
+        rate,
         channels: short_number_after(options, CHANNELS.name, CHANNELS_DEFAULT),
         count: small_number_after(options, COUNT.name, COUNT_DEFAULT),
         id: id_after(options, ID.name, ID_DEFAULT),
@@ -114,17 +126,20 @@ fn read_options<'a>(options: &[String], sparse: bool, input: &'a str, output: &'
         lead: small_number_after(options, TALK_LEAD.name, LEAD_DEFAULT),
         restart: small_number_if(options, RESTART.name),
         jump: small_number_after(options, JUMP.name, JUMP_DEFAULT),
+        crf: crf_after(options, rate),
         input,
         output,
     }
 }
 
-/// The kind of the stream, which is sparse if it is AAF and that is asked.
-fn kind_after(options: &[String], sparse: bool) -> Kind
-    ensures { IsReadKind (texts options.now) sparse result }
+/// The kind of the stream, which is sparse if it is AAF and that is asked, and stamped in last fragments alone if it is
+/// H.264 and that is asked.
+fn kind_after(options: &[String], sparse: bool, last_stamp: bool) -> Kind
+    ensures { IsReadKind (texts options.now) sparse last_stamp result }
 {
     match word_after(options, KIND.name) {
         Some("am824") => Kind::Am824,
+        Some("h264") => Kind::H264 { last_stamp },
         _ => Kind::Aaf {
             format: format_after(options, FORMAT.name, FORMAT_DEFAULT),
             sparse,
@@ -143,18 +158,23 @@ fn start_after(options: &[String]) -> i64
 impl<'a> Talk<'a> {
     /// Whether the words after `talk`, which ask for this, keep the rules over several of them.
     fn keeps_rules(&self, words: &[String]) -> bool
-        ensures { IsTrue result ↔ KeepsRules (codes "talk" ∷ texts words.now) (talking_of self.now) }
+        requires { ClockIsWithin self.now.crf self.now.rate }
+        ensures { IsTrue result ↔ KeepsRules (texts words.now) (talking_of self.now) }
     {
-        self.input != self.output && self.fits_kind(words) && has_its_restart(words)
+        self.input != self.output
+            && self.fits_kind()
+            && fits_clock(self.crf, self.rate, self.count, self.restart)
+            && self.kind.fits_options(words)
     }
 
     /// Whether the stream can be of its kind.
-    fn fits_kind(&self, words: &[String]) -> bool
-        ensures { IsTrue result ↔ FitsKind self.now.kind (codes "talk" ∷ texts words.now) (talking_of self.now) }
+    fn fits_kind(&self) -> bool
+        ensures { IsTrue result ↔ FitsKind self.now.kind (talking_of self.now) }
     {
         match self.kind {
             Kind::Aaf { format, sparse: _ } => self.fits_samples(format),
-            Kind::Am824 => self.fits_blocks() && lacks_aaf(words),
+            Kind::Am824 => self.fits_blocks(),
+            Kind::H264 { .. } => self.rate <= MAX_VIDEO_RATE,
         }
     }
 
@@ -175,18 +195,36 @@ impl<'a> Talk<'a> {
     }
 }
 
-/// Whether the words after `talk` have none of the options that are AAF's alone.
-fn lacks_aaf(words: &[String]) -> bool
-    ensures { IsTrue result ↔ LacksAaf (codes "talk" ∷ texts words.now) }
-{
-    !contains(words, FORMAT.name) && !contains(words, SPARSE.name)
-}
+impl Kind {
+    /// The sample rate in Hz, or the access units in a second, where none is given.
+    fn default_rate(self) -> u32
+        ensures { result ≡ default_rate_of self }
+    {
+        match self {
+            Kind::Aaf { .. } | Kind::Am824 => AUDIO_RATE_DEFAULT,
+            Kind::H264 { .. } => VIDEO_RATE_DEFAULT,
+        }
+    }
 
-/// Whether the words after `talk` have a restart for their jump, if they have one.
-fn has_its_restart(words: &[String]) -> bool
-    ensures { IsTrue result ↔ (Contains (codes "talk" ∷ texts words.now) (codes "--jump") → Contains (codes "talk" ∷ texts words.now) (codes "--restart")) }
-{
-    !contains(words, JUMP.name) || contains(words, RESTART.name)
+    /// Whether the words after `talk` have none of the options that the kind lacks, and none without the one that it needs.
+    fn fits_options(self, words: &[String]) -> bool
+        ensures { IsTrue result ↔ FitsOptions self (texts words.now) }
+    {
+        self.has_options(words)
+            && have_needed(words, RESTART.name, &RESTART_OPTIONS)
+            && have_needed(words, CRF.name, &CLOCK_OPTIONS)
+    }
+
+    /// Whether the words after `talk` have none of the options that the kind lacks.
+    fn has_options(self, words: &[String]) -> bool
+        ensures { IsTrue result ↔ Lacks (texts words.now) (lacking self) }
+    {
+        match self {
+            Kind::Aaf { .. } => lacks(words, &AAF_LACKS),
+            Kind::Am824 => lacks(words, &AM824_LACKS),
+            Kind::H264 { .. } => lacks(words, &H264_LACKS),
+        }
+    }
 }
 
 /// Whether a sample rate is one of the nominal rates of AAF.

@@ -1,6 +1,6 @@
 //! Words that are command lines, and words that are none.
 
-use crate::{Command, Kind, Listen, Offence, Talk, parse};
+use crate::{Command, Crf, Kind, Listen, Offence, Talk, parse};
 use aaf_format::AafFormat;
 use std::alloc::{AllocError, Global};
 
@@ -13,6 +13,22 @@ fn words_of(alloc: Global, line: &[&str]) -> Result<Vec<String>, AllocError> {
     for word in line {
         words.push(String::from_str(alloc, word)?)?;
     }
+    Ok(words)
+}
+
+fn push_words(alloc: Global, words: &mut Vec<String>, line: &[&str]) -> Result<(), AllocError> {
+    for word in line {
+        words.push(String::from_str(alloc, word)?)?;
+    }
+    Ok(())
+}
+
+/// `talk`, options, more options, and the names `a` and `b`.
+fn talk_words(alloc: Global, options: &[&str], more: &[&str]) -> Result<Vec<String>, AllocError> {
+    let mut words = words_of(alloc, &["talk"])?;
+    push_words(alloc, &mut words, options)?;
+    push_words(alloc, &mut words, more)?;
+    push_words(alloc, &mut words, &["a", "b"])?;
     Ok(words)
 }
 
@@ -35,6 +51,7 @@ fn listens(files: &[String]) -> Listen<'_> {
         lead: 2_000_000,
         clock: None,
         shift: 0,
+        ring: 64,
         files,
     }
 }
@@ -60,8 +77,18 @@ const PLAIN: Talk<'static> = Talk {
     lead: 2_000_000,
     restart: None,
     jump: 1_000_000,
+    crf: None,
     input: "a",
     output: "b",
+};
+
+/// The media clock where `--crf` alone is given.
+const CLOCK: Crf = Crf {
+    id: STREAM,
+    rate: 48_000,
+    pull: 0,
+    interval: 96,
+    points: 1,
 };
 
 fn stops<'a>(position: usize) -> Result<Command<'a>, Offence> {
@@ -187,6 +214,35 @@ fn check_offences(rt: HostRuntime) -> Result<(), AllocError> {
     Ok(())
 }
 
+/// `soak` has a number and nothing else.
+#[test]
+fn soak_lines(rt: HostRuntime) -> Result<(), AllocError> {
+    let cases: [(&[&str], Result<Command<'_>, Offence>); 14] = [
+        (&["soak", "0"], Ok(Command::Soak { packets: 0 })),
+        (&["soak", "1"], Ok(Command::Soak { packets: 1 })),
+        (
+            &["soak", "1000000"],
+            Ok(Command::Soak { packets: 1_000_000 }),
+        ),
+        (&["soak"], stops(2)),
+        (&["soak", ""], stops(2)),
+        (&["soak", "1000001"], stops(2)),
+        (&["soak", "4294967296"], stops(2)),
+        (&["soak", "00"], stops(2)),
+        (&["soak", "-1"], stops(2)),
+        (&["soak", "+1"], stops(2)),
+        (&["soak", "a"], stops(2)),
+        (&["soak", "--limit", "1", "5"], stops(2)),
+        (&["soak", "5", "5"], stops(3)),
+        (&["soak", "5", "--limit"], stops(3)),
+    ];
+    for (line, answer) in cases {
+        let words = words_of(rt.alloc(), line)?;
+        assert_eq!(rt; parse(&words), answer);
+    }
+    Ok(())
+}
+
 #[test]
 fn listen_lines(rt: HostRuntime) -> Result<(), AllocError> {
     let files = words_of(rt.alloc(), &["c.pcap"])?;
@@ -246,7 +302,7 @@ fn listen_lines(rt: HostRuntime) -> Result<(), AllocError> {
 fn listen_ends(rt: HostRuntime) -> Result<(), AllocError> {
     let files = words_of(rt.alloc(), &["c.pcap"])?;
     let plain = listens(&files);
-    let cases: [(&str, &str, Listen<'_>); 11] = [
+    let cases: [(&str, &str, Listen<'_>); 14] = [
         ("--limit", "1", Listen { limit: 1, ..plain }),
         ("--limit", "1099511627776", plain),
         ("--look", "0", plain),
@@ -267,6 +323,9 @@ fn listen_ends(rt: HostRuntime) -> Result<(), AllocError> {
                 ..plain
             },
         ),
+        ("--ring", "1", Listen { ring: 1, ..plain }),
+        ("--ring", "64", plain),
+        ("--ring", "256", Listen { ring: 256, ..plain }),
         ("--crf-shift", "0", plain),
         ("--crf-shift", "1", Listen { shift: 1, ..plain }),
         ("--crf-shift", "-1", Listen { shift: -1, ..plain }),
@@ -318,12 +377,13 @@ fn listen_ends(rt: HostRuntime) -> Result<(), AllocError> {
 /// Values that an option cannot have, and the option without a value, twice, and after the names.
 #[test]
 fn listen_values(rt: HostRuntime) -> Result<(), AllocError> {
-    let cases: [(&str, &str, &[&str]); 4] = [
+    let cases: [(&str, &str, &[&str]); 5] = [
         (
             "--limit",
             "1",
             &["0", "1099511627777", "01", "+1", "-1", "-0", ""],
         ),
+        ("--ring", "1", &["0", "257", "01", "+1", "-1", ""]),
         ("--look", "1", &["65", "01", "00", "+1", "-1", "-0", ""]),
         (
             "--clock",
@@ -395,7 +455,7 @@ fn listen_files(rt: HostRuntime) -> Result<(), AllocError> {
 /// The same for `listen`.
 #[test]
 fn listen_offences(rt: HostRuntime) -> Result<(), AllocError> {
-    let cases: [(&[&str], usize); 22] = [
+    let cases: [(&[&str], usize); 21] = [
         (&["listen"], 2),
         (&["listen", "02", "c.pcap"], 2),
         (&["listen", "c.pcap", ID], 2),
@@ -403,7 +463,6 @@ fn listen_offences(rt: HostRuntime) -> Result<(), AllocError> {
         (&["listen", "+200000000010001", "c.pcap"], 2),
         (&["listen", "020000000001000g", "c.pcap"], 2),
         (&["listen", "02000000000100010", "c.pcap"], 2),
-        (&["listen", "--ring", "1", ID, "c.pcap"], 2),
         (&["listen", ID], 3),
         (&["listen", ID, "--room", "1", "c.pcap"], 3),
         (&["listen", "--buffer", "0", ID, "c.pcap"], 3),
@@ -665,10 +724,237 @@ fn talk_block_rules(rt: HostRuntime) -> Result<(), AllocError> {
     Ok(())
 }
 
+/// A media clock beside the stream, at its own rate and at others, with each factor and with restarts.
+#[test]
+fn talk_clocks(rt: HostRuntime) -> Result<(), AllocError> {
+    let cases: [(&[&str], Crf); 14] = [
+        (&[], CLOCK),
+        (
+            &["--crf-interval", "1"],
+            Crf {
+                interval: 1,
+                ..CLOCK
+            },
+        ),
+        (
+            &["--crf-interval", "65535"],
+            Crf {
+                interval: 65_535,
+                ..CLOCK
+            },
+        ),
+        (&["--crf-points", "1"], CLOCK),
+        (
+            &["--crf-points", "180"],
+            Crf {
+                points: 180,
+                ..CLOCK
+            },
+        ),
+        (&["--crf-rate", "1"], Crf { rate: 1, ..CLOCK }),
+        (
+            &["--crf-rate", "200000000", "--crf-interval", "12500"],
+            Crf {
+                rate: 200_000_000,
+                interval: 12_500,
+                ..CLOCK
+            },
+        ),
+        (
+            &["--crf-interval", "147", "--crf-rate", "44100"],
+            Crf {
+                rate: 44_100,
+                interval: 147,
+                ..CLOCK
+            },
+        ),
+        (&["--crf-pull", "0"], CLOCK),
+        (
+            &["--crf-pull", "1", "--crf-interval", "1000"],
+            Crf {
+                pull: 1,
+                interval: 1_000,
+                ..CLOCK
+            },
+        ),
+        (
+            &["--crf-pull", "2", "--crf-interval", "1001"],
+            Crf {
+                pull: 2,
+                interval: 1_001,
+                ..CLOCK
+            },
+        ),
+        (
+            &["--crf-pull", "3", "--crf-interval", "24"],
+            Crf {
+                pull: 3,
+                interval: 24,
+                ..CLOCK
+            },
+        ),
+        (
+            &["--crf-pull", "4", "--crf-interval", "25"],
+            Crf {
+                pull: 4,
+                interval: 25,
+                ..CLOCK
+            },
+        ),
+        (&["--crf-pull", "5"], Crf { pull: 5, ..CLOCK }),
+    ];
+    for (options, crf) in cases {
+        let words = talk_words(rt.alloc(), &["--crf", ID], options)?;
+        let crf = Some(crf);
+        assert_eq!(rt; parse(&words), Ok(Command::Talk(Talk { crf, ..PLAIN })));
+    }
+    Ok(())
+}
+
+/// The clock's base frequency is the stream's rate, and its packets are whole in each run.
+#[test]
+fn talk_clocked_streams(rt: HostRuntime) -> Result<(), AllocError> {
+    let cases: [(&[&str], Talk<'_>); 4] = [
+        (
+            &["talk", "--rate", "44100", "--crf", ID, "a", "b"],
+            Talk {
+                rate: 44_100,
+                crf: Some(Crf {
+                    rate: 44_100,
+                    ..CLOCK
+                }),
+                ..PLAIN
+            },
+        ),
+        (
+            &["talk", "--crf", ID, "--kind", "am824", "a", "b"],
+            Talk {
+                kind: Kind::Am824,
+                crf: Some(CLOCK),
+                ..PLAIN
+            },
+        ),
+        (
+            &["talk", "--crf", ID, "--restart", "128", "a", "b"],
+            Talk {
+                restart: Some(128),
+                crf: Some(CLOCK),
+                ..PLAIN
+            },
+        ),
+        (
+            &[
+                "talk",
+                "--restart",
+                "256",
+                "--crf-points",
+                "2",
+                "--crf",
+                ID,
+                "a",
+                "b",
+            ],
+            Talk {
+                restart: Some(256),
+                crf: Some(Crf { points: 2, ..CLOCK }),
+                ..PLAIN
+            },
+        ),
+    ];
+    for (line, asked) in cases {
+        let words = words_of(rt.alloc(), line)?;
+        assert_eq!(rt; parse(&words), Ok(Command::Talk(asked)));
+    }
+    Ok(())
+}
+
+/// What a clock cannot be: one that is not asked for, and one of which a point or a run ends within a sample frame.
+#[test]
+fn talk_clock_rules(rt: HostRuntime) -> Result<(), AllocError> {
+    let cases: [&[&str]; 12] = [
+        &["--crf-interval", "96"],
+        &["--crf-points", "1"],
+        &["--crf-rate", "48000"],
+        &["--crf-pull", "0"],
+        &["--crf", "0200000000010002", "--crf-rate", "44100"],
+        &["--crf", ID, "--crf-pull", "1", "--crf-interval", "1001"],
+        &["--crf", ID, "--crf-pull", "2", "--crf-interval", "1000"],
+        &["--crf", ID, "--crf-pull", "3", "--crf-interval", "25"],
+        &["--crf", ID, "--crf-pull", "4", "--crf-interval", "24"],
+        &["--crf", ID, "--restart", "127"],
+        &["--crf", ID, "--restart", "129"],
+        &["--crf", ID, "--restart", "128", "--crf-points", "2"],
+    ];
+    for options in cases {
+        let words = talk_words(rt.alloc(), &[], options)?;
+        assert_eq!(rt; parse(&words), stops(1));
+    }
+    Ok(())
+}
+
+/// H.264 has a rate of its own where none is given, and can be stamped in last fragments alone.
+#[test]
+fn talk_videos(rt: HostRuntime) -> Result<(), AllocError> {
+    let each = Talk {
+        kind: Kind::H264 { last_stamp: false },
+        rate: 30,
+        ..PLAIN
+    };
+    let last = Talk {
+        kind: Kind::H264 { last_stamp: true },
+        ..each
+    };
+    let cases: [(&[&str], Talk<'_>); 8] = [
+        (&[], each),
+        (&["--last-stamp"], last),
+        (&["--rate", "1"], Talk { rate: 1, ..each }),
+        (&["--rate", "240"], Talk { rate: 240, ..each }),
+        (&["--last-stamp", "--rate", "30"], last),
+        (&["--id", ID], Talk { id: STREAM, ..each }),
+        (&["--start", "0"], Talk { start: 0, ..each }),
+        (&["--lead", "1"], Talk { lead: 1, ..each }),
+    ];
+    for (options, asked) in cases {
+        let words = talk_words(rt.alloc(), &["--kind", "h264"], options)?;
+        assert_eq!(rt; parse(&words), Ok(Command::Talk(asked)));
+    }
+    Ok(())
+}
+
+/// H.264 has few of the options, and at most 240 access units in a second; no other kind is stamped in last fragments alone.
+#[test]
+fn talk_video_rules(rt: HostRuntime) -> Result<(), AllocError> {
+    let cases: [(&str, &[&str]); 16] = [
+        ("h264", &["--rate", "241"]),
+        ("h264", &["--format", "int16"]),
+        ("h264", &["--channels", "2"]),
+        ("h264", &["--count", "6"]),
+        ("h264", &["--sparse"]),
+        ("h264", &["--restart", "8"]),
+        ("h264", &["--restart", "8", "--jump", "4"]),
+        ("h264", &["--jump", "1000000"]),
+        ("h264", &["--crf", ID]),
+        ("h264", &["--crf-interval", "96"]),
+        ("h264", &["--crf-points", "1"]),
+        ("h264", &["--crf-rate", "30"]),
+        ("h264", &["--crf-pull", "0"]),
+        ("aaf", &["--last-stamp"]),
+        ("am824", &["--last-stamp"]),
+        ("aaf", &["--last-stamp", "--rate", "44100"]),
+    ];
+    for (kind, options) in cases {
+        let words = talk_words(rt.alloc(), &["--kind", kind], options)?;
+        assert_eq!(rt; parse(&words), stops(1));
+    }
+    let words = talk_words(rt.alloc(), &[], &["--last-stamp"])?;
+    assert_eq!(rt; parse(&words), stops(1));
+    Ok(())
+}
+
 /// The same for `talk`.
 #[test]
 fn talk_offences(rt: HostRuntime) -> Result<(), AllocError> {
-    let cases: [(&[&str], usize); 28] = [
+    let cases: [(&[&str], usize); 37] = [
         (&["talk"], 2),
         (&["talk", "--limit", "1", "a", "b"], 2),
         (&["talk", "a"], 3),
@@ -692,6 +978,15 @@ fn talk_offences(rt: HostRuntime) -> Result<(), AllocError> {
         (&["talk", "--restart", "1000000001", "a", "b"], 3),
         (&["talk", "--jump", "3", "a", "b"], 3),
         (&["talk", "--jump", "1000000001", "a", "b"], 3),
+        (&["talk", "--crf", "0200", "a", "b"], 3),
+        (&["talk", "--crf-interval", "0", "a", "b"], 3),
+        (&["talk", "--crf-interval", "65536", "a", "b"], 3),
+        (&["talk", "--crf-points", "0", "a", "b"], 3),
+        (&["talk", "--crf-points", "181", "a", "b"], 3),
+        (&["talk", "--crf-rate", "0", "a", "b"], 3),
+        (&["talk", "--crf-rate", "200000001", "a", "b"], 3),
+        (&["talk", "--crf-pull", "6", "a", "b"], 3),
+        (&["talk", "--crf", ID, "--crf", ID, "a", "b"], 4),
         (&["talk", "--sparse", "a"], 4),
         (&["talk", "a", "b", "c"], 4),
         (&["talk", "--sparse", "a", "b", "c"], 5),

@@ -34,6 +34,13 @@ pub fn short_number_after(options: &[String], name: &str, default: u16) -> u16
     u16::try_from(number_after(options, name, u64::from(default))).unwrap_or(default)
 }
 
+/// The same for a number of at most 8 bits.
+pub fn byte_after(options: &[String], name: &str, default: u8) -> u8
+    ensures { IsRead (2 ^ 8) default (value_after name.now (texts options.now)) result }
+{
+    u8::try_from(number_after(options, name, u64::from(default))).unwrap_or(default)
+}
+
 /// The number of at most 32 bits after the option of this name, where it is given.
 pub fn small_number_if(options: &[String], name: &str) -> Option<u32>
     ensures { IsReadIf (2 ^ 32) (value_after name.now (texts options.now)) result }

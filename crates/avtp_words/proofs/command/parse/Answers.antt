@@ -43,6 +43,16 @@ returns-in-talk-clause-only_offence c =
     let all = words_are c.args.words.now c.in-Some.rest.now c.in-Some.command.now (codes "talk") c.in-Some.ensures.cases.0 (sym c.as_str.ensures.value ∙ c.in-talk.is) in
     rw all (answered_offence (codes "talk" ∷ texts c.in-Some.rest.now) c.read_talk.result c.read_talk.ensures.ok c.read_talk.ensures.err)
 
+pub returns-in-soak-clause-only : goal.returns-in-soak-clause-only
+returns-in-soak-clause-only c =
+    let all = words_are c.args.words.now c.in-Some.rest.now c.in-Some.command.now (codes "soak") c.in-Some.ensures.cases.0 (sym c.as_str.ensures.value ∙ c.in-soak.is) in
+    rw all (answered_only (codes "soak" ∷ texts c.in-Some.rest.now) c.read_soak.result c.read_soak.ensures.ok c.read_soak.ensures.err)
+
+pub returns-in-soak-clause-only_offence : goal.returns-in-soak-clause-only_offence
+returns-in-soak-clause-only_offence c =
+    let all = words_are c.args.words.now c.in-Some.rest.now c.in-Some.command.now (codes "soak") c.in-Some.ensures.cases.0 (sym c.as_str.ensures.value ∙ c.in-soak.is) in
+    rw all (answered_offence (codes "soak" ∷ texts c.in-Some.rest.now) c.read_soak.result c.read_soak.ensures.ok c.read_soak.ensures.err)
+
 pub returns-in_default-clause-offence : goal.returns-in_default-clause-offence
 returns-in_default-clause-offence c = offence_of_command (texts c.args.words.now) (none_first c.args.words.now c.in_default.ensures.cases)
 
@@ -52,7 +62,7 @@ returns-in_default-clause-only_offence c position offence = same_offence (texts 
 pub returns-in_default-as_str-clause-offence : goal.returns-in_default-as_str-clause-offence
 returns-in_default-as_str-clause-offence c =
     offence_of_command (texts c.args.words.now) (other_first c.args.words.now c.in-Some.rest.now c.in-Some.command.now c.in-Some.ensures.cases.0
-    (λ e. c.in_default-as_str.not-show (c.as_str.ensures.value ∙ e)) (λ e. c.in_default-as_str.not-check (c.as_str.ensures.value ∙ e)) (λ e. c.in_default-as_str.not-listen (c.as_str.ensures.value ∙ e)) (λ e. c.in_default-as_str.not-talk (c.as_str.ensures.value ∙ e)))
+    (λ e. c.in_default-as_str.not-show (c.as_str.ensures.value ∙ e)) (λ e. c.in_default-as_str.not-check (c.as_str.ensures.value ∙ e)) (λ e. c.in_default-as_str.not-listen (c.as_str.ensures.value ∙ e)) (λ e. c.in_default-as_str.not-talk (c.as_str.ensures.value ∙ e)) (λ e. c.in_default-as_str.not-soak (c.as_str.ensures.value ∙ e)))
 
 pub returns-in_default-as_str-clause-only_offence : goal.returns-in_default-as_str-clause-only_offence
 returns-in_default-as_str-clause-only_offence c position offence = same_offence (texts c.args.words.now) 1 position (returns-in_default-as_str-clause-offence c) offence

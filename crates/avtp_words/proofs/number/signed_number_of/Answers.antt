@@ -1,5 +1,5 @@
-use Rattle.std.proofs.Common.{ℕ, ◌≡◌, ◌≢◌, ◌<◌, ◌^◌, decimal, Option, None, Some, IfNone, arith, subst}
-use Rattle.avtp_words.proofs.Numbers.{above_none, unfit}
+use Rattle.std.proofs.Common.{arith}
+use Rattle.avtp_words.proofs.Numbers.{unfit}
 use Rattle.avtp_words.proofs.number.signed_number_of.Goals as goal
 
 pub returns-in_ok-number_of-in-None-clause-none : goal.returns-in_ok-number_of-in-None-clause-none

@@ -1,8 +1,11 @@
 use Rattle.std.proofs.Common.{◌∷◌, codes}
 use Rattle.avtp_words.specs.Grammar.{talking_of}
 use Rattle.avtp_words.specs.Word.{texts}
-use Rattle.avtp_words.proofs.Commands.{offence_of_rule}
+use Rattle.avtp_words.proofs.Commands.{offence_of_rule, talk_clock}
 use Rattle.avtp_words.proofs.talk.read_talk.Goals as goal
+
+pub keeps_rules-requires : goal.keeps_rules-requires
+keeps_rules-requires c = talk_clock (codes "talk" ∷ texts c.args.words.now) (talking_of c.in_ok-asked.asked) c.in_ok-asked.ensures.ok
 
 pub returns-else-keeps_rules-clause-err : goal.returns-else-keeps_rules-clause-err
 returns-else-keeps_rules-clause-err c =

@@ -21,5 +21,6 @@ pub returns-clause-ok : goal.returns-clause-ok
 returns-clause-ok c =
     let input : slice_get (texts c.args.words.now) c.in_ok-place.place ≡ Some c.read_options.result.input.now = sym c.in-Some.ensures ∙ ap (λ (word : List ℕ). Some word) (sym c.read_options.ensures.input) in
     let output : slice_get (texts c.args.words.now) (c.in_ok-place.place + 1) ≡ Some c.read_options.result.output.now = sym c.in-Some-word_at.ensures ∙ ap (λ (word : List ℕ). Some word) (sym c.read_options.ensures.output) in
-    talk_says c.args.words.now c.in_ok-place.place c.contains-sparse.result (talking_of c.read_options.result) c.in_ok-place.ensures.ok input output
-    (contained c.args.words.now (codes "--sparse") c.contains-sparse.result c.contains-sparse.ensures) c.read_options.ensures.read
+    talk_says c.args.words.now c.in_ok-place.place c.contains-sparse.result c.contains-last_stamp.result (talking_of c.read_options.result) c.in_ok-place.ensures.ok input output
+    (contained c.args.words.now (codes "--sparse") c.contains-sparse.result c.contains-sparse.ensures) (contained c.args.words.now (codes "--last-stamp") c.contains-last_stamp.result c.contains-last_stamp.ensures)
+    (rw c.read_options.ensures.kind c.kind_after-kind.ensures) c.read_options.ensures.read

@@ -1,0 +1,104 @@
+//! The media clock that `talk` sends beside a stream.
+
+ghost use Rattle.std.specs.Prelude.{◌≡◌, ◌*◌, ◌/◌, ◌%◌, ◌≤◌, ◌<◌, ◌↔◌, ◌^◌, IsTrue};
+ghost use Rattle.clock_track.specs.Pairs.{pull_down as pull_down_of, pull_up as pull_up_of};
+ghost use Rattle.avtp_words.specs.Grammar.{FitsClock, FitsStream, HasWholeRuns, spacing_of};
+ghost use Rattle.avtp_words.specs.Reading.{ClockIsWithin, IsReadClock, IsWithin};
+ghost use Rattle.avtp_words.specs.Word.{texts};
+
+use crate::limits::{
+    CRF, CRF_INTERVAL, CRF_INTERVAL_DEFAULT, CRF_POINTS, CRF_POINTS_DEFAULT, CRF_PULL,
+    CRF_PULL_DEFAULT, CRF_RATE,
+};
+use crate::value::{byte_after, id_if, short_number_after, small_number_after};
+use clock_track::{pull_down, pull_up};
+
+/// A media clock beside a stream (IEEE 1722-2016, 10). Its points stand at whole sample frames of the stream, and where the
+/// stream restarts each run of it is a multiple of 8 whole packets of the clock.
+#[derive(Clone, Copy, Debug, PartialEq, Eq)]
+pub struct Crf {
+    /// The stream ID of the clock.
+    pub id: u64,
+    /// The base frequency in Hz, 1 to 200,000,000.
+    pub rate: u32,
+    /// The code of the factor that the base frequency is multiplied by, 0 to 5.
+    pub pull: u8,
+    /// The events of the clock from one timestamp to the next, 1 to 65,535.
+    pub interval: u16,
+    /// The timestamps of a packet, 1 to 180.
+    pub points: u8,
+}
+
+/// The clock that options ask for beside a stream of so many sample frames a second.
+pub fn crf_after(options: &[String], rate: u32) -> Option<Crf>
+    ensures { IsReadClock (texts options.now) rate result }
+{
+    let id = id_if(options, CRF.name)?;
+    Some(Crf {
+        id,
+        rate: small_number_after(options, CRF_RATE.name, rate),
+        pull: byte_after(options, CRF_PULL.name, CRF_PULL_DEFAULT),
+        interval: short_number_after(options, CRF_INTERVAL.name, CRF_INTERVAL_DEFAULT),
+        points: byte_after(options, CRF_POINTS.name, CRF_POINTS_DEFAULT),
+    })
+}
+
+/// Whether a clock, if there is one, fits a stream of so many sample frames a second, with so many in a packet.
+pub fn fits_clock(crf: Option<Crf>, rate: u32, count: u32, restart: Option<u32>) -> bool
+    requires { ClockIsWithin crf rate }
+    ensures { IsTrue result ↔ FitsClock crf rate count restart }
+{
+    match crf {
+        Some(crf) => crf.fits(rate, count, restart),
+        None => true,
+    }
+}
+
+impl Crf {
+    fn fits(self, rate: u32, count: u32, restart: Option<u32>) -> bool
+        requires { IsWithin self rate }
+        ensures { IsTrue result ↔ FitsStream self rate count restart }
+    {
+        let up = self.frequency_up();
+        let events = self.events_by(rate);
+        events % up == 0 && self.has_whole_runs(events / up, rate, count, restart)
+    }
+
+    /// The clock's frequency, times [`pull_down`].
+    fn frequency_up(self) -> u64
+        requires { 1 ≤ self.rate }
+        ensures value { result ≡ self.rate * pull_up_of self.pull }
+        ensures some { 1 ≤ result }
+    {
+        u64::from(self.rate) * pull_up(self.pull)
+    }
+
+    /// The events from one timestamp to the next, times the sample frames of a second and [`pull_down`].
+    fn events_by(self, rate: u32) -> u64
+        requires some_interval { 1 ≤ self.interval }
+        requires some_rate { 1 ≤ rate }
+        requires rate { rate ≤ 192000 }
+        ensures value { result ≡ self.interval * rate * pull_down_of self.pull }
+        ensures some { 1 ≤ result }
+        ensures most { result < 2 ^ 44 }
+    {
+        u64::from(self.interval) * u64::from(rate) * pull_down(self.pull)
+    }
+
+    /// Whether each run is a multiple of 8 whole packets of the clock.
+    fn has_whole_runs(self, spacing: u64, rate: u32, count: u32, restart: Option<u32>) -> bool
+        requires spacing { spacing ≡ spacing_of self rate }
+        requires some { 1 ≤ spacing }
+        requires most { spacing < 2 ^ 44 }
+        requires some_points { 1 ≤ self.points }
+        ensures { IsTrue result ↔ HasWholeRuns self rate count restart }
+    {
+        match restart {
+            Some(packets) => {
+                let run = u64::from(packets) * u64::from(count);
+                run % (8 * spacing * u64::from(self.points)) == 0
+            }
+            None => true,
+        }
+    }
+}
