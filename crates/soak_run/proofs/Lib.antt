@@ -1,0 +1,8 @@
+pub mod CountLemmas
+pub mod DeliveryLemmas
+pub mod StreamSizes
+pub mod Taken
+pub mod CaptureLemmas
+pub mod OutcomeLemmas
+pub mod ItemLemmas
+pub mod HeardLemmas

@@ -1,0 +1,33 @@
+use Rattle.std.proofs.Common.{length, ap, arith, ◌∙◌}
+use Rattle.soak_run.proofs.HeardLemmas.{counts_of_bytes, counts_total}
+use Rattle.soak_run.proofs.StreamSizes.{input_within, only_memory}
+use Rattle.soak_run.proofs.Taken.{all_deliverable, counted_all}
+use Rattle.soak_run.proofs.run.soak.Goals as goal
+
+pub begin-requires-clause-limit : goal.begin-requires-clause-limit
+begin-requires-clause-limit c = omega (arith, input_within c.args.packets c.requires, ap length (c.as_slice.ensures.value ∙ c.in_ok-input.ensures))
+
+pub hear-requires-clause-deliverable : goal.hear-requires-clause-deliverable
+hear-requires-clause-deliverable c =
+    all_deliverable c.args.packets c.as_slice.result.now c.in-Ok.talker c.as_slice-in-Ok.result.now c.requires (c.as_slice.ensures.value ∙ c.in_ok-input.ensures) c.in-Ok.ensures.begun
+    (c.as_slice-in-Ok.ensures.value ∙ c.in_ok-deliveries.ensures)
+
+pub want_of_memory-requires : goal.want_of_memory-requires
+want_of_memory-requires c = only_memory c.args.packets c.as_slice.result.now c.in-Err.fault c.requires (c.as_slice.ensures.value ∙ c.in_ok-input.ensures) c.in-Err.ensures.only
+
+pub returns-in-Ok-clause-exact : goal.returns-in-Ok-clause-exact
+returns-in-Ok-clause-exact c =
+    counted_all c.args.packets c.as_slice.result.now c.in-Ok.talker c.as_slice-in-Ok.result.now c.in_ok-counts-in-Ok.counts (c.as_slice.ensures.value ∙ c.in_ok-input.ensures) c.in-Ok.ensures.begun
+    (c.as_slice-in-Ok.ensures.value ∙ c.in_ok-deliveries.ensures) c.in_ok-counts-in-Ok.ensures
+
+pub returns-in-Ok-clause-heard : goal.returns-in-Ok-clause-heard
+returns-in-Ok-clause-heard c =
+    counts_of_bytes c.args.packets c.in_ok-counts-in-Ok.counts c.requires
+    (counted_all c.args.packets c.as_slice.result.now c.in-Ok.talker c.as_slice-in-Ok.result.now c.in_ok-counts-in-Ok.counts (c.as_slice.ensures.value ∙ c.in_ok-input.ensures) c.in-Ok.ensures.begun
+    (c.as_slice-in-Ok.ensures.value ∙ c.in_ok-deliveries.ensures) c.in_ok-counts-in-Ok.ensures)
+
+pub returns-in-Ok-clause-added : goal.returns-in-Ok-clause-added
+returns-in-Ok-clause-added c =
+    counts_total c.args.packets c.in_ok-counts-in-Ok.counts (c.counts_add_up.ensures c.args.packets c.requires)
+    (counted_all c.args.packets c.as_slice.result.now c.in-Ok.talker c.as_slice-in-Ok.result.now c.in_ok-counts-in-Ok.counts (c.as_slice.ensures.value ∙ c.in_ok-input.ensures) c.in-Ok.ensures.begun
+    (c.as_slice-in-Ok.ensures.value ∙ c.in_ok-deliveries.ensures) c.in_ok-counts-in-Ok.ensures)

@@ -1,0 +1,52 @@
+-- What becomes of the deliveries, counted (own).
+use Rattle.std.specs.Prelude.{ℕ, ◌+◌, Bool, true, false, List, length, count_by}
+use Rattle.sample_schedule.specs.declared.shown.Reason.TheVariants.{Full, Late, Repeat, Untimed}
+use Rattle.sample_schedule.specs.declared.shown.Shown.{Shown}
+use Rattle.sample_schedule.specs.declared.shown.Shown.TheVariants.{Flag}
+use Rattle.listener.specs.Heard.{is_present, shown_of}
+use Rattle.talker.specs.Soak.{deliveries_of}
+use Rattle.soak_run.specs.declared.counts.SoakCounts.{SoakCounts}
+use Rattle.soak_run.specs.Captured.{soak_listener, soak_records}
+
+-- ---- an item that is shown is flagged for this reason
+
+abbrev pub is_late : Shown → Bool
+is_late (Flag frame seq Late) = true
+is_late shown = false
+
+abbrev pub is_repeat : Shown → Bool
+is_repeat (Flag frame seq Repeat) = true
+is_repeat shown = false
+
+abbrev pub is_untimed : Shown → Bool
+is_untimed (Flag frame seq Untimed) = true
+is_untimed shown = false
+
+abbrev pub is_full : Shown → Bool
+is_full (Flag frame seq Full) = true
+is_full shown = false
+
+-- ---- counts
+
+-- of so many deliveries, how many of those that are shown are presented, and how many are flagged for each reason
+abbrev pub outcomes : ℕ → List Shown → SoakCounts
+outcomes delivered shown = record {
+  delivered = delivered;
+  presented = count_by is_present shown;
+  late = count_by is_late shown;
+  repeat = count_by is_repeat shown;
+  untimed = count_by is_untimed shown;
+  full = count_by is_full shown;
+}
+
+-- how many items were counted
+abbrev pub total : SoakCounts → ℕ
+total counts = counts.presented + counts.late + counts.repeat + counts.untimed + counts.full
+
+-- what a listener shows of so many packets' deliveries
+abbrev pub soak_shown : ℕ → List Shown
+soak_shown packets = shown_of soak_listener (soak_records packets)
+
+-- what becomes of the deliveries of so many packets
+unfoldable pub soak_counts : ℕ → SoakCounts
+soak_counts packets = outcomes (length (deliveries_of packets)) (soak_shown packets)

@@ -1,0 +1,80 @@
+//! What becomes of deliveries, counted.
+
+ghost use Rattle.std.specs.Prelude.{◌≡◌, ◌<◌, ◌^◌, []};
+ghost use Rattle.soak_run.specs.Counting.{with_flag as with_flag_of, with_shown as with_shown_of};
+ghost use Rattle.soak_run.specs.Outcomes.{outcomes, total};
+
+use sample_schedule::{Reason, Shown};
+
+/// What becomes of the packets of a stream that are delivered.
+#[derive(Clone, Copy, Debug, PartialEq, Eq)]
+pub struct SoakCounts {
+    /// The deliveries: packets that arrive, where one that arrives twice counts twice.
+    pub delivered: u64,
+    /// Those that are presented.
+    pub presented: u64,
+    /// Those whose presentation time had passed.
+    pub late: u64,
+    /// Those of a packet that was accepted before.
+    pub repeat: u64,
+    /// Those for which no timestamp was known.
+    pub untimed: u64,
+    /// Those for which the buffer had no room.
+    pub full: u64,
+}
+
+impl SoakCounts {
+    /// None of so many deliveries was shown yet.
+    pub(crate) fn of(delivered: u64) -> Self
+        ensures { result ≡ outcomes delivered [] }
+    {
+        SoakCounts {
+            delivered,
+            presented: 0,
+            late: 0,
+            repeat: 0,
+            untimed: 0,
+            full: 0,
+        }
+    }
+
+    /// The counts with one more item that is shown.
+    pub(crate) fn with_shown(self, shown: &Shown) -> Self
+        requires { total self < 2 ^ 63 }
+        ensures { result ≡ with_shown_of self shown.now }
+    {
+        match shown {
+            Shown::Present(_) => SoakCounts {
+                presented: self.presented + 1,
+                ..self
+            },
+            Shown::Flag { reason, .. } => self.with_flag(*reason),
+        }
+    }
+
+    /// The counts with one more item that is flagged.
+    fn with_flag(self, reason: Reason) -> Self
+        requires { total self < 2 ^ 63 }
+        ensures { result ≡ with_flag_of self reason }
+    {
+        match reason {
+            Reason::Late => SoakCounts {
+                late: self.late + 1,
+                ..self
+            },
+            Reason::Repeat => SoakCounts {
+                repeat: self.repeat + 1,
+                ..self
+            },
+            Reason::Untimed => SoakCounts {
+                untimed: self.untimed + 1,
+                ..self
+            },
+            Reason::Full => SoakCounts {
+                full: self.full + 1,
+                ..self
+            },
+            _ => self,
+        }
+    }
+}

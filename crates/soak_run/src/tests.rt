@@ -1,0 +1,42 @@
+//! What becomes of deliveries, against numbers that were found without this program.
+
+use super::{SoakCounts, soak};
+use std::test::Fail;
+
+/// A number of packets; and what becomes of their deliveries: how many there are, are presented, late, repeated, without a
+/// timestamp, and without room.
+type Row = (u32, [u64; 6]);
+
+const ROWS: [Row; 7] = [
+    (0, [0, 0, 0, 0, 0, 0]),
+    // one copy, which comes 0.48 ms after its presentation time
+    (1, [1, 0, 1, 0, 0, 0]),
+    // one copy each; the second comes exactly at its presentation time
+    (2, [2, 2, 0, 0, 0, 0]),
+    (10, [8, 3, 4, 0, 1, 0]),
+    (100, [104, 64, 12, 6, 22, 0]),
+    (1_000, [1_002, 727, 171, 42, 62, 0]),
+    (20_000, [19_952, 14_310, 3_874, 750, 1_018, 0]),
+];
+
+/// The numbers for few packets were worked out by hand, and those for more by another program that follows the rules of the
+/// noise, of the deliveries and of the listener.
+#[test]
+fn worked_counts(rt: HostRuntime) -> Result<(), Fail> {
+    for (packets, [delivered, presented, late, repeat, untimed, full]) in ROWS {
+        let Ok(counts) = soak(rt.alloc(), packets) else {
+            return Err(Fail::from("there is memory"));
+        };
+        let want = SoakCounts {
+            delivered,
+            presented,
+            late,
+            repeat,
+            untimed,
+            full,
+        };
+        assert_eq!(rt; counts, want);
+        assert_eq!(rt; delivered, presented + late + repeat + untimed + full);
+    }
+    Ok(())
+}
