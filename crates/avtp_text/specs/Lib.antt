@@ -5,3 +5,4 @@ pub mod Show
 pub mod Check
 pub mod Listen
 pub mod Talk
+pub mod Soak

@@ -5,7 +5,8 @@ ghost use Rattle.avtp_base.specs.Told.{Appends, Keeps};
 ghost use Rattle.avtp_base.specs.Faults.{IsCounted, Rose};
 ghost use Rattle.avtp_text.specs.Written.{written, Grows, Prints};
 
-use avtp_base::{Buffer, Failed, NoMemory, Sink};
+use crate::output::Output;
+use avtp_base::{Buffer, Failed, NoMemory};
 use std::alloc::Global;
 use std::marker::Model;
 
@@ -33,7 +34,7 @@ impl Model for Text {
 
 /// Writes the bytes to the sink until it has taken all or fails, and answers how many it took.
 #[tactic(auto, using(crate::proofs::Moved::taken_none, crate::proofs::Moved::taken_more))]
-fn write_out<S: Sink>(out: &mut S, bytes: &[u8]) -> usize
+fn write_out<S: Output>(out: &mut S, bytes: &[u8]) -> usize
     ensures within { result ≤ length bytes.now }
     ensures taken { Appends (S.held out.old) (S.held out.new) (take result bytes.now) }
     ensures never_falls { S.faults out.old ≤ S.faults out.new }
@@ -42,7 +43,7 @@ fn write_out<S: Sink>(out: &mut S, bytes: &[u8]) -> usize
 {
     let mut taken = 0;
     while taken < bytes.len() {
-        match out.write(&bytes[taken..]) {
+        match out.write_some(&bytes[taken..]) {
             Ok(count) => taken += count,
             Err(_) => return taken,
         }
@@ -61,7 +62,7 @@ impl Text {
 
     /// Writes all that waits to the sink. Where the sink fails, what it has not taken still waits.
     #[tactic(auto, using(crate::proofs::Moved::written_moved, crate::proofs::Growth::grows_by))]
-    pub fn flush<S: Sink>(&mut self, out: &mut S) -> Result<(), Failed>
+    pub fn flush<S: Output>(&mut self, out: &mut S) -> Result<(), Failed>
         ensures written { Keeps (written (S.held out.old) self.old) (written (S.held out.new) self.new) }
         ensures none_waits { OnOk result (self.new ≡ []) }
         ensures grows { Grows (S.held out.old) (S.held out.new) }
@@ -78,7 +79,7 @@ impl Text {
 
     /// Makes room for a piece of so many bytes.
     #[tactic(auto, using(crate::proofs::Growth::grows_none))]
-    pub(crate) fn make_room<S: Sink>(&mut self, out: &mut S, len: usize) -> Result<(), Failed>
+    pub(crate) fn make_room<S: Output>(&mut self, out: &mut S, len: usize) -> Result<(), Failed>
         requires { len ≤ ROOM }
         ensures written { Keeps (written (S.held out.old) self.old) (written (S.held out.new) self.new) }
         ensures room { OnOk result (length self.new + len ≤ ROOM) }
@@ -100,7 +101,7 @@ impl Text {
     }
 
     /// Adds a piece of text of at most [`ROOM`] bytes, whole, or nothing where the sink fails.
-    pub fn print<S: Sink>(&mut self, out: &mut S, piece: &[u8]) -> Result<(), Failed>
+    pub fn print<S: Output>(&mut self, out: &mut S, piece: &[u8]) -> Result<(), Failed>
         requires { length piece.now ≤ ROOM }
         ensures { Prints (S.held out.old) (S.held out.new) self.old self.new (S.faults out.old) (S.faults out.new) result piece.now }
     {

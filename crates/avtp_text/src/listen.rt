@@ -8,7 +8,8 @@ ghost use Rattle.avtp_text.specs.Written.{Prints, PrintsPart};
 
 use crate::buffer::{ROOM, Text};
 use crate::line::{LONGEST, Line};
-use avtp_base::{Failed, Sink};
+use crate::output::Output;
+use avtp_base::Failed;
 use listener::Counts;
 use sample_schedule::{Batch, Reason, Shown};
 
@@ -70,7 +71,7 @@ fn prepend_reason(line: &mut Line, reason: Reason)
 impl Text {
     /// Adds a text of any length. Where the sink fails, a front of it was added.
     #[tactic(auto, using(crate::proofs::Printing::part_of))]
-    fn print_all<S: Sink>(&mut self, out: &mut S, text: &[u8]) -> Result<(), Failed>
+    fn print_all<S: Output>(&mut self, out: &mut S, text: &[u8]) -> Result<(), Failed>
         ensures { PrintsPart (S.held out.old) (S.held out.new) self.old self.new (S.faults out.old) (S.faults out.new) result text.now }
     {
         if text.len() <= ROOM {
@@ -82,7 +83,7 @@ impl Text {
     }
 
     /// Adds the hexadecimal digits of bytes, in lower case.
-    fn print_hex<S: Sink>(&mut self, out: &mut S, bytes: &[u8]) -> Result<(), Failed>
+    fn print_hex<S: Output>(&mut self, out: &mut S, bytes: &[u8]) -> Result<(), Failed>
         ensures { PrintsPart (S.held out.old) (S.held out.new) self.old self.new (S.faults out.old) (S.faults out.new) result (encode_lower bytes.now) }
     {
         if bytes.len() <= PIECE {
@@ -93,7 +94,7 @@ impl Text {
         self.print_hex(out, rest)
     }
 
-    fn print_hex_piece<S: Sink>(&mut self, out: &mut S, bytes: &[u8]) -> Result<(), Failed>
+    fn print_hex_piece<S: Output>(&mut self, out: &mut S, bytes: &[u8]) -> Result<(), Failed>
         requires { length bytes.now ≤ PIECE }
         ensures { Prints (S.held out.old) (S.held out.new) self.old self.new (S.faults out.old) (S.faults out.new) result (encode_lower bytes.now) }
     {
@@ -107,7 +108,7 @@ impl Text {
 
     /// Says which capture was opened.
     #[tactic(auto, unfolding(crate::specs::Listen::capture_line))]
-    pub fn capture<S: Sink>(&mut self, out: &mut S, name: &str) -> Result<(), Failed>
+    pub fn capture<S: Output>(&mut self, out: &mut S, name: &str) -> Result<(), Failed>
         ensures { PrintsPart (S.held out.old) (S.held out.new) self.old self.new (S.faults out.old) (S.faults out.new) result (capture_line name.now) }
     {
         self.print(out, b"capture ")?;
@@ -117,7 +118,7 @@ impl Text {
 
     /// Says that an item is not presented, and why.
     #[tactic(auto, unfolding(crate::specs::Listen::flag_line))]
-    pub fn flag<S: Sink>(
+    pub fn flag<S: Output>(
         &mut self,
         out: &mut S,
         frame: u64,
@@ -135,7 +136,7 @@ impl Text {
     }
 
     /// Prints sample `j` of a batch, whose bytes these are.
-    fn sample<S: Sink>(
+    fn sample<S: Output>(
         &mut self,
         out: &mut S,
         batch: &Batch,
@@ -151,7 +152,7 @@ impl Text {
 
     /// Prints a sample with these bytes.
     #[tactic(auto, using(crate::proofs::Printing::part_of))]
-    fn one_sample<S: Sink>(
+    fn one_sample<S: Output>(
         &mut self,
         out: &mut S,
         instant: i64,
@@ -170,7 +171,7 @@ impl Text {
     }
 
     /// Prints a sample in one piece.
-    fn short_sample<S: Sink>(
+    fn short_sample<S: Output>(
         &mut self,
         out: &mut S,
         instant: i64,
@@ -190,7 +191,7 @@ impl Text {
     }
 
     /// Prints a sample of any length.
-    fn long_sample<S: Sink>(
+    fn long_sample<S: Output>(
         &mut self,
         out: &mut S,
         instant: i64,
@@ -210,7 +211,7 @@ impl Text {
     }
 
     /// Prints the samples of a batch, one on each line.
-    fn batch<S: Sink>(&mut self, out: &mut S, batch: &Batch) -> Result<(), Failed>
+    fn batch<S: Output>(&mut self, out: &mut S, batch: &Batch) -> Result<(), Failed>
         ensures { PrintsPart (S.held out.old) (S.held out.new) self.old self.new (S.faults out.old) (S.faults out.new) result (batch_lines batch.now) }
     {
         let bytes = batch.bytes.as_slice();
@@ -223,7 +224,7 @@ impl Text {
     }
 
     /// Prints what a schedule shows: the samples that are presented, and why an item is not.
-    pub fn shown<S: Sink>(&mut self, out: &mut S, shown: &Shown) -> Result<(), Failed>
+    pub fn shown<S: Output>(&mut self, out: &mut S, shown: &Shown) -> Result<(), Failed>
         ensures { PrintsPart (S.held out.old) (S.held out.new) self.old self.new (S.faults out.old) (S.faults out.new) result (shown_lines shown.now) }
     {
         match shown {
@@ -233,7 +234,7 @@ impl Text {
     }
 
     /// Prints all that a schedule shows, in its order.
-    pub fn shown_list<S: Sink>(&mut self, out: &mut S, list: &[Shown]) -> Result<(), Failed>
+    pub fn shown_list<S: Output>(&mut self, out: &mut S, list: &[Shown]) -> Result<(), Failed>
         ensures { PrintsPart (S.held out.old) (S.held out.new) self.old self.new (S.faults out.old) (S.faults out.new) result (list_lines list.now) }
     {
         for shown in list {
@@ -244,7 +245,7 @@ impl Text {
 
     /// Says that a capture ended, and what it held of the stream.
     #[tactic(auto, unfolding(crate::specs::Listen::end_listen_line))]
-    pub fn end_listen<S: Sink>(&mut self, out: &mut S, counts: &Counts) -> Result<(), Failed>
+    pub fn end_listen<S: Output>(&mut self, out: &mut S, counts: &Counts) -> Result<(), Failed>
         ensures { Prints (S.held out.old) (S.held out.new) self.old self.new (S.faults out.old) (S.faults out.new) result (end_listen_line counts.now) }
     {
         let mut line = Line::new();

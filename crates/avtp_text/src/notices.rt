@@ -6,12 +6,17 @@ ghost use Rattle.avtp_text.specs.Written.{Prints};
 
 use crate::buffer::Text;
 use crate::line::Line;
-use avtp_base::{Failed, Refusal, Sink};
+use crate::output::Output;
+use avtp_base::{Failed, Refusal};
 
 impl Text {
     /// Says that a capture was refused at a field, whose offset is in the file.
     #[tactic(auto, unfolding(crate::specs::Notices::capture_refused_line))]
-    pub fn capture_refused<S: Sink>(&mut self, out: &mut S, refusal: Refusal) -> Result<(), Failed>
+    pub fn capture_refused<S: Output>(
+        &mut self,
+        out: &mut S,
+        refusal: Refusal,
+    ) -> Result<(), Failed>
         ensures { Prints (S.held out.old) (S.held out.new) self.old self.new (S.faults out.old) (S.faults out.new) result (capture_refused_line refusal) }
     {
         let mut line = Line::new();
@@ -22,7 +27,7 @@ impl Text {
 
     /// Says that a file could not be read further.
     #[tactic(auto, unfolding(crate::specs::Notices::read_fault_line))]
-    pub fn read_fault<S: Sink>(&mut self, out: &mut S) -> Result<(), Failed>
+    pub fn read_fault<S: Output>(&mut self, out: &mut S) -> Result<(), Failed>
         ensures { Prints (S.held out.old) (S.held out.new) self.old self.new (S.faults out.old) (S.faults out.new) result read_fault_line }
     {
         self.print(out, b"read fault\n")
@@ -30,7 +35,7 @@ impl Text {
 
     /// Says that a file has more than so many bytes.
     #[tactic(auto, unfolding(crate::specs::Notices::limit_line))]
-    pub fn limit<S: Sink>(&mut self, out: &mut S, bytes: u64) -> Result<(), Failed>
+    pub fn limit<S: Output>(&mut self, out: &mut S, bytes: u64) -> Result<(), Failed>
         ensures { Prints (S.held out.old) (S.held out.new) self.old self.new (S.faults out.old) (S.faults out.new) result (limit_line bytes) }
     {
         let mut line = Line::new();
@@ -40,7 +45,7 @@ impl Text {
 
     /// Says which word of the command line, counted from 1, is the first that cannot stand at its place.
     #[tactic(auto, unfolding(crate::specs::Notices::words_line))]
-    pub fn words<S: Sink>(&mut self, out: &mut S, place: u64) -> Result<(), Failed>
+    pub fn words<S: Output>(&mut self, out: &mut S, place: u64) -> Result<(), Failed>
         ensures { Prints (S.held out.old) (S.held out.new) self.old self.new (S.faults out.old) (S.faults out.new) result (words_line place) }
     {
         let mut line = Line::new();

@@ -12,8 +12,9 @@ ghost use Rattle.avtp_text.specs.Written.{Prints};
 
 use crate::buffer::Text;
 use crate::line::{LONGEST, Line};
+use crate::output::Output;
 use aaf_format::{AafFormat, AafView, rate_of};
-use avtp_base::{Failed, Refusal, Sink};
+use avtp_base::{Failed, Refusal};
 use avtp_header::StreamHeader;
 use crf_format::{CrfView, point};
 use cvf_format::{CvfView, NalPart};
@@ -167,7 +168,7 @@ fn prepend_crf(line: &mut Line, view: &CrfView<'_>)
 impl Text {
     /// Says that a frame or its packet was refused at a field, whose offset is in the frame.
     #[tactic(auto, unfolding(crate::specs::Show::refused_content))]
-    pub fn frame_refused<S: Sink>(
+    pub fn frame_refused<S: Output>(
         &mut self,
         out: &mut S,
         number: u64,
@@ -185,7 +186,7 @@ impl Text {
 
     /// Says which EtherType a frame has that is not AVTP's, and how long its payload is.
     #[tactic(auto, unfolding(crate::specs::Show::ethertype_content))]
-    pub fn frame_ethertype<S: Sink>(
+    pub fn frame_ethertype<S: Output>(
         &mut self,
         out: &mut S,
         number: u64,
@@ -203,7 +204,7 @@ impl Text {
 
     /// Says which AVTP subtype a packet has that is not read.
     #[tactic(auto, unfolding(crate::specs::Show::other_content))]
-    pub fn frame_other<S: Sink>(
+    pub fn frame_other<S: Output>(
         &mut self,
         out: &mut S,
         number: u64,
@@ -219,7 +220,7 @@ impl Text {
     }
 
     /// Says what an AAF packet holds. The rate is in Hz, and 0 where only the user knows it.
-    pub fn frame_aaf<S: Sink>(
+    pub fn frame_aaf<S: Output>(
         &mut self,
         out: &mut S,
         number: u64,
@@ -235,7 +236,7 @@ impl Text {
     }
 
     /// Says what an IEC 61883-6 packet holds.
-    pub fn frame_iec<S: Sink>(
+    pub fn frame_iec<S: Output>(
         &mut self,
         out: &mut S,
         number: u64,
@@ -251,7 +252,7 @@ impl Text {
     }
 
     /// Says what an H.264 packet holds.
-    pub fn frame_h264<S: Sink>(
+    pub fn frame_h264<S: Output>(
         &mut self,
         out: &mut S,
         number: u64,
@@ -267,7 +268,7 @@ impl Text {
     }
 
     /// Says what a CRF packet holds, which has at least one timestamp.
-    pub fn frame_crf<S: Sink>(
+    pub fn frame_crf<S: Output>(
         &mut self,
         out: &mut S,
         number: u64,
@@ -285,7 +286,7 @@ impl Text {
 
     /// Says that a capture ended after so many records.
     #[tactic(auto, unfolding(crate::specs::Show::end_frames_line))]
-    pub fn end_frames<S: Sink>(&mut self, out: &mut S, frames: u64) -> Result<(), Failed>
+    pub fn end_frames<S: Output>(&mut self, out: &mut S, frames: u64) -> Result<(), Failed>
         ensures { Prints (S.held out.old) (S.held out.new) self.old self.new (S.faults out.old) (S.faults out.new) result (end_frames_line frames) }
     {
         let mut line = Line::new();

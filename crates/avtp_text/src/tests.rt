@@ -13,6 +13,7 @@ use listener::Counts;
 use pcap_frames::FrameView;
 use sample_schedule::Reason;
 use sequence_track::Findings;
+use soak_run::SoakCounts;
 use std::alloc::Global;
 use std::test::Fail;
 use talker::TalkFault;
@@ -208,6 +209,18 @@ fn every_line<S: Sink>(text: &mut Text, out: &mut S) -> Result<(), Failed> {
     ] {
         text.talk_input(out, fault)?;
     }
+    text.soak(
+        out,
+        1_000,
+        &SoakCounts {
+            delivered: 1,
+            presented: 2,
+            late: 3,
+            repeat: 4,
+            untimed: 5,
+            full: 6,
+        },
+    )?;
     text.print(out, b"")?;
     text.flush(out)
 }
@@ -246,6 +259,7 @@ talk input: start_code
 talk input: nal_type
 talk input: packets
 talk input: arrival
+soak 1000 delivered 1 presented 2 late 3 repeat 4 untimed 5 full 6
 ";
 
 fn may_cross_threads<T: Send>(_value: &T) {}

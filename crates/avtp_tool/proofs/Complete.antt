@@ -19,7 +19,7 @@ use Rattle.capture_io.specs.declared.end.End.TheVariants as end
 use Rattle.capture_io.specs.Ends.{at_end, EndsAt, end_of}
 use Rattle.capture_io.proofs.Ending.{at_end_is}
 use Rattle.avtp_text.specs.Notices.{limit_line}
-use Rattle.avtp_words.specs.Grammar.{Listening, Request, show, check, listen, talk}
+use Rattle.avtp_words.specs.Grammar.{Listening, Request, show, check, listen, talk, soak}
 use Rattle.avtp_tool.specs.declared.status.Status.{Status}
 use Rattle.avtp_tool.specs.declared.status.Status.TheVariants as status
 use Rattle.avtp_tool.specs.Check.{check_plan}
@@ -122,6 +122,7 @@ outcome_here (show limit file) files cause = plan_here (show_plan limit file) fi
 outcome_here (check limit names) files cause = plan_here (check_plan limit names) files cause
 outcome_here (listen asked) files cause = plan_here (listen_plan asked) files cause
 outcome_here (talk asked) files cause = (refl, talk_here (talk_plan asked) (files asked.input) cause)
+outcome_here (soak packets) files cause = (refl, (refl, refl))
 
 pub complete_of : (request : Request) (files : Files) (cause : Type 0) (came : List (List ℕ)) (ended : Status) (text : List ℕ) → (cause → ⊥) → Outcome request files cause came ended text
     → (came ≡ came_for request files) × (ended ≡ status_for request files) × (text ≡ report_for request files)
@@ -131,6 +132,7 @@ complete_of (listen asked) files cause came ended text none o = complete_plan (l
 complete_of (talk asked) files cause came ended text none o =
     let same = complete_input (talk_plan asked) (files asked.input) cause ended text none o.1 in
     (o.0 ∙ ap (talk_came asked) same.0, same.0, same.1)
+complete_of (soak packets) files cause came ended text none o = (o.0, o.1.0, o.1.1)
 
 -- ---- the headline
 

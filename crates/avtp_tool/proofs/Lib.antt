@@ -5,7 +5,8 @@ pub mod DoesFile
 pub mod Lines
 pub mod Shown
 pub mod CheckedTo
-pub mod DueTo
+pub mod Passing
+pub mod HearingTo
 pub mod HeardTo
 pub mod InOrder
 pub mod ReadFiles
@@ -14,6 +15,7 @@ pub mod Finished
 pub mod Complete
 pub mod Asked
 pub mod Sending
+pub mod Soaked
 pub mod Making
 pub mod Talked
 pub mod TalkRun

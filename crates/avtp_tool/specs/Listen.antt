@@ -1,8 +1,8 @@
 -- What `listen` prints and how it ends.
-use Rattle.std.specs.Prelude.{◌≡◌, ◌≢◌, ℕ, ℤ, false, List, [], ◌++◌, drop, length, Option, None, Some, Result, Ok, Err}
+use Rattle.std.specs.Prelude.{◌≡◌, ℕ, ℤ, List, [], ◌++◌, Option, None, Some, IsSome, OnOk, Result, Ok, Err}
 use Rattle.avtp_base.specs.declared.failed.Failed.{Failed}
 use Rattle.avtp_base.specs.declared.refusal.Refusal.{Refusal}
-use Rattle.avtp_base.specs.Files.{Files}
+use Rattle.avtp_base.specs.Files.{Files, Slots}
 use Rattle.avtp_base.specs.Told.{Appends}
 use Rattle.pcap_frames.specs.Capture.{Record}
 use Rattle.capture_io.specs.Formats.{records_in, refusal_in}
@@ -12,16 +12,18 @@ use Rattle.listener.specs.declared.heard.Counts.{Counts}
 use Rattle.listener.specs.declared.plan.ListenPlan.{ListenPlan}
 use Rattle.listener.specs.Headline.{KeepsHeadline}
 use Rattle.listener.specs.Heard.{counts_of, due_of, shown_of}
-use Rattle.listener.specs.Listening.{IsIdle, ListenState, StandsFor, is_closed}
+use Rattle.listener.specs.Listening.{ListenState}
 use Rattle.avtp_words.specs.Grammar.{Listening}
 use Rattle.avtp_text.specs.Listen.{capture_line, list_lines, end_listen_line}
 use Rattle.avtp_text.specs.Notices.{capture_refused_line, read_fault_line, limit_line}
-use Rattle.avtp_text.specs.Written.{AppendsPrefix}
+use Rattle.avtp_text.specs.Written.{AppendsPrefix, PrintsPart}
 use Rattle.capture_io.specs.declared.end.End.{End}
 use Rattle.capture_io.specs.declared.end.End.TheVariants as end
-use Rattle.capture_io.specs.Source.{EndsAfter}
-use Rattle.avtp_tool.specs.declared.listen.Heard.{Heard}
-use Rattle.avtp_tool.specs.declared.listen.Heard.TheVariants.{Ended, NoMemory}
+use Rattle.capture_io.specs.Source.{EndsAfter, Sourcing}
+use Rattle.avtp_tool.specs.declared.hearing.Heard.{Heard}
+use Rattle.avtp_tool.specs.declared.hearing.Heard.TheVariants.{Ended, NoMemory}
+use Rattle.avtp_tool.specs.declared.hearing.Stage.{Stage}
+use Rattle.avtp_tool.specs.Hearing.{Shows, pull_at}
 use Rattle.avtp_tool.specs.declared.status.Status.{Status}
 use Rattle.avtp_tool.specs.Reading.{file_text, in_order_status, one_status, ReadPlan, Report}
 use Rattle.avtp_tool.specs.Status.{status_of}
@@ -103,35 +105,15 @@ HearsRecords asked name bytes fault before now (Ok (Ended how counts)) = HasHear
 HearsRecords asked name bytes fault before now (Ok NoMemory) = AppendsPrefix before now (file_text (listen_report asked name) asked.limit (Some bytes))
 HearsRecords asked name bytes fault before now (Err e) = AppendsPrefix before now (file_text (listen_report asked name) asked.limit (Some bytes))
 
--- a listener that was given nothing
-pub record HasBegun (listener : ListenState) : Type 0 where
-  pub stands : StandsFor [] 0 listener
-  pub going : is_closed listener ≡ false
-  pub idle : IsIdle listener
-  pub none : listener.counts.frames ≡ 0
-
--- how many items were shown of these records before their reading ended
-abbrev pub due_count : ListenState → List Record → ℕ
-due_count listener records = length (due_of listener.plan records)
-
--- what is left to show of them
-abbrev pub left_by : ListenState → List Record → End → List Shown
-left_by listener records how = drop (due_count listener records) (shown_by listener.plan records how)
-
--- The reading of the records that the listener was given ended so, and what was left to show of them was printed and counted; or
--- where the sink failed, a prefix of it was printed. (At a fault of reading nothing is left to show, so nothing fails.)
-pub record ShowsRest (how : End) (listener : ListenState) (before now : Option (List ℕ)) (counts : Counts) (records : List Record) : Type 0 where
-  pub lines : Appends before now (list_lines (left_by listener records how))
-  pub counted : counts ≡ counts_of listener.plan records (shown_by listener.plan records how)
-
-abbrev pub HasEnded : End → ListenState → Option (List ℕ) → Option (List ℕ) → Result Heard Failed → Type 0
-HasEnded how listener before now (Ok (Ended ended counts)) = (ended ≡ how) × ((records : List Record) → StandsFor records (due_count listener records) listener → ShowsRest how listener before now counts records)
-HasEnded how listener before now (Ok NoMemory) = ⊥
-HasEnded how listener before now (Err e) =
-    (how ≢ end.ReadFault) × ((records : List Record) → StandsFor records (due_count listener records) listener → AppendsPrefix before now (list_lines (left_by listener records how)))
-
 -- how the reading of the records ended, where it did
-abbrev pub heard_end : Result Heard Failed → Option End
-heard_end (Ok (Ended how counts)) = Some how
-heard_end (Ok NoMemory) = None
-heard_end (Err e) = None
+abbrev pub heard_end : Heard → Option End
+heard_end (Ended how counts) = Some how
+heard_end NoMemory = None
+
+-- Items were shown and their lines printed, all of them where the hearing ended, or a prefix where the sink failed.
+pub record HearsItems (old_files new_files : Option Files) (old_slots new_slots : Slots) (old_reading new_reading old_writing new_writing : ℕ) (old_asked new_asked : List (List ℕ) → Type 0)
+    (old_source source : Sourcing) (old_listener listener : ListenState) (stage : Stage) (held held' : Option (List ℕ)) (waits waits' : List ℕ) (faults faults' : ℕ) (result : Result Unit Failed) : Type 0 where
+  pub items : List Shown
+  pub shows : Shows old_files new_files old_slots new_slots old_reading new_reading old_writing new_writing old_asked new_asked old_source source old_listener listener stage items
+  pub prints : PrintsPart held held' waits waits' faults faults' result (list_lines items)
+  pub over : OnOk result (IsSome (pull_at stage))

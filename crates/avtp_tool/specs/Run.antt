@@ -8,15 +8,16 @@ use Rattle.talker.specs.Plan.{IsPlan}
 use Rattle.sample_schedule.specs.Limits.{IsPlan as IsSchedulePlan}
 use Rattle.listener.specs.Heard.{schedule_plan}
 use Rattle.avtp_text.specs.Written.{written}
-use Rattle.avtp_words.specs.Grammar.{files_of, IsCommandLine, IsOffence, output_of, Request, show, check, listen, talk, Listening, Talking}
+use Rattle.avtp_words.specs.Grammar.{files_of, IsCommandLine, IsOffence, output_of, Request, show, check, listen, talk, soak, Listening, Talking}
 use Rattle.avtp_tool.specs.declared.status.Status.{Status}
 use Rattle.avtp_tool.specs.declared.status.Status.TheVariants as status
 use Rattle.avtp_tool.specs.Check.{check_plan}
 use Rattle.avtp_tool.specs.Listen.{listen_plan, plan_of}
 use Rattle.avtp_tool.specs.Made.{CountsWriting, KeepsFilesBut, KeepsSlotsFor, Makes}
-use Rattle.avtp_tool.specs.Outcome.{AsksFor, CountsReading, is_done, IsDone, KeepsSink, TellsRun}
+use Rattle.avtp_tool.specs.Outcome.{AsksFor, CountsReading, is_done, IsDone, KeepsSink, Only, TellsRun}
 use Rattle.avtp_tool.specs.Reading.{PlanOutcome, plan_read, plan_status, plan_text}
 use Rattle.avtp_tool.specs.Show.{show_plan}
+use Rattle.avtp_tool.specs.Soak.{soak_report}
 use Rattle.avtp_tool.specs.Talk.{TalkOutcome, talk_plan, talk_report, talk_status}
 
 -- the names to which a run of `talk` comes that ends so: that of its output where it was made
@@ -30,6 +31,7 @@ Outcome (show limit file) files fault came ended text = PlanOutcome (show_plan l
 Outcome (check limit names) files fault came ended text = PlanOutcome (check_plan limit names) files fault came ended text
 Outcome (listen asked) files fault came ended text = PlanOutcome (listen_plan asked) files fault came ended text
 Outcome (talk asked) files fault came ended text = (came ≡ talk_came asked ended) × TalkOutcome (talk_plan asked) (files asked.input) fault ended text
+Outcome (soak packets) files fault came ended text = (came ≡ []) × Only status.Done (soak_report packets) ended text
 
 -- ---- where no fault of reading comes
 
@@ -39,6 +41,7 @@ status_for (show limit file) files = plan_status (show_plan limit file) files
 status_for (check limit names) files = plan_status (check_plan limit names) files
 status_for (listen asked) files = plan_status (listen_plan asked) files
 status_for (talk asked) files = talk_status (talk_plan asked) (files asked.input)
+status_for (soak packets) files = status.Done
 
 -- the whole text
 abbrev pub report_for : Request → Files → List ℕ
@@ -46,6 +49,7 @@ report_for (show limit file) files = plan_text (show_plan limit file) files
 report_for (check limit names) files = plan_text (check_plan limit names) files
 report_for (listen asked) files = plan_text (listen_plan asked) files
 report_for (talk asked) files = talk_report (talk_plan asked) (files asked.input)
+report_for (soak packets) files = soak_report packets
 
 -- the names to which it comes
 abbrev pub came_for : Request → Files → List (List ℕ)
@@ -53,6 +57,7 @@ came_for (show limit file) files = plan_read (show_plan limit file) files
 came_for (check limit names) files = plan_read (check_plan limit names) files
 came_for (listen asked) files = plan_read (listen_plan asked) files
 came_for (talk asked) files = talk_came asked (talk_status (talk_plan asked) (files asked.input))
+came_for (soak packets) files = []
 
 -- ---- what it does beside
 
@@ -70,6 +75,7 @@ MakesOf (show limit file) all files files' result = KeepsFiles files files'
 MakesOf (check limit names) all files files' result = KeepsFiles files files'
 MakesOf (listen asked) all files files' result = KeepsFiles files files'
 MakesOf (talk asked) all files files' result = MakesFrom asked (all asked.input) files files' result
+MakesOf (soak packets) all files files' result = KeepsFiles files files'
 
 -- A run of the request left this: of the text, of the files and slots, of the counts of faults, and of the names that were
 -- asked for.
@@ -94,9 +100,11 @@ IsAsked words = ((request : Request) × IsCommandLine words request) ⊎ ((posit
 pub record IsListening (asked : Listening) : Type 0 where
   pub limit : asked.limit ≤ 2 ^ 40
   pub plan : IsSchedulePlan (schedule_plan (plan_of asked))
+  pub ring : (1 ≤ asked.ring) × (asked.ring ≤ 256)
 
 abbrev pub IsRequest : Request → Type 0
 IsRequest (show limit file) = limit ≤ 2 ^ 40
 IsRequest (check limit names) = limit ≤ 2 ^ 40
 IsRequest (listen asked) = IsListening asked
 IsRequest (talk asked) = IsPlan (talk_plan asked)
+IsRequest (soak packets) = packets ≤ 1000000

@@ -1,5 +1,5 @@
 -- What `talk` prints and how it ends.
-use Rattle.std.specs.Prelude.{◌≡◌, ◌≢◌, ℕ, ◌≤◌, ◌<◌, nat_le, List, [], ◌∷◌, length, take, Option, Some, None, Result, Ok, IfOk, if◌then◌else◌}
+use Rattle.std.specs.Prelude.{◌≡◌, ◌≢◌, ℕ, ◌≤◌, ◌<◌, nat_le, List, [], ◌∷◌, length, take, Option, Some, None, option_map, Result, Ok, IfOk, if◌then◌else◌}
 use Rattle.avtp_base.specs.declared.failed.Failed.{Failed}
 use Rattle.avtp_base.specs.Files.{Files, Slots}
 use Rattle.capture_io.specs.declared.contents.Contents.{Contents}
@@ -8,8 +8,10 @@ use Rattle.capture_io.specs.declared.end.Stop.{Stop}
 use Rattle.capture_io.specs.declared.end.Stop.TheVariants as stop
 use Rattle.capture_io.specs.Writing.{KeepsSlotsBut}
 use Rattle.talker.specs.declared.fault.TalkFault.{TalkFault}
+use Rattle.talker.specs.declared.plan.CrfPlan.{CrfPlan}
 use Rattle.talker.specs.declared.plan.TalkKind.{TalkKind}
-use Rattle.talker.specs.declared.plan.TalkKind.TheVariants.{Aaf, Am824}
+use Rattle.talker.specs.declared.plan.TalkKind.TheVariants.{Aaf, Am824, H264}
+use Rattle.avtp_words.specs.declared.crf.Crf.{Crf}
 use Rattle.avtp_words.specs.declared.talk.Kind.{Kind}
 use Rattle.avtp_words.specs.declared.talk.Kind.TheVariants as words
 use Rattle.talker.specs.declared.plan.TalkPlan.{TalkPlan}
@@ -30,8 +32,12 @@ use Rattle.avtp_text.specs.Written.{written}
 abbrev pub talk_kind : Kind → TalkKind
 talk_kind (words.Aaf format sparse) = Aaf format sparse
 talk_kind words.Am824 = Am824
+talk_kind (words.H264 last_stamp) = H264 last_stamp
 
--- what is asked for: audio without a media clock
+abbrev pub talk_clock : Crf → CrfPlan
+talk_clock crf = record { id = crf.id; rate = crf.rate; pull = crf.pull; interval = crf.interval; points = crf.points }
+
+-- what is asked for
 abbrev pub talk_plan : Talking → TalkPlan
 talk_plan asked = record {
   kind = talk_kind asked.kind;
@@ -43,7 +49,7 @@ talk_plan asked = record {
   lead = asked.lead;
   restart = asked.restart;
   jump = asked.jump;
-  crf = None;
+  crf = option_map talk_clock asked.crf;
 }
 
 -- how many packets were sent of the stream, and of its media clock

@@ -21,15 +21,25 @@ ghost use Rattle.avtp_tool.specs.Talk.{talk_plan};
 
 use crate::files::{Reading, read_files};
 use crate::show::show;
+use crate::soak::soak;
 use crate::status::Status;
 use crate::talk::talk;
 use avtp_base::{Failed, OpenFault, Shelf, Sink};
 use avtp_text::Text;
 use avtp_words::{Command, parse};
+use presenter_ring::Gate;
 use std::alloc::Global;
+use std::thread::Threads;
 
 /// Does what the words ask for: reads and writes the files that they name, writes the text, and answers how that ended.
-pub fn run<F: Shelf, S: Sink>(alloc: Global, words: &[String], shelf: &mut F, out: &mut S) -> Status
+pub fn run<T: Threads + Sync, F: Shelf, S: Sink, G: Gate>(
+    rt: &T,
+    alloc: Global,
+    words: &[String],
+    shelf: &mut F,
+    out: &mut S,
+    gate: &G,
+) -> Status
     // What is printed is the report of the files to which the run came, and it came to these alone.
     ensures shown { result ≢ Status.Memory → result ≢ Status.WriteFault → (request : Request) (files : Files) →
         IsCommandLine (texts words.now) request → F.files shelf.old ≡ Some files → IsSome (F.files shelf.new) →
@@ -106,17 +116,19 @@ pub fn run<F: Shelf, S: Sink>(alloc: Global, words: &[String], shelf: &mut F, ou
     let Ok(mut text) = Text::new(alloc) else {
         return Status::Memory;
     };
-    let ended = execute(alloc, words, shelf, &mut text, out);
+    let ended = execute(rt, alloc, words, shelf, &mut text, out, gate);
     finish(&mut text, out, ended)
 }
 
 /// Does what the words ask for, or says which of them cannot stand.
-fn execute<F: Shelf, S: Sink>(
+fn execute<T: Threads + Sync, F: Shelf, S: Sink, G: Gate>(
+    rt: &T,
     alloc: Global,
     words: &[String],
     shelf: &mut F,
     text: &mut Text,
     out: &mut S,
+    gate: &G,
 ) -> Result<Status, Failed>
     ensures runs { (request : Request) → IsCommandLine (texts words.now) request → Runs request (F.files shelf.old) (F.files shelf.new) (F.slots shelf.old) (F.slots shelf.new) (F.reading_faults shelf.old) (F.reading_faults shelf.new)
         (F.writing_faults shelf.old) (F.writing_faults shelf.new) (F.asked shelf.old) (F.asked shelf.new)
@@ -129,22 +141,27 @@ fn execute<F: Shelf, S: Sink>(
     match parse(words) {
         Ok(Command::Show { limit, file }) => show(alloc, limit, file, shelf, text, out),
         Ok(Command::Check { limit, files }) => read_files(
+            rt,
             alloc,
             &Reading::Check { limit },
             files,
             shelf,
             text,
             out,
+            gate,
         ),
         Ok(Command::Listen(asked)) => read_files(
+            rt,
             alloc,
             &Reading::Listen(&asked),
             asked.files,
             shelf,
             text,
             out,
+            gate,
         ),
         Ok(Command::Talk(asked)) => talk(alloc, &asked, shelf, text, out),
+        Ok(Command::Soak { packets }) => soak(alloc, packets, text, out),
         Err(offence) => print_offence(text, out, offence.position as u64),
     }
 }

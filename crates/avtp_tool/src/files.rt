@@ -12,7 +12,9 @@ use crate::status::Status;
 use avtp_base::{Failed, Shelf, Sink};
 use avtp_text::Text;
 use avtp_words::Listen;
+use presenter_ring::Gate;
 use std::alloc::Global;
+use std::thread::Threads;
 
 /// What is done with each file.
 #[derive(Clone, Copy, Debug)]
@@ -25,13 +27,15 @@ pub enum Reading<'a> {
 
 /// Reads the files in order, each to its end, and does with each what is asked for. The first that ends otherwise ends the
 /// run.
-pub fn read_files<F: Shelf, S: Sink>(
+pub fn read_files<T: Threads + Sync, F: Shelf, S: Sink, G: Gate>(
+    rt: &T,
     alloc: Global,
     reading: &Reading<'_>,
     files: &[String],
     shelf: &mut F,
     text: &mut Text,
     out: &mut S,
+    gate: &G,
 ) -> Result<Status, Failed>
     requires { IsReading reading.now }
     ensures { DoesFiles (plan_for reading.now (texts files.now)) (F.files shelf.old) (F.files shelf.new) (F.slots shelf.old) (F.slots shelf.new) (F.reading_faults shelf.old) (F.reading_faults shelf.new)
@@ -39,7 +43,7 @@ pub fn read_files<F: Shelf, S: Sink>(
 {
     let mut ended = Status::Done;
     for file in files {
-        match read_file(alloc, reading, file, shelf, text, out)? {
+        match read_file(rt, alloc, reading, file, shelf, text, out, gate)? {
             Status::Done => {}
             Status::Findings => ended = Status::Findings,
             other => return Ok(other),
@@ -49,13 +53,15 @@ pub fn read_files<F: Shelf, S: Sink>(
 }
 
 /// Reads a file, and does with it what is asked for.
-fn read_file<F: Shelf, S: Sink>(
+fn read_file<T: Threads + Sync, F: Shelf, S: Sink, G: Gate>(
+    rt: &T,
     alloc: Global,
     reading: &Reading<'_>,
     file: &str,
     shelf: &mut F,
     text: &mut Text,
     out: &mut S,
+    gate: &G,
 ) -> Result<Status, Failed>
     requires { IsReading reading.now }
     ensures { DoesFile (report_for reading.now file.now) (limit_for reading.now) file.now (F.files shelf.old) (F.files shelf.new) (F.slots shelf.old) (F.slots shelf.new) (F.reading_faults shelf.old) (F.reading_faults shelf.new)
@@ -63,6 +69,6 @@ fn read_file<F: Shelf, S: Sink>(
 {
     match reading {
         Reading::Check { limit } => check(alloc, *limit, file, shelf, text, out),
-        Reading::Listen(asked) => listen(alloc, asked, file, shelf, text, out),
+        Reading::Listen(asked) => listen(rt, alloc, asked, file, shelf, text, out, gate),
     }
 }

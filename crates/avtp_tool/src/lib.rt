@@ -5,10 +5,15 @@ mod check;
 mod checked;
 mod command;
 mod files;
+mod hearing;
 mod law;
 mod listen;
+mod presenting;
+mod receiving;
 mod record;
+mod rounds;
 mod show;
+mod soak;
 mod status;
 mod talk;
 

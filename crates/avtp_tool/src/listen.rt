@@ -1,28 +1,35 @@
 //! The command `listen`: when each sample of a stream is due.
 
-ghost use Rattle.std.specs.Prelude.{◌≡◌, ℕ, List, [], drop, false, length, OnOk};
+ghost use Rattle.std.specs.Prelude.{◌≡◌, ◌≤◌, ℕ, List, [], Ok, IfOk, IsSome, None};
 ghost use Rattle.avtp_base.specs.Faults.{Rose};
 ghost use Rattle.avtp_base.specs.Files.{left_in};
 ghost use Rattle.avtp_words.specs.Grammar.{Listening, listening_of};
-ghost use Rattle.avtp_text.specs.Listen.{list_lines};
-ghost use Rattle.avtp_text.specs.Written.{written, Prints, PrintsPart};
-ghost use Rattle.pcap_frames.specs.Capture.{Record};
+ghost use Rattle.avtp_text.specs.Written.{written, Prints};
+ghost use Rattle.capture_io.specs.Ends.{CountsFault};
+ghost use Rattle.capture_io.specs.Reads.{ReadsSlot};
 ghost use Rattle.capture_io.specs.Source.{HasGiven, slot_of};
-ghost use Rattle.listener.specs.Listening.{IsIdle, Keeps, StandsFor, is_closed, out as out_of};
-ghost use Rattle.avtp_tool.specs.Listen.{HasBegun, HasEnded, HearsRecords, heard_end, last_line, listen_report, plan_of};
+ghost use Rattle.listener.specs.Listening.{StandsFor};
+ghost use Rattle.presenter_ring.specs.Pipes.{ended_with, given_to, waiting_in};
+ghost use Rattle.avtp_tool.specs.Listen.{HearsItems, HearsRecords, heard_end, last_line, listen_report, plan_of};
 ghost use Rattle.avtp_tool.specs.Outcome.{EndsWith, KeepsSink};
-ghost use Rattle.avtp_tool.specs.Reading.{DoesFile, IsOpen, ReadsCapture};
+ghost use Rattle.avtp_tool.specs.Reading.{DoesFile};
 ghost use Rattle.avtp_tool.specs.Run.{IsListening};
 ghost use Rattle.avtp_tool.specs.Status.{status_of};
 
 use crate::command::print_unopened;
+use crate::hearing::{Heard, Hearing, Stage};
+use crate::presenting::Presenting;
+use crate::receiving::Receiving;
+use crate::rounds::present_all;
 use crate::status::Status;
 use avtp_base::{Failed, Shelf, Sink};
 use avtp_text::Text;
 use avtp_words::Listen;
 use capture_io::{End, Source};
 use listener::{Counts, ListenPlan, RecordListener};
+use presenter_ring::{Gate, Pipe};
 use std::alloc::Global;
+use std::thread::Threads;
 
 /// The listener that the words ask for.
 fn plan(asked: &Listen<'_>) -> ListenPlan
@@ -39,116 +46,117 @@ fn plan(asked: &Listen<'_>) -> ListenPlan
     }
 }
 
-/// How far a capture was heard.
-#[derive(Clone, Copy, Debug, PartialEq, Eq)]
-pub enum Heard {
-    /// As far as it could be read, which ended so, and what was counted of it.
-    Ended { end: End, counts: Counts },
-    /// Up to a record for which no memory was found.
-    NoMemory,
-}
-
 /// Prints of a capture what of the stream is presented, at which instants, and why the rest is not, each as soon as it is due.
-pub fn listen<F: Shelf, S: Sink>(
+/// One thread reads and judges, and another writes.
+pub fn listen<T: Threads + Sync, F: Shelf, S: Sink, G: Gate>(
+    rt: &T,
     alloc: Global,
     asked: &Listen<'_>,
     file: &str,
     shelf: &mut F,
     text: &mut Text,
     out: &mut S,
+    gate: &G,
 ) -> Result<Status, Failed>
     requires { IsListening (listening_of asked.now) }
     ensures { DoesFile (listen_report (listening_of asked.now) file.now) asked.now.limit file.now (F.files shelf.old) (F.files shelf.new) (F.slots shelf.old) (F.slots shelf.new) (F.reading_faults shelf.old) (F.reading_faults shelf.new)
         (F.writing_faults shelf.old) (F.writing_faults shelf.new) (F.asked shelf.old) (F.asked shelf.new) (S.held out.old) (S.held out.new) text.old text.new (S.faults out.old) (S.faults out.new) result }
 {
-    let mut source = match Source::open(alloc, asked.limit, shelf, file) {
+    let source = match Source::open(alloc, asked.limit, shelf, file) {
         Ok(source) => source,
         Err(fault) => return print_unopened(text, out, fault),
     };
-    let Ok(mut listener) = RecordListener::begin(alloc, plan(asked)) else {
+    let Ok(listener) = RecordListener::begin(alloc, plan(asked)) else {
         source.close(shelf);
         return Ok(Status::Memory);
     };
-    let heard = hear_records(alloc, file, &mut listener, &mut source, shelf, text, out);
-    source.close(shelf);
+    let mut hearing = Hearing::begin(source, listener, alloc);
+    let ring = asked.ring;
+    let heard = hear_records(rt, alloc, ring, file, &mut hearing, shelf, text, out, gate);
+    hearing.close(shelf);
     match heard? {
         Heard::Ended { end, counts } => print_last(text, out, asked.limit, &counts, end),
         Heard::NoMemory => Ok(Status::Memory),
     }
 }
 
-/// Prints a capture's name and what is shown of its records, as far as it can be read, each item once it is due.
-fn hear_records<F: Shelf, S: Sink>(
+/// Prints a capture's name and what is shown of its records, as far as it can be read, each item once it is due. At most `ring`
+/// items wait between the two threads.
+fn hear_records<T: Threads + Sync, F: Shelf, S: Sink, G: Gate>(
+    rt: &T,
     alloc: Global,
+    ring: u32,
     file: &str,
-    listener: &mut RecordListener,
-    source: &mut Source,
+    hearing: &mut Hearing,
     shelf: &mut F,
     text: &mut Text,
     out: &mut S,
+    gate: &G,
 ) -> Result<Heard, Failed>
-    requires open { IsOpen (F.slots shelf.old) source.old }
-    requires begun { HasBegun listener.old }
-    ensures heard { (asked : Listening) (bytes : List ℕ) → listener.old.plan ≡ plan_of asked → HasGiven asked.limit bytes (left_in (F.slots shelf.old) (slot_of source.old)) source.old [] →
+    requires ring { (1 ≤ ring) × (ring ≤ 256) }
+    requires live { IsSome (F.slots shelf.old (slot_of hearing.old.source)) }
+    requires begun { (hearing.old.stage ≡ Stage.Reading) × StandsFor [] 0 hearing.old.listener }
+    ensures heard { (asked : Listening) (bytes : List ℕ) → hearing.old.listener.plan ≡ plan_of asked → HasGiven asked.limit bytes (left_in (F.slots shelf.old) (slot_of hearing.old.source)) hearing.old.source [] →
         HearsRecords asked file.now bytes (Rose (F.reading_faults shelf.old) (F.reading_faults shelf.new)) (written (S.held out.old) text.old) (written (S.held out.new) text.new) result }
-    ensures reads { ReadsCapture (F.files shelf.old) (F.files shelf.new) (F.slots shelf.old) (F.slots shelf.new) (F.reading_faults shelf.old) (F.reading_faults shelf.new)
-        (F.writing_faults shelf.old) (F.writing_faults shelf.new) (F.asked shelf.old) (F.asked shelf.new) (slot_of source.old) (slot_of source.new) (heard_end result) }
+    ensures reads { ReadsSlot (F.files shelf.old) (F.files shelf.new) (F.slots shelf.old) (F.slots shelf.new) (F.reading_faults shelf.old) (F.reading_faults shelf.new)
+        (F.writing_faults shelf.old) (F.writing_faults shelf.new) (F.asked shelf.old) (F.asked shelf.new) (slot_of hearing.old.source) (slot_of hearing.new.source) }
+    ensures counted { IfOk result (λ heard. CountsFault None (heard_end heard) (F.reading_faults shelf.old) (F.reading_faults shelf.new)) }
     ensures sink { KeepsSink (S.held out.old) (S.held out.new) (S.faults out.old) (S.faults out.new) result }
 {
+    let Ok(mut pipe) = Pipe::begin(alloc, ring) else {
+        return Ok(Heard::NoMemory);
+    };
     text.capture(out, file)?;
-    loop {
-        if let Some(end) = source.next(shelf) {
-            return hear_end(listener, text, out, end);
-        }
-        if listener.take_record(alloc, &source.record()).is_err() {
-            return Ok(Heard::NoMemory);
-        }
-        print_due(listener, text, out)?;
-    }
+    hear_items(rt, &mut pipe, hearing, shelf, text, out, gate)?;
+    Ok(hearing.heard())
 }
 
-/// Prints what is left to show, where the reading was not cut short.
-fn hear_end<S: Sink>(
-    listener: &mut RecordListener,
+/// Prints what is shown of a capture's records, as far as it can be read.
+fn hear_items<T: Threads + Sync, F: Shelf, S: Sink, G: Gate>(
+    rt: &T,
+    pipe: &mut Pipe,
+    hearing: &mut Hearing,
+    shelf: &mut F,
     text: &mut Text,
     out: &mut S,
-    end: End,
-) -> Result<Heard, Failed>
-    requires open { is_closed listener.old ≡ false }
-    requires idle { IsIdle listener.old }
-    ensures ended { HasEnded end listener.old (written (S.held out.old) text.old) (written (S.held out.new) text.new) result }
-    ensures sink { KeepsSink (S.held out.old) (S.held out.new) (S.faults out.old) (S.faults out.new) result }
-{
-    match end {
-        End::Whole | End::Refused(_) => {
-            listener.close();
-            print_due(listener, text, out)?;
-        }
-        End::ReadFault | End::Limit => {}
-    }
-    Ok(Heard::Ended {
-        end,
-        counts: listener.counts(),
-    })
-}
-
-/// Prints all that is due.
-fn print_due<S: Sink>(
-    listener: &mut RecordListener,
-    text: &mut Text,
-    out: &mut S,
+    gate: &G,
 ) -> Result<(), Failed>
-    ensures prints { (records : List Record) (given : ℕ) → StandsFor records given listener.old →
-        PrintsPart (S.held out.old) (S.held out.new) text.old text.new (S.faults out.old) (S.faults out.new) result (list_lines (drop given (out_of listener.old records))) }
-    ensures stands { OnOk result ((records : List Record) (given : ℕ) → StandsFor records given listener.old → StandsFor records (length (out_of listener.old records)) listener.new) }
-    ensures idle { OnOk result (IsIdle listener.new) }
-    ensures keeps { Keeps listener.old listener.new }
-    ensures sink { KeepsSink (S.held out.old) (S.held out.new) (S.faults out.old) (S.faults out.new) result }
+    requires pipe { (waiting_in pipe.old ≡ []) × (ended_with pipe.old ≡ None) × (given_to pipe.old ≡ 0) }
+    requires live { IsSome (F.slots shelf.old (slot_of hearing.old.source)) }
+    requires begun { hearing.old.stage ≡ Stage.Reading }
+    ensures { HearsItems (F.files shelf.old) (F.files shelf.new) (F.slots shelf.old) (F.slots shelf.new) (F.reading_faults shelf.old) (F.reading_faults shelf.new)
+        (F.writing_faults shelf.old) (F.writing_faults shelf.new) (F.asked shelf.old) (F.asked shelf.new) hearing.old.source hearing.new.source hearing.old.listener hearing.new.listener hearing.new.stage
+        (S.held out.old) (S.held out.new) text.old text.new (S.faults out.old) (S.faults out.new) result }
 {
-    while let Some(shown) = listener.next_out() {
-        text.shown(out, &shown)?;
-    }
-    Ok(())
+    let mut receiver = Receiving { hearing, shelf };
+    let mut presenter = Presenting {
+        text,
+        out,
+        items: 0,
+        result: Ok(()),
+    };
+    hear_through(rt, pipe, &mut receiver, &mut presenter, gate)
+}
+
+/// Has the one side receive and the other present until all is done.
+fn hear_through<T: Threads + Sync, F: Shelf, S: Sink, G: Gate>(
+    rt: &T,
+    pipe: &mut Pipe,
+    receiver: &mut Receiving<'_, F>,
+    presenter: &mut Presenting<'_, S>,
+    gate: &G,
+) -> Result<(), Failed>
+    requires pipe { (waiting_in pipe.old ≡ []) × (ended_with pipe.old ≡ None) × (given_to pipe.old ≡ 0) }
+    requires live { IsSome (F.slots receiver.old.shelf.now (slot_of receiver.old.hearing.now.source)) }
+    requires begun { (receiver.old.hearing.now.stage ≡ Stage.Reading) × (presenter.old.result ≡ Ok tt) }
+    ensures receiver { (receiver.new.shelf.ghost_name ≡ receiver.old.shelf.ghost_name) × (receiver.new.hearing.ghost_name ≡ receiver.old.hearing.ghost_name) }
+    ensures presenter { (presenter.new.text.ghost_name ≡ presenter.old.text.ghost_name) × (presenter.new.out.ghost_name ≡ presenter.old.out.ghost_name) }
+    ensures hears { HearsItems (F.files receiver.old.shelf.now) (F.files receiver.new.shelf.now) (F.slots receiver.old.shelf.now) (F.slots receiver.new.shelf.now) (F.reading_faults receiver.old.shelf.now) (F.reading_faults receiver.new.shelf.now)
+        (F.writing_faults receiver.old.shelf.now) (F.writing_faults receiver.new.shelf.now) (F.asked receiver.old.shelf.now) (F.asked receiver.new.shelf.now)
+        receiver.old.hearing.now.source receiver.new.hearing.now.source receiver.old.hearing.now.listener receiver.new.hearing.now.listener receiver.new.hearing.now.stage
+        (S.held presenter.old.out.now) (S.held presenter.new.out.now) presenter.old.text.now presenter.new.text.now (S.faults presenter.old.out.now) (S.faults presenter.new.out.now) result }
+{
+    present_all(rt, pipe, receiver, presenter, gate)
 }
 
 /// Prints a capture's numbers, or why it was not read to its end.

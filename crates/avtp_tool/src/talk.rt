@@ -1,6 +1,6 @@
-//! The command `talk`: a capture of a stream, made from raw samples.
+//! The command `talk`: a capture of a stream, made from raw samples or from a byte stream of H.264.
 
-ghost use Rattle.std.specs.Prelude.{◌≡◌, ◌≤◌, ◌<◌, ℕ, List, [], Option, Ok, Some, IfOk, length, take};
+ghost use Rattle.std.specs.Prelude.{◌≡◌, ◌≤◌, ◌<◌, ℕ, List, [], Option, option_map, Ok, Some, IfOk, length, take};
 ghost use Rattle.avtp_base.specs.Faults.{IsCounted};
 ghost use Rattle.avtp_base.specs.Files.{Files, Slots};
 ghost use Rattle.pcap_frames.specs.Capture.{header_spelling, record_spelling, HasSpelling};
@@ -14,17 +14,17 @@ ghost use Rattle.capture_io.specs.Writing.{IsMadeIn, IsWriting, WritesSlot};
 ghost use Rattle.avtp_tool.specs.Made.{IsWritingPart, MakesFile, unmade_as};
 ghost use Rattle.avtp_tool.specs.Outcome.{EndsWith, Only};
 ghost use Rattle.avtp_tool.specs.Run.{Runs};
-ghost use Rattle.avtp_tool.specs.Talk.{EndsRefused, Puts, sent_line, talk_kind, talk_plan, TalkedOutcome, Talks, TalksContents};
+ghost use Rattle.avtp_tool.specs.Talk.{EndsRefused, Puts, sent_line, talk_clock, talk_kind, talk_plan, TalkedOutcome, Talks, TalksContents};
 
 use crate::command::{print_fault, print_unopened};
 use crate::status::Status;
 use avtp_base::{Buffer, Failed, OpenFault, Shelf, Sink};
 use avtp_text::Text;
-use avtp_words::{Kind, Talk};
+use avtp_words::{Crf, Kind, Talk};
 use capture_io::{Contents, FileWriter, Stop, read_contents};
 use pcap_frames::{Order, Style, Unit, write_header, write_record};
 use std::alloc::Global;
-use talker::{Sent, TalkFault, TalkKind, TalkPlan, Talker};
+use talker::{CrfPlan, Sent, TalkFault, TalkKind, TalkPlan, Talker};
 
 /// The most bytes of an input: 256 MiB.
 const LIMIT: u64 = 268_435_456;
@@ -45,10 +45,25 @@ fn kind(asked: Kind) -> TalkKind
     match asked {
         Kind::Aaf { format, sparse } => TalkKind::Aaf { format, sparse },
         Kind::Am824 => TalkKind::Am824,
+        Kind::H264 { last_stamp } => TalkKind::H264 { last_stamp },
     }
 }
 
-/// What is sent: audio without a media clock.
+/// The media clock that is sent beside the stream, if one is.
+fn clock(asked: Option<Crf>) -> Option<CrfPlan>
+    ensures { result ≡ option_map talk_clock asked }
+{
+    let crf = asked?;
+    Some(CrfPlan {
+        id: crf.id,
+        rate: crf.rate,
+        pull: crf.pull,
+        interval: crf.interval,
+        points: crf.points,
+    })
+}
+
+/// What is sent.
 fn plan(asked: &Talk<'_>) -> TalkPlan
     ensures { result ≡ talk_plan (talking_of asked.now) }
 {
@@ -62,7 +77,7 @@ fn plan(asked: &Talk<'_>) -> TalkPlan
         lead: asked.lead,
         restart: asked.restart,
         jump: asked.jump,
-        crf: None,
+        crf: clock(asked.crf),
     }
 }
 

@@ -8,6 +8,7 @@ ghost use Rattle.capture_io.specs.Pieces.{HasTaken, ReadsPiece};
 ghost use Rattle.capture_io.specs.Reads.{TriesOpen, ReadsSlot, OpensSlot, ClosesSlot};
 
 use crate::end::Stop;
+use crate::read_slots::ReadSlots;
 use avtp_base::{Failed, OpenFault, Shelf, Slot};
 use std::alloc::Global;
 use std::marker::Model;
@@ -74,7 +75,7 @@ impl Pieces {
     }
 
     /// Reads the next piece, where none waits: then bytes wait, or it answers where the reading stopped.
-    pub fn read<F: Shelf>(&mut self, shelf: &mut F) -> Option<Stop>
+    pub fn read<F: ReadSlots>(&mut self, shelf: &mut F) -> Option<Stop>
         requires live { IsSome (F.slots shelf.old self.old.slot) }
         requires none_waits { self.old.waiting ≡ [] }
         ensures more { result ≡ None → (limit : ℕ) (bytes prefix : List ℕ) →
@@ -89,7 +90,7 @@ impl Pieces {
         if self.over {
             return Some(Stop::Limit);
         }
-        match shelf.read(self.slot, &mut self.piece) {
+        match shelf.read_slot(self.slot, &mut self.piece) {
             Ok(0) => Some(Stop::End),
             Ok(count) => {
                 let within = self.left.min(count as u64) as usize;

@@ -11,6 +11,7 @@ ghost use Rattle.capture_io.specs.Source.{GivesNext, HasGiven, IsReady, ReadsOn,
 use crate::capture_reader::CaptureReader;
 use crate::end::End;
 use crate::pieces::Pieces;
+use crate::read_slots::ReadSlots;
 use avtp_base::{OpenFault, Shelf};
 use pcap_frames::RecordView;
 use std::alloc::Global;
@@ -71,7 +72,7 @@ impl Source {
 
     /// Drops the record that is held, and reads on to the next. At `None` one is held now; else it answers how the reading
     /// ended. Once it has ended, each further call answers the same and reads nothing.
-    pub fn next<F: Shelf>(&mut self, shelf: &mut F) -> Option<End>
+    pub fn next<F: ReadSlots>(&mut self, shelf: &mut F) -> Option<End>
         requires live { IsSome (F.slots shelf.old (slot_of self.old)) }
         ensures gives { GivesNext (left_in (F.slots shelf.old) (slot_of self.old)) (left_in (F.slots shelf.new) (slot_of self.new)) (F.reading_faults shelf.old) (F.reading_faults shelf.new) self.old self.new result }
         ensures reads { ReadsSlot (F.files shelf.old) (F.files shelf.new) (F.slots shelf.old) (F.slots shelf.new) (F.reading_faults shelf.old) (F.reading_faults shelf.new)
@@ -86,7 +87,7 @@ impl Source {
     }
 
     /// Reads on until a record is held, or the reading ends.
-    fn read_on<F: Shelf>(&mut self, shelf: &mut F) -> Option<End>
+    fn read_on<F: ReadSlots>(&mut self, shelf: &mut F) -> Option<End>
         requires ready { IsReady (F.slots shelf.old) self.old }
         ensures on { ReadsOn (left_in (F.slots shelf.old) (slot_of self.old)) (left_in (F.slots shelf.new) (slot_of self.new)) (F.reading_faults shelf.old) (F.reading_faults shelf.new) self.old self.new result }
         ensures held { result ≡ None → IsSome (held_in self.new) }
@@ -104,7 +105,7 @@ impl Source {
     }
 
     /// Feeds the reader what waits, or where nothing waits reads the next piece.
-    fn step<F: Shelf>(&mut self, shelf: &mut F) -> Option<End>
+    fn step<F: ReadSlots>(&mut self, shelf: &mut F) -> Option<End>
         requires ready { IsReady (F.slots shelf.old) self.old }
         ensures on { ReadsOn (left_in (F.slots shelf.old) (slot_of self.old)) (left_in (F.slots shelf.new) (slot_of self.new)) (F.reading_faults shelf.old) (F.reading_faults shelf.new) self.old self.new result }
         ensures reads { ReadsSlot (F.files shelf.old) (F.files shelf.new) (F.slots shelf.old) (F.slots shelf.new) (F.reading_faults shelf.old) (F.reading_faults shelf.new)
@@ -117,7 +118,7 @@ impl Source {
     }
 
     /// Reads the next piece, where nothing waits.
-    fn read_piece<F: Shelf>(&mut self, shelf: &mut F) -> Option<End>
+    fn read_piece<F: ReadSlots>(&mut self, shelf: &mut F) -> Option<End>
         requires ready { IsReady (F.slots shelf.old) self.old }
         requires none_waits { self.old.pieces.waiting ≡ [] }
         ensures on { ReadsOn (left_in (F.slots shelf.old) (slot_of self.old)) (left_in (F.slots shelf.new) (slot_of self.new)) (F.reading_faults shelf.old) (F.reading_faults shelf.new) self.old self.new result }

@@ -18,10 +18,10 @@ struct Flags {
 }
 
 impl Receiver for Flags {
-    ghost use Rattle.std.specs.Prelude.{◌≡◌, Some, None, cond, length};
+    ghost use Rattle.std.specs.Prelude.{◌≡◌, ◌+◌, Some, None, cond, length};
     ghost use Rattle.presenter_ring.specs.declared.receiver.Pull.TheVariants.{Done};
 
-    ghost gave = { λ flags items. length items ≡ flags.given };
+    ghost gave = { λ begun flags items. flags.given ≡ begun.given + length items };
 
     ghost left = { λ flags. flags.left };
 
@@ -49,9 +49,9 @@ struct Counted {
 }
 
 impl Presenter for Counted {
-    ghost use Rattle.std.specs.Prelude.{◌≡◌, ◌-◌, ◌^◌, min, length};
+    ghost use Rattle.std.specs.Prelude.{◌≡◌, ◌+◌, ◌-◌, ◌^◌, min, length};
 
-    ghost handed = { λ counted items. counted.items ≡ min (length items) (2 ^ 64 - 1) };
+    ghost handed = { λ begun counted items. counted.items ≡ min (begun.items + length items) (2 ^ 64 - 1) };
 
     ghost faults = { λ counted. 0 };
 

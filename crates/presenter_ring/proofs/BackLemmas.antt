@@ -8,11 +8,11 @@ use Rattle.presenter_ring.specs.Backs.{HasPresented, KeepsBack}
 SameConsumer-then : (a b c : Back) → SameConsumer a.consumer b.consumer → SameConsumer b.consumer c.consumer → SameConsumer a.consumer c.consumer
 SameConsumer-then a b c p q = ((cc, cc, cc, cc), cc)
 
-module _ {P : Type 0} (handed : P → List Shown → Type 0) where
+module _ {P : Type 0} (handed : P → P → List Shown → Type 0) where
   pub HasPresented-none : (p : P) (a : Back) → HasPresented handed p p a a
   HasPresented-none p a = record {
     presented = [];
-    hands = λ items h. subst (handed p) (sym (append-nil items)) h;
+    hands = λ begun items h. subst (handed begun p) (sym (append-nil items)) h;
     receives = sym (append-nil (received a.consumer));
     same_ring = ((refl, refl, refl, refl), refl);
   }
@@ -20,7 +20,7 @@ module _ {P : Type 0} (handed : P → List Shown → Type 0) where
   pub HasPresented-then : (p p' p'' : P) (a b c : Back) → HasPresented handed p p' a b → HasPresented handed p' p'' b c → HasPresented handed p p'' a c
   HasPresented-then p p' p'' a b c x y = record {
     presented = x.presented ++ y.presented;
-    hands = λ items h. subst (handed p'') (append_assoc items x.presented y.presented) (y.hands (items ++ x.presented) (x.hands items h));
+    hands = λ begun items h. subst (handed begun p'') (append_assoc items x.presented y.presented) (y.hands begun (items ++ x.presented) (x.hands begun items h));
     receives = y.receives ∙ ap (λ xs. xs ++ y.presented) x.receives ∙ append_assoc (received a.consumer) x.presented y.presented;
     same_ring = SameConsumer-then a b c x.same_ring y.same_ring;
   }

@@ -26,12 +26,12 @@ no_end a h =
       | Some ending ↦ λ e. absurd (let f = rw e at h in cc)
     ] refl
 
-module _ {R : Type 0} (gave : R → List Shown → Type 0) (left : R → ℕ) (ended : R → Option Pull) where
+module _ {R : Type 0} (gave : R → R → List Shown → Type 0) (left : R → ℕ) (ended : R → Option Pull) where
   pub HasFed-none : (r : R) (a : Front) → (ended_of a ≡ None → ended r ≡ None) → HasFed gave left ended r r a a
   HasFed-none r a live = record {
     given = [];
     pushed = [];
-    gives = λ items h. subst (gave r) (sym (append-nil items)) h;
+    gives = λ begun items h. subst (gave begun r) (sym (append-nil items)) h;
     leaves = omega arith;
     in_order = append-nil (hand_of a);
     sends = sym (append-nil (sent a.producer));
@@ -42,7 +42,7 @@ module _ {R : Type 0} (gave : R → List Shown → Type 0) (left : R → ℕ) (e
   }
 
   pub HasFed-pull : (r r' : R) (a b : Front) (given : List Shown)
-      → ((items : List Shown) → gave r items → gave r' (items ++ given)) → left r' + length given ≤ left r
+      → ((begun : R) (items : List Shown) → gave begun r items → gave begun r' (items ++ given)) → left r' + length given ≤ left r
       → b.producer ≡ a.producer → hand_of a ≡ [] → hand_of b ≡ given → b.given ≡ a.given + length given
       → ended_of a ≡ None → ended_of b ≡ ended r' → HasFed gave left ended r r' a b
   HasFed-pull r r' a b given gives leaves ring empty hand counted live ends = record {
@@ -92,7 +92,7 @@ module _ {R : Type 0} (gave : R → List Shown → Type 0) (left : R → ℕ) (e
   HasFed-then r r' r'' a b c p q = record {
     given = p.given ++ q.given;
     pushed = p.pushed ++ q.pushed;
-    gives = λ items h. subst (gave r'') (append_assoc items p.given q.given) (q.gives (items ++ p.given) (p.gives items h));
+    gives = λ begun items h. subst (gave begun r'') (append_assoc items p.given q.given) (q.gives begun (items ++ p.given) (p.gives begun items h));
     leaves = omega (arith, p.leaves, q.leaves, length-append p.given q.given);
     in_order =
         sym (append_assoc (hand_of a) p.given q.given) ∙ ap (λ xs. xs ++ q.given) p.in_order ∙ append_assoc p.pushed (hand_of b) q.given

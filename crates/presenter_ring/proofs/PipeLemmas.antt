@@ -21,7 +21,7 @@ in_ring received known popped known' sent pushed old new =
 abbrev pub Fifo : Pipe → Type 0
 Fifo pipe = popped_by pipe ++ ring_of pipe ≡ pushed_by pipe
 
-module _ {R P : Type 0} (gave : R → List Shown → Type 0) (left : R → ℕ) (ended : R → Option Pull) (handed : P → List Shown → Type 0) where
+module _ {R P : Type 0} (gave : R → R → List Shown → Type 0) (left : R → ℕ) (ended : R → Option Pull) (handed : P → P → List Shown → Type 0) where
   ring_then : (r r' : R) (p p' : P) (a b : Pipe) → Fifo a → Fifo b → (fed : HasFed gave left ended r r' a.front b.front) → (shown : HasPresented handed p p' a.back b.back)
       → ring_of a ++ fed.pushed ≡ shown.presented ++ ring_of b
   ring_then r r' p p' a b old new fed shown =
@@ -109,7 +109,7 @@ module _ {R P : Type 0} (gave : R → List Shown → Type 0) (left : R → ℕ) 
       omega (arith, bound, pushed, one, length-append shown.presented (hand_of b.front))
 
   pub moved_past : (r r' : R) (p p' p'' : P) (a b c : Pipe) → Fifo a → Fifo b → HasFed gave left ended r r' a.front b.front → HasPresented handed p p' a.back b.back
-      → IsStill a b → ((items : List Shown) → handed p' items → handed p'' (items ++ hand_of b.front)) → KeepsRing b c → hand_of c.front ≡ []
+      → IsStill a b → ((begun : P) (items : List Shown) → handed begun p' items → handed begun p'' (items ++ hand_of b.front)) → KeepsRing b c → hand_of c.front ≡ []
       → IsRound gave left handed r r' p p'' a c
   moved_past r r' p p' p'' a b c old new fed shown still hands kept emptied =
       let hand = hand_of b.front in
@@ -121,7 +121,7 @@ module _ {R P : Type 0} (gave : R → List Shown → Type 0) (left : R → ℕ) 
           given = fed.given;
           presented = shown.presented ++ hand;
           gives = fed.gives;
-          hands = λ items h. subst (handed p'') (append_assoc items shown.presented hand) (hands (items ++ shown.presented) (shown.hands items h));
+          hands = λ begun items h. subst (handed begun p'') (append_assoc items shown.presented hand) (hands begun (items ++ shown.presented) (shown.hands begun items h));
           in_order =
               waits_then r r' p p' a b old new fed shown ∙ ap (λ xs. shown.presented ++ xs) last ∙ sym (append-nil (shown.presented ++ hand))
               ∙ ap (λ xs. (shown.presented ++ hand) ++ xs) (sym waits);
@@ -139,13 +139,13 @@ module _ {R P : Type 0} (gave : R → List Shown → Type 0) (left : R → ℕ) 
             omega (arith, one, pushed, length-append shown.presented hand);
       }
 
-module _ {R P : Type 0} (gave : R → List Shown → Type 0) (left : R → ℕ) (handed : P → List Shown → Type 0) where
+module _ {R P : Type 0} (gave : R → R → List Shown → Type 0) (left : R → ℕ) (handed : P → P → List Shown → Type 0) where
   pub HasMoved-none : (r : R) (p : P) (a : Pipe) → HasMoved gave left handed r r p p a a
   HasMoved-none r p a = record {
     given = [];
     presented = [];
-    gives = λ items h. subst (gave r) (sym (append-nil items)) h;
-    hands = λ items h. subst (handed p) (sym (append-nil items)) h;
+    gives = λ begun items h. subst (gave begun r) (sym (append-nil items)) h;
+    hands = λ begun items h. subst (handed begun p) (sym (append-nil items)) h;
     in_order = append-nil (waiting_in a);
     counted = omega arith;
     leaves = omega arith;
@@ -157,8 +157,8 @@ module _ {R P : Type 0} (gave : R → List Shown → Type 0) (left : R → ℕ) 
   HasMoved-then r r' r'' p p' p'' a b c x y = record {
     given = x.given ++ y.given;
     presented = x.presented ++ y.presented;
-    gives = λ items h. subst (gave r'') (append_assoc items x.given y.given) (y.gives (items ++ x.given) (x.gives items h));
-    hands = λ items h. subst (handed p'') (append_assoc items x.presented y.presented) (y.hands (items ++ x.presented) (x.hands items h));
+    gives = λ begun items h. subst (gave begun r'') (append_assoc items x.given y.given) (y.gives begun (items ++ x.given) (x.gives begun items h));
+    hands = λ begun items h. subst (handed begun p'') (append_assoc items x.presented y.presented) (y.hands begun (items ++ x.presented) (x.hands begun items h));
     in_order =
         sym (append_assoc (waiting_in a) x.given y.given) ∙ ap (λ xs. xs ++ y.given) x.in_order ∙ append_assoc x.presented (waiting_in b) y.given
         ∙ ap (λ xs. x.presented ++ xs) y.in_order ∙ sym (append_assoc x.presented y.presented (waiting_in c));

@@ -5,9 +5,9 @@ use Rattle.sample_schedule.specs.declared.shown.Shown.{Shown}
 use Rattle.presenter_ring.specs.declared.back.Back.{Back}
 
 -- What the presenter's side did. The meaning of a presenter is the items that it was handed.
-pub record HasPresented {P : Type 0} (handed : P → List Shown → Type 0) (presenter presenter' : P) (before after : Back) : Type 0 where
+pub record HasPresented {P : Type 0} (handed : P → P → List Shown → Type 0) (presenter presenter' : P) (before after : Back) : Type 0 where
   pub presented : List Shown
-  pub hands : (items : List Shown) → handed presenter items → handed presenter' (items ++ presented)
+  pub hands : (begun : P) (items : List Shown) → handed begun presenter items → handed begun presenter' (items ++ presented)
   pub receives : received after.consumer ≡ received before.consumer ++ presented
   pub same_ring : SameConsumer before.consumer after.consumer
 

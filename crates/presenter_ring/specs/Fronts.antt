@@ -17,10 +17,10 @@ ended_of front = option_map pull_of front.ended
 
 -- What the receiver's side did. The meanings of a receiver are the items that it gave, the most items that it can still
 -- give, and the answer with which it ended.
-pub record HasFed {R : Type 0} (gave : R → List Shown → Type 0) (left : R → ℕ) (ended : R → Option Pull) (receiver receiver' : R) (before after : Front) : Type 0 where
+pub record HasFed {R : Type 0} (gave : R → R → List Shown → Type 0) (left : R → ℕ) (ended : R → Option Pull) (receiver receiver' : R) (before after : Front) : Type 0 where
   pub given : List Shown
   pub pushed : List Shown
-  pub gives : (items : List Shown) → gave receiver items → gave receiver' (items ++ given)
+  pub gives : (begun : R) (items : List Shown) → gave begun receiver items → gave begun receiver' (items ++ given)
   pub leaves : left receiver' + length given ≤ left receiver
   pub in_order : hand_of before ++ given ≡ pushed ++ hand_of after
   pub sends : sent after.producer ≡ sent before.producer ++ pushed

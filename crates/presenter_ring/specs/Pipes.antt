@@ -50,11 +50,11 @@ work left pipe = 2 * (left + length (hand_of pipe.front)) + length (ring_of pipe
 -- What rounds did. The meanings of a receiver are the items that it gave and the most items that it can still give, and that
 -- of a presenter is the items that it was handed. What waited and then what was given are, in this order, what was presented
 -- and then what waits.
-pub record HasMoved {R P : Type 0} (gave : R → List Shown → Type 0) (left : R → ℕ) (handed : P → List Shown → Type 0) (receiver receiver' : R) (presenter presenter' : P) (before after : Pipe) : Type 0 where
+pub record HasMoved {R P : Type 0} (gave : R → R → List Shown → Type 0) (left : R → ℕ) (handed : P → P → List Shown → Type 0) (receiver receiver' : R) (presenter presenter' : P) (before after : Pipe) : Type 0 where
   pub given : List Shown
   pub presented : List Shown
-  pub gives : (items : List Shown) → gave receiver items → gave receiver' (items ++ given)
-  pub hands : (items : List Shown) → handed presenter items → handed presenter' (items ++ presented)
+  pub gives : (begun : R) (items : List Shown) → gave begun receiver items → gave begun receiver' (items ++ given)
+  pub hands : (begun : P) (items : List Shown) → handed begun presenter items → handed begun presenter' (items ++ presented)
   pub in_order : waiting_in before ++ given ≡ presented ++ waiting_in after
   pub counted : given_to after ≡ given_to before + length given
   pub leaves : left receiver' + length given ≤ left receiver
@@ -62,7 +62,7 @@ pub record HasMoved {R P : Type 0} (gave : R → List Shown → Type 0) (left : 
 
 -- What one round did. Where its producer knew a free slot as it began, all that was presented came through the ring. Where
 -- something is still to be done, at least one item was pushed or presented.
-pub record IsRound {R P : Type 0} (gave : R → List Shown → Type 0) (left : R → ℕ) (handed : P → List Shown → Type 0) (receiver receiver' : R) (presenter presenter' : P) (before after : Pipe) : Type 0 where
+pub record IsRound {R P : Type 0} (gave : R → R → List Shown → Type 0) (left : R → ℕ) (handed : P → P → List Shown → Type 0) (receiver receiver' : R) (presenter presenter' : P) (before after : Pipe) : Type 0 where
   pub moved : HasMoved gave left handed receiver receiver' presenter presenter' before after
   pub through_ring : 0 < known_free_of before → popped_by after ≡ popped_by before ++ moved.presented
   pub steps : (IsDrained after → ⊥) → length (pushed_by before) < length (pushed_by after) + length moved.presented

@@ -120,7 +120,7 @@ impl Pipe {
     /// Hands the item in hand to the presenter, past the ring.
     fn present_hand<P: Presenter>(&mut self, presenter: &mut P) -> Result<(), Failed>
         requires { ring_of self.old ≡ [] }
-        ensures hands { (items : List ShownValue) → P.handed presenter.old items → P.handed presenter.new (items ++ hand_of self.old.front) }
+        ensures hands { (begun : P) (items : List ShownValue) → P.handed begun presenter.old items → P.handed begun presenter.new (items ++ hand_of self.old.front) }
         ensures failed { OnErr result (length (hand_of self.old.front) ≡ 1) }
         ensures counted { IsCounted (P.faults presenter.old) (P.faults presenter.new) result }
         ensures emptied { hand_of self.new.front ≡ [] }

@@ -11,14 +11,14 @@ pub trait Presenter: Send {
     ghost use Rattle.std.specs.Prelude.{List, ℕ};
     ghost use Rattle.sample_schedule.specs.declared.shown.Shown.{Shown as ShownValue};
 
-    /// The presenter was handed these items, in this order. A new one was handed none.
-    ghost handed: { Self → List ShownValue → Type 0 };
+    /// From how the first was on, the presenter was handed these items, in this order, and so became the second.
+    ghost handed: { Self → Self → List ShownValue → Type 0 };
 
     /// The number of faults so far, which stands still at the last value of a 64-bit number.
     ghost faults: { Self → ℕ };
 
     /// Presents an item. `Failed` comes only where the count rose; the item was handed over all the same.
     fn present(&mut self, shown: Shown) -> Result<(), Failed>
-        ensures handed { (items : List ShownValue) → handed self.old items → handed self.new (items ++ shown ∷ []) }
+        ensures handed { (begun : Self) (items : List ShownValue) → handed begun self.old items → handed begun self.new (items ++ shown ∷ []) }
         ensures counted { IsCounted (faults self.old) (faults self.new) result };
 }

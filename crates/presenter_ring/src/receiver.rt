@@ -29,8 +29,8 @@ pub trait Receiver: Send {
     ghost use Rattle.sample_schedule.specs.declared.shown.Shown.{Shown as ShownValue};
     ghost use Rattle.presenter_ring.specs.declared.receiver.Pull.{Pull as PullValue};
 
-    /// The receiver has given these items, in this order. A new one has given none.
-    ghost gave: { Self → List ShownValue → Type 0 };
+    /// From how the first was on, the receiver gave these items, in this order, and so became the second.
+    ghost gave: { Self → Self → List ShownValue → Type 0 };
 
     /// The most items that it can still give.
     ghost left: { Self → ℕ };
@@ -41,7 +41,7 @@ pub trait Receiver: Send {
     /// Gives the next item. Needs that the receiver has not ended, which any other answer says it has.
     fn next(&mut self) -> Pull
         requires { ended self.old ≡ None }
-        ensures gave { (items : List ShownValue) → gave self.old items → gave self.new (items ++ items_of result) }
+        ensures gave { (begun : Self) (items : List ShownValue) → gave begun self.old items → gave begun self.new (items ++ items_of result) }
         ensures left { left self.new + length (items_of result) ≤ left self.old }
         ensures ended { ended self.new ≡ ending_of result };
 }

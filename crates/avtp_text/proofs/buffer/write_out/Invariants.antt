@@ -5,8 +5,8 @@ use Rattle.avtp_text.proofs.buffer.write_out.Given as goal
 abbrev pub invariant-loop-taken : goal.invariant-loop-taken
 invariant-loop-taken g l = record {
   within : l.taken ≤ length l.bytes;
-  took : Appends (g.S.Sink.held l.fn.out) (g.S.Sink.held l.out) (take l.taken l.bytes);
-  quiet : g.S.Sink.faults l.out ≡ g.S.Sink.faults l.fn.out;
+  took : Appends (g.S.Output.held l.fn.out) (g.S.Output.held l.out) (take l.taken l.bytes);
+  quiet : g.S.Output.faults l.out ≡ g.S.Output.faults l.fn.out;
 }
 
 abbrev pub decreases-loop-taken : goal.decreases-loop-taken

@@ -1,11 +1,12 @@
 use Rattle.std.proofs.Common.{refl}
-use Rattle.avtp_words.specs.Grammar.{check, listen, listening_of, show, talk, talking_of}
+use Rattle.avtp_words.specs.Grammar.{check, listen, listening_of, show, soak, talk, talking_of}
 use Rattle.avtp_words.specs.Word.{texts}
 use Rattle.avtp_tool.specs.Check.{check_plan}
 use Rattle.avtp_tool.specs.Listen.{listen_plan}
 use Rattle.avtp_tool.specs.Show.{show_plan}
 use Rattle.avtp_tool.proofs.Asked.{not_offence, requested}
 use Rattle.avtp_tool.proofs.PlanRuns.{one_file, plan_runs}
+use Rattle.avtp_tool.proofs.Soaked.{soak_runs}
 use Rattle.avtp_tool.proofs.command.execute.Goals as goal
 
 pub talk-requires-after_bounds : goal.talk-requires-after_bounds
@@ -48,3 +49,14 @@ returns-in-Ok-Listen-clause-runs g c request line =
     let asked = listening_of c.in-Ok-Listen.asked in
     let same = rw c.in-Ok-Listen.field-0-is at (c.in-Ok-Listen.ensures.only request line) in
     plan_runs (listen asked) (listen_plan asked) request same (λ all fault came ended text o. o) refl refl (λ all keeps. keeps) c.read_files-in-Ok-Listen.ensures
+
+pub soak-requires-after_bounds : goal.soak-requires-after_bounds
+soak-requires-after_bounds g c κs within = requested (texts c.args.words.now) (soak c.in-Ok-Soak.packets) (rw c.in-Ok-Soak.field-0-is at c.in-Ok-Soak.ensures.found)
+
+pub returns-in-Ok-Soak-clause-words : goal.returns-in-Ok-Soak-clause-words
+returns-in-Ok-Soak-clause-words g c position offence = absurd (not_offence c.parse.result _ position (c.parse.ensures.only_offence position offence) c.in-Ok-Soak.is)
+
+pub returns-in-Ok-Soak-clause-runs : goal.returns-in-Ok-Soak-clause-runs
+returns-in-Ok-Soak-clause-runs g c request line =
+    let same = rw c.in-Ok-Soak.field-0-is at (c.in-Ok-Soak.ensures.only request line) in
+    soak_runs c.in-Ok-Soak.packets request same c.soak.ensures

@@ -1,9 +1,10 @@
-use Rattle.std.proofs.Common.{Ok, inl, refl, ◌∙◌}
+use Rattle.std.proofs.Common.{Ok, inl, refl, sym, ap, subst, ◌∙◌}
 use Rattle.avtp_base.proofs.Told.{Keeps-refl}
 use Rattle.avtp_words.specs.Grammar.{listening_of}
 use Rattle.avtp_text.proofs.Printing.{prefix_none}
 use Rattle.capture_io.proofs.Leaving.{reads_nothing}
-use Rattle.avtp_tool.specs.declared.listen.Heard.TheVariants.{Ended, NoMemory}
+use Rattle.listener.specs.Listening.{ListenState}
+use Rattle.avtp_tool.specs.declared.hearing.Heard.TheVariants.{Ended, NoMemory}
 use Rattle.avtp_tool.specs.declared.status.Status.TheVariants as status
 use Rattle.avtp_tool.specs.Listen.{listen_report}
 use Rattle.avtp_tool.proofs.DoesFile.{counts_read, does_cut, does_read, does_unopened, own_of}
@@ -28,37 +29,40 @@ returns-in-Ended g c =
     let asked = listening_of c.args.asked.now in
     let name = c.args.file.now in
     let opened = c.in-Ok.ensures in
-    let read = c.hear_records-heard.ensures in
+    let begun = c.begin-hearing.ensures in
+    let read = rw begun.source at c.hear_records-heard.ensures in
     let how = c.in-Ended.end in
     let counts = c.in-Ended.counts in
     let result = c.print_last.result in
     let status = c.print_last.ensures.status in
-    let plan = c.in-Ok-begin.ensures.plan ∙ c.plan.ensures in
+    let plan = ap (λ (l : ListenState). l.plan) begun.listener ∙ c.in-Ok-begin.ensures.plan ∙ c.plan.ensures in
     let ended = ended_as c.hear_records-heard.result c.in_ok-end.field-0 (Ended how counts) c.in_ok-end.was c.in-Ended.is in
-    let keeps = read_through opened.opened read.reads.reads c.close-2.ensures in
-    let counted = counts_heard how counts c.hear_records-heard.result _ _ ended read.reads.counted in
+    let keeps = read_through opened.opened read.reads c.close-2.ensures in
+    let counted = counts_heard how counts c.hear_records-heard.result _ _ ended read.counted in
     does_read (listen_report asked name) c.args.asked.now.limit name how result opened.begun (λ bytes given. told_heard asked name bytes _ how counts _ c.hear_records-heard.result ended (read.heard asked bytes plan given) c.print_last.ensures)
     opened.tries.counted.ok c.close-2.ensures.reading keeps (counts_read how result opened.tries.counted.ok c.close-2.ensures.reading counted (λ faults. counts_ended how result keeps.reading faults (as_ended result how status)))
     (own_of result (ends_unwritten result how status) (ends_no_words result how status)) (sink_then (rw ended at read.sink) c.print_last.ensures.sink)
 
-pub returns : goal.returns
-returns g c =
+pub returns-in-NoMemory : goal.returns-in-NoMemory
+returns-in-NoMemory g c =
     let asked = listening_of c.args.asked.now in
     let name = c.args.file.now in
     let opened = c.in-Ok.ensures in
-    let read = c.hear_records-heard.ensures in
-    let plan = c.in-Ok-begin.ensures.plan ∙ c.plan.ensures in
+    let begun = c.begin-hearing.ensures in
+    let read = rw begun.source at c.hear_records-heard.ensures in
+    let plan = ap (λ (l : ListenState). l.plan) begun.listener ∙ c.in-Ok-begin.ensures.plan ∙ c.plan.ensures in
     let ended = ended_as c.hear_records-heard.result c.in_ok-end.field-0 NoMemory c.in_ok-end.was c.in-NoMemory.is in
-    let keeps = read_through opened.opened read.reads.reads c.close-2.ensures in
+    let keeps = read_through opened.opened read.reads c.close-2.ensures in
     does_cut (listen_report asked name) c.args.asked.now.limit name (Ok status.Memory) opened.begun (λ bytes given. cut_heard asked name bytes _ c.hear_records-heard.result ended (read.heard asked bytes plan given)) (inl refl) keeps (counts_memory _ keeps.reading refl) memory_own (sink_ok status.Memory (rw ended at read.sink))
 
 pub returns-in_err-end : goal.returns-in_err-end
 returns-in_err-end g c =
     let asked = listening_of c.args.asked.now in
     let opened = c.in-Ok.ensures in
-    let read = c.in_err-end.ensures in
-    let plan = c.in-Ok-begin.ensures.plan ∙ c.plan.ensures in
-    let keeps = read_through opened.opened read.reads.reads c.close-2.ensures in
+    let begun = c.begin-hearing.ensures in
+    let read = rw begun.source at c.in_err-end.ensures in
+    let plan = ap (λ (l : ListenState). l.plan) begun.listener ∙ c.in-Ok-begin.ensures.plan ∙ c.plan.ensures in
+    let keeps = read_through opened.opened read.reads c.close-2.ensures in
     let err = c.from_residual.ensures.0 in
     does_cut (listen_report asked c.args.file.now) c.args.asked.now.limit c.args.file.now c.from_residual.result opened.begun (λ bytes given. read.heard asked bytes plan given) (cut_err c.from_residual.result err) keeps
     (counts_err c.from_residual.result err keeps.reading) (own_of c.from_residual.result (err_is_no c.from_residual.result status.WriteFault err) (err_is_no c.from_residual.result status.Words err)) (sink_failed err read.sink)

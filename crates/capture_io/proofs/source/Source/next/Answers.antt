@@ -11,10 +11,10 @@ pub returns-clause-gives : goal.returns-clause-gives
 returns-clause-gives g c =
     let ran = c.read_on-self-inside.ensures in
     let result = c.read_on-self-inside.result in
-    let old = g.F.Shelf.slots c.args.shelf.now in
-    let new = g.F.Shelf.slots c.read_on-self-inside.new.shelf in
-    let before = g.F.Shelf.reading_faults c.args.shelf.now in
-    let after = g.F.Shelf.reading_faults c.read_on-self-inside.new.shelf in
+    let old = g.F.ReadSlots.slots c.args.shelf.now in
+    let new = g.F.ReadSlots.slots c.read_on-self-inside.new.shelf in
+    let before = g.F.ReadSlots.reading_faults c.args.shelf.now in
+    let after = g.F.ReadSlots.reading_faults c.read_on-self-inside.new.shelf in
     let begun : Sourcing = record { pieces = c.self.inside.pieces; reader = c.self.inside.reader; ended = c.self.inside.ended } in
     let mid : Sourcing = record { pieces = c.self.inside.pieces; reader = c.release.new.self; ended = c.self.inside.ended } in
     let next : Sourcing = record { pieces = c.self-2.inside.pieces; reader = c.self-2.inside.reader; ended = c.self-2.inside.ended } in

@@ -10,11 +10,11 @@ invariant-loop-end g l =
     record {
       free : held_in l.self ≡ None;
       less : to_do l.self ≤ to_do l.fn.self;
-      quiet : g.F.Shelf.reading_faults l.shelf ≡ g.F.Shelf.reading_faults l.fn.shelf;
-      reads : ReadsSlot (g.F.Shelf.files l.fn.shelf) (g.F.Shelf.files l.shelf) (g.F.Shelf.slots l.fn.shelf) (g.F.Shelf.slots l.shelf) (g.F.Shelf.reading_faults l.fn.shelf) (g.F.Shelf.reading_faults l.shelf)
-          (g.F.Shelf.writing_faults l.fn.shelf) (g.F.Shelf.writing_faults l.shelf) (g.F.Shelf.asked l.fn.shelf) (g.F.Shelf.asked l.shelf) (slot_of l.fn.self) (slot_of l.self);
-      fed : (limit : ℕ) (bytes : List ℕ) (records : List Record) → HasFed limit bytes (left_in (g.F.Shelf.slots l.fn.shelf) (slot_of l.fn.self)) l.fn.self records
-          → HasFed limit bytes (left_in (g.F.Shelf.slots l.shelf) (slot_of l.self)) l.self records;
+      quiet : g.F.ReadSlots.reading_faults l.shelf ≡ g.F.ReadSlots.reading_faults l.fn.shelf;
+      reads : ReadsSlot (g.F.ReadSlots.files l.fn.shelf) (g.F.ReadSlots.files l.shelf) (g.F.ReadSlots.slots l.fn.shelf) (g.F.ReadSlots.slots l.shelf) (g.F.ReadSlots.reading_faults l.fn.shelf) (g.F.ReadSlots.reading_faults l.shelf)
+          (g.F.ReadSlots.writing_faults l.fn.shelf) (g.F.ReadSlots.writing_faults l.shelf) (g.F.ReadSlots.asked l.fn.shelf) (g.F.ReadSlots.asked l.shelf) (slot_of l.fn.self) (slot_of l.self);
+      fed : (limit : ℕ) (bytes : List ℕ) (records : List Record) → HasFed limit bytes (left_in (g.F.ReadSlots.slots l.fn.shelf) (slot_of l.fn.self)) l.fn.self records
+          → HasFed limit bytes (left_in (g.F.ReadSlots.slots l.shelf) (slot_of l.self)) l.self records;
     }
 
 abbrev pub decreases-loop-end : goal.decreases-loop-end

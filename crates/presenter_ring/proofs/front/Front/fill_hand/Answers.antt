@@ -12,7 +12,7 @@ returns-in-Ok-clause-fed g c =
     let empty : hand_of c.args.self.now ≡ [] = no_hand c.args.self.now (search rules) in
     let live : ended_of c.args.self.now ≡ None = no_end c.args.self.now (search rules) in
     HasFed-pull g.R.Receiver.gave g.R.Receiver.left g.R.Receiver.ended c.args.receiver.now c.next.new.self c.args.self.now _ (c.in-Ok.shown ∷ [])
-    (λ items h. subst (λ xs. g.R.Receiver.gave c.next.new.self (items ++ xs)) item.0 (c.next.ensures.gave items h))
+    (λ begun items h. subst (λ xs. g.R.Receiver.gave begun c.next.new.self (items ++ xs)) item.0 (c.next.ensures.gave begun items h))
     (subst (λ xs. g.R.Receiver.left c.next.new.self + length xs ≤ g.R.Receiver.left c.args.receiver.now) item.0 c.next.ensures.left)
     refl empty refl refl live (live ∙ sym (c.next.ensures.ended ∙ item.1))
 
@@ -22,6 +22,6 @@ returns-in-Err-clause-fed g c =
     let empty : hand_of c.args.self.now ≡ [] = no_hand c.args.self.now (search rules) in
     let live : ended_of c.args.self.now ≡ None = no_end c.args.self.now (search rules) in
     HasFed-pull g.R.Receiver.gave g.R.Receiver.left g.R.Receiver.ended c.args.receiver.now c.next.new.self c.args.self.now _ []
-    (λ items h. subst (λ xs. g.R.Receiver.gave c.next.new.self (items ++ xs)) ending.0 (c.next.ensures.gave items h))
+    (λ begun items h. subst (λ xs. g.R.Receiver.gave begun c.next.new.self (items ++ xs)) ending.0 (c.next.ensures.gave begun items h))
     (subst (λ xs. g.R.Receiver.left c.next.new.self + length xs ≤ g.R.Receiver.left c.args.receiver.now) ending.0 c.next.ensures.left)
     refl empty empty (omega arith) live (sym (c.next.ensures.ended ∙ ending.1))

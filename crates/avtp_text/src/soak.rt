@@ -1,0 +1,33 @@
+//! The line of `soak`: what became of the packets of a stream that were sent over a bad network.
+
+ghost use Rattle.std.specs.Prelude.{◌≡◌};
+ghost use Rattle.avtp_text.specs.Soak.{soak_line};
+ghost use Rattle.avtp_text.specs.Written.{Prints};
+
+use crate::buffer::Text;
+use crate::line::Line;
+use avtp_base::{Failed, Sink};
+use soak_run::SoakCounts;
+
+impl Text {
+    /// Says what became of the deliveries of so many packets.
+    #[tactic(auto, unfolding(crate::specs::Soak::soak_line))]
+    pub fn soak<S: Sink>(
+        &mut self,
+        out: &mut S,
+        packets: u32,
+        counts: &SoakCounts,
+    ) -> Result<(), Failed>
+        ensures { Prints (S.held out.old) (S.held out.new) self.old self.new (S.faults out.old) (S.faults out.new) result (soak_line packets counts.now) }
+    {
+        let mut line = Line::new();
+        line.prepend_u64(" full ", counts.full);
+        line.prepend_u64(" untimed ", counts.untimed);
+        line.prepend_u64(" repeat ", counts.repeat);
+        line.prepend_u64(" late ", counts.late);
+        line.prepend_u64(" presented ", counts.presented);
+        line.prepend_u64(" delivered ", counts.delivered);
+        line.prepend_u32("soak ", packets);
+        self.print(out, line.as_slice())
+    }
+}

@@ -1,0 +1,375 @@
+-- What a hearing showed so far, step by step.
+use Rattle.std.proofs.Common.{◌≡◌, ℕ, ◌+◌, ◌≤◌, ◌<◌, ◌^◌, Bool, true, false, inl, inr, List, [], ◌∷◌, ◌++◌, length, take, Option, Some, None, Result, Ok, Err, refl, sym, ap, subst, ◌∙◌, arith, append_assoc, append-nil, length-append, length-take}
+use Rattle.std.specs.Prelude.{cond, count_by, is_err, is_some, IsSome, MatchResult, OnErr, OnOk, slice_get}
+use mathlib.Core.List.{IsPrefix}
+use Rattle.std.proofs.lemmas.Bool.{cases_lt}
+use Rattle.std.proofs.lemmas.List.Sums.{sum_by-cons}
+use Rattle.std.specs.Option.{option_to_list}
+use Rattle.avtp_base.specs.Faults.{Rose}
+use Rattle.avtp_base.specs.Files.{Files, Open, Slots, left_in}
+use Rattle.pcap_frames.specs.Capture.{Record}
+use Rattle.capture_io.specs.declared.end.End.{End}
+use Rattle.capture_io.specs.declared.end.End.TheVariants as end
+use Rattle.capture_io.specs.Ends.{CountsFault}
+use Rattle.capture_io.specs.Formats.{records_in}
+use Rattle.capture_io.specs.Reads.{ReadsSlot}
+use Rattle.capture_io.specs.Source.{EndsAfter, GivesNext, HasGiven, Sourcing, held_in, slot_of, to_do}
+use Rattle.capture_io.proofs.Ending.{after_weaker}
+use Rattle.capture_io.proofs.Giving.{given_first}
+use Rattle.capture_io.proofs.Leaving.{reads_nothing}
+use Rattle.sample_schedule.specs.declared.shown.Shown.{Shown}
+use Rattle.sample_schedule.specs.declared.shown.Shown.TheVariants.{Flag, Present}
+use Rattle.listener.specs.Heard.{due_of, is_flag, is_present, shown_of}
+use Rattle.listener.specs.Listening.{Keeps, ListenState, StandsFor, is_closed, out}
+use Rattle.listener.proofs.Due.{due_stays}
+use Rattle.listener.proofs.Few.{few}
+use Rattle.presenter_ring.specs.declared.receiver.Pull.{Pull}
+use Rattle.presenter_ring.specs.Pulls.{ending_of, items_of}
+use Rattle.avtp_tool.specs.declared.hearing.Stage.{Stage}
+use Rattle.avtp_tool.specs.declared.hearing.Stage.TheVariants.{Reading, Showing, Ended, NoMemory}
+use Rattle.avtp_tool.specs.Hearing.{WasGiven, IsShown, IsStable, Shows, closed_at, ended_at, has_stopped, is_all, left_of, pull_at, pull_with, reads_left, unread}
+use Rattle.avtp_tool.specs.Reading.{ReadsCapture}
+use Rattle.avtp_tool.proofs.Leaving.{ended_so, none_left, quiet_next, reads_on, some_same}
+
+-- ---- lists
+
+pub prefix_refl : {X : Type 0} (xs : List X) → IsPrefix xs xs
+prefix_refl xs = ([], append-nil xs)
+
+pub prefix_then : {X : Type 0} (xs ys zs : List X) → IsPrefix xs ys → IsPrefix ys zs → IsPrefix xs zs
+prefix_then {X} xs ys zs first second = (first.0 ++ second.0, sym (append_assoc xs first.0 second.0) ∙ ap (λ (l : List X). l ++ second.0) first.1 ∙ second.1)
+
+-- with the item that comes next
+prefix_next : {X : Type 0} (xs ys : List X) (x : X) → IsPrefix xs ys → Some x ≡ slice_get ys (length xs) → IsPrefix (xs ++ x ∷ []) ys
+prefix_next {X} [] [] x first at = absurd cc
+prefix_next {X} [] (y ∷ ys) x first at = let same : x ≡ y = cc in (ys, ap (λ (z : X). z ∷ ys) same)
+prefix_next {X} (z ∷ xs) [] x first at = absurd (let e = first.1 in cc)
+prefix_next {X} (z ∷ xs) (y ∷ ys) x first at =
+    let e : z ∷ (xs ++ first.0) ≡ y ∷ ys = first.1 in
+    let rest = prefix_next xs ys x (first.0, cc) at in
+    let head : z ≡ y = cc in
+    (rest.0, ap (λ (l : List X). z ∷ l) rest.1 ∙ ap (λ (h : X). h ∷ ys) head)
+
+-- nothing comes next
+prefix_all : {X : Type 0} (xs ys : List X) → IsPrefix xs ys → None ≡ slice_get ys (length xs) → xs ≡ ys
+prefix_all {X} [] [] first at = refl
+prefix_all {X} [] (y ∷ ys) first at = absurd cc
+prefix_all {X} (z ∷ xs) [] first at = absurd (let e = first.1 in cc)
+prefix_all {X} (z ∷ xs) (y ∷ ys) first at =
+    let e : z ∷ (xs ++ first.0) ≡ y ∷ ys = first.1 in
+    let rest = prefix_all xs ys (first.0, cc) at in
+    let head : z ≡ y = cc in
+    ap (λ (l : List X). z ∷ l) rest ∙ ap (λ (h : X). h ∷ ys) head
+
+-- ---- counts
+
+count-next : {X : Type 0} (p : X → Bool) (x : X) (xs : List X) → count_by p (x ∷ xs) ≡ cond (p x) 1 0 + count_by p xs
+count-next {X} p x xs = sum_by-cons (λ (y : X). cond (p y) 1 0) x xs
+
+presented-or-flagged : (list : List Shown) → count_by is_present list + count_by is_flag list ≡ length list
+presented-or-flagged [] = refl
+presented-or-flagged (Present batch ∷ list) = omega (arith, count-next is_present (Present batch) list, count-next is_flag (Present batch) list, presented-or-flagged list)
+presented-or-flagged (Flag frame seq reason ∷ list) = omega (arith, count-next is_present (Flag frame seq reason) list, count-next is_flag (Flag frame seq reason) list, presented-or-flagged list)
+
+take_length : {X : Type 0} (n : ℕ) (xs : List X) → n ≤ length xs → length (take n xs) ≡ n
+take_length n xs within = omega (arith, length-take n xs)
+
+-- as many items were shown as were presented or flagged, and not more than records were taken
+pub shown_count : (listener : ListenState) (records : List Record) (given : ℕ) → StandsFor records given listener
+    → (listener.counts.presented + listener.counts.flagged ≡ given) × (given ≤ listener.counts.frames)
+shown_count listener records given stands =
+    let list = out listener records in
+    let sum = presented-or-flagged (take given list) in
+    let most : length (out listener records) ≤ length records = few (is_closed listener) _ _ listener.plan records in
+    let long = take_length given list stands.within in
+    (rw stands.counts (sum ∙ long), rw stands.counts (omega (arith, stands.within, most)))
+
+-- ---- how much is left
+
+le_by : (a b : ℕ) → ((a ≤ b → ⊥) → ⊥) → a ≤ b
+le_by a b stable = elim (cases_lt b a) [
+  | inl more ↦ absurd (stable (λ within. absurd (omega (arith, more, within))))
+  | inr within ↦ within
+]
+
+module _ {old new : ListenState} (count : ℕ) (stable : IsStable old) (stands : (records : List Record) (given : ℕ) → StandsFor records given old → (others : List Record) × StandsFor others (given + count) new) where
+  pub stable_on : IsStable new
+  stable_on none = stable (λ sound. let on = stands sound.records sound.given sound.stands in none (record { records = on.0; given = sound.given + count; stands = on.1 }))
+
+  pub left_on : (s s' : Stage) (source source' : Sourcing) → new.counts.frames + unread s' source' ≤ old.counts.frames + unread s source → left_of s' source' new + count ≤ left_of s source old
+  left_on s s' source source' fewer =
+      le_by (left_of s' source' new + count) (left_of s source old) (λ over. stable (λ sound. over (left_by sound))) where
+        left_by : WasGiven old → left_of s' source' new + count ≤ left_of s source old
+        left_by sound =
+            let on = stands sound.records sound.given sound.stands in
+            let before = shown_count old sound.records sound.given sound.stands in
+            let after = shown_count new on.0 (sound.given + count) on.1 in
+            omega (arith, before.0, before.1, after.0, after.1, fewer)
+
+-- the same where no item was shown
+pub stands_still : {old new : ListenState} (more : List Record) → ((records : List Record) (given : ℕ) → StandsFor records given old → StandsFor (records ++ more) given new) → (records : List Record) (given : ℕ) → StandsFor records given old
+    → (others : List Record) × StandsFor others (given + 0) new
+stands_still {old} {new} more stands records given was = (records ++ more, subst (λ (n : ℕ). StandsFor (records ++ more) n new) (omega arith) (stands records given was))
+
+pub stands_same : {old new : ListenState} → ((records : List Record) (given : ℕ) → StandsFor records given old → StandsFor records given new) → (records : List Record) (given : ℕ) → StandsFor records given old → (others : List Record) × StandsFor others (given + 0) new
+stands_same {old} {new} stands records given was = (records, subst (λ (n : ℕ). StandsFor records n new) (omega arith) (stands records given was))
+
+pub left_same : (old new : ListenState) (stage : Stage) (source source' : Sourcing) → new ≡ old → left_of NoMemory source' new ≤ left_of stage source old
+left_same old new stage source source' same = rw same (omega arith)
+
+pub stable_same : (old new : ListenState) → new ≡ old → IsStable old → IsStable new
+stable_same old new same stable = subst IsStable (sym same) stable
+
+-- ---- stages
+
+pub reading_by : (s : Stage) → pull_at s ≡ None → ((how : End) → s ≡ Showing how → ⊥) → s ≡ Reading
+reading_by Reading going other = refl
+reading_by (Showing how) going other = absurd (other how refl)
+reading_by (Ended how) going other = absurd cc
+reading_by NoMemory going other = absurd cc
+
+pub not_stopped : (source : Sourcing) (e : Option End) → source.ended ≡ e → is_some e ≡ false → source.ended ≡ None
+not_stopped source None is none = is
+not_stopped source (Some how) is none = absurd cc
+
+pub reads_on_at : (s : Stage) (source : Sourcing) → s ≡ Reading → has_stopped s source ≡ false → source.ended ≡ None
+reads_on_at s source is stopped =
+    let here : has_stopped Reading source ≡ false = ap (λ (x : Stage). has_stopped x source) (sym is) ∙ stopped in
+    not_stopped source source.ended refl here
+
+pub going_on : (s : Stage) (how : End) → pull_at s ≡ None → s ≡ Ended how → ⊥
+going_on s how going is = let e : pull_at (Ended how) ≡ None = ap pull_at (sym is) ∙ going in cc
+
+pub pull_ends : (how : End) → ending_of (pull_with how) ≡ Some (pull_with how)
+pull_ends end.Whole = refl
+pull_ends (end.Refused refusal) = refl
+pull_ends end.ReadFault = refl
+pull_ends end.Limit = refl
+
+pub live_by : (file : Option Open) (s : Stage) → ended_at file s ≡ None → IsSome file × (pull_at s ≡ None)
+live_by None s e = absurd cc
+live_by (Some file) s e = (refl, e)
+
+pub ended_live : (file : Option Open) (s : Stage) (o : Option Pull) → IsSome file → pull_at s ≡ o → ended_at file s ≡ o
+ended_live None s o live is = absurd cc
+ended_live (Some file) s o live is = is
+
+-- ---- one step
+
+out_same : (old now : ListenState) (records : List Record) → Keeps old now → out now records ≡ out old records
+out_same old now records keeps = rw (keeps.closed, keeps.plan) refl
+
+module _ {f g : Option Files} {s t : Slots} {r q w v : ℕ} {a b : List (List ℕ) → Type 0} {begun source : Sourcing} {first old new : ListenState} {stage : Stage} {items : List Shown} where
+  -- an item more was shown
+  pub shows_item : (x : Shown) → pull_at stage ≡ None → Keeps old new
+      → ((records : List Record) (given : ℕ) → StandsFor records given old → Some x ≡ slice_get (out old records) given)
+      → ((records : List Record) (given : ℕ) → StandsFor records given old → StandsFor records (given + 1) new)
+      → Shows f g s t r q w v a b begun source first old stage items → Shows f g s t r q w v a b begun source first new stage (items ++ x ∷ [])
+  shows_item x going keeps at stands shows = record {
+    capture = shows.capture;
+    plan = keeps.plan ∙ shows.plan;
+    shown = λ limit bytes given none unclosed.
+        let was = shows.shown limit bytes given none unclosed in
+        record {
+          records = was.records;
+          first = was.first;
+          read = was.read;
+          stands = subst (λ (n : ℕ). StandsFor was.records n new) (sym (length-append items (x ∷ []))) (stands was.records (length items) was.stands);
+          given = subst (IsPrefix (items ++ x ∷ [])) (sym (out_same old new was.records keeps)) (prefix_next items (out old was.records) x was.given (at was.records (length items) was.stands));
+          whole = λ how is. absurd (going_on stage how going is);
+        };
+  }
+
+  -- none was
+  pub shows_still : pull_at stage ≡ None → Keeps old new
+      → ((records : List Record) (given : ℕ) → StandsFor records given old → StandsFor records (given + 0) new)
+      → Shows f g s t r q w v a b begun source first old stage items → Shows f g s t r q w v a b begun source first new stage items
+  shows_still going keeps stands shows = record {
+    capture = shows.capture;
+    plan = keeps.plan ∙ shows.plan;
+    shown = λ limit bytes given none unclosed.
+        let was = shows.shown limit bytes given none unclosed in
+        record {
+          records = was.records;
+          first = was.first;
+          read = was.read;
+          stands = subst (λ (n : ℕ). StandsFor was.records n new) (omega arith) (stands was.records (length items) was.stands);
+          given = subst (IsPrefix items) (sym (out_same old new was.records keeps)) was.given;
+          whole = λ how is. absurd (going_on stage how going is);
+        };
+  }
+
+  -- none is left of what is shown once the reading has ended
+  pub shows_all : (how : End) → stage ≡ Showing how → Keeps old new
+      → ((records : List Record) (given : ℕ) → StandsFor records given old → None ≡ slice_get (out old records) given)
+      → ((records : List Record) (given : ℕ) → StandsFor records given old → StandsFor records (given + 0) new)
+      → Shows f g s t r q w v a b begun source first old stage items → Shows f g s t r q w v a b begun source first new (Ended how) items
+  shows_all how is keeps at stands showing =
+      let shows = subst (λ (x : Stage). Shows f g s t r q w v a b begun source first old x items) is showing in
+      record {
+        capture = record { reads = shows.capture.reads; counted = shows.capture.counted };
+        plan = keeps.plan ∙ shows.plan;
+        shown = λ limit bytes given none unclosed.
+            let was = shows.shown limit bytes given none unclosed in
+            let same = out_same old new was.records keeps in
+            record {
+              records = was.records;
+              first = was.first;
+              read = was.read;
+              stands = subst (λ (n : ℕ). StandsFor was.records n new) (omega arith) (stands was.records (length items) was.stands);
+              given = subst (IsPrefix items) (sym same) was.given;
+              whole = λ how ended. prefix_all items (out old was.records) was.given (at was.records (length items) was.stands) ∙ sym same;
+            };
+      }
+
+-- ---- one record
+
+due_here : (listener : ListenState) (records : List Record) → is_closed listener ≡ false → out listener records ≡ due_of listener.plan records
+due_here listener records going = rw going refl
+
+-- what is shown of the first records is a prefix
+due_grows : (old new : ListenState) (records more : List Record) (items : List Shown) → is_closed old ≡ false → is_closed new ≡ false → new.plan ≡ old.plan → IsPrefix items (out old records) → IsPrefix items (out new (records ++ more))
+due_grows old new records more items going on plan first =
+    let longer = due_stays old.plan records more in
+    let before = subst (IsPrefix items) (due_here old records going) first in
+    let after = prefix_then items (due_of old.plan records) (due_of old.plan (records ++ more)) before longer in
+    subst (IsPrefix items) (ap (λ p. due_of p (records ++ more)) (sym plan) ∙ sym (due_here new (records ++ more) on)) after
+
+-- what was due is a prefix of what is shown once no record follows
+all_grows : (old new : ListenState) (records : List Record) (items : List Shown) → is_closed old ≡ false → is_closed new ≡ true → new.plan ≡ old.plan → IsPrefix items (out old records) → IsPrefix items (out new records)
+all_grows old new records items going closed plan first =
+    let before = subst (IsPrefix items) (due_here old records going) first in
+    let after = prefix_then items (due_of old.plan records) (shown_of old.plan records) before (Rattle.listener.proofs.Due.due_first old.plan records) in
+    subst (IsPrefix items) (ap (λ p. shown_of p records) (sym plan) ∙ sym (let e : out new records ≡ shown_of new.plan records = rw closed refl in e)) after
+
+end_grows : (how : End) (old new : ListenState) (records : List Record) (items : List Shown) → is_closed old ≡ false → is_closed new ≡ is_all how → new.plan ≡ old.plan → IsPrefix items (out old records) → IsPrefix items (out new records)
+end_grows end.Whole old new records items going closed plan first = all_grows old new records items going closed plan first
+end_grows (end.Refused refusal) old new records items going closed plan first = all_grows old new records items going closed plan first
+end_grows end.ReadFault old new records items going closed plan first = subst (IsPrefix items) (due_here old records going ∙ ap (λ p. due_of p records) (sym plan) ∙ sym (due_here new records closed)) first
+end_grows end.Limit old new records items going closed plan first = subst (IsPrefix items) (due_here old records going ∙ ap (λ p. due_of p records) (sym plan) ∙ sym (due_here new records closed)) first
+
+module _ {f g h : Option Files} {s t u : Slots} {r q p w v x : ℕ} {a b c : List (List ℕ) → Type 0} {begun old_source source : Sourcing} {first old new : ListenState} {items : List Shown} where
+  -- the reading went on, and the record was taken
+  pub shows_record : (record_ : Record) → old_source.ended ≡ None → GivesNext (left_in t (slot_of old_source)) (left_in u (slot_of source)) q p old_source source None → ReadsSlot g h t u q p v x b c (slot_of old_source) (slot_of source) → held_in source ≡ Some record_
+      → is_closed old ≡ false → is_closed new ≡ false → new.plan ≡ old.plan → ((records : List Record) (given : ℕ) → StandsFor records given old → StandsFor (records ++ record_ ∷ []) given new) → {stage : Stage} → stage ≡ Reading → Shows f g s t r q w v a b begun old_source first old stage items → Shows f h s u r p w x a c begun source first new stage items
+  shows_record record_ none next reads held going on plan stands reading showing =
+      let shows = subst (λ (y : Stage). Shows f g s t r q w v a b begun old_source first old y items) reading showing in
+      let same : p ≡ q = quiet_next old_source.ended None q p none refl next.counted in
+      subst (λ (y : Stage). Shows f h s u r p w x a c begun source first new y items) (sym reading) (record {
+        capture = record { reads = reads_on shows.capture.reads reads; counted = same ∙ shows.capture.counted };
+        plan = plan ∙ shows.plan;
+        shown = λ limit bytes given begins unclosed.
+            let was = shows.shown limit bytes given begins unclosed in
+            let more = next.given refl limit bytes was.records was.read in
+            let is : more.0 ≡ record_ = some_same (held_in source) more.0 record_ more.1 held in
+            let read = subst (λ (y : Record). HasGiven limit bytes (left_in u (slot_of source)) source (was.records ++ y ∷ [])) is more.2 in
+            let all = given_first limit bytes (left_in u (slot_of source)) source (was.records ++ record_ ∷ []) read in
+            record {
+              records = was.records ++ record_ ∷ [];
+              first = (all.0, sym all.1);
+              read = read;
+              stands = stands was.records (length items) was.stands;
+              given = due_grows old new was.records (record_ ∷ []) items going on plan was.given;
+              whole = λ how is. absurd (going_on Reading how refl is);
+            };
+      })
+
+  -- the record was not taken, and the listener is as it was
+  pub shows_no_memory : old_source.ended ≡ None → GivesNext (left_in t (slot_of old_source)) (left_in u (slot_of source)) q p old_source source None → ReadsSlot g h t u q p v x b c (slot_of old_source) (slot_of source) → new ≡ old → {stage : Stage} → stage ≡ Reading → Shows f g s t r q w v a b begun old_source first old stage items → Shows f h s u r p w x a c begun source first new NoMemory items
+  shows_no_memory none next reads same reading showing =
+      let shows = subst (λ (y : Stage). Shows f g s t r q w v a b begun old_source first old y items) reading showing in
+      let quiet : p ≡ q = quiet_next old_source.ended None q p none refl next.counted in
+      record {
+        capture = record { reads = reads_on shows.capture.reads reads; counted = quiet ∙ shows.capture.counted };
+        plan = ap (λ (l : ListenState). l.plan) same ∙ shows.plan;
+        shown = λ limit bytes given begins unclosed.
+            let was = shows.shown limit bytes given begins unclosed in
+            record {
+              records = was.records;
+              first = was.first;
+              read = tt;
+              stands = subst (StandsFor was.records (length items)) (sym same) was.stands;
+              given = subst (λ (l : ListenState). IsPrefix items (out l was.records)) (sym same) was.given;
+              whole = λ how is. absurd (let e : NoMemory ≡ Ended how = is in cc);
+            };
+      }
+
+  -- the reading ended
+  pub shows_end : (how : End) → old_source.ended ≡ None → GivesNext (left_in t (slot_of old_source)) (left_in u (slot_of source)) q p old_source source (Some how) → ReadsSlot g h t u q p v x b c (slot_of old_source) (slot_of source)
+      → is_closed old ≡ false → is_closed new ≡ is_all how → new.plan ≡ old.plan → ((records : List Record) (given : ℕ) → StandsFor records given old → StandsFor records given new) → {stage : Stage} → stage ≡ Reading → Shows f g s t r q w v a b begun old_source first old stage items → Shows f h s u r p w x a c begun source first new (Showing how) items
+  shows_end how none next reads going closed plan stands reading showing =
+      let shows = subst (λ (y : Stage). Shows f g s t r q w v a b begun old_source first old y items) reading showing in
+      let same : q ≡ r = shows.capture.counted in
+      record {
+        capture = record { reads = reads_on shows.capture.reads reads; counted = subst (λ (n : ℕ). CountsFault None (Some how) n p) same (ended_so old_source.ended how q p none next.counted) };
+        plan = plan ∙ shows.plan;
+        shown = λ limit bytes given begins unclosed.
+            let was = shows.shown limit bytes given begins unclosed in
+            record {
+              records = was.records;
+              first = was.first;
+              read = after_weaker limit bytes (Rose q p) (Rose r p) how was.records (λ rose. subst (λ (n : ℕ). Rose n p) same rose) (next.ends limit bytes was.records was.read);
+              stands = stands was.records (length items) was.stands;
+              given = end_grows how old new was.records items going closed plan was.given;
+              whole = λ how' is. absurd (let e : Showing how ≡ Ended how' = is in cc);
+            };
+      }
+
+-- ---- before the first step
+
+pub shows_none : (files : Option Files) (slots : Slots) (reading writing : ℕ) (asked : List (List ℕ) → Type 0) (source : Sourcing) (listener : ListenState) (stage : Stage) → IsSome (slots (slot_of source)) → stage ≡ Reading
+    → Shows files files slots slots reading reading writing writing asked asked source source listener listener stage []
+shows_none files slots reading writing asked source listener stage live is =
+    subst (λ (x : Stage). Shows files files slots slots reading reading writing writing asked asked source source listener listener x []) (sym is)
+    (record {
+      capture = record { reads = reads_nothing files slots reading writing asked (slot_of source) live; counted = refl };
+      plan = refl;
+      shown = λ limit bytes given stands unclosed. record {
+        records = [];
+        first = (records_in (take limit bytes), refl);
+        read = given;
+        stands = stands;
+        given = (out listener [], refl);
+        whole = λ how ended. absurd (let e : Reading ≡ Ended how = ended in cc);
+      };
+    })
+
+pub left_most : (given : ℕ) (stage : Stage) (source : Sourcing) (listener : ListenState) → given ≡ 0 → listener.counts.frames + unread stage source ≤ 2 ^ 41 → given + left_of stage source listener ≤ 2 ^ 62
+left_most given stage source listener none bounded = omega (arith, none, bounded)
+
+pub reading_pull : (s : Stage) → s ≡ Reading → pull_at s ≡ None
+reading_pull s is = ap pull_at is
+
+pub went_wrong : {T E : Type 0} (result : Result T E) (P : Type 0) → is_err result ≡ true → OnErr result P → P
+went_wrong (Ok x) P failed on = absurd cc
+went_wrong (Err e) P failed on = on
+
+pub went_on : {T E : Type 0} (result : Result T E) (P : Type 0) → is_err result ≡ false → OnOk result P → P
+went_on (Ok x) P fine on = on
+went_on (Err e) P fine on = absurd cc
+
+pub open_at : (listener : ListenState) (stage : Stage) → is_closed listener ≡ closed_at stage → stage ≡ Reading → is_closed listener ≡ false
+open_at listener stage closed reading = closed ∙ ap closed_at reading
+
+pub unread_at : (stage : Stage) (source : Sourcing) → stage ≡ Reading → unread stage source ≡ to_do source
+unread_at stage source reading = ap (λ (s : Stage). unread s source) reading
+
+pub wrong_match : {T E : Type 0} (result : Result T E) (A B : Type 0) → is_err result ≡ true → MatchResult result (λ _. A) (λ _. B) → B
+wrong_match (Ok x) A B failed on = absurd cc
+wrong_match (Err e) A B failed on = on
+
+pub fine_match : {T E : Type 0} (result : Result T E) (A B : Type 0) → is_err result ≡ false → MatchResult result (λ _. A) (λ _. B) → A
+fine_match (Ok x) A B fine on = on
+fine_match (Err e) A B fine on = absurd cc
+
+pub pull_none : (how : End) → items_of (pull_with how) ≡ []
+pull_none end.Whole = refl
+pull_none (end.Refused refusal) = refl
+pull_none end.ReadFault = refl
+pull_none end.Limit = refl
+
+pub stops_not : (stage : Stage) (source : Sourcing) → source.ended ≡ None → has_stopped stage source ≡ false
+stops_not Reading source none = rw none refl
+stops_not (Showing how) source none = refl
+stops_not (Ended how) source none = refl
+stops_not NoMemory source none = refl

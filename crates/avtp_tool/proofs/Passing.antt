@@ -1,0 +1,108 @@
+-- What both sides of a ring did, round by round.
+use Rattle.std.proofs.Common.{◌≡◌, ℕ, ◌+◌, ◌≤◌, ◌^◌, true, false, List, [], ◌∷◌, ◌++◌, length, Option, Some, None, Result, Ok, Err, refl, sym, ap, subst, ◌∙◌, arith, append-nil}
+use Rattle.std.specs.Prelude.{IsErr, IsSome, is_err, OnOk, OnErr}
+use mathlib.Core.List.{IsPrefix}
+use Rattle.std.proofs.lemmas.Grind.{flat_map-append}
+use Rattle.avtp_base.specs.Files.{Open}
+use Rattle.avtp_base.specs.Told.{Keeps}
+use Rattle.avtp_base.proofs.Told.{Keeps-none}
+use Rattle.avtp_text.specs.Listen.{list_lines, shown_lines}
+use Rattle.avtp_text.specs.Written.{Grows, PrintsPart, written}
+use Rattle.avtp_text.proofs.Printing.{part_as, part_failed, part_then, prefix_none}
+use Rattle.avtp_tool.specs.declared.hearing.Stage.{Stage}
+use Rattle.avtp_tool.specs.Hearing.{ended_at, pull_at}
+use Rattle.avtp_base.specs.declared.failed.Failed.{Failed}
+use Rattle.avtp_base.specs.Faults.{IsCounted, Rose}
+use Rattle.sample_schedule.specs.declared.shown.Shown.{Shown}
+use Rattle.presenter_ring.specs.declared.pipe.Pipe.{Pipe}
+use Rattle.presenter_ring.specs.declared.receiver.Pull.{Pull}
+use Rattle.presenter_ring.specs.Pipes.{ended_with, given_to, waiting_in, EndsWith, HasMoved, IsDrained}
+use Rattle.avtp_tool.specs.Presenting.{HasPassed, failures}
+
+-- how a receiver ended, which is how its pipe did
+pub ends_on : {R : Type 0} {ended : R → Option Pull} {r r' : R} {a b : Pipe} → ended_with a ≡ ended r → EndsWith ended r r' a b → ended_with b ≡ ended r'
+ends_on {R} {ended} {r} {r'} {a} {b} is with =
+    elim (ended_with a) as (λ (e : Option Pull). ended_with a ≡ e → ended_with b ≡ ended r') [
+      | None ↦ λ h. with.ends h
+      | Some pull ↦ λ h. let kept = with.stays (rw h refl) in kept.0 ∙ is ∙ ap ended (sym kept.1)
+    ] refl
+
+-- what waits was given and not presented
+split : {R P : Type 0} (gave : R → R → List Shown → Type 0) (left : R → ℕ) (handed : P → P → List Shown → Type 0) (r r' : R) (p p' : P) (a b : Pipe) → waiting_in a ≡ [] → (m : HasMoved gave left handed r r' p p' a b) → m.presented ++ waiting_in b ≡ m.given
+split gave left handed r r' p p' a b empty m = sym m.in_order ∙ ap (λ (l : List Shown). l ++ m.given) empty
+
+module _ {R P : Type 0} {gave : R → R → List Shown → Type 0} {left : R → ℕ} {ended : R → Option Pull} {handed : P → P → List Shown → Type 0} {faults : P → ℕ} {r r' : R} {p p' : P} {a b : Pipe} where
+  pub passed_all : waiting_in a ≡ [] → HasMoved gave left handed r r' p p' a b → IsDrained b → ended_with b ≡ ended r' → faults p' ≡ faults p → HasPassed gave ended handed faults r r' p p' (Ok tt)
+  passed_all empty m drained is quiet =
+      let all = split gave left handed r r' p p' a b empty m in
+      record {
+        given = m.given;
+        presented = m.presented;
+        gives = m.gives;
+        hands = m.hands;
+        first = (waiting_in b, all);
+        whole = (sym (append-nil m.presented) ∙ ap (λ (l : List Shown). m.presented ++ l) (sym drained.empty) ∙ all, subst IsSome is drained.ended);
+        quiet = quiet;
+        rose = tt;
+      }
+
+  pub passed_some : (e : Failed) → waiting_in a ≡ [] → HasMoved gave left handed r r' p p' a b → Rose (faults p) (faults p') → HasPassed gave ended handed faults r r' p p' (Err e)
+  passed_some e empty m rose = record {
+    given = m.given;
+    presented = m.presented;
+    gives = m.gives;
+    hands = m.hands;
+    first = (waiting_in b, split gave left handed r r' p p' a b empty m);
+    whole = tt;
+    quiet = tt;
+    rose = rose;
+  }
+
+-- a presenter that goes no further after its first failure answers that
+pub same_result : (before now result : Result Unit Failed) → before ≡ Ok tt → OnOk result (failures now ≡ failures before) → OnErr result (Rose (failures before) (failures now)) → result ≡ now
+same_result (Ok x) (Ok y) (Ok z) begun quiet rose = refl
+same_result (Ok x) (Err e) (Ok z) begun quiet rose = absurd (omega (arith, quiet))
+same_result (Ok x) (Ok y) (Err f) begun quiet rose = absurd (omega (arith, rose))
+same_result (Ok x) (Err e) (Err f) begun quiet rose = refl
+same_result (Err e) now result begun quiet rose = absurd cc
+
+-- ---- the two sides of `listen`
+
+lines_more : (items : List Shown) (x : Shown) → list_lines items ++ shown_lines x ≡ list_lines (items ++ x ∷ [])
+lines_more items x = ap (λ (t : List ℕ). list_lines items ++ t) (sym (append-nil (shown_lines x))) ∙ sym (flat_map-append shown_lines items (x ∷ []))
+
+module _ {h h' h'' : Option (List ℕ)} {w w' w'' : List ℕ} {f f' f'' : ℕ} where
+  -- an item more was printed, or a part of it
+  pub present_more : (items : List Shown) (x : Shown) (was : Result Unit Failed) (result : Result Unit Failed) → is_err was ≡ false → PrintsPart h h' w w' f f' was (list_lines items) → PrintsPart h' h'' w' w'' f' f'' result (shown_lines x)
+      → PrintsPart h h'' w w'' f f'' result (list_lines (items ++ x ∷ []))
+  present_more items x (Ok o) result fine first second = part_as (list_lines items ++ shown_lines x) (list_lines (items ++ x ∷ [])) (lines_more items x) (part_then {ok = o} (list_lines items) (shown_lines x) first second)
+  present_more items x (Err e) result fine first second = absurd cc
+
+-- none is printed once the sink has failed
+pub present_no_more : {h h' : Option (List ℕ)} {w w' : List ℕ} {f f' : ℕ} (items more : List Shown) (result : Result Unit Failed) → is_err result ≡ true → PrintsPart h h' w w' f f' result (list_lines items) → PrintsPart h h' w w' f f' result (list_lines (items ++ more))
+present_no_more items more (Ok o) failed first = absurd cc
+present_no_more items more (Err e) failed first = part_as (list_lines items ++ list_lines more) (list_lines (items ++ more)) (sym (flat_map-append shown_lines items more)) (part_failed {e = e} (list_lines items) (list_lines more) refl first)
+
+-- a prefix of what was given was printed, or all
+pub prints_given : {h h' : Option (List ℕ)} {w w' : List ℕ} {f f' : ℕ} (A : Type 0) (presented given : List Shown) (result : Result Unit Failed) → OnOk result ((presented ≡ given) × A) → IsPrefix presented given
+    → PrintsPart h h' w w' f f' result (list_lines presented) → PrintsPart h h' w w' f f' result (list_lines given)
+prints_given A presented given (Ok o) whole first prints = part_as (list_lines presented) (list_lines given) (ap list_lines whole.0) prints
+prints_given A presented given (Err e) whole first prints = part_as (list_lines (presented ++ first.0)) (list_lines given) (ap list_lines first.1) (present_no_more presented first.0 (Err e) refl prints)
+
+pub over_on : (A : Type 0) (file : Option Open) (stage : Stage) (result : Result Unit Failed) → OnOk result (A × IsSome (ended_at file stage)) → IsSome file → OnOk result (IsSome (pull_at stage))
+over_on A None stage result over live = absurd cc
+over_on A (Some file) stage (Ok o) over live = over.1
+over_on A (Some file) stage (Err e) over live = tt
+
+-- what waited was written out behind a text, or a part of that
+pub flushed : {h h' h'' : Option (List ℕ)} {w w' w'' : List ℕ} {f f' f'' : ℕ} (result : Result Unit Failed) (text : List ℕ) → PrintsPart h h' w w' f f' (Ok tt) text → Keeps (written h' w') (written h'' w'') → Grows h' h'' → IsCounted f' f'' result
+    → PrintsPart h h'' w w'' f f'' result text
+flushed {h' = h'} {h''} {w' = w'} {w''} (Ok o) text first kept grows counted =
+    part_as (text ++ []) text (append-nil text) (part_then {ok = tt} text [] first (record { written = Keeps-none (written h' w') (written h'' w'') kept; grows = grows; counted = counted }))
+flushed {h' = h'} {h''} {w' = w'} {w''} (Err e) text first kept grows counted =
+    part_as (text ++ []) text (append-nil text) (part_then {ok = tt} text [] first (record { written = prefix_none (written h' w') (written h'' w'') [] kept; grows = grows; counted = counted }))
+
+-- a failure is a failure whatever was to be answered
+pub failed_as : {h h' : Option (List ℕ)} {w w' : List ℕ} {f f' : ℕ} {e : Failed} (result : Result Unit Failed) (text : List ℕ) → IsErr result → PrintsPart h h' w w' f f' (Err e) text → PrintsPart h h' w w' f f' result text
+failed_as (Ok o) text err first = absurd cc
+failed_as (Err e') text err first = record { written = first.written; grows = first.grows; counted = record { never_falls = first.counted.never_falls; ok = tt; failed = first.counted.failed } }

@@ -1,0 +1,24 @@
+-- What the two sides of a ring did until all was presented, or the presenter failed.
+use Rattle.std.specs.Prelude.{◌≡◌, ℕ, ◌++◌, List, Option, Some, None, IsSome, Result, Ok, Err, OnOk, OnErr}
+use mathlib.Core.List.{IsPrefix}
+use Rattle.avtp_base.specs.declared.failed.Failed.{Failed}
+use Rattle.avtp_base.specs.Faults.{Rose}
+use Rattle.sample_schedule.specs.declared.shown.Shown.{Shown}
+use Rattle.presenter_ring.specs.declared.receiver.Pull.{Pull}
+
+-- the count of failures of a presenter that goes no further after the first
+abbrev pub failures : Result Unit Failed → ℕ
+failures (Ok x) = 0
+failures (Err e) = 1
+
+-- The receiver gave these items, and the presenter was handed them in this order: all that were given up to its end, or where
+-- it failed the first of them. The meanings are those of the two sides.
+pub record HasPassed {R P : Type 0} (gave : R → R → List Shown → Type 0) (ended : R → Option Pull) (handed : P → P → List Shown → Type 0) (faults : P → ℕ) (receiver receiver' : R) (presenter presenter' : P) (result : Result Unit Failed) : Type 0 where
+  pub given : List Shown
+  pub presented : List Shown
+  pub gives : (begun : R) (items : List Shown) → gave begun receiver items → gave begun receiver' (items ++ given)
+  pub hands : (begun : P) (items : List Shown) → handed begun presenter items → handed begun presenter' (items ++ presented)
+  pub first : IsPrefix presented given
+  pub whole : OnOk result ((presented ≡ given) × IsSome (ended receiver'))
+  pub quiet : OnOk result (faults presenter' ≡ faults presenter)
+  pub rose : OnErr result (Rose (faults presenter) (faults presenter'))

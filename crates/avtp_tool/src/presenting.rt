@@ -1,0 +1,58 @@
+//! The presenter's side of `listen`.
+
+ghost use Rattle.avtp_text.specs.Listen.{shown_lines};
+ghost use Rattle.avtp_text.specs.Written.{PrintsPart};
+
+use avtp_base::{Failed, Sink};
+use avtp_text::{Output, Text};
+use presenter_ring::Presenter;
+use sample_schedule::Shown;
+
+/// The text of what is shown, and the sink that it goes to. Once the sink has failed, no more is written.
+#[derive(Drop)]
+pub struct Presenting<'a, S: Sink> {
+    pub text: &'a mut Text,
+    pub out: &'a mut S,
+    /// How many items came.
+    pub items: u64,
+    /// Whether the sink has failed.
+    pub result: Result<(), Failed>,
+}
+
+impl<'a, S: Sink> Presenter for Presenting<'a, S> {
+    ghost use Rattle.std.specs.Prelude.{◌≡◌, Ok};
+    ghost use Rattle.avtp_text.specs.Listen.{list_lines};
+    ghost use Rattle.avtp_text.specs.Written.{PrintsPart};
+    ghost use Rattle.avtp_tool.specs.Presenting.{failures};
+
+    ghost handed = { λ begun now items. (now.text.ghost_name ≡ begun.text.ghost_name) × (now.out.ghost_name ≡ begun.out.ghost_name)
+        × (begun.result ≡ Ok tt → PrintsPart (S.held begun.out.now) (S.held now.out.now) begun.text.now now.text.now (S.faults begun.out.now) (S.faults now.out.now) now.result (list_lines items)) };
+
+    ghost faults = { λ presenting. failures presenting.result };
+
+    fn present(&mut self, shown: Shown) -> Result<(), Failed> {
+        if self.result.is_err() {
+            return Ok(());
+        }
+        self.items = self.items.wrapping_add(1);
+        self.result = print_item(self.text, self.out, &shown, self.items);
+        self.result
+    }
+}
+
+/// Prints an item of this number. What waits is written out with the first item, the second, the fourth and so on, so that
+/// the first ones are seen soon, and many take few calls of the sink.
+fn print_item<S: Output>(
+    text: &mut Text,
+    out: &mut S,
+    shown: &Shown,
+    number: u64,
+) -> Result<(), Failed>
+    ensures { PrintsPart (S.held out.old) (S.held out.new) text.old text.new (S.faults out.old) (S.faults out.new) result (shown_lines shown.now) }
+{
+    text.shown(out, shown)?;
+    if number.is_power_of_two() {
+        text.flush(out)?;
+    }
+    Ok(())
+}

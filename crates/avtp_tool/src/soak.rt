@@ -1,0 +1,42 @@
+//! The command `soak`: what becomes of a stream over a bad network.
+
+ghost use Rattle.std.specs.Prelude.{◌≤◌};
+ghost use Rattle.avtp_text.specs.Soak.{soak_line};
+ghost use Rattle.avtp_tool.specs.Outcome.{EndsWith};
+ghost use Rattle.avtp_tool.specs.Soak.{Says, soak_report};
+
+use crate::status::Status;
+use avtp_base::{Failed, NoMemory, Sink};
+use avtp_text::Text;
+use soak_run::SoakCounts;
+use std::alloc::Global;
+
+/// Sends so many packets over a network that loses, repeats and delays them, and prints what a listener makes of those that
+/// arrive.
+pub fn soak<S: Sink>(
+    alloc: Global,
+    packets: u32,
+    text: &mut Text,
+    out: &mut S,
+) -> Result<Status, Failed>
+    requires { packets ≤ 1000000 }
+    ensures { Says (soak_report packets) (S.held out.old) (S.held out.new) text.old text.new (S.faults out.old) (S.faults out.new) result }
+{
+    match soak_run::soak(alloc, packets) {
+        Ok(counts) => print_counts(text, out, packets, &counts),
+        Err(NoMemory) => Ok(Status::Memory),
+    }
+}
+
+/// Prints what became of the deliveries of so many packets.
+fn print_counts<S: Sink>(
+    text: &mut Text,
+    out: &mut S,
+    packets: u32,
+    counts: &SoakCounts,
+) -> Result<Status, Failed>
+    ensures { EndsWith Status.Done (S.held out.old) (S.held out.new) text.old text.new (S.faults out.old) (S.faults out.new) result (soak_line packets counts.now) }
+{
+    text.soak(out, packets, counts)?;
+    Ok(Status::Done)
+}
