@@ -120,7 +120,14 @@ fn blocks(rt: HostRuntime) -> Result<(), Fail> {
         for sent in packets {
             capture.extend_from_slice(&record_of(rt.alloc(), *sent)?)?;
         }
-        let ran = run_over(rt.alloc(), &["listen", STREAM, "c.pcap"], capture, &[], &[])?;
+        let ran = run_over(
+            &rt,
+            rt.alloc(),
+            &["listen", STREAM, "c.pcap"],
+            capture,
+            &[],
+            &[],
+        )?;
         let text = format!(in rt.alloc(); "capture c.pcap\n{rest}")?;
         assert_eq!(rt; ran.text.as_slice(), text.as_bytes());
         assert_eq!(rt; ran.status, Status::Done);
@@ -146,12 +153,12 @@ fn makes_the_vector(rt: HostRuntime) -> Result<(), Fail> {
         "frame 1 at 1000000000 iec id 0200000000010001 seq 0 ts 1002000000 tv 1 tu 0 mr 0 dbs 2 dbc 0 fdf 2 count 6 bytes 56\nend frames 1\n";
     for len in [48, 8] {
         let samples = quadlets(rt.alloc(), len)?;
-        let (ran, made) = talk_over(rt.alloc(), &TALK, samples, &[], &[])?;
+        let (ran, made) = talk_over(&rt, rt.alloc(), &TALK, samples, &[], &[])?;
         assert_eq!(rt; ran.status, Status::Done);
         assert_eq!(rt; ran.text.as_slice(), b"talk packets 1 clock 0\n".as_slice());
         let made = made.ok_or("no capture")?;
         assert!(rt; made.get(58..) == Some(vector(rt.alloc(), 2)?.as_slice()));
-        let ran = run_over(rt.alloc(), &["show", "c.pcap"], made, &[], &[])?;
+        let ran = run_over(&rt, rt.alloc(), &["show", "c.pcap"], made, &[], &[])?;
         assert_eq!(rt; ran.text.as_slice(), shown.as_bytes());
     }
     Ok(())
@@ -160,7 +167,7 @@ fn makes_the_vector(rt: HostRuntime) -> Result<(), Fail> {
 /// An input that is no whole blocks makes no stream.
 #[test]
 fn refuses(rt: HostRuntime) -> Result<(), Fail> {
-    let (ran, made) = talk_over(rt.alloc(), &TALK, quadlets(rt.alloc(), 12)?, &[], &[])?;
+    let (ran, made) = talk_over(&rt, rt.alloc(), &TALK, quadlets(rt.alloc(), 12)?, &[], &[])?;
     assert_eq!(rt; ran.status, Status::TalkInput);
     assert_eq!(rt; ran.text.as_slice(), b"talk input: frames\n".as_slice());
     assert!(rt; made.is_none());
@@ -171,13 +178,20 @@ fn refuses(rt: HostRuntime) -> Result<(), Fail> {
 #[test]
 fn is_heard_whole(rt: HostRuntime) -> Result<(), Fail> {
     let samples = vec![in rt.alloc(); 0u8; 192_000]?;
-    let (ran, made) = talk_over(rt.alloc(), &TALK, samples, &[], &[])?;
+    let (ran, made) = talk_over(&rt, rt.alloc(), &TALK, samples, &[], &[])?;
     assert_eq!(rt;
         ran.text.as_slice(),
         b"talk packets 4000 clock 0\n".as_slice()
     );
     let made = made.ok_or("no capture")?;
-    let heard = run_over(rt.alloc(), &["listen", STREAM, "c.pcap"], made, &[], &[])?;
+    let heard = run_over(
+        &rt,
+        rt.alloc(),
+        &["listen", STREAM, "c.pcap"],
+        made,
+        &[],
+        &[],
+    )?;
     assert_eq!(rt; heard.status, Status::Done);
     let end = "end frames 4000 packets 4000 presented 4000 flagged 0\n";
     assert!(rt; heard.text.ends_with(end.as_bytes()));

@@ -50,7 +50,7 @@ fn in_their_order(rt: HostRuntime) -> Result<(), Fail> {
     for (files, asked, status, text) in cases {
         let mut shelf = shelf_of_two(rt.alloc())?;
         let line = ["listen", STREAM, files[0], files[1]];
-        let ran = run_on(rt.alloc(), &line, &mut shelf, &[])?;
+        let ran = run_on(&rt, rt.alloc(), &line, &mut shelf, &[])?;
         assert_eq!(rt; ran.text.as_slice(), text.as_bytes());
         assert_eq!(rt; ran.status, status);
         assert_eq!(rt; shelf.asked().len(), asked);
@@ -70,7 +70,7 @@ fn refused_at_once(rt: HostRuntime) -> Result<(), Fail> {
         (&["listen", STREAM, "c.pcap"], heard),
     ];
     for (line, text) in cases {
-        let ran = run_over(rt.alloc(), line, no_capture(rt.alloc())?, &[3], &[])?;
+        let ran = run_over(&rt, rt.alloc(), line, no_capture(rt.alloc())?, &[3], &[])?;
         assert_eq!(rt; ran.text.as_slice(), text.as_bytes());
         assert_eq!(rt; ran.status, Status::Refused);
     }

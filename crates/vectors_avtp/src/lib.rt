@@ -8,6 +8,8 @@ mod check;
 #[cfg(test)]
 mod clock;
 #[cfg(test)]
+mod faults;
+#[cfg(test)]
 mod files;
 #[cfg(test)]
 mod listen;
@@ -16,9 +18,13 @@ mod losses;
 #[cfg(test)]
 mod pcapng;
 #[cfg(test)]
+mod rings;
+#[cfg(test)]
 mod runs;
 #[cfg(test)]
 mod show;
+#[cfg(test)]
+mod soak;
 #[cfg(test)]
 mod talk;
 mod vectors;

@@ -6,6 +6,7 @@ use avtp_base::NoMemory;
 use avtp_tool::Status;
 use std::alloc::{AllocError, Global};
 use std::test::Fail;
+use std::thread::Threads;
 
 /// The sample frames of the first vector, and their instants behind the first at 48 kHz.
 const SAMPLES: [(u64, &str); 6] = [
@@ -31,14 +32,14 @@ fn lines(alloc: Global, first: u64, frame: u64, seq: u8) -> Result<String, Alloc
 /// A packet of the vector's samples with another sequence number and timestamp, and when it was captured, in seconds
 /// and nanoseconds.
 #[derive(Clone, Copy, Drop)]
-struct Sent {
+pub struct Sent {
     seq: u8,
     timestamp: u32,
     seconds: u32,
     nanoseconds: u32,
 }
 
-fn packet(seq: u8, timestamp: u32, seconds: u32, nanoseconds: u32) -> Sent {
+pub fn packet(seq: u8, timestamp: u32, seconds: u32, nanoseconds: u32) -> Sent {
     Sent {
         seq,
         timestamp,
@@ -71,7 +72,7 @@ fn record_of(alloc: Global, sent: Sent) -> Result<Vec<u8>, NoMemory> {
 }
 
 /// The vector's file header, and a record of each packet.
-fn capture_of(alloc: Global, packets: &[Sent]) -> Result<Vec<u8>, NoMemory> {
+pub fn capture_of(alloc: Global, packets: &[Sent]) -> Result<Vec<u8>, NoMemory> {
     let mut capture = changed(vector(alloc, 1)?, &[], 24, 0)?;
     for sent in packets {
         let whole = record_of(alloc, *sent)?;
@@ -83,13 +84,18 @@ fn capture_of(alloc: Global, packets: &[Sent]) -> Result<Vec<u8>, NoMemory> {
 }
 
 /// What `listen` says of the packets.
-fn hear(alloc: Global, options: &[&str], packets: &[Sent]) -> Result<Ran, NoMemory> {
+fn hear<T: Threads + Sync>(
+    rt: &T,
+    alloc: Global,
+    options: &[&str],
+    packets: &[Sent],
+) -> Result<Ran, NoMemory> {
     let mut line = Vec::new(alloc);
     line.push("listen")?;
     line.extend_from_slice(options)?;
     line.push(STREAM)?;
     line.push("c.pcap")?;
-    run_over(alloc, &line, capture_of(alloc, packets)?, &[], &[])
+    run_over(rt, alloc, &line, capture_of(alloc, packets)?, &[], &[])
 }
 
 /// One packet on either side of half a circle of the timestamp, and across its wrap.
@@ -99,14 +105,14 @@ fn timestamps(rt: HostRuntime) -> Result<(), Fail> {
     let across = lines(rt.alloc(), 12_884_902_000, 1, 0)?;
     let one = "end frames 1 packets 1 presented 1 flagged 0\n";
     let text = format!(in rt.alloc(); "capture c.pcap\n{before}{one}")?;
-    let ran = hear(rt.alloc(), &[], &[packet(0, 3_557_549_055, 10, 0)])?;
+    let ran = hear(&rt, rt.alloc(), &[], &[packet(0, 3_557_549_055, 10, 0)])?;
     assert_eq!(rt; ran.text.as_slice(), text.as_bytes());
     let late =
         "capture c.pcap\nflag frame 1 seq 0 late\nend frames 1 packets 1 presented 0 flagged 1\n";
-    let ran = hear(rt.alloc(), &[], &[packet(0, 3_557_549_056, 10, 0)])?;
+    let ran = hear(&rt, rt.alloc(), &[], &[packet(0, 3_557_549_056, 10, 0)])?;
     assert_eq!(rt; ran.text.as_slice(), late.as_bytes());
     let text = format!(in rt.alloc(); "capture c.pcap\n{across}{one}")?;
-    let ran = hear(rt.alloc(), &[], &[packet(0, 112, 12, 884_901_000)])?;
+    let ran = hear(&rt, rt.alloc(), &[], &[packet(0, 112, 12, 884_901_000)])?;
     assert_eq!(rt; ran.text.as_slice(), text.as_bytes());
     Ok(())
 }
@@ -123,7 +129,7 @@ fn repeats(rt: HostRuntime) -> Result<(), Fail> {
     let text = format!(in rt.alloc();
         "capture c.pcap\nflag frame 2 seq 0 repeat\n{once}flag frame 3 seq 0 late\nend frames 3 packets 3 presented 1 flagged 2\n"
     )?;
-    let ran = hear(rt.alloc(), &[], &packets)?;
+    let ran = hear(&rt, rt.alloc(), &[], &packets)?;
     assert_eq!(rt; ran.text.as_slice(), text.as_bytes());
     Ok(())
 }
@@ -142,7 +148,7 @@ fn orders(rt: HostRuntime) -> Result<(), Fail> {
     let text = format!(in rt.alloc();
         "capture c.pcap\n{second}{third}{first}end frames 3 packets 3 presented 3 flagged 0\n"
     )?;
-    let ran = hear(rt.alloc(), &[], &packets)?;
+    let ran = hear(&rt, rt.alloc(), &[], &packets)?;
     assert_eq!(rt; ran.text.as_slice(), text.as_bytes());
     Ok(())
 }
@@ -160,12 +166,12 @@ fn full_buffers(rt: HostRuntime) -> Result<(), Fail> {
     let text = format!(in rt.alloc();
         "capture c.pcap\nflag frame 3 seq 2 full\n{first}{second}end frames 3 packets 3 presented 2 flagged 1\n"
     )?;
-    let ran = hear(rt.alloc(), &["--buffer", "2"], &packets)?;
+    let ran = hear(&rt, rt.alloc(), &["--buffer", "2"], &packets)?;
     assert_eq!(rt; ran.text.as_slice(), text.as_bytes());
     let text = format!(in rt.alloc();
         "capture c.pcap\nflag frame 2 seq 1 full\nflag frame 3 seq 2 full\n{first}end frames 3 packets 3 presented 1 flagged 2\n"
     )?;
-    let ran = hear(rt.alloc(), &["--room", "30"], &packets)?;
+    let ran = hear(&rt, rt.alloc(), &["--room", "30"], &packets)?;
     assert_eq!(rt; ran.text.as_slice(), text.as_bytes());
     Ok(())
 }
@@ -203,7 +209,14 @@ fn captures(rt: HostRuntime) -> Result<(), Fail> {
     ];
     for (changes, len, zeros, status, text) in cases {
         let capture = changed(vector(rt.alloc(), 1)?, changes, len, zeros)?;
-        let ran = run_over(rt.alloc(), &["listen", STREAM, "c.pcap"], capture, &[], &[])?;
+        let ran = run_over(
+            &rt,
+            rt.alloc(),
+            &["listen", STREAM, "c.pcap"],
+            capture,
+            &[],
+            &[],
+        )?;
         assert_eq!(rt; ran.text.as_slice(), text.as_bytes());
         assert_eq!(rt; ran.status, status);
     }
@@ -235,31 +248,7 @@ fn words(rt: HostRuntime) -> Result<(), Fail> {
         ),
     ];
     for (line, status, text) in cases {
-        let ran = run_over(rt.alloc(), line, vector(rt.alloc(), 1)?, &[], &[])?;
-        assert_eq!(rt; ran.text.as_slice(), text.as_bytes());
-        assert_eq!(rt; ran.status, status);
-    }
-    Ok(())
-}
-
-/// Each call of the shelf and of the sink fails in turn.
-#[test]
-fn failing_calls(rt: HostRuntime) -> Result<(), Fail> {
-    let fault = "capture c.pcap\nread fault\n";
-    let cases: [(&[u64], &[u64], Status, &str); 4] = [
-        (&[1], &[], Status::ReadFault, "read fault\n"),
-        (&[2], &[], Status::ReadFault, fault),
-        (&[3], &[], Status::ReadFault, fault),
-        (&[], &[1], Status::WriteFault, ""),
-    ];
-    for (shelf_fails, sink_fails, status, text) in cases {
-        let ran = run_over(
-            rt.alloc(),
-            &["listen", STREAM, "c.pcap"],
-            vector(rt.alloc(), 1)?,
-            shelf_fails,
-            sink_fails,
-        )?;
+        let ran = run_over(&rt, rt.alloc(), line, vector(rt.alloc(), 1)?, &[], &[])?;
         assert_eq!(rt; ran.text.as_slice(), text.as_bytes());
         assert_eq!(rt; ran.status, status);
     }
@@ -270,7 +259,14 @@ fn failing_calls(rt: HostRuntime) -> Result<(), Fail> {
 #[test]
 fn another_rate(rt: HostRuntime) -> Result<(), Fail> {
     let capture = changed(vector(rt.alloc(), 1)?, &[(75, 0x40)], 106, 0)?;
-    let ran = run_over(rt.alloc(), &["listen", STREAM, "c.pcap"], capture, &[], &[])?;
+    let ran = run_over(
+        &rt,
+        rt.alloc(),
+        &["listen", STREAM, "c.pcap"],
+        capture,
+        &[],
+        &[],
+    )?;
     let text = "\
 capture c.pcap
 at 1002000000 frame 1 seq 0 sample 0 0001ffff
@@ -310,7 +306,7 @@ fn widest_sample(rt: HostRuntime) -> Result<(), Fail> {
         capture.push(byte)?;
         digits.push_str(&format!(in alloc; "{byte:02x}")?)?;
     }
-    let ran = run_over(alloc, &["listen", STREAM, "c.pcap"], capture, &[], &[])?;
+    let ran = run_over(&rt, alloc, &["listen", STREAM, "c.pcap"], capture, &[], &[])?;
     let text = format!(in alloc;
         "capture c.pcap\nat 1002000000 frame 1 seq 0 sample 0 {digits}\nend frames 1 packets 1 presented 1 flagged 0\n"
     )?;

@@ -4,10 +4,11 @@ use crate::runs::{RECORD, STREAM, records_of, run_over, talked};
 use avtp_tool::Status;
 use std::alloc::Global;
 use std::test::Fail;
+use std::thread::Threads;
 
 /// What `listen` prints of a capture.
-fn heard(alloc: Global, capture: Vec<u8>) -> Result<String, Fail> {
-    let ran = run_over(alloc, &["listen", STREAM, "c.pcap"], capture, &[], &[])?;
+fn heard<T: Threads + Sync>(rt: &T, alloc: Global, capture: Vec<u8>) -> Result<String, Fail> {
+    let ran = run_over(rt, alloc, &["listen", STREAM, "c.pcap"], capture, &[], &[])?;
     if ran.status != Status::Done {
         return Err(Fail::new("not heard whole"));
     }
@@ -20,9 +21,13 @@ fn heard(alloc: Global, capture: Vec<u8>) -> Result<String, Fail> {
 /// Without its first packet, which is stamped, a sparse stream is known from the next stamped one on.
 #[test]
 fn first_stamp_lost(rt: HostRuntime) -> Result<(), Fail> {
-    let capture = talked(rt.alloc(), &["--sparse"], 384)?;
+    let capture = talked(&rt, rt.alloc(), &["--sparse"], 384)?;
     let rest = [1, 2, 3, 4, 5, 6, 7, 8, 9, 10, 11, 12, 13, 14, 15];
-    let text = heard(rt.alloc(), records_of(rt.alloc(), &capture, RECORD, &rest)?)?;
+    let text = heard(
+        &rt,
+        rt.alloc(),
+        records_of(rt.alloc(), &capture, RECORD, &rest)?,
+    )?;
     let flags = "\
 capture c.pcap
 flag frame 1 seq 1 untimed
@@ -42,8 +47,9 @@ at 1003000000 frame 8 seq 8 sample 0 ";
 /// A packet is not counted from a stamp whose sequence number fits and that is 256 packets too old.
 #[test]
 fn stamp_of_another_round(rt: HostRuntime) -> Result<(), Fail> {
-    let capture = talked(rt.alloc(), &["--sparse"], 6_192)?;
+    let capture = talked(&rt, rt.alloc(), &["--sparse"], 6_192)?;
     let text = heard(
+        &rt,
         rt.alloc(),
         records_of(rt.alloc(), &capture, RECORD, &[0, 257])?,
     )?;
@@ -59,8 +65,8 @@ fn stamp_of_another_round(rt: HostRuntime) -> Result<(), Fail> {
 /// After a restart a sparse stream is known from the next stamped packet on.
 #[test]
 fn restart(rt: HostRuntime) -> Result<(), Fail> {
-    let capture = talked(rt.alloc(), &["--sparse", "--restart", "10"], 480)?;
-    let text = heard(rt.alloc(), capture)?;
+    let capture = talked(&rt, rt.alloc(), &["--sparse", "--restart", "10"], 480)?;
+    let text = heard(&rt, rt.alloc(), capture)?;
     for flag in [
         "\nflag frame 11 seq 10 untimed\n",
         "\nflag frame 16 seq 15 untimed\n",
@@ -103,7 +109,7 @@ const CASES: [(&[u16], &str); 6] = [
 
 /// Whether each sample that is presented of these packets is one of the untouched capture's, at the same instant and in the
 /// same order.
-fn is_among(alloc: Global, whole: &str, text: &str, packets: &[u16]) -> Result<bool, Fail> {
+pub fn is_among(alloc: Global, whole: &str, text: &str, packets: &[u16]) -> Result<bool, Fail> {
     let mut sent = whole.lines();
     for line in text.lines() {
         if let Some((instant, rest)) = line.split_once(" frame ")
@@ -126,10 +132,11 @@ fn is_among(alloc: Global, whole: &str, text: &str, packets: &[u16]) -> Result<b
 /// at the same instant.
 #[test]
 fn losses(rt: HostRuntime) -> Result<(), Fail> {
-    let capture = talked(rt.alloc(), &["--sparse", "--restart", "12"], 960)?;
-    let whole = heard(rt.alloc(), Vec::from_slice(rt.alloc(), &capture)?)?;
+    let capture = talked(&rt, rt.alloc(), &["--sparse", "--restart", "12"], 960)?;
+    let whole = heard(&rt, rt.alloc(), Vec::from_slice(rt.alloc(), &capture)?)?;
     for (packets, counts) in CASES {
         let text = heard(
+            &rt,
             rt.alloc(),
             records_of(rt.alloc(), &capture, RECORD, packets)?,
         )?;
@@ -165,7 +172,13 @@ const BLOCKS: [(&str, &str, &str); 14] = [
 ];
 
 /// The capture of a talker of IEC 61883-6 that restarts after each twelve packets.
-fn talked_blocks(alloc: Global, rate: &str, count: &str, len: usize) -> Result<Vec<u8>, Fail> {
+fn talked_blocks<T: Threads + Sync>(
+    rt: &T,
+    alloc: Global,
+    rate: &str,
+    count: &str,
+    len: usize,
+) -> Result<Vec<u8>, Fail> {
     let options = [
         "--kind",
         "am824",
@@ -178,7 +191,7 @@ fn talked_blocks(alloc: Global, rate: &str, count: &str, len: usize) -> Result<V
         "--count",
         count,
     ];
-    talked(alloc, &options, len)
+    talked(rt, alloc, &options, len)
 }
 
 /// The same of IEC 61883-6, where a stamp belongs to each eighth or, at 192 kHz, to each 32nd block.
@@ -186,11 +199,11 @@ fn talked_blocks(alloc: Global, rate: &str, count: &str, len: usize) -> Result<V
 fn losses_of_blocks(rt: HostRuntime) -> Result<(), Fail> {
     for (rate, count, counts) in BLOCKS {
         let size = count.parse::<u16>().unwrap_or(0).saturating_mul(4);
-        let capture = talked_blocks(rt.alloc(), rate, count, usize::from(size) * 40)?;
-        let whole = heard(rt.alloc(), Vec::from_slice(rt.alloc(), &capture)?)?;
+        let capture = talked_blocks(&rt, rt.alloc(), rate, count, usize::from(size) * 40)?;
+        let whole = heard(&rt, rt.alloc(), Vec::from_slice(rt.alloc(), &capture)?)?;
         let record = size.saturating_add(66);
         let picked = records_of(rt.alloc(), &capture, record, &PACKETS)?;
-        let text = heard(rt.alloc(), picked)?;
+        let text = heard(&rt, rt.alloc(), picked)?;
         assert!(rt; text.ends_with(counts), "{rate} {count}");
         assert!(rt; is_among(rt.alloc(), &whole, &text, &PACKETS)?);
     }

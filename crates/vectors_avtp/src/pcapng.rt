@@ -6,6 +6,7 @@ use avtp_base::{MemoryShelf, NoMemory};
 use avtp_tool::Status;
 use std::alloc::Global;
 use std::test::Fail;
+use std::thread::Threads;
 
 /// What `show` prints of the first vector, and so of the same capture as pcapng.
 const SHOWN: &str = "\
@@ -117,6 +118,7 @@ fn captures(rt: HostRuntime) -> Result<(), Fail> {
     ];
     for (line, changes, len, status, text) in cases {
         let ran = run_over(
+            &rt,
             rt.alloc(),
             line,
             capture(rt.alloc(), changes, len)?,
@@ -130,21 +132,27 @@ fn captures(rt: HostRuntime) -> Result<(), Fail> {
 }
 
 /// Runs the words over a shelf each of whose calls moves at most so many bytes, and whose numbered calls fail.
-fn in_pieces(alloc: Global, line: &[&str], most: u32, fails: &[u64]) -> Result<Ran, NoMemory> {
+fn in_pieces<T: Threads + Sync>(
+    rt: &T,
+    alloc: Global,
+    line: &[&str],
+    most: u32,
+    fails: &[u64],
+) -> Result<Ran, NoMemory> {
     let mut files = Vec::new(alloc);
     files.push((String::from_str(alloc, "c.pcap")?, vector(alloc, 5)?))?;
     let shelf = MemoryShelf::over(alloc, files, Vec::from_slice(alloc, fails)?);
     let most = (most as usize).max(1);
-    run_on(alloc, line, &mut shelf.at_most(most), &[])
+    run_on(rt, alloc, line, &mut shelf.at_most(most), &[])
 }
 
 /// The text is the same however the file is cut.
 #[test]
 fn pieces(rt: HostRuntime) -> Result<(), Fail> {
     for most in [1, 2, 3, 4, 5, 7, 59, 159] {
-        let shown = in_pieces(rt.alloc(), &["show", "c.pcap"], most, &[])?;
+        let shown = in_pieces(&rt, rt.alloc(), &["show", "c.pcap"], most, &[])?;
         assert_eq!(rt; shown.text.as_slice(), SHOWN.as_bytes(), "pieces of {most}");
-        let heard = in_pieces(rt.alloc(), &["listen", STREAM, "c.pcap"], most, &[])?;
+        let heard = in_pieces(&rt, rt.alloc(), &["listen", STREAM, "c.pcap"], most, &[])?;
         assert_eq!(rt; heard.text.as_slice(), HEARD.as_bytes(), "pieces of {most}");
     }
     Ok(())
@@ -154,7 +162,7 @@ fn pieces(rt: HostRuntime) -> Result<(), Fail> {
 #[test]
 fn faults(rt: HostRuntime) -> Result<(), Fail> {
     for fails in 1..=5 {
-        let ran = in_pieces(rt.alloc(), &["show", "c.pcap"], 1, &[fails])?;
+        let ran = in_pieces(&rt, rt.alloc(), &["show", "c.pcap"], 1, &[fails])?;
         assert_eq!(rt;
             ran.text.as_slice(),
             "read fault\n".as_bytes(),

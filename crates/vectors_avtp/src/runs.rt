@@ -2,8 +2,10 @@
 
 use avtp_base::{MemoryShelf, MemorySink, NoMemory};
 use avtp_tool::{Status, run};
+use presenter_ring::{Gate, NoGate};
 use std::alloc::Global;
 use std::test::Fail;
+use std::thread::Threads;
 
 /// The id of the stream in the first vector, and of a talker that is asked for no other.
 pub const STREAM: &str = "0200000000010001";
@@ -16,7 +18,8 @@ pub struct Ran {
 }
 
 /// Runs the words over a shelf that holds the capture under `c.pcap`. The numbered calls fail.
-pub fn run_over(
+pub fn run_over<T: Threads + Sync>(
+    rt: &T,
     alloc: Global,
     line: &[&str],
     capture: Vec<u8>,
@@ -24,11 +27,12 @@ pub fn run_over(
     sink_fails: &[u64],
 ) -> Result<Ran, NoMemory> {
     let mut shelf = shelf_of(alloc, "c.pcap", capture, shelf_fails)?;
-    run_on(alloc, line, &mut shelf, sink_fails)
+    run_on(rt, alloc, line, &mut shelf, sink_fails)
 }
 
 /// Runs the words over a shelf that holds the samples under `a.raw`, and answers what it holds then under `c.pcap`, too.
-pub fn talk_over(
+pub fn talk_over<T: Threads + Sync>(
+    rt: &T,
     alloc: Global,
     line: &[&str],
     samples: Vec<u8>,
@@ -36,7 +40,7 @@ pub fn talk_over(
     sink_fails: &[u64],
 ) -> Result<(Ran, Option<Vec<u8>>), NoMemory> {
     let mut shelf = shelf_of(alloc, "a.raw", samples, shelf_fails)?;
-    let ran = run_on(alloc, line, &mut shelf, sink_fails)?;
+    let ran = run_on(rt, alloc, line, &mut shelf, sink_fails)?;
     match shelf.file("c.pcap") {
         Some(bytes) => Ok((ran, Some(Vec::from_slice(alloc, bytes)?))),
         None => Ok((ran, None)),
@@ -44,7 +48,7 @@ pub fn talk_over(
 }
 
 /// A shelf of one file, whose numbered calls fail.
-fn shelf_of(
+pub fn shelf_of(
     alloc: Global,
     name: &str,
     bytes: Vec<u8>,
@@ -56,20 +60,39 @@ fn shelf_of(
 }
 
 /// Runs the words over a shelf. The numbered calls of the sink fail.
-pub fn run_on(
+pub fn run_on<T: Threads + Sync>(
+    rt: &T,
     alloc: Global,
     line: &[&str],
     shelf: &mut MemoryShelf,
     sink_fails: &[u64],
 ) -> Result<Ran, NoMemory> {
+    let sink = MemorySink::over(alloc, Vec::from_slice(alloc, sink_fails)?);
+    run_between(rt, alloc, line, shelf, sink, &NoGate)
+}
+
+/// The same with a sink and a gate.
+pub fn run_between<T: Threads + Sync, G: Gate>(
+    rt: &T,
+    alloc: Global,
+    line: &[&str],
+    shelf: &mut MemoryShelf,
+    mut sink: MemorySink,
+    gate: &G,
+) -> Result<Ran, NoMemory> {
+    let words = words_of(alloc, line)?;
+    let status = run(rt, alloc, &words, shelf, &mut sink, gate);
+    let text = Vec::from_slice(alloc, sink.bytes())?;
+    Ok(Ran { status, text })
+}
+
+/// The words of a command line.
+pub fn words_of(alloc: Global, line: &[&str]) -> Result<Vec<String>, NoMemory> {
     let mut words = Vec::new(alloc);
     for word in line {
         words.push(String::from_str(alloc, word)?)?;
     }
-    let mut sink = MemorySink::over(alloc, Vec::from_slice(alloc, sink_fails)?);
-    let status = run(alloc, &words, shelf, &mut sink);
-    let text = Vec::from_slice(alloc, sink.bytes())?;
-    Ok(Ran { status, text })
+    Ok(words)
 }
 
 /// So many bytes. No two packets beside each other have the same samples.
@@ -108,12 +131,17 @@ const HEADER: usize = 24;
 pub const RECORD: u16 = 82;
 
 /// The capture of a talker of an input of so many bytes.
-pub fn talked(alloc: Global, options: &[&str], len: usize) -> Result<Vec<u8>, Fail> {
+pub fn talked<T: Threads + Sync>(
+    rt: &T,
+    alloc: Global,
+    options: &[&str],
+    len: usize,
+) -> Result<Vec<u8>, Fail> {
     let mut line = Vec::new(alloc);
     line.push("talk")?;
     line.extend_from_slice(options)?;
     line.extend_from_slice(&["a.raw", "c.pcap"])?;
-    let (_, made) = talk_over(alloc, &line, noise(alloc, len)?, &[], &[])?;
+    let (_, made) = talk_over(rt, alloc, &line, noise(alloc, len)?, &[], &[])?;
     Ok(made.ok_or("no capture")?)
 }
 

