@@ -49,7 +49,7 @@ impl MemoryShelf {
         }
     }
 
-    /// From now on, a read or a write moves at most `n` bytes.
+    /// From now on, a read or a write moves at most `n` bytes, and `n` is at least 1.
     pub fn at_most(self, n: usize) -> Self
         requires { 0 < n }
         ensures files { files_of result ≡ files_of self }

@@ -37,7 +37,7 @@ impl MemorySink {
         }
     }
 
-    /// From now on, a write takes at most `n` bytes.
+    /// From now on, a write takes at most `n` bytes, and `n` is at least 1.
     pub fn at_most(self, n: usize) -> Self
         requires { 0 < n }
         ensures kept { kept result ≡ kept self }

@@ -35,7 +35,8 @@ impl Batch {
     ghost use Rattle.std.specs.Prelude.{◌≡◌, ◌≤◌};
     ghost use Rattle.sample_schedule.specs.Batches.{sample_instant};
 
-    /// The instant of sample `j`, in nanoseconds of gPTP; at the number of samples, that of the first one behind them.
+    /// The instant of sample `j`, in nanoseconds of gPTP; at the number of samples, which `j` may
+    /// not pass, that of the first one behind them.
     pub fn instant(&self, j: u32) -> i64
         requires { j ≤ self.now.count }
         ensures { result ≡ sample_instant self.now j }

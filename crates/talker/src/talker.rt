@@ -109,7 +109,7 @@ impl<'a> Talker<'a> {
         self.clocks
     }
 
-    /// The frame of packet `n` of the stream. It takes no memory.
+    /// The frame of packet `n` of the stream, counted from 0; `n` is below `packets()`. It takes no memory.
     pub fn packet(&mut self, n: u64) -> Sent<'_>
         requires { n < length (stream_frames self.old.plan self.old.input) }
         ensures frame { slice_get (stream_frames self.old.plan self.old.input) n ≡ Some (sent_frame result) }

@@ -15,6 +15,8 @@ impl Line {
     ghost use Rattle.time_unfold.specs.Lines.{IsAt, instant_at};
 
     /// The instant of sample `k`, rounded down to a whole nanosecond. Samples before sample 0 have a negative number.
+    ///
+    /// `den` is at least 1, and the instant is from -2^62 to below 2^63 ns.
     pub fn at(&self, k: i64) -> i64
         requires steps { 1 ≤ self.now.den }
         requires instant { IsInstant (instant_at self.now k) }
