@@ -5,8 +5,7 @@ ghost use Rattle.avtp_base.specs.Told.{Appends, Keeps};
 ghost use Rattle.avtp_base.specs.Faults.{IsCounted, Rose};
 ghost use Rattle.avtp_text.specs.Written.{written, Grows, Prints};
 
-use crate::output::Output;
-use avtp_base::{Buffer, Failed, NoMemory};
+use avtp_base::{Buffer, Failed, NoMemory, Output};
 use std::alloc::Global;
 use std::marker::Model;
 

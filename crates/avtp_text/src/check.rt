@@ -6,8 +6,7 @@ ghost use Rattle.avtp_text.specs.Written.{Prints};
 
 use crate::buffer::{ROOM, Text};
 use crate::line::{LONGEST, Line};
-use crate::output::Output;
-use avtp_base::{Failed, Refusal};
+use avtp_base::{Failed, Output, Refusal};
 use sequence_track::Findings;
 
 /// Room for the line of a finding in a packet, in bytes.

@@ -6,13 +6,11 @@ mod check;
 mod line;
 mod listen;
 mod notices;
-mod output;
 mod show;
 mod soak;
 mod talk;
 
 pub use buffer::{ROOM, Text};
-pub use output::Output;
 
 #[cfg(test)]
 mod tests;

@@ -8,8 +8,7 @@ ghost use Rattle.avtp_text.specs.Written.{Prints, PrintsPart};
 
 use crate::buffer::{ROOM, Text};
 use crate::line::{LONGEST, Line};
-use crate::output::Output;
-use avtp_base::Failed;
+use avtp_base::{Failed, Output};
 use listener::Counts;
 use sample_schedule::{Batch, Reason, Shown};
 

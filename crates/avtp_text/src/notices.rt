@@ -6,8 +6,7 @@ ghost use Rattle.avtp_text.specs.Written.{Prints};
 
 use crate::buffer::Text;
 use crate::line::Line;
-use crate::output::Output;
-use avtp_base::{Failed, Refusal};
+use avtp_base::{Failed, Output, Refusal};
 
 impl Text {
     /// Says that a capture was refused at a field, whose offset is in the file.

@@ -12,9 +12,8 @@ ghost use Rattle.avtp_text.specs.Written.{Prints};
 
 use crate::buffer::Text;
 use crate::line::{LONGEST, Line};
-use crate::output::Output;
 use aaf_format::{AafFormat, AafView, rate_of};
-use avtp_base::{Failed, Refusal};
+use avtp_base::{Failed, Output, Refusal};
 use avtp_header::StreamHeader;
 use crf_format::{CrfView, point};
 use cvf_format::{CvfView, NalPart};

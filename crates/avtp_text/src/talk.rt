@@ -6,8 +6,7 @@ ghost use Rattle.avtp_text.specs.Written.{Prints};
 
 use crate::buffer::Text;
 use crate::line::{LONGEST, Line};
-use crate::output::Output;
-use avtp_base::Failed;
+use avtp_base::{Failed, Output};
 use talker::TalkFault;
 
 /// Puts a fault before the line.

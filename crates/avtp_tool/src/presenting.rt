@@ -3,8 +3,8 @@
 ghost use Rattle.avtp_text.specs.Listen.{shown_lines};
 ghost use Rattle.avtp_text.specs.Written.{PrintsPart};
 
-use avtp_base::{Failed, Sink};
-use avtp_text::{Output, Text};
+use avtp_base::{Failed, Output, Sink};
+use avtp_text::Text;
 use presenter_ring::Presenter;
 use sample_schedule::Shown;
 

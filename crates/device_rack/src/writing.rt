@@ -1,40 +1,11 @@
 //! Bytes that go to a sink.
 
-ghost use Rattle.std.specs.Prelude.{◌++◌, ◌∷◌, ◌<◌, ◌≤◌, length, IfOk};
-ghost use Rattle.avtp_base.specs.Faults.{IsCounted};
-ghost use Rattle.avtp_base.specs.Told.{WriteAppends};
+ghost use Rattle.std.specs.Prelude.{◌++◌, ◌∷◌};
 ghost use Rattle.device_rack.specs.Output.{silence_of};
 ghost use Rattle.device_rack.specs.Written.{HasWritten};
 
 use crate::silence::Silence;
-use avtp_base::{Failed, Sink};
-
-/// A sink, without leave to go to another thread: what a body in a trait asks of a type parameter.
-pub trait Output {
-    ghost use Rattle.std.specs.Prelude.{List, ℕ, Option};
-
-    ghost held: { Self → Option (List ℕ) };
-
-    ghost faults: { Self → ℕ };
-
-    /// Appends a prefix of the piece, as `Sink::write` does.
-    fn write_some(&mut self, piece: &[u8]) -> Result<usize, Failed>
-        requires { 0 < length piece.now }
-        ensures some { IfOk result (λ n. 0 < n) }
-        ensures within { IfOk result (λ n. n ≤ length piece.now) }
-        ensures appends { WriteAppends (held self.old) (held self.new) result piece.now }
-        ensures counted { IsCounted (faults self.old) (faults self.new) result };
-}
-
-impl<S: Sink> Output for S {
-    ghost held = { λ sink. S.held sink };
-
-    ghost faults = { λ sink. S.faults sink };
-
-    fn write_some(&mut self, piece: &[u8]) -> Result<usize, Failed> {
-        self.write(piece)
-    }
-}
+use avtp_base::{Failed, Output};
 
 /// What stands before each unit of a byte stream.
 const START_CODE: [u8; 4] = [0, 0, 0, 1];

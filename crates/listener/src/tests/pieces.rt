@@ -10,14 +10,13 @@ use crate::{Counts, ListenFault, ListenPlan, Listener, ShownList};
 use avtp_base::{Field, Refusal};
 use sample_schedule::Reason;
 
-/// Whether this is shown of the capture in pieces of so many bytes, and what else is heard of it.
-fn heard_in_pieces(
+/// What is heard of the capture in pieces of so many bytes.
+pub fn heard_in_pieces(
     rt: &HostRuntime,
     plan: &ListenPlan,
     bytes: &[u8],
     size: usize,
-    seen: &[Seen],
-) -> Result<(bool, Counts, Option<ListenFault>), Fail>
+) -> Result<(ShownList, Counts, Option<ListenFault>), Fail>
     requires plan { IsPlan (schedule_plan plan.now) }
     requires some { 0 < size }
 {
@@ -34,11 +33,22 @@ fn heard_in_pieces(
     }
     let fault = listener.end().err();
     give_all(&mut listener, &mut list)?;
-    Ok((
-        are_seen(&ShownList::over(list), seen),
-        listener.counts(),
-        fault,
-    ))
+    Ok((ShownList::over(list), listener.counts(), fault))
+}
+
+/// Whether this is shown of the capture in pieces of so many bytes, and what else is heard of it.
+fn seen_in_pieces(
+    rt: &HostRuntime,
+    plan: &ListenPlan,
+    bytes: &[u8],
+    size: usize,
+    seen: &[Seen],
+) -> Result<(bool, Counts, Option<ListenFault>), Fail>
+    requires plan { IsPlan (schedule_plan plan.now) }
+    requires some { 0 < size }
+{
+    let (shown, counts, fault) = heard_in_pieces(rt, plan, bytes, size)?;
+    Ok((are_seen(&shown, seen), counts, fault))
 }
 
 /// However a capture is cut, a full buffer, a full room and the capture's first refusal are the same.
@@ -63,13 +73,13 @@ fn hears_any_pieces(rt: HostRuntime) -> Result<(), Fail> {
     for size in [1, 7, 65_536] {
         let seen = [flag(3, 2, Reason::Full), WHOLE, at(2, 1, 1_002_125_000)];
         assert_eq!(rt;
-            heard_in_pieces(&rt, &two, &bytes, size, &seen)?,
+            seen_in_pieces(&rt, &two, &bytes, size, &seen)?,
             (true, counts(3, 3, 2, 1), Some(refused)),
             "{size}"
         );
         let seen = [flag(2, 1, Reason::Full), flag(3, 2, Reason::Full), WHOLE];
         assert_eq!(rt;
-            heard_in_pieces(&rt, &narrow, &bytes, size, &seen)?,
+            seen_in_pieces(&rt, &narrow, &bytes, size, &seen)?,
             (true, counts(3, 3, 1, 2), Some(refused)),
             "{size}"
         );

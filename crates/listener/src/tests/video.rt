@@ -1,12 +1,8 @@
 //! Units of H.264 and their fragments.
 
-ghost use Rattle.std.specs.Prelude.{◌≤◌, ◌<◌, length};
-ghost use Rattle.sample_schedule.specs.Limits.{IsPlan};
-ghost use Rattle.listener.specs.Heard.{schedule_plan};
-
+use super::pieces::heard_in_pieces;
 use super::{Fail, PLAN, STREAM, audio, counts, empty_capture, put_packet, put_record};
-use crate::capture::{feed_piece, give_all};
-use crate::{Counts, ListenPlan, Listener, ShownList, whole};
+use crate::{ShownList, whole};
 use avtp_base::Field;
 use avtp_header::StreamHeader;
 use cvf_format::{CvfView, NalPart, write_cvf};
@@ -159,36 +155,6 @@ fn are_seen(list: &ShownList, seen: &[Seen]) -> bool {
             .all(|(shown, one)| is_seen(shown, *one))
 }
 
-/// Whether this is shown of a capture in pieces of so many bytes.
-fn seen_in_pieces(
-    rt: &HostRuntime,
-    plan: &ListenPlan,
-    bytes: &[u8],
-    size: usize,
-    seen: &[Seen],
-) -> Result<(bool, Counts), Fail>
-    requires plan { IsPlan (schedule_plan plan.now) }
-    requires some { 0 < size }
-{
-    if bytes.len() > 1_000_000 {
-        return Err(Fail::new("a long capture"));
-    }
-    let mut listener = Listener::begin(rt.alloc(), *plan)?;
-    let mut list = Vec::new(rt.alloc());
-    let mut used = 0;
-    while used < bytes.len() {
-        let end = used + size.min(bytes.len() - used);
-        feed_piece(rt.alloc(), &mut listener, &bytes[used..end], &mut list)?;
-        used = end;
-    }
-    let fault = listener.end().err();
-    give_all(&mut listener, &mut list)?;
-    Ok((
-        fault.is_none() && are_seen(&ShownList::over(list), seen),
-        listener.counts(),
-    ))
-}
-
 /// Of a capture of these packets this is shown, at once and in pieces of any length.
 fn shows(rt: &HostRuntime, rows: &[Sent], seen: &[Seen]) -> Result<bool, Fail> {
     let bytes = capture_of(rt, rows)?;
@@ -198,8 +164,8 @@ fn shows(rt: &HostRuntime, rows: &[Sent], seen: &[Seen]) -> Result<bool, Fail> {
     let heard = whole(rt.alloc(), &PLAN, &bytes)?;
     let mut same = are_seen(&heard.shown, seen);
     for size in [1, 7, 65_536] {
-        let (shown, counts) = seen_in_pieces(rt, &PLAN, &bytes, size, seen)?;
-        same = same && shown && counts == heard.counts;
+        let (shown, counts, fault) = heard_in_pieces(rt, &PLAN, &bytes, size)?;
+        same = same && are_seen(&shown, seen) && counts == heard.counts && fault.is_none();
     }
     Ok(same)
 }

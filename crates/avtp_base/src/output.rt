@@ -1,10 +1,11 @@
-//! Where text goes.
+//! Where text goes, without leave to go to another thread.
 
 ghost use Rattle.std.specs.Prelude.{◌≤◌, ◌<◌, length, IfOk};
 ghost use Rattle.avtp_base.specs.Faults.{IsCounted};
 ghost use Rattle.avtp_base.specs.Told.{WriteAppends};
 
-use avtp_base::{Failed, Sink};
+use crate::failed::Failed;
+use crate::sink::Sink;
 
 /// A sink, without leave to go to another thread: what a body in a trait can ask of a type parameter. Each sink is one.
 pub trait Output {
