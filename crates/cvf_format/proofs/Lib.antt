@@ -1,6 +1,6 @@
 mod AnnexBLemmas
 pub mod AssemblyLemmas
-mod CvfLemmas
+pub mod CvfLemmas
 mod NalLemmas
 mod NextUnit
 mod PlaceLemmas

@@ -34,10 +34,12 @@ use Rattle.listener.specs.declared.plan.ListenPlan.{ListenPlan}
 use Rattle.listener.specs.Heard.{deliveries_of, entries_in, items_in, schedule_plan}
 use Rattle.listener.specs.Items.{clock_row, entry_of, made_of_one}
 use Rattle.listener.specs.Laws.{AreJoined, CoversPacket, FollowsClock, HearsTalker, IsOfPacket, IsWelcome, by_clock, first_of, is_known, last_of, spot_in, time_of}
-use Rattle.listener.proofs.TrueHeard.{IsTrueHead, head_true}
+use Rattle.stream_journal.specs.Delivered.{IsAudioKind}
+use Rattle.listener.proofs.ItemKinds.{at_place}
+use Rattle.listener.proofs.TrueHeard.{IsTrueHead, audio_content, head_true}
 use Rattle.listener.proofs.TrueItems.{Shows, all_shown, clock_entry, copied_row, copy_entry, sent}
 use Rattle.listener.proofs.TrueList.{IsTrueEntry, entries_true, followed, one_copy, others, prefix_true}
-use Rattle.listener.proofs.TrueTimely.{at_place, entry_there, item_there}
+use Rattle.listener.proofs.TrueTimely.{entry_there, item_there}
 use Rattle.listener.proofs.Welcome.{arrives, first_time, has_room, own_head}
 
 -- ---- two packets of the clock beside each other
@@ -148,24 +150,24 @@ latest_of x a b d past e f g = grind (arith, ints)
 follows_so : (p : PacketJournal) (added : ℤ) (clock : Option ℕ) → clock ≡ Some p.clock → FollowsClock (pos 0) p added clock → added ≡ pos 0
 follows_so p added clock e follows = (rw e at follows).1
 
-pub clock_welcome : (p : PacketJournal) (plan : ListenPlan) (records : List Record) (m n instant : ℕ) (x : ℤ) (d0 d1 d2 : Delivery) → HearsTalker (pos 0) p plan records → plan.clock ≡ Some p.clock → plan.look ≡ 0
+pub clock_welcome : (p : PacketJournal) (plan : ListenPlan) (records : List Record) (m n instant : ℕ) (x : ℤ) (d0 d1 d2 : Delivery) → HearsTalker (pos 0) p plan records → IsAudioKind p.times.kind → plan.clock ≡ Some p.clock → plan.look ≡ 0
     → slice_get (deliveries_of plan records) 0 ≡ Some d0 → slice_get (deliveries_of plan records) 1 ≡ Some d1 → slice_get (deliveries_of plan records) 2 ≡ Some d2
     → IsClockCopyOf p m d0 → IsClockCopyOf p (suc m) d1 → IsCopyOf p plan.lead n d2 → CoversPacket p m n instant → IsAt true p.times n 0 x → pos 0 ≤ℤ x → d0.arrival ≤ℤ x → d1.arrival ≤ℤ x → d2.arrival ≤ℤ x
     → 1 ≤ plan.buffer → length (carried (p.packet n)) ≤ plan.room → IsWelcome p plan records 2 n (made_of_one d2)
-clock_welcome p plan records m n instant x d0 d1 d2 h clocked look at0 at1 at2 first second copy c at past early0 early1 early2 some fits =
+clock_welcome p plan records m n instant x d0 d1 d2 h heard clocked look at0 at1 at2 first second copy c at past early0 early1 early2 some fits =
     let sp = schedule_plan plan in
     let ds = deliveries_of plan records in
-    let all = others (pos 0) p plan records h in
+    let all = others (pos 0) p plan records h heard in
     let es = entries_in plan records in
     let items = items_in plan records in
-    let is = followed (pos 0) p plan records h in
+    let is = followed (pos 0) p plan records h heard in
     let by_is : by_clock plan ≡ true = rw clocked refl in
     let shift = follows_so p plan.shift plan.clock clocked h.clock in
     let shows = all_shown plan.stream plan.clock records in
     let row0 = clock_row d0 in
     let row1 = clock_row d1 in
     let packet = sent p.times n d2.frame copy.arrival (carried (p.packet n)) in
-    let same : entry_of d2 ≡ OfItem (OfPacket packet) = copy_entry (pos 0) p plan.lead n d2 h.conforming h.kind copy (at_place Shows ds 2 d2 shows at2) in
+    let same : entry_of d2 ≡ OfItem (OfPacket packet) = copy_entry (pos 0) p plan.lead n d2 h.conforming heard copy (at_place Shows ds 2 d2 shows at2) in
     let e0 : slice_get es 0 ≡ Some (OfClock d0.arrival row0) = entry_there ds 0 d0 all at0 ∙ ap Some (clock_entry (pos 0) p m d0 h.conforming first (at_place Shows ds 0 d0 shows at0)) in
     let e1 : slice_get es 1 ≡ Some (OfClock d1.arrival row1) = entry_there ds 1 d1 all at1 ∙ ap Some (clock_entry (pos 0) p (suc m) d1 h.conforming second (at_place Shows ds 1 d1 shows at1)) in
     let e2 : slice_get es 2 ≡ Some (OfItem (OfPacket packet)) = entry_there ds 2 d2 all at2 ∙ ap Some same in
@@ -174,7 +176,7 @@ clock_welcome p plan records m n instant x d0 d1 d2 h clocked look at0 at1 at2 f
     let long : 2 + plan.look + 1 ≡ 3 = omega (arith, look) in
     let prefix_is : prefix ≡ OfClock d0.arrival row0 ∷ OfClock d1.arrival row1 ∷ OfItem (OfPacket packet) ∷ [] = ap (λ (k : ℕ). take k es) long ∙ three es _ _ _ e0 e1 e2 in
     let rows : filter_map row_of prefix ≡ row0 ∷ row1 ∷ [] = ap (filter_map row_of) prefix_is in
-    let known = prefix_true items (pos 0) p plan.lead prefix is.audio (All-take (IsTrueEntry items (pos 0) p plan.lead) (2 + plan.look + 1) es (entries_true (pos 0) p plan records h)) in
+    let known = prefix_true items (pos 0) p plan.lead prefix (λ audio. is.audio) (All-take (IsTrueEntry items (pos 0) p plan.lead) (2 + plan.look + 1) es (entries_true (pos 0) p plan records h)) in
     let head = head_true p.times sp n d2.frame copy.arrival (carried (p.packet n)) prefix is.audio copy.delivered known.stamps in
     let has = own_head p.times sp prefix n d2.frame copy.arrival instant (carried (p.packet n)) is.audio copy.delivered.known c.stamped in
     let r0 = copied_row (pos 0) p m d0 h.conforming first in
@@ -194,5 +196,7 @@ clock_welcome p plan records m n instant x d0 d1 d2 h clocked look at0 at1 at2 f
         in_time = time;
       };
       first = rw none (All-nil (λ (a : Accepted). ¬ IsOfPacket (by_clock plan) p n a.batch));
+      bytes = carried (p.packet n);
+      content = audio_content p.times.kind p n heard;
       room = rw none (has_room sp (time_of plan records 2) (length (carried (p.packet n))) some fits);
     }

@@ -112,7 +112,7 @@ drop-map {X} {Y} f (suc n) [] = refl
 drop-map {X} {Y} f (suc n) (x ∷ xs) = drop-map f n xs
 
 -- the last events are those of the last deliveries
-last_events : (xs : List Delivery) (front : List Event) (run : List Fragment) → map event_of xs ≡ front ++ map packet run → map event_of (last_ones (length run) xs) ≡ map packet run
+pub last_events : (xs : List Delivery) (front : List Event) (run : List Fragment) → map event_of xs ≡ front ++ map packet run → map event_of (last_ones (length run) xs) ≡ map packet run
 last_events xs front run e =
     let long : length xs ≡ length front + length run = sym (length-map xs event_of) ∙ (ap length e ∙ (length-append front (map packet run) ∙ ap (λ (n : ℕ). length front + n) (length-map run packet))) in
     let n : length xs - length run ≡ length front = omega (arith, long) in

@@ -8,7 +8,9 @@ pub mod Listened
 pub mod Fed
 pub mod Counted
 pub mod Due
+pub mod ItemKinds
 pub mod TrueItems
+pub mod TrueUnits
 pub mod TrueHeard
 pub mod TrueList
 pub mod TrueOnce
@@ -17,4 +19,5 @@ pub mod TrueOrder
 pub mod Shown
 pub mod Welcome
 pub mod ClockWelcome
+pub mod UnitWelcome
 pub mod TrueHeadline

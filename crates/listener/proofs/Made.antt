@@ -29,7 +29,7 @@ use Rattle.listener.specs.Units.{event_of, events, flaw_of, fragment_in, in_stre
 pub none_last : {X : Type 0} (xs : List X) → last_ones 0 xs ≡ []
 none_last {X} xs = let all : length xs - 0 ≡ length xs = omega arith in rw all (drop-length xs)
 
-last_more : {X : Type 0} (n : ℕ) (xs : List X) (x : X) → last_ones (n + 1) (xs ++ x ∷ []) ≡ last_ones n xs ++ x ∷ []
+pub last_more : {X : Type 0} (n : ℕ) (xs : List X) (x : X) → last_ones (n + 1) (xs ++ x ∷ []) ≡ last_ones n xs ++ x ∷ []
 last_more {X} n xs x =
     let k : length (xs ++ x ∷ []) - (n + 1) ≡ length xs - n = omega (arith, length-append xs (x ∷ [])) in
     rw k (drop-append-le (length xs - n) xs (x ∷ []) (omega arith))
@@ -131,7 +131,7 @@ tally-flagged p why (x ∷ xs) = omega (arith, tally-cons p (flagged why x) (map
 abbrev pub is_streamed : Delivery → Bool
 is_streamed d = not (d.subtype == crf_subtype)
 
-stream_more : (before : List Delivery) (d : Delivery) → (d.subtype == crf_subtype) ≡ false → in_stream (before ++ d ∷ []) ≡ in_stream before ++ d ∷ []
+pub stream_more : (before : List Delivery) (d : Delivery) → (d.subtype == crf_subtype) ≡ false → in_stream (before ++ d ∷ []) ≡ in_stream before ++ d ∷ []
 stream_more before d e = filter-append is_streamed before (d ∷ []) ∙ ap (λ (l : List Delivery). in_stream before ++ l) (rw e refl)
 
 stream_same : (before : List Delivery) (d : Delivery) → (d.subtype == crf_subtype) ≡ true → in_stream (before ++ d ∷ []) ≡ in_stream before

@@ -4,7 +4,7 @@ use Rattle.std.specs.Prelude.{◌==◌, ◌-◌, ⊤, if◌then◌else◌, count
 use Rattle.std.specs.List.{enumerate_from}
 use Rattle.std.proofs.lemmas.Bool.{cases_lt}
 use Rattle.std.proofs.lemmas.Bool.{eqb-true}
-use Rattle.std.proofs.lemmas.List.Elements.{All-append, All-cons, All-contains_itself, All-head, All-nil, All-tail}
+use Rattle.std.proofs.lemmas.List.Elements.{All-append, All-cons, All-contains_itself, All-nil}
 use Rattle.std.proofs.lemmas.Option.{slice_get-get_or, slice_get_within}
 use Rattle.avtp_base.proofs.RowLemmas.{unequal}
 use Rattle.avtp_base.specs.declared.refusal.Refusal.{Refusal}
@@ -17,12 +17,13 @@ use Rattle.sample_schedule.specs.declared.accepted.Accepted.{Accepted}
 use Rattle.sample_schedule.specs.declared.entry.Entry.{Entry}
 use Rattle.sample_schedule.specs.declared.entry.Entry.TheVariants.{Item as OfItem, Clock as OfClock}
 use Rattle.sample_schedule.specs.declared.item.Item.{Item}
+use Rattle.sample_schedule.specs.declared.item.Item.TheVariants.{Packet as OfPacket, Unit as OfUnit, Bad as OfBad}
 use Rattle.sample_schedule.specs.declared.plan.SchedulePlan.{SchedulePlan}
 use Rattle.sample_schedule.specs.declared.shown.Reason.{Reason}
 use Rattle.sample_schedule.specs.declared.shown.Shown.{Shown}
 use Rattle.sample_schedule.specs.Laws.{given_by, place_of, presented, verdict_in}
 use Rattle.sample_schedule.specs.Schedule.{Given, Presents, Flags, frame_of as item_frame, given, seq_of as item_seq, shown_of as given_shown}
-use Rattle.sample_schedule.specs.Verdicts.{Clock}
+use Rattle.sample_schedule.specs.Verdicts.{Clock, timed, verdict}
 use Rattle.sample_schedule.proofs.Judged.{In, IsJudged, all-judged, as-judged, judged-frame}
 use Rattle.packet_journal.specs.Deliveries.{Delivery, delivery, is_delivered}
 use Rattle.listener.specs.declared.plan.ListenPlan.{ListenPlan}
@@ -30,6 +31,7 @@ use Rattle.listener.specs.Heard.{deliveries_of, items_in, schedule_plan, shown_o
 use Rattle.listener.specs.Items.{MadeItem, aaf_item, events_to, flagged, made_entry, unit_by, blocks_of, clock_row, entries, entry_of, iec_item, item_of, items_of, refused_or, samples_of, sources}
 use Rattle.listener.specs.Laws.{IsInOneItem, frame_of, shown_by, shown_of_frame, verdict_of}
 use Rattle.cvf_format.specs.Stretches.{last_stretch}
+use Rattle.listener.proofs.ItemKinds.{at_place}
 use Rattle.listener.proofs.Made.{OfEach, all_made, count-cons, find_one, items_all, last_all, last_counts, same_place, tally}
 
 -- ---- each record is one delivery at most
@@ -242,11 +244,6 @@ all_in ds = items_all (Contains ds) (AreIn ds) ds each (All-contains_itself ds)
           All-append (Contains ds) (unit_by before d).earlier (d ∷ []) (last_all (Contains ds) (length (last_stretch (events_to before d)) - 1) before all) (All-cons (Contains ds) d [] here (All-nil (Contains ds)));
     }
 
-at_place : {X : Type 0} (P : X → Type 0) (xs : List X) (n : ℕ) (x : X) → All P xs → slice_get xs n ≡ Some x → P x
-at_place {X} P [] n x all e = absurd cc
-at_place {X} P (y ∷ xs) zero x all e = let same : y ≡ x = cc in subst P same (All-head P y xs all)
-at_place {X} P (y ∷ xs) (suc n) x all e = at_place P xs n x (All-tail P y xs all) e
-
 frames_few : (n : ℕ) (ds : List Delivery) → Rising ds → tally (of_frame n) (items_of ds) ≤ 1
 frames_few n ds rises = omega (arith, all_made (of_frame n) ds, one_frame n ds rises)
 
@@ -303,11 +300,29 @@ same_tests a b c d to from = elim (cases_lt a b) [
     apart : ¬ (a ≡ b) → (a == b) ≡ (c == d)
     apart other = rw (unequal a b other, unequal c d (λ e. other (from e))) refl
 
+-- an item that may be presented
+abbrev pub is_presentable : Entry → Bool
+is_presentable (OfItem (OfPacket packet)) = true
+is_presentable (OfItem (OfUnit whole)) = true
+is_presentable (OfItem (OfBad bad)) = false
+is_presentable (OfClock arrival row) = false
+
+abbrev pub IsPresents : Given → Type 0
+IsPresents (Presents a) = ⊤
+IsPresents (Flags place item reason) = ⊥
+
+not_bad : (clock : Clock) (plan : SchedulePlan) (es : List Entry) (place : ℕ) (item : Item) → IsPresents (given_by place item (verdict_in clock plan es place item)) → is_presentable (OfItem item) ≡ true
+unfolding timed verdict
+not_bad clock plan es place (OfPacket packet) is = refl
+not_bad clock plan es place (OfUnit whole) is = refl
+not_bad clock plan es place (OfBad bad) is = absurd is
+
 -- what is shown stands at the place of an item, and has its frame
 pub record IsPlaced (ms : List MadeItem) (g : Given) : Type 0 where
   pub made : MadeItem
   pub there : slice_get ms (place_of g) ≡ Some made
   pub frame : frame_of (given_shown g) ≡ made.last.frame
+  pub presentable : IsPresents g → is_presentable made.entry ≡ true
 
 placed : (clock : Clock) (plan : SchedulePlan) (ms : List MadeItem) (g : Given) → All IsOwn ms → IsJudged clock plan (map made_entry ms) g → IsPlaced ms g
 placed clock plan ms g own j =
@@ -319,6 +334,7 @@ placed clock plan ms g own j =
       frame = ap (λ (h : Given). frame_of (given_shown h)) (sym j.same)
           ∙ (given_frame (place_of g) j.item (verdict_in clock plan (map made_entry ms) (place_of g) j.item) (judged-frame clock plan (map made_entry ms) (place_of g) j.item)
           ∙ is.frame);
+      presentable = λ presents. rw m.same (not_bad clock plan (map made_entry ms) (place_of g) j.item (subst IsPresents (sym j.same) presents));
     }
 
 placed_by : (ms : List MadeItem) (gs : List Given) → ((g : Given) → In gs g → IsPlaced ms g) → All (λ (a : Accepted). IsPlaced ms (Presents a)) (presented gs)

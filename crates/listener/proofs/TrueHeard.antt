@@ -33,7 +33,8 @@ use Rattle.sample_schedule.specs.Batches.{Presented}
 use Rattle.sample_schedule.specs.Heads as heads
 use Rattle.sample_schedule.specs.Verdicts.{counted_from, moved, nominal_spot, ok_or_reason, row_of, samples_at, spot_of, timed}
 use Rattle.packet_journal.specs.Packets.{PacketJournal, carried}
-use Rattle.listener.specs.Laws.{IsOfPacket, spot_in}
+use Rattle.packet_journal.specs.Units.{IsContentBy}
+use Rattle.listener.specs.Laws.{IsOfPacket, sample_count, spot_in}
 use Rattle.listener.proofs.TrueItems.{sent}
 
 -- ---- the packet's own timestamp
@@ -173,17 +174,33 @@ pub record IsBatchOf (by : Bool) (p : PacketJournal) (n frame : ℕ) (batch : Pr
   pub is : IsOfPacket by p n batch
   pub frame_is : batch.frame ≡ frame
 
-at_spot : (by : Bool) (p : PacketJournal) (n frame arrival : ℕ) (o : Option Spot) → n < p.times.packets → IfSome o (IsTrueSpot by p.times n)
+audio_count : (kind : Kind) (count : ℕ) → IsAudioKind kind → count ≡ sample_count kind count
+audio_count DenseAaf count heard = refl
+audio_count SparseAaf count heard = refl
+audio_count (Am824 interval dbc) count heard = refl
+audio_count (H264 part) count heard = absurd heard
+
+-- what is presented of a packet of audio are its samples
+pub audio_content : (kind : Kind) (p : PacketJournal) (n : ℕ) → IsAudioKind kind → IsContentBy kind p n (carried (p.packet n))
+audio_content DenseAaf p n heard = refl
+audio_content SparseAaf p n heard = refl
+audio_content (Am824 interval dbc) p n heard = refl
+audio_content (H264 part) p n heard = absurd heard
+
+at_spot : (by : Bool) (p : PacketJournal) (n frame arrival : ℕ) (o : Option Spot) → IsAudioKind p.times.kind → n < p.times.packets → IfSome o (IsTrueSpot by p.times n)
     → IfOk (ok_or_reason NoClock (option_map (samples_at (sent p.times n frame arrival (carried (p.packet n)))) o)) (IsBatchOf by p n frame)
-at_spot by p n frame arrival None known t = tt
-at_spot by p n frame arrival (Some spot) known t =
-    record { is = record { known = known; seq = refl; count = refl; bytes = refl; instants = λ k lt. t k }; frame_is = refl }
+at_spot by p n frame arrival None heard known t = tt
+at_spot by p n frame arrival (Some spot) heard known t =
+    record {
+      is = record { known = known; seq = refl; count = audio_count p.times.kind p.times.count heard; bytes = audio_content p.times.kind p n heard; instants = λ k lt. t k };
+      frame_is = refl;
+    }
 
 counted_true : (shift : ℤ) (p : PacketJournal) (plan : SchedulePlan) (n frame arrival : ℕ) (prefix : List Entry) (r : Option Head) → IsFollowed shift p.times plan → IsTruePrefix shift p.times prefix → n < p.times.packets
     → IfSome r (IsTrueHead p.times n) → IfOk (counted_from clock_spot plan prefix (sent p.times n frame arrival (carried (p.packet n))) r) (IsBatchOf plan.clock p n frame)
 counted_true shift p plan n frame arrival prefix None is true_ones known t = tt
 counted_true shift p plan n frame arrival prefix (Some h) is true_ones known t =
-    at_spot plan.clock p n frame arrival (spot_of clock_spot plan prefix p.times.rate h) known (spot_true shift p.times plan n prefix h plan.clock refl is true_ones t)
+    at_spot plan.clock p n frame arrival (spot_of clock_spot plan prefix p.times.rate h) is.kind known (spot_true shift p.times plan n prefix h plan.clock refl is true_ones t)
 
 no_samples : (n : ℕ) → 1 ≤ n → (n == 0) ≡ false
 no_samples n some = grind (arith, nat_tests)

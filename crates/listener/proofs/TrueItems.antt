@@ -26,7 +26,8 @@ use Rattle.packet_journal.specs.Deliveries.{Delivery, deliveries, delivery, is_d
 use Rattle.packet_journal.specs.Delivered.{AreFrom, IsClockCopyOf, IsCopyOf, IsFrom, OfClock as OfClockPacket, OfStream, Origin, Spells}
 use Rattle.packet_journal.specs.Packets.{IsAafPacket, IsClockPacket, IsConforming, IsIecPacket, IsPacket, PacketJournal, PacketView, Pcm, Am824Data, H264Data, carried, spelling_of}
 use Rattle.packet_journal.proofs.Copies.{clock_copy_read}
-use Rattle.cvf_format.specs.Cvf.{cvf_subtype}
+use Rattle.cvf_format.specs.Cvf.{SpellsCvf, cvf_subtype, plain_cvf}
+use Rattle.cvf_format.proofs.CvfLemmas.{cvf_again}
 use Rattle.listener.proofs.Made.{IsOther}
 use Rattle.listener.specs.Items.{aaf_item, block_rule, blocks_of, clock_row, entry_of, iec_item, item_of, points_of, points_or_none, refused_or, samples_of}
 
@@ -228,7 +229,7 @@ clock_entry shift p m d is copy shows =
     let kind : d.subtype ≡ crf_subtype = shows.subtype ∙ read.fields.0.0 in
     rw kind refl
 
--- ---- none is a packet of H.264
+-- ---- which of them are packets of H.264
 
 other_kind : (subtype : ℕ) → (subtype ≡ aaf_subtype) ⊎ (subtype ≡ iec_subtype) → (subtype == cvf_subtype) ≡ false
 other_kind subtype (inl e) = rw e refl
@@ -241,6 +242,21 @@ origin_other shift p lead (OfClockPacket m) d is heard copy shows =
     let read = clock_copy_read shift p m d is copy in
     let kind : d.subtype ≡ crf_subtype = shows.subtype ∙ read.fields.0.0 in
     rw kind refl
+
+audio_one : (j : Journal) (kind : Kind) (stream n : ℕ) (view : PacketView) (d : Delivery) → IsPacket kind j stream n view → Spells (spelling_of view) d.packet → Shows d → IsOther d → IsAudioKind kind
+audio_one j DenseAaf stream n view d is s shows other = tt
+audio_one j SparseAaf stream n view d is s shows other = tt
+audio_one j (Am824 interval dbc) stream n view d is s shows other = tt
+audio_one j (H264 part) stream n (Pcm v) d is s shows other = absurd is
+audio_one j (H264 part) stream n (Am824Data v) d is s shows other = absurd is
+audio_one j (H264 part) stream n (H264Data v) d is s shows other =
+    let read : SpellsCvf d.packet (plain_cvf v) = rw s.whole (cvf_again v s.trail is.writable is.fits) in
+    let kind : d.subtype ≡ cvf_subtype = shows.subtype ∙ (read.fields.0.0 ∙ is.writable.subtype) in
+    absurd (let none = rw kind at other in cc)
+
+-- a packet of the stream that is none of H.264 is one of audio
+pub audio_other : (shift : ℤ) (p : PacketJournal) (lead n : ℕ) (d : Delivery) → IsConforming shift p → IsCopyOf p lead n d → Shows d → IsOther d → IsAudioKind p.times.kind
+audio_other shift p lead n d is copy shows other = audio_one p.times p.times.kind p.stream n (p.packet n) d (is.packets n copy.delivered.known) copy.spelled shows other
 
 pub copied_other : (shift : ℤ) (p : PacketJournal) (lead : ℕ) (d : Delivery) → IsConforming shift p → IsAudioKind p.times.kind → IsCopied p lead d → IsOther d
 copied_other shift p lead d is heard c = origin_other shift p lead c.origin d is heard c.copy c.shows

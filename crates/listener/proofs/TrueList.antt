@@ -1,21 +1,22 @@
 -- What is presented of a capture is packets of the journal.
-use Rattle.std.proofs.Common.{◌≡◌, ℕ, zero, suc, ◌+◌, Bool, true, false, cond, ℤ, List, [], ◌∷◌, All, length, Option, Some, None, refl, sym, ap, ◌∙◌, subst, inl, inr, arith}
-use Rattle.std.specs.Prelude.{◌⊎◌, Contains, is_some, int_lt, option_and_then, IfSome, Result, Ok, Err, IfOk, map, fold, slice_get}
+use Rattle.std.proofs.Common.{◌≡◌, ◌≢◌, ℕ, zero, suc, ◌+◌, Bool, true, false, cond, ℤ, List, [], ◌∷◌, All, length, Option, Some, None, refl, sym, ap, ◌∙◌, subst, inl, inr, arith}
+use Rattle.std.specs.Prelude.{◌⊎◌, ◌==◌, if◌then◌else◌, Contains, is_some, int_lt, option_and_then, IfSome, Result, Ok, Err, IfOk, map, fold, slice_get}
 use Rattle.std.specs.List.{cons_option, filter_map}
-use Rattle.std.proofs.lemmas.List.{get_or-map, length-map}
 use Rattle.std.proofs.lemmas.List.Elements.{All-append, All-contains_itself, All-cons, All-head, All-map, All-nil, All-tail, All-take, All-weaker}
 use Rattle.clock_track.specs.declared.clock_row.ClockRow.{ClockRow}
 use Rattle.clock_track.specs.Rows.{clock_spot}
 use Rattle.pcap_frames.specs.Capture.{Record}
 use Rattle.stream_journal.specs.ClockRows.{IsTrueRow}
-use Rattle.stream_journal.specs.Journal.{Journal, Kind, DenseAaf, SparseAaf, Am824, H264}
+use Rattle.stream_journal.specs.Journal.{Journal, Kind, DenseAaf, SparseAaf, Am824, H264, Part}
 use Rattle.stream_journal.specs.Conforming.{Conforms, IsAudio, IsOfKind}
 use Rattle.stream_journal.specs.Delivered.{IsAudioKind}
 use Rattle.stream_journal.specs.Heads.{IsTrue}
 use Rattle.sample_schedule.specs.declared.accepted.Accepted.{Accepted}
 use Rattle.sample_schedule.specs.declared.entry.Entry.{Entry}
 use Rattle.sample_schedule.specs.declared.entry.Entry.TheVariants.{Item as OfItem, Clock as OfClock}
-use Rattle.sample_schedule.specs.declared.item.Item.TheVariants.{Packet as OfPacket}
+use Rattle.sample_schedule.specs.declared.item.Bad.{Bad}
+use Rattle.sample_schedule.specs.declared.item.Item.TheVariants.{Packet as OfPacket, Unit as OfUnit, Bad as OfBad}
+use Rattle.sample_schedule.specs.declared.item.Unit.{Unit as WholeUnit}
 use Rattle.sample_schedule.specs.declared.plan.SchedulePlan.{SchedulePlan}
 use Rattle.sample_schedule.specs.declared.shown.Reason.{Reason}
 use Rattle.sample_schedule.specs.Batches.{Presented}
@@ -23,28 +24,54 @@ use Rattle.sample_schedule.specs.Heads.{stamp_of}
 use Rattle.sample_schedule.specs.Laws.{presented}
 use Rattle.sample_schedule.specs.Order.{by_instant, put_behind}
 use Rattle.sample_schedule.specs.Schedule.{Given, Presents, Flags, accepted, accepted_by, given, judged, now_at, prefix_of, shown_of as given_shown, verdict_at}
-use Rattle.sample_schedule.specs.Verdicts.{decided, first_instant, row_of, timed, verdict}
+use Rattle.sample_schedule.specs.Verdicts.{decided, first_instant, row_of, timed, unit_at_once, verdict}
+use Rattle.time_unfold.specs.declared.stamp.Stamp.{Stamp}
+use Rattle.cvf_format.specs.Cvf.{cvf_subtype}
 use Rattle.sample_schedule.proofs.LawLemmas.{accepted-presented}
-use Rattle.packet_journal.specs.Deliveries.{Delivery}
+use Rattle.packet_journal.specs.Deliveries.{Delivery, deliveries}
 use Rattle.packet_journal.specs.Delivered.{IsCopyOf, IsFrom, Origin, OfStream, OfClock}
 use Rattle.packet_journal.specs.Packets.{IsConforming, PacketJournal, carried}
 use Rattle.listener.specs.declared.plan.ListenPlan.{ListenPlan}
 use Rattle.listener.specs.Heard.{deliveries_of, entries_in, items_in, schedule_plan, shown_of}
-use Rattle.listener.specs.Items.{MadeItem, clock_row, entry_of, items_of, made_entry, made_of_one}
-use Rattle.listener.specs.Laws.{FollowsClock, HearsTalker, IsHeardFrom, IsMadeOf, IsOfJournal, by_clock, presented_of}
-use Rattle.listener.proofs.Made.{IsOther, items_other}
-use Rattle.listener.proofs.TrueItems.{IsCopied, Shows, clock_entry, copied_other, copy_entry, copy_row, deliveries_copied, sent}
+use Rattle.avtp_base.specs.declared.refusal.Refusal.{Refusal}
+use Rattle.aaf_format.specs.Aaf.{aaf_of, aaf_refusal, aaf_subtype}
+use Rattle.iec61883_format.specs.Iec.{iec_of, iec_refusal}
+use Rattle.sample_schedule.specs.declared.item.Item.{Item}
+use Rattle.listener.specs.Items.{MadeItem, aaf_item, blocks_of, clock_row, entry_of, iec_item, items_of, made_entry, made_of_one, refused_or, samples_of}
+use Rattle.listener.specs.Laws.{FollowsClock, HearsTalker, IsHeardFrom, IsMadeOf, IsOfJournal, IsUnitFrom, by_clock, presented_of}
+use Rattle.listener.specs.Units.{in_stream}
+use Rattle.listener.proofs.ItemKinds.{IsKind, IsWholeOf, all_here, all_kinds, at_place}
+use Rattle.listener.proofs.Shown.{item_by}
+use Rattle.listener.proofs.Made.{IsOther}
+use Rattle.listener.proofs.TrueUnits.{AreChained, IsUnitItem, chained_of, unit_item, unit_made, unit_packet}
+use Rattle.listener.proofs.TrueItems.{IsCopied, Shows, all_shown, audio_other, clock_entry, copied_other, copy_entry, copy_row, deliveries_copied, sent}
 use Rattle.listener.proofs.TrueHeard.{IsBatchOf, IsFollowed, IsTruePrefix, timed_true, true_stamp}
 
 -- ---- entries
 
--- an entry is made of a copy of a packet of the stream
+-- an entry is made of a copy of a packet of audio
 pub record IsStreamEntry (items : List MadeItem) (p : PacketJournal) (lead : ℕ) (e : Entry) : Type 0 where
+  pub heard : IsAudioKind p.times.kind
   pub delivery : Delivery
   pub number : ℕ
   pub copy : IsCopyOf p lead number delivery
   pub listed : Contains items (made_of_one delivery)
   pub same : e ≡ OfItem (OfPacket (sent p.times number delivery.frame copy.arrival (carried (p.packet number))))
+
+-- it is a unit that was made of copies of all its packets
+pub record IsUnitEntry (items : List MadeItem) (p : PacketJournal) (lead : ℕ) (e : Entry) : Type 0 where
+  pub part : ℕ → Part
+  pub kind : p.times.kind ≡ H264 part
+  pub made : MadeItem
+  pub number : ℕ
+  pub listed : Contains items made
+  pub is : IsUnitItem p part lead number made
+  pub same : e ≡ made.entry
+
+-- or a packet that is not presented
+pub record IsBadEntry (e : Entry) : Type 0 where
+  pub bad : Bad
+  pub same : e ≡ OfItem (OfBad bad)
 
 -- or of one of the clock's
 pub record IsClockEntry (shift : ℤ) (p : PacketJournal) (e : Entry) : Type 0 where
@@ -54,7 +81,7 @@ pub record IsClockEntry (shift : ℤ) (p : PacketJournal) (e : Entry) : Type 0 w
   pub is_true : IsTrueRow p.times.clock shift row
 
 abbrev pub IsTrueEntry : List MadeItem → ℤ → PacketJournal → ℕ → Entry → Type 0
-IsTrueEntry items shift p lead e = IsStreamEntry items p lead e ⊎ IsClockEntry shift p e
+IsTrueEntry items shift p lead e = (IsStreamEntry items p lead e ⊎ IsUnitEntry items p lead e) ⊎ (IsBadEntry e ⊎ IsClockEntry shift p e)
 
 audio_of : (kind : Kind) (j : Journal) → IsAudioKind kind → IsOfKind kind j → IsAudio j
 audio_of DenseAaf j heard is = is.0
@@ -70,46 +97,130 @@ shifted_by : (shift added : ℤ) (p : PacketJournal) (clock : Option ℕ) → Fo
 shifted_by shift added p None follows on = absurd cc
 shifted_by shift added p (Some id) follows on = follows.1
 
-pub followed : (shift : ℤ) (p : PacketJournal) (plan : ListenPlan) (records : List Record) → HearsTalker shift p plan records → IsFollowed shift p.times (schedule_plan plan)
-followed shift p plan records h = record {
-  audio = audio p h.kind h.conforming.times;
-  kind = h.kind;
+-- a listener follows a stream of audio
+pub followed : (shift : ℤ) (p : PacketJournal) (plan : ListenPlan) (records : List Record) → HearsTalker shift p plan records → IsAudioKind p.times.kind → IsFollowed shift p.times (schedule_plan plan)
+followed shift p plan records h heard = record {
+  audio = audio p heard h.conforming.times;
+  kind = heard;
   clock = h.conforming.times.clock;
   shifted = shifted_by shift plan.shift p plan.clock h.clock;
 }
 
--- the item of a delivery is among those of all
-made_there : (ds : List Delivery) (d : Delivery) → All IsOther ds → Contains ds d → Contains (items_of ds) (made_of_one d)
-made_there ds d others (k, within, there) =
-    rw (items_other ds others) (k, omega (arith, length-map ds made_of_one), get_or-map made_of_one ds k d (made_of_one d) within ∙ ap made_of_one there)
-
-deliveries_are : (shift : ℤ) (p : PacketJournal) (plan : ListenPlan) (records : List Record) → HearsTalker shift p plan records → All (IsCopied p plan.lead) (deliveries_of plan records)
+pub deliveries_are : (shift : ℤ) (p : PacketJournal) (plan : ListenPlan) (records : List Record) → HearsTalker shift p plan records → All (IsCopied p plan.lead) (deliveries_of plan records)
 deliveries_are shift p plan records h =
     let from = h.delivered in
     let copies = deliveries_copied p plan.clock plan.lead p.stream from.origins records from.copies in
     rw h.stream copies
 
--- none of them is a packet of H.264
-pub others : (shift : ℤ) (p : PacketJournal) (plan : ListenPlan) (records : List Record) → HearsTalker shift p plan records → All IsOther (deliveries_of plan records)
-others shift p plan records h =
-    All-weaker (IsCopied p plan.lead) IsOther (λ d. copied_other shift p plan.lead d h.conforming h.kind) (deliveries_of plan records) (deliveries_are shift p plan records h)
+-- none of them is a packet of H.264 where the stream is of audio
+pub others : (shift : ℤ) (p : PacketJournal) (plan : ListenPlan) (records : List Record) → HearsTalker shift p plan records → IsAudioKind p.times.kind → All IsOther (deliveries_of plan records)
+others shift p plan records h heard =
+    All-weaker (IsCopied p plan.lead) IsOther (λ d. copied_other shift p plan.lead d h.conforming heard) (deliveries_of plan records) (deliveries_are shift p plan records h)
 
-true_entry : (items : List MadeItem) (shift : ℤ) (p : PacketJournal) (lead : ℕ) (d : Delivery) (o : Origin) → IsConforming shift p → IsAudioKind p.times.kind → IsFrom p lead o d → Shows d → Contains items (made_of_one d)
-    → IsTrueEntry items shift p lead (entry_of d)
-true_entry items shift p lead d (OfStream n) is heard copy shows listed = inl (record { delivery = d; number = n; copy = copy; listed = listed; same = copy_entry shift p lead n d is heard copy shows })
-true_entry items shift p lead d (OfClock m) is heard copy shows listed = inr (record { arrival = d.arrival; row = clock_row d; same = clock_entry shift p m d is copy shows; is_true = copy_row shift p m d is copy })
+true_entry : (items : List MadeItem) (shift : ℤ) (p : PacketJournal) (lead : ℕ) (d : Delivery) (o : Origin) → IsConforming shift p → IsFrom p lead o d → Shows d → IsOther d → Contains items (made_of_one d) → IsTrueEntry items shift p lead (entry_of d)
+true_entry items shift p lead d (OfStream n) is copy shows other listed =
+    let heard = audio_other shift p lead n d is copy shows other in
+    inl (inl (record { heard = heard; delivery = d; number = n; copy = copy; listed = listed; same = copy_entry shift p lead n d is heard copy shows }))
+true_entry items shift p lead d (OfClock m) is copy shows other listed = inr (inr (record { arrival = d.arrival; row = clock_row d; same = clock_entry shift p m d is copy shows; is_true = copy_row shift p m d is copy }))
+
+-- the kind of a stream that has a packet of H.264
+pub record IsVideoKind (kind : Kind) : Type 0 where
+  pub part : ℕ → Part
+  pub same : kind ≡ H264 part
+
+not_other : (b : Bool) → b ≡ false → b ≡ true → ⊥
+not_other b e f = absurd cc
+
+video_kind_by : (kind : Kind) (d : Delivery) → (IsAudioKind kind → IsOther d) → (d.subtype == cvf_subtype) ≡ true → IsVideoKind kind
+video_kind_by DenseAaf d other e = absurd (not_other (d.subtype == cvf_subtype) (other tt) e)
+video_kind_by SparseAaf d other e = absurd (not_other (d.subtype == cvf_subtype) (other tt) e)
+video_kind_by (Am824 interval dbc) d other e = absurd (not_other (d.subtype == cvf_subtype) (other tt) e)
+video_kind_by (H264 part) d other e = record { part = part; same = refl }
+
+pub video_kind : (shift : ℤ) (p : PacketJournal) (lead : ℕ) (d : Delivery) → IsConforming shift p → IsCopied p lead d → (d.subtype == cvf_subtype) ≡ true → IsVideoKind p.times.kind
+video_kind shift p lead d is c e = video_kind_by p.times.kind d (λ heard. copied_other shift p lead d is heard c) e
+
+-- what the deliveries of a capture are, one by one and beside each other
+pub record AreHeard (shift : ℤ) (p : PacketJournal) (lead : ℕ) (ds : List Delivery) : Type 0 where
+  pub conforming : IsConforming shift p
+  pub copied : All (IsCopied p lead) ds
+  pub shows : All Shows ds
+  pub chained : (part : ℕ → Part) → p.times.kind ≡ H264 part → AreChained p lead (in_stream ds)
+
+pub are_heard : (shift : ℤ) (p : PacketJournal) (plan : ListenPlan) (records : List Record) → HearsTalker shift p plan records → AreHeard shift p plan.lead (deliveries_of plan records)
+are_heard shift p plan records h = record {
+  conforming = h.conforming;
+  copied = deliveries_are shift p plan records h;
+  shows = all_shown plan.stream plan.clock records;
+  chained = λ part kind.
+      let from = h.delivered in
+      let near = from.near in
+      let copies = from.copies in
+      rw h.stream (chained_of shift p part plan.lead from.origins (deliveries p.stream plan.clock records) h.conforming kind (all_shown p.stream plan.clock records) copies near);
+}
+
+made_entry_true : (items : List MadeItem) (shift : ℤ) (p : PacketJournal) (lead : ℕ) (ds : List Delivery) (made : MadeItem) → AreHeard shift p lead ds → Contains items made → IsKind ds made → IsTrueEntry items shift p lead made.entry
+made_entry_true items shift p lead ds made h listed (inl one) =
+    let c = all_here (IsCopied p lead) one.before one.rest one.delivery (subst (λ (l : List Delivery). All (IsCopied p lead) l) one.is h.copied) in
+    subst (λ (m : MadeItem). Contains items m → IsTrueEntry items shift p lead m.entry) one.same (true_entry items shift p lead one.delivery c.origin h.conforming c.copy c.shows one.other) listed
+made_entry_true items shift p lead ds made h listed (inr (inl flag)) = inr (inl (record { bad = bad_of flag.why flag.delivery; same = ap (λ (m : MadeItem). m.entry) (sym flag.same) }))
+  where
+    bad_of : Reason → Delivery → Bad
+    bad_of reason d = record { frame = d.frame; arrival = d.arrival; seq = d.seq; reason = reason }
+made_entry_true items shift p lead ds made h listed (inr (inr w)) =
+    let c = all_here (IsCopied p lead) w.before w.rest w.delivery (subst (λ (l : List Delivery). All (IsCopied p lead) l) w.is h.copied) in
+    let kind = video_kind shift p lead w.delivery h.conforming c w.video in
+    let m = unit_made shift p kind.part lead ds made h.conforming kind.same (h.chained kind.part kind.same) h.shows w in
+    inl (inr (record {
+      part = kind.part;
+      kind = kind.same;
+      made = made;
+      number = m.number;
+      listed = listed;
+      is = unit_item shift p kind.part lead m.number ds made h.conforming kind.same h.shows w m.copies;
+      same = refl;
+    }))
 
 pub entries_true : (shift : ℤ) (p : PacketJournal) (plan : ListenPlan) (records : List Record) → HearsTalker shift p plan records → All (IsTrueEntry (items_in plan records) shift p plan.lead) (entries_in plan records)
 entries_true shift p plan records h =
     let ds = deliveries_of plan records in
-    let here = deliveries_are shift p plan records h in
-    let other = others shift p plan records h in
     let items = items_of ds in
+    let heard = are_heard shift p plan records h in
+    let kinds = all_kinds ds in
     All-map (IsTrueEntry items shift p plan.lead) made_entry items
-    (subst (λ (l : List MadeItem). All (λ (made : MadeItem). IsTrueEntry items shift p plan.lead made.entry) l) (sym (items_other ds other)) (All-map (λ (made : MadeItem). IsTrueEntry items shift p plan.lead made.entry) made_of_one ds
-    (All-weaker (λ (d : Delivery). IsCopied p plan.lead d × Contains items (made_of_one d)) (λ (d : Delivery). IsTrueEntry items shift p plan.lead (entry_of d))
-    (λ d c. true_entry items shift p plan.lead d c.0.origin h.conforming h.kind c.0.copy c.0.shows c.1) ds
-    (λ k d lt. (here k d lt, made_there ds _ other (All-contains_itself ds k d lt))))))
+    (λ k made within. made_entry_true items shift p plan.lead ds _ heard (All-contains_itself items k made within) (kinds k made within))
+
+-- ---- whole units
+
+refused_unit : (d : Delivery) (o : Option Refusal) (item : Item) (unit : WholeUnit) → item ≢ OfUnit unit → refused_or d o item ≢ OfUnit unit
+refused_unit d None item unit no_unit = no_unit
+refused_unit d (Some refusal) item unit no_unit = λ e. cc
+
+audio_unit : (b : Bool) (d : Delivery) (unit : WholeUnit) → (if b then aaf_item d else iec_item d) ≢ OfUnit unit
+audio_unit true d unit = refused_unit d (aaf_refusal d.packet) (samples_of d (aaf_of d.packet)) unit (λ e. cc)
+audio_unit false d unit = refused_unit d (iec_refusal d.packet) (blocks_of d (iec_of d.packet)) unit (λ e. cc)
+
+same_unit : (a b : WholeUnit) → OfItem (OfUnit a) ≡ OfItem (OfUnit b) → a ≡ b
+same_unit a b e = cc
+
+-- a delivery by itself is no unit
+one_unit : (d : Delivery) (unit : WholeUnit) → entry_of d ≢ OfItem (OfUnit unit)
+one_unit d unit e = audio_unit (d.subtype == aaf_subtype) d unit (item_by d (OfUnit unit) e)
+
+unit_kind : (ds : List Delivery) (made : MadeItem) (unit : WholeUnit) → IsKind ds made → made.entry ≡ OfItem (OfUnit unit) → IsWholeOf ds made
+unit_kind ds made unit (inl one) e = absurd (one_unit one.delivery unit (ap (λ (m : MadeItem). m.entry) one.same ∙ e))
+unit_kind ds made unit (inr (inl flag)) e = absurd (let f = ap (λ (m : MadeItem). m.entry) flag.same ∙ e in cc)
+unit_kind ds made unit (inr (inr w)) e = w
+
+pub item_is_true : (shift : ℤ) (p : PacketJournal) (plan : ListenPlan) (records : List Record) (place : ℕ) (made : MadeItem) (unit : WholeUnit) (part : ℕ → Part) → HearsTalker shift p plan records → p.times.kind ≡ H264 part → slice_get (items_in plan records) place ≡ Some made
+    → made.entry ≡ OfItem (OfUnit unit) → (n : ℕ) × IsUnitFrom p part plan.lead n made unit
+item_is_true shift p plan records place made unit part h kind there entry =
+    let ds = deliveries_of plan records in
+    let heard = are_heard shift p plan records h in
+    let w = unit_kind ds made unit (at_place (IsKind ds) (items_of ds) place made (all_kinds ds) there) entry in
+    let m = unit_made shift p part plan.lead ds made h.conforming kind (heard.chained part kind) heard.shows w in
+    let u = unit_item shift p part plan.lead m.number ds made h.conforming kind heard.shows w m.copies in
+    (m.number, subst (λ (x : WholeUnit). IsUnitFrom p part plan.lead m.number made x) (same_unit u.unit unit (sym u.entry ∙ entry)) u.is)
 
 -- ---- what is known
 
@@ -118,13 +229,23 @@ stream_stamp items p lead e is t =
     subst (λ (x : Entry). IfSome (stamp_of x) (IsTrue p.times)) (sym t.same)
     (true_stamp p.times lead t.number t.delivery.frame t.copy.arrival (carried (p.packet t.number)) is t.copy.delivered)
 
-entry_stamp : (items : List MadeItem) (shift : ℤ) (p : PacketJournal) (lead : ℕ) (e : Entry) → IsAudio p.times → IsTrueEntry items shift p lead e → IfSome (stamp_of e) (IsTrue p.times)
-entry_stamp items shift p lead e is (inl t) = stream_stamp items p lead e is t
-entry_stamp items shift p lead e is (inr t) = rw t.same tt
+unit_stamp : (e : Entry) (unit : WholeUnit) (P : Stamp → Type 0) → e ≡ OfItem (OfUnit unit) → IfSome (stamp_of e) P
+unit_stamp e unit P same = rw same tt
+
+unit_row : (e : Entry) (unit : WholeUnit) (P : ClockRow → Type 0) → e ≡ OfItem (OfUnit unit) → IfSome (row_of e) P
+unit_row e unit P same = rw same tt
+
+entry_stamp : (items : List MadeItem) (shift : ℤ) (p : PacketJournal) (lead : ℕ) (e : Entry) → (IsAudioKind p.times.kind → IsAudio p.times) → IsTrueEntry items shift p lead e → IfSome (stamp_of e) (IsTrue p.times)
+entry_stamp items shift p lead e is (inl (inl t)) = stream_stamp items p lead e (is t.heard) t
+entry_stamp items shift p lead e is (inl (inr t)) = unit_stamp e t.is.unit (IsTrue p.times) (t.same ∙ t.is.entry)
+entry_stamp items shift p lead e is (inr (inl t)) = rw t.same tt
+entry_stamp items shift p lead e is (inr (inr t)) = rw t.same tt
 
 entry_row : (items : List MadeItem) (shift : ℤ) (p : PacketJournal) (lead : ℕ) (e : Entry) → IsTrueEntry items shift p lead e → IfSome (row_of e) (IsTrueRow p.times.clock shift)
-entry_row items shift p lead e (inl t) = rw t.same tt
-entry_row items shift p lead e (inr t) = subst (λ (x : Entry). IfSome (row_of x) (IsTrueRow p.times.clock shift)) (sym t.same) t.is_true
+entry_row items shift p lead e (inl (inl t)) = rw t.same tt
+entry_row items shift p lead e (inl (inr t)) = unit_row e t.is.unit (IsTrueRow p.times.clock shift) (t.same ∙ t.is.entry)
+entry_row items shift p lead e (inr (inl t)) = rw t.same tt
+entry_row items shift p lead e (inr (inr t)) = subst (λ (x : Entry). IfSome (row_of x) (IsTrueRow p.times.clock shift)) (sym t.same) t.is_true
 
 put_first : {X : Type 0} (P : X → Type 0) (o : Option X) (xs : List X) → IfSome o P → All P xs → All P (cons_option o xs)
 put_first {X} P None xs h all = all
@@ -134,7 +255,7 @@ all_picked : {X : Type 0} (pick : Entry → Option X) (P : X → Type 0) (Q : En
 all_picked {X} pick P Q each [] all = All-nil P
 all_picked {X} pick P Q each (e ∷ es) all = put_first P (pick e) (filter_map pick es) (each e (All-head Q e es all)) (all_picked pick P Q each es (All-tail Q e es all))
 
-pub prefix_true : (items : List MadeItem) (shift : ℤ) (p : PacketJournal) (lead : ℕ) (es : List Entry) → IsAudio p.times → All (IsTrueEntry items shift p lead) es → IsTruePrefix shift p.times es
+pub prefix_true : (items : List MadeItem) (shift : ℤ) (p : PacketJournal) (lead : ℕ) (es : List Entry) → (IsAudioKind p.times.kind → IsAudio p.times) → All (IsTrueEntry items shift p lead) es → IsTruePrefix shift p.times es
 prefix_true items shift p lead es is all = record {
   stamps = all_picked stamp_of (IsTrue p.times) (IsTrueEntry items shift p lead) (λ e. entry_stamp items shift p lead e is) es all;
   rows = all_picked row_of (IsTrueRow p.times.clock shift) (IsTrueEntry items shift p lead) (entry_row items shift p lead) es all;
@@ -182,26 +303,45 @@ entry_at P [] n all = tt
 entry_at P (e ∷ es) zero all = All-head P e es all
 entry_at P (e ∷ es) (suc n) all = entry_at P es n (All-tail P e es all)
 
-judged_stream : (items : List MadeItem) (shift : ℤ) (p : PacketJournal) (plan : SchedulePlan) (es : List Entry) (n : ℕ) (earlier : List Accepted) (e : Entry) → IsFollowed shift p.times plan → All (IsTrueEntry items shift p plan.lead) es
+judged_stream : (items : List MadeItem) (shift : ℤ) (p : PacketJournal) (plan : SchedulePlan) (es : List Entry) (n : ℕ) (earlier : List Accepted) (e : Entry) → (IsAudioKind p.times.kind → IsFollowed shift p.times plan) → All (IsTrueEntry items shift p plan.lead) es
     → IsStreamEntry items p plan.lead e → All (IsHeardAccepted plan.clock items p plan.lead) (accepted_by (judged clock_spot plan es n earlier e))
 judged_stream items shift p plan es n earlier e is all t =
     let packet = sent p.times t.number t.delivery.frame t.copy.arrival (carried (p.packet t.number)) in
     let prefix = prefix_of plan es n in
-    let known = prefix_true items shift p plan.lead prefix is.audio (All-take (IsTrueEntry items shift p plan.lead) (n + plan.look + 1) es all) in
+    let known = prefix_true items shift p plan.lead prefix (λ heard. (is heard).audio) (All-take (IsTrueEntry items shift p plan.lead) (n + plan.look + 1) es all) in
     let r = timed clock_spot plan prefix (OfPacket packet) in
     subst (λ (x : Entry). All (IsHeardAccepted plan.clock items p plan.lead) (accepted_by (judged clock_spot plan es n earlier x))) (sym t.same)
     (accepted_one plan.clock items p plan.lead (verdict plan (now_at es n) earlier n r)
     (verdict_true (IsHeardFrom plan.clock items p plan.lead) plan (now_at es n) earlier n r
     (batch_heard plan.clock items p plan.lead t.number t.delivery r t.listed t.copy
-    (timed_true shift p plan t.number t.delivery.frame t.copy.arrival prefix is known t.copy.delivered))))
+    (timed_true shift p plan t.number t.delivery.frame t.copy.arrival prefix (is t.heard) known t.copy.delivered))))
 
-judged_true : (items : List MadeItem) (shift : ℤ) (p : PacketJournal) (plan : SchedulePlan) (es : List Entry) (n : ℕ) (earlier : List Accepted) (o : Option Entry) → IsFollowed shift p.times plan → All (IsTrueEntry items shift p plan.lead) es
+-- a unit is presented at its own instant
+judged_unit : (items : List MadeItem) (p : PacketJournal) (plan : SchedulePlan) (es : List Entry) (n : ℕ) (earlier : List Accepted) (e : Entry) → IsUnitEntry items p plan.lead e
+    → All (IsHeardAccepted plan.clock items p plan.lead) (accepted_by (judged clock_spot plan es n earlier e))
+unfolding timed
+judged_unit items p plan es n earlier e t =
+    let heard : IsHeardFrom plan.clock items p plan.lead (unit_at_once t.is.unit) =
+    record { item = t.made; number = t.number; listed = t.listed; copy = t.is.is.copies; is = record { frame = t.is.frame; is = unit_packet plan.clock p t.part plan.lead t.number t.made t.kind t.is } } in
+    subst (λ (x : Entry). All (IsHeardAccepted plan.clock items p plan.lead) (accepted_by (judged clock_spot plan es n earlier x))) (sym (t.same ∙ t.is.entry))
+    (accepted_one plan.clock items p plan.lead (verdict plan (now_at es n) earlier n (Ok (unit_at_once t.is.unit)))
+    (verdict_true (IsHeardFrom plan.clock items p plan.lead) plan (now_at es n) earlier n (Ok (unit_at_once t.is.unit)) heard))
+
+-- and what is bad is not accepted
+judged_bad : (items : List MadeItem) (p : PacketJournal) (plan : SchedulePlan) (es : List Entry) (n : ℕ) (earlier : List Accepted) (e : Entry) → IsBadEntry e
+    → All (IsHeardAccepted plan.clock items p plan.lead) (accepted_by (judged clock_spot plan es n earlier e))
+unfolding timed verdict
+judged_bad items p plan es n earlier e t = rw t.same (All-nil (IsHeardAccepted plan.clock items p plan.lead))
+
+judged_true : (items : List MadeItem) (shift : ℤ) (p : PacketJournal) (plan : SchedulePlan) (es : List Entry) (n : ℕ) (earlier : List Accepted) (o : Option Entry) → (IsAudioKind p.times.kind → IsFollowed shift p.times plan) → All (IsTrueEntry items shift p plan.lead) es
     → IfSome o (IsTrueEntry items shift p plan.lead) → All (IsHeardAccepted plan.clock items p plan.lead) (accepted_by (option_and_then (judged clock_spot plan es n earlier) o))
 judged_true items shift p plan es n earlier None is all t = All-nil (IsHeardAccepted plan.clock items p plan.lead)
-judged_true items shift p plan es n earlier (Some e) is all (inl t) = judged_stream items shift p plan es n earlier e is all t
-judged_true items shift p plan es n earlier (Some e) is all (inr t) = rw t.same (All-nil (IsHeardAccepted plan.clock items p plan.lead))
+judged_true items shift p plan es n earlier (Some e) is all (inl (inl t)) = judged_stream items shift p plan es n earlier e is all t
+judged_true items shift p plan es n earlier (Some e) is all (inl (inr t)) = judged_unit items p plan es n earlier e t
+judged_true items shift p plan es n earlier (Some e) is all (inr (inl t)) = judged_bad items p plan es n earlier e t
+judged_true items shift p plan es n earlier (Some e) is all (inr (inr t)) = rw t.same (All-nil (IsHeardAccepted plan.clock items p plan.lead))
 
-accepted_heard : (items : List MadeItem) (shift : ℤ) (p : PacketJournal) (plan : SchedulePlan) (es : List Entry) (n : ℕ) → IsFollowed shift p.times plan → All (IsTrueEntry items shift p plan.lead) es
+accepted_heard : (items : List MadeItem) (shift : ℤ) (p : PacketJournal) (plan : SchedulePlan) (es : List Entry) (n : ℕ) → (IsAudioKind p.times.kind → IsFollowed shift p.times plan) → All (IsTrueEntry items shift p plan.lead) es
     → All (IsHeardAccepted plan.clock items p plan.lead) (accepted clock_spot plan es n)
 unfolding accepted verdict_at
 accepted_heard items shift p plan es zero is all = All-nil (IsHeardAccepted plan.clock items p plan.lead)
@@ -212,7 +352,7 @@ accepted_heard items shift p plan es (suc n) is all =
 heard_true : (by : Bool) (items : List MadeItem) (p : PacketJournal) (lead : ℕ) (a : Accepted) → IsHeardAccepted by items p lead a → IsTrueAccepted by p a
 heard_true by items p lead a t = record { is = record { number = t.is.number; is = t.is.is.is }; instant = t.instant }
 
-pub accepted_true : (items : List MadeItem) (shift : ℤ) (p : PacketJournal) (plan : SchedulePlan) (es : List Entry) (n : ℕ) → IsFollowed shift p.times plan → All (IsTrueEntry items shift p plan.lead) es
+pub accepted_true : (items : List MadeItem) (shift : ℤ) (p : PacketJournal) (plan : SchedulePlan) (es : List Entry) (n : ℕ) → (IsAudioKind p.times.kind → IsFollowed shift p.times plan) → All (IsTrueEntry items shift p plan.lead) es
     → All (IsTrueAccepted plan.clock p) (accepted clock_spot plan es n)
 accepted_true items shift p plan es n is all =
     All-weaker (IsHeardAccepted plan.clock items p plan.lead) (IsTrueAccepted plan.clock p) (heard_true plan.clock items p plan.lead) (accepted clock_spot plan es n) (accepted_heard items shift p plan es n is all)

@@ -35,11 +35,12 @@ use Rattle.crf_format.specs.Crf.{crf_subtype}
 use Rattle.iec61883_format.specs.Iec.{iec_of, iec_refusal}
 use Rattle.listener.specs.Items.{MadeItem, aaf_item, blocks_of, clock_row, entry_of, iec_item, item_of, made_of_one, refused_or, samples_of}
 use Rattle.listener.specs.Laws.{HearsTalker, IsFurther, IsOfPacket, IsTimely, IsWelcome, by_clock, is_known, spot_in, time_of}
-use Rattle.listener.proofs.TrueHeard.{usable}
+use Rattle.listener.proofs.ItemKinds.{at_place}
+use Rattle.listener.proofs.TrueHeard.{audio_content, usable}
 use Rattle.listener.proofs.TrueItems.{Shows, all_shown, copy_entry, sent}
 use Rattle.listener.proofs.TrueList.{audio, one_copy, others}
 use Rattle.listener.proofs.TrueOnce.{nominal_due}
-use Rattle.listener.proofs.TrueTimely.{at_place, entry_there, item_there, taken, welcome_judged}
+use Rattle.listener.proofs.TrueTimely.{entry_there, item_there, taken, welcome_judged}
 use Rattle.listener.proofs.Made.{IsOther}
 
 -- a stamped packet has its head in itself
@@ -54,7 +55,7 @@ first_time [] e at = absurd cc
 first_time (x ∷ es) e at = let same : x ≡ e = cc in ap (λ (y : Entry). int_max (pos 0) (arrival_of y)) same
 
 -- nothing waits before the first
-nothing : (clock : Clock) (plan : SchedulePlan) (es : List Entry) → accepted clock plan es 0 ≡ []
+pub nothing : (clock : Clock) (plan : SchedulePlan) (es : List Entry) → accepted clock plan es 0 ≡ []
 unfolding accepted
 nothing clock plan es = refl
 
@@ -87,24 +88,24 @@ due_at : (j : Journal) (n instant : ℕ) → IsAudioKind j.kind → IsAudio j �
 due_at j n instant heard is known e = due_at_by j n (head_of j n) heard is known refl (some_head j n instant e)
 
 -- the item of a stamped copy is packet n with a known timestamp, and it came in time
-timely_at : (shift : ℤ) (p : PacketJournal) (plan : ListenPlan) (records : List Record) (place n instant : ℕ) (d : Delivery) → HearsTalker shift p plan records → plan.clock ≡ None → slice_get (deliveries_of plan records) place ≡ Some d
+timely_at : (shift : ℤ) (p : PacketJournal) (plan : ListenPlan) (records : List Record) (place n instant : ℕ) (d : Delivery) → HearsTalker shift p plan records → IsAudioKind p.times.kind → plan.clock ≡ None → slice_get (deliveries_of plan records) place ≡ Some d
     → IsCopyOf p plan.lead n d → p.times.stamp n ≡ Some instant → time_of plan records place ≤ℤ pos (p.times.due n) → IsTimely p plan records place n (made_of_one d)
-timely_at shift p plan records place n instant d h off at copy stamped early =
+timely_at shift p plan records place n instant d h heard off at copy stamped early =
     let sp = schedule_plan plan in
     let prefix = prefix_of sp (entries_in plan records) place in
-    let is = audio p h.kind h.conforming.times in
+    let is = audio p heard h.conforming.times in
     let by_is : by_clock plan ≡ false = rw off refl in
     let shows = at_place Shows (deliveries_of plan records) place d (all_shown plan.stream plan.clock records) at in
     let packet = sent p.times n d.frame copy.arrival (carried (p.packet n)) in
-    let same : entry_of d ≡ OfItem (OfPacket packet) = copy_entry shift p plan.lead n d h.conforming h.kind copy shows in
+    let same : entry_of d ≡ OfItem (OfPacket packet) = copy_entry shift p plan.lead n d h.conforming heard copy shows in
     let head = own_head p.times sp prefix n d.frame copy.arrival instant (carried (p.packet n)) is copy.delivered.known stamped in
     let spot : is_some (spot_in sp prefix packet) ≡ true = nominal_known sp.clock sp prefix p.times.rate (heads.head_of sp prefix packet) by_is head in
     record {
-      there = item_there (deliveries_of plan records) place d (others shift p plan records h) at;
+      there = item_there (deliveries_of plan records) place d (others shift p plan records h heard) at;
       copy = one_copy p plan.lead n d copy;
       known = subst (λ (e : Entry). is_known sp prefix e ≡ true) (sym same) spot;
       instant = pos (p.times.due n);
-      at = subst (λ (by : Bool). IsAt by p.times n 0 (pos (p.times.due n))) (sym by_is) (due_at p.times n instant h.kind is copy.delivered.known stamped);
+      at = subst (λ (by : Bool). IsAt by p.times n 0 (pos (p.times.due n))) (sym by_is) (due_at p.times n instant heard is copy.delivered.known stamped);
       in_time = early;
     }
 
@@ -124,7 +125,7 @@ entry_arrival false d = kind_arrival (d.subtype == aaf_subtype) d
 pub arrives : (d : Delivery) → arrival_of (entry_of d) ≡ d.arrival
 arrives d = entry_arrival (d.subtype == crf_subtype) d
 
-both_early : (x y : ℤ) (due : ℕ) → x ≤ℤ pos due → y ≤ℤ pos due → int_max x y ≤ℤ pos due
+pub both_early : (x y : ℤ) (due : ℕ) → x ≤ℤ pos due → y ≤ℤ pos due → int_max x y ≤ℤ pos due
 both_early x y due e f = grind (arith, ints)
 
 first_early : (plan : ListenPlan) (records : List Record) (due : ℕ) (d : Delivery) → All IsOther (deliveries_of plan records) → slice_get (deliveries_of plan records) 0 ≡ Some d → d.arrival ≤ℤ pos due → time_of plan records 0 ≤ℤ pos due
@@ -137,14 +138,16 @@ second_early plan records due d all at first early =
     rw (now-next (entries_in plan records) 1 (entry_of d) (entry_there (deliveries_of plan records) 1 d all at), arrives d)
     (both_early (time_of plan records 0) d.arrival due first early)
 
-pub first_welcome : (shift : ℤ) (p : PacketJournal) (plan : ListenPlan) (records : List Record) (n instant : ℕ) (d : Delivery) → HearsTalker shift p plan records → plan.clock ≡ None → slice_get (deliveries_of plan records) 0 ≡ Some d
+pub first_welcome : (shift : ℤ) (p : PacketJournal) (plan : ListenPlan) (records : List Record) (n instant : ℕ) (d : Delivery) → HearsTalker shift p plan records → IsAudioKind p.times.kind → plan.clock ≡ None → slice_get (deliveries_of plan records) 0 ≡ Some d
     → IsCopyOf p plan.lead n d → p.times.stamp n ≡ Some instant → d.arrival ≤ℤ pos (p.times.due n) → 1 ≤ plan.buffer → length (carried (p.packet n)) ≤ plan.room → IsWelcome p plan records 0 n (made_of_one d)
-first_welcome shift p plan records n instant d h off at copy stamped early some fits =
+first_welcome shift p plan records n instant d h heard off at copy stamped early some fits =
     let sp = schedule_plan plan in
     let none = nothing clock_spot sp (entries_in plan records) in
     record {
-      timely = timely_at shift p plan records 0 n instant d h off at copy stamped (first_early plan records (p.times.due n) d (others shift p plan records h) at early);
+      timely = timely_at shift p plan records 0 n instant d h heard off at copy stamped (first_early plan records (p.times.due n) d (others shift p plan records h heard) at early);
       first = rw none (All-nil (λ (a : Accepted). ¬ IsOfPacket (by_clock plan) p n a.batch));
+      bytes = carried (p.packet n);
+      content = audio_content p.times.kind p n heard;
       room = rw none (has_room sp (time_of plan records 0) (length (carried (p.packet n))) some fits);
     }
 
@@ -160,14 +163,14 @@ by_due p plan records n made off heard is known w =
     let at : IsAt false p.times n 0 w.instant = subst (λ (c : Option ℕ). IsAt (is_some c) p.times n 0 w.instant) off w.at in
     subst (λ (z : ℤ). time_of plan records 0 ≤ℤ z) (nominal_due p.times n w.instant heard is known at) w.in_time
 
-pub second_further : (shift : ℤ) (p : PacketJournal) (plan : ListenPlan) (records : List Record) (n instant : ℕ) (first second : Delivery) → HearsTalker shift p plan records → plan.clock ≡ None → IsWelcome p plan records 0 n (made_of_one first)
+pub second_further : (shift : ℤ) (p : PacketJournal) (plan : ListenPlan) (records : List Record) (n instant : ℕ) (first second : Delivery) → HearsTalker shift p plan records → IsAudioKind p.times.kind → plan.clock ≡ None → IsWelcome p plan records 0 n (made_of_one first)
     → slice_get (deliveries_of plan records) 0 ≡ Some first → slice_get (deliveries_of plan records) 1 ≡ Some second → IsCopyOf p plan.lead n second → p.times.stamp n ≡ Some instant → second.arrival ≤ℤ pos (p.times.due n)
     → IsFurther p plan records 1 n (made_of_one second)
-second_further shift p plan records n instant first second h off w here at copy stamped early =
-    let judged = welcome_judged shift p plan records 0 n first h here w in
-    let there = entry_there (deliveries_of plan records) 0 first (others shift p plan records h) here ∙ ap Some judged.item in
-    let earlier = first_accepted clock_spot (schedule_plan plan) (entries_in plan records) (item_of first) (taken 0 judged.batch) there judged.verdict_is_ok in
+second_further shift p plan records n instant first second h heard off w here at copy stamped early =
+    let judged = welcome_judged shift p plan records 0 n (made_of_one first) h w in
+    let there = entry_there (deliveries_of plan records) 0 first (others shift p plan records h heard) here ∙ ap Some judged.entry in
+    let earlier = first_accepted clock_spot (schedule_plan plan) (entries_in plan records) judged.item (taken 0 judged.batch) there judged.verdict_is_ok in
     record {
-      timely = timely_at shift p plan records 1 n instant second h off at copy stamped (second_early plan records (p.times.due n) second (others shift p plan records h) at (by_due p plan records n (made_of_one first) off h.kind (audio p h.kind h.conforming.times) copy.delivered.known w.timely) early);
+      timely = timely_at shift p plan records 1 n instant second h heard off at copy stamped (second_early plan records (p.times.due n) second (others shift p plan records h heard) at (by_due p plan records n (made_of_one first) off heard (audio p heard h.conforming.times) copy.delivered.known w.timely) early);
       before = rw earlier (0, taken 0 judged.batch, omega arith, refl, judged.is.is);
     }

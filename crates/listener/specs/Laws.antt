@@ -1,5 +1,5 @@
 -- What a listener hears of a talker that keeps the rules.
-use Rattle.std.specs.Prelude.{Any, Contains, true, ◌≡◌, ◌⊎◌, ℕ, suc, ◌+◌, ◌-◌, ◌^◌, ◌<◌, ◌%◌, ◌==◌, ⊤, Bool, false, ℤ, pos, ◌≤ℤ◌, ◌<ℤ◌, List, [], ◌∷◌, length, filter, All, slice_get, Option, Some, None, is_some, option_and_then, Result, Ok, Err}
+use Rattle.std.specs.Prelude.{Any, Contains, true, ◌≡◌, ◌⊎◌, ℕ, suc, ◌+◌, ◌-◌, ◌^◌, ◌<◌, ◌≤◌, ◌%◌, ◌==◌, ⊤, Bool, false, ℤ, pos, ◌≤ℤ◌, ◌<ℤ◌, List, [], ◌∷◌, length, filter, All, slice_get, Option, Some, None, is_some, option_and_then, Result, Ok, Err}
 use Rattle.std.specs.List.{sum_by}
 use Rattle.clock_track.specs.Pairs.{Covers, Spot}
 use Rattle.clock_track.specs.Rows.{clock_spot}
@@ -10,6 +10,7 @@ use Rattle.sample_schedule.specs.declared.entry.Entry.TheVariants.{Item as OfIte
 use Rattle.sample_schedule.specs.declared.item.Item.{Item}
 use Rattle.sample_schedule.specs.declared.item.Item.TheVariants.{Packet as OfPacket, Unit as OfUnit, Bad as OfBad}
 use Rattle.sample_schedule.specs.declared.item.Packet.{Packet}
+use Rattle.sample_schedule.specs.declared.item.Unit.{Unit as WholeUnit}
 use Rattle.sample_schedule.specs.declared.plan.SchedulePlan.{SchedulePlan}
 use Rattle.sample_schedule.specs.Heads.{head_of}
 use Rattle.sample_schedule.specs.Laws.{verdict_in}
@@ -21,11 +22,12 @@ use Rattle.sample_schedule.specs.declared.shown.Reason.{Reason}
 use Rattle.sample_schedule.specs.declared.shown.Shown.{Shown}
 use Rattle.sample_schedule.specs.declared.shown.Shown.TheVariants.{Present, Flag}
 use Rattle.stream_journal.specs.Clocks.{ClockJournal, IsJoinedAt, Place, pair_at, point}
-use Rattle.stream_journal.specs.Delivered.{IsAudioKind}
-use Rattle.stream_journal.specs.Journal.{IsAt}
+use Rattle.stream_journal.specs.Journal.{IsAt, Kind, DenseAaf, SparseAaf, Am824, H264, Part}
 use Rattle.packet_journal.specs.Deliveries.{Delivery}
 use Rattle.packet_journal.specs.Delivered.{Delivers, IsCopyOf}
-use Rattle.packet_journal.specs.Packets.{IsConforming, PacketJournal, carried}
+use Rattle.packet_journal.specs.Packets.{IsConforming, PacketJournal}
+use Rattle.cvf_format.specs.Stretches.{longest_unit, most_fragments}
+use Rattle.packet_journal.specs.Units.{AreUnit, IsContent, first_byte, unit_bytes}
 use Rattle.listener.specs.declared.plan.ListenPlan.{ListenPlan}
 use Rattle.listener.specs.Heard.{entries_in, items_in, schedule_plan}
 use Rattle.listener.specs.Items.{MadeItem, sources}
@@ -35,12 +37,12 @@ abbrev pub FollowsClock : ℤ → PacketJournal → ℤ → Option ℕ → Type 
 FollowsClock shift p added None = ⊤
 FollowsClock shift p added (Some id) = (id ≡ p.clock) × (added ≡ shift)
 
--- Records deliver the audio stream of a talker that keeps the rules to a listener that counts samples on the nominal lines of
--- their timestamps, or on those of the talker's clock. Nothing else is asked of the records: any packet may be missing, come
--- again, or come in any order.
+-- Records deliver the stream of a talker that keeps the rules, of audio or of H.264, to a listener that counts samples on the
+-- nominal lines of their timestamps, or on those of the talker's clock. Any packet may be missing, come again, or come in any
+-- order. Of H.264 alone more is asked: two fragments that were delivered beside each other, at least one of them without a
+-- timestamp, are of packets at most 254 apart.
 pub record HearsTalker (shift : ℤ) (p : PacketJournal) (plan : ListenPlan) (records : List Record) : Type 0 where
   pub conforming : IsConforming shift p
-  pub kind : IsAudioKind p.times.kind
   pub stream : plan.stream ≡ p.stream
   pub clock : FollowsClock shift p plan.shift plan.clock
   pub delivered : Delivers p plan.clock plan.lead records
@@ -55,13 +57,21 @@ presented_of [] = []
 presented_of (Present batch ∷ rest) = batch ∷ presented_of rest
 presented_of (Flag frame seq reason ∷ rest) = presented_of rest
 
+-- how many samples a batch of a stream has: as many as its packets, or one, which is a unit of H.264
+abbrev pub sample_count : Kind → ℕ → ℕ
+sample_count DenseAaf count = count
+sample_count SparseAaf count = count
+sample_count (Am824 interval dbc) count = count
+sample_count (H264 part) count = 1
+
 -- The batch is packet n of the journal: it has the packet's sequence number, its count and its samples' bytes, and each of
--- its samples stands at its instant in the journal, by the talker's clock or without.
+-- its samples stands at its instant in the journal, by the talker's clock or without. Of H.264 it is the unit that ends with
+-- packet n, with the bytes that all packets of the unit carry, at their one instant.
 pub record IsOfPacket (by : Bool) (p : PacketJournal) (n : ℕ) (batch : Presented) : Type 0 where
   pub known : n < p.times.packets
   pub seq : batch.seq ≡ n % 256
-  pub count : batch.count ≡ p.times.count
-  pub bytes : batch.bytes ≡ carried (p.packet n)
+  pub count : batch.count ≡ sample_count p.times.kind p.times.count
+  pub bytes : IsContent p n batch.bytes
   pub instants : (k : ℕ) → k < batch.count → IsAt by p.times n k (sample_instant batch k)
 
 -- the batch is a packet of the journal
@@ -115,6 +125,25 @@ pub record IsMadeOf (p : PacketJournal) (lead n : ℕ) (made : MadeItem) : Type 
   pub earlier : AreCopiesFrom p lead from made.earlier
   pub last : IsCopyOf p lead n made.last
 
+-- The unit of an item is one unit of the journal, which ends with packet n: the item was made of one copy of each packet of that
+-- unit, in their order, and has the unit's bytes and its instant.
+pub record IsUnitFrom (p : PacketJournal) (part : ℕ → Part) (lead n : ℕ) (made : MadeItem) (unit : WholeUnit) : Type 0 where
+  pub copies : IsMadeOf p lead n made
+  pub packets : AreUnit part copies.from n
+  pub bytes : unit.bytes ≡ unit_bytes p copies.from n
+  pub instant : unit.instant ≡ pos (p.times.due n)
+
+-- Deliveries are copies of all packets of one unit, in their order, the last of which is packet n. Each packet carries the
+-- unit's first byte, and the unit is within the limits.
+pub record AreOfUnit (p : PacketJournal) (part : ℕ → Part) (lead from n : ℕ) (earlier : List Delivery) (last : Delivery) : Type 0 where
+  pub to : from + length earlier ≡ n
+  pub packets : AreUnit part from n
+  pub earlier_copies : AreCopiesFrom p lead from earlier
+  pub last_copy : IsCopyOf p lead n last
+  pub same_byte : (k : ℕ) → from ≤ k → k ≤ n → first_byte (p.packet k) ≡ first_byte (p.packet from)
+  pub size : length (unit_bytes p from n) ≤ longest_unit
+  pub few : length earlier < most_fragments
+
 -- ---- what must be presented
 
 -- what a listener has accepted before the item at a place
@@ -153,7 +182,9 @@ pub record IsWelcome (p : PacketJournal) (plan : ListenPlan) (records : List Rec
   -- no copy of the packet was accepted before
   pub first : All (λ a. ¬ IsOfPacket (by_clock plan) p n a.batch) (accepted_before plan records place)
   -- the buffer has room for it
-  pub room : is_full (schedule_plan plan) (standing (time_of plan records place) (accepted_before plan records place)) (length (carried (p.packet n))) ≡ false
+  pub bytes : List ℕ
+  pub content : IsContent p n bytes
+  pub room : is_full (schedule_plan plan) (standing (time_of plan records place) (accepted_before plan records place)) (length bytes) ≡ false
 
 -- It is a further copy: one of the packet was accepted before.
 pub record IsFurther (p : PacketJournal) (plan : ListenPlan) (records : List Record) (place n : ℕ) (made : MadeItem) : Type 0 where

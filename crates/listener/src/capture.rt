@@ -106,10 +106,10 @@ fn hear(alloc: Global, listener: &mut Listener, bytes: &[u8]) -> Result<Heard, N
 /// 1722-2016, 10) and the clock's id. Record times are taken as nanoseconds of gPTP. The plan is within the limits that
 /// `ListenPlan` names.
 ///
-/// Whatever the capture loses, repeats or reorders of the audio packets of a talker that keeps the rules and of its clock, what
-/// is shown keeps the headline: what came in time, found room and has a known timestamp or clock reference is presented once,
-/// in order, at the talker's own nanoseconds, so that any two listeners with one clock agree, and every other packet that came
-/// is flagged with its one reason.
+/// Whatever the capture loses, repeats or reorders of the packets of a talker that keeps the rules and of its clock, what is
+/// shown keeps the headline: what came in time, found room and has a known timestamp or clock reference is presented once, in
+/// order, at the talker's own nanoseconds, so that any two listeners with one clock agree, and every other packet that came is
+/// flagged with its one reason. A unit of H.264 that is presented is one of the talker's units, whole.
 ///
 /// The capture has at most 2^62 bytes. `NoMemory` comes where no memory is found, and nothing is shown then.
 pub fn whole(alloc: Global, plan: &ListenPlan, bytes: &[u8]) -> Result<Heard, NoMemory>

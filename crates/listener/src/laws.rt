@@ -3,22 +3,24 @@
 ghost use Rattle.std.specs.Prelude.{◌≡◌, ◌≤◌, ◌≤ℤ◌, ◌+◌, suc, true, ◌∷◌, ◌++◌, [], All, AllPairs, Any, ℕ, ℤ, Bool, pos, List, None, Some, length, slice_get};
 ghost use mathlib.Core.List.{IsPrefix};
 ghost use Rattle.pcap_frames.specs.Capture.{Record};
-ghost use Rattle.stream_journal.specs.Delivered.{IsAudioKind};
-ghost use Rattle.stream_journal.specs.Journal.{Am824, DenseAaf, IsAt, SparseAaf};
+ghost use Rattle.stream_journal.specs.Delivered.{AreNear, IsAudioKind};
+ghost use Rattle.stream_journal.specs.Journal.{Am824, DenseAaf, H264, IsAt, Part, Single, SparseAaf};
 ghost use Rattle.packet_journal.specs.Carried.{AllCarryFrom};
 ghost use Rattle.packet_journal.specs.Deliveries.{Delivery};
-ghost use Rattle.packet_journal.specs.Delivered.{IsClockCopyOf, IsCopyOf, Origin};
+ghost use Rattle.packet_journal.specs.Delivered.{IsClockCopyOf, IsCopyOf, Origin, stream_numbers};
 ghost use Rattle.packet_journal.specs.Packets.{IsConforming, PacketJournal, carried};
+ghost use Rattle.packet_journal.specs.Units.{unit_bytes};
 ghost use Rattle.sample_schedule.specs.declared.entry.Entry.{Entry};
 ghost use Rattle.sample_schedule.specs.declared.item.Item.{Item};
+ghost use Rattle.sample_schedule.specs.declared.item.Unit.{Unit};
 ghost use Rattle.sample_schedule.specs.declared.shown.Reason.TheVariants.{Repeat};
 ghost use Rattle.sample_schedule.specs.declared.shown.Shown.TheVariants.{Flag};
 ghost use Rattle.sample_schedule.specs.Batches.{Presented};
 ghost use Rattle.listener.specs.declared.plan.ListenPlan.{ListenPlan};
 ghost use Rattle.listener.specs.Heard.{counts_of, deliveries_of, due_of, items_in, shown_of};
 ghost use Rattle.listener.specs.Headline.{KeepsHeadline};
-ghost use Rattle.listener.specs.Items.{MadeItem, made_of_one};
-ghost use Rattle.listener.specs.Laws.{Agree, AreOther, CoversPacket, FollowsClock, HearsTalker, IsFurther, IsHeardFrom, IsInOneItem, IsOfJournal, IsOfPacket, IsPresentedOf, IsWelcome, ComesBefore, by_clock, fragments_in, presented_of, shown_by, shown_of_frame, verdict_of};
+ghost use Rattle.listener.specs.Items.{MadeItem, made_of_one, unit_by};
+ghost use Rattle.listener.specs.Laws.{Agree, AreOfUnit, AreOther, CoversPacket, FollowsClock, HearsTalker, IsFurther, IsHeardFrom, IsInOneItem, IsOfJournal, IsOfPacket, IsPresentedOf, IsUnitFrom, IsWelcome, ComesBefore, by_clock, fragments_in, presented_of, shown_by, shown_of_frame, verdict_of};
 
 use packet_journal::laws::records_of_both_are_delivered;
 
@@ -46,11 +48,13 @@ pub fn what_is_due_stays()
 {}
 
 /// Records that carry packets of a talker that keeps the rules, and of its clock, whichever they are and in any order, meet the
-/// whole premise of the laws below, for each kind of stream for which they are said, for listeners with the clock and without.
+/// whole premise of the laws below, for each kind of stream, for listeners with the clock and without. Of H.264, two fragments
+/// that stand beside each other, at least one of them without a timestamp, are of packets that are at most 254 apart.
 pub fn carried_packets_are_heard()
     ensures dense { (shift : ℤ) (p : PacketJournal) (plan : ListenPlan) (origins : List Origin) (records : List Record) → IsConforming shift p → p.times.kind ≡ DenseAaf → plan.stream ≡ p.stream → FollowsClock shift p plan.shift plan.clock → AllCarryFrom p plan.lead origins records → HearsTalker shift p plan records }
     ensures sparse { (shift : ℤ) (p : PacketJournal) (plan : ListenPlan) (origins : List Origin) (records : List Record) → IsConforming shift p → p.times.kind ≡ SparseAaf → plan.stream ≡ p.stream → FollowsClock shift p plan.shift plan.clock → AllCarryFrom p plan.lead origins records → HearsTalker shift p plan records }
     ensures am824 { (shift : ℤ) (p : PacketJournal) (plan : ListenPlan) (origins : List Origin) (records : List Record) (interval : ℕ) (dbc : ℕ → ℕ) → IsConforming shift p → p.times.kind ≡ Am824 interval dbc → plan.stream ≡ p.stream → FollowsClock shift p plan.shift plan.clock → AllCarryFrom p plan.lead origins records → HearsTalker shift p plan records }
+    ensures h264 { (shift : ℤ) (p : PacketJournal) (plan : ListenPlan) (origins : List Origin) (records : List Record) (part : ℕ → Part) → IsConforming shift p → p.times.kind ≡ H264 part → plan.stream ≡ p.stream → FollowsClock shift p plan.shift plan.clock → AllCarryFrom p plan.lead origins records → AreNear p.times (stream_numbers origins) → HearsTalker shift p plan records }
 {
     records_of_both_are_delivered();
 }
@@ -62,8 +66,17 @@ pub fn clocks_are_followed()
     ensures with_it { (shift : ℤ) (p : PacketJournal) → FollowsClock shift p shift (Some p.clock) }
 {}
 
-/// What is presented is true. Whatever a capture loses, repeats or reorders of the audio packets of a talker that keeps
-/// the rules and of its clock, and wherever these restart: each batch that is presented is one of the talker's packets, with its
+/// Fragments are put together truly. Whatever a capture loses, repeats or reorders of the packets of H.264 of a talker that keeps
+/// the rules: each unit that is whole was made of one copy of each packet of one unit of the talker, in their order, and it has
+/// this unit's bytes and its instant. Sequence numbers alone would not tell packets that are 256 apart; timestamps do, and where
+/// fragments have none, that their copies are of packets at most 254 apart.
+pub fn units_are_true()
+    ensures { (shift : ℤ) (p : PacketJournal) (plan : ListenPlan) (records : List Record) (place : ℕ) (made : MadeItem) (unit : Unit) (part : ℕ → Part) → HearsTalker shift p plan records → p.times.kind ≡ H264 part → slice_get (items_in plan records) place ≡ Some made → made.entry ≡ Entry.Item (Item.Unit unit)
+        → (n : ℕ) × IsUnitFrom p part plan.lead n made unit }
+{}
+
+/// What is presented is true. Whatever a capture loses, repeats or reorders of the packets of a talker that keeps the rules
+/// and of its clock, and wherever these restart: each batch that is presented is one of the talker's packets or units, with its
 /// bytes, and each of its samples stands at the nanosecond of gPTP that the talker gave it, or that is counted from the
 /// timestamp to which it belongs: at the nominal rate, or for a listener with the clock on the line of the two points of all
 /// that cover that timestamp. The packet is the one of which the batch's own item was made.
@@ -72,9 +85,10 @@ pub fn presented_are_true()
     ensures packet { (shift : ℤ) (p : PacketJournal) (plan : ListenPlan) (records : List Record) → HearsTalker shift p plan records → All (IsOfJournal (by_clock plan) p) (presented_of (shown_of plan records)) }
 {}
 
-/// A batch is one packet of the talker at most, so where it is said that a batch is packet n, no other is meant.
+/// A batch is one packet of the talker at most, so where it is said that a batch is packet n, no other is meant. A unit of H.264
+/// has the number of its last packet.
 pub fn batches_have_one_number()
-    ensures { (shift : ℤ) (p : PacketJournal) (by : Bool) (n m : ℕ) (batch : Presented) → IsConforming shift p → IsAudioKind p.times.kind → IsOfPacket by p n batch → IsOfPacket by p m batch → n ≡ m }
+    ensures { (shift : ℤ) (p : PacketJournal) (by : Bool) (n m : ℕ) (batch : Presented) → IsConforming shift p → IsOfPacket by p n batch → IsOfPacket by p m batch → n ≡ m }
 {}
 
 /// No packet of the talker is presented twice, however often it comes and however its sequence number comes again.
@@ -102,27 +116,41 @@ pub fn known_and_in_time_is_presented()
     ensures { (shift : ℤ) (p : PacketJournal) (plan : ListenPlan) (records : List Record) (place n : ℕ) (made : MadeItem) → HearsTalker shift p plan records → IsWelcome p plan records place n made → Any (IsPresentedOf (by_clock plan) p n made) (presented_of (shown_of plan records)) }
 {}
 
-/// For a listener without a clock the first packet of the stream in a capture is one that must be presented, where it is
+/// For a listener without a clock the first packet of an audio stream in a capture is one that must be presented, where it is
 /// stamped, came before it is due, and its bytes fit the room. So something must be presented.
 pub fn first_packet_is_welcome()
-    ensures { (shift : ℤ) (p : PacketJournal) (plan : ListenPlan) (records : List Record) (n instant : ℕ) (delivery : Delivery) → HearsTalker shift p plan records → plan.clock ≡ None → slice_get (deliveries_of plan records) 0 ≡ Some delivery
+    ensures { (shift : ℤ) (p : PacketJournal) (plan : ListenPlan) (records : List Record) (n instant : ℕ) (delivery : Delivery) → HearsTalker shift p plan records → IsAudioKind p.times.kind → plan.clock ≡ None → slice_get (deliveries_of plan records) 0 ≡ Some delivery
         → IsCopyOf p plan.lead n delivery → p.times.stamp n ≡ Some instant → delivery.arrival ≤ℤ pos (p.times.due n) → 1 ≤ plan.buffer → length (carried (p.packet n)) ≤ plan.room → IsWelcome p plan records 0 n (made_of_one delivery) }
 {}
 
-/// For a listener with the clock a packet of the stream is one that must be presented that comes behind two packets of the clock
+/// Of H.264 the first packet of the stream in a capture is one that must be presented, with the clock or without, where it has a
+/// whole unit, came before that is due, and the unit's bytes fit the room.
+pub fn first_unit_is_welcome()
+    ensures { (shift : ℤ) (p : PacketJournal) (plan : ListenPlan) (records : List Record) (n : ℕ) (part : ℕ → Part) (delivery : Delivery) → HearsTalker shift p plan records → p.times.kind ≡ H264 part → slice_get (deliveries_of plan records) 0 ≡ Some delivery
+        → IsCopyOf p plan.lead n delivery → part n ≡ Single → delivery.arrival ≤ℤ pos (p.times.due n) → 1 ≤ plan.buffer → length (unit_bytes p n n) ≤ plan.room → IsWelcome p plan records 0 n (unit_by [] delivery) }
+{}
+
+/// So are the first packets of H.264 together that are all packets of one unit of the talker, in their order, where the last came
+/// before the unit is due, each carries the unit's first byte, the unit is within the limits of units, and its bytes fit the room.
+pub fn first_fragments_are_welcome()
+    ensures { (shift : ℤ) (p : PacketJournal) (plan : ListenPlan) (records : List Record) (from n : ℕ) (part : ℕ → Part) (earlier : List Delivery) (last : Delivery) (rest : List Delivery) → HearsTalker shift p plan records → p.times.kind ≡ H264 part → deliveries_of plan records ≡ earlier ++ last ∷ rest
+        → AreOfUnit p part plan.lead from n earlier last → last.arrival ≤ℤ pos (p.times.due n) → 1 ≤ plan.buffer → length (unit_bytes p from n) ≤ plan.room → IsWelcome p plan records 0 n (unit_by earlier last) }
+{}
+
+/// For a listener with the clock a packet of an audio stream is one that must be presented that comes behind two packets of the clock
 /// beside each other, where the last point of the one and the first of the other cover its timestamp, all came before its first
 /// instant on their line, and its bytes fit the room. So with a clock, too, something must be presented.
 pub fn clocked_packet_is_welcome()
-    ensures { (p : PacketJournal) (plan : ListenPlan) (records : List Record) (m n instant : ℕ) (x : ℤ) (first second third : Delivery) → HearsTalker (pos 0) p plan records → plan.clock ≡ Some p.clock → plan.look ≡ 0
+    ensures { (p : PacketJournal) (plan : ListenPlan) (records : List Record) (m n instant : ℕ) (x : ℤ) (first second third : Delivery) → HearsTalker (pos 0) p plan records → IsAudioKind p.times.kind → plan.clock ≡ Some p.clock → plan.look ≡ 0
         → slice_get (deliveries_of plan records) 0 ≡ Some first → slice_get (deliveries_of plan records) 1 ≡ Some second → slice_get (deliveries_of plan records) 2 ≡ Some third
         → IsClockCopyOf p m first → IsClockCopyOf p (suc m) second → IsCopyOf p plan.lead n third → CoversPacket p m n instant → IsAt true p.times n 0 x → pos 0 ≤ℤ x → first.arrival ≤ℤ x → second.arrival ≤ℤ x → third.arrival ≤ℤ x
         → 1 ≤ plan.buffer → length (carried (p.packet n)) ≤ plan.room → IsWelcome p plan records 2 n (made_of_one third) }
 {}
 
-/// Where the second packet of the stream in a capture is the first one again, and came before it is due too, it is a further
+/// Where the second packet of an audio stream in a capture is the first one again, and came before it is due too, it is a further
 /// copy, and so it must be flagged as a repeat.
 pub fn second_copy_is_further()
-    ensures { (shift : ℤ) (p : PacketJournal) (plan : ListenPlan) (records : List Record) (n instant : ℕ) (first second : Delivery) → HearsTalker shift p plan records → plan.clock ≡ None → IsWelcome p plan records 0 n (made_of_one first)
+    ensures { (shift : ℤ) (p : PacketJournal) (plan : ListenPlan) (records : List Record) (n instant : ℕ) (first second : Delivery) → HearsTalker shift p plan records → IsAudioKind p.times.kind → plan.clock ≡ None → IsWelcome p plan records 0 n (made_of_one first)
         → slice_get (deliveries_of plan records) 0 ≡ Some first → slice_get (deliveries_of plan records) 1 ≡ Some second → IsCopyOf p plan.lead n second → p.times.stamp n ≡ Some instant → second.arrival ≤ℤ pos (p.times.due n)
         → IsFurther p plan records 1 n (made_of_one second) }
 {}

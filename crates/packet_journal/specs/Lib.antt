@@ -1,5 +1,6 @@
 pub mod Deliveries
 pub mod Packets
+pub mod Units
 pub mod Delivered
 pub mod Laws
 pub mod Carried

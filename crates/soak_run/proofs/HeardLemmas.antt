@@ -47,7 +47,6 @@ counts_of_bytes packets counts few is = is ∙ ap (outcomes (length (deliveries_
 pub hears : CvfAgain → (packets : ℕ) → packets ≤ 1000000 → HearsTalker (pos 0) (soak_stream packets).journal soak_listener (soak_records packets)
 hears again packets few = record {
   conforming = conforms packets few;
-  kind = audio_stream packets;
   stream = stream_id packets;
   clock = tt;
   delivered = all_delivered again (pos 0) (soak_stream packets).journal None 2000000 (numbers_of packets) (soak_records packets) (conforms packets few) (read_kind packets few) (all_carried packets few)
@@ -87,9 +86,9 @@ add_up again packets few =
     let records = soak_records packets in
     let heard = hears again packets few in
     let copies = subst (λ (s : ℕ). AreFrom p 2000000 heard.delivered.origins (deliveries s None records)) (sym heard.stream) heard.delivered.copies in
-    let none = others (pos 0) p soak_listener records heard in
+    let none = others (pos 0) p soak_listener records heard (audio_stream packets) in
     let copied = deliveries_copied p None 2000000 soak_listener.stream heard.delivered.origins records copies in
-    let sound = entries_sound (pos 0) p 2000000 (deliveries soak_listener.stream None records) heard.conforming heard.kind (no_clock packets) (some_samples packets) (some_rate packets) none copied in
+    let sound = entries_sound (pos 0) p 2000000 (deliveries soak_listener.stream None records) heard.conforming (audio_stream packets) (no_clock packets) (some_samples packets) (some_rate packets) none copied in
     let whole = counts-add-up soak_listener records in
     let fragments = no_fragments (deliveries soak_listener.stream None records) none in
     total_all (length (deliveries_of packets)) (soak_shown packets) (shown_so clock_spot (schedule_plan soak_listener) (entries_in soak_listener records) refl sound)

@@ -1,5 +1,5 @@
 -- What is talked and captured.
-use Rattle.std.proofs.Common.{◌≡◌, ℕ, zero, suc, ◌+◌, ◌<◌, true, false, List, [], ◌∷◌, map, Option, Some, None, pos, ◌≤ℤ◌, refl, subst, arith}
+use Rattle.std.proofs.Common.{◌≡◌, ℕ, zero, suc, ◌+◌, ◌<◌, Bool, true, false, List, [], ◌∷◌, map, Option, Some, None, pos, ◌≤ℤ◌, refl, sym, subst, arith}
 use Rattle.std.specs.Prelude.{IsSomeAnd, slice_get}
 use Rattle.std.specs.List.{range_with_len}
 use Rattle.pcap_frames.specs.Capture.{Record}
@@ -13,7 +13,7 @@ use Rattle.talker.specs.declared.plan.TalkPlan.{TalkPlan}
 use Rattle.talker.specs.Audio.{Audio, audio_by}
 use Rattle.talker.specs.Frames.{SentFrame, frames, frames_at, record_of}
 use Rattle.talker.specs.Journal.{journal, stream_by}
-use Rattle.talker.specs.Plan.{IsAudioKind, IsAudioPlan}
+use Rattle.talker.specs.Plan.{Expects, IsAudioKind, IsAudioPlan, IsPlan, IsPlanOf, IsVideoPlan}
 
 -- ---- the journal of a plan
 
@@ -42,6 +42,18 @@ id_by None plan input = refl
 
 pub stream_is : (plan : TalkPlan) (input : List ℕ) → plan.id ≡ (journal plan input).stream
 stream_is plan input = id_by (audio_by plan.kind plan) plan input
+
+-- ---- a plan of H.264
+
+pub video_plan : (plan : TalkPlan) (last_stamp : Bool) → plan.kind ≡ H264 last_stamp → IsVideoPlan plan → IsPlan plan
+video_plan plan last_stamp e p = subst (λ (k : TalkKind). IsPlanOf k plan) (sym e) p
+
+-- any listener can tell its packets apart by when they come
+pub video_expects : (plan : TalkPlan) (last_stamp : Bool) (lead : ℕ) → plan.kind ≡ H264 last_stamp → Expects plan lead
+video_expects plan last_stamp lead e = rw e tt
+
+pub video_read : (plan : TalkPlan) (input : List ℕ) (last_stamp : Bool) → plan.kind ≡ H264 last_stamp → IsReadKind (journal plan input).times.kind
+video_read plan input last_stamp e = rw e refl
 
 -- ---- the first frame of a capture
 

@@ -1,14 +1,19 @@
 -- A plan that is talked, and a listener for it.
-use Rattle.std.specs.Prelude.{◌≡◌, ◌^◌, ◌<◌, ◌≤◌, ℕ, pos, List, length, None, Some}
+use Rattle.std.specs.Prelude.{◌≡◌, ◌^◌, ◌<◌, ◌≤◌, ℕ, Bool, pos, List, length, None, Some}
 use Rattle.pcap_frames.specs.Capture.{Record, whole_records}
-use Rattle.packet_journal.specs.Packets.{carried}
+use Rattle.stream_journal.specs.Journal.{Part}
+use Rattle.packet_journal.specs.Packets.{carried, part_of}
+use Rattle.packet_journal.specs.Units.{AreUnit, unit_bytes}
 use Rattle.listener.specs.declared.plan.ListenPlan.{ListenPlan}
 use Rattle.listener.specs.Laws.{FollowsClock}
+use Rattle.talker.specs.declared.plan.TalkKind.TheVariants.{H264}
 use Rattle.talker.specs.declared.plan.TalkPlan.{TalkPlan}
-use Rattle.talker.specs.Frames.{capture_of, frames_at}
+use Rattle.talker.specs.Fragments.{part_at, place_of}
+use Rattle.talker.specs.Frames.{StaysNear, capture_of, frames_at}
 use Rattle.talker.specs.Journal.{journal}
-use Rattle.talker.specs.Plan.{Expects, IsAudioPlan}
+use Rattle.talker.specs.Plan.{Expects, IsAudioPlan, IsVideoPlan}
 use Rattle.talker.specs.Talking.{most_input}
+use Rattle.talker.specs.Units.{sent_units}
 
 -- what is read of a capture that has the plan's frames of these places, in this order
 abbrev pub captured : TalkPlan → List ℕ → List ℕ → List Record
@@ -34,3 +39,29 @@ pub record HasRoomFor (plan : TalkPlan) (input : List ℕ) (listen : ListenPlan)
   pub stamped : (journal plan input).times.stamp n ≡ Some instant
   pub buffer : 1 ≤ listen.buffer
   pub room : length (carried ((journal plan input).packet n)) ≤ listen.room
+
+-- ---- H.264
+
+-- The plan is one of H.264 and talked of the input, and the listener listens to its stream. Where the plan stamps the last
+-- fragments of units alone, fragments that are captured beside each other are of packets at most 254 apart, unless both are
+-- stamped. Nothing is asked of when the listener expects packets.
+pub record ListensToVideo (plan : TalkPlan) (input places : List ℕ) (listen : ListenPlan) : Type 0 where
+  pub last_stamp : Bool
+  pub kind : plan.kind ≡ H264 last_stamp
+  pub talked : IsVideoPlan plan
+  pub stream_id : plan.id < 2 ^ 64
+  pub limit : length input ≤ most_input
+  pub near : StaysNear plan input (frames_at plan input places)
+  pub stream : listen.stream ≡ plan.id
+  pub clock : FollowsClock (pos 0) (journal plan input) listen.shift listen.clock
+
+-- the part of a unit that packet n of a byte stream carries
+abbrev pub part_sent : List ℕ → ℕ → Part
+part_sent input n = part_of (part_at (sent_units input) (place_of (sent_units input) n))
+
+-- packets `from` to `n` of the plan carry one unit, and this has room in the buffer of the listener
+pub record HasRoomForUnit (plan : TalkPlan) (input : List ℕ) (listen : ListenPlan) (from n : ℕ) : Type 0 where
+  pub known : n < (journal plan input).times.packets
+  pub packets : AreUnit (part_sent input) from n
+  pub some : 1 ≤ listen.buffer
+  pub fits : length (unit_bytes (journal plan input) from n) ≤ listen.room

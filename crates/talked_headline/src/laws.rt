@@ -1,7 +1,8 @@
 //! What is captured of a plan that is talked meets every premise of what listeners promise. Each call is its contract, and
 //! does nothing.
 
-ghost use Rattle.std.specs.Prelude.{List, ℕ, pos, ◌∷◌};
+ghost use Rattle.std.specs.Prelude.{List, ℕ, pos, ◌-◌, ◌∷◌, ◌++◌};
+ghost use Rattle.std.specs.List.{range_with_len};
 ghost use Rattle.listener.specs.declared.plan.ListenPlan.{ListenPlan};
 ghost use Rattle.listener.specs.Headline.{KeepsHeadline};
 ghost use Rattle.listener.specs.Heard.{shown_of};
@@ -9,15 +10,17 @@ ghost use Rattle.listener.specs.Items.{MadeItem};
 ghost use Rattle.listener.specs.Laws.{HearsTalker, IsFurther, IsWelcome};
 ghost use Rattle.talker.specs.declared.plan.TalkPlan.{TalkPlan};
 ghost use Rattle.talker.specs.Journal.{journal};
-ghost use Rattle.talked_headline.specs.Premises.{HasRoomFor, ListensTo, captured};
+ghost use Rattle.talked_headline.specs.Premises.{HasRoomFor, HasRoomForUnit, ListensTo, ListensToVideo, captured};
 
-use listener::laws::{first_packet_is_welcome, headline_holds, second_copy_is_further};
+use listener::laws::{
+    first_fragments_are_welcome, first_packet_is_welcome, headline_holds, second_copy_is_further,
+};
 use packet_journal::laws::carried_packet_is_delivered;
 use talker::laws::{
     capture_delivers, journal_conforms, losses_are_delivered, packets_are_sent_in_time,
 };
 
-/// Whatever a capture loses, repeats or reorders of a plan's frames, those of its clock among them, it meets the whole premise of
+/// Whatever a capture loses, repeats or reorders of the frames of a plan of audio, those of its clock among them, it meets the whole premise of
 /// the headline, for listeners with the clock and without.
 pub fn talked_is_heard()
     ensures { (plan : TalkPlan) (input places : List ℕ) (listen : ListenPlan) → ListensTo plan input listen → HearsTalker (pos 0) (journal plan input) listen (captured plan input places) }
@@ -36,7 +39,7 @@ pub fn talked_keeps_headline()
     headline_holds();
 }
 
-/// The first packet that is captured of a plan must be presented, where it is stamped and has room, whatever comes after it:
+/// The first packet that is captured of a plan of audio must be presented, where it is stamped and has room, whatever comes after it:
 /// it is welcome at place 0, so the headline says something of each such capture.
 pub fn talked_is_welcome()
     ensures { (plan : TalkPlan) (input places : List ℕ) (listen : ListenPlan) (n : ℕ) → ListensTo plan input listen → HasRoomFor plan input listen n
@@ -64,4 +67,39 @@ pub fn talked_again_is_further()
     carried_packet_is_delivered();
     first_packet_is_welcome();
     second_copy_is_further();
+}
+
+/// Whatever a capture loses, repeats or reorders of a plan of H.264, it meets the whole premise of the headline, too. Where the
+/// plan stamps the last fragments of units alone, fragments that are captured beside each other have to be of packets that
+/// are at most 254 apart.
+pub fn talked_video_is_heard()
+    ensures { (plan : TalkPlan) (input places : List ℕ) (listen : ListenPlan) → ListensToVideo plan input places listen → HearsTalker (pos 0) (journal plan input) listen (captured plan input places) }
+{
+    journal_conforms();
+    losses_are_delivered();
+}
+
+/// So what a listener shows of it keeps the headline: each unit that is presented is one of the plan's units, whole, with its
+/// bytes and at its instant.
+pub fn talked_video_keeps_headline()
+    ensures { (plan : TalkPlan) (input places : List ℕ) (listen : ListenPlan) → ListensToVideo plan input places listen
+        → KeepsHeadline (pos 0) (journal plan input) listen (captured plan input places) (shown_of listen (captured plan input places)) }
+{
+    talked_video_is_heard();
+    headline_holds();
+}
+
+/// Where the first packets that are captured of a plan of H.264 are all packets of one of its units, in their order, or the one
+/// packet that has it whole, and there is room for the unit, it must be presented, whatever comes after them.
+pub fn talked_unit_is_welcome()
+    ensures { (plan : TalkPlan) (input places : List ℕ) (listen : ListenPlan) (from n : ℕ) → ListensToVideo plan input (range_with_len from (n - from) ++ n ∷ places) listen → HasRoomForUnit plan input listen from n
+        → (made : MadeItem) × IsWelcome (journal plan input) listen (captured plan input (range_with_len from (n - from) ++ n ∷ places)) 0 n made }
+{
+    talked_video_is_heard();
+    journal_conforms();
+    capture_delivers();
+    losses_are_delivered();
+    packets_are_sent_in_time();
+    carried_packet_is_delivered();
+    first_fragments_are_welcome();
 }

@@ -16,7 +16,7 @@ const CLOCK: u64 = STREAM + 1;
 
 /// A packet of the clock with one timestamp each 96 events, as it is captured.
 #[derive(Clone, Copy)]
-struct Tick {
+pub struct Tick {
     arrival: i64,
     seq: u8,
     base_frequency: u32,
@@ -32,7 +32,7 @@ enum Captured {
     Clock(Tick),
 }
 
-const FIRST_TICK: Tick = Tick {
+pub const FIRST_TICK: Tick = Tick {
     arrival: 1_000_000_000,
     seq: 0,
     base_frequency: 48_000,
@@ -56,7 +56,7 @@ fn second_audio() -> Captured {
     Captured::Audio(audio(1, 1_004_125_000, 1_002_125_000))
 }
 
-fn put_tick(bytes: &mut Vec<u8>, tick: Tick) -> Result<(), Fail> {
+pub fn put_tick(bytes: &mut Vec<u8>, tick: Tick) -> Result<(), Fail> {
     let mut packet = [0; 28];
     packet[..4].copy_from_slice(&[0x04, 0x80, tick.seq, 0x01]);
     packet[4..12].copy_from_slice(&CLOCK.to_be_bytes());
@@ -93,7 +93,7 @@ fn capture(rt: &HostRuntime, rows: &[Captured]) -> Result<Vec<u8>, Fail> {
 }
 
 /// A listener with the clock that looks so far ahead.
-fn looking(look: u32) -> ListenPlan
+pub fn looking(look: u32) -> ListenPlan
     requires { look ≤ 64 }
     ensures { IsPlan (schedule_plan result) }
 {

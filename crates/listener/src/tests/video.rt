@@ -1,12 +1,16 @@
 //! Units of H.264 and their fragments.
 
+ghost use Rattle.std.specs.Prelude.{◌≡◌};
+ghost use Rattle.cvf_format.specs.Cvf.{header_size};
+
+use super::clock::{FIRST_TICK, looking, put_tick};
 use super::pieces::heard_in_pieces;
-use super::{Fail, PLAN, STREAM, audio, counts, empty_capture, put_packet, put_record};
+use super::{Fail, PLAN, STREAM, STYLE, audio, counts, empty_capture, put_packet, put_record};
 use crate::{ShownList, whole};
 use avtp_base::Field;
 use avtp_header::StreamHeader;
 use cvf_format::{CvfView, NalPart, write_cvf};
-use pcap_frames::{FrameView, Tag, write_frame};
+use pcap_frames::{FrameView, Tag, write_frame, write_record};
 use sample_schedule::{Reason, Shown};
 
 /// A packet of two bytes of a unit, after the unit's first byte or other fragments; or a packet of audio.
@@ -200,6 +204,28 @@ fn hears_units(rt: HostRuntime) -> Result<(), Fail> {
     Ok(())
 }
 
+/// A packet of the clock between two fragments stands in no list of the stream: the fragments are beside each other, and make one
+/// unit, for a listener with the clock and for one without.
+#[test]
+fn hears_units_beside_a_clock(rt: HostRuntime) -> Result<(), Fail> {
+    let mut bytes = empty_capture(&rt)?;
+    put_video(&mut bytes, 1_000_000_000, first(0))?;
+    put_tick(&mut bytes, FIRST_TICK)?;
+    put_video(&mut bytes, 1_000_001_000, middle(1))?;
+    put_video(&mut bytes, 1_000_002_000, last(2))?;
+    if bytes.len() > 1_000_000 {
+        return Err(Fail::new("a long capture"));
+    }
+    let unit = [Seen::Unit(4, 2, &[0x65, 0, 0, 1, 1, 2, 2])];
+    let heard = whole(rt.alloc(), &looking(0), &bytes)?;
+    assert!(rt; are_seen(&heard.shown, &unit), "with the clock");
+    assert_eq!(rt; heard.counts, counts(4, 3, 1, 0));
+    let alone = whole(rt.alloc(), &PLAN, &bytes)?;
+    assert!(rt; are_seen(&alone.shown, &unit), "without it");
+    assert_eq!(rt; alone.counts, counts(4, 3, 1, 0));
+    Ok(())
+}
+
 /// What a run of fragments does not go on over: a fragment that is missing or comes early, another time, another unit, a packet
 /// of audio, one that is refused, uncertain or has no timestamp, and the end.
 #[test]
@@ -314,5 +340,108 @@ fn flags_long_units(rt: HostRuntime) -> Result<(), Fail> {
     }
     assert_eq!(rt; long, 4_097);
     assert_eq!(rt; heard.counts, counts(4_098, 4_098, 0, 4_098));
+    Ok(())
+}
+
+/// Puts a record behind a capture that holds a fragment with this body.
+fn put_long(
+    rt: &HostRuntime,
+    bytes: &mut Vec<u8>,
+    part: NalPart,
+    seq: u8,
+    body: &[u8],
+) -> Result<(), Fail>
+    requires { header_size part ≡ 30 }
+{
+    if body.len() > 65_529 {
+        return Err(Fail::new("more than a packet holds"));
+    }
+    let view = CvfView {
+        header: StreamHeader {
+            subtype: 0x03,
+            sv: true,
+            mr: false,
+            format_bits: 0,
+            tv: true,
+            seq,
+            tu: false,
+            stream_id: STREAM,
+            timestamp: TIME,
+            data_length: (body.len() + 6) as u16,
+        },
+        ptv: false,
+        marker: false,
+        evt: 0,
+        h264_timestamp: 0,
+        nal: 0x65,
+        part,
+        body,
+        reserved: false,
+    };
+    let mut packet = vec![in rt.alloc(); 0u8; 65_559]?;
+    let size = write_cvf(packet.as_mut_slice(), &view)?;
+    let frame_view = FrameView {
+        dst: 0x91e0_f000_fe00,
+        src: 0x0200_0000_0001,
+        tag: None,
+        ethertype: 0x22f0,
+        start: 14,
+        payload: packet.get(..size).ok_or("a long packet")?,
+    };
+    let mut frame = vec![in rt.alloc(); 0u8; 65_573]?;
+    let long = write_frame(frame.as_mut_slice(), &frame_view)?;
+    let captured = frame.get(..long).ok_or("a long frame")?;
+    if captured.len() > 262_144 {
+        return Err(Fail::new("a long frame"));
+    }
+    let mut record = vec![in rt.alloc(); 0u8; 65_589]?;
+    let whole = write_record(
+        record.as_mut_slice(),
+        STYLE,
+        1_000_000_000,
+        captured.len() as u32,
+        captured,
+    )?;
+    bytes.extend_from_slice(record.get(..whole).ok_or("a long record")?)?;
+    Ok(())
+}
+
+fn is_long(shown: &Shown) -> bool {
+    match shown {
+        Shown::Flag {
+            frame: _,
+            seq: _,
+            reason,
+        } => *reason == Reason::Long,
+        Shown::Present(_) => false,
+    }
+}
+
+/// A unit of 4,194,304 bytes is presented; with one byte more each of its fragments is too long.
+#[test]
+fn flags_units_of_many_bytes(rt: HostRuntime) -> Result<(), Fail> {
+    let body = vec![in rt.alloc(); 7u8; 65_529]?;
+    let mut bytes = empty_capture(&rt)?;
+    put_long(&rt, &mut bytes, NalPart::First, 0, &body)?;
+    for seq in 1..64u8 {
+        put_long(&rt, &mut bytes, NalPart::Middle, seq, &body)?;
+    }
+    let mut more = bytes.clone()?;
+    let rest = body.get(..447).ok_or("a short body")?;
+    put_long(&rt, &mut bytes, NalPart::Last, 64, rest)?;
+    let another = body.get(..448).ok_or("a short body")?;
+    put_long(&rt, &mut more, NalPart::Last, 64, another)?;
+    if bytes.len() > 100_000_000 || more.len() > 100_000_000 {
+        return Err(Fail::new("a long capture"));
+    }
+    let longest = whole(rt.alloc(), &PLAN, &bytes)?;
+    assert_eq!(rt; longest.counts, counts(65, 65, 1, 0));
+    match longest.shown.as_slice() {
+        [Shown::Present(batch)] => assert_eq!(rt; batch.bytes.as_slice().len(), 4_194_304),
+        _ => return Err(Fail::new("no unit")),
+    }
+    let longer = whole(rt.alloc(), &PLAN, &more)?;
+    assert_eq!(rt; longer.counts, counts(65, 65, 0, 65));
+    assert!(rt; longer.shown.as_slice().iter().all(is_long), "each is long");
     Ok(())
 }

@@ -23,7 +23,6 @@ am824_near j (n ∷ m ∷ numbers) interval dbc e = ((λ first second unstamped.
 pub returns-clause-dense : goal.returns-clause-dense
 returns-clause-dense c shift p plan origins records conforming kind stream clock carry = record {
   conforming = conforming;
-  kind = rw kind tt;
   stream = stream;
   clock = clock;
   delivered = c.records_of_both_are_delivered.ensures shift p plan.clock plan.lead origins records conforming (rw kind refl) carry (dense_near p.times (stream_numbers origins) kind);
@@ -32,7 +31,6 @@ returns-clause-dense c shift p plan origins records conforming kind stream clock
 pub returns-clause-sparse : goal.returns-clause-sparse
 returns-clause-sparse c shift p plan origins records conforming kind stream clock carry = record {
   conforming = conforming;
-  kind = rw kind tt;
   stream = stream;
   clock = clock;
   delivered = c.records_of_both_are_delivered.ensures shift p plan.clock plan.lead origins records conforming (rw kind refl) carry (sparse_near p.times (stream_numbers origins) kind);
@@ -41,8 +39,15 @@ returns-clause-sparse c shift p plan origins records conforming kind stream cloc
 pub returns-clause-am824 : goal.returns-clause-am824
 returns-clause-am824 c shift p plan origins records interval dbc conforming kind stream clock carry = record {
   conforming = conforming;
-  kind = rw kind tt;
   stream = stream;
   clock = clock;
   delivered = c.records_of_both_are_delivered.ensures shift p plan.clock plan.lead origins records conforming (rw kind refl) carry (am824_near p.times (stream_numbers origins) interval dbc kind);
+}
+
+pub returns-clause-h264 : goal.returns-clause-h264
+returns-clause-h264 c shift p plan origins records part conforming kind stream clock carry near = record {
+  conforming = conforming;
+  stream = stream;
+  clock = clock;
+  delivered = c.records_of_both_are_delivered.ensures shift p plan.clock plan.lead origins records conforming (rw kind refl) carry near;
 }

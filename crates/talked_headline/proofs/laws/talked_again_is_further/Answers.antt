@@ -6,7 +6,7 @@ use Rattle.talker.specs.Frames.{SentFrame, frames, frames_at, record_of}
 use Rattle.talker.specs.Journal.{journal}
 use Rattle.talker.proofs.TalkLemmas.{audio_plan}
 use Rattle.talked_headline.specs.Premises.{captured}
-use Rattle.talked_headline.proofs.Talked.{carries_at, early_frame, first_delivery, first_kept, kind_read, second_delivery, stream_is}
+use Rattle.talked_headline.proofs.Talked.{carries_at, early_frame, first_delivery, first_kept, kind_heard, kind_read, second_delivery, stream_is}
 use Rattle.talked_headline.proofs.laws.talked_again_is_further.Goals as goal
 
 pub returns : goal.returns
@@ -27,9 +27,9 @@ returns c plan input places listen n l room =
     let first : slice_get (deliveries listen.stream listen.clock all) 0 ≡ Some (delivery 1 r) = first_delivery listen.stream p.stream listen.clock all r (r ∷ rest) stream records in_it in
     let second : slice_get (deliveries listen.stream listen.clock all) 1 ≡ Some (delivery 2 r) = second_delivery listen.stream p.stream listen.clock all r r rest stream records in_it in_it in
     let heard = c.talked_is_heard.ensures plan input (n ∷ n ∷ places) listen l in
-    let welcome = c.first_packet_is_welcome.ensures (pos 0) p listen all n room.instant (delivery 1 r) heard room.without first
+    let welcome = c.first_packet_is_welcome.ensures (pos 0) p listen all n room.instant (delivery 1 r) heard (kind_heard plan input l.talked) room.without first
     (c.carried_packet_is_delivered.ensures.copy p listen.lead n 1 r carries) room.stamped found.1.early room.buffer room.room in (
       made_of_one (delivery 2 r),
-      c.second_copy_is_further.ensures (pos 0) p listen all n room.instant (delivery 1 r) (delivery 2 r) heard room.without welcome first second
+      c.second_copy_is_further.ensures (pos 0) p listen all n room.instant (delivery 1 r) (delivery 2 r) heard (kind_heard plan input l.talked) room.without welcome first second
           (c.carried_packet_is_delivered.ensures.copy p listen.lead n 2 r carries) room.stamped found.1.early,
     )

@@ -6,7 +6,7 @@ use Rattle.talker.specs.Frames.{SentFrame, frames, frames_at, record_of}
 use Rattle.talker.specs.Journal.{journal}
 use Rattle.talker.proofs.TalkLemmas.{audio_plan}
 use Rattle.talked_headline.specs.Premises.{captured}
-use Rattle.talked_headline.proofs.Talked.{carries_at, early_frame, first_delivery, first_kept, kind_read, stream_is}
+use Rattle.talked_headline.proofs.Talked.{carries_at, early_frame, first_delivery, first_kept, kind_heard, kind_read, stream_is}
 use Rattle.talked_headline.proofs.laws.talked_is_welcome.Goals as goal
 
 pub returns : goal.returns
@@ -23,6 +23,6 @@ returns c plan input places listen n l room =
     let first : slice_get (deliveries listen.stream listen.clock all) 0 ≡ Some (delivery 1 r) =
     first_delivery listen.stream p.stream listen.clock all r (map record_of (frames_at plan input places)) (l.stream ∙ stream_is plan input) records in_it in (
       made_of_one (delivery 1 r),
-      c.first_packet_is_welcome.ensures (pos 0) p listen all n room.instant (delivery 1 r) (c.talked_is_heard.ensures plan input (n ∷ places) listen l) room.without first
+      c.first_packet_is_welcome.ensures (pos 0) p listen all n room.instant (delivery 1 r) (c.talked_is_heard.ensures plan input (n ∷ places) listen l) (kind_heard plan input l.talked) room.without first
           (c.carried_packet_is_delivered.ensures.copy p listen.lead n 1 r carries) room.stamped found.1.early room.buffer room.room,
     )
