@@ -16,6 +16,9 @@ _avtp() {
         listen:--clock) words='' ;;
         listen:--crf-shift) words='' ;;
         listen:--ring) words='' ;;
+        listen:--raw) words='' ;;
+        listen:--silence) words='zero am824' ;;
+        listen:--annexb) words='' ;;
         talk:--kind) words='aaf am824 h264' ;;
         talk:--format) words='int16 int24 int32 float32' ;;
         talk:--rate) words='8000 16000 24000 32000 44100 48000 88200 96000 176400 192000' ;;
@@ -39,7 +42,7 @@ _avtp() {
         case $command in
             show) words='--limit' ;;
             check) words='--limit' ;;
-            listen) words='--limit --buffer --room --look --lead --clock --crf-shift --ring' ;;
+            listen) words='--limit --buffer --room --look --lead --clock --crf-shift --ring --raw --silence --annexb' ;;
             talk) words='--kind --format --rate --channels --count --id --start --lead --sparse --restart --jump --crf --crf-interval --crf-points --crf-rate --crf-pull --last-stamp' ;;
             soak) words='' ;;
         esac

@@ -1,5 +1,5 @@
 -- The command lines of each command, and their offences.
-use Rattle.std.proofs.Common.{Contains, ◌↔◌, ◌≤◌, IsTrue, Bool, ◌≡◌, ◌≢◌, ℕ, ◌+◌, ◌<◌, ◌^◌, ◌⊎◌, inl, inr, true, false, List, [], ◌∷◌, ◌++◌, flat_map, length, take, drop, Option, Some, None, slice_get, get_or, IfSome, arith, sym, subst, ap, ◌∙◌, refl, append_assoc, length-append, codes, string_bytes, String, pos, All}
+use Rattle.std.proofs.Common.{Contains, ◌↔◌, ◌≤◌, IsTrue, Bool, ◌≡◌, ◌≢◌, ℕ, zero, suc, ◌+◌, ◌<◌, ◌^◌, ◌⊎◌, inl, inr, true, false, List, [], ◌∷◌, ◌++◌, flat_map, length, take, drop, Option, Some, None, slice_get, get_or, IfSome, arith, sym, subst, ap, ◌∙◌, refl, append_assoc, length-append, codes, string_bytes, String, pos, All}
 use Rattle.std.specs.Prelude.{Result, Ok, Err, IfOk, IfErr, IsOkAnd, IsErrAnd}
 use Rattle.std.specs.Str.{bytes_eq}
 use Rattle.std.specs.declared.alloc.Global.{Global}
@@ -16,18 +16,21 @@ use Rattle.avtp_words.specs.declared.talk.Kind.{Kind}
 use Rattle.avtp_words.specs.declared.talk.Kind.TheVariants.{Aaf, Am824, H264}
 use Rattle.avtp_words.specs.declared.command.Offence.{Offence}
 use Rattle.avtp_words.specs.declared.crf.Crf.{Crf}
-use Rattle.avtp_words.specs.Given.{IsGiven, IsGivenId, IsGivenIdIf, IsGivenIf, IsGivenSigned}
+use Rattle.avtp_words.specs.declared.device.Silence.{Silence}
+use Rattle.avtp_words.specs.declared.device.Silence.TheVariants.{Zero, Am824 as Blocks}
+use Rattle.avtp_words.specs.Given.{IsGiven, IsGivenId, IsGivenIdIf, IsGivenIf, IsGivenSigned, IsGivenSilence}
 use Rattle.avtp_words.specs.Number.{IsNumber}
 use Rattle.avtp_words.specs.Operands.{AreOperands}
-use Rattle.avtp_words.specs.Reading.{ClockIsWithin, IsRest, IsRestTo, StopsAfter, are_sound, value_after, IsRead, IsReadClock, IsReadId, IsReadIdIf, IsReadIf, IsReadSigned, IsReadFormat, IsReadKind, AreHeard, AreRead}
+use Rattle.avtp_words.specs.Reading.{ClockIsWithin, IsRest, IsRestTo, StopsAfter, are_sound, value_after, IsRead, IsReadClock, IsReadId, IsReadIdIf, IsReadIf, IsReadSigned, IsReadFormat, IsReadKind, IsReadFile, IsReadRaw, IsReadSilence, ReadsFile, AreHeard, AreRead}
 use Rattle.avtp_words.specs.Word.{texts, BeginsWithDash, IsName, IsId}
 use Rattle.avtp_words.specs.Limits as limits
 use Rattle.avtp_words.specs.Limits.{NumberOption, default_rate, number, signed, with_default}
 use Rattle.avtp_words.specs.Options.{Row, row_named, Setting, words_of, IsValue, IsSetting, stands_alone, value_in}
-use Rattle.avtp_words.specs.Grammar.{request_of, Request, Listening, Talking, show, check, listen, talk, soak, Form, form_named, show_form, check_form, listen_form, talk_form, soak_form, IsOf, IsShow, IsCheck, IsListen, IsSoak, SaysClock, SaysKind, SaysTalk, KeepsRules, IsCommandLine, IsLine, Begins, Stops, StopsAt, IsOffence, of_a_word, of_a_rule}
+use Rattle.avtp_words.specs.Grammar.{request_of, Request, Listening, Talking, show, check, listen, talk, soak, Form, form_named, show_form, check_form, listen_form, talk_form, soak_form, IsOf, IsShow, IsCheck, IsGivenFile, IsGivenRaw, IsSoak, NamedFile, NamedRaw, NamesFile, SaysClock, SaysKind, SaysListen, SaysTalk, KeepsNames, KeepsRules, IsCommandLine, IsLine, Begins, Stops, StopsAt, IsOffence, of_a_word, of_a_rule}
 use Rattle.avtp_words.proofs.Settings.{same-true}
 use Rattle.avtp_words.proofs.CommandLines.{same_line, left_is, value_is, value-after, number_given, number_given_if, id_given, id_given_if, signed_given, format_given, within, same_number, same_number_if, same_id, same_id_given, same_id_given_if, same_signed, same_format_given, options_to, beyond}
 use Rattle.avtp_words.proofs.Clocks.{clock_within, same_clock}
+use Rattle.avtp_words.proofs.Devices.{same_file, same_raw}
 use Rattle.avtp_words.proofs.Numbers.{spells_one}
 use Rattle.avtp_words.proofs.Operands.{names}
 use Rattle.avtp_words.proofs.Steps.{words_before, after_first}
@@ -70,7 +73,7 @@ offence_after form words position known b = of_a_word (b.place + 1) (omega (arit
 abbrev line_of : (words : List (List ℕ)) (request : Request) → IsCommandLine words request → IsLine words
 line_of words (show limit file) s = record { form = show_form; known = refl; settings = s.settings; names = file ∷ []; line = s.line }
 line_of words (check limit files) s = record { form = check_form; known = refl; settings = s.settings; names = files; line = s.line }
-line_of words (listen asked) s = record { form = listen_form; known = refl; settings = s.settings; names = s.id ∷ asked.files; line = s.line }
+line_of words (listen asked) (s, rules) = record { form = listen_form; known = refl; settings = s.settings; names = s.id ∷ asked.files; line = s.line }
 line_of words (soak packets) s = record { form = soak_form; known = refl; settings = s.settings; names = s.number ∷ []; line = s.line }
 line_of words (talk asked) (s, rules) = record { form = talk_form; known = refl; settings = s.settings; names = asked.input ∷ asked.output ∷ []; line = s.line }
 
@@ -229,19 +232,25 @@ listen_line words place settings t id files at_id at_files =
     subst (λ (n : List (List ℕ)). IsOf listen_form (codes "listen" ∷ words) settings (id ∷ n)) names (subst (λ (n : List ℕ). IsOf listen_form (codes "listen" ∷ words) settings (n ∷ t.files)) ids t.line)
 
 -- a line of `listen` has a file, and each is a name
-pub some_file : (words : List (List ℕ)) (asked : Listening) → IsListen words asked → 0 < length asked.files
+pub some_file : (words : List (List ℕ)) (asked : Listening) → SaysListen words asked → 0 < length asked.files
 some_file words asked s = go asked.files s.line.operands where
   go : (files : List (List ℕ)) → AreOperands listen_form.operands (s.id ∷ files) → 0 < length files
   go [] are = absurd are.1
   go (file ∷ files) are = omega arith
 
-pub files_named : (words : List (List ℕ)) (asked : Listening) → IsListen words asked → All IsName asked.files
+pub files_named : (words : List (List ℕ)) (asked : Listening) → SaysListen words asked → All IsName asked.files
 files_named words asked s = names (operand.Names ∷ []) asked.files s.line.operands.1
 
-pub listen_is : (words : List (String Global)) (place : ℕ) (id : List ℕ) (asked : Listening) → IsRestTo listen_form.rows listen_form.operands (texts words) place
+-- what stands among the first words stands among all
+among_first : (ws more : List (List ℕ)) (k : ℕ) (word : List ℕ) → slice_get ws k ≡ Some word → slice_get (ws ++ more) k ≡ Some word
+among_first [] more k word e = absurd cc
+among_first (w ∷ ws) more zero word e = e
+among_first (w ∷ ws) more (suc k) word e = among_first ws more k word e
+
+pub listen_says : (words : List (String Global)) (place : ℕ) (id : List ℕ) (asked : Listening) → IsRestTo listen_form.rows listen_form.operands (texts words) place
     → slice_get (texts words) place ≡ Some id → IsId id asked.stream → drop (place + 1) (texts words) ≡ asked.files
-    → AreHeard (texts (take place words)) asked → IsListen (codes "listen" ∷ texts words) asked
-listen_is words place id asked r here is next read = record {
+    → AreHeard (texts (take place words)) asked → SaysListen (codes "listen" ∷ texts words) asked
+listen_says words place id asked r here is next read = record {
   settings = gs;
   id = id;
   line = listen_line (texts words) place gs (id_and_names (texts words) place r) id asked.files here next;
@@ -256,6 +265,8 @@ listen_is words place id asked r here is next read = record {
   shift = signed_given limits.crf_shift.most limits.crf_shift.default asked.shift (value_in shift.name gs) (omega arith) (value_is listen_form.rows shift.name shift gs refl r.rest.options.each)
       (subst (λ v. IsReadSigned limits.crf_shift.default v asked.shift) (after_options listen_form words place r shift.name shift refl refl refl) read.shift);
   ring = number_is listen_form words place r limits.ring 64 (2 ^ 32) asked.ring refl refl refl (omega arith) read.ring;
+  raw = raw_says asked.raw read.raw;
+  annexb = file_says (codes "--annexb") refl asked.annexb read.annexb;
 } where
   gs : List Setting
   gs = r.rest.settings
@@ -265,6 +276,48 @@ listen_is words place id asked r here is next read = record {
 
   shift : Row
   shift = signed limits.crf_shift
+
+  -- what stands among the options stands among all words, a place on
+  after_command : (k : ℕ) (word : List ℕ) → slice_get (texts (take place words)) k ≡ Some word → slice_get (codes "listen" ∷ texts words) (k + 1) ≡ Some word
+  after_command k word e =
+      let before : texts (take place words) ≡ flat_map words_of gs = words_before listen_form.rows words place (options_to listen_form.rows listen_form.operands (texts words) place r) in
+      ap (slice_get (codes "listen" ∷ texts words)) {x = k + 1} {y = suc k} (omega arith) ∙ ap (λ ws. slice_get ws k) r.rest.spelled
+      ∙ among_first (flat_map words_of gs) r.rest.names k word (subst (λ ws. slice_get ws k ≡ Some word) before e)
+
+  named : List ℕ → Row
+  named name = record { name = name; takes = takes.Name }
+
+  file_named : (name : List ℕ) (file : NamedFile) → row_named listen_form.rows name ≡ Some (named name) → ReadsFile name (texts (take place words)) file → NamesFile (codes "listen" ∷ texts words) gs name file
+  file_named name file is_row read = record {
+    value = sym (after_options listen_form words place r name (named name) refl is_row refl) ∙ read.value;
+    before = read.before + 1;
+    place = omega (arith, read.place);
+    option_at = after_command read.before name read.option_at;
+    name_at = ap (slice_get (codes "listen" ∷ texts words)) {x = file.place} {y = read.before + 1 + 1} (omega (arith, read.place)) ∙ after_command (read.before + 1) file.name read.name_at;
+  }
+
+  file_says : (name : List ℕ) → row_named listen_form.rows name ≡ Some (named name) → (file : Option NamedFile) → IsReadFile name (texts (take place words)) file → IsGivenFile (codes "listen" ∷ texts words) gs name file
+  file_says name is_row None read = sym (after_options listen_form words place r name (named name) refl is_row refl) ∙ read
+  file_says name is_row (Some file) read = file_named name file is_row read
+
+  silence : Row
+  silence = record { name = codes "--silence"; takes = takes.Silence }
+
+  silence_word : value_after silence.name (texts (take place words)) ≡ value_in silence.name gs
+  silence_word = after_options listen_form words place r silence.name silence refl refl refl
+
+  zero_of : (v : Option (List ℕ)) → IfSome v (IsValue takes.Silence) → IfSome v (λ word. word ≢ codes "am824") → IfSome v (λ word. word ≡ codes "zero")
+  zero_of None is other = tt
+  zero_of (Some word) (inl zeros) other = zeros
+  zero_of (Some word) (inr am824) other = absurd (other am824)
+
+  silence_says : (made : Silence) → IsReadSilence (value_after silence.name (texts (take place words))) made → IsGivenSilence gs made
+  silence_says Zero read = zero_of (value_in silence.name gs) (value_is listen_form.rows silence.name silence gs refl r.rest.options.each) (subst (λ v. IfSome v (λ word. word ≢ codes "am824")) silence_word read)
+  silence_says Blocks read = sym silence_word ∙ read
+
+  raw_says : (raw : Option NamedRaw) → IsReadRaw (texts (take place words)) raw → IsGivenRaw (codes "listen" ∷ texts words) gs raw
+  raw_says None read = sym (after_options listen_form words place r (codes "--raw") (named (codes "--raw")) refl refl refl) ∙ read
+  raw_says (Some raw) read = record { file = file_named (codes "--raw") raw.file refl read.file; silence = silence_says raw.silence read.silence }
 
 -- ---- talk
 
@@ -557,14 +610,14 @@ offence_of_rule words asked says breaks = of_a_rule refl
       none : (request : Request) → IsCommandLine words request → ⊥
       none (show limit file) s = show_talk (same_command show_form talk_form words s.settings says.settings (file ∷ []) (asked.input ∷ asked.output ∷ []) s.line says.line)
       none (check limit files) s = check_talk (same_command check_form talk_form words s.settings says.settings files (asked.input ∷ asked.output ∷ []) s.line says.line)
-      none (listen other) s = listen_talk (same_command listen_form talk_form words s.settings says.settings (s.id ∷ other.files) (asked.input ∷ asked.output ∷ []) s.line says.line)
+      none (listen other) (s, rules) = listen_talk (same_command listen_form talk_form words s.settings says.settings (s.id ∷ other.files) (asked.input ∷ asked.output ∷ []) s.line says.line)
       none (soak packets) s = talk_soak (sym (same_command soak_form talk_form words s.settings says.settings (s.number ∷ []) (asked.input ∷ asked.output ∷ []) s.line says.line))
       none (talk other) (s, rules) = breaks (subst (KeepsRules (drop 1 words)) (same_talk words other asked s says) rules)
 
 -- ---- each line asks for one thing, and words have one offence
 
 -- words of `listen` ask for one thing
-same_listen : (words : List (List ℕ)) (a b : Listening) → IsListen words a → IsListen words b → a ≡ b
+same_listen : (words : List (List ℕ)) (a b : Listening) → SaysListen words a → SaysListen words b → a ≡ b
 same_listen words a b p q = same
     (same_id q.id a.stream b.stream (subst (λ word. IsId word a.stream) ids p.stream) q.stream)
     (number limits.limit a.limit b.limit (omega arith) p.limit q.limit)
@@ -575,6 +628,8 @@ same_listen words a b p q = same
     (same_id_given_if (codes "--clock") a.clock b.clock q.settings (subst (λ gs. IsGivenIdIf (codes "--clock") gs a.clock) both.0 p.clock) q.clock)
     (same_signed limits.crf_shift a.shift b.shift q.settings (omega arith) (subst (λ gs. IsGivenSigned limits.crf_shift gs a.shift) both.0 p.shift) q.shift)
     (number limits.ring a.ring b.ring (omega arith) p.ring q.ring)
+    (same_raw words q.settings (q.id ∷ b.files) a.raw b.raw q.line (subst (λ gs. IsGivenRaw words gs a.raw) both.0 p.raw) q.raw)
+    (same_file words q.settings (q.id ∷ b.files) (codes "--annexb") a.annexb b.annexb q.line refl (subst (λ gs. IsGivenFile words gs (codes "--annexb") a.annexb) both.0 p.annexb) q.annexb)
     files where
       both : (p.settings ≡ q.settings) × ((p.id ∷ a.files) ≡ (q.id ∷ b.files))
       both = same_line listen_form words p.settings q.settings (p.id ∷ a.files) (q.id ∷ b.files) p.line q.line
@@ -588,8 +643,19 @@ same_listen words a b p q = same
       number : (option : NumberOption) (m n : ℕ) → option.high < 2 ^ 64 → IsGiven option p.settings m → IsGiven option q.settings n → m ≡ n
       number option m n small first second = same_number option m n q.settings small (subst (λ gs. IsGiven option gs m) both.0 first) second
 
-      same : a.stream ≡ b.stream → a.limit ≡ b.limit → a.buffer ≡ b.buffer → a.room ≡ b.room → a.look ≡ b.look → a.lead ≡ b.lead → a.clock ≡ b.clock → a.shift ≡ b.shift → a.ring ≡ b.ring → a.files ≡ b.files → a ≡ b
-      same streams limits buffers rooms looks leads clocks shifts rings files = rw (streams, limits, buffers, rooms, looks, leads, clocks, shifts, rings, files) refl
+      same : a.stream ≡ b.stream → a.limit ≡ b.limit → a.buffer ≡ b.buffer → a.room ≡ b.room → a.look ≡ b.look → a.lead ≡ b.lead → a.clock ≡ b.clock → a.shift ≡ b.shift → a.ring ≡ b.ring → a.raw ≡ b.raw → a.annexb ≡ b.annexb → a.files ≡ b.files → a ≡ b
+      same streams limits buffers rooms looks leads clocks shifts rings raws annexbs files = rw (streams, limits, buffers, rooms, looks, leads, clocks, shifts, rings, raws, annexbs, files) refl
+
+-- every word after `listen` can stand, and a rule over several of them fails
+pub offence_of_names : (words : List (List ℕ)) (asked : Listening) → SaysListen words asked → (KeepsNames (drop 1 words) asked → ⊥) → IsOffence words 1
+offence_of_names words asked says breaks = of_a_rule refl
+    (record { form = listen_form; known = refl; settings = says.settings; names = says.id ∷ asked.files; line = says.line }) none where
+      none : (request : Request) → IsCommandLine words request → ⊥
+      none (show limit file) s = show_listen (same_command show_form listen_form words s.settings says.settings (file ∷ []) (says.id ∷ asked.files) s.line says.line)
+      none (check limit files) s = check_listen (same_command check_form listen_form words s.settings says.settings files (says.id ∷ asked.files) s.line says.line)
+      none (soak packets) s = listen_soak (sym (same_command soak_form listen_form words s.settings says.settings (s.number ∷ []) (says.id ∷ asked.files) s.line says.line))
+      none (talk other) (s, rules) = listen_talk (sym (same_command talk_form listen_form words s.settings says.settings (other.input ∷ other.output ∷ []) (says.id ∷ asked.files) s.line says.line))
+      none (listen other) (s, rules) = breaks (subst (KeepsNames (drop 1 words)) (same_listen words other asked s says) rules)
 
 -- words ask for one thing
 pub same_request : (words : List (List ℕ)) (r s : Request) → IsCommandLine words r → IsCommandLine words s → r ≡ s
@@ -627,7 +693,7 @@ same_request words (talk asked) (show other name) p q = absurd (show_talk (one_c
 same_request words (talk asked) (check other names) p q = absurd (check_talk (one_command words (check other names) (talk asked) q p))
 same_request words (talk asked) (listen other) p q = absurd (listen_talk (one_command words (listen other) (talk asked) q p))
 same_request words (talk asked) (talk other) (p, rules) (q, others) = ap talk (same_talk words asked other p q)
-same_request words (listen asked) (listen other) p q = ap listen (same_listen words asked other p q)
+same_request words (listen asked) (listen other) (p, rules) (q, others) = ap listen (same_listen words asked other p q)
 
 -- where words stop being a line they are none
 stopped : (words : List (List ℕ)) (place : ℕ) → StopsAt IsLine words place → IsLine words → ⊥

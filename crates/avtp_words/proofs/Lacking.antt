@@ -1,5 +1,5 @@
 -- What words of `talk` that lack an option do not ask for.
-use Rattle.std.proofs.Common.{◌≡◌, ◌<◌, ℕ, inl, inr, List, [], ◌∷◌, ◌++◌, drop, flat_map, Option, Some, None, MatchOption, Contains, codes, arith, ap, subst, sym, refl, Bool}
+use Rattle.std.proofs.Common.{◌≡◌, ℕ, inl, inr, List, [], ◌∷◌, drop, flat_map, Option, Some, None, MatchOption, Contains, codes, arith, ap, subst, sym, refl, Bool}
 use Rattle.std.specs.Str.{bytes_eq}
 use Rattle.std.proofs.lemmas.Bool.{cases_Bool}
 use Rattle.std.proofs.lemmas.List.Elements.{Contains-append_left, Contains-append_right}

@@ -34,6 +34,11 @@ pub lack : (words : List (String Global)) (options : List OptionRow) (one : Bool
 lack words options true e = ((λ no. absurd (let f : false ≡ true = no in cc)), λ none. absurd (let f : true ≡ false = e ∙ all_lack words options none in cc))
 lack words options false e = ((λ yes. none_has words options (sym e)), λ none. refl)
 
+-- what a test for a word tells of words that do not have it
+pub not_contained : (words : List (String Global)) (name : List ℕ) (tells : Bool) → tells ≡ list_any (λ word. bytes_eq (string_bytes word) name) words → IsTrue (not tells) ↔ (Contains (texts words) name → ⊥)
+not_contained words name true e = ((λ no. absurd (let f : false ≡ true = no in cc)), λ none. absurd (none (present words name (sym e))))
+not_contained words name false e = ((λ yes. absent words name (sym e)), λ none. refl)
+
 -- words with the option that others need
 pub needed_there : (words : List (List ℕ)) (needed : List ℕ) (options : List (List ℕ)) → Contains words needed → Need words needed options
 needed_there words needed [] there = All-nil (λ option. Contains words option → Contains words needed)

@@ -9,7 +9,7 @@ use Rattle.std.proofs.lemmas.Slice.Eq.{bytes_eq-Decides}
 use Rattle.aaf_format.specs.declared.aaf.AafFormat.{AafFormat}
 use Rattle.aaf_format.specs.declared.aaf.AafFormat.TheVariants.{Float32, Int32, Int24, Int16}
 use Rattle.avtp_words.specs.declared.option.Takes.{Takes}
-use Rattle.avtp_words.specs.declared.option.Takes.TheVariants.{Number, Signed, Id, Kind, Format, Nothing}
+use Rattle.avtp_words.specs.declared.option.Takes.TheVariants.{Number, Signed, Id, Kind, Format, Name, Silence, Nothing}
 use Rattle.avtp_words.specs.Reading.{is_sound, are_sound, begins_with_dashes}
 use Rattle.avtp_words.specs.Word.{BeginsWithDash, IsName}
 use Rattle.avtp_words.specs.Options.{Row, row_named, Setting, words_of, IsValue, IsTaken, stands_alone, format_name, IsSetting, AreSettings}
@@ -52,6 +52,9 @@ value-dashes Format word sound (format, is) dashes = named format (subst (λ w. 
   named Int24 found = plain found
   named Int32 found = plain found
   named Float32 found = plain found
+value-dashes Name word sound is dashes = name-dash word is (one_dash word dashes)
+value-dashes Silence word sound (inl is) dashes = plain (subst (λ w. begins_with_dashes w ≡ true) is dashes)
+value-dashes Silence word sound (inr is) dashes = plain (subst (λ w. begins_with_dashes w ≡ true) is dashes)
 value-dashes Nothing word sound is dashes = is
 
 -- an option that stands alone has no value
@@ -61,6 +64,8 @@ alone (Signed most) word stands is = absurd cc
 alone Id word stands is = absurd cc
 alone Kind word stands is = absurd cc
 alone Format word stands is = absurd cc
+alone Name word stands is = absurd cc
+alone Silence word stands is = absurd cc
 alone Nothing word stands is = is
 
 -- the row that a name finds is sound if all are, and the name begins with two dashes

@@ -12,7 +12,7 @@ use Rattle.std.proofs.Math.Seq.{take-append_seam}
 use Rattle.hex.specs.Hex.{decode_pairs}
 use Rattle.aaf_format.specs.declared.aaf.AafFormat.TheVariants.{Int16}
 use Rattle.avtp_words.specs.declared.option.Takes.{Takes}
-use Rattle.avtp_words.specs.declared.option.Takes.TheVariants.{Number, Signed, Id, Kind, Format, Nothing}
+use Rattle.avtp_words.specs.declared.option.Takes.TheVariants.{Number, Signed, Id, Kind, Format, Name, Silence, Nothing}
 use Rattle.avtp_words.specs.declared.option.OptionRow.{OptionRow}
 use Rattle.avtp_words.specs.Reading.{row_of, rows_of, is_sound, are_sound, IsTail, AreOptionsTo, StopsOptions, IsTakenAt, LacksValue}
 use Rattle.avtp_words.specs.Word.{texts, BeginsWithDash}
@@ -124,6 +124,8 @@ sample (Signed most) sound = (Some (decimal 0), (pos 0, record { size = omega ar
 sample Id sound = (Some (codes "0000000000000000"), (0, record { fits = omega arith; digits = refl }))
 sample Kind sound = (Some (codes "aaf"), inl refl)
 sample Format sound = (Some (codes "int16"), (Int16, refl))
+sample Name sound = (Some (codes "a"), λ e. absurd (omega (arith, e)))
+sample Silence sound = (Some (codes "zero"), inl refl)
 sample Nothing sound = (None, refl)
 
 -- an option of the table, with a value that its row takes

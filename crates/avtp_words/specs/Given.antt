@@ -1,6 +1,8 @@
 -- What an option gives: what its value says, or else what stands where it is not given.
-use Rattle.std.specs.Prelude.{◌≡◌, ℕ, ℤ, List, Option, Some, None, MatchOption, IsSomeAnd}
+use Rattle.std.specs.Prelude.{◌≡◌, ℕ, ℤ, List, Option, Some, None, MatchOption, IsSomeAnd, IfSome, codes}
 use Rattle.aaf_format.specs.declared.aaf.AafFormat.{AafFormat}
+use Rattle.avtp_words.specs.declared.device.Silence.{Silence}
+use Rattle.avtp_words.specs.declared.device.Silence.TheVariants.{Zero, Am824}
 use Rattle.avtp_words.specs.Number.{IsNumber, IsSigned}
 use Rattle.avtp_words.specs.Limits.{NumberOption, SignedOption}
 use Rattle.avtp_words.specs.Word.{IsId}
@@ -29,3 +31,8 @@ IsGivenSigned option settings z = MatchOption (value_in option.name settings) (z
 -- the same of a format
 abbrev pub IsGivenFormat : List ℕ → AafFormat → List Setting → AafFormat → Type 0
 IsGivenFormat name default settings format = MatchOption (value_in name settings) (format ≡ default) (λ word. word ≡ format_name format)
+
+-- what silence is made of, which is zeros where nothing is said of it
+abbrev pub IsGivenSilence : List Setting → Silence → Type 0
+IsGivenSilence settings Zero = IfSome (value_in (codes "--silence") settings) (λ word. word ≡ codes "zero")
+IsGivenSilence settings Am824 = value_in (codes "--silence") settings ≡ Some (codes "am824")

@@ -1,5 +1,5 @@
 -- The grammar of the command line, and where words leave it.
-use Rattle.std.specs.Prelude.{◌≡◌, ◌≢◌, ℕ, ℤ, pos, ◌+◌, ◌*◌, ◌/◌, ◌%◌, ◌≤◌, ◌↔◌, ⊤, All, Bool, IsTrue, Contains, List, [], ◌∷◌, ◌++◌, drop, flat_map, length, codes, Option, None, Some, IsSomeAnd, IfSome}
+use Rattle.std.specs.Prelude.{◌≡◌, ◌≢◌, ℕ, ℤ, pos, ◌+◌, ◌*◌, ◌/◌, ◌%◌, ◌≤◌, ◌↔◌, ⊤, All, Bool, IsTrue, Contains, List, [], ◌∷◌, ◌++◌, drop, flat_map, length, codes, Option, None, Some, IsSomeAnd, IfSome, option_map, slice_get}
 use Rattle.std.specs.List.{find}
 use Rattle.std.specs.Str.{bytes_eq}
 use Rattle.aaf_format.specs.declared.aaf.AafFormat.{AafFormat}
@@ -10,6 +10,9 @@ use Rattle.iec61883_format.specs.Iec.{rate_of_fdf, syt_interval, block_size}
 use Rattle.avtp_words.specs.declared.command.Command.{Command}
 use Rattle.avtp_words.specs.declared.command.Command.TheVariants.{Show, Check, Listen, Talk, Soak}
 use Rattle.avtp_words.specs.declared.crf.Crf.{Crf}
+use Rattle.avtp_words.specs.declared.device.DeviceFile.{DeviceFile}
+use Rattle.avtp_words.specs.declared.device.RawFile.{RawFile}
+use Rattle.avtp_words.specs.declared.device.Silence.{Silence}
 use Rattle.avtp_words.specs.declared.listen.Listen.{Listen as AskedListen}
 use Rattle.avtp_words.specs.declared.talk.Talk.{Talk as AskedTalk}
 use Rattle.avtp_words.specs.declared.talk.Kind.{Kind}
@@ -17,7 +20,7 @@ use Rattle.avtp_words.specs.declared.talk.Kind.TheVariants.{Aaf, Am824, H264}
 use Rattle.avtp_words.specs.declared.operand.Operand.{Operand}
 use Rattle.avtp_words.specs.declared.operand.Operand.TheVariants as operand
 use Rattle.avtp_words.specs.declared.option.Takes.TheVariants as takes
-use Rattle.avtp_words.specs.Given.{IsGiven, IsGivenFormat, IsGivenId, IsGivenIdIf, IsGivenIf, IsGivenSigned}
+use Rattle.avtp_words.specs.Given.{IsGiven, IsGivenFormat, IsGivenId, IsGivenIdIf, IsGivenIf, IsGivenSigned, IsGivenSilence}
 use Rattle.avtp_words.specs.Limits as limits
 use Rattle.avtp_words.specs.Limits.{default_rate, number, signed, with_default}
 use Rattle.avtp_words.specs.Number.{IsNumber}
@@ -27,7 +30,18 @@ use Rattle.avtp_words.specs.Options.{Row, Setting, words_of, AreSettings, value_
 
 -- ---- what a command line asks for, without where its names lie in memory
 
--- the stream to listen to, within these bounds, its media clock, if it has one, with a shift, and the captures, in order
+-- a file that is written: its name, and the place of the name among the words, from 0
+pub record NamedFile : Type 0 where
+  pub name : List ℕ
+  pub place : ℕ
+
+-- a file of raw audio, and what silence in it is made of
+pub record NamedRaw : Type 0 where
+  pub file : NamedFile
+  pub silence : Silence
+
+-- the stream to listen to, within these bounds, its media clock, if it has one, with a shift, the files that are written, if
+-- there are any, and the captures, in order
 pub record Listening : Type 0 where
   pub stream : ℕ
   pub limit : ℕ
@@ -38,6 +52,8 @@ pub record Listening : Type 0 where
   pub clock : Option ℕ
   pub shift : ℤ
   pub ring : ℕ
+  pub raw : Option NamedRaw
+  pub annexb : Option NamedFile
   pub files : List (List ℕ)
 
 -- the samples to make a capture of, and how they are sent
@@ -62,6 +78,12 @@ pub data Request : Type 0 where
   talk : Talking → Request
   soak : (packets : ℕ) → Request
 
+abbrev pub named_file : DeviceFile → NamedFile
+named_file file = record { name = file.name.now; place = file.place }
+
+abbrev pub named_raw : RawFile → NamedRaw
+named_raw raw = record { file = named_file raw.file; silence = raw.silence }
+
 abbrev pub listening_of : AskedListen → Listening
 listening_of asked = record {
   stream = asked.stream;
@@ -73,6 +95,8 @@ listening_of asked = record {
   clock = asked.clock;
   shift = asked.shift;
   ring = asked.ring;
+  raw = option_map named_raw asked.raw;
+  annexb = option_map named_file asked.annexb;
   files = texts asked.files.now;
 }
 
@@ -107,7 +131,7 @@ files_of (listen asked) = asked.files
 files_of (talk asked) = asked.input ∷ []
 files_of (soak packets) = []
 
--- the file that is written
+-- the capture that is written
 abbrev pub output_of : Request → Option (List ℕ)
 output_of (show limit file) = None
 output_of (check limit files) = None
@@ -151,7 +175,10 @@ listen_form = record {
       number limits.listen_lead ∷
       record { name = codes "--clock"; takes = takes.Id } ∷
       signed limits.crf_shift ∷
-      number limits.ring ∷ [];
+      number limits.ring ∷
+      record { name = codes "--raw"; takes = takes.Name } ∷
+      record { name = codes "--silence"; takes = takes.Silence } ∷
+      record { name = codes "--annexb"; takes = takes.Name } ∷ [];
   operands = operand.Id ∷ operand.Names ∷ [];
 }
 
@@ -215,8 +242,31 @@ pub record IsCheck (words : List (List ℕ)) (limit : ℕ) (files : List (List �
   pub line : IsOf check_form words settings files
   pub limit_given : IsGiven limits.limit settings limit
 
--- what `listen` is asked for
-pub record IsListen (words : List (List ℕ)) (asked : Listening) : Type 0 where
+-- The option of this name gives the name of this file, which stands at its place among the words, after the option.
+pub record NamesFile (words : List (List ℕ)) (settings : List Setting) (option : List ℕ) (file : NamedFile) : Type 0 where
+  pub value : value_in option settings ≡ Some file.name
+  pub before : ℕ
+  pub place : file.place ≡ before + 1
+  pub option_at : slice_get words before ≡ Some option
+  pub name_at : slice_get words file.place ≡ Some file.name
+
+-- It gives this file, or none.
+abbrev pub IsGivenFile : List (List ℕ) → List Setting → List ℕ → Option NamedFile → Type 0
+IsGivenFile words settings option None = value_in option settings ≡ None
+IsGivenFile words settings option (Some file) = NamesFile words settings option file
+
+-- Words ask for raw audio in this file, with such silence.
+pub record SaysRaw (words : List (List ℕ)) (settings : List Setting) (raw : NamedRaw) : Type 0 where
+  pub file : NamesFile words settings (codes "--raw") raw.file
+  pub silence : IsGivenSilence settings raw.silence
+
+-- Words ask for this file of raw audio, or for none.
+abbrev pub IsGivenRaw : List (List ℕ) → List Setting → Option NamedRaw → Type 0
+IsGivenRaw words settings None = value_in (codes "--raw") settings ≡ None
+IsGivenRaw words settings (Some raw) = SaysRaw words settings raw
+
+-- what `listen` is asked for, by the words one by one
+pub record SaysListen (words : List (List ℕ)) (asked : Listening) : Type 0 where
   pub settings : List Setting
   pub id : List ℕ
   pub line : IsOf listen_form words settings (id ∷ asked.files)
@@ -229,6 +279,8 @@ pub record IsListen (words : List (List ℕ)) (asked : Listening) : Type 0 where
   pub clock : IsGivenIdIf (codes "--clock") settings asked.clock
   pub shift : IsGivenSigned limits.crf_shift settings asked.shift
   pub ring : IsGiven limits.ring settings asked.ring
+  pub raw : IsGivenRaw words settings asked.raw
+  pub annexb : IsGivenFile words settings (codes "--annexb") asked.annexb
 
 -- what `soak` is asked for
 pub record IsSoak (words : List (List ℕ)) (packets : ℕ) : Type 0 where
@@ -368,13 +420,25 @@ pub record KeepsRules (words : List (List ℕ)) (asked : Talking) : Type 0 where
   pub clock : FitsClock asked.crf asked.rate asked.count asked.restart
   pub options : FitsOptions asked.kind words
 
+-- the options that say more of raw audio
+abbrev pub of_raw : List (List ℕ)
+of_raw = codes "--silence" ∷ []
+
+-- What several of the words after `listen` together must keep: what silence is made of is said of raw audio alone, and each
+-- file that is written has another name than each that is read, and than the other.
+pub record KeepsNames (words : List (List ℕ)) (asked : Listening) : Type 0 where
+  pub silence : Need words (codes "--raw") of_raw
+  pub new_raw : IfSome asked.raw (λ raw. Contains asked.files raw.file.name → ⊥)
+  pub new_annexb : IfSome asked.annexb (λ file. Contains asked.files file.name → ⊥)
+  pub apart : IfSome asked.raw (λ raw. IfSome asked.annexb (λ file. raw.file.name ≢ file.name))
+
 -- ---- command lines
 
 -- the words are a command line, and this is what they ask for
 abbrev pub IsCommandLine : List (List ℕ) → Request → Type 0
 IsCommandLine words (show limit file) = IsShow words limit file
 IsCommandLine words (check limit files) = IsCheck words limit files
-IsCommandLine words (listen asked) = IsListen words asked
+IsCommandLine words (listen asked) = SaysListen words asked × KeepsNames (drop 1 words) asked
 IsCommandLine words (soak packets) = IsSoak words packets
 IsCommandLine words (talk asked) = SaysTalk words asked × KeepsRules (drop 1 words) asked
 

@@ -5,9 +5,9 @@ use Rattle.std.specs.Str.{bytes_eq}
 use Rattle.aaf_format.specs.declared.aaf.AafFormat.{AafFormat}
 use Rattle.aaf_format.specs.declared.aaf.AafFormat.TheVariants.{Float32, Int32, Int24, Int16}
 use Rattle.avtp_words.specs.declared.option.Takes.{Takes}
-use Rattle.avtp_words.specs.declared.option.Takes.TheVariants.{Number, Signed, Id, Kind, Format, Nothing}
+use Rattle.avtp_words.specs.declared.option.Takes.TheVariants.{Number, Signed, Id, Kind, Format, Name, Silence, Nothing}
 use Rattle.avtp_words.specs.Number.{IsNumber, IsSigned}
-use Rattle.avtp_words.specs.Word.{BeginsWithDash, IsId}
+use Rattle.avtp_words.specs.Word.{BeginsWithDash, IsId, IsName}
 
 -- an option that a command knows: its name, and what the word after the name may be
 pub record Row : Type 0 where
@@ -40,6 +40,8 @@ IsValue (Signed most) word = (z : ℤ) × IsSigned most word z
 IsValue Id word = (id : ℕ) × IsId word id
 IsValue Kind word = (word ≡ codes "aaf") ⊎ ((word ≡ codes "am824") ⊎ (word ≡ codes "h264"))
 IsValue Format word = (format : AafFormat) × (word ≡ format_name format)
+IsValue Name word = IsName word
+IsValue Silence word = (word ≡ codes "zero") ⊎ (word ≡ codes "am824")
 IsValue Nothing word = ⊥
 
 abbrev pub stands_alone : Takes → Bool
@@ -48,6 +50,8 @@ stands_alone (Signed most) = false
 stands_alone Id = false
 stands_alone Kind = false
 stands_alone Format = false
+stands_alone Name = false
+stands_alone Silence = false
 stands_alone Nothing = true
 
 -- An option has a value, or stands alone.

@@ -5,8 +5,10 @@ use Rattle.std.specs.Fmt.{signed_decimal}
 use Rattle.std.specs.Str.{bytes_eq}
 use Rattle.aaf_format.specs.declared.aaf.AafFormat.{AafFormat}
 use Rattle.avtp_words.specs.declared.option.Takes.{Takes}
-use Rattle.avtp_words.specs.declared.option.Takes.TheVariants.{Number, Signed, Id, Kind, Format, Nothing}
+use Rattle.avtp_words.specs.declared.option.Takes.TheVariants.{Number, Signed, Id, Kind, Format, Name, Silence, Nothing}
 use Rattle.avtp_words.specs.declared.crf.Crf.{Crf}
+use Rattle.avtp_words.specs.declared.device.Silence.{Silence as RawSilence}
+use Rattle.avtp_words.specs.declared.device.Silence.TheVariants as silence
 use Rattle.avtp_words.specs.declared.option.OptionRow.{OptionRow}
 use Rattle.avtp_words.specs.declared.talk.Kind.{Kind as StreamKind}
 use Rattle.avtp_words.specs.declared.talk.Kind.TheVariants.{Aaf, Am824, H264}
@@ -18,7 +20,7 @@ use Rattle.avtp_words.specs.Word.{BeginsWithDash, IsName, IsId}
 use Rattle.avtp_words.specs.Options.{Row, Setting, words_of, AreSettings, IsTaken, IsValue, format_name, stands_alone}
 use Rattle.avtp_words.specs.Limits as limits
 use Rattle.avtp_words.specs.Limits.{NumberOption, default_rate, with_default}
-use Rattle.avtp_words.specs.Grammar.{Begins, Stops, StopsAt, Listening, Talking}
+use Rattle.avtp_words.specs.Grammar.{Begins, Stops, StopsAt, Listening, NamedFile, NamedRaw, Talking}
 use Rattle.aaf_format.specs.declared.aaf.AafFormat.TheVariants.{Int16}
 
 -- a row of the code, without where its name lies in memory
@@ -38,6 +40,8 @@ is_sound (Signed most) = nat_lt most (2 ^ 63)
 is_sound Id = true
 is_sound Kind = true
 is_sound Format = true
+is_sound Name = true
+is_sound Silence = true
 is_sound Nothing = true
 
 -- the word begins with "--", as the name of each option does, and no value
@@ -88,6 +92,32 @@ pub record IsReadFormat (default : AafFormat) (word : Option (List ℕ)) (format
 abbrev pub IsReadOf : ℕ → NumberOption → List (List ℕ) → ℕ → Type 0
 IsReadOf bound option options n = IsSomeAnd option.default (λ default. IsRead bound default (value_after option.name options) n)
 
+-- What is read of the name of a file after the option of this name. The place of the name counts the command in.
+pub record ReadsFile (name : List ℕ) (options : List (List ℕ)) (file : NamedFile) : Type 0 where
+  pub value : value_after name options ≡ Some file.name
+  pub before : ℕ
+  pub place : file.place ≡ before + 2
+  pub option_at : slice_get options before ≡ Some name
+  pub name_at : slice_get options (before + 1) ≡ Some file.name
+
+abbrev pub IsReadFile : List ℕ → List (List ℕ) → Option NamedFile → Type 0
+IsReadFile name options None = value_after name options ≡ None
+IsReadFile name options (Some file) = ReadsFile name options file
+
+-- what is read of a word about silence
+abbrev pub IsReadSilence : Option (List ℕ) → RawSilence → Type 0
+IsReadSilence word silence.Zero = IfSome word (λ word. word ≢ codes "am824")
+IsReadSilence word silence.Am824 = word ≡ Some (codes "am824")
+
+-- what is read of a file of raw audio
+pub record ReadsRaw (options : List (List ℕ)) (raw : NamedRaw) : Type 0 where
+  pub file : ReadsFile (codes "--raw") options raw.file
+  pub silence : IsReadSilence (value_after (codes "--silence") options) raw.silence
+
+abbrev pub IsReadRaw : List (List ℕ) → Option NamedRaw → Type 0
+IsReadRaw options None = value_after (codes "--raw") options ≡ None
+IsReadRaw options (Some raw) = ReadsRaw options raw
+
 -- what is read of the options of `listen`
 pub record AreHeard (options : List (List ℕ)) (asked : Listening) : Type 0 where
   pub limit : IsReadOf (2 ^ 64) limits.limit options asked.limit
@@ -98,6 +128,8 @@ pub record AreHeard (options : List (List ℕ)) (asked : Listening) : Type 0 whe
   pub clock : IsReadIdIf (value_after (codes "--clock") options) asked.clock
   pub shift : IsReadSigned limits.crf_shift.default (value_after limits.crf_shift.name options) asked.shift
   pub ring : IsReadOf (2 ^ 32) limits.ring options asked.ring
+  pub raw : IsReadRaw options asked.raw
+  pub annexb : IsReadFile (codes "--annexb") options asked.annexb
 
 -- What is read of the kind of a stream. Whether the words for `--sparse` and `--last-stamp` stand among all words is told.
 pub record IsReadAaf (options : List (List ℕ)) (tells : Bool) (format : AafFormat) (sparse : Bool) : Type 0 where

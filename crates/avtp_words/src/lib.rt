@@ -4,6 +4,7 @@
 
 mod command;
 mod crf;
+mod device;
 mod limits;
 mod listen;
 mod number;
@@ -14,6 +15,7 @@ mod value;
 
 pub use command::{Command, Offence, parse};
 pub use crf::Crf;
+pub use device::{DeviceFile, RawFile, Silence};
 pub use listen::Listen;
 pub use talk::{Kind, Talk};
 

@@ -19,7 +19,7 @@ pub const LIMIT: OptionRow = OptionRow {
     },
 };
 
-pub const LISTEN_OPTIONS: [OptionRow; 8] = [
+pub const LISTEN_OPTIONS: [OptionRow; 11] = [
     LIMIT,
     BUFFER,
     ROOM,
@@ -28,6 +28,9 @@ pub const LISTEN_OPTIONS: [OptionRow; 8] = [
     CLOCK,
     CRF_SHIFT,
     RING,
+    RAW,
+    SILENCE,
+    ANNEXB,
 ];
 
 /// How many packets may wait for their presentation time.
@@ -84,6 +87,27 @@ pub const RING: OptionRow = OptionRow {
 };
 
 pub const RING_DEFAULT: u32 = 64;
+
+/// The file that the samples that are presented are written to as raw audio. Where it is not given they are not.
+pub const RAW: OptionRow = OptionRow {
+    name: "--raw",
+    takes: Takes::Name,
+};
+
+/// What silence in it is made of, by default bytes of 0.
+pub const SILENCE: OptionRow = OptionRow {
+    name: "--silence",
+    takes: Takes::Silence,
+};
+
+/// The options that say more of raw audio.
+pub const RAW_OPTIONS: [OptionRow; 1] = [SILENCE];
+
+/// The file that the units of H.264 are written to as a byte stream. Where it is not given they are not.
+pub const ANNEXB: OptionRow = OptionRow {
+    name: "--annexb",
+    takes: Takes::Name,
+};
 
 /// The max transit time in nanoseconds. A listener may expect a packet at its presentation time; a talker sends each
 /// before it.

@@ -1,17 +1,19 @@
 //! The command `listen`: what to listen to.
 
-ghost use Rattle.std.specs.Prelude.{◌≡◌, ◌∷◌, codes, IfOk, IfErr};
-ghost use Rattle.avtp_words.specs.Grammar.{IsCommandLine, IsOffence, listening_of, request_of};
+ghost use Rattle.std.specs.Prelude.{◌≡◌, ◌∷◌, ◌↔◌, codes, IfOk, IfErr, IsTrue};
+ghost use Rattle.avtp_words.specs.Grammar.{IsCommandLine, IsOffence, KeepsNames, SaysListen, listening_of, request_of};
 ghost use Rattle.avtp_words.specs.Reading.{AreHeard};
 ghost use Rattle.avtp_words.specs.Word.{texts};
 
 use crate::command::{Command, Offence};
+use crate::device::{DeviceFile, RawFile, are_apart, file_after, is_new, is_new_raw, raw_after};
 use crate::limits::{
-    BUFFER, BUFFER_DEFAULT, CLOCK, CRF_SHIFT, CRF_SHIFT_DEFAULT, LEAD_DEFAULT, LIMIT, LISTEN_LEAD,
-    LISTEN_OPTIONS, LOOK, LOOK_DEFAULT, MAX_LIMIT, RING, RING_DEFAULT, ROOM, ROOM_DEFAULT,
+    ANNEXB, BUFFER, BUFFER_DEFAULT, CLOCK, CRF_SHIFT, CRF_SHIFT_DEFAULT, LEAD_DEFAULT, LIMIT,
+    LISTEN_LEAD, LISTEN_OPTIONS, LOOK, LOOK_DEFAULT, MAX_LIMIT, RAW, RAW_OPTIONS, RING,
+    RING_DEFAULT, ROOM, ROOM_DEFAULT,
 };
 use crate::operand::{Operand, id_of, operands_at};
-use crate::option::word_at;
+use crate::option::{have_needed, word_at};
 use crate::value::{id_if, number_after, signed_number_after, small_number_after};
 
 /// What to listen to, and within which bounds.
@@ -36,15 +38,33 @@ pub struct Listen<'a> {
     pub shift: i64,
     /// How many items the queue holds between the thread that judges and the one that presents, 1 to 256.
     pub ring: u32,
+    /// The file that the samples that are presented are written to as raw audio, where one is asked for.
+    pub raw: Option<RawFile<'a>>,
+    /// The file that the units of H.264 are written to as a byte stream, where one is asked for.
+    pub annexb: Option<DeviceFile<'a>>,
     /// The names of the captures, in order, at least one.
     pub files: &'a [String],
 }
 
 const LISTEN_OPERANDS: [Operand; 2] = [Operand::Id, Operand::Names];
 
-/// The words after `listen`.
+/// The words after `listen`. Where all can stand and a rule over several of them fails, the offence is that of the
+/// command.
 pub fn read_listen(words: &[String]) -> Result<Command<'_>, Offence>
     ensures ok { IfOk result (λ command. IsCommandLine (codes "listen" ∷ texts words.now) (request_of command)) }
+    ensures err { IfErr result (λ offence. IsOffence (codes "listen" ∷ texts words.now) offence.position) }
+{
+    let asked = read_words(words)?;
+    if asked.keeps_names(words) {
+        Ok(Command::Listen(asked))
+    } else {
+        Err(Offence { position: 1 })
+    }
+}
+
+/// What the words after `listen` say one by one.
+fn read_words(words: &[String]) -> Result<Listen<'_>, Offence>
+    ensures ok { IfOk result (λ asked. SaysListen (codes "listen" ∷ texts words.now) (listening_of asked)) }
     ensures err { IfErr result (λ offence. IsOffence (codes "listen" ∷ texts words.now) offence.position) }
 {
     let place = operands_at(&LISTEN_OPTIONS, &LISTEN_OPERANDS, words)?;
@@ -54,12 +74,11 @@ pub fn read_listen(words: &[String]) -> Result<Command<'_>, Offence>
     let Some(stream) = id_of(id) else {
         unreachable!()
     };
-    let asked = read_bounds(&words[..place], stream, &words[place + 1..]);
-    Ok(Command::Listen(asked))
+    Ok(read_options(&words[..place], stream, &words[place + 1..]))
 }
 
 /// What the options of `listen` give, each by itself.
-fn read_bounds<'a>(options: &[String], stream: u64, files: &'a [String]) -> Listen<'a>
+fn read_options<'a>(options: &'a [String], stream: u64, files: &'a [String]) -> Listen<'a>
     ensures stream { result.stream ≡ stream }
     ensures files { result.files.now ≡ files.now }
     ensures read { AreHeard (texts options.now) (listening_of result) }
@@ -74,6 +93,20 @@ fn read_bounds<'a>(options: &[String], stream: u64, files: &'a [String]) -> List
         clock: id_if(options, CLOCK.name),
         shift: signed_number_after(options, CRF_SHIFT.name, CRF_SHIFT_DEFAULT),
         ring: small_number_after(options, RING.name, RING_DEFAULT),
+        raw: raw_after(options),
+        annexb: file_after(options, ANNEXB.name),
         files,
+    }
+}
+
+impl<'a> Listen<'a> {
+    /// Whether the words after `listen`, which ask for this, keep the rules over several of them.
+    fn keeps_names(&self, words: &[String]) -> bool
+        ensures { IsTrue result ↔ KeepsNames (texts words.now) (listening_of self.now) }
+    {
+        have_needed(words, RAW.name, &RAW_OPTIONS)
+            && is_new_raw(self.raw, self.files)
+            && is_new(self.annexb, self.files)
+            && are_apart(self.raw, self.annexb)
     }
 }

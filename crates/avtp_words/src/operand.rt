@@ -70,7 +70,8 @@ pub fn packets_of(word: &str) -> Option<u32>
     }
 }
 
-fn is_name(word: &str) -> bool
+/// Whether a word can be the name of a file.
+pub fn is_name(word: &str) -> bool
     ensures { IsTrue result ↔ IsName word.now }
 {
     !word.is_empty() && !begins_with_dash(word)

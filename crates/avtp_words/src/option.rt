@@ -1,7 +1,7 @@
 //! The options of a command: a table of what it knows, and the reading of them.
 
-ghost use Rattle.std.specs.Prelude.{◌≡◌, ◌≤◌, ◌↔◌, length, IsTrue, IfOk, IfErr, IfSome, IfNone, slice_get, string_bytes};
-ghost use Rattle.std.specs.List.{find, list_any};
+ghost use Rattle.std.specs.Prelude.{◌≡◌, ◌≤◌, ◌↔◌, Contains, length, IsTrue, IfOk, IfErr, IfSome, IfNone, slice_get, string_bytes};
+ghost use Rattle.std.specs.List.{find, list_any, position};
 ghost use Rattle.std.specs.Option.{option_copied};
 ghost use Rattle.std.specs.Str.{bytes_eq};
 ghost use Rattle.avtp_words.specs.Grammar.{Lacks, Need};
@@ -10,7 +10,7 @@ ghost use Rattle.avtp_words.specs.Reading.{EndsOptions, IsTakenAt, LacksValue, S
 ghost use Rattle.avtp_words.specs.Word.{texts, BeginsWithDash};
 
 use crate::number::{is_number, is_signed};
-use crate::operand::id_of;
+use crate::operand::{id_of, is_name};
 use crate::value::format_of;
 
 /// What the value of an option may be.
@@ -26,6 +26,10 @@ pub enum Takes {
     Kind,
     /// The format of samples, as `int16`.
     Format,
+    /// The name of a file.
+    Name,
+    /// What silence is made of: `zero` or `am824`.
+    Silence,
     /// No value at all: the option is its name alone.
     Nothing,
 }
@@ -40,6 +44,8 @@ impl Takes {
             Takes::Id => id_of(word).is_some(),
             Takes::Kind => matches!(word, "aaf" | "am824" | "h264"),
             Takes::Format => format_of(word).is_some(),
+            Takes::Name => is_name(word),
+            Takes::Silence => matches!(word, "zero" | "am824"),
             Takes::Nothing => false,
         }
     }
@@ -89,6 +95,20 @@ pub fn contains(words: &[String], name: &str) -> bool
     ensures { result ≡ list_any (λ word. bytes_eq (string_bytes word) name.now) words.now }
 {
     words.iter().any(|word| word.as_str() == name)
+}
+
+/// Whether a word is not among others.
+pub fn lacks_word(words: &[String], name: &str) -> bool
+    ensures { IsTrue result ↔ (Contains (texts words.now) name.now → ⊥) }
+{
+    !contains(words, name)
+}
+
+/// The place, from 0, of the first word of this name.
+pub fn place_of(words: &[String], name: &str) -> Option<usize>
+    ensures { result ≡ position (λ word. bytes_eq (string_bytes word) name.now) words.now }
+{
+    words.iter().position(|word| word.as_str() == name)
 }
 
 /// Whether the words have none of these options.

@@ -1,6 +1,6 @@
 //! Words that are command lines, and words that are none.
 
-use crate::{Command, Crf, Kind, Listen, Offence, Talk, parse};
+use crate::{Command, Crf, DeviceFile, Kind, Listen, Offence, RawFile, Silence, Talk, parse};
 use aaf_format::AafFormat;
 use std::alloc::{AllocError, Global};
 
@@ -52,6 +52,8 @@ fn listens(files: &[String]) -> Listen<'_> {
         clock: None,
         shift: 0,
         ring: 64,
+        raw: None,
+        annexb: None,
         files,
     }
 }
@@ -90,6 +92,14 @@ const CLOCK: Crf = Crf {
     interval: 96,
     points: 1,
 };
+
+/// Raw audio in a file whose name is the word at this place.
+fn raw(name: &str, place: usize, silence: Silence) -> Option<RawFile<'_>> {
+    Some(RawFile {
+        file: DeviceFile { name, place },
+        silence,
+    })
+}
 
 fn stops<'a>(position: usize) -> Result<Command<'a>, Offence> {
     Err(Offence { position })
@@ -137,7 +147,7 @@ fn show_lines(rt: HostRuntime) -> Result<(), AllocError> {
 /// Words after `show` of which one cannot stand or is missing.
 #[test]
 fn show_offences(rt: HostRuntime) -> Result<(), AllocError> {
-    let cases: [(&[&str], usize); 18] = [
+    let cases: [(&[&str], usize); 19] = [
         (&["show"], 2),
         (&["show", ""], 2),
         (&["show", "-"], 2),
@@ -145,6 +155,7 @@ fn show_offences(rt: HostRuntime) -> Result<(), AllocError> {
         (&["show", "--help"], 2),
         (&["show", "--limit=1", "c.pcap"], 2),
         (&["show", "--look", "1", "c.pcap"], 2),
+        (&["show", "--raw", "x", "c.pcap"], 2),
         (&["show", "--limit"], 3),
         (&["show", "--limit", ""], 3),
         (&["show", "--limit", "0", "c.pcap"], 3),
@@ -377,7 +388,14 @@ fn listen_ends(rt: HostRuntime) -> Result<(), AllocError> {
 /// Values that an option cannot have, and the option without a value, twice, and after the names.
 #[test]
 fn listen_values(rt: HostRuntime) -> Result<(), AllocError> {
-    let cases: [(&str, &str, &[&str]); 5] = [
+    let cases: [(&str, &str, &[&str]); 8] = [
+        ("--raw", "x", &["", "-", "-x", "--silence"]),
+        ("--annexb", "x", &["", "-", "-x", "--raw"]),
+        (
+            "--silence",
+            "zero",
+            &["", "Zero", "zeros", "0", "aaf", "AM824", "--raw"],
+        ),
         (
             "--limit",
             "1",
@@ -432,6 +450,152 @@ fn listen_values(rt: HostRuntime) -> Result<(), AllocError> {
     Ok(())
 }
 
+/// Files that are written, with the places of their names among the words.
+#[test]
+fn listen_devices(rt: HostRuntime) -> Result<(), AllocError> {
+    let files = words_of(rt.alloc(), &["c.pcap"])?;
+    let plain = listens(&files);
+    let cases: [(&[&str], Listen<'_>); 12] = [
+        (
+            &["--raw", "x"],
+            Listen {
+                raw: raw("x", 2, Silence::Zero),
+                ..plain
+            },
+        ),
+        (
+            &["--raw", "x", "--silence", "zero"],
+            Listen {
+                raw: raw("x", 2, Silence::Zero),
+                ..plain
+            },
+        ),
+        (
+            &["--raw", "x", "--silence", "am824"],
+            Listen {
+                raw: raw("x", 2, Silence::Am824),
+                ..plain
+            },
+        ),
+        (
+            &["--silence", "am824", "--raw", "am824"],
+            Listen {
+                raw: raw("am824", 4, Silence::Am824),
+                ..plain
+            },
+        ),
+        (
+            &["--silence", "zero", "--raw", "am824"],
+            Listen {
+                raw: raw("am824", 4, Silence::Zero),
+                ..plain
+            },
+        ),
+        (
+            &["--annexb", "x"],
+            Listen {
+                annexb: Some(DeviceFile {
+                    name: "x",
+                    place: 2,
+                }),
+                ..plain
+            },
+        ),
+        (
+            &["--annexb", "y", "--raw", "x"],
+            Listen {
+                raw: raw("x", 4, Silence::Zero),
+                annexb: Some(DeviceFile {
+                    name: "y",
+                    place: 2,
+                }),
+                ..plain
+            },
+        ),
+        (
+            &["--raw", "raw", "--look", "0", "--annexb", "annexb"],
+            Listen {
+                raw: raw("raw", 2, Silence::Zero),
+                annexb: Some(DeviceFile {
+                    name: "annexb",
+                    place: 6,
+                }),
+                ..plain
+            },
+        ),
+        (
+            &["--ring", "64", "--raw", "64", "--annexb", "listen"],
+            Listen {
+                raw: raw("64", 4, Silence::Zero),
+                annexb: Some(DeviceFile {
+                    name: "listen",
+                    place: 6,
+                }),
+                ..plain
+            },
+        ),
+        (
+            &["--raw", ID, "--look", "0"],
+            Listen {
+                raw: raw(ID, 2, Silence::Zero),
+                ..plain
+            },
+        ),
+        (
+            &["--annexb", "C.pcap", "--raw", "c.pcap "],
+            Listen {
+                raw: raw("c.pcap ", 4, Silence::Zero),
+                annexb: Some(DeviceFile {
+                    name: "C.pcap",
+                    place: 2,
+                }),
+                ..plain
+            },
+        ),
+        (
+            &["--raw", "x-", "--annexb", "./x-"],
+            Listen {
+                raw: raw("x-", 2, Silence::Zero),
+                annexb: Some(DeviceFile {
+                    name: "./x-",
+                    place: 4,
+                }),
+                ..plain
+            },
+        ),
+    ];
+    for (options, asked) in cases {
+        let mut words = words_of(rt.alloc(), &["listen"])?;
+        push_words(rt.alloc(), &mut words, options)?;
+        push_words(rt.alloc(), &mut words, &[ID, "c.pcap"])?;
+        assert_eq!(rt; parse(&words), Ok(Command::Listen(asked)));
+    }
+    Ok(())
+}
+
+/// Words of `listen` that can all stand, and break a rule over several of them.
+#[test]
+fn listen_rules(rt: HostRuntime) -> Result<(), AllocError> {
+    let cases: [&[&str]; 11] = [
+        &["listen", "--silence", "zero", ID, "c.pcap"],
+        &["listen", "--silence", "am824", ID, "c.pcap"],
+        &["listen", "--silence", "zero", "--annexb", "x", ID, "c.pcap"],
+        &["listen", "--raw", "c.pcap", ID, "c.pcap"],
+        &["listen", "--annexb", "c.pcap", ID, "c.pcap"],
+        &["listen", "--raw", "b", ID, "a", "b", "c"],
+        &["listen", "--annexb", "c", ID, "a", "b", "c"],
+        &["listen", "--raw", "x", "--annexb", "x", ID, "c.pcap"],
+        &["listen", "--annexb", "x", "--raw", "x", ID, "c.pcap"],
+        &["listen", "--raw", "x", "--annexb", "a", ID, "a"],
+        &["listen", "--raw", ID, ID, "a", ID],
+    ];
+    for line in cases {
+        let words = words_of(rt.alloc(), line)?;
+        assert_eq!(rt; parse(&words), stops(1));
+    }
+    Ok(())
+}
+
 /// All the words after the stream are files, in their order.
 #[test]
 fn listen_files(rt: HostRuntime) -> Result<(), AllocError> {
@@ -455,7 +619,7 @@ fn listen_files(rt: HostRuntime) -> Result<(), AllocError> {
 /// The same for `listen`.
 #[test]
 fn listen_offences(rt: HostRuntime) -> Result<(), AllocError> {
-    let cases: [(&[&str], usize); 21] = [
+    let cases: [(&[&str], usize); 26] = [
         (&["listen"], 2),
         (&["listen", "02", "c.pcap"], 2),
         (&["listen", "c.pcap", ID], 2),
@@ -477,6 +641,11 @@ fn listen_offences(rt: HostRuntime) -> Result<(), AllocError> {
         (&["listen", ID, "a", "--lead", "5"], 4),
         (&["listen", ID, "a", "b", "-"], 5),
         (&["listen", "--room", "1", "--room", "1", ID, "c.pcap"], 4),
+        (&["listen", "--raw", "x"], 4),
+        (&["listen", "--raw", ID, "c.pcap"], 4),
+        (&["listen", "--silence", "zero", ID], 5),
+        (&["listen", "--raw", "x", "--annexb", "x", "c.pcap"], 6),
+        (&["listen", "--raw", "a", ID, "a", "--silence", "zero"], 6),
     ];
     for (line, position) in cases {
         let words = words_of(rt.alloc(), line)?;

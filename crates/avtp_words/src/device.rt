@@ -1,0 +1,97 @@
+//! The files that `listen` writes beside what it prints.
+
+ghost use Rattle.std.specs.Prelude.{◌≡◌, ◌≢◌, ◌↔◌, codes, Contains, IfSome, IsTrue, option_map};
+ghost use Rattle.avtp_words.specs.Grammar.{named_file, named_raw};
+ghost use Rattle.avtp_words.specs.Reading.{IsReadFile, IsReadRaw, IsReadSilence, value_after};
+ghost use Rattle.avtp_words.specs.Word.{texts};
+
+use crate::limits::{RAW, SILENCE};
+use crate::option::{lacks_word, place_of, word_after, word_at};
+
+/// A file that is written.
+#[derive(Clone, Copy, Debug, PartialEq, Eq)]
+pub struct DeviceFile<'a> {
+    /// Its name.
+    pub name: &'a str,
+    /// The place of the name among the words of the command line, from 0.
+    pub place: usize,
+}
+
+/// What silence is made of.
+#[derive(Clone, Copy, Debug, PartialEq, Eq)]
+pub enum Silence {
+    /// Bytes of 0.
+    Zero,
+    /// Quadlets of AM824 without a sample: a label of 0x40, and three bytes of 0.
+    Am824,
+}
+
+/// A file of raw audio that is written.
+#[derive(Clone, Copy, Debug, PartialEq, Eq)]
+pub struct RawFile<'a> {
+    /// The file.
+    pub file: DeviceFile<'a>,
+    /// What stands in it where packets are missing.
+    pub silence: Silence,
+}
+
+/// The file named after the option of this name, where it is given. The place of its name counts the command in.
+pub fn file_after<'a>(options: &'a [String], name: &str) -> Option<DeviceFile<'a>>
+    ensures { IsReadFile name.now (texts options.now) (option_map named_file result) }
+{
+    let place = place_of(options, name)?;
+    let word = word_at(options, place + 1)?;
+    Some(DeviceFile {
+        name: word,
+        place: place + 2,
+    })
+}
+
+/// What silence is made of by the options of `listen`: zeros where nothing else is said.
+fn silence_after(options: &[String]) -> Silence
+    ensures { IsReadSilence (value_after (codes "--silence") (texts options.now)) result }
+{
+    match word_after(options, SILENCE.name) {
+        Some("am824") => Silence::Am824,
+        _ => Silence::Zero,
+    }
+}
+
+/// The file of raw audio that the options of `listen` ask for.
+pub fn raw_after<'a>(options: &'a [String]) -> Option<RawFile<'a>>
+    ensures { IsReadRaw (texts options.now) (option_map named_raw result) }
+{
+    let file = file_after(options, RAW.name)?;
+    let silence = silence_after(options);
+    Some(RawFile { file, silence })
+}
+
+/// Whether a file that is written, if there is one, is none of those that are read.
+pub fn is_new(file: Option<DeviceFile<'_>>, files: &[String]) -> bool
+    ensures { IsTrue result ↔ IfSome (option_map named_file file.entry) (λ file. Contains (texts files.now) file.name → ⊥) }
+{
+    match file {
+        Some(file) => lacks_word(files, file.name),
+        None => true,
+    }
+}
+
+/// The same for a file of raw audio.
+pub fn is_new_raw(raw: Option<RawFile<'_>>, files: &[String]) -> bool
+    ensures { IsTrue result ↔ IfSome (option_map named_raw raw.entry) (λ raw. Contains (texts files.now) raw.file.name → ⊥) }
+{
+    match raw {
+        Some(raw) => lacks_word(files, raw.file.name),
+        None => true,
+    }
+}
+
+/// Whether the two files that are written, if there are two, have different names.
+pub fn are_apart(raw: Option<RawFile<'_>>, annexb: Option<DeviceFile<'_>>) -> bool
+    ensures { IsTrue result ↔ IfSome (option_map named_raw raw.entry) (λ raw. IfSome (option_map named_file annexb.entry) (λ file. raw.file.name ≢ file.name)) }
+{
+    match (raw, annexb) {
+        (Some(raw), Some(annexb)) => raw.file.name != annexb.name,
+        _ => true,
+    }
+}
