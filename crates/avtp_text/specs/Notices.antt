@@ -11,6 +11,10 @@ capture_refused_line r = codes "capture refused: " ++ refusal_text r ++ newline
 unfoldable pub read_fault_line : List ℕ
 read_fault_line = codes "read fault" ++ newline
 
+-- a device failed to take what it was handed
+unfoldable pub device_fault_line : List ℕ
+device_fault_line = codes "device fault" ++ newline
+
 -- the capture has more bytes than this
 unfoldable pub limit_line : ℕ → List ℕ
 limit_line bytes = codes "limit " ++ decimal bytes ++ newline

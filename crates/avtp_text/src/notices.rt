@@ -1,7 +1,7 @@
 //! The lines that any command may write at its end.
 
 ghost use Rattle.std.specs.Prelude.{◌≡◌};
-ghost use Rattle.avtp_text.specs.Notices.{capture_refused_line, read_fault_line, limit_line, words_line};
+ghost use Rattle.avtp_text.specs.Notices.{capture_refused_line, read_fault_line, device_fault_line, limit_line, words_line};
 ghost use Rattle.avtp_text.specs.Written.{Prints};
 
 use crate::buffer::Text;
@@ -30,6 +30,14 @@ impl Text {
         ensures { Prints (S.held out.old) (S.held out.new) self.old self.new (S.faults out.old) (S.faults out.new) result read_fault_line }
     {
         self.print(out, b"read fault\n")
+    }
+
+    /// Says that a device failed to take what it was handed.
+    #[tactic(auto, unfolding(crate::specs::Notices::device_fault_line))]
+    pub fn device_fault<S: Output>(&mut self, out: &mut S) -> Result<(), Failed>
+        ensures { Prints (S.held out.old) (S.held out.new) self.old self.new (S.faults out.old) (S.faults out.new) result device_fault_line }
+    {
+        self.print(out, b"device fault\n")
     }
 
     /// Says that a file has more than so many bytes.

@@ -172,6 +172,7 @@ fn every_line<S: Sink>(text: &mut Text, out: &mut S) -> Result<(), Failed> {
         },
     )?;
     text.read_fault(out)?;
+    text.device_fault(out)?;
     text.limit(out, 105)?;
     text.words(out, 2)?;
     text.capture(out, "c.pcap")?;
@@ -238,6 +239,7 @@ end frames 6
 capture refused: incl_len at 32
 capture refused: incl_len at 32 short
 read fault
+device fault
 limit 105
 words: 2
 capture c.pcap

@@ -1,4 +1,5 @@
 pub mod Carried
+pub mod Handed
 pub mod Outputs
 pub mod Silences
 pub mod Taken

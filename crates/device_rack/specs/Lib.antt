@@ -1,3 +1,4 @@
+pub mod Handed
 pub mod Laws
 pub mod Output
 pub mod Racks

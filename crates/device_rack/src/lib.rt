@@ -2,6 +2,7 @@
 #![tactic(auto)]
 
 mod annex_b;
+mod devices;
 pub mod laws;
 mod place;
 mod previous;
@@ -12,6 +13,7 @@ mod unit;
 mod writing;
 
 pub use annex_b::AnnexBDevice;
+pub use devices::Devices;
 pub use place::Place;
 pub use rack::Rack;
 pub use raw::RawDevice;
