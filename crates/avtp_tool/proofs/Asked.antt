@@ -163,7 +163,7 @@ shift_within (Some word) z given = small_shift z given.size
 pub requested : (words : List (List ℕ)) (request : Request) → IsCommandLine words request → IsRequest request
 requested words (show limit file) line = (given_within (value_in (codes "--limit") line.settings) 1 (2 ^ 40) (2 ^ 40) limit (omega arith) (omega arith) line.limit_given).1
 requested words (check limit names) line = (given_within (value_in (codes "--limit") line.settings) 1 (2 ^ 40) (2 ^ 40) limit (omega arith) (omega arith) line.limit_given).1
-requested words (listen asked) line =
+requested words (listen asked) (line, rules) =
     let limit = given_within (value_in (codes "--limit") line.settings) 1 (2 ^ 40) (2 ^ 40) asked.limit (omega arith) (omega arith) line.limit in
     let buffer = given_within (value_in (codes "--buffer") line.settings) 1 65536 4096 asked.buffer (omega arith) (omega arith) line.buffer in
     let room = given_within (value_in (codes "--room") line.settings) 1 (2 ^ 30) (2 ^ 26) asked.room (omega arith) (omega arith) line.room in

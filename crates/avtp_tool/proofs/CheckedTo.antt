@@ -26,10 +26,12 @@ use Rattle.avtp_tool.specs.declared.status.Status.TheVariants as status
 use Rattle.avtp_tool.specs.Check.{check_lines, check_report, check_status, checked_record, ChecksRecords, found_lines, HasChecked, joined_lines, noted, notes_of, PrintsFound, total_line}
 use Rattle.avtp_tool.specs.Lines.{of_each}
 use Rattle.avtp_tool.specs.Outcome.{CountsReading, EndsWith}
-use Rattle.avtp_tool.specs.Reading.{file_text, IsReadingStatus}
+use Rattle.avtp_tool.specs.Yield.{GivesPart, HandsNothing}
+use Rattle.avtp_tool.proofs.Yields.{part_text}
+use Rattle.avtp_tool.specs.Reading.{file_yield, IsReadingStatus}
 use Rattle.avtp_tool.proofs.DoesFile.{IsReadAndTold}
 use Rattle.avtp_tool.proofs.Lines.{each_first, each_more, each_none}
-use Rattle.avtp_tool.proofs.Leaving.{heard_status}
+use Rattle.avtp_tool.proofs.Leaving.{own_as, own_ended}
 use Rattle.avtp_tool.proofs.Outcomes.{counts_ended, counts_failed, ok_same, tells_end}
 
 -- ---- lists
@@ -132,15 +134,15 @@ checks_failed limit name bytes fault before now (Err e) err prefix = prefix
 -- ---- what `check` makes of a file
 
 pub check_told : {h h' : Option (List ℕ)} {w w' : List ℕ} {n n' : ℕ} {result : Result Status Failed} (limit : ℕ) (name bytes : List ℕ) (fault : Type 0) (total : Total) (before : Option (List ℕ)) → HasChecked limit name bytes fault total before (written h w)
-    → EndsWith (check_status total.findings total.end) h h' w w' n n' result (total_line limit total.frames total.streams total.findings total.end) → IsReadAndTold (check_report limit name) limit bytes fault total.end before (written h' w') result
+    → EndsWith (check_status total.findings total.end) h h' w w' n n' result (total_line limit total.frames total.streams total.findings total.end) → IsReadAndTold (check_report limit name) HandsNothing limit bytes fault total.end before (written h' w') result
 check_told limit name bytes fault total before c ends = record {
   records = c.records;
   ends = c.ends;
-  tells = tells_end (text_of name c.records) (ap (λ (k : ℕ). check_status k total.end) c.found, rw (c.frames, c.streams, c.found) refl) c.lines ends;
+  tells = tells_end (text_of name c.records) [] (ap (λ (k : ℕ). check_status k total.end) c.found, rw (c.frames, c.streams, c.found) refl) c.lines refl ends;
 }
 
-pub some_lines : (limit : ℕ) (name bytes : List ℕ) (before now : Option (List ℕ)) → AppendsPrefix before now (text_of name (records_in (take limit bytes))) → AppendsPrefix before now (file_text (check_report limit name) limit (Some bytes))
-some_lines limit name bytes before now prefix = prefix_before before now (text_of name (records_in (take limit bytes))) _ prefix
+pub some_lines : (limit : ℕ) (name bytes : List ℕ) (before now : Option (List ℕ)) → AppendsPrefix before now (text_of name (records_in (take limit bytes))) → GivesPart HandsNothing before now (file_yield (check_report limit name) limit (Some bytes))
+some_lines limit name bytes before now prefix = part_text refl _ (prefix_before before now (text_of name (records_in (take limit bytes))) _ prefix)
 
 -- with findings or without, a run over a capture that was read to its end counted no fault of reading
 found_done : (found : ℕ) → (check_status found end.Whole ≡ status.Done) ⊎ (check_status found end.Whole ≡ status.Findings)
@@ -165,9 +167,9 @@ counts_checked found end.Limit (Ok s) falls counts is = counts_ended end.Limit (
 pub own_checked : (found : ℕ) (how : End) (result : Result Status Failed) → IfOk result (λ s. s ≡ check_status found how) → IsReadingStatus result
 own_checked found how (Err e) is = tt
 own_checked found end.Whole (Ok s) is = elim (found_done found) [
-  | inl done ↦ (λ e. (let t : status.Done ≡ status.WriteFault = sym done ∙ (sym is ∙ e) in cc), λ e. (let t : status.Done ≡ status.Words = sym done ∙ (sym is ∙ e) in cc))
-  | inr findings ↦ (λ e. (let t : status.Findings ≡ status.WriteFault = sym findings ∙ (sym is ∙ e) in cc), λ e. (let t : status.Findings ≡ status.Words = sym findings ∙ (sym is ∙ e) in cc))
+  | inl done ↦ own_as (Ok s) status.Done refl (is ∙ done)
+  | inr findings ↦ own_as (Ok s) status.Findings refl (is ∙ findings)
 ]
-own_checked found (end.Refused refusal) (Ok s) is = heard_status (Ok s) (end.Refused refusal) (inr is)
-own_checked found end.ReadFault (Ok s) is = heard_status (Ok s) end.ReadFault (inr is)
-own_checked found end.Limit (Ok s) is = heard_status (Ok s) end.Limit (inr is)
+own_checked found (end.Refused refusal) (Ok s) is = own_ended (Ok s) (end.Refused refusal) is
+own_checked found end.ReadFault (Ok s) is = own_ended (Ok s) end.ReadFault is
+own_checked found end.Limit (Ok s) is = own_ended (Ok s) end.Limit is

@@ -1,7 +1,7 @@
 -- What a run comes to where no fault of reading comes.
-use Rattle.std.proofs.Common.{◌≡◌, ℕ, ℤ, ◌≤◌, ◌<◌, List, [], ◌∷◌, ◌++◌, length, take, Option, Some, None, true, false, if◌then◌else◌, inl, inr, refl, sym, ap, subst, ◌∙◌, append_assoc}
+use Rattle.std.proofs.Common.{◌≡◌, ℕ, ℤ, ◌≤◌, ◌<◌, List, [], ◌∷◌, ◌++◌, length, take, Option, Some, None, Bool, true, false, if◌then◌else◌, inl, inr, refl, sym, ap, subst, ◌∙◌}
 use Rattle.std.proofs.lemmas.Bool.{cases_lt, le-leb, lt-leb}
-use Rattle.std.proofs.lemmas.List.{append-nil, take_all}
+use Rattle.std.proofs.lemmas.List.{take_all}
 use Rattle.avtp_base.specs.declared.refusal.Refusal.{Refusal}
 use Rattle.avtp_base.specs.Files.{Files}
 use Rattle.pcap_frames.specs.Capture.{Record}
@@ -23,10 +23,12 @@ use Rattle.avtp_words.specs.Grammar.{Listening, Request, show, check, listen, ta
 use Rattle.avtp_tool.specs.declared.status.Status.{Status}
 use Rattle.avtp_tool.specs.declared.status.Status.TheVariants as status
 use Rattle.avtp_tool.specs.Check.{check_plan}
-use Rattle.avtp_tool.specs.Listen.{HasHeadline, end_line, heard_text, listen_plan, listen_report, listen_status, plan_of, PrintsHeadline, shown_text}
+use Rattle.avtp_tool.specs.Listen.{HasHeadline, end_line, heard_yield, listen_plan, listen_report, listen_status, plan_of, shown_text, YieldsHeadline}
 use Rattle.avtp_tool.specs.Outcome.{is_done}
-use Rattle.avtp_tool.specs.Reading.{FileOutcome, file_status, file_text, InOrder, in_order_read, in_order_status, in_order_text, joined, one_outcome, one_status, one_text, PlanOutcome, plan_read, plan_status, plan_text, ReadPlan, Report}
-use Rattle.avtp_tool.specs.Run.{came_for, Outcome, report_for, status_for, talk_came}
+use Rattle.avtp_tool.specs.Reading.{FileOutcome, file_status, file_yield, InOrder, in_order_read, in_order_status, in_order_yield, joined, one_outcome, one_status, one_yield, PlanOutcome, plan_read, plan_status, plan_yield, ReadPlan, Report}
+use Rattle.avtp_tool.specs.Run.{came_for, device_notice, device_status, Outcome, status_for, talk_came, yield_for}
+use Rattle.avtp_tool.specs.Yield.{says, with_more, Yield}
+use Rattle.avtp_tool.proofs.Yields.{more_more, more_none}
 use Rattle.avtp_tool.specs.Show.{show_plan}
 use Rattle.avtp_tool.specs.Talk.{line_by, status_by, TalkedOutcome, TalkOutcome, talk_plan, talk_report, talk_status}
 use Rattle.avtp_tool.proofs.InOrder.{order_here, rest_done}
@@ -40,38 +42,38 @@ by_end limit bytes prefix fault (end.Refused refusal) none ends = ends
 by_end limit bytes prefix fault end.ReadFault none ends = absurd (none ends.0)
 by_end limit bytes prefix fault end.Limit none ends = ends
 
-complete_file : (report : Report) (limit : ℕ) (told : Option (List ℕ)) (fault : Type 0) (ended : Status) (text : List ℕ) → (fault → ⊥) → FileOutcome report limit told fault ended text → (ended ≡ file_status report limit told) × (text ≡ file_text report limit told)
-complete_file report limit None fault ended text none o = o
-complete_file report limit (Some bytes) fault ended text none (inl read) =
+complete_file : (report : Report) (limit : ℕ) (told : Option (List ℕ)) (fault : Type 0) (ended : Status) (yields : Yield) → (fault → ⊥) → FileOutcome report limit told fault ended yields → (ended ≡ file_status report limit told) × (yields ≡ file_yield report limit told)
+complete_file report limit None fault ended yields none o = o
+complete_file report limit (Some bytes) fault ended yields none (inl read) =
     let at = by_end limit bytes read.prefix fault read.how none read.ends in (
       read.status ∙ ap (λ (p : List ℕ). report.status (records_in p) read.how) at.1 ∙ ap (λ (h : End). report.status (records_in (take limit bytes)) h) at.0,
-      read.printed ∙ ap (λ (p : List ℕ). report.text (records_in p) read.how) at.1 ∙ ap (λ (h : End). report.text (records_in (take limit bytes)) h) at.0,
+      read.given ∙ ap (λ (p : List ℕ). report.yields (records_in p) read.how) at.1 ∙ ap (λ (h : End). report.yields (records_in (take limit bytes)) h) at.0,
     )
-complete_file report limit (Some bytes) fault ended text none (inr unopened) = absurd (none unopened.0)
+complete_file report limit (Some bytes) fault ended yields none (inr unopened) = absurd (none unopened.0)
 
-complete_order : (one : List ℕ → Status → List ℕ → Type 0) (ends : List ℕ → Status) (text : List ℕ → List ℕ) → ((name : List ℕ) (ended : Status) (printed : List ℕ) → one name ended printed → (ended ≡ ends name) × (printed ≡ text name))
-    → (names read : List (List ℕ)) (ended : Status) (printed : List ℕ) → InOrder one names read ended printed → (read ≡ in_order_read ends names) × (ended ≡ in_order_status ends names) × (printed ≡ in_order_text ends text names)
-unfolding InOrder in_order_read in_order_status in_order_text
-complete_order one ends text each [] read ended printed order = order
-complete_order one ends text each (name ∷ names) read ended printed (inl (stops, came, outcome)) =
-    let same = each name ended printed outcome in
+complete_order : (one : List ℕ → Status → Yield → Type 0) (ends : List ℕ → Status) (yields : List ℕ → Yield) → ((name : List ℕ) (ended : Status) (given : Yield) → one name ended given → (ended ≡ ends name) × (given ≡ yields name))
+    → (names read : List (List ℕ)) (ended : Status) (given : Yield) → InOrder one names read ended given → (read ≡ in_order_read ends names) × (ended ≡ in_order_status ends names) × (given ≡ in_order_yield ends yields names)
+unfolding InOrder in_order_read in_order_status in_order_yield
+complete_order one ends yields each [] read ended given order = order
+complete_order one ends yields each (name ∷ names) read ended given (inl (stops, came, outcome)) =
+    let same = each name ended given outcome in
     let here : is_done (ends name) ≡ false = ap is_done (sym same.0) ∙ stops in
-    (rw here came, rw here same.0, rw here (same.1 ∙ sym (append-nil (text name))))
-complete_order one ends text each (name ∷ names) read ended printed (inr (others, first, rest, here, more, goes, outcome, order, came, is, all)) =
+    (rw here came, rw here same.0, rw here (same.1 ∙ sym (more_none (yields name))))
+complete_order one ends yields each (name ∷ names) read ended given (inr (others, first, rest, here, more, goes, outcome, order, came, is, all)) =
     let same = each name first here outcome in
     let on : is_done (ends name) ≡ true = ap is_done (sym same.0) ∙ goes in
-    let next = complete_order one ends text each names others rest more order in (
+    let next = complete_order one ends yields each names others rest more order in (
       rw on (came ∙ ap (λ (ns : List (List ℕ)). name ∷ ns) next.0),
       rw on (is ∙ ap (λ (s : Status). joined s rest) same.0 ∙ ap (λ (s : Status). joined (ends name) s) next.1),
-      rw on (all ∙ ap (λ (t : List ℕ). t ++ more) same.1 ∙ ap (λ (t : List ℕ). text name ++ t) next.2),
+      rw on (all ∙ ap (λ (y : Yield). with_more y more) same.1 ∙ ap (λ (y : Yield). with_more (yields name) y) next.2),
     )
 
-plan_here : (plan : ReadPlan) (files : Files) (fault : Type 0) → PlanOutcome plan files fault (plan_read plan files) (plan_status plan files) (plan_text plan files)
-plan_here plan files fault = order_here (one_outcome plan files fault) (one_status plan files) (one_text plan files) (λ name. file_here (plan.report name) plan.limit (files name) fault) plan.names
+plan_here : (plan : ReadPlan) (files : Files) (fault : Type 0) → PlanOutcome plan files fault (plan_read plan files) (plan_status plan files) (plan_yield plan files)
+plan_here plan files fault = order_here (one_outcome plan files fault) (one_status plan files) (one_yield plan files) (λ name. file_here (plan.report name) plan.limit (files name) fault) plan.names
 
-complete_plan : (plan : ReadPlan) (files : Files) (fault : Type 0) (came : List (List ℕ)) (ended : Status) (text : List ℕ) → (fault → ⊥) → PlanOutcome plan files fault came ended text → (came ≡ plan_read plan files) × (ended ≡ plan_status plan files) × (text ≡ plan_text plan files)
-complete_plan plan files fault came ended text none o =
-    complete_order (one_outcome plan files fault) (one_status plan files) (one_text plan files) (λ name s t outcome. complete_file (plan.report name) plan.limit (files name) fault s t none outcome) plan.names came ended text o
+complete_plan : (plan : ReadPlan) (files : Files) (fault : Type 0) (came : List (List ℕ)) (ended : Status) (yields : Yield) → (fault → ⊥) → PlanOutcome plan files fault came ended yields → (came ≡ plan_read plan files) × (ended ≡ plan_status plan files) × (yields ≡ plan_yield plan files)
+complete_plan plan files fault came ended yields none o =
+    complete_order (one_outcome plan files fault) (one_status plan files) (one_yield plan files) (λ name s y outcome. complete_file (plan.report name) plan.limit (files name) fault s y none outcome) plan.names came ended yields o
 
 -- ---- an input
 
@@ -117,65 +119,87 @@ complete_input plan (Some bytes) cause ended text unfaulty o = complete_talk pla
 
 -- ---- any request
 
-pub outcome_here : (request : Request) (files : Files) (cause : Type 0) → Outcome request files cause (came_for request files) (status_for request files) (report_for request files)
-outcome_here (show limit file) files cause = plan_here (show_plan limit file) files cause
-outcome_here (check limit names) files cause = plan_here (check_plan limit names) files cause
-outcome_here (listen asked) files cause = plan_here (listen_plan asked) files cause
-outcome_here (talk asked) files cause = (refl, talk_here (talk_plan asked) (files asked.input) cause)
-outcome_here (soak packets) files cause = (refl, (refl, refl))
+pub outcome_here : (request : Request) (files : Files) (cause : Type 0) (failed : Bool) → Outcome request files cause failed (came_for request files) (status_for request files failed) (yield_for request files failed)
+outcome_here (show limit file) files cause failed = plan_here (show_plan limit file) files cause
+outcome_here (check limit names) files cause failed = plan_here (check_plan limit names) files cause
+outcome_here (listen asked) files cause failed = record { heard = plan_status (listen_plan asked) files; given = plan_yield (listen_plan asked) files; reads = plan_here (listen_plan asked) files cause; status = refl; notice = refl }
+outcome_here (talk asked) files cause failed = (refl, talk_here (talk_plan asked) (files asked.input) cause, refl)
+outcome_here (soak packets) files cause failed = (refl, (refl, refl))
 
-pub complete_of : (request : Request) (files : Files) (cause : Type 0) (came : List (List ℕ)) (ended : Status) (text : List ℕ) → (cause → ⊥) → Outcome request files cause came ended text
-    → (came ≡ came_for request files) × (ended ≡ status_for request files) × (text ≡ report_for request files)
-complete_of (show limit file) files cause came ended text none o = complete_plan (show_plan limit file) files cause came ended text none o
-complete_of (check limit names) files cause came ended text none o = complete_plan (check_plan limit names) files cause came ended text none o
-complete_of (listen asked) files cause came ended text none o = complete_plan (listen_plan asked) files cause came ended text none o
-complete_of (talk asked) files cause came ended text none o =
-    let same = complete_input (talk_plan asked) (files asked.input) cause ended text none o.1 in
-    (o.0 ∙ ap (talk_came asked) same.0, same.0, same.1)
-complete_of (soak packets) files cause came ended text none o = (o.0, o.1.0, o.1.1)
+same_says : (yields : Yield) (text : List ℕ) → yields.items ≡ [] → yields.text ≡ text → yields ≡ says text
+same_says yields text none is = let e : record { text = yields.text; items = yields.items } ≡ says text = rw (none, is) refl in e
+
+pub complete_of : (request : Request) (files : Files) (cause : Type 0) (failed : Bool) (came : List (List ℕ)) (ended : Status) (yields : Yield) → (cause → ⊥) → Outcome request files cause failed came ended yields
+    → (came ≡ came_for request files) × (ended ≡ status_for request files failed) × (yields ≡ yield_for request files failed)
+complete_of (show limit file) files cause failed came ended yields none o = complete_plan (show_plan limit file) files cause came ended yields none o
+complete_of (check limit names) files cause failed came ended yields none o = complete_plan (check_plan limit names) files cause came ended yields none o
+complete_of (listen asked) files cause failed came ended yields none o =
+    let same = complete_plan (listen_plan asked) files cause came o.heard o.given none o.reads in (
+      same.0,
+      o.status ∙ ap (device_status failed) same.1,
+      o.notice ∙ ap (λ (y : Yield). with_more y (says (device_notice failed o.heard))) same.2 ∙ ap (λ (s : Status). with_more (plan_yield (listen_plan asked) files) (says (device_notice failed s))) same.1,
+    )
+complete_of (talk asked) files cause failed came ended yields none o =
+    let same = complete_input (talk_plan asked) (files asked.input) cause ended yields.text none o.1 in
+    (o.0 ∙ ap (talk_came asked) same.0, same.0, same_says yields (talk_report (talk_plan asked) (files asked.input)) o.2 same.1)
+complete_of (soak packets) files cause failed came ended yields none o = (o.0, o.1.0, o.1.1)
 
 -- ---- the headline
 
--- the text of files that are read to their end, and of those after them
-text_split : (ends : List ℕ → Status) (text : List ℕ → List ℕ) (earlier more : List (List ℕ)) → is_done (in_order_status ends earlier) ≡ true → in_order_text ends text (earlier ++ more) ≡ in_order_text ends text earlier ++ in_order_text ends text more
-unfolding in_order_status in_order_text
-text_split ends text [] more done = refl
-text_split ends text (name ∷ earlier) more done =
+-- what files yield that are read to their end, and those after them
+yield_split : (ends : List ℕ → Status) (yields : List ℕ → Yield) (earlier more : List (List ℕ)) → is_done (in_order_status ends earlier) ≡ true → in_order_yield ends yields (earlier ++ more) ≡ with_more (in_order_yield ends yields earlier) (in_order_yield ends yields more)
+unfolding in_order_status in_order_yield
+yield_split ends yields [] more done = refl
+yield_split ends yields (name ∷ earlier) more done =
     elim (is_done (ends name)) as (λ b. is_done (ends name) ≡ b → is_done (if b then joined (ends name) (in_order_status ends earlier) else ends name) ≡ true
-    → text name ++ (if b then in_order_text ends text (earlier ++ more) else []) ≡ (text name ++ (if b then in_order_text ends text earlier else [])) ++ in_order_text ends text more) [
-      | true ↦ λ is all. ap (λ (t : List ℕ). text name ++ t) (text_split ends text earlier more (rest_done (ends name) (in_order_status ends earlier) all)) ∙ sym (append_assoc (text name) (in_order_text ends text earlier) (in_order_text ends text more))
+    → with_more (yields name) (if b then in_order_yield ends yields (earlier ++ more) else says []) ≡ with_more (with_more (yields name) (if b then in_order_yield ends yields earlier else says [])) (in_order_yield ends yields more)) [
+      | true ↦ λ is all. ap (λ (y : Yield). with_more (yields name) y) (yield_split ends yields earlier more (rest_done (ends name) (in_order_status ends earlier) all)) ∙ sym (more_more (yields name) (in_order_yield ends yields earlier) (in_order_yield ends yields more))
       | false ↦ λ is all. absurd (let t : true ≡ false = sym all ∙ is in cc)
     ] refl done
 
 lines_at : (asked : Listening) (name : List ℕ) (records : List Record) (refused : Option Refusal)
-    → heard_text asked name records (at_end refused) ≡ shown_text name (shown_of (plan_of asked) records) ++ end_line (counts_of (plan_of asked) records (shown_of (plan_of asked) records)) refused
+    → (heard_yield asked name records (at_end refused)).text ≡ shown_text name (shown_of (plan_of asked) records) ++ end_line (counts_of (plan_of asked) records (shown_of (plan_of asked) records)) refused
 lines_at asked name records None = refl
 lines_at asked name records (Some refusal) = refl
 
-prints_headline : (asked : Listening) (name : List ℕ) (shift : ℤ) (p : PacketJournal) (bytes : List ℕ) → length bytes ≤ asked.limit → HearsTalker shift p (plan_of asked) (records_in bytes) → PrintsHeadline asked name shift p bytes (file_text (listen_report asked name) asked.limit (Some bytes))
-prints_headline asked name shift p bytes fits hears = record {
+items_at : (asked : Listening) (name : List ℕ) (records : List Record) (refused : Option Refusal) → (heard_yield asked name records (at_end refused)).items ≡ shown_of (plan_of asked) records
+items_at asked name records None = refl
+items_at asked name records (Some refusal) = refl
+
+-- a file that is read to its end
+whole_file : (asked : Listening) (name bytes : List ℕ) → length bytes ≤ asked.limit → file_yield (listen_report asked name) asked.limit (Some bytes) ≡ heard_yield asked name (records_in bytes) (at_end (refusal_in bytes))
+whole_file asked name bytes fits =
+    ap (λ (prefix : List ℕ). heard_yield asked name (records_in prefix) (end_of asked.limit bytes)) (take_all asked.limit bytes fits)
+    ∙ ap (heard_yield asked name (records_in bytes)) (at_end_is asked.limit bytes fits)
+
+yields_headline : (asked : Listening) (name : List ℕ) (shift : ℤ) (p : PacketJournal) (bytes : List ℕ) → length bytes ≤ asked.limit → HearsTalker shift p (plan_of asked) (records_in bytes) → YieldsHeadline asked name shift p bytes (file_yield (listen_report asked name) asked.limit (Some bytes))
+yields_headline asked name shift p bytes fits hears = record {
   shown = shown_of (plan_of asked) (records_in bytes);
   keeps = headline shift p (plan_of asked) (records_in bytes) hears;
-  printed = ap (λ (prefix : List ℕ). heard_text asked name (records_in prefix) (end_of asked.limit bytes)) (take_all asked.limit bytes fits)
-      ∙ ap (heard_text asked name (records_in bytes)) (at_end_is asked.limit bytes fits)
-      ∙ lines_at asked name (records_in bytes) (refusal_in bytes);
+  printed = ap (λ (y : Yield). y.text) (whole_file asked name bytes fits) ∙ lines_at asked name (records_in bytes) (refusal_in bytes);
+  handed = ap (λ (y : Yield). y.items) (whole_file asked name bytes fits) ∙ items_at asked name (records_in bytes) (refusal_in bytes);
 }
 
-rest_text : (ends : List ℕ → Status) (text : List ℕ → List ℕ) (name : List ℕ) (later : List (List ℕ)) → (rest : List ℕ) × (in_order_text ends text (name ∷ later) ≡ text name ++ rest)
-unfolding in_order_text
-rest_text ends text name later = (if is_done (ends name) then in_order_text ends text later else [], refl)
+rest_yield : (ends : List ℕ → Status) (yields : List ℕ → Yield) (name : List ℕ) (later : List (List ℕ)) → (rest : Yield) × (in_order_yield ends yields (name ∷ later) ≡ with_more (yields name) rest)
+unfolding in_order_yield
+rest_yield ends yields name later = (if is_done (ends name) then in_order_yield ends yields later else says [], refl)
 
-pub has_headline : (asked : Listening) (files : Files) (earlier later : List (List ℕ)) (name bytes : List ℕ) (shift : ℤ) (p : PacketJournal) → asked.files ≡ earlier ++ name ∷ later → listen_status asked files earlier ≡ status.Done
-    → files name ≡ Some bytes → length bytes ≤ asked.limit → HearsTalker shift p (plan_of asked) (records_in bytes) → HasHeadline asked name shift p bytes (plan_text (listen_plan asked) files)
-has_headline asked files earlier later name bytes shift p split done told fits hears =
+pub has_headline : (asked : Listening) (files : Files) (failed : Bool) (earlier later : List (List ℕ)) (name bytes : List ℕ) (shift : ℤ) (p : PacketJournal) → asked.files ≡ earlier ++ name ∷ later → listen_status asked files earlier ≡ status.Done
+    → files name ≡ Some bytes → length bytes ≤ asked.limit → HearsTalker shift p (plan_of asked) (records_in bytes) → HasHeadline asked name shift p bytes (yield_for (listen asked) files failed)
+has_headline asked files failed earlier later name bytes shift p split done told fits hears =
     let ends = one_status (listen_plan asked) files in
-    let text = one_text (listen_plan asked) files in
-    let rest = rest_text ends text name later in
-    let here : text name ≡ file_text (listen_report asked name) asked.limit (Some bytes) = ap (file_text (listen_report asked name) asked.limit) told in
+    let yields = one_yield (listen_plan asked) files in
+    let rest = rest_yield ends yields name later in
+    let notice : Yield = says (device_notice failed (plan_status (listen_plan asked) files)) in
+    let file : Yield = file_yield (listen_report asked name) asked.limit (Some bytes) in
+    let here : yields name ≡ file = ap (file_yield (listen_report asked name) asked.limit) told in
+    let before : Yield = in_order_yield ends yields earlier in
+    let all : plan_yield (listen_plan asked) files ≡ with_more before (with_more file rest.0) =
+    ap (in_order_yield ends yields) split ∙ yield_split ends yields earlier (name ∷ later) (ap is_done done) ∙ ap (λ (y : Yield). with_more before y) (rest.1 ∙ ap (λ (y : Yield). with_more y rest.0) here) in
     record {
-      before = in_order_text ends text earlier;
-      here = file_text (listen_report asked name) asked.limit (Some bytes);
-      after = rest.0;
-      prints = prints_headline asked name shift p bytes fits hears;
-      split = ap (in_order_text ends text) split ∙ text_split ends text earlier (name ∷ later) (ap is_done done) ∙ ap (λ (t : List ℕ). in_order_text ends text earlier ++ t) (rest.1 ∙ ap (λ (t : List ℕ). t ++ rest.0) here);
+      before = before;
+      here = file;
+      after = with_more rest.0 notice;
+      keeps = yields_headline asked name shift p bytes fits hears;
+      split = ap (λ (y : Yield). with_more y notice) all ∙ more_more before (with_more file rest.0) notice ∙ ap (λ (y : Yield). with_more before y) (more_more file rest.0 notice);
     }

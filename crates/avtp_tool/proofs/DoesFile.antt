@@ -11,29 +11,28 @@ use Rattle.capture_io.specs.declared.end.End.{End}
 use Rattle.capture_io.specs.Ends.{CountsFault}
 use Rattle.capture_io.specs.Reads.{OnlyReads}
 use Rattle.capture_io.specs.Source.{EndsAfter, HasGiven, Sourcing}
-use Rattle.avtp_text.specs.Written.{AppendsPrefix, written}
+use Rattle.avtp_text.specs.Notices.{read_fault_line}
+use Rattle.avtp_text.specs.Written.{written}
+use Rattle.sample_schedule.specs.declared.shown.Shown.{Shown}
 use Rattle.avtp_tool.specs.declared.status.Status.{Status}
 use Rattle.avtp_tool.specs.declared.status.Status.TheVariants as status
-use Rattle.avtp_tool.specs.Outcome.{CountsReading, EndsUnopened, KeepsSink, Only, Tells}
-use Rattle.avtp_tool.specs.Reading.{DoesFile, file_status, file_text, IsReadingStatus, Report}
+use Rattle.avtp_tool.specs.Outcome.{CountsReading, EndsUnopened, KeepsSink, Only, TellsYield}
+use Rattle.avtp_tool.specs.Reading.{DoesFile, file_status, file_yield, IsReadingStatus, Report}
 use Rattle.avtp_tool.proofs.OneFile.{file_fault, file_here, file_read}
-use Rattle.avtp_tool.proofs.Outcomes.{counts_unopened, IsCut, missing_none, tells_cut, tells_unopened, tells_weaker, unopened_words, unopened_writes}
-
-pub own_of : (result : Result Status Failed) → (result ≡ Ok status.WriteFault → ⊥) → (result ≡ Ok status.Words → ⊥) → IsReadingStatus result
-own_of (Ok s) write words = (λ e. write cc, λ e. words cc)
-own_of (Err e) write words = tt
+use Rattle.avtp_tool.proofs.Outcomes.{counts_unopened, IsCut, missing_none, tells_cut, tells_unopened, tells_weaker, unopened_own, yield_telling}
+use Rattle.avtp_tool.specs.Yield.{GivesPart}
 
 -- it could not be opened
-pub does_unopened : {T : Type 0} {f g : Option Files} {s t : Slots} {r q w x : ℕ} {a b : List (List ℕ) → Type 0} {h h' : Option (List ℕ)} {l l' : List ℕ} {n n' : ℕ} {result : Result Status Failed} (report : Report) (limit : ℕ) (fault : OpenFault) (name : List ℕ)
-    → IsOpenCounted {T = T} r q (Err fault) → (IsErrOf {T = T} (Err fault) open_fault.Missing → IsMissing f name) → OnlyReads f g s t r q w x a b (name ∷ []) → EndsUnopened fault h h' l l' n n' result
-    → DoesFile report limit name f g s t r q w x a b h h' l l' n n' result
-does_unopened {T} {f} {r = r} {q} {result = result} report limit fault name counts missing keeps ends = record {
+pub does_unopened : {T : Type 0} {f g : Option Files} {s t : Slots} {r q w x : ℕ} {a b : List (List ℕ) → Type 0} {h h' : Option (List ℕ)} {l l' : List ℕ} {n n' : ℕ} {result : Result Status Failed} {handed : List Shown → Type 0} (report : Report) (limit : ℕ) (fault : OpenFault) (name : List ℕ)
+    → handed [] → IsOpenCounted {T = T} r q (Err fault) → (IsErrOf {T = T} (Err fault) open_fault.Missing → IsMissing f name) → OnlyReads f g s t r q w x a b (name ∷ []) → EndsUnopened fault h h' l l' n n' result
+    → DoesFile report handed limit name f g s t r q w x a b h h' l l' n n' result
+does_unopened {T} {f} {r = r} {q} {h = h} {h'} {l} {l'} {result = result} report limit fault name none counts missing keeps ends = record {
   tells = λ all told.
-      tells_unopened {T = T} fault r q f name (file_status report limit (all name)) (file_text report limit (all name)) (file_here report limit (all name) (Rose r q))
+      tells_unopened {T = T} fault r q f name (file_status report limit (all name)) (file_yield report limit (all name)) (yield_telling (written h l) (written h' l') read_fault_line none) (file_here report limit (all name) (Rose r q))
       (λ cause. file_fault report limit (all name) (Rose r q) (elim cause [ inl rose ↦ inl rose | inr gone ↦ inr (missing_none f name all told gone) ])) counts missing ends;
   keeps = keeps;
   counts = counts_unopened {T = T} fault r q f name counts missing ends;
-  own = own_of result (unopened_writes fault ends) (unopened_words fault ends);
+  own = unopened_own fault ends;
   sink = ends.sink;
 }
 
@@ -42,15 +41,15 @@ abbrev pub IsBegun : ℕ → List ℕ → Option Files → Option (List ℕ) →
 IsBegun limit name files remains source = (all : Files) → files ≡ Some all → (bytes : List ℕ) × (all name ≡ Some bytes) × HasGiven limit bytes remains source []
 
 -- Its records were read, which ended so, and what is made of them was told.
-pub record IsReadAndTold (report : Report) (limit : ℕ) (bytes : List ℕ) (fault : Type 0) (how : End) (before now : Option (List ℕ)) (result : Result Status Failed) : Type 0 where
+pub record IsReadAndTold (report : Report) (handed : List Shown → Type 0) (limit : ℕ) (bytes : List ℕ) (fault : Type 0) (how : End) (before now : Option (List ℕ)) (result : Result Status Failed) : Type 0 where
   pub records : List Record
   pub ends : EndsAfter limit bytes fault how records
-  pub tells : Tells (Only (report.status records how) (report.text records how)) before now result
+  pub tells : TellsYield (Only (report.status records how) (report.yields records how)) handed before now result
 
 -- it was opened, read, closed and told
-pub does_read : {f g : Option Files} {s t : Slots} {r r' q' q w x : ℕ} {a b : List (List ℕ) → Type 0} {h h' : Option (List ℕ)} {l l' : List ℕ} {n n' : ℕ} {remains : Option (List ℕ)} {source : Sourcing} (report : Report) (limit : ℕ) (name : List ℕ) (how : End) (result : Result Status Failed)
-    → IsBegun limit name f remains source → ((bytes : List ℕ) → HasGiven limit bytes remains source [] → IsReadAndTold report limit bytes (Rose r' q') how (written h l) (written h' l') result)
-    → r' ≡ r → q ≡ q' → OnlyReads f g s t r q w x a b (name ∷ []) → CountsReading (name ∷ []) f r q result → IsReadingStatus result → KeepsSink h h' n n' result → DoesFile report limit name f g s t r q w x a b h h' l l' n n' result
+pub does_read : {f g : Option Files} {s t : Slots} {r r' q' q w x : ℕ} {a b : List (List ℕ) → Type 0} {h h' : Option (List ℕ)} {l l' : List ℕ} {n n' : ℕ} {remains : Option (List ℕ)} {source : Sourcing} {handed : List Shown → Type 0} (report : Report) (limit : ℕ) (name : List ℕ) (how : End) (result : Result Status Failed)
+    → IsBegun limit name f remains source → ((bytes : List ℕ) → HasGiven limit bytes remains source [] → IsReadAndTold report handed limit bytes (Rose r' q') how (written h l) (written h' l') result)
+    → r' ≡ r → q ≡ q' → OnlyReads f g s t r q w x a b (name ∷ []) → CountsReading (name ∷ []) f r q result → IsReadingStatus result → KeepsSink h h' n n' result → DoesFile report handed limit name f g s t r q w x a b h h' l l' n n' result
 does_read {f} {r = r} {r'} {q'} {q} report limit name how result begun told first last keeps counts own sink = record {
   tells = λ all is.
       let bytes = begun all is in
@@ -70,14 +69,14 @@ counts_read {r} {r'} {q'} {q} how result first last counts make =
     make (subst (λ (n : ℕ). CountsFault None (Some how) n q) first (subst (λ (n : ℕ). CountsFault None (Some how) r' n) (sym last) counts))
 
 -- it was opened and read, and telling it was cut short
-pub does_cut : {f g : Option Files} {s t : Slots} {r q w x : ℕ} {a b : List (List ℕ) → Type 0} {h h' : Option (List ℕ)} {l l' : List ℕ} {n n' : ℕ} {remains : Option (List ℕ)} {source : Sourcing} (report : Report) (limit : ℕ) (name : List ℕ) (result : Result Status Failed)
-    → IsBegun limit name f remains source → ((bytes : List ℕ) → HasGiven limit bytes remains source [] → AppendsPrefix (written h l) (written h' l') (file_text report limit (Some bytes))) → IsCut result
-    → OnlyReads f g s t r q w x a b (name ∷ []) → CountsReading (name ∷ []) f r q result → IsReadingStatus result → KeepsSink h h' n n' result → DoesFile report limit name f g s t r q w x a b h h' l l' n n' result
-does_cut {f} {r = r} {q} {h = h} {h'} {l} {l'} report limit name result begun prefix cut keeps counts own sink = record {
+pub does_cut : {f g : Option Files} {s t : Slots} {r q w x : ℕ} {a b : List (List ℕ) → Type 0} {h h' : Option (List ℕ)} {l l' : List ℕ} {n n' : ℕ} {remains : Option (List ℕ)} {source : Sourcing} {handed : List Shown → Type 0} (report : Report) (limit : ℕ) (name : List ℕ) (result : Result Status Failed)
+    → IsBegun limit name f remains source → ((bytes : List ℕ) → HasGiven limit bytes remains source [] → GivesPart handed (written h l) (written h' l') (file_yield report limit (Some bytes))) → IsCut result
+    → OnlyReads f g s t r q w x a b (name ∷ []) → CountsReading (name ∷ []) f r q result → IsReadingStatus result → KeepsSink h h' n n' result → DoesFile report handed limit name f g s t r q w x a b h h' l l' n n' result
+does_cut {f} {r = r} {q} {h = h} {h'} {l} {l'} {handed = handed} report limit name result begun part cut keeps counts own sink = record {
   tells = λ all is.
       let bytes = begun all is in
-      let text = subst (λ (told : Option (List ℕ)). AppendsPrefix (written h l) (written h' l') (file_text report limit told)) (sym bytes.1) (prefix bytes.0 bytes.2) in
-      tells_cut (file_status report limit (all name)) (file_text report limit (all name)) (file_here report limit (all name) (Rose r q)) cut text;
+      let given = subst (λ (told : Option (List ℕ)). GivesPart handed (written h l) (written h' l') (file_yield report limit told)) (sym bytes.1) (part bytes.0 bytes.2) in
+      tells_cut (file_status report limit (all name)) (file_yield report limit (all name)) (file_here report limit (all name) (Rose r q)) cut given;
   keeps = keeps;
   counts = counts;
   own = own;

@@ -8,12 +8,14 @@ use Rattle.avtp_base.specs.Files.{Files, KeepsFiles}
 use Rattle.avtp_base.specs.Told.{Appends}
 use Rattle.avtp_text.specs.Written.{AppendsPrefix, written}
 use Rattle.avtp_text.proofs.Printing.{prefix_none, prefix_whole}
-use Rattle.avtp_words.specs.Grammar.{output_of, Request, show, check, listen, talk, soak, Talking}
+use Rattle.avtp_words.specs.Grammar.{IsCommandLine, output_of, Request, show, check, listen, Listening, talk, soak, Talking}
 use Rattle.avtp_tool.specs.declared.status.Status.{Status}
 use Rattle.avtp_tool.specs.declared.status.Status.TheVariants as status
 use Rattle.avtp_tool.specs.Made.{KeepsFilesBut}
-use Rattle.avtp_tool.specs.Outcome.{Asks, AsksFor, EndsWith, Finishes, is_done, IsDone, TellsRun}
-use Rattle.avtp_tool.specs.Run.{MakesFrom, MakesOf}
+use Rattle.avtp_tool.specs.Outcome.{Asks, AsksFor, EndsWith, Finishes, TellsRun}
+use Rattle.avtp_tool.specs.Run.{is_listening, is_through, IsThrough, MakesFrom, MakesOf}
+use Rattle.avtp_tool.specs.Yield.{Gives, Yield}
+use Rattle.sample_schedule.specs.declared.shown.Shown.{Shown}
 use Rattle.avtp_tool.proofs.Outcomes.{ok_same}
 
 -- ---- what was told
@@ -22,12 +24,12 @@ pub quiet_not : (before after : ℕ) → IsQuiet before after → Rose before af
 quiet_not before after quiet rose = omega (arith, quiet, rose)
 
 -- the run ended with a status of its own, so the text is whole
-pub told_whole : {Outcome : List (List ℕ) → Status → List ℕ → Type 0} {a b : List (List ℕ) → Type 0} {before now : Option (List ℕ)} {ended : Result Status Failed} (result : Status) → ended ≡ Ok result → result ≢ status.Memory → result ≢ status.WriteFault
-    → TellsRun Outcome a b before now ended → (came : List (List ℕ)) × (text : List ℕ) × Outcome came result text × Appends before now text × Asks came a b
-told_whole {Outcome} {a} {b} {before} {now} result same memory write tells =
-    let t = subst (TellsRun Outcome a b before now) same tells in
+pub told_whole : {Outcome : List (List ℕ) → Status → Yield → Type 0} {handed : List Shown → Type 0} {a b : List (List ℕ) → Type 0} {before now : Option (List ℕ)} {ended : Result Status Failed} (result : Status) → ended ≡ Ok result → result ≢ status.Memory → result ≢ status.WriteFault
+    → TellsRun Outcome handed a b before now ended → (came : List (List ℕ)) × (yields : Yield) × Outcome came result yields × Gives handed before now yields × Asks came a b
+told_whole {Outcome} {handed} {a} {b} {before} {now} result same memory write tells =
+    let t = subst (TellsRun Outcome handed a b before now) same tells in
     let whole = t.whole memory write in
-    (t.came, t.text, subst (λ (s : Status). Outcome t.came s t.text) (sym whole.0) t.outcome, whole.1, whole.2)
+    (t.came, t.yields, subst (λ (s : Status). Outcome t.came s t.yields) (sym whole.0) t.outcome, whole.1, whole.2)
 
 -- and so is its last line
 pub ends_whole : {h h' : Option (List ℕ)} {w w' : List ℕ} {f f' : ℕ} {ended : Result Status Failed} {s : Status} {line : List ℕ} (result : Status) → ended ≡ Ok result → EndsWith s h h' w w' f f' ended line
@@ -48,10 +50,10 @@ pub ended_as : {h h' : Option (List ℕ)} {w w' : List ℕ} {f f' : ℕ} {ended 
 ended_as {result = result} other differs finishes is = (finishes.whole (not_write result other is differs)).0 ∙ ap (λ (s : Status). Ok s) is
 
 -- all was done before
-pub done_as : {h h' : Option (List ℕ)} {w w' : List ℕ} {f f' : ℕ} {ended : Result Status Failed} {result : Status} → Finishes h h' w w' f f' ended result → is_done result ≡ true → IsDone ended
-done_as {result = result} finishes done =
-    let other : result ≢ status.WriteFault = λ e. (let t : false ≡ true = ap is_done (sym e) ∙ done in cc) in
-    subst IsDone (sym (finishes.whole other).0) done
+pub through_to : {h h' : Option (List ℕ)} {w w' : List ℕ} {f f' : ℕ} {ended : Result Status Failed} {result : Status} → Finishes h h' w w' f f' ended result → is_through result ≡ true → IsThrough ended
+through_to {result = result} finishes through =
+    let other : result ≢ status.WriteFault = λ e. (let t : false ≡ true = ap is_through (sym e) ∙ through in cc) in
+    subst IsThrough (sym (finishes.whole other).0) through
 
 -- it did not end with a failed write
 pub not_ended : {ended : Result Status Failed} (result other : Status) → ended ≡ Ok result → result ≢ other → ended ≡ Ok other → ⊥
@@ -97,3 +99,13 @@ asks_same names weaker asks = record { count = asks.count; within = asks.within;
 
 pub asks_nothing : {p : Type 0} (names : List (List ℕ)) (a : List (List ℕ) → Type 0) → (p → ⊥) → AsksFor names a a p
 asks_nothing names a never = record { count = 0; within = omega arith; all = λ done. absurd (never done); asked = λ before stands. subst a (sym (append-nil before)) stands }
+
+-- ---- devices
+
+-- a request that hands items on is one of `listen`
+pub listens_to : (words : List (List ℕ)) (request : Request) → is_listening request ≡ true → IsCommandLine words request → (asked : Listening) × IsCommandLine words (listen asked)
+listens_to words (listen asked) listens line = (asked, line)
+listens_to words (show limit file) listens line = absurd cc
+listens_to words (check limit names) listens line = absurd cc
+listens_to words (talk asked) listens line = absurd cc
+listens_to words (soak packets) listens line = absurd cc

@@ -16,7 +16,9 @@ use Rattle.listener.proofs.Due.{due_first, due_stays}
 use Rattle.avtp_words.specs.Grammar.{Listening}
 use Rattle.avtp_text.specs.Listen.{capture_line, list_lines, shown_lines}
 use Rattle.avtp_text.specs.Written.{AppendsPrefix, written}
-use Rattle.avtp_text.proofs.Printing.{prefix_before}
+use Rattle.avtp_tool.specs.Yield.{GivesPart, Yield}
+use Rattle.avtp_tool.proofs.Yields.{part_text}
+use Rattle.avtp_text.proofs.Printing.{prefix_before, prefix_whole}
 use Rattle.capture_io.specs.declared.end.End.{End}
 use Rattle.capture_io.specs.declared.end.End.TheVariants as end
 use Rattle.capture_io.specs.Ends.{CountsFault, end_of}
@@ -30,7 +32,7 @@ use Rattle.avtp_tool.specs.declared.status.Status.TheVariants as status
 use Rattle.avtp_tool.specs.Hearing.{IsShown, closed_at, heard_at, is_all, pull_at, read_end}
 use Rattle.avtp_tool.specs.Listen.{HasHeard, HearsRecords, heard_end, last_line, listen_report, plan_of, shown_by, shown_text}
 use Rattle.avtp_tool.specs.Outcome.{EndsWith}
-use Rattle.avtp_tool.specs.Reading.{file_text, IsReadingStatus}
+use Rattle.avtp_tool.specs.Reading.{file_yield}
 use Rattle.avtp_tool.specs.Status.{status_of}
 use Rattle.avtp_tool.proofs.DoesFile.{IsReadAndTold}
 use Rattle.avtp_tool.proofs.HearingTo.{prefix_then}
@@ -78,12 +80,12 @@ within NoMemory limit bytes fault remains source listener items closed shown =
 
 -- ---- what is printed
 
-abbrev pub IsCutText : Listening → List ℕ → List ℕ → Option (List ℕ) → Option (List ℕ) → Type 0
-IsCutText asked name bytes before now = AppendsPrefix before now (file_text (listen_report asked name) asked.limit (Some bytes))
+abbrev pub IsCutYield : Listening → (List Shown → Type 0) → List ℕ → List ℕ → Option (List ℕ) → Option (List ℕ) → Type 0
+IsCutYield asked handed name bytes before now = GivesPart handed before now (file_yield (listen_report asked name) asked.limit (Some bytes))
 
 -- the capture's name, or a part of it
-pub name_cut : {before now : Option (List ℕ)} (asked : Listening) (name bytes : List ℕ) → AppendsPrefix before now (capture_line name) → IsCutText asked name bytes before now
-name_cut {before} {now} asked name bytes prefix = prefix_before before now _ _ (prefix_before before now (capture_line name) _ prefix)
+pub name_cut : {handed : List Shown → Type 0} {before now : Option (List ℕ)} (asked : Listening) (name bytes : List ℕ) → handed [] → AppendsPrefix before now (capture_line name) → IsCutYield asked handed name bytes before now
+name_cut {before = before} {now} asked name bytes none prefix = part_text none _ (prefix_before before now _ _ (prefix_before before now (capture_line name) _ prefix))
 
 -- a text of the first items is a prefix of that of all
 text_cut : {before now : Option (List ℕ)} (name : List ℕ) (items all : List Shown) (line : List ℕ) → IsPrefix items all → AppendsPrefix before now (shown_text name items) → AppendsPrefix before now (shown_text name all ++ line)
@@ -92,19 +94,20 @@ text_cut {before} {now} name items all line first prefix =
     append_assoc (capture_line name) (list_lines items) (list_lines first.0) ∙ ap (λ (t : List ℕ). capture_line name ++ t) (sym (flat_map-append shown_lines items first.0)) ∙ ap (shown_text name) first.1 in
     prefix_before before now (shown_text name all) line (subst (AppendsPrefix before now) text (prefix_before before now (shown_text name items) (list_lines first.0) prefix))
 
-pub items_cut : {before now : Option (List ℕ)} (asked : Listening) (name bytes : List ℕ) (stage : Stage) (fault : Type 0) (remains : Option (List ℕ)) (source : Sourcing) (listener : ListenState) (items : List Shown)
-    → listener.plan ≡ plan_of asked → is_closed listener ≡ closed_at stage → IsShown stage asked.limit bytes fault remains source listener items → AppendsPrefix before now (shown_text name items) → IsCutText asked name bytes before now
-items_cut {before} {now} asked name bytes stage fault remains source listener items plan closed shown prefix =
+pub items_cut : {handed : List Shown → Type 0} {before now : Option (List ℕ)} (asked : Listening) (name bytes : List ℕ) (stage : Stage) (fault : Type 0) (remains : Option (List ℕ)) (source : Sourcing) (listener : ListenState) (items front : List Shown)
+    → listener.plan ≡ plan_of asked → is_closed listener ≡ closed_at stage → IsShown stage asked.limit bytes fault remains source listener items → AppendsPrefix before now (shown_text name items) → IsPrefix front items → handed front → IsCutYield asked handed name bytes before now
+items_cut {before = before} {now} asked name bytes stage fault remains source listener items front plan closed shown prefix part hands =
     let first = subst (λ (p : ListenPlan). IsPrefix items (shown_by p (records_in (take asked.limit bytes)) (end_of asked.limit bytes))) plan (within stage asked.limit bytes fault remains source listener items closed shown) in
-    text_cut name items (shown_by (plan_of asked) (records_in (take asked.limit bytes)) (end_of asked.limit bytes)) _ first prefix
+    let all = shown_by (plan_of asked) (records_in (take asked.limit bytes)) (end_of asked.limit bytes) in
+    record { text = text_cut name items all _ first prefix; front = front; first = prefix_then front items all part first; items = hands }
 
 take_all : {X : Type 0} (xs : List X) → take (length xs) xs ≡ xs
 take_all {X} [] = refl
 take_all {X} (x ∷ xs) = ap (λ (l : List X). x ∷ l) (take_all xs)
 
-items_heard : {before now : Option (List ℕ)} (asked : Listening) (name bytes : List ℕ) (how : End) (fault : Type 0) (remains : Option (List ℕ)) (source : Sourcing) (listener : ListenState) (items : List Shown)
-    → listener.plan ≡ plan_of asked → is_closed listener ≡ is_all how → IsShown (Ended how) asked.limit bytes fault remains source listener items → Appends before now (shown_text name items) → HasHeard asked name bytes fault how listener.counts before now
-items_heard {before} {now} asked name bytes how fault remains source listener items plan closed shown lines =
+items_heard : {handed : List Shown → Type 0} {before now : Option (List ℕ)} (asked : Listening) (name bytes : List ℕ) (how : End) (fault : Type 0) (remains : Option (List ℕ)) (source : Sourcing) (listener : ListenState) (items : List Shown)
+    → listener.plan ≡ plan_of asked → is_closed listener ≡ is_all how → IsShown (Ended how) asked.limit bytes fault remains source listener items → Appends before now (shown_text name items) → handed items → HasHeard asked handed name bytes fault how listener.counts before now
+items_heard {handed} {before} {now} asked name bytes how fault remains source listener items plan closed shown lines hands =
     let all : items ≡ out listener shown.records = shown.whole how refl in
     let list : out listener shown.records ≡ shown_by (plan_of asked) shown.records how = out_at how listener shown.records closed ∙ ap (λ (p : ListenPlan). shown_by p shown.records how) plan in
     let taken : take (length items) (out listener shown.records) ≡ shown_by (plan_of asked) shown.records how =
@@ -114,19 +117,20 @@ items_heard {before} {now} asked name bytes how fault remains source listener it
       ends = shown.read;
       counted = shown.stands.counts ∙ ap (λ (l : List Shown). counts_of listener.plan shown.records l) taken ∙ ap (λ (p : ListenPlan). counts_of p shown.records (shown_by (plan_of asked) shown.records how)) plan;
       lines = subst (λ (l : List Shown). Appends before now (shown_text name l)) (all ∙ list) lines;
+      items = subst handed (all ∙ list) hands;
     }
 
 -- the hearing has ended, and all that was shown was printed
-pub hears : (before now : Option (List ℕ)) (asked : Listening) (name bytes : List ℕ) (stage : Stage) (fault : Type 0) (remains : Option (List ℕ)) (source : Sourcing) (listener : ListenState) (items : List Shown)
-    → IsSome (pull_at stage) → listener.plan ≡ plan_of asked → is_closed listener ≡ closed_at stage → IsShown stage asked.limit bytes fault remains source listener items → Appends before now (shown_text name items)
-    → HearsRecords asked name bytes fault before now (Ok (heard_at stage listener))
-hears before now asked name bytes Reading fault remains source listener items over plan closed shown lines = absurd cc
-hears before now asked name bytes (Showing how) fault remains source listener items over plan closed shown lines = absurd cc
-hears before now asked name bytes (Ended how) fault remains source listener items over plan closed shown lines = items_heard asked name bytes how fault remains source listener items plan closed shown lines
-hears before now asked name bytes NoMemory fault remains source listener items over plan closed shown lines =
-    items_cut asked name bytes NoMemory fault remains source listener items plan closed shown (Rattle.avtp_text.proofs.Printing.prefix_whole before now (shown_text name items) lines)
+pub hears : (handed : List Shown → Type 0) (before now : Option (List ℕ)) (asked : Listening) (name bytes : List ℕ) (stage : Stage) (fault : Type 0) (remains : Option (List ℕ)) (source : Sourcing) (listener : ListenState) (items : List Shown)
+    → IsSome (pull_at stage) → listener.plan ≡ plan_of asked → is_closed listener ≡ closed_at stage → IsShown stage asked.limit bytes fault remains source listener items → Appends before now (shown_text name items) → handed items
+    → HearsRecords asked handed name bytes fault before now (Ok (heard_at stage listener))
+hears handed before now asked name bytes Reading fault remains source listener items over plan closed shown lines hands = absurd cc
+hears handed before now asked name bytes (Showing how) fault remains source listener items over plan closed shown lines hands = absurd cc
+hears handed before now asked name bytes (Ended how) fault remains source listener items over plan closed shown lines hands = items_heard asked name bytes how fault remains source listener items plan closed shown lines hands
+hears handed before now asked name bytes NoMemory fault remains source listener items over plan closed shown lines hands =
+    items_cut asked name bytes NoMemory fault remains source listener items items plan closed shown (prefix_whole before now (shown_text name items) lines) ([], append-nil items) hands
 
-pub hears_failed : (asked : Listening) (name bytes : List ℕ) (fault : Type 0) (before now : Option (List ℕ)) (result : Result Heard Failed) → IsErr result → IsCutText asked name bytes before now → HearsRecords asked name bytes fault before now result
+pub hears_failed : {handed : List Shown → Type 0} (asked : Listening) (name bytes : List ℕ) (fault : Type 0) (before now : Option (List ℕ)) (result : Result Heard Failed) → IsErr result → IsCutYield asked handed name bytes before now → HearsRecords asked handed name bytes fault before now result
 hears_failed asked name bytes fault before now (Ok heard) err prefix = absurd cc
 hears_failed asked name bytes fault before now (Err e) err prefix = prefix
 
@@ -139,25 +143,30 @@ hears_counted NoMemory listener before after over counted = counted
 
 -- ---- what `listen` makes of a file
 
-listen_told : {h h' : Option (List ℕ)} {w w' : List ℕ} {n n' : ℕ} {result : Result Status Failed} (asked : Listening) (name bytes : List ℕ) (fault : Type 0) (how : End) (counts : Counts) (before : Option (List ℕ)) → HasHeard asked name bytes fault how counts before (written h w)
-    → EndsWith (status_of how) h h' w w' n n' result (last_line asked.limit counts how) → IsReadAndTold (listen_report asked name) asked.limit bytes fault how before (written h' w') result
+abbrev yields_with : List ℕ → List Shown → Yield
+yields_with text items = record { text = text; items = items }
+
+listen_told : {handed : List Shown → Type 0} {h h' : Option (List ℕ)} {w w' : List ℕ} {n n' : ℕ} {result : Result Status Failed} (asked : Listening) (name bytes : List ℕ) (fault : Type 0) (how : End) (counts : Counts) (before : Option (List ℕ)) → HasHeard asked handed name bytes fault how counts before (written h w)
+    → EndsWith (status_of how) h h' w w' n n' result (last_line asked.limit counts how) → IsReadAndTold (listen_report asked name) handed asked.limit bytes fault how before (written h' w') result
 listen_told asked name bytes fault how counts before heard ends = record {
   records = heard.records;
   ends = heard.ends;
-  tells = tells_end (shown_text name (shown_by (plan_of asked) heard.records how)) (refl, ap (λ (c : Counts). shown_text name (shown_by (plan_of asked) heard.records how) ++ last_line asked.limit c how) heard.counted) heard.lines ends;
+  tells =
+      let items = shown_by (plan_of asked) heard.records how in
+      tells_end (shown_text name items) items (refl, ap (λ (c : Counts). yields_with (shown_text name items ++ last_line asked.limit c how) items) heard.counted) heard.lines heard.items ends;
 }
 
 -- how the records were heard, by what the call answered
 pub ended_as : (result : Result Heard Failed) (heard made : Heard) → result ≡ Ok heard → heard ≡ made → result ≡ Ok made
 ended_as result heard made is same = is ∙ ap (λ (h : Heard). Ok h) same
 
-pub told_heard : {h h' : Option (List ℕ)} {w w' : List ℕ} {n n' : ℕ} {result : Result Status Failed} (asked : Listening) (name bytes : List ℕ) (fault : Type 0) (how : End) (counts : Counts) (before : Option (List ℕ)) (made : Result Heard Failed) → made ≡ Ok (far.Ended how counts)
-    → HearsRecords asked name bytes fault before (written h w) made → EndsWith (status_of how) h h' w w' n n' result (last_line asked.limit counts how) → IsReadAndTold (listen_report asked name) asked.limit bytes fault how before (written h' w') result
-told_heard {h} {w = w} asked name bytes fault how counts before made is heard ends =
-    listen_told asked name bytes fault how counts before (subst (λ (r : Result Heard Failed). HearsRecords asked name bytes fault before (written h w) r) is heard) ends
+pub told_heard : {handed : List Shown → Type 0} {h h' : Option (List ℕ)} {w w' : List ℕ} {n n' : ℕ} {result : Result Status Failed} (asked : Listening) (name bytes : List ℕ) (fault : Type 0) (how : End) (counts : Counts) (before : Option (List ℕ)) (made : Result Heard Failed) → made ≡ Ok (far.Ended how counts)
+    → HearsRecords asked handed name bytes fault before (written h w) made → EndsWith (status_of how) h h' w w' n n' result (last_line asked.limit counts how) → IsReadAndTold (listen_report asked name) handed asked.limit bytes fault how before (written h' w') result
+told_heard {handed} {h} {w = w} asked name bytes fault how counts before made is heard ends =
+    listen_told asked name bytes fault how counts before (subst (λ (r : Result Heard Failed). HearsRecords asked handed name bytes fault before (written h w) r) is heard) ends
 
-pub cut_heard : {before now : Option (List ℕ)} (asked : Listening) (name bytes : List ℕ) (fault : Type 0) (made : Result Heard Failed) → made ≡ Ok far.NoMemory → HearsRecords asked name bytes fault before now made → IsCutText asked name bytes before now
-cut_heard {before} {now} asked name bytes fault made is hears = subst (λ (r : Result Heard Failed). HearsRecords asked name bytes fault before now r) is hears
+pub cut_heard : {handed : List Shown → Type 0} {before now : Option (List ℕ)} (asked : Listening) (name bytes : List ℕ) (fault : Type 0) (made : Result Heard Failed) → made ≡ Ok far.NoMemory → HearsRecords asked handed name bytes fault before now made → IsCutYield asked handed name bytes before now
+cut_heard {handed} {before} {now} asked name bytes fault made is hears = subst (λ (r : Result Heard Failed). HearsRecords asked handed name bytes fault before now r) is hears
 
 pub counts_heard : (how : End) (counts : Counts) (made : Result Heard Failed) (before after : ℕ) → made ≡ Ok (far.Ended how counts) → IfOk made (λ h. CountsFault None (heard_end h) before after) → CountsFault None (Some how) before after
 counts_heard how counts made before after is counted = subst (λ (r : Result Heard Failed). IfOk r (λ h. CountsFault None (heard_end h) before after)) is counted
@@ -165,7 +174,3 @@ counts_heard how counts made before after is counted = subst (λ (r : Result Hea
 pub cut_err : (result : Result Status Failed) → IsErr result → IsCut result
 cut_err (Ok s) err = absurd cc
 cut_err (Err e) err = tt
-
--- want of memory is a status of reading
-pub memory_own : IsReadingStatus (Ok status.Memory)
-memory_own = (λ e. cc, λ e. cc)

@@ -1,11 +1,11 @@
 -- What reading leaves, of calls that follow each other.
-use Rattle.std.proofs.Common.{◌≡◌, ℕ, List, [], ◌∷◌, Option, Some, None, Result, Ok, Err, sym, subst, refl, arith, inl, inr, ◌∙◌}
-use Rattle.std.specs.Prelude.{◌⊎◌, ◌≢◌, IfOk, IsErr}
+use Rattle.std.proofs.Common.{◌≡◌, ℕ, true, false, List, [], ◌∷◌, Option, Some, None, Result, Ok, Err, sym, ap, subst, refl, arith, inl, inr, ◌∙◌}
+use Rattle.std.specs.Prelude.{◌⊎◌, IfOk, IsErr}
 use Rattle.avtp_base.specs.declared.failed.Failed.{Failed}
 use Rattle.avtp_tool.specs.declared.status.Status.{Status}
 use Rattle.avtp_tool.specs.declared.status.Status.TheVariants as status
 use Rattle.avtp_tool.specs.Made.{CountsWriting}
-use Rattle.avtp_tool.specs.Reading.{ended_in, ReadsCapture}
+use Rattle.avtp_tool.specs.Reading.{ended_in, IsReadingStatus, is_of_reading, ReadsCapture}
 use Rattle.avtp_tool.specs.Status.{status_of}
 use Rattle.avtp_base.specs.Files.{Files, Slots}
 use Rattle.capture_io.specs.declared.end.End.{End}
@@ -26,14 +26,6 @@ read_through {f} {g} {h} {i} {s} {t} {u} {v} {r} {r'} {r''} {q} {w} {w'} {w''} {
 -- the reading ended
 pub ended_so : (ended : Option End) (how : End) (before after : ℕ) → ended ≡ None → CountsFault ended (Some how) before after → CountsFault None (Some how) before after
 ended_so ended how before after none counts = subst (λ (e : Option End). CountsFault e (Some how) before after) none counts
-
--- a capture was read, and the reading ended so
-pub capture_ended : {f g h : Option Files} {s t u : Slots} {r r' r'' w w' w'' : ℕ} {a b c : List (List ℕ) → Type 0} {k j i : ℕ} {ended : Option End} (how : End) → ReadsSlot f g s t r r' w w' a b k j → ReadsSlot g h t u r' r'' w' w'' b c j i → r' ≡ r → ended ≡ None
-    → CountsFault ended (Some how) r' r'' → ReadsCapture f h s u r r'' w w'' a c k i (Some how)
-capture_ended {r = r} {r'' = r''} {ended = ended} how first second same none counts = record {
-  reads = reads_on first second;
-  counted = subst (λ (n : ℕ). CountsFault None (Some how) n r'') same (ended_so ended how _ _ none counts);
-}
 
 -- it was read, and what is done with its records was cut short
 pub capture_cut : {f g : Option Files} {s t : Slots} {r r' w w' : ℕ} {a b : List (List ℕ) → Type 0} {k j : ℕ} (how : Option End) → how ≡ None → ReadsSlot f g s t r r' w w' a b k j → r' ≡ r → ReadsCapture f g s t r r' w w' a b k j how
@@ -58,37 +50,31 @@ none_left (Some x) other = absurd (other x refl)
 pub only_read : {before after : ℕ} {result : Result Status Failed} → after ≡ before → (result ≡ Ok status.WriteFault → ⊥) → CountsWriting None before after result
 only_read same never = record { never_falls = omega (arith, same); failed = λ e. absurd (never e); other = λ e. same; unwritten = λ e. same }
 
--- a run that ends so does not end with a failed write
-pub never_writes : (result : Result Status Failed) → IfOk result (λ s. s ≢ status.WriteFault) → result ≡ Ok status.WriteFault → ⊥
-never_writes (Ok s) other e = other cc
-never_writes (Err f) other e = absurd cc
+-- ---- statuses of reading
 
-pub end_writes : (how : End) → status_of how ≢ status.WriteFault
-end_writes end.Whole = λ e. cc
-end_writes (end.Refused refusal) = λ e. cc
-end_writes end.ReadFault = λ e. cc
-end_writes end.Limit = λ e. cc
+pub own_as : (result : Result Status Failed) (ended : Status) → is_of_reading ended ≡ true → IfOk result (λ s. s ≡ ended) → IsReadingStatus result
+own_as (Ok s) ended reads is = ap is_of_reading is ∙ reads
+own_as (Err e) ended reads is = tt
 
-pub ends_unwritten : (result : Result Status Failed) (how : End) → IfOk result (λ s. s ≡ status_of how) → result ≡ Ok status.WriteFault → ⊥
-ends_unwritten (Ok s) how is e = end_writes how (let same : s ≡ status.WriteFault = cc in sym is ∙ same)
-ends_unwritten (Err f) how is e = absurd cc
+pub own_err : (result : Result Status Failed) → IsErr result → IsReadingStatus result
+own_err (Ok s) err = absurd cc
+own_err (Err e) err = tt
+
+ends_reading : (how : End) → is_of_reading (status_of how) ≡ true
+ends_reading end.Whole = refl
+ends_reading (end.Refused refusal) = refl
+ends_reading end.ReadFault = refl
+ends_reading end.Limit = refl
+
+-- a run that ends as its reading did
+pub own_ended : (result : Result Status Failed) (how : End) → IfOk result (λ s. s ≡ status_of how) → IsReadingStatus result
+own_ended result how is = own_as result (status_of how) (ends_reading how) is
+
+-- a run that only reads does not end otherwise
+pub never_ends : (result : Result Status Failed) (other : Status) → is_of_reading other ≡ false → IsReadingStatus result → result ≡ Ok other → ⊥
+never_ends (Ok s) other differs own is = let same : s ≡ other = cc in let t : true ≡ false = sym own ∙ (ap is_of_reading same ∙ differs) in cc
+never_ends (Err e) other differs own is = absurd cc
 
 pub as_ended : (result : Result Status Failed) (how : End) → IfOk result (λ s. s ≡ status_of how) → IfOk result (λ s. (s ≡ status.Memory) ⊎ (s ≡ status_of how))
 as_ended (Ok s) how is = inr is
 as_ended (Err f) how is = tt
-
-end_words : (how : End) → status_of how ≢ status.Words
-end_words end.Whole = λ e. cc
-end_words (end.Refused refusal) = λ e. cc
-end_words end.ReadFault = λ e. cc
-end_words end.Limit = λ e. cc
-
-pub ends_no_words : (result : Result Status Failed) (how : End) → IfOk result (λ s. s ≡ status_of how) → result ≡ Ok status.Words → ⊥
-ends_no_words (Ok s) how is e = end_words how (let same : s ≡ status.Words = cc in sym is ∙ same)
-ends_no_words (Err f) how is e = absurd cc
-
--- it ended for want of memory, or as its reading did
-pub heard_status : (result : Result Status Failed) (how : End) → IfOk result (λ s. (s ≡ status.Memory) ⊎ (s ≡ status_of how)) → IfOk result (λ s. (s ≢ status.WriteFault) × (s ≢ status.Words))
-heard_status (Ok s) how (inl memory) = (λ e. let t : status.Memory ≡ status.WriteFault = sym memory ∙ e in cc, λ e. let t : status.Memory ≡ status.Words = sym memory ∙ e in cc)
-heard_status (Ok s) how (inr is) = (λ e. end_writes how (sym is ∙ e), λ e. end_words how (sym is ∙ e))
-heard_status (Err e) how is = tt

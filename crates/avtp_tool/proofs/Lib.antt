@@ -1,3 +1,4 @@
+pub mod Yields
 pub mod Outcomes
 pub mod Leaving
 pub mod OneFile
@@ -19,4 +20,5 @@ pub mod Soaked
 pub mod Making
 pub mod Talked
 pub mod TalkRun
+pub mod HearFiles
 pub mod Ended

@@ -10,35 +10,36 @@ use Rattle.capture_io.proofs.Ending.{ends_here, ends_weaker}
 use Rattle.avtp_tool.specs.declared.status.Status.{Status}
 use Rattle.avtp_tool.specs.declared.status.Status.TheVariants as status
 use Rattle.avtp_tool.specs.Outcome.{Only}
-use Rattle.avtp_tool.specs.Reading.{FileOutcome, file_status, file_text, Report}
+use Rattle.avtp_tool.specs.Reading.{FileOutcome, file_status, file_yield, Report}
+use Rattle.avtp_tool.specs.Yield.{says, Yield}
 
 -- where no fault of reading comes
-pub file_here : (report : Report) (limit : ℕ) (told : Option (List ℕ)) (fault : Type 0) → FileOutcome report limit told fault (file_status report limit told) (file_text report limit told)
+pub file_here : (report : Report) (limit : ℕ) (told : Option (List ℕ)) (fault : Type 0) → FileOutcome report limit told fault (file_status report limit told) (file_yield report limit told)
 file_here report limit None fault = (refl, refl)
-file_here report limit (Some bytes) fault = inl (record { how = end_of limit bytes; prefix = take limit bytes; ends = ends_here limit bytes fault; status = refl; printed = refl })
+file_here report limit (Some bytes) fault = inl (record { how = end_of limit bytes; prefix = take limit bytes; ends = ends_here limit bytes fault; status = refl; given = refl })
 
 -- it could not be opened
-pub file_fault : (report : Report) (limit : ℕ) (told : Option (List ℕ)) (fault : Type 0) → fault ⊎ (told ≡ None) → FileOutcome report limit told fault status.ReadFault read_fault_line
+pub file_fault : (report : Report) (limit : ℕ) (told : Option (List ℕ)) (fault : Type 0) → fault ⊎ (told ≡ None) → FileOutcome report limit told fault status.ReadFault (says read_fault_line)
 file_fault report limit None fault cause = (refl, refl)
 file_fault report limit (Some bytes) fault (inl cause) = inr (cause, refl, refl)
 file_fault report limit (Some bytes) fault (inr none) = absurd cc
 
 -- it was opened and read
 pub file_read : (report : Report) (limit : ℕ) (bytes : List ℕ) (told : Option (List ℕ)) (fault other : Type 0) (how : End) (records : List Record) → (fault → other) → told ≡ Some bytes → EndsAfter limit bytes fault how records
-    → (ended : Status) (text : List ℕ) → Only (report.status records how) (report.text records how) ended text → FileOutcome report limit told other ended text
-file_read report limit bytes told fault other how records weaker is after ended text (same, all) =
-    subst (λ (t : Option (List ℕ)). FileOutcome report limit t other ended text) (sym is)
+    → (ended : Status) (yields : Yield) → Only (report.status records how) (report.yields records how) ended yields → FileOutcome report limit told other ended yields
+file_read report limit bytes told fault other how records weaker is after ended yields (same, all) =
+    subst (λ (t : Option (List ℕ)). FileOutcome report limit t other ended yields) (sym is)
     (inl (record {
       how = how;
       prefix = after.prefix;
       ends = ends_weaker limit (Some bytes) fault other how after.prefix weaker after.ends;
       status = subst (λ (rs : List Record). ended ≡ report.status rs how) (sym after.whole) same;
-      printed = subst (λ (rs : List Record). text ≡ report.text rs how) (sym after.whole) all;
+      given = subst (λ (rs : List Record). yields ≡ report.yields rs how) (sym after.whole) all;
     }))
 
 -- the same under a weaker cause
-pub file_weaker : (report : Report) (limit : ℕ) (told : Option (List ℕ)) (fault other : Type 0) (ended : Status) (text : List ℕ) → (fault → other) → FileOutcome report limit told fault ended text → FileOutcome report limit told other ended text
-file_weaker report limit None fault other ended text weaker outcome = outcome
-file_weaker report limit (Some bytes) fault other ended text weaker (inl read) =
-    inl (record { how = read.how; prefix = read.prefix; ends = ends_weaker limit (Some bytes) fault other read.how read.prefix weaker read.ends; status = read.status; printed = read.printed })
-file_weaker report limit (Some bytes) fault other ended text weaker (inr (cause, is, all)) = inr (weaker cause, is, all)
+pub file_weaker : (report : Report) (limit : ℕ) (told : Option (List ℕ)) (fault other : Type 0) (ended : Status) (yields : Yield) → (fault → other) → FileOutcome report limit told fault ended yields → FileOutcome report limit told other ended yields
+file_weaker report limit None fault other ended yields weaker outcome = outcome
+file_weaker report limit (Some bytes) fault other ended yields weaker (inl read) =
+    inl (record { how = read.how; prefix = read.prefix; ends = ends_weaker limit (Some bytes) fault other read.how read.prefix weaker read.ends; status = read.status; given = read.given })
+file_weaker report limit (Some bytes) fault other ended yields weaker (inr (cause, is, all)) = inr (weaker cause, is, all)

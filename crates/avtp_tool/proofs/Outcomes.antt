@@ -7,8 +7,8 @@ use Rattle.avtp_base.specs.declared.failed.OpenFault.TheVariants as open_fault
 use Rattle.avtp_base.specs.Faults.{IsCounted, IsOpenCounted, Rose}
 use Rattle.avtp_base.specs.Files.{Files, IsMissing}
 use Rattle.avtp_text.specs.Notices.{read_fault_line}
-use Rattle.avtp_base.specs.Told.{Appends}
-use Rattle.avtp_base.proofs.Told.{Appends-nil, Appends-trans, Appends-kept}
+use Rattle.avtp_base.specs.Told.{Appends, Keeps}
+use Rattle.avtp_base.proofs.Told.{Appends-trans, Appends-kept}
 use Rattle.avtp_text.specs.Written.{AppendsPrefix, Prints, PrintsPart, written}
 use Rattle.avtp_text.proofs.Growth.{grows_further, grows_none}
 use Rattle.avtp_text.proofs.Printing.{prefix_none, prefix_whole}
@@ -16,9 +16,15 @@ use Rattle.capture_io.specs.declared.end.End.{End}
 use Rattle.capture_io.specs.declared.end.End.TheVariants as end
 use Rattle.capture_io.specs.Ends.{CountsFault}
 use Rattle.avtp_tool.specs.Status.{status_of}
+use Rattle.avtp_tool.specs.Reading.{IsReadingStatus}
+use Rattle.avtp_tool.proofs.Leaving.{own_as}
 use Rattle.avtp_tool.specs.declared.status.Status.{Status}
 use Rattle.avtp_tool.specs.declared.status.Status.TheVariants as status
-use Rattle.avtp_tool.specs.Outcome.{CountsReading, EndsUnopened, EndsWith, is_done, IsDone, KeepsSink, Only, Tells}
+use Rattle.avtp_tool.specs.Outcome.{CountsReading, EndsUnopened, EndsWith, is_done, IsDone, KeepsSink, Tells, TellsText, TellsYield}
+use Rattle.avtp_tool.specs.Yield.{Gives, GivesPart, says, Yield}
+use Rattle.avtp_tool.proofs.Yields.{part_none, part_whole}
+use Rattle.sample_schedule.specs.declared.shown.Shown.{Shown}
+use Rattle.std.proofs.lemmas.List.{append-nil}
 
 -- ---- the sink
 
@@ -64,66 +70,63 @@ ends_failed {result = Err e'} ended err prints = record { status = tt; written =
 abbrev pub IsCut : Result Status Failed → Type 0
 IsCut result = IfOk result (λ s. (s ≡ status.Memory) ⊎ (s ≡ status.WriteFault))
 
-pub tells_cut : {Outcome : Status → List ℕ → Type 0} {before now : Option (List ℕ)} {result : Result Status Failed} (ended : Status) (text : List ℕ) → Outcome ended text → IsCut result → AppendsPrefix before now text → Tells Outcome before now result
-tells_cut {result = Ok s} ended text outcome cut prefix = record {
+pub tells_cut : {Y : Type 0} {Outcome : Status → Y → Type 0} {Whole Part : Y → Type 0} {result : Result Status Failed} (ended : Status) (yields : Y) → Outcome ended yields → IsCut result → Part yields → Tells Outcome Whole Part result
+tells_cut {result = Ok s} ended yields outcome cut part = record {
   ended = ended;
-  text = text;
+  yields = yields;
   outcome = outcome;
-  part = prefix;
+  part = part;
   whole = λ memory write. elim cut [ inl is ↦ absurd (memory is) | inr is ↦ absurd (write is) ];
 }
-tells_cut {result = Err e} ended text outcome cut prefix = record { ended = ended; text = text; outcome = outcome; part = prefix; whole = tt }
+tells_cut {result = Err e} ended yields outcome cut part = record { ended = ended; yields = yields; outcome = outcome; part = part; whole = tt }
 
--- a text was printed, and a last line after it
-pub tells_end : {Outcome : Status → List ℕ → Type 0} {before : Option (List ℕ)} {h h' : Option (List ℕ)} {w w' : List ℕ} {f f' : ℕ} {result : Result Status Failed} {ended : Status} {line : List ℕ} (text : List ℕ)
-    → Outcome ended (text ++ line) → Appends before (written h w) text → EndsWith ended h h' w w' f f' result line → Tells Outcome before (written h' w') result
-tells_end {before = before} {h} {h'} {w} {w'} {result = Ok s} {ended} {line} text outcome first last =
-    let all = Appends-trans before (written h w) (written h' w') text line first last.written in
-    record { ended = ended; text = text ++ line; outcome = outcome; whole = λ memory write. (last.status, all); part = prefix_whole before (written h' w') (text ++ line) all }
-tells_end {before = before} {h} {h'} {w} {w'} {result = Err e} {ended} {line} text outcome first last =
-    record {
-      ended = ended;
-      text = text ++ line;
-      outcome = outcome;
-      whole = tt;
-      part = record { prefix = text; rest = line; split = refl; appends = Appends-kept before (written h w) (written h' w') text first last.written };
-    }
+-- Known bytes that grew by a line are all that the line yields, and any part of what is yielded is none of it or all.
+pub record Telling {Y : Type 0} (Whole Part : Y → Type 0) (before now : Option (List ℕ)) (line : List ℕ) (one : Y) : Type 0 where
+  pub says : Appends before now line → Whole one
+  pub none : (y : Y) → Keeps before now → Part y
+  pub part : (y : Y) → Whole y → Part y
+
+pub text_telling : (before now : Option (List ℕ)) (line : List ℕ) → Telling (Appends before now) (AppendsPrefix before now) before now line line
+text_telling before now line = record { says = λ grown. grown; none = prefix_none before now; part = prefix_whole before now }
+
+pub yield_telling : {handed : List Shown → Type 0} (before now : Option (List ℕ)) (line : List ℕ) → handed [] → Telling (Gives handed before now) (GivesPart handed before now) before now line (says line)
+yield_telling before now line none = record { says = λ grown. record { text = grown; items = none }; none = part_none none; part = part_whole }
 
 -- the last line alone
+pub tells_last : {Y : Type 0} {Outcome : Status → Y → Type 0} {Whole Part : Y → Type 0} {h h' : Option (List ℕ)} {w w' : List ℕ} {f f' : ℕ} {result : Result Status Failed} {ended : Status} {line : List ℕ} {one : Y}
+    → Telling Whole Part (written h w) (written h' w') line one → Outcome ended one → EndsWith ended h h' w w' f f' result line → Tells Outcome Whole Part result
+tells_last {result = Ok s} {ended} {one = one} telling outcome last = record { ended = ended; yields = one; outcome = outcome; whole = λ memory write. (last.status, telling.says last.written); part = telling.part one (telling.says last.written) }
+tells_last {result = Err e} {ended} {one = one} telling outcome last = record { ended = ended; yields = one; outcome = outcome; whole = tt; part = telling.none one last.written }
+
 pub tells_line : {Outcome : Status → List ℕ → Type 0} {h h' : Option (List ℕ)} {w w' : List ℕ} {f f' : ℕ} {result : Result Status Failed} {ended : Status} {line : List ℕ}
-    → Outcome ended line → EndsWith ended h h' w w' f f' result line → Tells Outcome (written h w) (written h' w') result
-tells_line {h = h} {w = w} outcome last = tells_end [] outcome (Appends-nil (written h w)) last
+    → Outcome ended line → EndsWith ended h h' w w' f f' result line → TellsText Outcome (written h w) (written h' w') result
+tells_line {h = h} {h'} {w} {w'} {line = line} outcome last = tells_last (text_telling (written h w) (written h' w') line) outcome last
+
+-- a text was printed, the items of it handed on, and a last line printed after it
+pub tells_end : {Outcome : Status → Yield → Type 0} {handed : List Shown → Type 0} {before : Option (List ℕ)} {h h' : Option (List ℕ)} {w w' : List ℕ} {f f' : ℕ} {result : Result Status Failed} {ended : Status} {line : List ℕ} (text : List ℕ) (items : List Shown)
+    → Outcome ended (record { text = text ++ line; items = items }) → Appends before (written h w) text → handed items → EndsWith ended h h' w w' f f' result line → TellsYield Outcome handed before (written h' w') result
+tells_end {handed = handed} {before} {h} {h'} {w} {w'} {result = Ok s} {ended} {line} text items outcome first hands last =
+    let all = Appends-trans before (written h w) (written h' w') text line first last.written in
+    let yields : Yield = record { text = text ++ line; items = items } in
+    let given : Gives handed before (written h' w') yields = record { text = all; items = hands } in
+    record { ended = ended; yields = yields; outcome = outcome; whole = λ memory write. (last.status, given); part = part_whole yields given }
+tells_end {handed = handed} {before} {h} {h'} {w} {w'} {result = Err e} {ended} {line} text items outcome first hands last =
+    record {
+      ended = ended;
+      yields = record { text = text ++ line; items = items };
+      outcome = outcome;
+      whole = tt;
+      part = record {
+        text = record { prefix = text; rest = line; split = refl; appends = Appends-kept before (written h w) (written h' w') text first last.written };
+        front = items;
+        first = ([], append-nil items);
+        items = hands;
+      };
+    }
 
 -- what can be, under a weaker cause
-pub tells_weaker : {A B : Status → List ℕ → Type 0} {before now : Option (List ℕ)} {result : Result Status Failed} → ((ended : Status) (text : List ℕ) → A ended text → B ended text) → Tells A before now result → Tells B before now result
-tells_weaker weaker t = record { ended = t.ended; text = t.text; outcome = weaker t.ended t.text t.outcome; whole = t.whole; part = t.part }
-
--- a text was printed, and the run ends with this status
-pub tells_all : {h h' : Option (List ℕ)} {w w' : List ℕ} {f f' : ℕ} {ok : Unit} {text : List ℕ} (ended : Status) (all : List ℕ) → text ≡ all → PrintsPart h h' w w' f f' (Ok ok) text
-    → Tells (Only ended all) (written h w) (written h' w') (Ok ended)
-tells_all {h} {h'} {w} {w'} {f} {f'} {ok} {text} ended all same prints = record {
-  ended = ended;
-  text = all;
-  outcome = (refl, refl);
-  whole = λ memory write. (refl, subst (Appends (written h w) (written h' w')) same prints.written);
-  part = prefix_whole (written h w) (written h' w') all (subst (Appends (written h w) (written h' w')) same prints.written);
-}
-
--- a prefix of it was, and the sink failed
-pub tells_some : {h h' : Option (List ℕ)} {w w' : List ℕ} {f f' : ℕ} {e : Failed} {text : List ℕ} {result : Result Status Failed} (ended : Status) (all : List ℕ) → text ≡ all → IsErr result → PrintsPart h h' w w' f f' (Err e) text
-    → Tells (Only ended all) (written h w) (written h' w') result
-tells_some {result = Ok s} ended all same err prints = absurd cc
-tells_some {h} {h'} {w} {w'} {result = Err e'} ended all same err prints = record {
-  ended = ended;
-  text = all;
-  outcome = (refl, refl);
-  whole = tt;
-  part = subst (AppendsPrefix (written h w) (written h' w')) same prints.written;
-}
-
--- the same status in other words
-pub tells_as : {Outcome : Status → List ℕ → Type 0} {before now : Option (List ℕ)} {s r : Status} → s ≡ r → Tells Outcome before now (Ok s) → Tells Outcome before now (Ok r)
-tells_as {Outcome} {before} {now} {s} {r} same t = subst (λ (x : Status). Tells Outcome before now (Ok x)) same t
+pub tells_weaker : {Y : Type 0} {A B : Status → Y → Type 0} {Whole Part : Y → Type 0} {result : Result Status Failed} → ((ended : Status) (yields : Y) → A ended yields → B ended yields) → Tells A Whole Part result → Tells B Whole Part result
+tells_weaker weaker t = record { ended = t.ended; yields = t.yields; outcome = weaker t.ended t.yields t.outcome; whole = t.whole; part = t.part }
 
 -- ---- a file that could not be opened
 
@@ -148,14 +151,14 @@ pub missing_none : (files : Option Files) (name : List ℕ) (all : Files) → fi
 missing_none None name all told missing = absurd missing
 missing_none (Some files) name all told missing = let same : files ≡ all = cc in subst (λ (m : Files). m name ≡ None) same missing
 
-pub tells_unopened : {T : Type 0} {Outcome : Status → List ℕ → Type 0} {h h' : Option (List ℕ)} {w w' : List ℕ} {f f' : ℕ} {result : Result Status Failed} (fault : OpenFault) (before after : ℕ) (files : Option Files) (name : List ℕ) (ended : Status) (text : List ℕ)
-    → Outcome ended text → (Unopened before after files name → Outcome status.ReadFault read_fault_line)
+pub tells_unopened : {T Y : Type 0} {Outcome : Status → Y → Type 0} {Whole Part : Y → Type 0} {h h' : Option (List ℕ)} {w w' : List ℕ} {f f' : ℕ} {result : Result Status Failed} {one : Y} (fault : OpenFault) (before after : ℕ) (files : Option Files) (name : List ℕ) (ended : Status) (yields : Y)
+    → Telling Whole Part (written h w) (written h' w') read_fault_line one → Outcome ended yields → (Unopened before after files name → Outcome status.ReadFault one)
     → IsOpenCounted {T = T} before after (Err fault) → (IsErrOf {T = T} (Err fault) open_fault.Missing → IsMissing files name)
-    → EndsUnopened fault h h' w w' f f' result → Tells Outcome (written h w) (written h' w') result
-tells_unopened {h = h} {h'} {w} {w'} {result = result} fault before after files name ended text outcome other counts missing ends =
+    → EndsUnopened fault h h' w w' f f' result → Tells Outcome Whole Part result
+tells_unopened {result = result} fault before after files name ended yields telling outcome other counts missing ends =
     elim (memory_or fault) [
-      | inl is ↦ let left = ends.memory is in tells_cut ended text outcome (subst IsCut (sym left.0) (inl refl)) (prefix_none (written h w) (written h' w') text left.1)
-      | inr no_memory ↦ tells_line (other (cause_of fault before after files name no_memory counts missing)) (ends.other no_memory)
+      | inl is ↦ let left = ends.memory is in tells_cut ended yields outcome (subst IsCut (sym left.0) (inl refl)) (telling.none yields left.1)
+      | inr no_memory ↦ tells_last telling (other (cause_of fault before after files name no_memory counts missing)) (ends.other no_memory)
     ]
 
 -- ---- counts of reading faults
@@ -248,6 +251,13 @@ unopened_undone fault result ends =
       | inr opened ↦ undone_by result status.ReadFault refl (ends.other opened).status
     ]
 
+pub unopened_own : {h h' : Option (List ℕ)} {w w' : List ℕ} {f f' : ℕ} {result : Result Status Failed} (fault : OpenFault) → EndsUnopened fault h h' w w' f f' result → IsReadingStatus result
+unopened_own {result = result} fault ends =
+    elim (memory_or fault) [
+      | inl is ↦ subst IsReadingStatus (sym (ends.memory is).0) refl
+      | inr opened ↦ own_as result status.ReadFault refl (ends.other opened).status
+    ]
+
 pub unopened_writes : {h h' : Option (List ℕ)} {w w' : List ℕ} {f f' : ℕ} {result : Result Status Failed} (fault : OpenFault) → EndsUnopened fault h h' w w' f f' result → result ≡ Ok status.WriteFault → ⊥
 unopened_writes fault ends e = unopened_other fault status.WriteFault (λ t. cc) (λ t. cc) ends e
 
@@ -256,14 +266,10 @@ unopened_words fault ends e = unopened_other fault status.Words (λ t. cc) (λ t
 
 -- ---- failures, whatever was to be answered
 
-pub tells_err : {Outcome : Status → List ℕ → Type 0} {before now : Option (List ℕ)} {result : Result Status Failed} {e : Failed} → IsErr result → Tells Outcome before now (Err e) → Tells Outcome before now result
+pub tells_err : {Y : Type 0} {Outcome : Status → Y → Type 0} {Whole Part : Y → Type 0} {result : Result Status Failed} {e : Failed} → IsErr result → Tells Outcome Whole Part (Err e) → Tells Outcome Whole Part result
 tells_err {result = Ok s} err tells = absurd cc
-tells_err {result = Err e'} err tells = record { ended = tells.ended; text = tells.text; outcome = tells.outcome; whole = tt; part = tells.part }
+tells_err {result = Err e'} err tells = record { ended = tells.ended; yields = tells.yields; outcome = tells.outcome; whole = tt; part = tells.part }
 
 pub counts_err : {before after : ℕ} {names : List (List ℕ)} {files : Option Files} (result : Result Status Failed) → IsErr result → before ≤ after → CountsReading names files before after result
 counts_err (Ok s) err falls = absurd cc
 counts_err (Err e) err falls = counts_failed e falls
-
-pub err_is_no : (result : Result Status Failed) (s : Status) → IsErr result → result ≡ Ok s → ⊥
-err_is_no (Ok r) s err e = absurd cc
-err_is_no (Err f) s err e = absurd cc

@@ -1,5 +1,5 @@
 -- What both sides of a ring did, round by round.
-use Rattle.std.proofs.Common.{◌≡◌, ℕ, ◌+◌, ◌≤◌, ◌^◌, true, false, List, [], ◌∷◌, ◌++◌, length, Option, Some, None, Result, Ok, Err, refl, sym, ap, subst, ◌∙◌, arith, append-nil}
+use Rattle.std.proofs.Common.{◌≡◌, ℕ, ◌+◌, ◌≤◌, ◌^◌, true, false, List, [], ◌∷◌, ◌++◌, length, Option, Some, None, Result, Ok, Err, refl, sym, ap, subst, ◌∙◌, arith, append-nil, append_assoc, length-append}
 use Rattle.std.specs.Prelude.{IsErr, IsSome, is_err, OnOk, OnErr}
 use mathlib.Core.List.{IsPrefix}
 use Rattle.std.proofs.lemmas.Grind.{flat_map-append}
@@ -8,7 +8,7 @@ use Rattle.avtp_base.specs.Told.{Keeps}
 use Rattle.avtp_base.proofs.Told.{Keeps-none}
 use Rattle.avtp_text.specs.Listen.{list_lines, shown_lines}
 use Rattle.avtp_text.specs.Written.{Grows, PrintsPart, written}
-use Rattle.avtp_text.proofs.Printing.{part_as, part_failed, part_then, prefix_none}
+use Rattle.avtp_text.proofs.Printing.{part_as, part_failed, part_none, part_then, prefix_none}
 use Rattle.avtp_tool.specs.declared.hearing.Stage.{Stage}
 use Rattle.avtp_tool.specs.Hearing.{ended_at, pull_at}
 use Rattle.avtp_base.specs.declared.failed.Failed.{Failed}
@@ -17,7 +17,7 @@ use Rattle.sample_schedule.specs.declared.shown.Shown.{Shown}
 use Rattle.presenter_ring.specs.declared.pipe.Pipe.{Pipe}
 use Rattle.presenter_ring.specs.declared.receiver.Pull.{Pull}
 use Rattle.presenter_ring.specs.Pipes.{ended_with, given_to, waiting_in, EndsWith, HasMoved, IsDrained}
-use Rattle.avtp_tool.specs.Presenting.{HasPassed, failures}
+use Rattle.avtp_tool.specs.Presenting.{failures, GivesItems, HasPassed}
 
 -- how a receiver ended, which is how its pipe did
 pub ends_on : {R : Type 0} {ended : R → Option Pull} {r r' : R} {a b : Pipe} → ended_with a ≡ ended r → EndsWith ended r r' a b → ended_with b ≡ ended r'
@@ -71,23 +71,63 @@ same_result (Err e) now result begun quiet rose = absurd cc
 lines_more : (items : List Shown) (x : Shown) → list_lines items ++ shown_lines x ≡ list_lines (items ++ x ∷ [])
 lines_more items x = ap (λ (t : List ℕ). list_lines items ++ t) (sym (append-nil (shown_lines x))) ∙ sym (flat_map-append shown_lines items (x ∷ []))
 
-module _ {h h' h'' : Option (List ℕ)} {w w' w'' : List ℕ} {f f' f'' : ℕ} where
-  -- an item more was printed, or a part of it
-  pub present_more : (items : List Shown) (x : Shown) (was : Result Unit Failed) (result : Result Unit Failed) → is_err was ≡ false → PrintsPart h h' w w' f f' was (list_lines items) → PrintsPart h' h'' w' w'' f' f'' result (shown_lines x)
-      → PrintsPart h h'' w w'' f f'' result (list_lines (items ++ x ∷ []))
-  present_more items x (Ok o) result fine first second = part_as (list_lines items ++ shown_lines x) (list_lines (items ++ x ∷ [])) (lines_more items x) (part_then {ok = o} (list_lines items) (shown_lines x) first second)
-  present_more items x (Err e) result fine first second = absurd cc
+-- none was given before the first
+pub gives_none : {handed : List Shown → Type 0} {h : Option (List ℕ)} {w : List ℕ} {f : ℕ} (result : Result Unit Failed) → result ≡ Ok tt → handed [] → GivesItems handed h h w w f f result []
+gives_none {handed} {h} {w} {f} result fine none = subst (λ (r : Result Unit Failed). GivesItems handed h h w w f f r []) (sym fine) (record {
+  prints = part_none h w f tt;
+  front = [];
+  first = ([], refl);
+  all = refl;
+  fewer = tt;
+  hands = none;
+})
 
--- none is printed once the sink has failed
-pub present_no_more : {h h' : Option (List ℕ)} {w w' : List ℕ} {f f' : ℕ} (items more : List Shown) (result : Result Unit Failed) → is_err result ≡ true → PrintsPart h h' w w' f f' result (list_lines items) → PrintsPart h h' w w' f f' result (list_lines (items ++ more))
-present_no_more items more (Ok o) failed first = absurd cc
-present_no_more items more (Err e) failed first = part_as (list_lines items ++ list_lines more) (list_lines (items ++ more)) (sym (flat_map-append shown_lines items more)) (part_failed {e = e} (list_lines items) (list_lines more) refl first)
+module _ {handed : List Shown → Type 0} {h h' h'' : Option (List ℕ)} {w w' w'' : List ℕ} {f f' f'' : ℕ} where
+  -- an item more was printed, and handed on
+  pub gives_one : {more : List Shown → Type 0} (items : List Shown) (x : Shown) (was result : Result Unit Failed) → is_err was ≡ false → is_err result ≡ false → (handed items → more (items ++ x ∷ []))
+      → GivesItems handed h h' w w' f f' was items → PrintsPart h' h'' w' w'' f' f'' result (shown_lines x) → GivesItems more h h'' w w'' f f'' result (items ++ x ∷ [])
+  gives_one items x (Ok o) (Ok p) fine printed hand first second = record {
+    prints = part_as (list_lines items ++ shown_lines x) (list_lines (items ++ x ∷ [])) (lines_more items x) (part_then {ok = o} (list_lines items) (shown_lines x) first.prints second);
+    front = items ++ x ∷ [];
+    first = ([], append-nil (items ++ x ∷ []));
+    all = refl;
+    fewer = tt;
+    hands = hand (subst handed first.all first.hands);
+  }
+  gives_one items x (Ok o) (Err e) fine printed hand first second = absurd cc
+  gives_one items x (Err e) result fine printed hand first second = absurd cc
 
--- a prefix of what was given was printed, or all
-pub prints_given : {h h' : Option (List ℕ)} {w w' : List ℕ} {f f' : ℕ} (A : Type 0) (presented given : List Shown) (result : Result Unit Failed) → OnOk result ((presented ≡ given) × A) → IsPrefix presented given
-    → PrintsPart h h' w w' f f' result (list_lines presented) → PrintsPart h h' w w' f f' result (list_lines given)
-prints_given A presented given (Ok o) whole first prints = part_as (list_lines presented) (list_lines given) (ap list_lines whole.0) prints
-prints_given A presented given (Err e) whole first prints = part_as (list_lines (presented ++ first.0)) (list_lines given) (ap list_lines first.1) (present_no_more presented first.0 (Err e) refl prints)
+  -- a part of it was printed, and none handed on
+  pub gives_failed : (items : List Shown) (x : Shown) (was result : Result Unit Failed) → is_err was ≡ false → is_err result ≡ true
+      → GivesItems handed h h' w w' f f' was items → PrintsPart h' h'' w' w'' f' f'' result (shown_lines x) → GivesItems handed h h'' w w'' f f'' result (items ++ x ∷ [])
+  gives_failed items x (Ok o) (Err e) fine failed first second = record {
+    prints = part_as (list_lines items ++ shown_lines x) (list_lines (items ++ x ∷ [])) (lines_more items x) (part_then {ok = o} (list_lines items) (shown_lines x) first.prints second);
+    front = items;
+    first = (x ∷ [], refl);
+    all = tt;
+    fewer = simp length-append (omega arith);
+    hands = subst handed first.all first.hands;
+  }
+  gives_failed items x (Ok o) (Ok p) fine failed first second = absurd cc
+  gives_failed items x (Err e) result fine failed first second = absurd cc
+
+-- no item is given once the sink has failed
+pub gives_no_more : {handed : List Shown → Type 0} {h h' : Option (List ℕ)} {w w' : List ℕ} {f f' : ℕ} (items more : List Shown) (result : Result Unit Failed) → is_err result ≡ true → GivesItems handed h h' w w' f f' result items → GivesItems handed h h' w w' f f' result (items ++ more)
+gives_no_more items more (Ok o) failed g = absurd cc
+gives_no_more items more (Err e) failed g = record {
+  prints = part_as (list_lines items ++ list_lines more) (list_lines (items ++ more)) (sym (flat_map-append shown_lines items more)) (part_failed {e = e} (list_lines items) (list_lines more) refl g.prints);
+  front = g.front;
+  first = (g.first.0 ++ more, sym (append_assoc g.front g.first.0 more) ∙ ap (λ (l : List Shown). l ++ more) g.first.1);
+  all = tt;
+  fewer = let fewer = g.fewer in simp length-append (omega (arith, fewer));
+  hands = g.hands;
+}
+
+-- what was given is all that came, or the first of it
+pub gives_given : {handed : List Shown → Type 0} {h h' : Option (List ℕ)} {w w' : List ℕ} {f f' : ℕ} (A : Type 0) (presented given : List Shown) (result : Result Unit Failed) → OnOk result ((presented ≡ given) × A) → IsPrefix presented given
+    → GivesItems handed h h' w w' f f' result presented → GivesItems handed h h' w w' f f' result given
+gives_given {handed} {h} {h'} {w} {w'} {f} {f'} A presented given (Ok o) whole first g = subst (GivesItems handed h h' w w' f f' (Ok o)) whole.0 g
+gives_given {handed} {h} {h'} {w} {w'} {f} {f'} A presented given (Err e) whole first g = subst (GivesItems handed h h' w w' f f' (Err e)) first.1 (gives_no_more presented first.0 (Err e) refl g)
 
 pub over_on : (A : Type 0) (file : Option Open) (stage : Stage) (result : Result Unit Failed) → OnOk result (A × IsSome (ended_at file stage)) → IsSome file → OnOk result (IsSome (pull_at stage))
 over_on A None stage result over live = absurd cc

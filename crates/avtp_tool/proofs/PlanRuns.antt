@@ -1,46 +1,48 @@
 -- The run of a command that reads files.
-use Rattle.std.proofs.Common.{◌≡◌, ℕ, List, [], ◌∷◌, length, take, Option, None, Result, Ok, Err, inl, inr, refl, sym, subst, arith}
+use Rattle.std.proofs.Common.{◌≡◌, ℕ, Bool, true, false, List, [], ◌∷◌, length, take, Option, None, Result, Ok, Err, inl, inr, refl, sym, subst, ◌∙◌, arith}
 use Rattle.std.specs.Prelude.{◌≢◌, IfOk}
 use Rattle.std.proofs.lemmas.Bool.{cases_Bool}
 use Rattle.std.proofs.lemmas.List.{append-nil}
 use Rattle.avtp_base.specs.declared.failed.Failed.{Failed}
 use Rattle.avtp_base.specs.Faults.{Rose}
 use Rattle.avtp_base.specs.Files.{Files, Slots, KeepsFiles}
-use Rattle.avtp_base.specs.Told.{Appends}
+use Rattle.sample_schedule.specs.declared.shown.Shown.{Shown}
 use Rattle.capture_io.specs.Reads.{OnlyReads}
 use Rattle.avtp_text.specs.Written.{written}
-use Rattle.avtp_words.specs.Grammar.{files_of, output_of, Request}
+use Rattle.avtp_words.specs.Grammar.{check, files_of, listen, output_of, Request, show, soak, talk}
 use Rattle.avtp_tool.specs.declared.status.Status.{Status}
 use Rattle.avtp_tool.specs.declared.status.Status.TheVariants as status
 use Rattle.avtp_tool.specs.Made.{CountsWriting, KeepsFilesBut, KeepsSlotsFor}
-use Rattle.avtp_tool.specs.Outcome.{Asks, AsksFor, CountsReading, is_done, IsDone, Tells, TellsRun}
-use Rattle.avtp_tool.specs.Reading.{DoesFile, DoesFiles, InOrder, IsReadingStatus, one_outcome, PlanOutcome, ReadPlan}
-use Rattle.avtp_tool.specs.Run.{MakesOf, Outcome, Runs}
+use Rattle.avtp_tool.specs.Outcome.{Asks, AsksFor, CountsReading, is_done, IsDone, TellsRun, TellsYield}
+use Rattle.avtp_tool.specs.Reading.{DoesFile, DoesFiles, InOrder, one_outcome, PlanOutcome, ReadPlan}
+use Rattle.avtp_tool.specs.Run.{is_listening, IsThrough, MakesOf, Outcome, Runs, TellsDevices}
+use Rattle.avtp_tool.specs.Yield.{Gives, HandsNothing, Yield}
+use Rattle.avtp_tool.proofs.Yields.{gives_as, part_as}
 use Rattle.avtp_tool.proofs.InOrder.{order_last, order_one}
-use Rattle.avtp_tool.proofs.Leaving.{only_read}
+use Rattle.avtp_tool.proofs.Leaving.{never_ends, only_read}
 
 -- ---- one file
 
-single : {a b : List (List ℕ) → Type 0} {before now : Option (List ℕ)} {result : Result Status Failed} (one : List ℕ → Status → List ℕ → Type 0) (name : List ℕ) → Tells (one name) before now result → Asks (name ∷ []) a b
-    → TellsRun (InOrder one (name ∷ [])) a b before now result
-single {a} {b} {before} {now} {result} one name t asked = record {
+single : {a b : List (List ℕ) → Type 0} {before now : Option (List ℕ)} {handed : List Shown → Type 0} {result : Result Status Failed} (one : List ℕ → Status → Yield → Type 0) (name : List ℕ) → TellsYield (one name) handed before now result → Asks (name ∷ []) a b
+    → TellsRun (InOrder one (name ∷ [])) handed a b before now result
+single {a} {b} {before} {now} {handed} {result} one name t asked = record {
   came = name ∷ [];
   ended = t.ended;
-  text = t.text;
-  outcome = elim (cases_Bool (is_done t.ended)) [ inl done ↦ order_one one name t.text t.ended done t.outcome | inr stops ↦ order_last one name t.text [] t.ended stops t.outcome ];
+  yields = t.yields;
+  outcome = elim (cases_Bool (is_done t.ended)) [ inl done ↦ order_one one name t.yields t.ended done t.outcome | inr stops ↦ order_last one name t.yields [] t.ended stops t.outcome ];
   whole = whole_at result t.whole;
   part = t.part;
 } where
-  whole_at : (r : Result Status Failed) → IfOk r (λ s. s ≢ status.Memory → s ≢ status.WriteFault → (s ≡ t.ended) × Appends before now t.text)
-      → IfOk r (λ s. s ≢ status.Memory → s ≢ status.WriteFault → (s ≡ t.ended) × Appends before now t.text × Asks (name ∷ []) a b)
+  whole_at : (r : Result Status Failed) → IfOk r (λ s. s ≢ status.Memory → s ≢ status.WriteFault → (s ≡ t.ended) × Gives handed before now t.yields)
+      → IfOk r (λ s. s ≢ status.Memory → s ≢ status.WriteFault → (s ≡ t.ended) × Gives handed before now t.yields × Asks (name ∷ []) a b)
   whole_at (Ok s) whole = λ memory write. let w = whole memory write in (w.0, w.1, asked)
   whole_at (Err e) whole = tt
 
-pub one_file : {f g : Option Files} {s t : Slots} {r r' w w' : ℕ} {a b : List (List ℕ) → Type 0} {h h' : Option (List ℕ)} {l l' : List ℕ} {n n' : ℕ} {result : Result Status Failed} (plan : ReadPlan) (name : List ℕ) → plan.names ≡ name ∷ []
-    → DoesFile (plan.report name) plan.limit name f g s t r r' w w' a b h h' l l' n n' result → DoesFiles plan f g s t r r' w w' a b h h' l l' n n' result
-one_file {f} {g} {s} {t} {r} {r'} {w} {w'} {a} {b} {h} {h'} {l} {l'} {result = result} plan name named does = record {
+pub one_file : {f g : Option Files} {s t : Slots} {r r' w w' : ℕ} {a b : List (List ℕ) → Type 0} {h h' : Option (List ℕ)} {l l' : List ℕ} {n n' : ℕ} {result : Result Status Failed} {handed : List Shown → Type 0} (plan : ReadPlan) (name : List ℕ) → plan.names ≡ name ∷ []
+    → DoesFile (plan.report name) handed plan.limit name f g s t r r' w w' a b h h' l l' n n' result → DoesFiles plan handed f g s t r r' w w' a b h h' l l' n n' result
+one_file {f} {g} {s} {t} {r} {r'} {w} {w'} {a} {b} {h} {h'} {l} {l'} {result = result} {handed} plan name named does = record {
   tells = λ all told still.
-      subst (λ (ns : List (List ℕ)). TellsRun (InOrder (one_outcome plan all (Rose r r')) ns) a b (written h l) (written h' l') result) (sym named) (single (one_outcome plan all (Rose r r')) name (does.tells all told) does.keeps.asked);
+      subst (λ (ns : List (List ℕ)). TellsRun (InOrder (one_outcome plan all (Rose r r')) ns) handed a b (written h l) (written h' l') result) (sym named) (single (one_outcome plan all (Rose r r')) name (does.tells all told) does.keeps.asked);
   count = length plan.names;
   within = omega arith;
   all = λ done. refl;
@@ -52,30 +54,88 @@ one_file {f} {g} {s} {t} {r} {r'} {w} {w'} {a} {b} {h} {h'} {l} {l'} {result = r
 
 -- ---- a command
 
-never_write : (result : Result Status Failed) → IsReadingStatus result → result ≡ Ok status.WriteFault → ⊥
-never_write (Ok s) own is = own.0 cc
-never_write (Err e) own is = absurd cc
-
-never_words : (result : Result Status Failed) → IsReadingStatus result → result ≡ Ok status.Words → ⊥
-never_words (Ok s) own is = own.1 cc
-never_words (Err e) own is = absurd cc
-
 -- what a plan can come to, the request of it can
 abbrev pub IsPlanOf : Request → ReadPlan → Type 1
-IsPlanOf request plan = (all : Files) (fault : Type 0) (came : List (List ℕ)) (ended : Status) (text : List ℕ) → PlanOutcome plan all fault came ended text → Outcome request all fault came ended text
+IsPlanOf request plan = (all : Files) (fault : Type 0) (failed : Bool) (came : List (List ℕ)) (ended : Status) (yields : Yield) → PlanOutcome plan all fault came ended yields → Outcome request all fault failed came ended yields
 
-pub plan_runs : {f g : Option Files} {s t : Slots} {r r' w w' : ℕ} {a b : List (List ℕ) → Type 0} {h h' : Option (List ℕ)} {l l' : List ℕ} {n n' : ℕ} {result : Result Status Failed} (request : Request) (plan : ReadPlan) (other : Request) → request ≡ other → IsPlanOf request plan → files_of request ≡ plan.names → output_of request ≡ None
-    → ((all : Files) → KeepsFiles f g → MakesOf request all f g result) → DoesFiles plan f g s t r r' w w' a b h h' l l' n n' result → Runs other f g s t r r' w w' a b h h' l l' n n' result
-plan_runs {f} {g} {s} {t} {r} {r'} {w} {w'} {a} {b} {h} {h'} {l} {l'} {n} {n'} {result} request plan other same is named none makes does = subst (λ (q : Request). Runs q f g s t r r' w w' a b h h' l l' n n' result) same (record {
+through_done : (result : Result Status Failed) → (result ≡ Ok status.DeviceFault → ⊥) → IsThrough result → IsDone result
+through_done (Ok status.Done) other through = refl
+through_done (Ok status.Findings) other through = refl
+through_done (Ok status.Words) other through = through
+through_done (Ok status.Refused) other through = through
+through_done (Ok status.ReadFault) other through = through
+through_done (Ok status.WriteFault) other through = through
+through_done (Ok status.Memory) other through = through
+through_done (Ok status.Limit) other through = through
+through_done (Ok status.DeviceFault) other through = absurd (other refl)
+through_done (Ok status.TalkInput) other through = through
+through_done (Err e) other through = through
+
+pub through_as : {names : List (List ℕ)} {a b : List (List ℕ) → Type 0} {result : Result Status Failed} → (result ≡ Ok status.DeviceFault → ⊥) → AsksFor names a b (IsDone result) → AsksFor names a b (IsThrough result)
+through_as {result = result} other asks = record { count = asks.count; within = asks.within; all = λ through. asks.all (through_done result other through); asked = asks.asked }
+
+-- a command that hands nothing on
+pub no_devices : {request : Request} {failed : Bool} {result : Result Status Failed} → is_listening request ≡ false → (result ≡ Ok status.DeviceFault → ⊥) → TellsDevices request failed result
+no_devices other never = record { fault = λ e. absurd (never e); quiet = λ listens. absurd (let t : true ≡ false = sym listens ∙ other in cc) }
+
+pub plan_runs : {f g : Option Files} {s t : Slots} {r r' w w' : ℕ} {a b : List (List ℕ) → Type 0} {h h' : Option (List ℕ)} {l l' : List ℕ} {n n' : ℕ} {result : Result Status Failed} {handed : List Shown → Type 0} (request : Request) (plan : ReadPlan) (failed : Bool) (other : Request) → request ≡ other → IsPlanOf request plan → is_listening request ≡ false → files_of request ≡ plan.names → output_of request ≡ None
+    → ((all : Files) → KeepsFiles f g → MakesOf request all f g result) → DoesFiles plan handed f g s t r r' w w' a b h h' l l' n n' result → Runs other handed failed f g s t r r' w w' a b h h' l l' n n' result
+plan_runs {f} {g} {s} {t} {r} {r'} {w} {w'} {a} {b} {h} {h'} {l} {l'} {n} {n'} {result} {handed} request plan failed other same is deaf named none makes does = subst (λ (q : Request). Runs q handed failed f g s t r r' w w' a b h h' l l' n n' result) same (record {
   tells = λ all told still.
       let to = does.tells all told still in
-      record { came = to.came; ended = to.ended; text = to.text; outcome = is all (Rose r r') to.came to.ended to.text to.outcome; whole = to.whole; part = to.part };
+      record { came = to.came; ended = to.ended; yields = to.yields; outcome = is all (Rose r r') failed to.came to.ended to.yields to.outcome; whole = to.whole; part = to.part };
   makes = λ all told. makes all does.keeps.files;
   files = subst (λ (o : Option (List ℕ)). KeepsFilesBut o f g) (sym none) does.keeps.files;
   slots = subst (λ (o : Option (List ℕ)). KeepsSlotsFor o g s t) (sym none) does.keeps.slots;
   counts = subst (λ (ns : List (List ℕ)). CountsReading ns f r r' result) (sym named) does.counts;
-  writing = subst (λ (o : Option (List ℕ)). CountsWriting o w w' result) (sym none) (only_read does.keeps.writing (never_write result does.own));
-  no_words = never_words result does.own;
-  asks = subst (λ (ns : List (List ℕ)). AsksFor ns a b (IsDone result)) (sym (rw (named, none) (append-nil plan.names))) (record { count = does.count; within = does.within; all = does.all; asked = does.keeps.asked });
+  writing = subst (λ (o : Option (List ℕ)). CountsWriting o w w' result) (sym none) (only_read does.keeps.writing (never_ends result status.WriteFault refl does.own));
+  no_words = never_ends result status.Words refl does.own;
+  devices = no_devices deaf (never_ends result status.DeviceFault refl does.own);
+  asks = subst (λ (ns : List (List ℕ)). AsksFor ns a b (IsThrough result)) (sym (rw (named, none) (append-nil plan.names))) (through_as (never_ends result status.DeviceFault refl does.own) (record { count = does.count; within = does.within; all = does.all; asked = does.keeps.asked }));
   sink = does.sink;
 })
+
+-- ---- a command that hands nothing on
+
+outcome_deaf : (request : Request) (all : Files) (fault : Type 0) (failed other : Bool) (came : List (List ℕ)) (ended : Status) (yields : Yield) → is_listening request ≡ false → Outcome request all fault failed came ended yields → Outcome request all fault other came ended yields
+outcome_deaf (show limit file) all fault failed other came ended yields deaf o = o
+outcome_deaf (check limit names) all fault failed other came ended yields deaf o = o
+outcome_deaf (listen asked) all fault failed other came ended yields deaf o = absurd cc
+outcome_deaf (talk asked) all fault failed other came ended yields deaf o = o
+outcome_deaf (soak packets) all fault failed other came ended yields deaf o = o
+
+pub runs_deaf : {f g : Option Files} {s t : Slots} {r r' w w' : ℕ} {a b : List (List ℕ) → Type 0} {h h' : Option (List ℕ)} {l l' : List ℕ} {n n' : ℕ} {result : Result Status Failed} {handed : List Shown → Type 0} {failed : Bool} (request : Request) → is_listening request ≡ false → handed []
+    → Runs request HandsNothing false f g s t r r' w w' a b h h' l l' n n' result → Runs request handed failed f g s t r r' w w' a b h h' l l' n n' result
+runs_deaf {a = a} {b} {h} {h'} {l} {l'} {result = result} {handed} {failed} request deaf none runs = record {
+  tells = λ all told still.
+      let to = runs.tells all told still in
+      record {
+        came = to.came;
+        ended = to.ended;
+        yields = to.yields;
+        outcome = outcome_deaf request all _ false failed to.came to.ended to.yields deaf to.outcome;
+        whole = whole_at result to.came to.ended to.yields to.whole;
+        part = part_as nothing to.yields to.part;
+      };
+  makes = runs.makes;
+  files = runs.files;
+  slots = runs.slots;
+  counts = runs.counts;
+  writing = runs.writing;
+  no_words = runs.no_words;
+  devices = no_devices deaf (λ e. absurd (let t : false ≡ true = (runs.devices.fault e).1 in cc));
+  asks = runs.asks;
+  sink = runs.sink;
+} where
+  nothing : (items : List Shown) → HandsNothing items → handed items
+  nothing items is = subst handed (sym is) none
+
+  whole_at : (x : Result Status Failed) (came : List (List ℕ)) (ended : Status) (yields : Yield) → IfOk x (λ s. s ≢ status.Memory → s ≢ status.WriteFault → (s ≡ ended) × Gives HandsNothing (written h l) (written h' l') yields × Asks came a b)
+      → IfOk x (λ s. s ≢ status.Memory → s ≢ status.WriteFault → (s ≡ ended) × Gives handed (written h l) (written h' l') yields × Asks came a b)
+  whole_at (Ok s) came ended yields whole = λ memory write. let w = whole memory write in (w.0, gives_as nothing yields w.1, w.2)
+  whole_at (Err e) came ended yields whole = tt
+
+-- the same of the request that the words are
+pub runs_of : {f g : Option Files} {s t : Slots} {r r' w w' : ℕ} {a b : List (List ℕ) → Type 0} {h h' : Option (List ℕ)} {l l' : List ℕ} {n n' : ℕ} {result : Result Status Failed} {handed : List Shown → Type 0} {failed : Bool} {request other : Request} → request ≡ other
+    → Runs request handed failed f g s t r r' w w' a b h h' l l' n n' result → Runs other handed failed f g s t r r' w w' a b h h' l l' n n' result
+runs_of {f} {g} {s} {t} {r} {r'} {w} {w'} {a} {b} {h} {h'} {l} {l'} {n} {n'} {result} {handed} {failed} same runs = subst (λ (q : Request). Runs q handed failed f g s t r r' w w' a b h h' l l' n n' result) same runs

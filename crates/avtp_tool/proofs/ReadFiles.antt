@@ -5,19 +5,20 @@ use Rattle.std.specs.declared.alloc.Global.{Global}
 use Rattle.std.proofs.lemmas.List.{take_all}
 use Rattle.std.proofs.lemmas.List.Elements.{Contains-append_left, Contains-append_right}
 use Rattle.avtp_base.proofs.Told.{Appends-nil}
-use Rattle.avtp_text.proofs.Printing.{prefix_whole}
 use Rattle.avtp_base.specs.declared.failed.Failed.{Failed}
 use Rattle.avtp_base.specs.Faults.{Rose}
 use Rattle.avtp_base.specs.Files.{Files, Slots, IsMissing, KeepsFiles}
-use Rattle.avtp_base.specs.Told.{Appends}
+use Rattle.sample_schedule.specs.declared.shown.Shown.{Shown}
 use Rattle.avtp_text.specs.Written.{written}
 use Rattle.avtp_words.specs.Word.{texts}
 use Rattle.capture_io.specs.Reads.{OnlyReads}
 use Rattle.capture_io.proofs.Leaving.{only_reads_nothing, only_reads_then}
 use Rattle.avtp_tool.specs.declared.status.Status.{Status}
 use Rattle.avtp_tool.specs.declared.status.Status.TheVariants as status
-use Rattle.avtp_tool.specs.Outcome.{CountsReading, is_done, IsDone, KeepsSink, Tells}
-use Rattle.avtp_tool.specs.Reading.{DoesFile, DoesFiles, InOrder, joined, one_outcome, one_status, one_text, ReadPlan, Report}
+use Rattle.avtp_tool.specs.Outcome.{CountsReading, is_done, IsDone, KeepsSink, TellsYield}
+use Rattle.avtp_tool.specs.Reading.{DoesFile, DoesFiles, InOrder, is_of_reading, joined, one_outcome, one_status, one_yield, ReadPlan, Report}
+use Rattle.avtp_tool.specs.Yield.{Gives, HandsNothing, says, Yield}
+use Rattle.avtp_tool.proofs.Yields.{gives_as, Joins, part_as, part_whole}
 use Rattle.avtp_tool.proofs.InOrder.{all_done, none_read, order_weaker, tells_done, tells_stopped}
 use Rattle.avtp_tool.proofs.OneFile.{file_here, file_weaker}
 use Rattle.avtp_tool.proofs.Outcomes.{counts_err, sink_failed, sink_ok, sink_then, tells_err}
@@ -67,25 +68,25 @@ missing_before (Some a) (Some b) name keeps missing = sym (keeps name) ∙ missi
 -- ---- so far
 
 -- The first files of a plan were read to their end, one after the other.
-pub record IsReadTo (plan : ReadPlan) (all : Files) (before after : ℕ) (names : List (List ℕ)) (ended : Status) (old now : Option (List ℕ)) : Type 0 where
-  pub text : List ℕ
-  pub order : InOrder (one_outcome plan all (Rose before after)) names names ended text
-  pub appends : Appends old now text
+pub record IsReadTo (plan : ReadPlan) (handed : List Shown → Type 0) (all : Files) (before after : ℕ) (names : List (List ℕ)) (ended : Status) (old now : Option (List ℕ)) : Type 0 where
+  pub yields : Yield
+  pub order : InOrder (one_outcome plan all (Rose before after)) names names ended yields
+  pub gives : Gives handed old now yields
 
 -- the same where the files are told, and all else that a run so far left
-pub record ReadsTo (plan : ReadPlan) (names : List (List ℕ)) (ended : Status) (old_files new_files : Option Files) (old_slots new_slots : Slots) (old_reading new_reading old_writing new_writing : ℕ)
+pub record ReadsTo (plan : ReadPlan) (handed : List Shown → Type 0) (names : List (List ℕ)) (ended : Status) (old_files new_files : Option Files) (old_slots new_slots : Slots) (old_reading new_reading old_writing new_writing : ℕ)
     (old_asked new_asked : List (List ℕ) → Type 0) (old now : Option (List ℕ)) : Type 0 where
   pub done : is_done ended ≡ true
   pub reading : new_reading ≡ old_reading
   pub keeps : OnlyReads old_files new_files old_slots new_slots old_reading new_reading old_writing new_writing old_asked new_asked names
-  pub tells : (all : Files) → old_files ≡ Some all → IsSome new_files → IsReadTo plan all old_reading new_reading names ended old now
+  pub tells : (all : Files) → old_files ≡ Some all → IsSome new_files → IsReadTo plan handed all old_reading new_reading names ended old now
 
-pub reads_none : {f : Option Files} {s : Slots} {r w : ℕ} {a : List (List ℕ) → Type 0} {now : Option (List ℕ)} (plan : ReadPlan) → ReadsTo plan [] status.Done f f s s r r w w a a now now
-reads_none {f} {s} {r} {w} {a} {now} plan = record {
+pub reads_none : {f : Option Files} {s : Slots} {r w : ℕ} {a : List (List ℕ) → Type 0} {now : Option (List ℕ)} {handed : List Shown → Type 0} (plan : ReadPlan) → handed [] → ReadsTo plan handed [] status.Done f f s s r r w w a a now now
+reads_none {f} {s} {r} {w} {a} {now} plan none = record {
   done = refl;
   reading = refl;
   keeps = only_reads_nothing f s r w a;
-  tells = λ all told some. record { text = []; order = none_read (one_outcome plan all (Rose r r)); appends = Appends-nil now };
+  tells = λ all told some. record { yields = says []; order = none_read (one_outcome plan all (Rose r r)); gives = record { text = Appends-nil now; items = none } };
 }
 
 -- ---- one file more
@@ -113,17 +114,17 @@ counts_step {f} {h} {r} {q} {r'} result names earlier later name split keeps sam
   quiet_at (Err e) quiet = tt
 
 -- what a file tells, in the words of the run
-tells_step : (q r r' : ℕ) {mid now : Option (List ℕ)} {result : Result Status Failed} (plan : ReadPlan) (all later : Files) (name : List ℕ) → later name ≡ all name → q ≡ r
-    → Tells (one_outcome plan later (Rose q r') name) mid now result → Tells (one_outcome plan all (Rose r r') name) mid now result
-tells_step q r r' {mid} {now} {result} plan all later name is same tells =
-    subst (λ (n : ℕ). Tells (one_outcome plan all (Rose n r') name) mid now result) same
-    (subst (λ (t : Option (List ℕ)). Tells (one_outcome plan (λ (n : List ℕ). t) (Rose q r') name) mid now result) is tells)
+tells_step : (q r r' : ℕ) {mid now : Option (List ℕ)} {handed : List Shown → Type 0} {result : Result Status Failed} (plan : ReadPlan) (all later : Files) (name : List ℕ) → later name ≡ all name → q ≡ r
+    → TellsYield (one_outcome plan later (Rose q r') name) handed mid now result → TellsYield (one_outcome plan all (Rose r r') name) handed mid now result
+tells_step q r r' {mid} {now} {handed} {result} plan all later name is same tells =
+    subst (λ (n : ℕ). TellsYield (one_outcome plan all (Rose n r') name) handed mid now result) same
+    (subst (λ (t : Option (List ℕ)). TellsYield (one_outcome plan (λ (n : List ℕ). t) (Rose q r') name) handed mid now result) is tells)
 
 -- the files before it, when the count may have risen since
-order_step : (r q r' : ℕ) (ended : Status) (text : List ℕ) (plan : ReadPlan) (all : Files) (names : List (List ℕ)) → q ≡ r → r ≤ r' → InOrder (one_outcome plan all (Rose r q)) names names ended text → InOrder (one_outcome plan all (Rose r r')) names names ended text
-order_step r q r' ended text plan all names same falls order =
+order_step : (r q r' : ℕ) (ended : Status) (yields : Yield) (plan : ReadPlan) (all : Files) (names : List (List ℕ)) → q ≡ r → r ≤ r' → InOrder (one_outcome plan all (Rose r q)) names names ended yields → InOrder (one_outcome plan all (Rose r r')) names names ended yields
+order_step r q r' ended yields plan all names same falls order =
     order_weaker (one_outcome plan all (Rose r q)) (one_outcome plan all (Rose r r'))
-    (λ name s t outcome. file_weaker (plan.report name) plan.limit (all name) (Rose r q) (Rose r r') s t (λ rose. omega (arith, rose, same, falls)) outcome) names names ended text order
+    (λ name s t outcome. file_weaker (plan.report name) plan.limit (all name) (Rose r q) (Rose r r') s t (λ rose. omega (arith, rose, same, falls)) outcome) names names ended yields order
 
 keeps_more : {f g h : Option Files} {s t u : Slots} {r r' r'' w w' w'' : ℕ} {a b c : List (List ℕ) → Type 0} (files : List (String Global)) (i : ℕ) (d : String Global) (name : List ℕ) → i < length files → string_bytes (get_or files i d) ≡ name
     → OnlyReads f g s t r r' w w' a b (take i (texts files)) → OnlyReads g h t u r' r'' w' w'' b c (name ∷ []) → OnlyReads f h s u r r'' w w'' a c (take (i + 1) (texts files))
@@ -132,10 +133,10 @@ keeps_more {f} {g} {h} {s} {t} {u} {r} {r'} {r''} {w} {w'} {w''} {a} {b} {c} fil
     (only_reads_then f g h s t u r r' r'' w w' w'' a b c (take i (texts files)) (name ∷ []) first second)
 
 -- it was read to its end
-pub reads_more : {f h g : Option Files} {s t u : Slots} {r q r' w x w' : ℕ} {a b c : List (List ℕ) → Type 0} {before : Option (List ℕ)} {h' h'' : Option (List ℕ)} {l' l'' : List ℕ} {n' n'' : ℕ} {so_far : Status} {result : Result Status Failed} (plan : ReadPlan) (files : List (String Global)) (i : ℕ) (d : String Global) (name : List ℕ)
-    (ended : Status) → i < length files → string_bytes (get_or files i d) ≡ name → is_done ended ≡ true → result ≡ Ok ended → ReadsTo plan (take i (texts files)) so_far f h s t r q w x a b before (written h' l')
-    → DoesFile (plan.report name) plan.limit name h g t u q r' x w' b c h' h'' l' l'' n' n'' result → ReadsTo plan (take (i + 1) (texts files)) (joined so_far ended) f g s u r r' w w' a c before (written h'' l'')
-reads_more {f} {h} {g} {s} {t} {u} {r} {q} {r'} {w} {x} {w'} {a} {b} {c} {before} {h'} {h''} {l'} {l''} {so_far = so_far} {result} plan files i d name ended within is goes same first second =
+pub reads_more : {f h g : Option Files} {s t u : Slots} {r q r' w x w' : ℕ} {a b c : List (List ℕ) → Type 0} {before : Option (List ℕ)} {h' h'' : Option (List ℕ)} {l' l'' : List ℕ} {n' n'' : ℕ} {so_far : Status} {result : Result Status Failed} {earlier handed all_handed : List Shown → Type 0} (plan : ReadPlan) (files : List (String Global)) (i : ℕ) (d : String Global) (name : List ℕ)
+    (ended : Status) → Joins earlier handed all_handed → i < length files → string_bytes (get_or files i d) ≡ name → is_done ended ≡ true → result ≡ Ok ended → ReadsTo plan earlier (take i (texts files)) so_far f h s t r q w x a b before (written h' l')
+    → DoesFile (plan.report name) handed plan.limit name h g t u q r' x w' b c h' h'' l' l'' n' n'' result → ReadsTo plan all_handed (take (i + 1) (texts files)) (joined so_far ended) f g s u r r' w w' a c before (written h'' l'')
+reads_more {f} {h} {g} {s} {t} {u} {r} {q} {r'} {w} {x} {w'} {a} {b} {c} {before} {h'} {h''} {l'} {l''} {so_far = so_far} {result} {earlier} {handed} {all_handed} plan files i d name ended join within is goes same first second =
     let keeps = keeps_more files i d name within is first.keeps second.keeps in
     let here = subst (λ (x : Result Status Failed). IfOk x (λ s. s ≢ status.ReadFault → s ≢ status.Memory → s ≢ status.WriteFault → r' ≡ q)) same second.counts.quiet in
     record {
@@ -146,17 +147,17 @@ reads_more {f} {h} {g} {s} {t} {u} {r} {q} {r'} {w} {x} {w'} {a} {b} {c} {before
           let some = told_still h g second.keeps.files still in
           let later = told_later f h all told first.keeps.files some in
           let to = first.tells all told some in
-          let tells = subst (λ (x : Result Status Failed). Tells (one_outcome plan all (Rose r r') name) (written h' l') (written h'' l'') x) same (tells_step q r r' plan all later.0 name (later.2 name) first.reading (second.tells later.0 later.1)) in
-          let more = tells_done before (written h' l') (written h'' l'') (one_outcome plan all (Rose r r')) (take i (texts files)) name to.text so_far ended first.done goes (order_step r q r' so_far to.text plan all (take i (texts files)) first.reading keeps.reading to.order) to.appends tells in
-          subst (λ (ns : List (List ℕ)). IsReadTo plan all r r' ns (joined so_far ended) before (written h'' l'')) (more_named files i d name within is) (record { text = more.0; order = more.1; appends = more.2 });
+          let tells = subst (λ (x : Result Status Failed). TellsYield (one_outcome plan all (Rose r r') name) handed (written h' l') (written h'' l'') x) same (tells_step q r r' plan all later.0 name (later.2 name) first.reading (second.tells later.0 later.1)) in
+          let more = tells_done before (written h' l') (written h'' l'') (one_outcome plan all (Rose r r')) (take i (texts files)) name to.yields so_far ended join first.done goes (order_step r q r' so_far to.yields plan all (take i (texts files)) first.reading keeps.reading to.order) to.gives tells in
+          subst (λ (ns : List (List ℕ)). IsReadTo plan all_handed all r r' ns (joined so_far ended) before (written h'' l'')) (more_named files i d name within is) (record { yields = more.0; order = more.1; gives = more.2 });
     }
 
 -- it ended the run
-pub reads_stopped : {f h g : Option Files} {s t u : Slots} {r q r' w x w' : ℕ} {a b c : List (List ℕ) → Type 0} {k h' h'' : Option (List ℕ)} {l l' l'' : List ℕ} {n n' n'' : ℕ} {so_far : Status} {result : Result Status Failed} (plan : ReadPlan) (files : List (String Global)) (i : ℕ) (d : String Global) (name : List ℕ)
-    → plan.names ≡ texts files → i < length files → string_bytes (get_or files i d) ≡ name → (IsDone result → ⊥) → ReadsTo plan (take i (texts files)) so_far f h s t r q w x a b (written k l) (written h' l')
-    → KeepsSink {T = Unit} k h' n n' (Ok tt) → DoesFile (plan.report name) plan.limit name h g t u q r' x w' b c h' h'' l' l'' n' n'' result → DoesFiles plan f g s u r r' w w' a c k h'' l l'' n n'' result
-reads_stopped {f} {h} {g} {s} {t} {u} {r} {q} {r'} {w} {x} {w'} {a} {b} {c} {so_far = so_far} {result} plan files i d name named within is stopped first sink second =
-    let earlier = take i (texts files) in
+pub reads_stopped : {f h g : Option Files} {s t u : Slots} {r q r' w x w' : ℕ} {a b c : List (List ℕ) → Type 0} {k h' h'' : Option (List ℕ)} {l l' l'' : List ℕ} {n n' n'' : ℕ} {so_far : Status} {result : Result Status Failed} {earlier handed all_handed : List Shown → Type 0} (plan : ReadPlan) (files : List (String Global)) (i : ℕ) (d : String Global) (name : List ℕ)
+    → Joins earlier handed all_handed → plan.names ≡ texts files → i < length files → string_bytes (get_or files i d) ≡ name → (IsDone result → ⊥) → ReadsTo plan earlier (take i (texts files)) so_far f h s t r q w x a b (written k l) (written h' l')
+    → KeepsSink {T = Unit} k h' n n' (Ok tt) → DoesFile (plan.report name) handed plan.limit name h g t u q r' x w' b c h' h'' l' l'' n' n'' result → DoesFiles plan all_handed f g s u r r' w w' a c k h'' l l'' n n'' result
+reads_stopped {f} {h} {g} {s} {t} {u} {r} {q} {r'} {w} {x} {w'} {a} {b} {c} {so_far = so_far} {result} plan files i d name join named within is stopped first sink second =
+    let before_it = take i (texts files) in
     let rest = drop (suc i) (texts files) in
     let split = named ∙ split_named files i d name within is in
     let keeps = keeps_more files i d name within is first.keeps second.keeps in
@@ -166,35 +167,47 @@ reads_stopped {f} {h} {g} {s} {t} {u} {r} {q} {r'} {w} {x} {w'} {a} {b} {c} {so_
           let some = told_still h g second.keeps.files still in
           let later = told_later f h all told first.keeps.files some in
           let to = first.tells all told some in
-          tells_stopped (one_outcome plan all (Rose r r')) (one_status plan all) (one_text plan all) (λ n. file_here (plan.report n) plan.limit (all n) (Rose r r')) earlier rest plan.names name to.text so_far split first.done
-          (order_step r q r' so_far to.text plan all earlier first.reading keeps.reading to.order) to.appends (tells_step q r r' plan all later.0 name (later.2 name) first.reading (second.tells later.0 later.1)) stopped
+          tells_stopped (one_outcome plan all (Rose r r')) (one_status plan all) (one_yield plan all) (λ n. file_here (plan.report n) plan.limit (all n) (Rose r r')) join before_it rest plan.names name to.yields so_far split first.done
+          (order_step r q r' so_far to.yields plan all before_it first.reading keeps.reading to.order) to.gives (tells_step q r r' plan all later.0 name (later.2 name) first.reading (second.tells later.0 later.1)) stopped
           (λ names stands. subst (λ (ns : List (List ℕ)). c (names ++ ns)) (sym (more_named files i d name within is)) (keeps.asked names stands));
       count = i + 1;
       within = subst (λ (ns : List (List ℕ)). i + 1 ≤ length ns) (sym named) (omega (arith, within, all_names));
       all = λ done. absurd (stopped done);
       keeps = subst (λ (ns : List (List ℕ)). OnlyReads f g s u r r' w w' a c (take (i + 1) ns)) (sym named) keeps;
-      counts = counts_step result plan.names earlier rest name split first.keeps.files first.reading second.counts;
+      counts = counts_step result plan.names before_it rest name split first.keeps.files first.reading second.counts;
       own = second.own;
       sink = sink_then sink second.sink;
     }
 
+done_reads : (ended : Status) → is_done ended ≡ true → is_of_reading ended ≡ true
+done_reads status.Done done = refl
+done_reads status.Findings done = refl
+done_reads status.Words done = absurd cc
+done_reads status.Refused done = refl
+done_reads status.ReadFault done = refl
+done_reads status.WriteFault done = absurd cc
+done_reads status.Memory done = refl
+done_reads status.Limit done = refl
+done_reads status.DeviceFault done = absurd cc
+done_reads status.TalkInput done = absurd cc
+
 -- no file was left
-pub reads_all : {f g : Option Files} {s t : Slots} {r r' w w' : ℕ} {a b : List (List ℕ) → Type 0} {h h' : Option (List ℕ)} {l l' : List ℕ} {n n' : ℕ} (plan : ReadPlan) (files : List (String Global)) (i : ℕ) (ended : Status) → plan.names ≡ texts files → length files ≤ i
-    → ReadsTo plan (take i (texts files)) ended f g s t r r' w w' a b (written h l) (written h' l') → KeepsSink {T = Unit} h h' n n' (Ok tt) → DoesFiles plan f g s t r r' w w' a b h h' l l' n n' (Ok ended)
-reads_all {f} {g} {s} {t} {r} {r'} {w} {w'} {a} {b} {h} {h'} {l} {l'} plan files i ended named past to sink =
+pub reads_all : {f g : Option Files} {s t : Slots} {r r' w w' : ℕ} {a b : List (List ℕ) → Type 0} {h h' : Option (List ℕ)} {l l' : List ℕ} {n n' : ℕ} {handed : List Shown → Type 0} (plan : ReadPlan) (files : List (String Global)) (i : ℕ) (ended : Status) → plan.names ≡ texts files → length files ≤ i
+    → ReadsTo plan handed (take i (texts files)) ended f g s t r r' w w' a b (written h l) (written h' l') → KeepsSink {T = Unit} h h' n n' (Ok tt) → DoesFiles plan handed f g s t r r' w w' a b h h' l l' n n' (Ok ended)
+reads_all {f} {g} {s} {t} {r} {r'} {w} {w'} {a} {b} {h} {h'} {l} {l'} {handed = handed} plan files i ended named past to sink =
     let count = names_count files in
     let whole : take i (texts files) ≡ plan.names = take_all i (texts files) (omega (arith, count, past)) ∙ sym named in
     let keeps = subst (OnlyReads f g s t r r' w w' a b) whole to.keeps in
     record {
       tells = λ all told still.
-          let read = subst (λ (ns : List (List ℕ)). IsReadTo plan all r r' ns ended (written h l) (written h' l')) whole (to.tells all told still) in
-          record { came = plan.names; ended = ended; text = read.text; outcome = read.order; whole = λ memory write. (refl, read.appends, keeps.asked); part = prefix_whole (written h l) (written h' l') read.text read.appends };
+          let read = subst (λ (ns : List (List ℕ)). IsReadTo plan handed all r r' ns ended (written h l) (written h' l')) whole (to.tells all told still) in
+          record { came = plan.names; ended = ended; yields = read.yields; outcome = read.order; whole = λ memory write. (refl, read.gives, keeps.asked); part = part_whole read.yields read.gives };
       count = length plan.names;
       within = omega arith;
       all = λ done. refl;
       keeps = subst (OnlyReads f g s t r r' w w' a b) (sym (take_all (length plan.names) plan.names (omega arith))) keeps;
       counts = record { never_falls = omega (arith, to.reading); fault = λ e. absurd (not_done ended status.ReadFault to.done refl cc); quiet = λ fault memory write. to.reading };
-      own = (not_done ended status.WriteFault to.done refl, not_done ended status.Words to.done refl);
+      own = done_reads ended to.done;
       sink = sink_ok ended sink;
     }
 
@@ -218,7 +231,27 @@ other_ends status.DeviceFault done findings is = absurd cc
 other_ends status.TalkInput done findings is = absurd cc
 
 -- it is one whatever was to be answered
-pub does_failed : {report : Report} {limit : ℕ} {name : List ℕ} {f g : Option Files} {s t : Slots} {r r' w w' : ℕ} {a b : List (List ℕ) → Type 0} {h h' : Option (List ℕ)} {l l' : List ℕ} {n n' : ℕ} {e : Failed} (result : Result Status Failed) → IsErr result
-    → DoesFile report limit name f g s t r r' w w' a b h h' l l' n n' (Err e) → DoesFile report limit name f g s t r r' w w' a b h h' l l' n n' result
+pub does_failed : {report : Report} {limit : ℕ} {name : List ℕ} {f g : Option Files} {s t : Slots} {r r' w w' : ℕ} {a b : List (List ℕ) → Type 0} {h h' : Option (List ℕ)} {l l' : List ℕ} {n n' : ℕ} {e : Failed} {handed : List Shown → Type 0} (result : Result Status Failed) → IsErr result
+    → DoesFile report handed limit name f g s t r r' w w' a b h h' l l' n n' (Err e) → DoesFile report handed limit name f g s t r r' w w' a b h h' l l' n n' result
 does_failed (Ok s) err does = absurd cc
 does_failed (Err e') err does = record { tells = λ all told. tells_err err (does.tells all told); keeps = does.keeps; counts = counts_err (Err e') err does.keeps.reading; own = tt; sink = sink_failed err does.sink }
+
+-- a file with which nothing is handed on
+pub does_deaf : {report : Report} {limit : ℕ} {name : List ℕ} {f g : Option Files} {s t : Slots} {r r' w w' : ℕ} {a b : List (List ℕ) → Type 0} {h h' : Option (List ℕ)} {l l' : List ℕ} {n n' : ℕ} {result : Result Status Failed} {handed : List Shown → Type 0} → handed []
+    → DoesFile report HandsNothing limit name f g s t r r' w w' a b h h' l l' n n' result → DoesFile report handed limit name f g s t r r' w w' a b h h' l l' n n' result
+does_deaf {h = h} {h'} {l} {l'} {result = result} {handed} none does = record {
+  tells = λ all told.
+      let t = does.tells all told in
+      record { ended = t.ended; yields = t.yields; outcome = t.outcome; whole = whole_at result t.ended t.yields t.whole; part = part_as nothing t.yields t.part };
+  keeps = does.keeps;
+  counts = does.counts;
+  own = does.own;
+  sink = does.sink;
+} where
+  nothing : (items : List Shown) → HandsNothing items → handed items
+  nothing items is = subst handed (sym is) none
+
+  whole_at : (x : Result Status Failed) (ended : Status) (yields : Yield) → IfOk x (λ s. s ≢ status.Memory → s ≢ status.WriteFault → (s ≡ ended) × Gives HandsNothing (written h l) (written h' l') yields)
+      → IfOk x (λ s. s ≢ status.Memory → s ≢ status.WriteFault → (s ≡ ended) × Gives handed (written h l) (written h' l') yields)
+  whole_at (Ok s) ended yields whole = λ memory write. let w = whole memory write in (w.0, gives_as nothing yields w.1)
+  whole_at (Err e) ended yields whole = tt

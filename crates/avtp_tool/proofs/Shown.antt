@@ -17,7 +17,9 @@ use Rattle.avtp_text.specs.Written.{written}
 use Rattle.avtp_tool.specs.declared.show.Printed.{Printed}
 use Rattle.avtp_tool.specs.declared.status.Status.{Status}
 use Rattle.avtp_tool.specs.Outcome.{EndsWith}
-use Rattle.avtp_tool.specs.Reading.{file_text}
+use Rattle.avtp_tool.specs.Reading.{file_yield}
+use Rattle.avtp_tool.specs.Yield.{GivesPart, HandsNothing, says}
+use Rattle.avtp_tool.proofs.Yields.{part_text}
 use Rattle.avtp_tool.specs.Show.{end_line, HasPrinted, PrintsRecords, show_line, show_report}
 use Rattle.avtp_tool.specs.Lines.{of_each}
 use Rattle.avtp_tool.specs.Status.{status_of}
@@ -67,13 +69,13 @@ records_failed limit bytes fault before now (Err e) err prefix = prefix
 
 -- its records were printed, and the last line
 pub show_told : {h h' : Option (List ℕ)} {w w' : List ℕ} {n n' : ℕ} {result : Result Status Failed} (limit : ℕ) (bytes : List ℕ) (fault : Type 0) (printed : Printed) (before : Option (List ℕ)) → HasPrinted limit bytes fault printed before (written h w)
-    → EndsWith (status_of printed.end) h h' w w' n n' result (end_line limit printed.frames printed.end) → IsReadAndTold (show_report limit) limit bytes fault printed.end before (written h' w') result
+    → EndsWith (status_of printed.end) h h' w w' n n' result (end_line limit printed.frames printed.end) → IsReadAndTold (show_report limit) HandsNothing limit bytes fault printed.end before (written h' w') result
 show_told limit bytes fault printed before p ends = record {
   records = p.records;
   ends = p.ends;
-  tells = tells_end (of_each show_line p.records) (refl, ap (λ (k : ℕ). of_each show_line p.records ++ end_line limit k printed.end) p.counted) p.lines ends;
+  tells = tells_end (of_each show_line p.records) [] (refl, ap (λ (k : ℕ). says (of_each show_line p.records ++ end_line limit k printed.end)) p.counted) p.lines refl ends;
 }
 
 -- a part of its lines was
-pub some_lines : (limit : ℕ) (bytes : List ℕ) (before now : Option (List ℕ)) → AppendsPrefix before now (of_each show_line (records_in (take limit bytes))) → AppendsPrefix before now (file_text (show_report limit) limit (Some bytes))
-some_lines limit bytes before now prefix = prefix_before before now _ (end_line limit (length (records_in (take limit bytes))) (end_of limit bytes)) prefix
+pub some_lines : (limit : ℕ) (bytes : List ℕ) (before now : Option (List ℕ)) → AppendsPrefix before now (of_each show_line (records_in (take limit bytes))) → GivesPart HandsNothing before now (file_yield (show_report limit) limit (Some bytes))
+some_lines limit bytes before now prefix = part_text refl _ (prefix_before before now _ (end_line limit (length (records_in (take limit bytes))) (end_of limit bytes)) prefix)

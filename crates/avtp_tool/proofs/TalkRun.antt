@@ -21,12 +21,16 @@ use Rattle.avtp_words.specs.Grammar.{talk, Talking}
 use Rattle.avtp_tool.specs.declared.status.Status.{Status}
 use Rattle.avtp_tool.specs.declared.status.Status.TheVariants as status
 use Rattle.avtp_tool.specs.Made.{CountsWriting, KeepsFilesBut, Makes}
-use Rattle.avtp_tool.specs.Outcome.{Asks, AsksFor, EndsUnopened, is_done, IsDone, KeepsSink, Tells, TellsRun}
+use Rattle.avtp_tool.specs.Outcome.{Asks, AsksFor, EndsUnopened, is_done, IsDone, KeepsSink, TellsRun, TellsText}
 use Rattle.avtp_tool.specs.Run.{MakesFrom, Runs, talk_came}
 use Rattle.avtp_tool.specs.Talk.{FaultStops, TalkedOutcome, TalkOutcome, talk_plan, talk_report, talk_status, WritesOnly}
 use Rattle.avtp_tool.proofs.Complete.{talk_here}
 use Rattle.avtp_tool.proofs.Making.{makes_after, makes_none}
-use Rattle.avtp_tool.proofs.Outcomes.{counts_unopened, tells_unopened, unopened_other, unopened_undone, unopened_words, unopened_writes}
+use Rattle.avtp_text.specs.Notices.{read_fault_line}
+use Rattle.avtp_tool.specs.Yield.{Gives, HandsNothing, says}
+use Rattle.avtp_tool.proofs.PlanRuns.{no_devices, through_as}
+use Rattle.avtp_tool.proofs.Yields.{part_text}
+use Rattle.avtp_tool.proofs.Outcomes.{counts_unopened, tells_unopened, text_telling, unopened_other, unopened_undone, unopened_words, unopened_writes}
 use Rattle.avtp_tool.proofs.Talked.{read_counted, talks_unopened, tells_caused}
 
 -- ---- the names to which it came
@@ -35,19 +39,19 @@ use Rattle.avtp_tool.proofs.Talked.{read_counted, talks_unopened, tells_caused}
 abbrev pub CameAs : Talking → Result Status Failed → (List (List ℕ) → Type 0) → (List (List ℕ) → Type 0) → Type 0
 CameAs asked result a b = IfOk result (λ s. s ≢ status.Memory → s ≢ status.WriteFault → Asks (talk_came asked s) a b)
 
-talk_tells : {a b : List (List ℕ) → Type 0} {before now : Option (List ℕ)} {result : Result Status Failed} (asked : Talking) (told : Option (List ℕ)) (fault : Type 0) → CameAs asked result a b → Tells (TalkOutcome (talk_plan asked) told fault) before now result
-    → TellsRun (λ came ended text. (came ≡ talk_came asked ended) × TalkOutcome (talk_plan asked) told fault ended text) a b before now result
+talk_tells : {a b : List (List ℕ) → Type 0} {before now : Option (List ℕ)} {result : Result Status Failed} (asked : Talking) (told : Option (List ℕ)) (fault : Type 0) → CameAs asked result a b → TellsText (TalkOutcome (talk_plan asked) told fault) before now result
+    → TellsRun (λ came ended yields. (came ≡ talk_came asked ended) × TalkOutcome (talk_plan asked) told fault ended yields.text × (yields.items ≡ [])) HandsNothing a b before now result
 talk_tells {a} {b} {before} {now} {result} asked told fault came tells = record {
   came = talk_came asked tells.ended;
   ended = tells.ended;
-  text = tells.text;
-  outcome = (refl, tells.outcome);
+  yields = says tells.yields;
+  outcome = (refl, tells.outcome, refl);
   whole = whole_at result came tells.whole;
-  part = tells.part;
+  part = part_text refl (says tells.yields) tells.part;
 } where
-  whole_at : (r : Result Status Failed) → CameAs asked r a b → IfOk r (λ s. s ≢ status.Memory → s ≢ status.WriteFault → (s ≡ tells.ended) × Appends before now tells.text)
-      → IfOk r (λ s. s ≢ status.Memory → s ≢ status.WriteFault → (s ≡ tells.ended) × Appends before now tells.text × Asks (talk_came asked tells.ended) a b)
-  whole_at (Ok s) asks whole = λ memory write. let w = whole memory write in (w.0, w.1, subst (λ (x : Status). Asks (talk_came asked x) a b) w.0 (asks memory write))
+  whole_at : (r : Result Status Failed) → CameAs asked r a b → IfOk r (λ s. s ≢ status.Memory → s ≢ status.WriteFault → (s ≡ tells.ended) × Appends before now tells.yields)
+      → IfOk r (λ s. s ≢ status.Memory → s ≢ status.WriteFault → (s ≡ tells.ended) × Gives HandsNothing before now (says tells.yields) × Asks (talk_came asked tells.ended) a b)
+  whole_at (Ok s) asks whole = λ memory write. let w = whole memory write in (w.0, record { text = w.1; items = refl }, subst (λ (x : Status). Asks (talk_came asked x) a b) w.0 (asks memory write))
   whole_at (Err e) asks whole = tt
 
 came_unopened : (a b : List (List ℕ) → Type 0) (asked : Talking) (result : Result Status Failed) → Asks (asked.input ∷ []) a b → (IsDone result → ⊥) → CameAs asked result a b
@@ -80,14 +84,15 @@ made_none asked (Some bytes) f g result keeps never = makes_after keeps (makes_n
 
 pub unopened_runs : {f g : Option Files} {s t : Slots} {r q w x : ℕ} {a b : List (List ℕ) → Type 0} {h h' : Option (List ℕ)} {l l' : List ℕ} {n n' : ℕ} {result : Result Status Failed} (asked : Talking) (why : OpenFault)
     → (IsErrOf {T = Contents} (Err why) open_fault.Missing → IsMissing f asked.input) → IsReadCounted r q (Err why) → OnlyReads f g s t r q w x a b (asked.input ∷ []) → EndsUnopened why h h' l l' n n' result
-    → Runs (talk asked) f g s t r q w x a b h h' l l' n n' result
+    → Runs (talk asked) HandsNothing false f g s t r q w x a b h h' l l' n n' result
 unopened_runs {f} {g} {s} {t} {r} {q} {w} {x} {a} {b} {h} {h'} {l} {l'} {n} {n'} {result} asked why missing counts keeps ends =
     let plan = talk_plan asked in
     let not_done = unopened_other why status.Done (λ e. cc) (λ e. cc) ends in
     let not_failed = unopened_writes why ends in
+    let not_device = unopened_other why status.DeviceFault (λ e. cc) (λ e. cc) ends in
     record {
       tells = λ all told some. talk_tells asked (all asked.input) (Rose r q) (came_unopened a b asked result keeps.asked (unopened_undone why result ends))
-          (tells_unopened {T = Contents} {Outcome = TalkOutcome plan (all asked.input) (Rose r q)} why r q f asked.input (talk_status plan (all asked.input)) (talk_report plan (all asked.input)) (talk_here plan (all asked.input) (Rose r q))
+          (tells_unopened {T = Contents} {Outcome = TalkOutcome plan (all asked.input) (Rose r q)} why r q f asked.input (talk_status plan (all asked.input)) (talk_report plan (all asked.input)) (text_telling (written h l) (written h' l') read_fault_line) (talk_here plan (all asked.input) (Rose r q))
           (λ cause. talks_unopened plan r q f asked.input all told cause) (read_counted counts) missing ends);
       makes = λ all told. made_none asked (all asked.input) f g result keeps.files not_done;
       files = kept_but f g asked.output keeps.files;
@@ -95,7 +100,8 @@ unopened_runs {f} {g} {s} {t} {r} {q} {w} {x} {a} {b} {h} {h'} {l} {l'} {n} {n'}
       counts = counts_unopened {T = Contents} why r q f asked.input (read_counted counts) missing ends;
       writing = record { never_falls = omega (arith, keeps.writing); failed = λ e. absurd (not_failed e); other = λ e. keeps.writing; unwritten = λ e. absurd cc };
       no_words = unopened_words why ends;
-      asks = record { count = 1; within = omega arith; all = λ d. absurd (unopened_undone why result ends d); asked = keeps.asked };
+      devices = no_devices refl not_device;
+      asks = through_as not_device (record { count = 1; within = omega arith; all = λ d. absurd (unopened_undone why result ends d); asked = keeps.asked });
       sink = ends.sink;
     }
 
@@ -150,9 +156,9 @@ made_from asked told bytes f g k result is keeps makes = subst (λ (t : Option (
 
 pub opened_runs : {f g k : Option Files} {s t u : Slots} {r q q' w x x' : ℕ} {a b c : List (List ℕ) → Type 0} {h h' : Option (List ℕ)} {l l' : List ℕ} {n n' : ℕ} {result : Result Status Failed} (asked : Talking) (contents : Contents)
     → IsInput f asked.input contents → CountsStop (Some contents.stop) r q → OnlyReads f g s t r q w x a b (asked.input ∷ [])
-    → ((bytes : List ℕ) → IsContents most_input bytes contents.stop contents.bytes.items → Tells (TalkedOutcome (talk_plan asked) bytes (contents.stop ≡ stop.Fault)) (written h l) (written h' l') result)
+    → ((bytes : List ℕ) → IsContents most_input bytes contents.stop contents.bytes.items → TellsText (TalkedOutcome (talk_plan asked) bytes (contents.stop ≡ stop.Fault)) (written h l) (written h' l') result)
     → ((bytes : List ℕ) → IsContents most_input bytes contents.stop contents.bytes.items → Makes asked.output (capture (talk_plan asked) bytes) g k result)
-    → WritesOnly g k t u q q' x x' b c asked.output result → FaultStops contents.stop result → KeepsSink h h' n n' result → Runs (talk asked) f k s u r q' w x' a c h h' l l' n n' result
+    → WritesOnly g k t u q q' x x' b c asked.output result → FaultStops contents.stop result → KeepsSink h h' n n' result → Runs (talk asked) HandsNothing false f k s u r q' w x' a c h h' l l' n n' result
 opened_runs {f} {g} {k} {s} {t} {u} {r} {q} {q'} {w} {x} {x'} {a} {b} {c} {h} {h'} {l} {l'} {result = result} asked contents read counted keeps tells makes writes stops sink =
     let plan = talk_plan asked in
     let counts : CountsStop (Some contents.stop) r q' = subst (λ (n : ℕ). CountsStop (Some contents.stop) r n) (sym writes.reading) counted in
@@ -160,7 +166,7 @@ opened_runs {f} {g} {k} {s} {t} {u} {r} {q} {q'} {w} {x} {x'} {a} {b} {c} {h} {h
       tells = λ all told some.
           let input = read all told in
           talk_tells asked (all asked.input) (Rose r q') (came_opened a b c asked result keeps.asked writes.came)
-          (subst (λ (v : Option (List ℕ)). Tells (TalkOutcome plan v (Rose r q')) (written h l) (written h' l') result) (sym input.1)
+          (subst (λ (v : Option (List ℕ)). TellsText (TalkOutcome plan v (Rose r q')) (written h l) (written h' l') result) (sym input.1)
           (tells_caused plan input.0 (contents.stop ≡ stop.Fault) (Rose r q') (rose_by contents.stop r q' counts) (tells input.0 input.2)));
       makes = λ all told. let input = read all told in made_from asked (all asked.input) input.0 f g k result input.1 keeps.files (makes input.0 input.2);
       files = files_from f g k asked.output keeps.files writes.files;
@@ -168,6 +174,7 @@ opened_runs {f} {g} {k} {s} {t} {u} {r} {q} {q'} {w} {x} {x'} {a} {b} {c} {h} {h
       counts = record { never_falls = omega (arith, keeps.reading, writes.reading); fault = λ e. inl (rose_by contents.stop r q' counts (stops.fault e)); quiet = quiet_by contents.stop result r q' counts stops.quiet };
       writing = subst (λ (n : ℕ). CountsWriting (Some asked.output) n x' result) keeps.writing writes.writing;
       no_words = stops.no_words;
-      asks = asks_from asked.input asked.output keeps.asked writes.asked;
+      devices = no_devices refl stops.no_devices;
+      asks = through_as stops.no_devices (asks_from asked.input asked.output keeps.asked writes.asked);
       sink = sink;
     }

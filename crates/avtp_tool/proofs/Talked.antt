@@ -21,7 +21,7 @@ use Rattle.capture_io.specs.declared.end.Stop.TheVariants as stop
 use Rattle.avtp_tool.specs.declared.status.Status.{Status}
 use Rattle.avtp_tool.specs.declared.status.Status.TheVariants as status
 use Rattle.avtp_tool.specs.Made.{unmade_as}
-use Rattle.avtp_tool.specs.Outcome.{EndsWith, IsDone, Tells}
+use Rattle.avtp_tool.specs.Outcome.{EndsWith, IsDone, TellsText}
 use Rattle.avtp_tool.specs.Talk.{EndsRefused, FaultStops, line_by, status_by, TalkedOutcome, TalkOutcome}
 use Rattle.avtp_tool.proofs.Complete.{talks_by}
 use Rattle.avtp_tool.proofs.Outcomes.{IsCut, missing_none, ok_same, tells_cut, tells_line, tells_weaker, undone_as, undone_by, Unopened}
@@ -57,7 +57,7 @@ memory_or fault.Packets = inr (λ e. cc)
 memory_or fault.Arrival = inr (λ e. cc)
 
 pub tells_refused : {h h' : Option (List ℕ)} {w w' : List ℕ} {f f' : ℕ} {result : Result Status Failed} (plan : TalkPlan) (bytes : List ℕ) (cause : Type 0) (why : TalkFault) → length bytes ≤ most_input
-    → (fault_of plan bytes ≡ Some why) ⊎ (why ≡ fault.Memory) → EndsRefused why h h' w w' f f' result → Tells (TalkedOutcome plan bytes cause) (written h w) (written h' w') result
+    → (fault_of plan bytes ≡ Some why) ⊎ (why ≡ fault.Memory) → EndsRefused why h h' w w' f f' result → TellsText (TalkedOutcome plan bytes cause) (written h w) (written h' w') result
 tells_refused {h} {h'} {w} {w'} {result = result} plan bytes cause why fits only ends =
     elim (memory_or why) [
       | inl is ↦
@@ -107,7 +107,7 @@ talked_weaker plan bytes a b status.Memory text weaker o = absurd o
 talked_weaker plan bytes a b status.DeviceFault text weaker o = absurd o
 
 -- for another cause of a fault of reading
-pub tells_caused : {before now : Option (List ℕ)} {result : Result Status Failed} (plan : TalkPlan) (bytes : List ℕ) (a b : Type 0) → (a → b) → Tells (TalkedOutcome plan bytes a) before now result → Tells (TalkedOutcome plan bytes b) before now result
+pub tells_caused : {before now : Option (List ℕ)} {result : Result Status Failed} (plan : TalkPlan) (bytes : List ℕ) (a b : Type 0) → (a → b) → TellsText (TalkedOutcome plan bytes a) before now result → TellsText (TalkedOutcome plan bytes b) before now result
 tells_caused plan bytes a b weaker tells = tells_weaker (λ ended text o. talked_weaker plan bytes a b ended text weaker o) tells
 
 -- the input was read whole
@@ -122,22 +122,23 @@ too_long limit bytes halt prefix is has = (subst (λ (h : Stop). IsContents limi
 
 -- a run does not end with a status that no outcome has
 talked_never : {before now : Option (List ℕ)} (plan : TalkPlan) (bytes : List ℕ) (cause : Type 0) (result : Result Status Failed) (other : Status) → other ≢ status.Memory → other ≢ status.WriteFault
-    → ((text : List ℕ) → TalkedOutcome plan bytes cause other text → ⊥) → Tells (TalkedOutcome plan bytes cause) before now result → result ≡ Ok other → ⊥
+    → ((text : List ℕ) → TalkedOutcome plan bytes cause other text → ⊥) → TellsText (TalkedOutcome plan bytes cause) before now result → result ≡ Ok other → ⊥
 talked_never plan bytes cause (Ok s) other no_memory no_write none tells e =
     let same : s ≡ other = ok_same (Ok s) s other refl e in
     let ended = (tells.whole (λ m. no_memory (sym same ∙ m)) (λ w. no_write (sym same ∙ w))).0 in
-    none tells.text (subst (λ (x : Status). TalkedOutcome plan bytes cause x tells.text) (sym ended ∙ same) tells.outcome)
+    none tells.yields (subst (λ (x : Status). TalkedOutcome plan bytes cause x tells.yields) (sym ended ∙ same) tells.outcome)
 talked_never plan bytes cause (Err f) other no_memory no_write none tells e = absurd cc
 
 quiet_end : (halt : Stop) (result : Result Status Failed) → halt ≡ stop.End → IfOk result (λ s. s ≢ status.ReadFault → s ≢ status.Memory → s ≢ status.WriteFault → halt ≢ stop.Fault)
 quiet_end halt (Ok s) is = λ fault memory write e. absurd (let t : stop.End ≡ stop.Fault = sym is ∙ e in cc)
 quiet_end halt (Err e) is = tt
 
-pub stops_end : {before now : Option (List ℕ)} (plan : TalkPlan) (bytes : List ℕ) (halt : Stop) (result : Result Status Failed) → halt ≡ stop.End → Tells (TalkedOutcome plan bytes ⊥) before now result → FaultStops halt result
+pub stops_end : {before now : Option (List ℕ)} (plan : TalkPlan) (bytes : List ℕ) (halt : Stop) (result : Result Status Failed) → halt ≡ stop.End → TellsText (TalkedOutcome plan bytes ⊥) before now result → FaultStops halt result
 stops_end plan bytes halt result is tells = record {
   fault = λ e. absurd (talked_never plan bytes ⊥ result status.ReadFault (λ t. cc) (λ t. cc) (λ text o. o.0) tells e);
   quiet = quiet_end halt result is;
   no_words = talked_never plan bytes ⊥ result status.Words (λ t. cc) (λ t. cc) (λ text o. o) tells;
+  no_devices = talked_never plan bytes ⊥ result status.DeviceFault (λ t. cc) (λ t. cc) (λ text o. o) tells;
 }
 
 quiet_fault : (halt : Stop) (result : Result Status Failed) → IfOk result (λ s. s ≡ status.ReadFault) → IfOk result (λ s. s ≢ status.ReadFault → s ≢ status.Memory → s ≢ status.WriteFault → halt ≢ stop.Fault)
@@ -145,14 +146,14 @@ quiet_fault halt (Ok s) is = λ fault. absurd (fault is)
 quiet_fault halt (Err e) is = tt
 
 pub stops_fault : {h h' : Option (List ℕ)} {w w' : List ℕ} {f f' : ℕ} {line : List ℕ} (halt : Stop) (result : Result Status Failed) → halt ≡ stop.Fault → EndsWith status.ReadFault h h' w w' f f' result line → FaultStops halt result
-stops_fault halt result is ends = record { fault = λ e. is; quiet = quiet_fault halt result ends.status; no_words = ends_not status.Words (λ t. cc) ends }
+stops_fault halt result is ends = record { fault = λ e. is; quiet = quiet_fault halt result ends.status; no_words = ends_not status.Words (λ t. cc) ends; no_devices = ends_not status.DeviceFault (λ t. cc) ends }
 
 quiet_limit : (halt : Stop) (result : Result Status Failed) → halt ≡ stop.Limit → IfOk result (λ s. s ≢ status.ReadFault → s ≢ status.Memory → s ≢ status.WriteFault → halt ≢ stop.Fault)
 quiet_limit halt (Ok s) is = λ fault memory write e. absurd (let t : stop.Limit ≡ stop.Fault = sym is ∙ e in cc)
 quiet_limit halt (Err e) is = tt
 
 pub stops_limit : {h h' : Option (List ℕ)} {w w' : List ℕ} {f f' : ℕ} {line : List ℕ} (halt : Stop) (result : Result Status Failed) → halt ≡ stop.Limit → EndsWith status.Limit h h' w w' f f' result line → FaultStops halt result
-stops_limit halt result is ends = record { fault = λ e. absurd (ends_not status.ReadFault (λ t. cc) ends e); quiet = quiet_limit halt result is; no_words = ends_not status.Words (λ t. cc) ends }
+stops_limit halt result is ends = record { fault = λ e. absurd (ends_not status.ReadFault (λ t. cc) ends e); quiet = quiet_limit halt result is; no_words = ends_not status.Words (λ t. cc) ends; no_devices = ends_not status.DeviceFault (λ t. cc) ends }
 
 -- ---- an input that could not be opened
 

@@ -32,6 +32,7 @@ use Rattle.avtp_tool.specs.Outcome.{KeepsSink}
 use Rattle.avtp_tool.specs.Reading.{ReadPlan, Report}
 use Rattle.avtp_tool.specs.Record.{inside}
 use Rattle.avtp_tool.specs.Status.{status_of}
+use Rattle.avtp_tool.specs.Yield.{says}
 
 -- ---- a record by itself
 
@@ -121,7 +122,7 @@ check_status found how = status_of how
 abbrev pub check_report : ℕ → List ℕ → Report
 check_report limit name = record {
   status = λ records how. check_status (length (of_each check_lines records)) how;
-  text = check_text limit name;
+  yields = λ records how. says (check_text limit name records how);
 }
 
 abbrev pub check_plan : ℕ → List (List ℕ) → ReadPlan

@@ -1,5 +1,5 @@
 -- What is done with each file of a command that reads several.
-use Rattle.std.specs.Prelude.{ℕ, ◌^◌, ◌≤◌, List}
+use Rattle.std.specs.Prelude.{ℕ, ◌^◌, ◌≤◌, Bool, true, false, List}
 use Rattle.avtp_words.specs.Grammar.{listening_of}
 use Rattle.avtp_tool.specs.declared.files.Reading.{Reading}
 use Rattle.avtp_tool.specs.declared.files.Reading.TheVariants.{Check, Listen}
@@ -18,6 +18,11 @@ limit_for (Listen asked) = asked.now.limit
 
 abbrev pub plan_for : Reading → List (List ℕ) → ReadPlan
 plan_for reading names = record { names = names; limit = limit_for reading; report = report_for reading }
+
+-- it hands items on
+abbrev pub is_hearing : Reading → Bool
+is_hearing (Check limit) = false
+is_hearing (Listen asked) = true
 
 abbrev pub IsReading : Reading → Type 0
 IsReading (Check limit) = limit ≤ 2 ^ 40

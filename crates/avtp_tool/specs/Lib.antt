@@ -1,5 +1,6 @@
 pub mod Status
 pub mod Record
+pub mod Yield
 pub mod Outcome
 pub mod Reading
 pub mod Made
@@ -11,5 +12,6 @@ pub mod Presenting
 pub mod Listen
 pub mod Talk
 pub mod Soak
+pub mod DeviceWords
 pub mod Run
 pub mod Files

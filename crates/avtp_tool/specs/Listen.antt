@@ -16,7 +16,6 @@ use Rattle.listener.specs.Listening.{ListenState}
 use Rattle.avtp_words.specs.Grammar.{Listening}
 use Rattle.avtp_text.specs.Listen.{capture_line, list_lines, end_listen_line}
 use Rattle.avtp_text.specs.Notices.{capture_refused_line, read_fault_line, limit_line}
-use Rattle.avtp_text.specs.Written.{AppendsPrefix, PrintsPart}
 use Rattle.capture_io.specs.declared.end.End.{End}
 use Rattle.capture_io.specs.declared.end.End.TheVariants as end
 use Rattle.capture_io.specs.Source.{EndsAfter, Sourcing}
@@ -25,8 +24,10 @@ use Rattle.avtp_tool.specs.declared.hearing.Heard.TheVariants.{Ended, NoMemory}
 use Rattle.avtp_tool.specs.declared.hearing.Stage.{Stage}
 use Rattle.avtp_tool.specs.Hearing.{Shows, pull_at}
 use Rattle.avtp_tool.specs.declared.status.Status.{Status}
-use Rattle.avtp_tool.specs.Reading.{file_text, in_order_status, one_status, ReadPlan, Report}
+use Rattle.avtp_tool.specs.Presenting.{GivesItems}
+use Rattle.avtp_tool.specs.Reading.{file_yield, in_order_status, one_status, ReadPlan, Report}
 use Rattle.avtp_tool.specs.Status.{status_of}
+use Rattle.avtp_tool.specs.Yield.{GivesPart, with_more, Yield}
 
 -- the listener that the words ask for
 abbrev pub plan_of : Listening → ListenPlan
@@ -51,15 +52,18 @@ last_line limit counts end.Limit = limit_line limit
 abbrev pub shown_text : List ℕ → List Shown → List ℕ
 shown_text name shown = capture_line name ++ list_lines shown
 
--- the text of a capture of this name that was opened and whose reading ends so after these records
-abbrev pub heard_text : Listening → List ℕ → List Record → End → List ℕ
-heard_text asked name records how =
-    shown_text name (shown_by (plan_of asked) records how)
-    ++ last_line asked.limit (counts_of (plan_of asked) records (shown_by (plan_of asked) records how)) how
+-- What a capture of this name yields that was opened and whose reading ends so after these records: its name, the lines of
+-- each item that is shown, which is then handed on, and the last line.
+abbrev pub heard_yield : Listening → List ℕ → List Record → End → Yield
+heard_yield asked name records how = record {
+  text = shown_text name (shown_by (plan_of asked) records how)
+      ++ last_line asked.limit (counts_of (plan_of asked) records (shown_by (plan_of asked) records how)) how;
+  items = shown_by (plan_of asked) records how;
+}
 
 -- what `listen` makes of a file of this name
 abbrev pub listen_report : Listening → List ℕ → Report
-listen_report asked name = record { status = λ records how. status_of how; text = heard_text asked name }
+listen_report asked name = record { status = λ records how. status_of how; yields = heard_yield asked name }
 
 abbrev pub listen_plan : Listening → ReadPlan
 listen_plan asked = record { names = asked.files; limit = asked.limit; report = listen_report asked }
@@ -75,45 +79,49 @@ abbrev pub end_line : Counts → Option Refusal → List ℕ
 end_line counts None = end_listen_line counts
 end_line counts (Some refusal) = capture_refused_line refusal
 
--- The text is the capture's name, the lines of what is shown of the records, which keeps the headline, and the last line.
-pub record PrintsHeadline (asked : Listening) (name : List ℕ) (shift : ℤ) (p : PacketJournal) (bytes text : List ℕ) : Type 0 where
+-- It is the capture's name, the lines of what is shown of the records, which keeps the headline and is handed on, and the last
+-- line.
+pub record YieldsHeadline (asked : Listening) (name : List ℕ) (shift : ℤ) (p : PacketJournal) (bytes : List ℕ) (yields : Yield) : Type 0 where
   pub shown : List Shown
   pub keeps : KeepsHeadline shift p (plan_of asked) (records_in bytes) shown
-  pub printed : text ≡ shown_text name shown ++ end_line (counts_of (plan_of asked) (records_in bytes) shown) (refusal_in bytes)
+  pub printed : yields.text ≡ shown_text name shown ++ end_line (counts_of (plan_of asked) (records_in bytes) shown) (refusal_in bytes)
+  pub handed : yields.items ≡ shown
 
--- Somewhere in it the text has one that keeps the headline.
-pub record HasHeadline (asked : Listening) (name : List ℕ) (shift : ℤ) (p : PacketJournal) (bytes text : List ℕ) : Type 0 where
-  pub before : List ℕ
-  pub here : List ℕ
-  pub after : List ℕ
-  pub prints : PrintsHeadline asked name shift p bytes here
-  pub split : text ≡ before ++ (here ++ after)
+-- Somewhere in it there is a part that keeps the headline.
+pub record HasHeadline (asked : Listening) (name : List ℕ) (shift : ℤ) (p : PacketJournal) (bytes : List ℕ) (yields : Yield) : Type 0 where
+  pub before : Yield
+  pub here : Yield
+  pub after : Yield
+  pub keeps : YieldsHeadline asked name shift p bytes here
+  pub split : yields ≡ with_more before (with_more here after)
 
 -- ---- the records of a capture
 
 -- The records of a file of these bytes, as far as it could be read, were heard, its reading ended so, and what is shown of them
--- then was printed and counted.
-pub record HasHeard (asked : Listening) (name bytes : List ℕ) (fault : Type 0) (how : End) (counts : Counts) (before now : Option (List ℕ)) : Type 0 where
+-- then was printed, handed on and counted.
+pub record HasHeard (asked : Listening) (handed : List Shown → Type 0) (name bytes : List ℕ) (fault : Type 0) (how : End) (counts : Counts) (before now : Option (List ℕ)) : Type 0 where
   pub records : List Record
   pub ends : EndsAfter asked.limit bytes fault how records
   pub counted : counts ≡ counts_of (plan_of asked) records (shown_by (plan_of asked) records how)
   pub lines : Appends before now (shown_text name (shown_by (plan_of asked) records how))
+  pub items : handed (shown_by (plan_of asked) records how)
 
--- They were heard; or where no memory was found or the sink failed, a prefix of the file's text was printed.
-abbrev pub HearsRecords : Listening → List ℕ → List ℕ → Type 0 → Option (List ℕ) → Option (List ℕ) → Result Heard Failed → Type 0
-HearsRecords asked name bytes fault before now (Ok (Ended how counts)) = HasHeard asked name bytes fault how counts before now
-HearsRecords asked name bytes fault before now (Ok NoMemory) = AppendsPrefix before now (file_text (listen_report asked name) asked.limit (Some bytes))
-HearsRecords asked name bytes fault before now (Err e) = AppendsPrefix before now (file_text (listen_report asked name) asked.limit (Some bytes))
+-- They were heard; or where no memory was found or the sink failed, a part of what the file yields was given out.
+abbrev pub HearsRecords : Listening → (List Shown → Type 0) → List ℕ → List ℕ → Type 0 → Option (List ℕ) → Option (List ℕ) → Result Heard Failed → Type 0
+HearsRecords asked handed name bytes fault before now (Ok (Ended how counts)) = HasHeard asked handed name bytes fault how counts before now
+HearsRecords asked handed name bytes fault before now (Ok NoMemory) = GivesPart handed before now (file_yield (listen_report asked name) asked.limit (Some bytes))
+HearsRecords asked handed name bytes fault before now (Err e) = GivesPart handed before now (file_yield (listen_report asked name) asked.limit (Some bytes))
 
 -- how the reading of the records ended, where it did
 abbrev pub heard_end : Heard → Option End
 heard_end (Ended how counts) = Some how
 heard_end NoMemory = None
 
--- Items were shown and their lines printed, all of them where the hearing ended, or a prefix where the sink failed.
-pub record HearsItems (old_files new_files : Option Files) (old_slots new_slots : Slots) (old_reading new_reading old_writing new_writing : ℕ) (old_asked new_asked : List (List ℕ) → Type 0)
+-- Items were shown, their lines printed and each handed on once its lines were; all of them where the hearing ended, or the
+-- first where the sink failed.
+pub record HearsItems (handed : List Shown → Type 0) (old_files new_files : Option Files) (old_slots new_slots : Slots) (old_reading new_reading old_writing new_writing : ℕ) (old_asked new_asked : List (List ℕ) → Type 0)
     (old_source source : Sourcing) (old_listener listener : ListenState) (stage : Stage) (held held' : Option (List ℕ)) (waits waits' : List ℕ) (faults faults' : ℕ) (result : Result Unit Failed) : Type 0 where
   pub items : List Shown
   pub shows : Shows old_files new_files old_slots new_slots old_reading new_reading old_writing new_writing old_asked new_asked old_source source old_listener listener stage items
-  pub prints : PrintsPart held held' waits waits' faults faults' result (list_lines items)
+  pub gives : GivesItems handed held held' waits waits' faults faults' result items
   pub over : OnOk result (IsSome (pull_at stage))

@@ -1,5 +1,5 @@
--- What a command's run may come to: the status that it ends with and the text that it prints; and how much of that stands
--- where it is cut short.
+-- What a command's run may come to: the status that it ends with and what it yields; and how much of that stands where it is
+-- cut short.
 use Rattle.std.specs.Prelude.{◌≡◌, ◌≢◌, ◌⊎◌, ℕ, ◌≤◌, List, [], ◌++◌, length, take, Option, Result, Ok, Err, IfOk, Bool, true, false, Contains, IsErr, MatchResult}
 use Rattle.avtp_base.specs.declared.failed.Failed.{Failed}
 use Rattle.avtp_base.specs.declared.failed.OpenFault.{OpenFault}
@@ -11,6 +11,8 @@ use Rattle.avtp_base.specs.Told.{Appends, Keeps}
 use Rattle.avtp_text.specs.Written.{AppendsPrefix, Grows, written}
 use Rattle.avtp_tool.specs.declared.status.Status.{Status}
 use Rattle.avtp_tool.specs.declared.status.Status.TheVariants as status
+use Rattle.avtp_tool.specs.Yield.{Gives, GivesPart, Yield}
+use Rattle.sample_schedule.specs.declared.shown.Shown.{Shown}
 
 -- ---- what a run left
 
@@ -24,14 +26,22 @@ abbrev pub IsDone : Result Status Failed → Type 0
 IsDone (Ok ended) = is_done ended ≡ true
 IsDone (Err e) = ⊥
 
--- Known bytes grew from `before` to `now` by the text of one of the outcomes that there can be. Where the run ended with a
--- status of its own, it is the outcome's, and the text is whole; where memory or a write failed, a prefix of it stands.
-pub record Tells (Outcome : Status → List ℕ → Type 0) (before now : Option (List ℕ)) (result : Result Status Failed) : Type 0 where
+-- A run gave out what one of the outcomes that there can be yields. Where it ended with a status of its own, it is the
+-- outcome's, and all of that was given; where memory or a write failed, a part of it was.
+pub record Tells {Y : Type 0} (Outcome : Status → Y → Type 0) (Whole Part : Y → Type 0) (result : Result Status Failed) : Type 0 where
   pub ended : Status
-  pub text : List ℕ
-  pub outcome : Outcome ended text
-  pub whole : IfOk result (λ s. s ≢ status.Memory → s ≢ status.WriteFault → (s ≡ ended) × Appends before now text)
-  pub part : AppendsPrefix before now text
+  pub yields : Y
+  pub outcome : Outcome ended yields
+  pub whole : IfOk result (λ s. s ≢ status.Memory → s ≢ status.WriteFault → (s ≡ ended) × Whole yields)
+  pub part : Part yields
+
+-- the same of a text, by which known bytes grew from `before` to `now`
+abbrev pub TellsText : (Status → List ℕ → Type 0) → Option (List ℕ) → Option (List ℕ) → Result Status Failed → Type 0
+TellsText Outcome before now result = Tells Outcome (Appends before now) (AppendsPrefix before now) result
+
+-- the same of a text and of items that were handed on
+abbrev pub TellsYield : (Status → Yield → Type 0) → (List Shown → Type 0) → Option (List ℕ) → Option (List ℕ) → Result Status Failed → Type 0
+TellsYield Outcome handed before now result = Tells Outcome (Gives handed before now) (GivesPart handed before now) result
 
 -- A shelf was asked for exactly these names, in this order.
 abbrev pub Asks : List (List ℕ) → (List (List ℕ) → Type 0) → (List (List ℕ) → Type 0) → Type 0
@@ -39,17 +49,17 @@ Asks names old_asked new_asked = (before : List (List ℕ)) → old_asked before
 
 -- The same of a whole run, of which the files belong to an outcome to which it came: where it ended with a status of its own,
 -- the shelf was asked for these and no other.
-pub record TellsRun (Outcome : List (List ℕ) → Status → List ℕ → Type 0) (old_asked new_asked : List (List ℕ) → Type 0) (before now : Option (List ℕ)) (result : Result Status Failed) : Type 0 where
+pub record TellsRun (Outcome : List (List ℕ) → Status → Yield → Type 0) (handed : List Shown → Type 0) (old_asked new_asked : List (List ℕ) → Type 0) (before now : Option (List ℕ)) (result : Result Status Failed) : Type 0 where
   pub came : List (List ℕ)
   pub ended : Status
-  pub text : List ℕ
-  pub outcome : Outcome came ended text
-  pub whole : IfOk result (λ s. s ≢ status.Memory → s ≢ status.WriteFault → (s ≡ ended) × Appends before now text × Asks came old_asked new_asked)
-  pub part : AppendsPrefix before now text
+  pub yields : Yield
+  pub outcome : Outcome came ended yields
+  pub whole : IfOk result (λ s. s ≢ status.Memory → s ≢ status.WriteFault → (s ≡ ended) × Gives handed before now yields × Asks came old_asked new_asked)
+  pub part : GivesPart handed before now yields
 
 -- one outcome and no other
-abbrev pub Only : Status → List ℕ → Status → List ℕ → Type 0
-Only ended text e t = (e ≡ ended) × (t ≡ text)
+abbrev pub Only : {Y : Type 0} → Status → Y → Status → Y → Type 0
+Only ended yields e y = (e ≡ ended) × (y ≡ yields)
 
 -- What the sink held stays, and a failure is the sink's.
 pub record KeepsSink {T : Type 0} (held held' : Option (List ℕ)) (faults faults' : ℕ) (result : Result T Failed) : Type 0 where

@@ -1,8 +1,10 @@
 -- What the two sides of a ring did until all was presented, or the presenter failed.
-use Rattle.std.specs.Prelude.{◌≡◌, ℕ, ◌++◌, List, Option, Some, None, IsSome, Result, Ok, Err, OnOk, OnErr}
+use Rattle.std.specs.Prelude.{◌≡◌, ℕ, ◌<◌, ◌++◌, length, List, Option, Some, None, IsSome, Result, Ok, Err, OnOk, OnErr}
 use mathlib.Core.List.{IsPrefix}
 use Rattle.avtp_base.specs.declared.failed.Failed.{Failed}
 use Rattle.avtp_base.specs.Faults.{Rose}
+use Rattle.avtp_text.specs.Listen.{list_lines}
+use Rattle.avtp_text.specs.Written.{PrintsPart}
 use Rattle.sample_schedule.specs.declared.shown.Shown.{Shown}
 use Rattle.presenter_ring.specs.declared.receiver.Pull.{Pull}
 
@@ -10,6 +12,16 @@ use Rattle.presenter_ring.specs.declared.receiver.Pull.{Pull}
 abbrev pub failures : Result Unit Failed → ℕ
 failures (Ok x) = 0
 failures (Err e) = 1
+
+-- The lines of items were printed, and each item was handed on once its lines were. Where the sink failed that is a part of the
+-- lines, and the item whose lines failed and those after it were not handed on.
+pub record GivesItems (handed : List Shown → Type 0) (held held' : Option (List ℕ)) (waits waits' : List ℕ) (faults faults' : ℕ) (result : Result Unit Failed) (items : List Shown) : Type 0 where
+  pub prints : PrintsPart held held' waits waits' faults faults' result (list_lines items)
+  pub front : List Shown
+  pub first : IsPrefix front items
+  pub all : OnOk result (front ≡ items)
+  pub fewer : OnErr result (length front < length items)
+  pub hands : handed front
 
 -- The receiver gave these items, and the presenter was handed them in this order: all that were given up to its end, or where
 -- it failed the first of them. The meanings are those of the two sides.

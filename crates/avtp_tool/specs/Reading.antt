@@ -1,5 +1,5 @@
 -- Files that a command reads in order: what may become of each, and of all.
-use Rattle.std.specs.Prelude.{◌≡◌, ◌≢◌, ◌⊎◌, ℕ, ◌^◌, ◌≤◌, List, [], ◌∷◌, ◌++◌, length, take, Option, Some, None, IfOk, IsSome, Result, Ok, Err, if◌then◌else◌, true, false}
+use Rattle.std.specs.Prelude.{◌≡◌, ◌≢◌, ◌⊎◌, ℕ, ◌^◌, ◌≤◌, List, [], ◌∷◌, ◌++◌, length, take, Option, Some, None, IfOk, IsSome, Result, Ok, Err, if◌then◌else◌, Bool, true, false}
 use Rattle.avtp_base.specs.declared.failed.Failed.{Failed}
 use Rattle.avtp_base.specs.Faults.{Rose}
 use Rattle.avtp_base.specs.Files.{Files, Slots}
@@ -13,7 +13,9 @@ use Rattle.capture_io.specs.Reads.{OnlyReads, ReadsSlot}
 use Rattle.capture_io.specs.Source.{Sourcing, slot_of, to_do}
 use Rattle.avtp_tool.specs.declared.status.Status.{Status}
 use Rattle.avtp_tool.specs.declared.status.Status.TheVariants as status
-use Rattle.avtp_tool.specs.Outcome.{CountsReading, is_done, IsDone, KeepsSink, Tells, TellsRun}
+use Rattle.avtp_tool.specs.Yield.{says, with_more, Yield}
+use Rattle.sample_schedule.specs.declared.shown.Shown.{Shown}
+use Rattle.avtp_tool.specs.Outcome.{CountsReading, is_done, IsDone, KeepsSink, TellsRun, TellsYield}
 
 -- ---- an open capture
 
@@ -34,35 +36,35 @@ pub record ReadsCapture (old_files new_files : Option Files) (old_slots new_slot
 
 -- ---- one file
 
--- What a command makes of a file that it has read: a status and a text, by the records before the place where the reading
--- ended, and how it ended.
+-- What a command makes of a file that it has read: a status, and what it yields, by the records before the place where the
+-- reading ended, and how it ended.
 pub record Report : Type 0 where
   pub status : List Record → End → Status
-  pub text : List Record → End → List ℕ
+  pub yields : List Record → End → Yield
 
 -- A file of these bytes was opened, and at most `limit` of them were read.
-pub record ReadOutcome (report : Report) (limit : ℕ) (bytes : List ℕ) (fault : Type 0) (ended : Status) (text : List ℕ) : Type 0 where
+pub record ReadOutcome (report : Report) (limit : ℕ) (bytes : List ℕ) (fault : Type 0) (ended : Status) (yields : Yield) : Type 0 where
   pub how : End
   pub prefix : List ℕ
   pub ends : EndsAt limit (Some bytes) fault how prefix
   pub status : ended ≡ report.status (records_in prefix) how
-  pub printed : text ≡ report.text (records_in prefix) how
+  pub given : yields ≡ report.yields (records_in prefix) how
 
--- A file that a shelf tells so can end with this status and give this text. One that is missing or could not be opened gives
+-- A file that a shelf tells so can end with this status and yield this. One that is missing or could not be opened gives
 -- a fault of reading alone; what that needs otherwise is `fault`.
-abbrev pub FileOutcome : Report → ℕ → Option (List ℕ) → Type 0 → Status → List ℕ → Type 0
-FileOutcome report limit None fault ended text = (ended ≡ status.ReadFault) × (text ≡ read_fault_line)
-FileOutcome report limit (Some bytes) fault ended text =
-    ReadOutcome report limit bytes fault ended text ⊎ (fault × (ended ≡ status.ReadFault) × (text ≡ read_fault_line))
+abbrev pub FileOutcome : Report → ℕ → Option (List ℕ) → Type 0 → Status → Yield → Type 0
+FileOutcome report limit None fault ended yields = (ended ≡ status.ReadFault) × (yields ≡ says read_fault_line)
+FileOutcome report limit (Some bytes) fault ended yields =
+    ReadOutcome report limit bytes fault ended yields ⊎ (fault × (ended ≡ status.ReadFault) × (yields ≡ says read_fault_line))
 
 -- the same as functions, where no fault of reading comes
 abbrev pub file_status : Report → ℕ → Option (List ℕ) → Status
 file_status report limit None = status.ReadFault
 file_status report limit (Some bytes) = report.status (records_in (take limit bytes)) (end_of limit bytes)
 
-abbrev pub file_text : Report → ℕ → Option (List ℕ) → List ℕ
-file_text report limit None = read_fault_line
-file_text report limit (Some bytes) = report.text (records_in (take limit bytes)) (end_of limit bytes)
+abbrev pub file_yield : Report → ℕ → Option (List ℕ) → Yield
+file_yield report limit None = says read_fault_line
+file_yield report limit (Some bytes) = report.yields (records_in (take limit bytes)) (end_of limit bytes)
 
 -- ---- files in order
 
@@ -72,16 +74,16 @@ joined first status.Done = first
 joined first rest = rest
 
 -- Files are read in order, each to its end, up to the first that ends otherwise and with it the run. `One` says of a file
--- of a name with which status and which text it can end. `read` are those to which the run came.
-unfoldable pub InOrder : (List ℕ → Status → List ℕ → Type 0) → List (List ℕ) → List (List ℕ) → Status → List ℕ → Type 0
-InOrder One [] read ended text = (read ≡ []) × (ended ≡ status.Done) × (text ≡ [])
-InOrder One (name ∷ names) read ended text =
-    ((is_done ended ≡ false) × (read ≡ name ∷ []) × One name ended text)
-    ⊎ ((others : List (List ℕ)) × (first : Status) × (rest : Status) × (here : List ℕ) × (more : List ℕ)
+-- of a name with which status it can end and what it can yield. `read` are those to which the run came.
+unfoldable pub InOrder : (List ℕ → Status → Yield → Type 0) → List (List ℕ) → List (List ℕ) → Status → Yield → Type 0
+InOrder One [] read ended yields = (read ≡ []) × (ended ≡ status.Done) × (yields ≡ says [])
+InOrder One (name ∷ names) read ended yields =
+    ((is_done ended ≡ false) × (read ≡ name ∷ []) × One name ended yields)
+    ⊎ ((others : List (List ℕ)) × (first : Status) × (rest : Status) × (here : Yield) × (more : Yield)
     × (is_done first ≡ true) × One name first here × InOrder One names others rest more
-    × (read ≡ name ∷ others) × (ended ≡ joined first rest) × (text ≡ here ++ more))
+    × (read ≡ name ∷ others) × (ended ≡ joined first rest) × (yields ≡ with_more here more))
 
--- the same as functions, where the status and the text of a file are functions of its name
+-- the same as functions, where the status of a file and what it yields are functions of its name
 unfoldable pub in_order_read : (List ℕ → Status) → List (List ℕ) → List (List ℕ)
 in_order_read one [] = []
 in_order_read one (name ∷ names) = name ∷ (if is_done (one name) then in_order_read one names else [])
@@ -90,9 +92,9 @@ unfoldable pub in_order_status : (List ℕ → Status) → List (List ℕ) → S
 in_order_status one [] = status.Done
 in_order_status one (name ∷ names) = if is_done (one name) then joined (one name) (in_order_status one names) else one name
 
-unfoldable pub in_order_text : (List ℕ → Status) → (List ℕ → List ℕ) → List (List ℕ) → List ℕ
-in_order_text one text [] = []
-in_order_text one text (name ∷ names) = text name ++ (if is_done (one name) then in_order_text one text names else [])
+unfoldable pub in_order_yield : (List ℕ → Status) → (List ℕ → Yield) → List (List ℕ) → Yield
+in_order_yield one yields [] = says []
+in_order_yield one yields (name ∷ names) = with_more (yields name) (if is_done (one name) then in_order_yield one yields names else says [])
 
 -- ---- a command
 
@@ -103,19 +105,19 @@ pub record ReadPlan : Type 0 where
   pub report : List ℕ → Report
 
 -- the file of a name, as a shelf tells its files
-abbrev pub one_outcome : ReadPlan → Files → Type 0 → List ℕ → Status → List ℕ → Type 0
-one_outcome plan files fault name ended text = FileOutcome (plan.report name) plan.limit (files name) fault ended text
+abbrev pub one_outcome : ReadPlan → Files → Type 0 → List ℕ → Status → Yield → Type 0
+one_outcome plan files fault name ended yields = FileOutcome (plan.report name) plan.limit (files name) fault ended yields
 
--- It can come to these files, end with this status and print this text.
-abbrev pub PlanOutcome : ReadPlan → Files → Type 0 → List (List ℕ) → Status → List ℕ → Type 0
-PlanOutcome plan files fault read ended text = InOrder (one_outcome plan files fault) plan.names read ended text
+-- It can come to these files, end with this status and yield this.
+abbrev pub PlanOutcome : ReadPlan → Files → Type 0 → List (List ℕ) → Status → Yield → Type 0
+PlanOutcome plan files fault read ended yields = InOrder (one_outcome plan files fault) plan.names read ended yields
 
 -- the same as functions, where no fault of reading comes
 abbrev pub one_status : ReadPlan → Files → List ℕ → Status
 one_status plan files name = file_status (plan.report name) plan.limit (files name)
 
-abbrev pub one_text : ReadPlan → Files → List ℕ → List ℕ
-one_text plan files name = file_text (plan.report name) plan.limit (files name)
+abbrev pub one_yield : ReadPlan → Files → List ℕ → Yield
+one_yield plan files name = file_yield (plan.report name) plan.limit (files name)
 
 abbrev pub plan_read : ReadPlan → Files → List (List ℕ)
 plan_read plan files = in_order_read (one_status plan files) plan.names
@@ -123,28 +125,35 @@ plan_read plan files = in_order_read (one_status plan files) plan.names
 abbrev pub plan_status : ReadPlan → Files → Status
 plan_status plan files = in_order_status (one_status plan files) plan.names
 
-abbrev pub plan_text : ReadPlan → Files → List ℕ
-plan_text plan files = in_order_text (one_status plan files) (one_text plan files) plan.names
+abbrev pub plan_yield : ReadPlan → Files → Yield
+plan_yield plan files = in_order_yield (one_status plan files) (one_yield plan files) plan.names
 
 -- ---- what was done
 
--- A run that only reads ends with a status that tells of no failed write and of no words.
-abbrev pub IsReadingStatus : Result Status Failed → Type 0
-IsReadingStatus result = IfOk result (λ s. (s ≢ status.WriteFault) × (s ≢ status.Words))
+-- A run that only reads can end so: with no failed write, no word, no device and no input for `talk`.
+abbrev pub is_of_reading : Status → Bool
+is_of_reading status.Words = false
+is_of_reading status.WriteFault = false
+is_of_reading status.DeviceFault = false
+is_of_reading status.TalkInput = false
+is_of_reading ended = true
 
--- The file of a name was read, of which `limit` bytes may be, and nothing else was done.
-pub record DoesFile (report : Report) (limit : ℕ) (name : List ℕ) (old_files new_files : Option Files) (old_slots new_slots : Slots) (old_reading new_reading old_writing new_writing : ℕ)
+abbrev pub IsReadingStatus : Result Status Failed → Type 0
+IsReadingStatus result = IfOk result (λ s. is_of_reading s ≡ true)
+
+-- The file of a name was read, of which `limit` bytes may be, and nothing else was done but that items were handed on.
+pub record DoesFile (report : Report) (handed : List Shown → Type 0) (limit : ℕ) (name : List ℕ) (old_files new_files : Option Files) (old_slots new_slots : Slots) (old_reading new_reading old_writing new_writing : ℕ)
     (old_asked new_asked : List (List ℕ) → Type 0) (held held' : Option (List ℕ)) (waits waits' : List ℕ) (faults faults' : ℕ) (result : Result Status Failed) : Type 0 where
-  pub tells : (all : Files) → old_files ≡ Some all → Tells (FileOutcome report limit (all name) (Rose old_reading new_reading)) (written held waits) (written held' waits') result
+  pub tells : (all : Files) → old_files ≡ Some all → TellsYield (FileOutcome report limit (all name) (Rose old_reading new_reading)) handed (written held waits) (written held' waits') result
   pub keeps : OnlyReads old_files new_files old_slots new_slots old_reading new_reading old_writing new_writing old_asked new_asked (name ∷ [])
   pub counts : CountsReading (name ∷ []) old_files old_reading new_reading result
   pub own : IsReadingStatus result
   pub sink : KeepsSink held held' faults faults' result
 
--- The files of a plan were read in order, as far as the run came, and nothing else was done.
-pub record DoesFiles (plan : ReadPlan) (old_files new_files : Option Files) (old_slots new_slots : Slots) (old_reading new_reading old_writing new_writing : ℕ)
+-- The files of a plan were read in order, as far as the run came, and nothing else was done but that items were handed on.
+pub record DoesFiles (plan : ReadPlan) (handed : List Shown → Type 0) (old_files new_files : Option Files) (old_slots new_slots : Slots) (old_reading new_reading old_writing new_writing : ℕ)
     (old_asked new_asked : List (List ℕ) → Type 0) (held held' : Option (List ℕ)) (waits waits' : List ℕ) (faults faults' : ℕ) (result : Result Status Failed) : Type 0 where
-  pub tells : (all : Files) → old_files ≡ Some all → IsSome new_files → TellsRun (PlanOutcome plan all (Rose old_reading new_reading)) old_asked new_asked (written held waits) (written held' waits') result
+  pub tells : (all : Files) → old_files ≡ Some all → IsSome new_files → TellsRun (PlanOutcome plan all (Rose old_reading new_reading)) handed old_asked new_asked (written held waits) (written held' waits') result
   pub count : ℕ
   pub within : count ≤ length plan.names
   pub all : IsDone result → count ≡ length plan.names

@@ -15,6 +15,7 @@ use Rattle.avtp_tool.specs.Lines.{of_each}
 use Rattle.avtp_tool.specs.Reading.{ReadPlan, Report}
 use Rattle.avtp_tool.specs.Record.{record_content}
 use Rattle.avtp_tool.specs.Status.{status_of}
+use Rattle.avtp_tool.specs.Yield.{says}
 
 -- the line of a record, which has the next number
 abbrev pub show_line : List Record → Record → List ℕ
@@ -34,7 +35,7 @@ show_text limit records how = of_each show_line records ++ end_line limit (lengt
 
 -- what `show` makes of a file
 abbrev pub show_report : ℕ → Report
-show_report limit = record { status = λ records how. status_of how; text = show_text limit }
+show_report limit = record { status = λ records how. status_of how; yields = λ records how. says (show_text limit records how) }
 
 abbrev pub show_plan : ℕ → List ℕ → ReadPlan
 show_plan limit file = record { names = file ∷ []; limit = limit; report = λ name. show_report limit }

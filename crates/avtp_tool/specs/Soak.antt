@@ -6,7 +6,7 @@ use Rattle.avtp_text.specs.Written.{written}
 use Rattle.soak_run.specs.Outcomes.{soak_counts}
 use Rattle.avtp_tool.specs.declared.status.Status.{Status}
 use Rattle.avtp_tool.specs.declared.status.Status.TheVariants as status
-use Rattle.avtp_tool.specs.Outcome.{KeepsSink, Only, Tells}
+use Rattle.avtp_tool.specs.Outcome.{KeepsSink, Only, TellsText}
 
 -- the whole text: what becomes of the deliveries of so many packets
 abbrev pub soak_report : ℕ → List ℕ
@@ -14,6 +14,6 @@ soak_report packets = soak_line packets (soak_counts packets)
 
 -- A run that reads and writes no file prints this text, or finds no memory.
 pub record Says (text : List ℕ) (held held' : Option (List ℕ)) (waits waits' : List ℕ) (faults faults' : ℕ) (result : Result Status Failed) : Type 0 where
-  pub tells : Tells (Only status.Done text) (written held waits) (written held' waits') result
+  pub tells : TellsText (Only status.Done text) (written held waits) (written held' waits') result
   pub own : IfOk result (λ s. (s ≡ status.Done) ⊎ (s ≡ status.Memory))
   pub sink : KeepsSink held held' faults faults' result

@@ -24,7 +24,7 @@ use Rattle.avtp_text.specs.Talk.{talk_input_line, talk_line}
 use Rattle.avtp_tool.specs.declared.status.Status.{Status}
 use Rattle.avtp_tool.specs.declared.status.Status.TheVariants as status
 use Rattle.avtp_tool.specs.Made.{CountsWriting, KeepsFilesBut, Makes}
-use Rattle.avtp_tool.specs.Outcome.{Asks, AsksFor, EndsWith, is_done, IsDone, KeepsSink, Tells}
+use Rattle.avtp_tool.specs.Outcome.{Asks, AsksFor, EndsWith, is_done, IsDone, KeepsSink, TellsText}
 use Rattle.talker.specs.declared.fault.TalkFault.TheVariants as fault
 use Rattle.avtp_base.specs.Told.{Keeps}
 use Rattle.avtp_text.specs.Written.{written}
@@ -94,11 +94,12 @@ talk_report plan (Some bytes) = if nat_le (length bytes) most_input then line_by
 -- ---- what is done
 
 -- A run over an input whose reading stopped so ends with a fault of reading exactly where that stopped it, and never for its
--- words.
+-- words or for a device.
 pub record FaultStops (halt : Stop) (result : Result Status Failed) : Type 0 where
   pub fault : result ≡ Ok status.ReadFault → halt ≡ stop.Fault
   pub quiet : IfOk result (λ s. s ≢ status.ReadFault → s ≢ status.Memory → s ≢ status.WriteFault → halt ≢ stop.Fault)
   pub no_words : result ≢ Ok status.Words
+  pub no_devices : result ≢ Ok status.DeviceFault
 
 -- A call that writes one file alone left this of all others, of the slots and of the counts, and asked for its name.
 pub record WritesOnly (old_files new_files : Option Files) (old_slots new_slots : Slots) (old_reading new_reading old_writing new_writing : ℕ) (old_asked new_asked : List (List ℕ) → Type 0) (name : List ℕ) (result : Result Status Failed) : Type 0 where
@@ -113,7 +114,7 @@ pub record WritesOnly (old_files new_files : Option Files) (old_slots new_slots 
 -- all else as it was.
 pub record Talks (Outcome : Status → List ℕ → Type 0) (name bytes : List ℕ) (old_files new_files : Option Files) (old_slots new_slots : Slots) (old_reading new_reading old_writing new_writing : ℕ) (old_asked new_asked : List (List ℕ) → Type 0)
     (held held' : Option (List ℕ)) (waits waits' : List ℕ) (faults faults' : ℕ) (result : Result Status Failed) : Type 0 where
-  pub tells : Tells Outcome (written held waits) (written held' waits') result
+  pub tells : TellsText Outcome (written held waits) (written held' waits') result
   pub makes : Makes name bytes old_files new_files result
   pub writes : WritesOnly old_files new_files old_slots new_slots old_reading new_reading old_writing new_writing old_asked new_asked name result
   pub sink : KeepsSink held held' faults faults' result
@@ -121,7 +122,7 @@ pub record Talks (Outcome : Status → List ℕ → Type 0) (name bytes : List �
 -- The same of the capture of an input, by what was read of it.
 pub record TalksContents (plan : TalkPlan) (contents : Contents) (name : List ℕ) (old_files new_files : Option Files) (old_slots new_slots : Slots) (old_reading new_reading old_writing new_writing : ℕ) (old_asked new_asked : List (List ℕ) → Type 0)
     (held held' : Option (List ℕ)) (waits waits' : List ℕ) (faults faults' : ℕ) (result : Result Status Failed) : Type 0 where
-  pub tells : (bytes : List ℕ) → IsContents most_input bytes contents.stop contents.bytes.items → Tells (TalkedOutcome plan bytes (contents.stop ≡ stop.Fault)) (written held waits) (written held' waits') result
+  pub tells : (bytes : List ℕ) → IsContents most_input bytes contents.stop contents.bytes.items → TellsText (TalkedOutcome plan bytes (contents.stop ≡ stop.Fault)) (written held waits) (written held' waits') result
   pub makes : (bytes : List ℕ) → IsContents most_input bytes contents.stop contents.bytes.items → Makes name (capture plan bytes) old_files new_files result
   pub writes : WritesOnly old_files new_files old_slots new_slots old_reading new_reading old_writing new_writing old_asked new_asked name result
   pub counts : FaultStops contents.stop result

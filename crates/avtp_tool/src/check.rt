@@ -11,6 +11,7 @@ ghost use Rattle.capture_io.specs.Source.{HasGiven, slot_of};
 ghost use Rattle.avtp_tool.specs.Check.{check_report, check_status, ChecksRecords, found_lines, noted, PrintsFound, total_line, unmarked_findings};
 ghost use Rattle.avtp_tool.specs.Outcome.{EndsWith, KeepsSink};
 ghost use Rattle.avtp_tool.specs.Reading.{DoesFile, ended_in, IsOpen, ReadsCapture};
+ghost use Rattle.avtp_tool.specs.Yield.{HandsNothing};
 
 use crate::checked::{Checked, checked_record, count};
 use crate::command::print_unopened;
@@ -40,7 +41,7 @@ pub fn check<F: Shelf, S: Sink>(
     out: &mut S,
 ) -> Result<Status, Failed>
     requires { limit ≤ 2 ^ 40 }
-    ensures { DoesFile (check_report limit file.now) limit file.now (F.files shelf.old) (F.files shelf.new) (F.slots shelf.old) (F.slots shelf.new) (F.reading_faults shelf.old) (F.reading_faults shelf.new)
+    ensures { DoesFile (check_report limit file.now) HandsNothing limit file.now (F.files shelf.old) (F.files shelf.new) (F.slots shelf.old) (F.slots shelf.new) (F.reading_faults shelf.old) (F.reading_faults shelf.new)
         (F.writing_faults shelf.old) (F.writing_faults shelf.new) (F.asked shelf.old) (F.asked shelf.new) (S.held out.old) (S.held out.new) text.old text.new (S.faults out.old) (S.faults out.new) result }
 {
     let mut source = match Source::open(alloc, limit, shelf, file) {

@@ -1,6 +1,6 @@
 //! The command `avtp`, over the outside that it is given.
 
-ghost use Rattle.std.specs.Prelude.{◌≡◌, ◌≢◌, ◌≤◌, ◌⊎◌, ◌++◌, ◌∷◌, ℕ, ℤ, List, Ok, Some, None, true, IsSome, length, IfOk};
+ghost use Rattle.std.specs.Prelude.{◌≡◌, ◌≢◌, ◌≤◌, ◌⊎◌, ◌++◌, ◌∷◌, ℕ, ℤ, List, Ok, Some, None, true, false, nat_lt, IsSome, length, IfOk};
 ghost use Rattle.avtp_base.specs.Faults.{IsQuiet, Rose};
 ghost use Rattle.avtp_base.specs.Files.{Files, KeepsFiles, PutsFile};
 ghost use Rattle.avtp_base.specs.Told.{Appends};
@@ -15,11 +15,14 @@ ghost use Rattle.avtp_words.specs.Grammar.{files_of, IsCommandLine, IsOffence, l
 ghost use Rattle.avtp_words.specs.Word.{texts};
 ghost use Rattle.avtp_tool.specs.Listen.{HasHeadline, listen_status, plan_of};
 ghost use Rattle.avtp_tool.specs.Made.{KeepsFilesBut, KeepsSlotsFor};
-ghost use Rattle.avtp_tool.specs.Outcome.{Asks, AsksFor, EndsUnopened, EndsWith, Finishes, is_done, IsOneMissing, KeepsSink};
-ghost use Rattle.avtp_tool.specs.Run.{came_for, IsAsked, names_of, Outcome, report_for, Runs, status_for};
+ghost use Rattle.avtp_tool.specs.Outcome.{Asks, AsksFor, EndsUnopened, EndsWith, Finishes, IsOneMissing, KeepsSink};
+ghost use Rattle.avtp_tool.specs.Run.{came_for, is_listening, is_through, IsAsked, names_of, Outcome, Runs, status_for, yield_for};
 ghost use Rattle.avtp_tool.specs.Talk.{talk_plan};
+ghost use Rattle.avtp_tool.specs.Yield.{HandsOn, Yield};
+ghost use Rattle.sample_schedule.specs.declared.shown.Shown.{Shown};
+ghost use mathlib.Core.List.{IsPrefix};
 
-use crate::files::{Reading, read_files};
+use crate::files::{Reading, hear_files, read_files};
 use crate::show::show;
 use crate::soak::soak;
 use crate::status::Status;
@@ -27,31 +30,35 @@ use crate::talk::talk;
 use avtp_base::{Failed, OpenFault, Shelf, Sink};
 use avtp_text::Text;
 use avtp_words::{Command, parse};
+use device_rack::Devices;
 use presenter_ring::Gate;
 use std::alloc::Global;
 use std::thread::Threads;
 
-/// Does what the words ask for: reads and writes the files that they name, writes the text, and answers how that ended.
-pub fn run<T: Threads + Sync, F: Shelf, S: Sink, G: Gate>(
+/// Does what the words ask for: reads and writes the files that they name, writes the text, hands what `listen` presents to the
+/// devices of the rack, and answers how that ended.
+pub fn run<T: Threads + Sync, F: Shelf, S: Sink, G: Gate, D: Devices + Send>(
     rt: &T,
     alloc: Global,
     words: &[String],
     shelf: &mut F,
     out: &mut S,
     gate: &G,
+    rack: &mut D,
 ) -> Status
-    // What is printed is the report of the files to which the run came, and it came to these alone.
+    // What is printed is the report of the files to which the run came, each device was handed what is presented in it, and it came
+    // to these files alone.
     ensures shown { result ≢ Status.Memory → result ≢ Status.WriteFault → (request : Request) (files : Files) →
         IsCommandLine (texts words.now) request → F.files shelf.old ≡ Some files → IsSome (F.files shelf.new) →
-        (came : List (List ℕ)) × (text : List ℕ) × Outcome request files (Rose (F.reading_faults shelf.old) (F.reading_faults shelf.new)) came result text
-        × Appends (S.held out.old) (S.held out.new) text × Asks came (F.asked shelf.old) (F.asked shelf.new) }
+        (came : List (List ℕ)) × (yields : Yield) × Outcome request files (Rose (F.reading_faults shelf.old) (F.reading_faults shelf.new)) (nat_lt (D.failures rack.old) (D.failures rack.new)) came result yields
+        × Appends (S.held out.old) (S.held out.new) yields.text × HandsOn D.handed rack.old rack.new yields.items × Asks came (F.asked shelf.old) (F.asked shelf.new) }
 
-    // Where no fault of reading comes, the whole report is printed.
+    // Where no fault of reading comes, that is the whole report.
     ensures complete { result ≢ Status.Memory → result ≢ Status.WriteFault → (request : Request) (files : Files) →
         IsCommandLine (texts words.now) request → F.files shelf.old ≡ Some files → IsSome (F.files shelf.new) →
         IsQuiet (F.reading_faults shelf.old) (F.reading_faults shelf.new) →
-        (result ≡ status_for request files) × Appends (S.held out.old) (S.held out.new) (report_for request files)
-        × Asks (came_for request files) (F.asked shelf.old) (F.asked shelf.new) }
+        (yields : Yield) × (yields ≡ yield_for request files (nat_lt (D.failures rack.old) (D.failures rack.new))) × (result ≡ status_for request files (nat_lt (D.failures rack.old) (D.failures rack.new)))
+        × Appends (S.held out.old) (S.held out.new) yields.text × HandsOn D.handed rack.old rack.new yields.items × Asks (came_for request files) (F.asked shelf.old) (F.asked shelf.new) }
 
     // What `listen` prints of a talker that keeps the rules, whatever its capture lost, repeats or reorders: of each file to
     // which the run came, with a journal of its own.
@@ -61,24 +68,31 @@ pub fn run<T: Threads + Sync, F: Shelf, S: Sink, G: Gate>(
         IsQuiet (F.reading_faults shelf.old) (F.reading_faults shelf.new) →
         asked.files ≡ earlier ++ name ∷ later → listen_status asked files earlier ≡ Status.Done → files name ≡ Some bytes →
         length bytes ≤ asked.limit → HearsTalker shift p (plan_of asked) (records_in bytes) →
-        (text : List ℕ) × HasHeadline asked name shift p bytes text × Appends (S.held out.old) (S.held out.new) text }
+        (yields : Yield) × HasHeadline asked name shift p bytes yields × Appends (S.held out.old) (S.held out.new) yields.text × HandsOn D.handed rack.old rack.new yields.items }
 
     // Words that are no command line are told by the first that cannot stand.
     ensures words { result ≢ Status.Memory → result ≢ Status.WriteFault → (position : ℕ) → IsOffence (texts words.now) position →
         (result ≡ Status.Words) × Appends (S.held out.old) (S.held out.new) (words_line position) }
     ensures only_words { result ≡ Status.Words → (position : ℕ) × IsOffence (texts words.now) position }
-    ensures unopened { (position : ℕ) → IsOffence (texts words.now) position → shelf.new ≡ shelf.old }
+    ensures unopened { (position : ℕ) → IsOffence (texts words.now) position → (shelf.new ≡ shelf.old) × (rack.new ≡ rack.old) }
 
-    // Whatever comes, the sink keeps what it held, and gains a prefix of such a text and nothing else.
+    // Whatever comes, the sink keeps what it held, and gains a prefix of such a text and nothing else; the devices are handed the
+    // first of such items.
     ensures grows { Grows (S.held out.old) (S.held out.new) }
     ensures part { (request : Request) (files : Files) →
         IsCommandLine (texts words.now) request → F.files shelf.old ≡ Some files → IsSome (F.files shelf.new) →
-        (came : List (List ℕ)) × (ended : Status) × (text : List ℕ) × Outcome request files (Rose (F.reading_faults shelf.old) (F.reading_faults shelf.new)) came ended text
-        × AppendsPrefix (S.held out.old) (S.held out.new) text }
+        (came : List (List ℕ)) × (ended : Status) × (yields : Yield) × Outcome request files (Rose (F.reading_faults shelf.old) (F.reading_faults shelf.new)) (nat_lt (D.failures rack.old) (D.failures rack.new)) came ended yields
+        × AppendsPrefix (S.held out.old) (S.held out.new) yields.text × ((front : List Shown) × IsPrefix front yields.items × HandsOn D.handed rack.old rack.new front) }
     ensures part_complete { (request : Request) (files : Files) →
         IsCommandLine (texts words.now) request → F.files shelf.old ≡ Some files → IsSome (F.files shelf.new) →
-        IsQuiet (F.reading_faults shelf.old) (F.reading_faults shelf.new) → AppendsPrefix (S.held out.old) (S.held out.new) (report_for request files) }
+        IsQuiet (F.reading_faults shelf.old) (F.reading_faults shelf.new) → AppendsPrefix (S.held out.old) (S.held out.new) (yield_for request files (nat_lt (D.failures rack.old) (D.failures rack.new))).text }
     ensures part_words { (position : ℕ) → IsOffence (texts words.now) position → AppendsPrefix (S.held out.old) (S.held out.new) (words_line position) }
+
+    // A run ends with a device's fault exactly where it listened, all else was done, and a device failed in it; and no other command
+    // touches the devices.
+    ensures device_fault { result ≡ Status.DeviceFault → ((asked : Listening) × IsCommandLine (texts words.now) (listen_request asked)) × (nat_lt (D.failures rack.old) (D.failures rack.new) ≡ true) }
+    ensures no_device_fault { result ≡ Status.Done → (asked : Listening) → IsCommandLine (texts words.now) (listen_request asked) → nat_lt (D.failures rack.old) (D.failures rack.new) ≡ false }
+    ensures devices_kept { (request : Request) → IsCommandLine (texts words.now) request → is_listening request ≡ false → rack.new ≡ rack.old }
 
     // A fault is the outside's.
     ensures read_fault { result ≡ Status.ReadFault → Rose (F.reading_faults shelf.old) (F.reading_faults shelf.new)
@@ -101,7 +115,7 @@ pub fn run<T: Threads + Sync, F: Shelf, S: Sink, G: Gate>(
     ensures untouched { result ≢ Status.Done → result ≢ Status.WriteFault → result ≢ Status.Memory → KeepsFiles (F.files shelf.old) (F.files shelf.new) }
 
     // No name but those of the words is asked for, and these in their order: all of them where all was done.
-    ensures asks { (request : Request) → IsCommandLine (texts words.now) request → AsksFor (names_of request) (F.asked shelf.old) (F.asked shelf.new) (is_done result ≡ true) }
+    ensures asks { (request : Request) → IsCommandLine (texts words.now) request → AsksFor (names_of request) (F.asked shelf.old) (F.asked shelf.new) (is_through result ≡ true) }
 
     // Every other file is as it was, and each that was opened is closed.
     ensures files { (request : Request) → IsCommandLine (texts words.now) request →
@@ -116,12 +130,12 @@ pub fn run<T: Threads + Sync, F: Shelf, S: Sink, G: Gate>(
     let Ok(mut text) = Text::new(alloc) else {
         return Status::Memory;
     };
-    let ended = execute(rt, alloc, words, shelf, &mut text, out, gate);
+    let ended = execute(rt, alloc, words, shelf, &mut text, out, gate, rack);
     finish(&mut text, out, ended)
 }
 
 /// Does what the words ask for, or says which of them cannot stand.
-fn execute<T: Threads + Sync, F: Shelf, S: Sink, G: Gate>(
+fn execute<T: Threads + Sync, F: Shelf, S: Sink, G: Gate, D: Devices + Send>(
     rt: &T,
     alloc: Global,
     words: &[String],
@@ -129,13 +143,15 @@ fn execute<T: Threads + Sync, F: Shelf, S: Sink, G: Gate>(
     text: &mut Text,
     out: &mut S,
     gate: &G,
+    rack: &mut D,
 ) -> Result<Status, Failed>
-    ensures runs { (request : Request) → IsCommandLine (texts words.now) request → Runs request (F.files shelf.old) (F.files shelf.new) (F.slots shelf.old) (F.slots shelf.new) (F.reading_faults shelf.old) (F.reading_faults shelf.new)
+    ensures runs { (request : Request) → IsCommandLine (texts words.now) request → Runs request (HandsOn D.handed rack.old rack.new) (nat_lt (D.failures rack.old) (D.failures rack.new)) (F.files shelf.old) (F.files shelf.new) (F.slots shelf.old) (F.slots shelf.new) (F.reading_faults shelf.old) (F.reading_faults shelf.new)
         (F.writing_faults shelf.old) (F.writing_faults shelf.new) (F.asked shelf.old) (F.asked shelf.new)
         (S.held out.old) (S.held out.new) text.old text.new (S.faults out.old) (S.faults out.new) result }
     ensures words { (position : ℕ) → IsOffence (texts words.now) position →
-        (shelf.new ≡ shelf.old) × EndsWith Status.Words (S.held out.old) (S.held out.new) text.old text.new (S.faults out.old) (S.faults out.new) result (words_line position) }
+        (shelf.new ≡ shelf.old) × (rack.new ≡ rack.old) × EndsWith Status.Words (S.held out.old) (S.held out.new) text.old text.new (S.faults out.old) (S.faults out.new) result (words_line position) }
     ensures either { IsAsked (texts words.now) }
+    ensures devices { (request : Request) → IsCommandLine (texts words.now) request → is_listening request ≡ false → rack.new ≡ rack.old }
     ensures sink { KeepsSink (S.held out.old) (S.held out.new) (S.faults out.old) (S.faults out.new) result }
 {
     match parse(words) {
@@ -149,17 +165,9 @@ fn execute<T: Threads + Sync, F: Shelf, S: Sink, G: Gate>(
             text,
             out,
             gate,
+            rack,
         ),
-        Ok(Command::Listen(asked)) => read_files(
-            rt,
-            alloc,
-            &Reading::Listen(&asked),
-            asked.files,
-            shelf,
-            text,
-            out,
-            gate,
-        ),
+        Ok(Command::Listen(asked)) => hear_files(rt, alloc, &asked, shelf, text, out, gate, rack),
         Ok(Command::Talk(asked)) => talk(alloc, &asked, shelf, text, out),
         Ok(Command::Soak { packets }) => soak(alloc, packets, text, out),
         Err(offence) => print_offence(text, out, offence.position as u64),

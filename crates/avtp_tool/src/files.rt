@@ -1,10 +1,15 @@
 //! Files that are read one after the other.
 
+ghost use Rattle.std.specs.Prelude.{◌≡◌, false, nat_lt};
 ghost use Rattle.avtp_text.specs.Written.{written};
+ghost use Rattle.avtp_tool.specs.Yield.{HandsOn};
+ghost use Rattle.avtp_words.specs.Grammar.{listen as listen_request, listening_of};
 ghost use Rattle.avtp_words.specs.Word.{texts};
-ghost use Rattle.avtp_tool.specs.Files.{IsReading, limit_for, plan_for, report_for};
-ghost use Rattle.avtp_tool.specs.Outcome.{KeepsSink};
+ghost use Rattle.avtp_tool.specs.Files.{is_hearing, IsReading, limit_for, plan_for, report_for};
+ghost use Rattle.avtp_text.specs.Notices.{device_fault_line};
+ghost use Rattle.avtp_tool.specs.Outcome.{EndsWith};
 ghost use Rattle.avtp_tool.specs.Reading.{DoesFile, DoesFiles};
+ghost use Rattle.avtp_tool.specs.Run.{IsListening, Runs};
 
 use crate::check::check;
 use crate::listen::listen;
@@ -12,6 +17,7 @@ use crate::status::Status;
 use avtp_base::{Failed, Shelf, Sink};
 use avtp_text::Text;
 use avtp_words::Listen;
+use device_rack::Devices;
 use presenter_ring::Gate;
 use std::alloc::Global;
 use std::thread::Threads;
@@ -27,7 +33,7 @@ pub enum Reading<'a> {
 
 /// Reads the files in order, each to its end, and does with each what is asked for. The first that ends otherwise ends the
 /// run.
-pub fn read_files<T: Threads + Sync, F: Shelf, S: Sink, G: Gate>(
+pub fn read_files<T: Threads + Sync, F: Shelf, S: Sink, G: Gate, D: Devices + Send>(
     rt: &T,
     alloc: Global,
     reading: &Reading<'_>,
@@ -36,14 +42,16 @@ pub fn read_files<T: Threads + Sync, F: Shelf, S: Sink, G: Gate>(
     text: &mut Text,
     out: &mut S,
     gate: &G,
+    rack: &mut D,
 ) -> Result<Status, Failed>
     requires { IsReading reading.now }
-    ensures { DoesFiles (plan_for reading.now (texts files.now)) (F.files shelf.old) (F.files shelf.new) (F.slots shelf.old) (F.slots shelf.new) (F.reading_faults shelf.old) (F.reading_faults shelf.new)
+    ensures kept { is_hearing reading.now ≡ false → rack.new ≡ rack.old }
+    ensures does { DoesFiles (plan_for reading.now (texts files.now)) (HandsOn D.handed rack.old rack.new) (F.files shelf.old) (F.files shelf.new) (F.slots shelf.old) (F.slots shelf.new) (F.reading_faults shelf.old) (F.reading_faults shelf.new)
         (F.writing_faults shelf.old) (F.writing_faults shelf.new) (F.asked shelf.old) (F.asked shelf.new) (S.held out.old) (S.held out.new) text.old text.new (S.faults out.old) (S.faults out.new) result }
 {
     let mut ended = Status::Done;
     for file in files {
-        match read_file(rt, alloc, reading, file, shelf, text, out, gate)? {
+        match read_file(rt, alloc, reading, file, shelf, text, out, gate, rack)? {
             Status::Done => {}
             Status::Findings => ended = Status::Findings,
             other => return Ok(other),
@@ -52,8 +60,55 @@ pub fn read_files<T: Threads + Sync, F: Shelf, S: Sink, G: Gate>(
     Ok(ended)
 }
 
+/// Listens to the files in order, and says at the end of a run that was done if a device failed in it.
+pub fn hear_files<T: Threads + Sync, F: Shelf, S: Sink, G: Gate, D: Devices + Send>(
+    rt: &T,
+    alloc: Global,
+    asked: &Listen<'_>,
+    shelf: &mut F,
+    text: &mut Text,
+    out: &mut S,
+    gate: &G,
+    rack: &mut D,
+) -> Result<Status, Failed>
+    requires { IsListening (listening_of asked.now) }
+    ensures { Runs (listen_request (listening_of asked.now)) (HandsOn D.handed rack.old rack.new) (nat_lt (D.failures rack.old) (D.failures rack.new)) (F.files shelf.old) (F.files shelf.new) (F.slots shelf.old) (F.slots shelf.new) (F.reading_faults shelf.old) (F.reading_faults shelf.new)
+        (F.writing_faults shelf.old) (F.writing_faults shelf.new) (F.asked shelf.old) (F.asked shelf.new) (S.held out.old) (S.held out.new) text.old text.new (S.faults out.old) (S.faults out.new) result }
+{
+    let failed = rack.count_failed();
+    let reading = Reading::Listen(asked);
+    let ended = read_files(
+        rt,
+        alloc,
+        &reading,
+        asked.files,
+        shelf,
+        text,
+        out,
+        gate,
+        rack,
+    )?;
+    match ended {
+        Status::Done => {
+            if failed < rack.count_failed() {
+                return print_device_fault(text, out);
+            }
+            Ok(Status::Done)
+        }
+        other => Ok(other),
+    }
+}
+
+/// Says that a device failed.
+fn print_device_fault<S: Sink>(text: &mut Text, out: &mut S) -> Result<Status, Failed>
+    ensures { EndsWith Status.DeviceFault (S.held out.old) (S.held out.new) text.old text.new (S.faults out.old) (S.faults out.new) result device_fault_line }
+{
+    text.device_fault(out)?;
+    Ok(Status::DeviceFault)
+}
+
 /// Reads a file, and does with it what is asked for.
-fn read_file<T: Threads + Sync, F: Shelf, S: Sink, G: Gate>(
+fn read_file<T: Threads + Sync, F: Shelf, S: Sink, G: Gate, D: Devices + Send>(
     rt: &T,
     alloc: Global,
     reading: &Reading<'_>,
@@ -62,13 +117,15 @@ fn read_file<T: Threads + Sync, F: Shelf, S: Sink, G: Gate>(
     text: &mut Text,
     out: &mut S,
     gate: &G,
+    rack: &mut D,
 ) -> Result<Status, Failed>
     requires { IsReading reading.now }
-    ensures { DoesFile (report_for reading.now file.now) (limit_for reading.now) file.now (F.files shelf.old) (F.files shelf.new) (F.slots shelf.old) (F.slots shelf.new) (F.reading_faults shelf.old) (F.reading_faults shelf.new)
+    ensures kept { is_hearing reading.now ≡ false → rack.new ≡ rack.old }
+    ensures does { DoesFile (report_for reading.now file.now) (HandsOn D.handed rack.old rack.new) (limit_for reading.now) file.now (F.files shelf.old) (F.files shelf.new) (F.slots shelf.old) (F.slots shelf.new) (F.reading_faults shelf.old) (F.reading_faults shelf.new)
         (F.writing_faults shelf.old) (F.writing_faults shelf.new) (F.asked shelf.old) (F.asked shelf.new) (S.held out.old) (S.held out.new) text.old text.new (S.faults out.old) (S.faults out.new) result }
 {
     match reading {
         Reading::Check { limit } => check(alloc, *limit, file, shelf, text, out),
-        Reading::Listen(asked) => listen(rt, alloc, asked, file, shelf, text, out, gate),
+        Reading::Listen(asked) => listen(rt, alloc, asked, file, shelf, text, out, gate, rack),
     }
 }

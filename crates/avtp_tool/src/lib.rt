@@ -4,6 +4,7 @@
 mod check;
 mod checked;
 mod command;
+mod device_words;
 mod files;
 mod hearing;
 mod law;
@@ -18,5 +19,6 @@ mod status;
 mod talk;
 
 pub use command::run;
+pub use device_words::{DeviceWord, device_word};
 pub use law::pcapng_reports;
 pub use status::Status;

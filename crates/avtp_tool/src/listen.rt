@@ -8,6 +8,7 @@ ghost use Rattle.avtp_text.specs.Written.{written, Prints};
 ghost use Rattle.capture_io.specs.Ends.{CountsFault};
 ghost use Rattle.capture_io.specs.Reads.{ReadsSlot};
 ghost use Rattle.capture_io.specs.Source.{HasGiven, slot_of};
+ghost use Rattle.avtp_tool.specs.Yield.{HandsOn};
 ghost use Rattle.listener.specs.Listening.{StandsFor};
 ghost use Rattle.presenter_ring.specs.Pipes.{ended_with, given_to, waiting_in};
 ghost use Rattle.avtp_tool.specs.Listen.{HearsItems, HearsRecords, heard_end, last_line, listen_report, plan_of};
@@ -26,6 +27,7 @@ use avtp_base::{Failed, Shelf, Sink};
 use avtp_text::Text;
 use avtp_words::Listen;
 use capture_io::{End, Source};
+use device_rack::Devices;
 use listener::{Counts, ListenPlan, RecordListener};
 use presenter_ring::{Gate, Pipe};
 use std::alloc::Global;
@@ -47,8 +49,8 @@ fn plan(asked: &Listen<'_>) -> ListenPlan
 }
 
 /// Prints of a capture what of the stream is presented, at which instants, and why the rest is not, each as soon as it is due.
-/// One thread reads and judges, and another writes.
-pub fn listen<T: Threads + Sync, F: Shelf, S: Sink, G: Gate>(
+/// One thread reads and judges; another writes, and hands each item on once its text is written.
+pub fn listen<T: Threads + Sync, F: Shelf, S: Sink, G: Gate, D: Devices + Send>(
     rt: &T,
     alloc: Global,
     asked: &Listen<'_>,
@@ -57,9 +59,10 @@ pub fn listen<T: Threads + Sync, F: Shelf, S: Sink, G: Gate>(
     text: &mut Text,
     out: &mut S,
     gate: &G,
+    rack: &mut D,
 ) -> Result<Status, Failed>
     requires { IsListening (listening_of asked.now) }
-    ensures { DoesFile (listen_report (listening_of asked.now) file.now) asked.now.limit file.now (F.files shelf.old) (F.files shelf.new) (F.slots shelf.old) (F.slots shelf.new) (F.reading_faults shelf.old) (F.reading_faults shelf.new)
+    ensures { DoesFile (listen_report (listening_of asked.now) file.now) (HandsOn D.handed rack.old rack.new) asked.now.limit file.now (F.files shelf.old) (F.files shelf.new) (F.slots shelf.old) (F.slots shelf.new) (F.reading_faults shelf.old) (F.reading_faults shelf.new)
         (F.writing_faults shelf.old) (F.writing_faults shelf.new) (F.asked shelf.old) (F.asked shelf.new) (S.held out.old) (S.held out.new) text.old text.new (S.faults out.old) (S.faults out.new) result }
 {
     let source = match Source::open(alloc, asked.limit, shelf, file) {
@@ -72,7 +75,18 @@ pub fn listen<T: Threads + Sync, F: Shelf, S: Sink, G: Gate>(
     };
     let mut hearing = Hearing::begin(source, listener, alloc);
     let ring = asked.ring;
-    let heard = hear_records(rt, alloc, ring, file, &mut hearing, shelf, text, out, gate);
+    let heard = hear_records(
+        rt,
+        alloc,
+        ring,
+        file,
+        &mut hearing,
+        shelf,
+        text,
+        out,
+        gate,
+        rack,
+    );
     hearing.close(shelf);
     match heard? {
         Heard::Ended { end, counts } => print_last(text, out, asked.limit, &counts, end),
@@ -82,7 +96,7 @@ pub fn listen<T: Threads + Sync, F: Shelf, S: Sink, G: Gate>(
 
 /// Prints a capture's name and what is shown of its records, as far as it can be read, each item once it is due. At most `ring`
 /// items wait between the two threads.
-fn hear_records<T: Threads + Sync, F: Shelf, S: Sink, G: Gate>(
+fn hear_records<T: Threads + Sync, F: Shelf, S: Sink, G: Gate, D: Devices + Send>(
     rt: &T,
     alloc: Global,
     ring: u32,
@@ -92,12 +106,13 @@ fn hear_records<T: Threads + Sync, F: Shelf, S: Sink, G: Gate>(
     text: &mut Text,
     out: &mut S,
     gate: &G,
+    rack: &mut D,
 ) -> Result<Heard, Failed>
     requires ring { (1 ≤ ring) × (ring ≤ 256) }
     requires live { IsSome (F.slots shelf.old (slot_of hearing.old.source)) }
     requires begun { (hearing.old.stage ≡ Stage.Reading) × StandsFor [] 0 hearing.old.listener }
     ensures heard { (asked : Listening) (bytes : List ℕ) → hearing.old.listener.plan ≡ plan_of asked → HasGiven asked.limit bytes (left_in (F.slots shelf.old) (slot_of hearing.old.source)) hearing.old.source [] →
-        HearsRecords asked file.now bytes (Rose (F.reading_faults shelf.old) (F.reading_faults shelf.new)) (written (S.held out.old) text.old) (written (S.held out.new) text.new) result }
+        HearsRecords asked (HandsOn D.handed rack.old rack.new) file.now bytes (Rose (F.reading_faults shelf.old) (F.reading_faults shelf.new)) (written (S.held out.old) text.old) (written (S.held out.new) text.new) result }
     ensures reads { ReadsSlot (F.files shelf.old) (F.files shelf.new) (F.slots shelf.old) (F.slots shelf.new) (F.reading_faults shelf.old) (F.reading_faults shelf.new)
         (F.writing_faults shelf.old) (F.writing_faults shelf.new) (F.asked shelf.old) (F.asked shelf.new) (slot_of hearing.old.source) (slot_of hearing.new.source) }
     ensures counted { IfOk result (λ heard. CountsFault None (heard_end heard) (F.reading_faults shelf.old) (F.reading_faults shelf.new)) }
@@ -107,12 +122,12 @@ fn hear_records<T: Threads + Sync, F: Shelf, S: Sink, G: Gate>(
         return Ok(Heard::NoMemory);
     };
     text.capture(out, file)?;
-    hear_items(rt, &mut pipe, hearing, shelf, text, out, gate)?;
+    hear_items(rt, &mut pipe, hearing, shelf, text, out, gate, rack)?;
     Ok(hearing.heard())
 }
 
 /// Prints what is shown of a capture's records, as far as it can be read.
-fn hear_items<T: Threads + Sync, F: Shelf, S: Sink, G: Gate>(
+fn hear_items<T: Threads + Sync, F: Shelf, S: Sink, G: Gate, D: Devices + Send>(
     rt: &T,
     pipe: &mut Pipe,
     hearing: &mut Hearing,
@@ -120,11 +135,12 @@ fn hear_items<T: Threads + Sync, F: Shelf, S: Sink, G: Gate>(
     text: &mut Text,
     out: &mut S,
     gate: &G,
+    rack: &mut D,
 ) -> Result<(), Failed>
     requires pipe { (waiting_in pipe.old ≡ []) × (ended_with pipe.old ≡ None) × (given_to pipe.old ≡ 0) }
     requires live { IsSome (F.slots shelf.old (slot_of hearing.old.source)) }
     requires begun { hearing.old.stage ≡ Stage.Reading }
-    ensures { HearsItems (F.files shelf.old) (F.files shelf.new) (F.slots shelf.old) (F.slots shelf.new) (F.reading_faults shelf.old) (F.reading_faults shelf.new)
+    ensures { HearsItems (HandsOn D.handed rack.old rack.new) (F.files shelf.old) (F.files shelf.new) (F.slots shelf.old) (F.slots shelf.new) (F.reading_faults shelf.old) (F.reading_faults shelf.new)
         (F.writing_faults shelf.old) (F.writing_faults shelf.new) (F.asked shelf.old) (F.asked shelf.new) hearing.old.source hearing.new.source hearing.old.listener hearing.new.listener hearing.new.stage
         (S.held out.old) (S.held out.new) text.old text.new (S.faults out.old) (S.faults out.new) result }
 {
@@ -132,6 +148,7 @@ fn hear_items<T: Threads + Sync, F: Shelf, S: Sink, G: Gate>(
     let mut presenter = Presenting {
         text,
         out,
+        rack,
         items: 0,
         result: Ok(()),
     };
@@ -139,19 +156,19 @@ fn hear_items<T: Threads + Sync, F: Shelf, S: Sink, G: Gate>(
 }
 
 /// Has the one side receive and the other present until all is done.
-fn hear_through<T: Threads + Sync, F: Shelf, S: Sink, G: Gate>(
+fn hear_through<T: Threads + Sync, F: Shelf, S: Sink, G: Gate, D: Devices + Send>(
     rt: &T,
     pipe: &mut Pipe,
     receiver: &mut Receiving<'_, F>,
-    presenter: &mut Presenting<'_, S>,
+    presenter: &mut Presenting<'_, S, D>,
     gate: &G,
 ) -> Result<(), Failed>
     requires pipe { (waiting_in pipe.old ≡ []) × (ended_with pipe.old ≡ None) × (given_to pipe.old ≡ 0) }
     requires live { IsSome (F.slots receiver.old.shelf.now (slot_of receiver.old.hearing.now.source)) }
     requires begun { (receiver.old.hearing.now.stage ≡ Stage.Reading) × (presenter.old.result ≡ Ok tt) }
     ensures receiver { (receiver.new.shelf.ghost_name ≡ receiver.old.shelf.ghost_name) × (receiver.new.hearing.ghost_name ≡ receiver.old.hearing.ghost_name) }
-    ensures presenter { (presenter.new.text.ghost_name ≡ presenter.old.text.ghost_name) × (presenter.new.out.ghost_name ≡ presenter.old.out.ghost_name) }
-    ensures hears { HearsItems (F.files receiver.old.shelf.now) (F.files receiver.new.shelf.now) (F.slots receiver.old.shelf.now) (F.slots receiver.new.shelf.now) (F.reading_faults receiver.old.shelf.now) (F.reading_faults receiver.new.shelf.now)
+    ensures presenter { (presenter.new.text.ghost_name ≡ presenter.old.text.ghost_name) × (presenter.new.out.ghost_name ≡ presenter.old.out.ghost_name) × (presenter.new.rack.ghost_name ≡ presenter.old.rack.ghost_name) }
+    ensures hears { HearsItems (HandsOn D.handed presenter.old.rack.now presenter.new.rack.now) (F.files receiver.old.shelf.now) (F.files receiver.new.shelf.now) (F.slots receiver.old.shelf.now) (F.slots receiver.new.shelf.now) (F.reading_faults receiver.old.shelf.now) (F.reading_faults receiver.new.shelf.now)
         (F.writing_faults receiver.old.shelf.now) (F.writing_faults receiver.new.shelf.now) (F.asked receiver.old.shelf.now) (F.asked receiver.new.shelf.now)
         receiver.old.hearing.now.source receiver.new.hearing.now.source receiver.old.hearing.now.listener receiver.new.hearing.now.listener receiver.new.hearing.now.stage
         (S.held presenter.old.out.now) (S.held presenter.new.out.now) presenter.old.text.now presenter.new.text.now (S.faults presenter.old.out.now) (S.faults presenter.new.out.now) result }

@@ -1,32 +1,37 @@
 //! The presenter's side of `listen`.
 
+ghost use Rattle.std.specs.Prelude.{[], ◌∷◌};
 ghost use Rattle.avtp_text.specs.Listen.{shown_lines};
 ghost use Rattle.avtp_text.specs.Written.{PrintsPart};
+ghost use Rattle.avtp_tool.specs.Yield.{HandsOn};
 
 use avtp_base::{Failed, Output, Sink};
 use avtp_text::Text;
+use device_rack::Devices;
 use presenter_ring::Presenter;
 use sample_schedule::Shown;
 
-/// The text of what is shown, and the sink that it goes to. Once the sink has failed, no more is written.
+/// The text of what is shown, the sink that it goes to, and the rack that is handed each item once its text was written. Once
+/// the sink has failed, no more is written, and none is handed on.
 #[derive(Drop)]
-pub struct Presenting<'a, S: Sink> {
+pub struct Presenting<'a, S: Sink, D: Devices + Send> {
     pub text: &'a mut Text,
     pub out: &'a mut S,
+    pub rack: &'a mut D,
     /// How many items came.
     pub items: u64,
     /// Whether the sink has failed.
     pub result: Result<(), Failed>,
 }
 
-impl<'a, S: Sink> Presenter for Presenting<'a, S> {
+impl<'a, S: Sink, D: Devices + Send> Presenter for Presenting<'a, S, D> {
     ghost use Rattle.std.specs.Prelude.{◌≡◌, Ok};
-    ghost use Rattle.avtp_text.specs.Listen.{list_lines};
-    ghost use Rattle.avtp_text.specs.Written.{PrintsPart};
-    ghost use Rattle.avtp_tool.specs.Presenting.{failures};
+    ghost use Rattle.avtp_tool.specs.Presenting.{failures, GivesItems};
+    ghost use Rattle.avtp_tool.specs.Yield.{HandsOn};
 
-    ghost handed = { λ begun now items. (now.text.ghost_name ≡ begun.text.ghost_name) × (now.out.ghost_name ≡ begun.out.ghost_name)
-        × (begun.result ≡ Ok tt → PrintsPart (S.held begun.out.now) (S.held now.out.now) begun.text.now now.text.now (S.faults begun.out.now) (S.faults now.out.now) now.result (list_lines items)) };
+    ghost handed = { λ begun now items. (now.text.ghost_name ≡ begun.text.ghost_name) × (now.out.ghost_name ≡ begun.out.ghost_name) × (now.rack.ghost_name ≡ begun.rack.ghost_name)
+        × (begun.result ≡ Ok tt → GivesItems (HandsOn D.handed begun.rack.now now.rack.now)
+        (S.held begun.out.now) (S.held now.out.now) begun.text.now now.text.now (S.faults begun.out.now) (S.faults now.out.now) now.result items) };
 
     ghost faults = { λ presenting. failures presenting.result };
 
@@ -36,7 +41,9 @@ impl<'a, S: Sink> Presenter for Presenting<'a, S> {
         }
         self.items = self.items.wrapping_add(1);
         self.result = print_item(self.text, self.out, &shown, self.items);
-        self.result
+        self.result?;
+        hand(self.rack, &shown);
+        Ok(())
     }
 }
 
@@ -55,4 +62,11 @@ fn print_item<S: Output>(
         text.flush(out)?;
     }
     Ok(())
+}
+
+/// Hands an item to the devices.
+fn hand<D: Devices>(devices: &mut D, shown: &Shown)
+    ensures { HandsOn D.handed devices.old devices.new (shown.now ∷ []) }
+{
+    devices.hand_on(shown);
 }

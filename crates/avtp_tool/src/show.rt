@@ -8,6 +8,7 @@ ghost use Rattle.capture_io.specs.Source.{HasGiven, slot_of};
 ghost use Rattle.avtp_tool.specs.Outcome.{EndsWith, KeepsSink};
 ghost use Rattle.avtp_tool.specs.Reading.{DoesFile, ended_in, IsOpen, ReadsCapture};
 ghost use Rattle.avtp_tool.specs.Show.{end_line, PrintsRecords, show_report};
+ghost use Rattle.avtp_tool.specs.Yield.{HandsNothing};
 ghost use Rattle.avtp_tool.specs.Status.{status_of};
 
 use crate::command::print_unopened;
@@ -35,7 +36,7 @@ pub fn show<F: Shelf, S: Sink>(
     out: &mut S,
 ) -> Result<Status, Failed>
     requires { limit ≤ 2 ^ 40 }
-    ensures { DoesFile (show_report limit) limit file.now (F.files shelf.old) (F.files shelf.new) (F.slots shelf.old) (F.slots shelf.new) (F.reading_faults shelf.old) (F.reading_faults shelf.new)
+    ensures { DoesFile (show_report limit) HandsNothing limit file.now (F.files shelf.old) (F.files shelf.new) (F.slots shelf.old) (F.slots shelf.new) (F.reading_faults shelf.old) (F.reading_faults shelf.new)
         (F.writing_faults shelf.old) (F.writing_faults shelf.new) (F.asked shelf.old) (F.asked shelf.new) (S.held out.old) (S.held out.new) text.old text.new (S.faults out.old) (S.faults out.new) result }
 {
     let mut source = match Source::open(alloc, limit, shelf, file) {

@@ -1,6 +1,6 @@
 //! The command `talk`: a capture of a stream, made from raw samples or from a byte stream of H.264.
 
-ghost use Rattle.std.specs.Prelude.{◌≡◌, ◌≤◌, ◌<◌, ℕ, List, [], Option, option_map, Ok, Some, IfOk, length, take};
+ghost use Rattle.std.specs.Prelude.{◌≡◌, ◌≤◌, ◌<◌, false, ℕ, List, [], Option, option_map, Ok, Some, IfOk, length, take};
 ghost use Rattle.avtp_base.specs.Faults.{IsCounted};
 ghost use Rattle.avtp_base.specs.Files.{Files, Slots};
 ghost use Rattle.pcap_frames.specs.Capture.{header_spelling, record_spelling, HasSpelling};
@@ -14,6 +14,7 @@ ghost use Rattle.capture_io.specs.Writing.{IsMadeIn, IsWriting, WritesSlot};
 ghost use Rattle.avtp_tool.specs.Made.{IsWritingPart, MakesFile, unmade_as};
 ghost use Rattle.avtp_tool.specs.Outcome.{EndsWith, Only};
 ghost use Rattle.avtp_tool.specs.Run.{Runs};
+ghost use Rattle.avtp_tool.specs.Yield.{HandsNothing};
 ghost use Rattle.avtp_tool.specs.Talk.{EndsRefused, Puts, sent_line, talk_clock, talk_kind, talk_plan, TalkedOutcome, Talks, TalksContents};
 
 use crate::command::{print_fault, print_unopened};
@@ -90,7 +91,7 @@ pub fn talk<F: Shelf, S: Sink>(
     out: &mut S,
 ) -> Result<Status, Failed>
     requires { IsPlan (talk_plan (talking_of asked.now)) }
-    ensures { Runs (talk_request (talking_of asked.now)) (F.files shelf.old) (F.files shelf.new) (F.slots shelf.old) (F.slots shelf.new) (F.reading_faults shelf.old) (F.reading_faults shelf.new)
+    ensures { Runs (talk_request (talking_of asked.now)) HandsNothing false (F.files shelf.old) (F.files shelf.new) (F.slots shelf.old) (F.slots shelf.new) (F.reading_faults shelf.old) (F.reading_faults shelf.new)
         (F.writing_faults shelf.old) (F.writing_faults shelf.new) (F.asked shelf.old) (F.asked shelf.new)
         (S.held out.old) (S.held out.new) text.old text.new (S.faults out.old) (S.faults out.new) result }
 {

@@ -4,6 +4,7 @@ use crate::listen::{capture_of, packet};
 use crate::runs::{STREAM, run_between, shelf_of, talked, words_of};
 use avtp_base::{Failed, MemoryShelf, MemorySink, NoMemory, OpenFault, Shelf, Sink, Slot};
 use avtp_tool::{Status, run};
+use device_rack::Rack;
 use presenter_ring::{Gate, NoGate, Side};
 use std::alloc::Global;
 use std::sync::Arc;
@@ -203,7 +204,16 @@ fn two_threads(rt: HostRuntime) -> Result<(), Fail> {
         meeting: meeting.clone()?,
     };
     let words = words_of(rt.alloc(), &["listen", "--ring", "4", STREAM, "c.pcap"])?;
-    let status = run(&rt, rt.alloc(), &words, &mut shelf, &mut sink, &NoGate);
+    let mut rack = Rack::over(Vec::new(rt.alloc()));
+    let status = run(
+        &rt,
+        rt.alloc(),
+        &words,
+        &mut shelf,
+        &mut sink,
+        &NoGate,
+        &mut rack,
+    );
     assert_eq!(rt; status, Status::Done);
     assert!(rt; meeting.met.load(Ordering::SeqCst));
     assert!(rt;

@@ -2,6 +2,7 @@
 
 use avtp_base::{MemoryShelf, MemorySink, NoMemory};
 use avtp_tool::{Status, run};
+use device_rack::Rack;
 use presenter_ring::{Gate, NoGate};
 use std::alloc::Global;
 use std::test::Fail;
@@ -77,11 +78,25 @@ pub fn run_between<T: Threads + Sync, G: Gate>(
     alloc: Global,
     line: &[&str],
     shelf: &mut MemoryShelf,
-    mut sink: MemorySink,
+    sink: MemorySink,
     gate: &G,
 ) -> Result<Ran, NoMemory> {
+    let mut rack = Rack::over(Vec::new(alloc));
+    run_racked(rt, alloc, line, shelf, sink, gate, &mut rack)
+}
+
+/// The same with a rack of devices.
+pub fn run_racked<T: Threads + Sync, G: Gate>(
+    rt: &T,
+    alloc: Global,
+    line: &[&str],
+    shelf: &mut MemoryShelf,
+    mut sink: MemorySink,
+    gate: &G,
+    rack: &mut Rack,
+) -> Result<Ran, NoMemory> {
     let words = words_of(alloc, line)?;
-    let status = run(rt, alloc, &words, shelf, &mut sink, gate);
+    let status = run(rt, alloc, &words, shelf, &mut sink, gate, rack);
     let text = Vec::from_slice(alloc, sink.bytes())?;
     Ok(Ran { status, text })
 }

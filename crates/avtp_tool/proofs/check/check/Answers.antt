@@ -1,6 +1,6 @@
 use Rattle.std.proofs.Common.{Ok, inl, refl}
 use Rattle.avtp_base.proofs.Told.{Keeps-refl}
-use Rattle.avtp_text.proofs.Printing.{prefix_none}
+use Rattle.avtp_tool.proofs.Yields.{part_none}
 use Rattle.capture_io.proofs.Leaving.{reads_nothing}
 use Rattle.avtp_tool.specs.declared.status.Status.TheVariants as status
 use Rattle.avtp_tool.specs.Check.{check_report}
@@ -13,13 +13,13 @@ use Rattle.avtp_tool.proofs.check.check.Goals as goal
 pub returns-in-Err : goal.returns-in-Err
 returns-in-Err g c =
     let opened = c.in-Err.ensures in
-    does_unopened (check_report c.args.limit c.args.file.now) c.args.limit c.in-Err.fault c.args.file.now opened.tries.counted opened.tries.missing opened.tries.refused c.print_unopened.ensures
+    does_unopened (check_report c.args.limit c.args.file.now) c.args.limit c.in-Err.fault c.args.file.now refl opened.tries.counted opened.tries.missing opened.tries.refused c.print_unopened.ensures
 
 pub returns-in_default : goal.returns-in_default
 returns-in_default g c =
     let opened = c.in-Ok.ensures in
     let keeps = read_through opened.opened (reads_nothing _ _ _ _ _ _ opened.opened.live) c.close.ensures in
-    does_cut (check_report c.args.limit c.args.file.now) c.args.limit c.args.file.now (Ok status.Memory) opened.begun (λ bytes given. prefix_none _ _ _ (Keeps-refl _)) (inl refl) keeps (counts_memory _ keeps.reading refl) (λ e. cc, λ e. cc) (sink_still _ _ _)
+    does_cut (check_report c.args.limit c.args.file.now) c.args.limit c.args.file.now (Ok status.Memory) opened.begun (λ bytes given. part_none refl _ (Keeps-refl _)) (inl refl) keeps (counts_memory _ keeps.reading refl) refl (sink_still _ _ _)
 
 pub returns-in-Ok-checked : goal.returns-in-Ok-checked
 returns-in-Ok-checked g c =

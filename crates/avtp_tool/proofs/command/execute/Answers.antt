@@ -1,19 +1,20 @@
-use Rattle.std.proofs.Common.{refl}
+use Rattle.std.proofs.Common.{false, refl, sym, ap}
 use Rattle.avtp_words.specs.Grammar.{check, listen, listening_of, show, soak, talk, talking_of}
 use Rattle.avtp_words.specs.Word.{texts}
 use Rattle.avtp_tool.specs.Check.{check_plan}
-use Rattle.avtp_tool.specs.Listen.{listen_plan}
 use Rattle.avtp_tool.specs.Show.{show_plan}
 use Rattle.avtp_tool.proofs.Asked.{not_offence, requested}
-use Rattle.avtp_tool.proofs.PlanRuns.{one_file, plan_runs}
+use Rattle.avtp_tool.specs.Run.{is_listening}
+use Rattle.avtp_tool.proofs.PlanRuns.{one_file, plan_runs, runs_deaf, runs_of}
 use Rattle.avtp_tool.proofs.Soaked.{soak_runs}
+use Rattle.avtp_tool.proofs.Yields.{hands_nothing}
 use Rattle.avtp_tool.proofs.command.execute.Goals as goal
 
 pub talk-requires-after_bounds : goal.talk-requires-after_bounds
 talk-requires-after_bounds g c κs within = requested (texts c.args.words.now) (talk (talking_of c.in-Ok-Talk.asked)) (rw c.in-Ok-Talk.field-0-is at c.in-Ok-Talk.ensures.found)
 
-pub read_files-requires-in-Ok-Listen-after_bounds : goal.read_files-requires-in-Ok-Listen-after_bounds
-read_files-requires-in-Ok-Listen-after_bounds g c κs within = requested (texts c.args.words.now) (listen (listening_of c.in-Ok-Listen.asked)) (rw c.in-Ok-Listen.field-0-is at c.in-Ok-Listen.ensures.found)
+pub hear_files-requires-after_bounds : goal.hear_files-requires-after_bounds
+hear_files-requires-after_bounds g c κs within = requested (texts c.args.words.now) (listen (listening_of c.in-Ok-Listen.asked)) (rw c.in-Ok-Listen.field-0-is at c.in-Ok-Listen.ensures.found)
 
 pub returns-in-Ok-Show-clause-words : goal.returns-in-Ok-Show-clause-words
 returns-in-Ok-Show-clause-words g c position offence = absurd (not_offence c.parse.result _ position (c.parse.ensures.only_offence position offence) c.in-Ok-Show.is)
@@ -25,30 +26,34 @@ pub returns-in-Ok-Talk-clause-words : goal.returns-in-Ok-Talk-clause-words
 returns-in-Ok-Talk-clause-words g c position offence = absurd (not_offence c.parse.result _ position (c.parse.ensures.only_offence position offence) c.in-Ok-Talk.is)
 
 pub returns-in-Err-clause-words : goal.returns-in-Err-clause-words
-returns-in-Err-clause-words g c position offence = (refl, rw (c.in-Err.ensures.only_offence position offence) at c.print_offence.ensures)
+returns-in-Err-clause-words g c position offence = (refl, refl, rw (c.in-Err.ensures.only_offence position offence) at c.print_offence.ensures)
 
 pub returns-in-Ok-Show-clause-runs : goal.returns-in-Ok-Show-clause-runs
 returns-in-Ok-Show-clause-runs g c request line =
     let limit = c.in-Ok-Show.limit in
     let file = c.in-Ok-Show.file.now in
     let same = rw c.in-Ok-Show.field-0-is at (c.in-Ok-Show.ensures.only request line) in
-    plan_runs (show limit file) (show_plan limit file) request same (λ all fault came ended text o. o) refl refl (λ all keeps. keeps) (one_file (show_plan limit file) file refl c.show.ensures)
+    runs_deaf request (ap is_listening (sym same)) (hands_nothing g.D.Devices.handed _) (plan_runs (show limit file) (show_plan limit file) false request same (λ all fault failed came ended yields o. o) refl refl refl (λ all keeps. keeps) (one_file (show_plan limit file) file refl c.show.ensures))
 
 pub returns-in-Ok-Check-clause-runs : goal.returns-in-Ok-Check-clause-runs
 returns-in-Ok-Check-clause-runs g c request line =
     let limit = c.in-Ok-Check.limit in
     let names = texts c.in-Ok-Check.files.now in
     let same = rw c.in-Ok-Check.field-0-is at (c.in-Ok-Check.ensures.only request line) in
-    plan_runs (check limit names) (check_plan limit names) request same (λ all fault came ended text o. o) refl refl (λ all keeps. keeps) c.read_files.ensures
+    plan_runs (check limit names) (check_plan limit names) _ request same (λ all fault failed came ended yields o. o) refl refl refl (λ all keeps. keeps) c.read_files.ensures.does
 
 pub returns-in-Ok-Check-clause-words : goal.returns-in-Ok-Check-clause-words
 returns-in-Ok-Check-clause-words g c position offence = absurd (not_offence c.parse.result _ position (c.parse.ensures.only_offence position offence) c.in-Ok-Check.is)
 
 pub returns-in-Ok-Listen-clause-runs : goal.returns-in-Ok-Listen-clause-runs
 returns-in-Ok-Listen-clause-runs g c request line =
-    let asked = listening_of c.in-Ok-Listen.asked in
     let same = rw c.in-Ok-Listen.field-0-is at (c.in-Ok-Listen.ensures.only request line) in
-    plan_runs (listen asked) (listen_plan asked) request same (λ all fault came ended text o. o) refl refl (λ all keeps. keeps) c.read_files-in-Ok-Listen.ensures
+    runs_of same c.hear_files.ensures
+
+pub returns-in-Ok-Talk-clause-runs : goal.returns-in-Ok-Talk-clause-runs
+returns-in-Ok-Talk-clause-runs g c request line =
+    let same = rw c.in-Ok-Talk.field-0-is at (c.in-Ok-Talk.ensures.only request line) in
+    runs_deaf request (ap is_listening (sym same)) (hands_nothing g.D.Devices.handed _) (runs_of same c.talk.ensures)
 
 pub soak-requires-after_bounds : goal.soak-requires-after_bounds
 soak-requires-after_bounds g c κs within = requested (texts c.args.words.now) (soak c.in-Ok-Soak.packets) (rw c.in-Ok-Soak.field-0-is at c.in-Ok-Soak.ensures.found)
@@ -59,4 +64,4 @@ returns-in-Ok-Soak-clause-words g c position offence = absurd (not_offence c.par
 pub returns-in-Ok-Soak-clause-runs : goal.returns-in-Ok-Soak-clause-runs
 returns-in-Ok-Soak-clause-runs g c request line =
     let same = rw c.in-Ok-Soak.field-0-is at (c.in-Ok-Soak.ensures.only request line) in
-    soak_runs c.in-Ok-Soak.packets request same c.soak.ensures
+    runs_deaf request (ap is_listening (sym same)) (hands_nothing g.D.Devices.handed _) (soak_runs c.in-Ok-Soak.packets request same c.soak.ensures)

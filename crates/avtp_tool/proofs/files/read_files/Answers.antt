@@ -8,25 +8,27 @@ use Rattle.avtp_tool.specs.Outcome.{is_done}
 use Rattle.avtp_tool.proofs.Outcomes.{sink_ok, sink_still, sink_then}
 use Rattle.avtp_tool.proofs.ReadFiles.{does_failed, never_done, other_ends, reads_all, reads_more, reads_none, reads_stopped}
 use Rattle.avtp_tool.proofs.files.read_files.Goals as goal
+use Rattle.avtp_tool.specs.Yield.{HandsOn}
+use Rattle.avtp_tool.proofs.Yields.{hands_both, hands_nothing}
 use Rattle.avtp_tool.proofs.files.read_files.Goals.{in-Done, in-Findings}
 
 pub loop-file-init : goal.loop-file-init
-loop-file-init g c = record { sink = sink_still _ _ tt; reads = reads_none (plan_for c.args.reading.now (texts c.args.files.now)) }
+loop-file-init g c = record { kept = λ deaf. refl; sink = sink_still _ _ tt; reads = reads_none (plan_for c.args.reading.now (texts c.args.files.now)) (hands_nothing g.D.Devices.handed _) }
 
-pub returns-in_err-other : goal.returns-in_err-other
-returns-in_err-other g c =
+pub returns-in_err-other-clause-does : goal.returns-in_err-other-clause-does
+returns-in_err-other-clause-does g c =
     let files = c.args.files.now in
     let d = c.file-item.result in
     let is : string_bytes (get_or files c.loop-file.file-index d) ≡ c.deref.result.now = ap string_bytes (sym c.file-item.is) ∙ sym c.deref.ensures in
     let err = c.from_residual.ensures.0 in
-    reads_stopped (plan_for c.args.reading.now (texts files)) files c.loop-file.file-index d c.deref.result.now refl c.loop-file-test.true is (never_done _ err) c.loop-file.invariant.reads c.loop-file.invariant.sink (does_failed _ err c.in_err-other.ensures)
+    reads_stopped (plan_for c.args.reading.now (texts files)) files c.loop-file.file-index d c.deref.result.now (hands_both g.D.Devices.handed _ _ _) refl c.loop-file-test.true is (never_done _ err) c.loop-file.invariant.reads c.loop-file.invariant.sink (does_failed _ err c.in_err-other.ensures.does)
 
-pub returns-in_default : goal.returns-in_default
-returns-in_default g c =
+pub returns-in_default-clause-does : goal.returns-in_default-clause-does
+returns-in_default-clause-does g c =
     let files = c.args.files.now in
     let d = c.file-item.result in
     let is : string_bytes (get_or files c.loop-file.file-index d) ≡ c.deref.result.now = ap string_bytes (sym c.file-item.is) ∙ sym c.deref.ensures in
-    reads_stopped (plan_for c.args.reading.now (texts files)) files c.loop-file.file-index d c.deref.result.now refl c.loop-file-test.true is (other_ends _ c.in_default.not-Done c.in_default.not-Findings) c.loop-file.invariant.reads c.loop-file.invariant.sink c.in_ok-other.ensures
+    reads_stopped (plan_for c.args.reading.now (texts files)) files c.loop-file.file-index d c.deref.result.now (hands_both g.D.Devices.handed _ _ _) refl c.loop-file-test.true is (other_ends _ c.in_default.not-Done c.in_default.not-Findings) c.loop-file.invariant.reads c.loop-file.invariant.sink c.in_ok-other.ensures.does
 
 pub loop-file-preserved : goal.loop-file-preserved
 loop-file-preserved g c =
@@ -34,15 +36,16 @@ loop-file-preserved g c =
     let d = c.file-item.result in
     let is : string_bytes (get_or files c.loop-file.file-index d) ≡ c.deref.result.now = ap string_bytes (sym c.file-item.is) ∙ sym c.deref.ensures in
     let more = λ (ended : Status) (goes : is_done ended ≡ true) (same : c.in_ok-other.other ≡ ended).
-    reads_more (plan_for c.args.reading.now (texts files)) files c.loop-file.file-index d c.deref.result.now ended c.loop-file-test.true is goes (ap (λ (s : Status). Ok s) same) c.loop-file.invariant.reads c.in_ok-other.ensures in
+    reads_more {all_handed = HandsOn g.D.Devices.handed c.args.rack.now c.read_file.new.rack} (plan_for c.args.reading.now (texts files)) files c.loop-file.file-index d c.deref.result.now ended (hands_both g.D.Devices.handed _ _ _) c.loop-file-test.true is goes (ap (λ (s : Status). Ok s) same) c.loop-file.invariant.reads c.in_ok-other.ensures.does in
     record {
-      sink = sink_ok tt (sink_then c.loop-file.invariant.sink c.in_ok-other.ensures.sink);
+      kept = λ deaf. c.in_ok-other.ensures.kept deaf ∙ c.loop-file.invariant.kept deaf;
+      sink = sink_ok tt (sink_then c.loop-file.invariant.sink c.in_ok-other.ensures.does.sink);
       reads = elim c.match-branch-2.branch [
         | in-Done w ↦ rw w.ended-is (more status.Done refl w.in-Done.is)
         | in-Findings w ↦ rw w.ended-is (more status.Findings refl w.in-Findings.is)
       ];
     }
 
-pub returns : goal.returns
-returns g c =
+pub returns-clause-does : goal.returns-clause-does
+returns-clause-does g c =
     reads_all (plan_for c.args.reading.now (texts c.args.files.now)) c.args.files.now c.loop-file.file-index c.loop-file.ended refl c.loop-file-test.false c.loop-file.invariant.reads c.loop-file.invariant.sink

@@ -1,7 +1,8 @@
-use Rattle.std.proofs.Common.{Ok, take}
+use Rattle.std.proofs.Common.{◌≡◌, false, Ok, take}
 use Rattle.avtp_text.specs.Written.{written}
 use Rattle.avtp_words.specs.Word.{texts}
-use Rattle.avtp_tool.specs.Files.{plan_for}
+use Rattle.avtp_tool.specs.Yield.{HandsOn}
+use Rattle.avtp_tool.specs.Files.{is_hearing, plan_for}
 use Rattle.avtp_tool.specs.Outcome.{KeepsSink}
 use Rattle.avtp_tool.proofs.ReadFiles.{ReadsTo}
 use Rattle.avtp_tool.proofs.files.read_files.Given as goal
@@ -9,7 +10,8 @@ use Rattle.avtp_tool.proofs.files.read_files.Given as goal
 abbrev pub invariant-loop-file : goal.invariant-loop-file
 invariant-loop-file g l =
     record {
+      kept : is_hearing l.reading ≡ false → l.rack ≡ l.fn.rack;
       sink : KeepsSink {T = Unit} (g.S.Sink.held l.fn.out) (g.S.Sink.held l.out) (g.S.Sink.faults l.fn.out) (g.S.Sink.faults l.out) (Ok tt);
-      reads : ReadsTo (plan_for l.reading (texts l.files)) (take l.file-index (texts l.files)) l.ended (g.F.Shelf.files l.fn.shelf) (g.F.Shelf.files l.shelf) (g.F.Shelf.slots l.fn.shelf) (g.F.Shelf.slots l.shelf) (g.F.Shelf.reading_faults l.fn.shelf) (g.F.Shelf.reading_faults l.shelf)
+      reads : ReadsTo (plan_for l.reading (texts l.files)) (HandsOn g.D.Devices.handed l.fn.rack l.rack) (take l.file-index (texts l.files)) l.ended (g.F.Shelf.files l.fn.shelf) (g.F.Shelf.files l.shelf) (g.F.Shelf.slots l.fn.shelf) (g.F.Shelf.slots l.shelf) (g.F.Shelf.reading_faults l.fn.shelf) (g.F.Shelf.reading_faults l.shelf)
           (g.F.Shelf.writing_faults l.fn.shelf) (g.F.Shelf.writing_faults l.shelf) (g.F.Shelf.asked l.fn.shelf) (g.F.Shelf.asked l.shelf) (written (g.S.Sink.held l.fn.out) l.fn.text) (written (g.S.Sink.held l.out) l.text);
     }

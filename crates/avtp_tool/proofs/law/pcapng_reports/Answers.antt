@@ -7,4 +7,4 @@ use Rattle.avtp_tool.proofs.law.pcapng_reports.Goals as goal
 pub returns : goal.returns
 returns c report limit bytes all is =
     let same = (classic_same (take limit bytes) all is).0 in
-    (ap (λ (rs : List Record). report.status rs (end_of limit bytes)) (sym same), ap (λ (rs : List Record). report.text rs (end_of limit bytes)) (sym same))
+    (ap (λ (rs : List Record). report.status rs (end_of limit bytes)) (sym same), ap (λ (rs : List Record). report.yields rs (end_of limit bytes)) (sym same))

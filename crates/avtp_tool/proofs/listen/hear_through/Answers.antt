@@ -1,9 +1,9 @@
 use Rattle.std.proofs.Common.{◌≡◌, ◌+◌, ◌≤◌, ℕ, [], Ok, None, refl, sym, ap, subst, ◌∙◌, arith}
 use Rattle.std.specs.Prelude.{IsSome}
 use Rattle.capture_io.specs.Source.{slot_of}
-use Rattle.avtp_text.proofs.Printing.{part_none}
 use Rattle.avtp_tool.proofs.HearingTo.{ended_live, left_most, reading_pull, shows_none}
-use Rattle.avtp_tool.proofs.Passing.{over_on, prints_given, same_result}
+use Rattle.avtp_tool.proofs.Passing.{gives_given, gives_none, over_on, same_result}
+use Rattle.avtp_tool.proofs.Yields.{hands_nothing}
 use Rattle.avtp_tool.proofs.listen.hear_through.Goals as goal
 
 pub returns-clause-receiver : goal.returns-clause-receiver
@@ -13,19 +13,19 @@ returns-clause-receiver g c =
 
 pub returns-clause-presenter : goal.returns-clause-presenter
 returns-clause-presenter g c =
-    let printed = c.present_all.ensures.hands c.args.presenter.now [] (refl, refl, λ fine. rw fine (part_none _ _ _ tt)) in
-    (printed.0, printed.1)
+    let printed = c.present_all.ensures.hands c.args.presenter.now [] (refl, refl, refl, λ fine. gives_none _ fine (hands_nothing g.D.Devices.handed _)) in
+    (printed.0, printed.1, printed.2)
 
 pub returns-clause-hears : goal.returns-clause-hears
 returns-clause-hears g c =
     let passed = c.present_all.ensures in
     let shown = passed.gives c.args.receiver.now [] (refl, refl, shows_none _ _ _ _ _ _ _ _ c.requires.live c.requires.begun.0) in
-    let printed = passed.hands c.args.presenter.now [] (refl, refl, λ fine. rw fine (part_none _ _ _ tt)) in
+    let printed = passed.hands c.args.presenter.now [] (refl, refl, refl, λ fine. gives_none _ fine (hands_nothing g.D.Devices.handed _)) in
     let same = same_result c.args.presenter.now.result c.present_all.new.presenter.result c.present_all.result c.requires.begun.1 passed.quiet passed.rose in
     record {
       items = passed.given;
       shows = shown.2;
-      prints = prints_given _ passed.presented passed.given c.present_all.result passed.whole passed.first (rw same (printed.2 c.requires.begun.1));
+      gives = gives_given _ passed.presented passed.given c.present_all.result passed.whole passed.first (rw same (printed.3 c.requires.begun.1));
       over = over_on _ _ _ c.present_all.result passed.whole (subst (λ (k : ℕ). IsSome (g.F.Shelf.slots c.present_all.new.receiver.shelf.now k)) (sym shown.2.capture.reads.slot) shown.2.capture.reads.live);
     }
 

@@ -1,0 +1,174 @@
+-- The run of `listen` over all its files, and what it says of the devices at its end.
+use Rattle.std.proofs.Common.{◌≡◌, ◌≢◌, ℕ, ◌<◌, ◌≤◌, Bool, true, false, List, [], ◌++◌, length, take, Option, None, Result, Ok, Err, refl, sym, ap, subst, ◌∙◌, arith}
+use Rattle.std.specs.Prelude.{IfOk, is_err, IsErr, IsSome, nat_lt}
+use Rattle.std.proofs.lemmas.Bool.{le-ltb, lt-ltb}
+use Rattle.std.proofs.lemmas.List.{append-nil}
+use Rattle.avtp_base.specs.declared.failed.Failed.{Failed}
+use Rattle.avtp_base.specs.Faults.{Rose}
+use Rattle.avtp_base.specs.Files.{Files, Slots}
+use Rattle.avtp_base.specs.Told.{Appends}
+use Rattle.avtp_text.specs.Notices.{device_fault_line}
+use Rattle.avtp_text.specs.Written.{written}
+use Rattle.sample_schedule.specs.declared.shown.Shown.{Shown}
+use Rattle.avtp_words.specs.Grammar.{listen, Listening}
+use Rattle.avtp_tool.specs.declared.status.Status.{Status}
+use Rattle.avtp_tool.specs.declared.status.Status.TheVariants as status
+use Rattle.avtp_tool.specs.Listen.{listen_plan}
+use Rattle.avtp_tool.specs.Outcome.{Asks, AsksFor, EndsWith, TellsRun}
+use Rattle.avtp_tool.specs.Reading.{DoesFiles, PlanOutcome, ReadPlan}
+use Rattle.avtp_tool.specs.Run.{device_notice, device_status, IsThrough, ListenOutcome, Runs, TellsDevices}
+use Rattle.avtp_tool.specs.Yield.{Gives, GivesPart, HandsNothing, says, with_more, Yield}
+use Rattle.avtp_tool.proofs.Leaving.{never_ends, only_read}
+use Rattle.avtp_tool.proofs.Outcomes.{counts_failed, sink_failed, sink_then}
+use Rattle.avtp_tool.proofs.Talked.{ends_not}
+use Rattle.avtp_tool.proofs.PlanRuns.{through_as}
+use Rattle.avtp_tool.proofs.Yields.{gives_then, Joins, more_none, part_before, part_none, part_then, part_whole}
+
+-- text behind items that were handed on
+joins_text : (handed : List Shown → Type 0) → Joins handed HandsNothing handed
+joins_text handed xs ys first none = subst handed (sym (append-nil xs) ∙ ap (λ (l : List Shown). xs ++ l) (sym none)) first
+
+-- ---- no device failed, or not all was done
+
+-- a run ends as it would without devices
+abbrev pub IsPlain : Bool → Result Status Failed → Type 0
+IsPlain failed result = result ≡ Ok status.Done → failed ≡ true → ⊥
+
+plain_status : (failed : Bool) (s : Status) → IsPlain failed (Ok s) → (device_status failed s ≡ s) × (device_notice failed s ≡ [])
+plain_status false s plain = (refl, refl)
+plain_status true status.Done plain = absurd (plain refl refl)
+plain_status true status.Findings plain = (refl, refl)
+plain_status true status.Words plain = (refl, refl)
+plain_status true status.Refused plain = (refl, refl)
+plain_status true status.ReadFault plain = (refl, refl)
+plain_status true status.WriteFault plain = (refl, refl)
+plain_status true status.Memory plain = (refl, refl)
+plain_status true status.Limit plain = (refl, refl)
+plain_status true status.DeviceFault plain = (refl, refl)
+plain_status true status.TalkInput plain = (refl, refl)
+
+plain_tells : {a b : List (List ℕ) → Type 0} {handed : List Shown → Type 0} {before now : Option (List ℕ)} (asked : Listening) (all : Files) (fault : Type 0) (failed : Bool) (result : Result Status Failed) → IsPlain failed result
+    → TellsRun (PlanOutcome (listen_plan asked) all fault) handed a b before now result → TellsRun (ListenOutcome asked all fault failed) handed a b before now result
+plain_tells {a} {b} {handed} {before} {now} asked all fault failed result plain t = record {
+  came = t.came;
+  ended = device_status failed t.ended;
+  yields = with_more t.yields (says (device_notice failed t.ended));
+  outcome = record { heard = t.ended; given = t.yields; reads = t.outcome; status = refl; notice = refl };
+  whole = whole_at result plain t.whole;
+  part = part_before t.yields (says (device_notice failed t.ended)) t.part;
+} where
+  whole_at : (r : Result Status Failed) → IsPlain failed r → IfOk r (λ s. s ≢ status.Memory → s ≢ status.WriteFault → (s ≡ t.ended) × Gives handed before now t.yields × Asks t.came a b)
+      → IfOk r (λ s. s ≢ status.Memory → s ≢ status.WriteFault → (s ≡ device_status failed t.ended) × Gives handed before now (with_more t.yields (says (device_notice failed t.ended))) × Asks t.came a b)
+  whole_at (Ok s) plain whole = λ memory write.
+      let w = whole memory write in
+      let is = plain_status failed t.ended (λ e. plain (ap (λ (x : Status). Ok x) w.0 ∙ e)) in
+      let same : with_more t.yields (says (device_notice failed t.ended)) ≡ t.yields = ap (λ (line : List ℕ). with_more t.yields (says line)) is.1 ∙ more_none t.yields in
+      (w.0 ∙ sym is.0, subst (Gives handed before now) (sym same) w.1, w.2)
+  whole_at (Err e) plain whole = tt
+
+-- ---- a device failed where all was done
+
+noticed : (failed : Bool) (ended : Status) → failed ≡ true → status.Done ≡ ended → (status.DeviceFault ≡ device_status failed ended) × (device_fault_line ≡ device_notice failed ended)
+noticed failed ended is done = rw (is, sym done) (refl, refl)
+
+module _ {a b : List (List ℕ) → Type 0} {handed : List Shown → Type 0} {before : Option (List ℕ)} {h h' : Option (List ℕ)} {l l' : List ℕ} {n n' : ℕ} (asked : Listening) (all : Files) (fault : Type 0) (failed : Bool) where
+  fault_tells : (result : Result Status Failed) → failed ≡ true → EndsWith status.DeviceFault h h' l l' n n' result device_fault_line
+      → TellsRun (PlanOutcome (listen_plan asked) all fault) handed a b before (written h l) (Ok status.Done) → TellsRun (ListenOutcome asked all fault failed) handed a b before (written h' l') result
+  fault_tells result is last t =
+      let w = t.whole (λ e. cc) (λ e. cc) in
+      let said = noticed failed t.ended is w.0 in
+      record {
+        came = t.came;
+        ended = device_status failed t.ended;
+        yields = with_more t.yields (says (device_notice failed t.ended));
+        outcome = record { heard = t.ended; given = t.yields; reads = t.outcome; status = refl; notice = refl };
+        whole = whole_at result last said w.1 w.2;
+        part = part_at result last said w.1;
+      } where
+        Said : Type 0
+        Said = (status.DeviceFault ≡ device_status failed t.ended) × (device_fault_line ≡ device_notice failed t.ended)
+
+        line_given : Said → Appends (written h l) (written h' l') device_fault_line → Gives HandsNothing (written h l) (written h' l') (says (device_notice failed t.ended))
+        line_given said grown = record { text = subst (Appends (written h l) (written h' l')) said.1 grown; items = refl }
+
+        whole_at : (r : Result Status Failed) → EndsWith status.DeviceFault h h' l l' n n' r device_fault_line → Said → Gives handed before (written h l) t.yields → Asks t.came a b
+            → IfOk r (λ s. s ≢ status.Memory → s ≢ status.WriteFault → (s ≡ device_status failed t.ended) × Gives handed before (written h' l') (with_more t.yields (says (device_notice failed t.ended))) × Asks t.came a b)
+        whole_at (Ok s) last said given asks = λ memory write. (last.status ∙ said.0, gives_then (joins_text handed) t.yields (says (device_notice failed t.ended)) given (line_given said last.written), asks)
+        whole_at (Err e) last said given asks = tt
+
+        part_at : (r : Result Status Failed) → EndsWith status.DeviceFault h h' l l' n n' r device_fault_line → Said → Gives handed before (written h l) t.yields → GivesPart handed before (written h' l') (with_more t.yields (says (device_notice failed t.ended)))
+        part_at (Ok s) last said given = part_whole _ (gives_then (joins_text handed) t.yields (says (device_notice failed t.ended)) given (line_given said last.written))
+        part_at (Err e) last said given = part_then (joins_text handed) t.yields (says (device_notice failed t.ended)) given (part_none refl (says (device_notice failed t.ended)) last.written)
+
+-- ---- the run
+
+-- no run but one that was done tells of a device
+tells_plain : (asked : Listening) (failed : Bool) (result : Result Status Failed) → IsPlain failed result → (result ≡ Ok status.DeviceFault → ⊥) → TellsDevices (listen asked) failed result
+tells_plain asked failed result plain never = record { fault = λ e. absurd (never e); quiet = λ listens done. unfailed failed (plain done) } where
+  unfailed : (b : Bool) → (b ≡ true → ⊥) → b ≡ false
+  unfailed true never = absurd (never refl)
+  unfailed false never = refl
+
+module _ {f g : Option Files} {s t : Slots} {r r' w w' : ℕ} {a b : List (List ℕ) → Type 0} {h h' : Option (List ℕ)} {l l' : List ℕ} {n n' : ℕ} {handed : List Shown → Type 0} (asked : Listening) (failed : Bool) where
+  pub plain_runs : (read result : Result Status Failed) → read ≡ result → IsPlain failed result → DoesFiles (listen_plan asked) handed f g s t r r' w w' a b h h' l l' n n' read → Runs (listen asked) handed failed f g s t r r' w w' a b h h' l l' n n' result
+  plain_runs read result same plain did =
+      let does = subst (DoesFiles (listen_plan asked) handed f g s t r r' w w' a b h h' l l' n n') same did in
+      let never = never_ends result status.DeviceFault refl does.own in
+      record {
+        tells = λ all told still. plain_tells asked all (Rose r r') failed result plain (does.tells all told still);
+        makes = λ all told. does.keeps.files;
+        files = does.keeps.files;
+        slots = does.keeps.slots;
+        counts = does.counts;
+        writing = only_read does.keeps.writing (never_ends result status.WriteFault refl does.own);
+        no_words = never_ends result status.Words refl does.own;
+        devices = tells_plain asked failed result plain never;
+        asks = subst (λ (ns : List (List ℕ)). AsksFor ns a b (IsThrough result)) (sym (append-nil asked.files)) (through_as never (record { count = does.count; within = does.within; all = does.all; asked = does.keeps.asked }));
+        sink = does.sink;
+      }
+
+  pub fault_runs : {h'' : Option (List ℕ)} {l'' : List ℕ} {n'' : ℕ} (read result : Result Status Failed) → read ≡ Ok status.Done → failed ≡ true → EndsWith status.DeviceFault h' h'' l' l'' n' n'' result device_fault_line
+      → DoesFiles (listen_plan asked) handed f g s t r r' w w' a b h h' l l' n n' read → Runs (listen asked) handed failed f g s t r r' w w' a b h h'' l l'' n n'' result
+  fault_runs read result done is last did =
+      let does = subst (DoesFiles (listen_plan asked) handed f g s t r r' w w' a b h h' l l' n n') done did in
+      let still : r' ≡ r = does.counts.quiet (λ e. cc) (λ e. cc) (λ e. cc) in
+      record {
+        tells = λ all told still. fault_tells asked all (Rose r r') failed result is last (does.tells all told still);
+        makes = λ all told. does.keeps.files;
+        files = does.keeps.files;
+        slots = does.keeps.slots;
+        counts = record { never_falls = omega (arith, still); fault = λ e. absurd (ends_not status.ReadFault (λ x. cc) last e); quiet = quiet_at result still };
+        writing = only_read does.keeps.writing (ends_not status.WriteFault (λ x. cc) last);
+        no_words = ends_not status.Words (λ x. cc) last;
+        devices = record { fault = λ e. (refl, is); quiet = λ listens e. absurd (ends_not status.Done (λ x. cc) last e) };
+        asks = subst (λ (ns : List (List ℕ)). AsksFor ns a b (IsThrough result)) (sym (append-nil asked.files)) (record { count = does.count; within = does.within; all = λ through. does.all refl; asked = does.keeps.asked });
+        sink = sink_then does.sink last.sink;
+      } where
+        quiet_at : (x : Result Status Failed) → r' ≡ r → IfOk x (λ s. s ≢ status.ReadFault → s ≢ status.Memory → s ≢ status.WriteFault → r' ≡ r)
+        quiet_at (Ok s) same = λ fault memory write. same
+        quiet_at (Err e) same = tt
+
+pub err_plain : (failed : Bool) (result : Result Status Failed) → IsErr result → IsPlain failed result
+err_plain failed (Ok s) err = absurd cc
+err_plain failed (Err e) err = λ done is. absurd (let same : is_err {T = Status} (Err e) ≡ is_err {E = Failed} (Ok status.Done) = ap is_err done in cc)
+
+-- more had failed after than before, as the two numbers tell
+pub less_is : {a b x y : ℕ} → a ≡ x → b ≡ y → a < b → nat_lt x y ≡ true
+less_is first second less = rw (sym first, sym second) (lt-ltb _ _ less)
+
+pub more_is : {a b x y : ℕ} → a ≡ x → b ≡ y → b ≤ a → nat_lt x y ≡ true → ⊥
+more_is first second more is = let t : false ≡ true = sym (rw (sym first, sym second) (le-ltb _ _ more)) ∙ is in cc
+
+pub failed_as : {h h' : Option (List ℕ)} {l l' : List ℕ} {n n' : ℕ} {plan : ReadPlan} {f g : Option Files} {s t : Slots} {r r' w w' : ℕ} {a b : List (List ℕ) → Type 0} {handed : List Shown → Type 0} {e : Failed} (result : Result Status Failed) → IsErr result
+    → DoesFiles plan handed f g s t r r' w w' a b h h' l l' n n' (Err e) → DoesFiles plan handed f g s t r r' w w' a b h h' l l' n n' result
+failed_as (Ok s) err does = absurd cc
+failed_as (Err e') err does = record {
+  tells = λ all told still. let to = does.tells all told still in record { came = to.came; ended = to.ended; yields = to.yields; outcome = to.outcome; whole = tt; part = to.part };
+  count = does.count;
+  within = does.within;
+  all = λ done. absurd done;
+  keeps = does.keeps;
+  counts = counts_failed e' does.keeps.reading;
+  own = tt;
+  sink = sink_failed err does.sink;
+}

@@ -1,0 +1,24 @@
+-- The devices that the words of `listen` ask for.
+use Rattle.std.specs.Prelude.{List, ◌++◌, option_to_list}
+use Rattle.std.specs.Option.{option_map}
+use Rattle.avtp_words.specs.Grammar.{Listening, NamedFile, NamedRaw}
+use Rattle.avtp_words.specs.declared.device.Silence.{Silence as AskedSilence}
+use Rattle.avtp_words.specs.declared.device.Silence.TheVariants as asked_as
+use Rattle.device_rack.specs.declared.silence.Silence.{Silence}
+use Rattle.device_rack.specs.declared.silence.Silence.TheVariants as silence
+use Rattle.avtp_tool.specs.declared.device_words.DeviceWord.{DeviceWord}
+use Rattle.avtp_tool.specs.declared.device_words.DeviceWord.TheVariants.{Raw, AnnexB}
+
+abbrev pub silence_as : AskedSilence → Silence
+silence_as asked_as.Zero = silence.Zero
+silence_as asked_as.Am824 = silence.Am824
+
+abbrev pub raw_word : NamedRaw → DeviceWord
+raw_word raw = Raw raw.file.place (silence_as raw.silence)
+
+abbrev pub annexb_word : NamedFile → DeviceWord
+annexb_word file = AnnexB file.place
+
+-- the devices, in order: raw audio, and then a byte stream
+abbrev pub devices_of : Listening → List DeviceWord
+devices_of asked = option_to_list (option_map raw_word asked.raw) ++ option_to_list (option_map annexb_word asked.annexb)

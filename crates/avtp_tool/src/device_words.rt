@@ -1,0 +1,61 @@
+//! The devices that the words ask for.
+
+ghost use Rattle.std.specs.Prelude.{◌≡◌, slice_get, IfSome};
+ghost use Rattle.avtp_words.specs.Grammar.{IsCommandLine, listen as listen_request, Listening, listening_of};
+ghost use Rattle.avtp_words.specs.Word.{texts};
+ghost use Rattle.avtp_tool.specs.DeviceWords.{devices_of, silence_as};
+
+use avtp_words::{Command, Listen, parse};
+use device_rack::Silence;
+
+/// A device, and the place among the words, from 0, of the name of the file that it writes.
+#[derive(Clone, Copy, Debug, PartialEq, Eq)]
+pub enum DeviceWord {
+    /// Raw audio, with such silence where packets are missing.
+    Raw { word: usize, silence: Silence },
+    /// H.264 units as a byte stream.
+    AnnexB { word: usize },
+}
+
+/// The device of this number that the words ask for, from 0, with raw audio before a byte stream.
+///
+/// `None` comes exactly where the words are no command line of `listen`, or ask for no such device.
+pub fn device_word(words: &[String], n: u32) -> Option<DeviceWord>
+    ensures found { (asked : Listening) → IsCommandLine (texts words.now) (listen_request asked) → result ≡ slice_get (devices_of asked) n }
+    ensures only { IfSome result (λ device. (asked : Listening) × IsCommandLine (texts words.now) (listen_request asked)) }
+{
+    let Ok(command) = parse(words) else {
+        return None;
+    };
+    match command {
+        Command::Listen(asked) => device_of(&asked, n),
+        _ => None,
+    }
+}
+
+/// The same of what was asked for.
+fn device_of(asked: &Listen<'_>, n: u32) -> Option<DeviceWord>
+    ensures { result ≡ slice_get (devices_of (listening_of asked.now)) n }
+{
+    let annexb = asked
+        .annexb
+        .map(|file| DeviceWord::AnnexB { word: file.place });
+    match (asked.raw, n) {
+        (Some(raw), 0) => Some(DeviceWord::Raw {
+            word: raw.file.place,
+            silence: silence(raw.silence),
+        }),
+        (Some(_), 1) | (None, 0) => annexb,
+        _ => None,
+    }
+}
+
+/// What silence is made of, as a device has it.
+fn silence(asked: avtp_words::Silence) -> Silence
+    ensures { result ≡ silence_as asked }
+{
+    match asked {
+        avtp_words::Silence::Zero => Silence::Zero,
+        avtp_words::Silence::Am824 => Silence::Am824,
+    }
+}
