@@ -2,15 +2,15 @@
 use Rattle.std.specs.Prelude.{◌≡◌, ℕ, Bool, true, false, List, [], ◌∷◌, ◌++◌, map, string_bytes, String}
 use Rattle.std.specs.Global.{Global}
 use Rattle.avtp_base.specs.declared.asked_names.AskedNames.{AskedNames}
+use Rattle.avtp_base.specs.States.{Account, AreNames}
 
 -- the names that are kept
 abbrev pub names_kept : AskedNames → List (List ℕ)
 names_kept asked = map (λ (name : String Global). string_bytes name) asked.names.items
 
--- These are the names: the kept ones where each was kept, and any list that begins with the kept ones where one was not.
-abbrev pub AreNames : Bool → List (List ℕ) → List (List ℕ) → Type 0
-AreNames true kept names = names ≡ kept
-AreNames false kept names = (rest : List (List ℕ)) × (names ≡ kept ++ rest)
+-- what is kept of them
+abbrev pub account_of : AskedNames → Account
+account_of asked = record { kept = names_kept asked; all = asked.all }
 
 abbrev pub StandsForNames : AskedNames → List (List ℕ) → Type 0
 StandsForNames asked names = AreNames asked.all (names_kept asked) names

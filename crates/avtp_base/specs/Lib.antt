@@ -12,6 +12,7 @@ pub mod OpenFile
 pub mod Octets
 pub mod Rows
 pub mod Told
+pub mod States
 pub mod Asked
 pub mod Layout
 pub mod Room

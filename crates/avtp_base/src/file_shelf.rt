@@ -1,9 +1,9 @@
 //! Real files.
 
-ghost use Rattle.std.specs.Prelude.{◌≡◌, ◌<◌, ◌≤◌, ℕ, ⊤, None, length, IsSome, IfSome};
+ghost use Rattle.std.specs.Prelude.{◌≡◌, ◌<◌, ◌≤◌, ℕ, None, length, IsSome, IfSome};
 ghost use Rattle.std.proofs.Common.{rules};
 ghost use Rattle.avtp_base.specs.Entries.{entry_at};
-ghost use Rattle.avtp_base.specs.FileShelf.{real_slots};
+ghost use Rattle.avtp_base.specs.FileShelf.{real_slots, real_state};
 
 use crate::failed::{Failed, OpenFault};
 use crate::shelf::{Shelf, Slot};
@@ -48,15 +48,7 @@ impl<R: Files + Sync> Shelf for FileShelf<'_, R>
 where
     R::File: Send,
 {
-    ghost files = { λ shelf. None };
-
-    ghost asked = { λ shelf names. ⊤ };
-
-    ghost slots = { λ shelf. real_slots shelf.live };
-
-    ghost reading_faults = { λ shelf. shelf.reading_faults };
-
-    ghost writing_faults = { λ shelf. shelf.writing_faults };
+    ghost state = { λ shelf. real_state (real_slots shelf.live) shelf.reading_faults shelf.writing_faults };
 
     ghost told = { λ shelf k files live. Prim.search rules };
 

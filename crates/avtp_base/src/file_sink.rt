@@ -49,9 +49,7 @@ impl<R: Files + Send> Sink for FileSink<R>
 where
     R::File: Send,
 {
-    ghost held = { λ sink. None };
-
-    ghost faults = { λ sink. sink.faults };
+    ghost state = { λ sink. record { held = None; faults = sink.faults } };
 
     fn write(&mut self, piece: &[u8]) -> Result<usize, Failed> {
         match self.write_some(piece) {

@@ -101,17 +101,9 @@ impl Shelf for MemoryShelf {
     ghost use Rattle.avtp_base.specs.Faults.{IsCounted, IsOpenCounted};
     ghost use Rattle.avtp_base.specs.Files.{file_of, left_in, name_in, IsMissing, KeepsFiles, KeepsOthers, KeepsSlots, KeepsOtherFiles, KeepsOthersFiles, PutsFile, IsOpened, IsMade, AppendsTo};
     ghost use Rattle.avtp_base.specs.MemoryFiles.{told_of_live};
-    ghost use Rattle.avtp_base.specs.MemoryShelf.{files_of, slots_of, asked_of, calls, most, reading_count, writing_count, IsToFail, CountsCall};
+    ghost use Rattle.avtp_base.specs.MemoryShelf.{files_of, slots_of, asked_of, state_of, calls, most, reading_count, writing_count, IsToFail, CountsCall};
 
-    ghost files = { λ shelf. Some (files_of shelf) };
-
-    ghost asked = { asked_of };
-
-    ghost slots = { slots_of };
-
-    ghost reading_faults = { reading_count };
-
-    ghost writing_faults = { writing_count };
+    ghost state = { state_of };
 
     ghost told = { λ shelf k told live. told_of_live shelf.held k live };
 

@@ -75,9 +75,7 @@ impl Sink for MemorySink {
     ghost use Rattle.avtp_base.specs.MemorySink.{kept, calls, failing_calls, most, fault_count};
     ghost use Rattle.avtp_base.specs.Told.{WriteAppends};
 
-    ghost held = { λ sink. Some (kept sink) };
-
-    ghost faults = { fault_count };
+    ghost state = { λ sink. record { held = Some (kept sink); faults = fault_count sink } };
 
     /// Fails where the number of the call is among those that fail, and where no memory is found to keep the piece.
     fn write(&mut self, piece: &[u8]) -> Result<usize, Failed>

@@ -9,27 +9,22 @@ use crate::sink::Sink;
 
 /// A sink, without leave to go to another thread: what a body in a trait can ask of a type parameter. Each sink is one.
 pub trait Output {
-    ghost use Rattle.std.specs.Prelude.{List, ℕ, Option};
+    ghost use Rattle.avtp_base.specs.States.{SinkState};
 
-    /// The bytes that the sink holds, where it tells them.
-    ghost held: { Self → Option (List ℕ) };
-
-    /// The number of faults so far.
-    ghost faults: { Self → ℕ };
+    /// The bytes that the sink holds, where it tells them, and its count of faults.
+    ghost state: { Self → SinkState };
 
     /// Appends a prefix of the piece, as `Sink::write` does.
     fn write_some(&mut self, piece: &[u8]) -> Result<usize, Failed>
         requires { 0 < length piece.now }
         ensures some { IfOk result (λ n. 0 < n) }
         ensures within { IfOk result (λ n. n ≤ length piece.now) }
-        ensures appends { WriteAppends (held self.old) (held self.new) result piece.now }
-        ensures counted { IsCounted (faults self.old) (faults self.new) result };
+        ensures appends { WriteAppends (state self.old).held (state self.new).held result piece.now }
+        ensures counted { IsCounted (state self.old).faults (state self.new).faults result };
 }
 
 impl<S: Sink> Output for S {
-    ghost held = { λ sink. S.held sink };
-
-    ghost faults = { λ sink. S.faults sink };
+    ghost state = { λ sink. S.state sink };
 
     fn write_some(&mut self, piece: &[u8]) -> Result<usize, Failed> {
         self.write(piece)

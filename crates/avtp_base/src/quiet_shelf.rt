@@ -50,17 +50,9 @@ impl Shelf for QuietShelf {
     ghost use Rattle.avtp_base.specs.Faults.{IsCounted, IsOpenCounted};
     ghost use Rattle.avtp_base.specs.Files.{file_of, left_in, name_in, IsMissing, KeepsFiles, KeepsOthers, KeepsSlots, KeepsOtherFiles, KeepsOthersFiles, PutsFile, IsOpened, IsMade, AppendsTo};
     ghost use Rattle.avtp_base.specs.MemoryFiles.{told_of_live};
-    ghost use Rattle.avtp_base.specs.QuietShelf.{files_of, kept_files, keeps_all, room_of, slots_of, asked_of, KeepsPiece};
+    ghost use Rattle.avtp_base.specs.QuietShelf.{files_of, kept_files, keeps_all, room_of, slots_of, asked_of, state_of, KeepsPiece};
 
-    ghost files = { files_of };
-
-    ghost asked = { asked_of };
-
-    ghost slots = { slots_of };
-
-    ghost reading_faults = { λ shelf. 0 };
-
-    ghost writing_faults = { λ shelf. 0 };
+    ghost state = { state_of };
 
     ghost told = { λ shelf k told live. told_of_live shelf.held k live };
 

@@ -49,9 +49,7 @@ impl Sink for QuietSink {
     ghost use Rattle.avtp_base.specs.Room.{kept_within, FitsRoom};
     ghost use Rattle.avtp_base.specs.Told.{WriteAppends};
 
-    ghost held = { told };
-
-    ghost faults = { λ sink. 0 };
+    ghost state = { λ sink. record { held = told sink; faults = 0 } };
 
     /// Takes the whole piece, and keeps what fits of it.
     fn write(&mut self, piece: &[u8]) -> Result<usize, Failed>

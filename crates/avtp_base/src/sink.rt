@@ -8,13 +8,11 @@ use crate::failed::Failed;
 
 /// A writer that appends bytes and counts its faults.
 pub trait Sink: Send {
-    ghost use Rattle.std.specs.Prelude.{List, ℕ, Option};
+    ghost use Rattle.avtp_base.specs.States.{SinkState};
 
-    /// The bytes that the sink holds, where it tells them. A sink may stop telling them, and then never tells them again.
-    ghost held: { Self → Option (List ℕ) };
-
-    /// The number of faults so far, which stands still at the last value of a 64-bit number.
-    ghost faults: { Self → ℕ };
+    /// The bytes that it holds, where it tells them, and its count of faults, which stands still at the last value of a
+    /// 64-bit number. A sink may stop telling its bytes, and then never tells them again.
+    ghost state: { Self → SinkState };
 
     /// Appends a prefix of the piece, of at least one byte, and answers its length.
     ///
@@ -23,6 +21,6 @@ pub trait Sink: Send {
         requires { 0 < length piece.now }
         ensures some { IfOk result (λ n. 0 < n) }
         ensures within { IfOk result (λ n. n ≤ length piece.now) }
-        ensures appends { WriteAppends (held self.old) (held self.new) result piece.now }
-        ensures counted { IsCounted (faults self.old) (faults self.new) result };
+        ensures appends { WriteAppends (state self.old).held (state self.new).held result piece.now }
+        ensures counted { IsCounted (state self.old).faults (state self.new).faults result };
 }

@@ -21,9 +21,7 @@ impl<'a, R: Print + Sync> StdSink<'a, R> {
 }
 
 impl<R: Print + Sync> Sink for StdSink<'_, R> {
-    ghost held = { λ sink. None };
-
-    ghost faults = { λ sink. sink.faults };
+    ghost state = { λ sink. record { held = None; faults = sink.faults } };
 
     fn write(&mut self, piece: &[u8]) -> Result<usize, Failed> {
         match self.rt.write_some(piece) {

@@ -6,6 +6,7 @@ use Rattle.std.specs.Prelude.{IsErr}
 use Rattle.avtp_base.specs.Told.{Appends, Keeps}
 use Rattle.avtp_base.specs.declared.failed.Failed.{Failed}
 use Rattle.avtp_base.specs.Faults.{IsCounted}
+use Rattle.avtp_base.specs.States.{SinkState}
 use Rattle.avtp_text.specs.Written.{AppendsPrefix, Prints, PrintsPart, written}
 use Rattle.avtp_text.proofs.Growth.{grows_further, grows_none}
 
@@ -40,41 +41,41 @@ prefix_whole before now a appends = record { prefix = a; rest = []; split = sym 
 -- ---- what is printed
 
 -- what is written whole or not at all is written whole or in part
-pub part_of : {h h' : Option (List ℕ)} {w w' : List ℕ} {f f' : ℕ} {result : Result Unit Failed} {text : List ℕ} → Prints h h' w w' f f' result text → PrintsPart h h' w w' f f' result text
+pub part_of : {s t : SinkState} {w w' : List ℕ} {result : Result Unit Failed} {text : List ℕ} → Prints s t w w' result text → PrintsPart s t w w' result text
 part_of {result = Ok ok} prints = record { written = prints.written; grows = prints.grows; counted = prints.counted }
 part_of {result = Err e} prints = record { written = prefix_none _ _ _ prints.written; grows = prints.grows; counted = prints.counted }
 
 -- the same text in other words
-pub part_as : {h h' : Option (List ℕ)} {w w' : List ℕ} {f f' : ℕ} {result : Result Unit Failed} (a b : List ℕ) → a ≡ b → PrintsPart h h' w w' f f' result a → PrintsPart h h' w w' f f' result b
-part_as a b same prints = subst (PrintsPart _ _ _ _ _ _ _) same prints
+pub part_as : {s t : SinkState} {w w' : List ℕ} {result : Result Unit Failed} (a b : List ℕ) → a ≡ b → PrintsPart s t w w' result a → PrintsPart s t w w' result b
+part_as a b same prints = subst (PrintsPart _ _ _ _ _) same prints
 
-pub line_as : {h h' : Option (List ℕ)} {w w' : List ℕ} {f f' : ℕ} {result : Result Unit Failed} (a b : List ℕ) → a ≡ b → Prints h h' w w' f f' result a → Prints h h' w w' f f' result b
-line_as a b same prints = subst (Prints _ _ _ _ _ _ _) same prints
+pub line_as : {s t : SinkState} {w w' : List ℕ} {result : Result Unit Failed} (a b : List ℕ) → a ≡ b → Prints s t w w' result a → Prints s t w w' result b
+line_as a b same prints = subst (Prints _ _ _ _ _) same prints
 
 -- nothing was printed yet
-pub part_none : (h : Option (List ℕ)) (w : List ℕ) (f : ℕ) (ok : Unit) → PrintsPart h h w w f f (Ok ok) []
-part_none h w f ok = record { written = Appends-nil (written h w); grows = grows_none h; counted = record { never_falls = omega arith; ok = refl; failed = tt } }
+pub part_none : (s : SinkState) (w : List ℕ) (ok : Unit) → PrintsPart s s w w (Ok ok) []
+part_none s w ok = record { written = Appends-nil (written s.held w); grows = grows_none s.held; counted = record { never_falls = omega arith; ok = refl; failed = tt } }
 
 -- a second text after a first
-pub part_then : {h h' h'' : Option (List ℕ)} {w w' w'' : List ℕ} {f f' f'' : ℕ} {result : Result Unit Failed} {ok : Unit} (a b : List ℕ)
-    → PrintsPart h h' w w' f f' (Ok ok) a → PrintsPart h' h'' w' w'' f' f'' result b → PrintsPart h h'' w w'' f f'' result (a ++ b)
-part_then {h} {h'} {h''} {w} {w'} {w''} {f} {f'} {f''} {result = Ok o} a b first second = record {
-  written = Appends-trans (written h w) (written h' w') (written h'' w'') a b first.written second.written;
-  grows = grows_further h h' h'' first.grows second.grows;
-  counted = subst (λ (n : ℕ). IsCounted {T = Unit} n f'' (Ok o)) first.counted.ok second.counted;
+pub part_then : {s t u : SinkState} {w w' w'' : List ℕ} {result : Result Unit Failed} {ok : Unit} (a b : List ℕ)
+    → PrintsPart s t w w' (Ok ok) a → PrintsPart t u w' w'' result b → PrintsPart s u w w'' result (a ++ b)
+part_then {s} {t} {u} {w} {w'} {w''} {result = Ok o} a b first second = record {
+  written = Appends-trans (written s.held w) (written t.held w') (written u.held w'') a b first.written second.written;
+  grows = grows_further s.held t.held u.held first.grows second.grows;
+  counted = subst (λ (n : ℕ). IsCounted {T = Unit} n u.faults (Ok o)) first.counted.ok second.counted;
 }
-part_then {h} {h'} {h''} {w} {w'} {w''} {f} {f'} {f''} {result = Err e} a b first second = record {
-  written = prefix_after (written h w) (written h' w') (written h'' w'') a b first.written second.written;
-  grows = grows_further h h' h'' first.grows second.grows;
-  counted = subst (λ (n : ℕ). IsCounted {T = Unit} n f'' (Err e)) first.counted.ok second.counted;
+part_then {s} {t} {u} {w} {w'} {w''} {result = Err e} a b first second = record {
+  written = prefix_after (written s.held w) (written t.held w') (written u.held w'') a b first.written second.written;
+  grows = grows_further s.held t.held u.held first.grows second.grows;
+  counted = subst (λ (n : ℕ). IsCounted {T = Unit} n u.faults (Err e)) first.counted.ok second.counted;
 }
 
 -- the first of two texts failed
-pub part_failed : {h h' : Option (List ℕ)} {w w' : List ℕ} {f f' : ℕ} {result : Result Unit Failed} {e : Failed} (a b : List ℕ)
-    → IsErr result → PrintsPart h h' w w' f f' (Err e) a → PrintsPart h h' w w' f f' result (a ++ b)
+pub part_failed : {s t : SinkState} {w w' : List ℕ} {result : Result Unit Failed} {e : Failed} (a b : List ℕ)
+    → IsErr result → PrintsPart s t w w' (Err e) a → PrintsPart s t w w' result (a ++ b)
 part_failed {result = Ok ok} a b err first = absurd cc
-part_failed {h} {h'} {w} {w'} {result = Err e'} a b err first = record {
-  written = prefix_before (written h w) (written h' w') a b first.written;
+part_failed {s} {t} {w} {w'} {result = Err e'} a b err first = record {
+  written = prefix_before (written s.held w) (written t.held w') a b first.written;
   grows = first.grows;
   counted = record { never_falls = first.counted.never_falls; ok = tt; failed = first.counted.failed };
 }

@@ -1,11 +1,12 @@
 -- Lines that are printed one after the other.
-use Rattle.std.proofs.Common.{◌≡◌, ℕ, zero, suc, ◌+◌, ◌-◌, ◌<◌, List, [], ◌∷◌, ◌++◌, length, take, drop, flat_map, get_or, Option, arith, refl, sym, ap, ◌∙◌}
+use Rattle.std.proofs.Common.{◌≡◌, ℕ, zero, suc, ◌+◌, ◌-◌, ◌<◌, List, [], ◌∷◌, ◌++◌, length, take, drop, flat_map, get_or, arith, refl, sym, ap, ◌∙◌}
 use Rattle.std.proofs.lemmas.List.{append-nil}
 use Rattle.std.proofs.lemmas.Grind.{flat_map-append}
 use Rattle.std.proofs.Math.Seq.{split_at}
 use Rattle.std.specs.List.{range_with_len}
 use Rattle.std.specs.Prelude.{IsErr, Result, Ok, Err}
 use Rattle.avtp_base.specs.declared.failed.Failed.{Failed}
+use Rattle.avtp_base.specs.States.{SinkState}
 use Rattle.avtp_text.specs.Written.{PrintsPart}
 use Rattle.avtp_text.proofs.Printing.{part_as, part_failed, part_then}
 
@@ -34,8 +35,8 @@ one_more line j =
     ∙ flat_map-append line (range_with_len 0 j) (j ∷ []) ∙ ap (λ t. flat_map line (range_with_len 0 j) ++ t) (append-nil (line j))
 
 -- the first lines were printed, and the next one failed
-pub lines_failed : {h h' h'' : Option (List ℕ)} {w w' w'' : List ℕ} {f f' f'' : ℕ} {result : Result Unit Failed} {ok : Unit} {e : Failed} (line : ℕ → List ℕ) (n j : ℕ) → j < n → IsErr result
-    → PrintsPart h h' w w' f f' (Ok ok) (flat_map line (range_with_len 0 j)) → PrintsPart h' h'' w' w'' f' f'' (Err e) (line j) → PrintsPart h h'' w w'' f f'' result (flat_map line (range_with_len 0 n))
+pub lines_failed : {s t u : SinkState} {w w' w'' : List ℕ} {result : Result Unit Failed} {ok : Unit} {e : Failed} (line : ℕ → List ℕ) (n j : ℕ) → j < n → IsErr result
+    → PrintsPart s t w w' (Ok ok) (flat_map line (range_with_len 0 j)) → PrintsPart t u w' w'' (Err e) (line j) → PrintsPart s u w w'' result (flat_map line (range_with_len 0 n))
 lines_failed line n j lt err first next =
     let split : flat_map line (range_with_len 0 n) ≡ flat_map line (range_with_len 0 j) ++ (line j ++ flat_map line (range_with_len (j + 1) (n - j - 1))) =
     ap (flat_map line) (numbers n j lt) ∙ flat_map-append line (range_with_len 0 j) (j ∷ range_with_len (j + 1) (n - j - 1)) in
@@ -53,8 +54,8 @@ take_more (x ∷ xs) (suc i) d lt =
 pub one_shown : {X : Type 0} (lines : X → List ℕ) (xs : List X) (i : ℕ) (d : X) → i < length xs → flat_map lines (take (i + 1) xs) ≡ flat_map lines (take i xs) ++ lines (get_or xs i d)
 one_shown lines xs i d lt = ap (flat_map lines) (take_more xs i d lt) ∙ flat_map-append lines (take i xs) (get_or xs i d ∷ []) ∙ ap (λ t. flat_map lines (take i xs) ++ t) (append-nil (lines (get_or xs i d)))
 
-pub shown_failed : {X : Type 0} {h h' h'' : Option (List ℕ)} {w w' w'' : List ℕ} {f f' f'' : ℕ} {result : Result Unit Failed} {ok : Unit} {e : Failed} (lines : X → List ℕ) (xs : List X) (i : ℕ) (d : X) → i < length xs → IsErr result
-    → PrintsPart h h' w w' f f' (Ok ok) (flat_map lines (take i xs)) → PrintsPart h' h'' w' w'' f' f'' (Err e) (lines (get_or xs i d)) → PrintsPart h h'' w w'' f f'' result (flat_map lines xs)
+pub shown_failed : {X : Type 0} {s t u : SinkState} {w w' w'' : List ℕ} {result : Result Unit Failed} {ok : Unit} {e : Failed} (lines : X → List ℕ) (xs : List X) (i : ℕ) (d : X) → i < length xs → IsErr result
+    → PrintsPart s t w w' (Ok ok) (flat_map lines (take i xs)) → PrintsPart t u w' w'' (Err e) (lines (get_or xs i d)) → PrintsPart s u w w'' result (flat_map lines xs)
 shown_failed lines xs i d lt err first next =
     let split : flat_map lines xs ≡ flat_map lines (take i xs) ++ (lines (get_or xs i d) ++ flat_map lines (drop (suc i) xs)) =
     ap (flat_map lines) (split_at xs i d lt) ∙ flat_map-append lines (take i xs) (get_or xs i d ∷ drop (suc i) xs) in

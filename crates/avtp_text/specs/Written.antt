@@ -3,6 +3,7 @@ use Rattle.std.specs.Prelude.{◌≡◌, List, ◌++◌, ℕ, Option, Result, Ma
 use Rattle.avtp_base.specs.Told.{append_known, Appends, Keeps}
 use Rattle.avtp_base.specs.declared.failed.Failed.{Failed}
 use Rattle.avtp_base.specs.Faults.{IsCounted}
+use Rattle.avtp_base.specs.States.{SinkState}
 
 -- all that was written so far: what the sink holds, where it tells that, then what waits
 abbrev pub written : Option (List ℕ) → List ℕ → Option (List ℕ)
@@ -30,13 +31,13 @@ pub record Grows (before now : Option (List ℕ)) : Type 0 where
 
 -- A call printed this text: it was written whole, or where the sink failed nothing of it. What the sink held stays, and a
 -- failure is the sink's.
-pub record Prints (held held' : Option (List ℕ)) (waits waits' : List ℕ) (faults faults' : ℕ) (result : Result Unit Failed) (text : List ℕ) : Type 0 where
-  pub written : Writes (written held waits) (written held' waits') result text
-  pub grows : Grows held held'
-  pub counted : IsCounted faults faults' result
+pub record Prints (before after : SinkState) (waits waits' : List ℕ) (result : Result Unit Failed) (text : List ℕ) : Type 0 where
+  pub written : Writes (written before.held waits) (written after.held waits') result text
+  pub grows : Grows before.held after.held
+  pub counted : IsCounted before.faults after.faults result
 
 -- The same of a text that may be long: where the sink failed, a prefix of it was written.
-pub record PrintsPart (held held' : Option (List ℕ)) (waits waits' : List ℕ) (faults faults' : ℕ) (result : Result Unit Failed) (text : List ℕ) : Type 0 where
-  pub written : WritesPrefix (written held waits) (written held' waits') result text
-  pub grows : Grows held held'
-  pub counted : IsCounted faults faults' result
+pub record PrintsPart (before after : SinkState) (waits waits' : List ℕ) (result : Result Unit Failed) (text : List ℕ) : Type 0 where
+  pub written : WritesPrefix (written before.held waits) (written after.held waits') result text
+  pub grows : Grows before.held after.held
+  pub counted : IsCounted before.faults after.faults result

@@ -35,10 +35,10 @@ impl Model for Text {
 #[tactic(auto, using(crate::proofs::Moved::taken_none, crate::proofs::Moved::taken_more))]
 fn write_out<S: Output>(out: &mut S, bytes: &[u8]) -> usize
     ensures within { result ≤ length bytes.now }
-    ensures taken { Appends (S.held out.old) (S.held out.new) (take result bytes.now) }
-    ensures never_falls { S.faults out.old ≤ S.faults out.new }
-    ensures whole { result ≡ length bytes.now → S.faults out.new ≡ S.faults out.old }
-    ensures failed { result < length bytes.now → Rose (S.faults out.old) (S.faults out.new) }
+    ensures taken { Appends (S.state out.old).held (S.state out.new).held (take result bytes.now) }
+    ensures never_falls { (S.state out.old).faults ≤ (S.state out.new).faults }
+    ensures whole { result ≡ length bytes.now → (S.state out.new).faults ≡ (S.state out.old).faults }
+    ensures failed { result < length bytes.now → Rose (S.state out.old).faults (S.state out.new).faults }
 {
     let mut taken = 0;
     while taken < bytes.len() {
@@ -62,10 +62,10 @@ impl Text {
     /// Writes all that waits to the sink. Where the sink fails, what it has not taken still waits.
     #[tactic(auto, using(crate::proofs::Moved::written_moved, crate::proofs::Growth::grows_by))]
     pub fn flush<S: Output>(&mut self, out: &mut S) -> Result<(), Failed>
-        ensures written { Keeps (written (S.held out.old) self.old) (written (S.held out.new) self.new) }
+        ensures written { Keeps (written (S.state out.old).held self.old) (written (S.state out.new).held self.new) }
         ensures none_waits { OnOk result (self.new ≡ []) }
-        ensures grows { Grows (S.held out.old) (S.held out.new) }
-        ensures counted { IsCounted (S.faults out.old) (S.faults out.new) result }
+        ensures grows { Grows (S.state out.old).held (S.state out.new).held }
+        ensures counted { IsCounted (S.state out.old).faults (S.state out.new).faults result }
     {
         let waiting = self.buffer.waiting().len();
         let taken = write_out(out, self.buffer.waiting());
@@ -80,10 +80,10 @@ impl Text {
     #[tactic(auto, using(crate::proofs::Growth::grows_none))]
     pub(crate) fn make_room<S: Output>(&mut self, out: &mut S, len: usize) -> Result<(), Failed>
         requires { len ≤ ROOM }
-        ensures written { Keeps (written (S.held out.old) self.old) (written (S.held out.new) self.new) }
+        ensures written { Keeps (written (S.state out.old).held self.old) (written (S.state out.new).held self.new) }
         ensures room { OnOk result (length self.new + len ≤ ROOM) }
-        ensures grows { Grows (S.held out.old) (S.held out.new) }
-        ensures counted { IsCounted (S.faults out.old) (S.faults out.new) result }
+        ensures grows { Grows (S.state out.old).held (S.state out.new).held }
+        ensures counted { IsCounted (S.state out.old).faults (S.state out.new).faults result }
     {
         if self.buffer.room() < len {
             return self.flush(out);
@@ -102,7 +102,7 @@ impl Text {
     /// Adds a piece of text of at most [`ROOM`] bytes, whole, or nothing where the sink fails.
     pub fn print<S: Output>(&mut self, out: &mut S, piece: &[u8]) -> Result<(), Failed>
         requires { length piece.now ≤ ROOM }
-        ensures { Prints (S.held out.old) (S.held out.new) self.old self.new (S.faults out.old) (S.faults out.new) result piece.now }
+        ensures { Prints (S.state out.old) (S.state out.new) self.old self.new result piece.now }
     {
         self.make_room(out, piece.len())?;
         self.push(piece);

@@ -89,7 +89,7 @@ impl Text {
         id: u64,
         findings: &Findings,
     ) -> Result<(), Failed>
-        ensures { Prints (S.held out.old) (S.held out.new) self.old self.new (S.faults out.old) (S.faults out.new) result (findings_lines number id findings.now) }
+        ensures { Prints (S.state out.old) (S.state out.new) self.old self.new result (findings_lines number id findings.now) }
     {
         self.make_room(out, FINDINGS)?;
         self.push_findings(number, id, findings);
@@ -104,7 +104,7 @@ impl Text {
         number: u64,
         refusal: Refusal,
     ) -> Result<(), Failed>
-        ensures { Prints (S.held out.old) (S.held out.new) self.old self.new (S.faults out.old) (S.faults out.new) result (malformed_line number refusal) }
+        ensures { Prints (S.state out.old) (S.state out.new) self.old self.new result (malformed_line number refusal) }
     {
         let mut line = Line::new();
         line.prepend_refusal(refusal);
@@ -122,7 +122,7 @@ impl Text {
         streams: u64,
         findings: u64,
     ) -> Result<(), Failed>
-        ensures { Prints (S.held out.old) (S.held out.new) self.old self.new (S.faults out.old) (S.faults out.new) result (end_check_line frames streams findings) }
+        ensures { Prints (S.state out.old) (S.state out.new) self.old self.new result (end_check_line frames streams findings) }
     {
         let mut line = Line::new();
         line.prepend_u64(" findings ", findings);

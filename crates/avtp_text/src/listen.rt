@@ -71,7 +71,7 @@ impl Text {
     /// Adds a text of any length. Where the sink fails, a front of it was added.
     #[tactic(auto, using(crate::proofs::Printing::part_of))]
     fn print_all<S: Output>(&mut self, out: &mut S, text: &[u8]) -> Result<(), Failed>
-        ensures { PrintsPart (S.held out.old) (S.held out.new) self.old self.new (S.faults out.old) (S.faults out.new) result text.now }
+        ensures { PrintsPart (S.state out.old) (S.state out.new) self.old self.new result text.now }
     {
         if text.len() <= ROOM {
             return self.print(out, text);
@@ -83,7 +83,7 @@ impl Text {
 
     /// Adds the hexadecimal digits of bytes, in lower case.
     fn print_hex<S: Output>(&mut self, out: &mut S, bytes: &[u8]) -> Result<(), Failed>
-        ensures { PrintsPart (S.held out.old) (S.held out.new) self.old self.new (S.faults out.old) (S.faults out.new) result (encode_lower bytes.now) }
+        ensures { PrintsPart (S.state out.old) (S.state out.new) self.old self.new result (encode_lower bytes.now) }
     {
         if bytes.len() <= PIECE {
             return self.print_hex_piece(out, bytes);
@@ -95,7 +95,7 @@ impl Text {
 
     fn print_hex_piece<S: Output>(&mut self, out: &mut S, bytes: &[u8]) -> Result<(), Failed>
         requires { length bytes.now ≤ PIECE }
-        ensures { Prints (S.held out.old) (S.held out.new) self.old self.new (S.faults out.old) (S.faults out.new) result (encode_lower bytes.now) }
+        ensures { Prints (S.state out.old) (S.state out.new) self.old self.new result (encode_lower bytes.now) }
     {
         let mut digits = [0; 2 * PIECE];
         let digits = &mut digits[..2 * bytes.len()];
@@ -108,7 +108,7 @@ impl Text {
     /// Says which capture was opened.
     #[tactic(auto, unfolding(crate::specs::Listen::capture_line))]
     pub fn capture<S: Output>(&mut self, out: &mut S, name: &str) -> Result<(), Failed>
-        ensures { PrintsPart (S.held out.old) (S.held out.new) self.old self.new (S.faults out.old) (S.faults out.new) result (capture_line name.now) }
+        ensures { PrintsPart (S.state out.old) (S.state out.new) self.old self.new result (capture_line name.now) }
     {
         self.print(out, b"capture ")?;
         self.print_all(out, name.as_bytes())?;
@@ -124,7 +124,7 @@ impl Text {
         seq: u8,
         reason: Reason,
     ) -> Result<(), Failed>
-        ensures { Prints (S.held out.old) (S.held out.new) self.old self.new (S.faults out.old) (S.faults out.new) result (flag_line frame seq reason) }
+        ensures { Prints (S.state out.old) (S.state out.new) self.old self.new result (flag_line frame seq reason) }
     {
         let mut line = Line::new();
         prepend_reason(&mut line, reason);
@@ -144,7 +144,7 @@ impl Text {
     ) -> Result<(), Failed>
         requires sample { j < batch.now.count }
         requires bytes { bytes.now ≡ sample_bytes batch.now j }
-        ensures { PrintsPart (S.held out.old) (S.held out.new) self.old self.new (S.faults out.old) (S.faults out.new) result (sample_line batch.now j) }
+        ensures { PrintsPart (S.state out.old) (S.state out.new) self.old self.new result (sample_line batch.now j) }
     {
         self.one_sample(out, batch.instant(j), batch.frame, batch.seq, j, bytes)
     }
@@ -160,7 +160,7 @@ impl Text {
         j: u32,
         bytes: &[u8],
     ) -> Result<(), Failed>
-        ensures { PrintsPart (S.held out.old) (S.held out.new) self.old self.new (S.faults out.old) (S.faults out.new) result (due_text instant frame ++ place_text seq j ++ encode_lower bytes.now ++ newline) }
+        ensures { PrintsPart (S.state out.old) (S.state out.new) self.old self.new result (due_text instant frame ++ place_text seq j ++ encode_lower bytes.now ++ newline) }
     {
         if bytes.len() <= SHORT {
             self.short_sample(out, instant, frame, seq, j, bytes)
@@ -180,7 +180,7 @@ impl Text {
         bytes: &[u8],
     ) -> Result<(), Failed>
         requires { length bytes.now ≤ SHORT }
-        ensures { Prints (S.held out.old) (S.held out.new) self.old self.new (S.faults out.old) (S.faults out.new) result (due_text instant frame ++ place_text seq j ++ encode_lower bytes.now ++ newline) }
+        ensures { Prints (S.state out.old) (S.state out.new) self.old self.new result (due_text instant frame ++ place_text seq j ++ encode_lower bytes.now ++ newline) }
     {
         let mut line = Line::new();
         line.prepend_hex(bytes);
@@ -199,7 +199,7 @@ impl Text {
         j: u32,
         bytes: &[u8],
     ) -> Result<(), Failed>
-        ensures { PrintsPart (S.held out.old) (S.held out.new) self.old self.new (S.faults out.old) (S.faults out.new) result (due_text instant frame ++ place_text seq j ++ encode_lower bytes.now ++ newline) }
+        ensures { PrintsPart (S.state out.old) (S.state out.new) self.old self.new result (due_text instant frame ++ place_text seq j ++ encode_lower bytes.now ++ newline) }
     {
         let mut line = Line::blank();
         prepend_place(&mut line, seq, j);
@@ -211,7 +211,7 @@ impl Text {
 
     /// Prints the samples of a batch, one on each line.
     fn batch<S: Output>(&mut self, out: &mut S, batch: &Batch) -> Result<(), Failed>
-        ensures { PrintsPart (S.held out.old) (S.held out.new) self.old self.new (S.faults out.old) (S.faults out.new) result (batch_lines batch.now) }
+        ensures { PrintsPart (S.state out.old) (S.state out.new) self.old self.new result (batch_lines batch.now) }
     {
         let bytes = batch.bytes.as_slice();
         let size = bytes.len() / batch.count as usize;
@@ -224,7 +224,7 @@ impl Text {
 
     /// Prints what a schedule shows: the samples that are presented, and why an item is not.
     pub fn shown<S: Output>(&mut self, out: &mut S, shown: &Shown) -> Result<(), Failed>
-        ensures { PrintsPart (S.held out.old) (S.held out.new) self.old self.new (S.faults out.old) (S.faults out.new) result (shown_lines shown.now) }
+        ensures { PrintsPart (S.state out.old) (S.state out.new) self.old self.new result (shown_lines shown.now) }
     {
         match shown {
             Shown::Present(batch) => self.batch(out, batch),
@@ -234,7 +234,7 @@ impl Text {
 
     /// Prints all that a schedule shows, in its order.
     pub fn shown_list<S: Output>(&mut self, out: &mut S, list: &[Shown]) -> Result<(), Failed>
-        ensures { PrintsPart (S.held out.old) (S.held out.new) self.old self.new (S.faults out.old) (S.faults out.new) result (list_lines list.now) }
+        ensures { PrintsPart (S.state out.old) (S.state out.new) self.old self.new result (list_lines list.now) }
     {
         for shown in list {
             self.shown(out, shown)?;
@@ -245,7 +245,7 @@ impl Text {
     /// Says that a capture ended, and what it held of the stream.
     #[tactic(auto, unfolding(crate::specs::Listen::end_listen_line))]
     pub fn end_listen<S: Output>(&mut self, out: &mut S, counts: &Counts) -> Result<(), Failed>
-        ensures { Prints (S.held out.old) (S.held out.new) self.old self.new (S.faults out.old) (S.faults out.new) result (end_listen_line counts.now) }
+        ensures { Prints (S.state out.old) (S.state out.new) self.old self.new result (end_listen_line counts.now) }
     {
         let mut line = Line::new();
         line.prepend_u64(" flagged ", counts.flagged);

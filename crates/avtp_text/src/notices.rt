@@ -16,7 +16,7 @@ impl Text {
         out: &mut S,
         refusal: Refusal,
     ) -> Result<(), Failed>
-        ensures { Prints (S.held out.old) (S.held out.new) self.old self.new (S.faults out.old) (S.faults out.new) result (capture_refused_line refusal) }
+        ensures { Prints (S.state out.old) (S.state out.new) self.old self.new result (capture_refused_line refusal) }
     {
         let mut line = Line::new();
         line.prepend_refusal(refusal);
@@ -27,7 +27,7 @@ impl Text {
     /// Says that a file could not be read further.
     #[tactic(auto, unfolding(crate::specs::Notices::read_fault_line))]
     pub fn read_fault<S: Output>(&mut self, out: &mut S) -> Result<(), Failed>
-        ensures { Prints (S.held out.old) (S.held out.new) self.old self.new (S.faults out.old) (S.faults out.new) result read_fault_line }
+        ensures { Prints (S.state out.old) (S.state out.new) self.old self.new result read_fault_line }
     {
         self.print(out, b"read fault\n")
     }
@@ -35,7 +35,7 @@ impl Text {
     /// Says that a device failed to take what it was handed.
     #[tactic(auto, unfolding(crate::specs::Notices::device_fault_line))]
     pub fn device_fault<S: Output>(&mut self, out: &mut S) -> Result<(), Failed>
-        ensures { Prints (S.held out.old) (S.held out.new) self.old self.new (S.faults out.old) (S.faults out.new) result device_fault_line }
+        ensures { Prints (S.state out.old) (S.state out.new) self.old self.new result device_fault_line }
     {
         self.print(out, b"device fault\n")
     }
@@ -43,7 +43,7 @@ impl Text {
     /// Says that a file has more than so many bytes.
     #[tactic(auto, unfolding(crate::specs::Notices::limit_line))]
     pub fn limit<S: Output>(&mut self, out: &mut S, bytes: u64) -> Result<(), Failed>
-        ensures { Prints (S.held out.old) (S.held out.new) self.old self.new (S.faults out.old) (S.faults out.new) result (limit_line bytes) }
+        ensures { Prints (S.state out.old) (S.state out.new) self.old self.new result (limit_line bytes) }
     {
         let mut line = Line::new();
         line.prepend_u64("limit ", bytes);
@@ -53,7 +53,7 @@ impl Text {
     /// Says which word of the command line, counted from 1, is the first that cannot stand at its place.
     #[tactic(auto, unfolding(crate::specs::Notices::words_line))]
     pub fn words<S: Output>(&mut self, out: &mut S, place: u64) -> Result<(), Failed>
-        ensures { Prints (S.held out.old) (S.held out.new) self.old self.new (S.faults out.old) (S.faults out.new) result (words_line place) }
+        ensures { Prints (S.state out.old) (S.state out.new) self.old self.new result (words_line place) }
     {
         let mut line = Line::new();
         line.prepend_u64("words: ", place);

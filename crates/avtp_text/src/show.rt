@@ -174,7 +174,7 @@ impl Text {
         arrival: i64,
         refusal: Refusal,
     ) -> Result<(), Failed>
-        ensures { Prints (S.held out.old) (S.held out.new) self.old self.new (S.faults out.old) (S.faults out.new) result (frame_line number arrival (refused_content refusal)) }
+        ensures { Prints (S.state out.old) (S.state out.new) self.old self.new result (frame_line number arrival (refused_content refusal)) }
     {
         let mut line = Line::new();
         line.prepend_refusal(refusal);
@@ -192,7 +192,7 @@ impl Text {
         arrival: i64,
         frame: &FrameView<'_>,
     ) -> Result<(), Failed>
-        ensures { Prints (S.held out.old) (S.held out.new) self.old self.new (S.faults out.old) (S.faults out.new) result (frame_line number arrival (ethertype_content (frame_shape frame.now))) }
+        ensures { Prints (S.state out.old) (S.state out.new) self.old self.new result (frame_line number arrival (ethertype_content (frame_shape frame.now))) }
     {
         let mut line = Line::new();
         line.prepend_u64(" bytes ", frame.payload.len() as u64);
@@ -210,7 +210,7 @@ impl Text {
         arrival: i64,
         subtype: u8,
     ) -> Result<(), Failed>
-        ensures { Prints (S.held out.old) (S.held out.new) self.old self.new (S.faults out.old) (S.faults out.new) result (frame_line number arrival (other_content subtype)) }
+        ensures { Prints (S.state out.old) (S.state out.new) self.old self.new result (frame_line number arrival (other_content subtype)) }
     {
         let mut line = Line::new();
         line.prepend_u32("other ", subtype as u32);
@@ -226,7 +226,7 @@ impl Text {
         arrival: i64,
         view: &AafView<'_>,
     ) -> Result<(), Failed>
-        ensures { Prints (S.held out.old) (S.held out.new) self.old self.new (S.faults out.old) (S.faults out.new) result (frame_line number arrival (aaf_content (aaf_shape view.now))) }
+        ensures { Prints (S.state out.old) (S.state out.new) self.old self.new result (frame_line number arrival (aaf_content (aaf_shape view.now))) }
     {
         let mut line = Line::new();
         prepend_aaf(&mut line, view);
@@ -242,7 +242,7 @@ impl Text {
         arrival: i64,
         view: &IecView<'_>,
     ) -> Result<(), Failed>
-        ensures { Prints (S.held out.old) (S.held out.new) self.old self.new (S.faults out.old) (S.faults out.new) result (frame_line number arrival (iec_content (iec_shape view.now))) }
+        ensures { Prints (S.state out.old) (S.state out.new) self.old self.new result (frame_line number arrival (iec_content (iec_shape view.now))) }
     {
         let mut line = Line::new();
         prepend_iec(&mut line, view);
@@ -258,7 +258,7 @@ impl Text {
         arrival: i64,
         view: &CvfView<'_>,
     ) -> Result<(), Failed>
-        ensures { Prints (S.held out.old) (S.held out.new) self.old self.new (S.faults out.old) (S.faults out.new) result (frame_line number arrival (h264_content (cvf_shape view.now))) }
+        ensures { Prints (S.state out.old) (S.state out.new) self.old self.new result (frame_line number arrival (h264_content (cvf_shape view.now))) }
     {
         let mut line = Line::new();
         prepend_h264(&mut line, view);
@@ -275,7 +275,7 @@ impl Text {
         view: &CrfView<'_>,
     ) -> Result<(), Failed>
         requires { 8 ≤ length view.now.payload.now }
-        ensures { Prints (S.held out.old) (S.held out.new) self.old self.new (S.faults out.old) (S.faults out.new) result (frame_line number arrival (crf_content (crf_shape view.now))) }
+        ensures { Prints (S.state out.old) (S.state out.new) self.old self.new result (frame_line number arrival (crf_content (crf_shape view.now))) }
     {
         let mut line = Line::new();
         prepend_crf(&mut line, view);
@@ -286,7 +286,7 @@ impl Text {
     /// Says that a capture ended after so many records.
     #[tactic(auto, unfolding(crate::specs::Show::end_frames_line))]
     pub fn end_frames<S: Output>(&mut self, out: &mut S, frames: u64) -> Result<(), Failed>
-        ensures { Prints (S.held out.old) (S.held out.new) self.old self.new (S.faults out.old) (S.faults out.new) result (end_frames_line frames) }
+        ensures { Prints (S.state out.old) (S.state out.new) self.old self.new result (end_frames_line frames) }
     {
         let mut line = Line::new();
         line.prepend_u64("end frames ", frames);

@@ -18,7 +18,7 @@ impl Text {
         packets: u32,
         counts: &SoakCounts,
     ) -> Result<(), Failed>
-        ensures { Prints (S.held out.old) (S.held out.new) self.old self.new (S.faults out.old) (S.faults out.new) result (soak_line packets counts.now) }
+        ensures { Prints (S.state out.old) (S.state out.new) self.old self.new result (soak_line packets counts.now) }
     {
         let mut line = Line::new();
         line.prepend_u64(" full ", counts.full);

@@ -29,7 +29,7 @@ impl Text {
     /// Says how many packets of a stream and of its media clock a capture was made of.
     #[tactic(auto, unfolding(crate::specs::Talk::talk_line))]
     pub fn talk<S: Output>(&mut self, out: &mut S, packets: u64, clocks: u64) -> Result<(), Failed>
-        ensures { Prints (S.held out.old) (S.held out.new) self.old self.new (S.faults out.old) (S.faults out.new) result (talk_line packets clocks) }
+        ensures { Prints (S.state out.old) (S.state out.new) self.old self.new result (talk_line packets clocks) }
     {
         let mut line = Line::new();
         line.prepend_u64(" clock ", clocks);
@@ -40,7 +40,7 @@ impl Text {
     /// Says why an input makes no stream.
     #[tactic(auto, unfolding(crate::specs::Talk::talk_input_line))]
     pub fn talk_input<S: Output>(&mut self, out: &mut S, fault: TalkFault) -> Result<(), Failed>
-        ensures { Prints (S.held out.old) (S.held out.new) self.old self.new (S.faults out.old) (S.faults out.new) result (talk_input_line fault) }
+        ensures { Prints (S.state out.old) (S.state out.new) self.old self.new result (talk_input_line fault) }
     {
         let mut line = Line::new();
         prepend_fault(&mut line, fault);

@@ -55,9 +55,7 @@ impl Trickle {
 impl Sink for Trickle {
     ghost use Rattle.std.specs.Prelude.{Some};
 
-    ghost held = { λ sink. Some sink.bytes.items };
-
-    ghost faults = { λ sink. sink.faults };
+    ghost state = { λ sink. record { held = Some sink.bytes.items; faults = sink.faults } };
 
     fn write(&mut self, piece: &[u8]) -> Result<usize, Failed> {
         let count = piece.len().min(self.at_most);

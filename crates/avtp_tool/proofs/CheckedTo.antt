@@ -15,6 +15,7 @@ use Rattle.avtp_text.specs.Listen.{capture_line}
 use Rattle.avtp_text.specs.Written.{AppendsPrefix, written}
 use Rattle.avtp_text.proofs.Printing.{prefix_before}
 use Rattle.avtp_base.specs.Files.{Files}
+use Rattle.avtp_base.specs.States.{SinkState}
 use Rattle.capture_io.specs.declared.end.End.{End}
 use Rattle.capture_io.specs.declared.end.End.TheVariants as end
 use Rattle.capture_io.specs.Ends.{CountsFault}
@@ -89,11 +90,11 @@ none_checked {before = before} {now} name given stands line = record {
 }
 
 -- one record more
-pub one_checked : {limit : ℕ} {name bytes : List ℕ} {remains remains' : Option (List ℕ)} {source source' : Sourcing} {tracker tracker' : List (StreamKey × StreamState)} {frames found n : ℕ} {before : Option (List ℕ)} {h h' : Option (List ℕ)} {w w' : List ℕ} {f f' : ℕ} (r : Record)
-    → (to : IsCheckedTo limit name bytes remains source tracker frames found before (written h w)) → HasGiven limit bytes remains' source' (to.records ++ r ∷ [])
+pub one_checked : {limit : ℕ} {name bytes : List ℕ} {remains remains' : Option (List ℕ)} {source source' : Sourcing} {tracker tracker' : List (StreamKey × StreamState)} {frames found n : ℕ} {before : Option (List ℕ)} {h h' : SinkState} {w w' : List ℕ} (r : Record)
+    → (to : IsCheckedTo limit name bytes remains source tracker frames found before (written h.held w)) → HasGiven limit bytes remains' source' (to.records ++ r ∷ [])
     → ((notes : List Seen) → StandsFor tracker notes → StandsFor tracker' (notes ++ noted (checked_record r.bytes)))
-    → ((notes : List Seen) → StandsFor tracker notes → PrintsFound h h' w w' f f' (Ok n) (found_lines (frames + 1) notes (checked_record r.bytes)))
-    → IsCheckedTo limit name bytes remains' source' tracker' (frames + 1) (found + n) before (written h' w')
+    → ((notes : List Seen) → StandsFor tracker notes → PrintsFound h h' w w' (Ok n) (found_lines (frames + 1) notes (checked_record r.bytes)))
+    → IsCheckedTo limit name bytes remains' source' tracker' (frames + 1) (found + n) before (written h'.held w')
 one_checked {name = name} {tracker' = tracker'} {frames} {found} {n} {before} {h} {h'} {w} {w'} r to given stands prints =
     let records = to.records in
     let here = prints (notes_of records) to.stands in
@@ -109,8 +110,8 @@ one_checked {name = name} {tracker' = tracker'} {frames} {found} {n} {before} {h
       stands = subst (StandsFor tracker') (sym (notes_more records r)) (stands (notes_of records) to.stands);
       counted = simp length-append (omega (arith, count));
       total = omega (arith, more, counted, sum);
-      lines = subst (Appends before (written h' w')) (sym (text_more name records r))
-          (Appends-trans before (written h w) (written h' w') (text_of name records) (joined_lines (check_lines records r)) to.lines (subst (λ (ls : List (List ℕ)). Appends (written h w) (written h' w') (joined_lines ls)) lines here.written));
+      lines = subst (Appends before (written h'.held w')) (sym (text_more name records r))
+          (Appends-trans before (written h.held w) (written h'.held w') (text_of name records) (joined_lines (check_lines records r)) to.lines (subst (λ (ls : List (List ℕ)). Appends (written h.held w) (written h'.held w') (joined_lines ls)) lines here.written));
     }
 
 -- ---- cut short
@@ -133,8 +134,8 @@ checks_failed limit name bytes fault before now (Err e) err prefix = prefix
 
 -- ---- what `check` makes of a file
 
-pub check_told : {h h' : Option (List ℕ)} {w w' : List ℕ} {n n' : ℕ} {result : Result Status Failed} (limit : ℕ) (name bytes : List ℕ) (fault : Type 0) (total : Total) (before : Option (List ℕ)) → HasChecked limit name bytes fault total before (written h w)
-    → EndsWith (check_status total.findings total.end) h h' w w' n n' result (total_line limit total.frames total.streams total.findings total.end) → IsReadAndTold (check_report limit name) HandsNothing limit bytes fault total.end before (written h' w') result
+pub check_told : {h h' : SinkState} {w w' : List ℕ} {result : Result Status Failed} (limit : ℕ) (name bytes : List ℕ) (fault : Type 0) (total : Total) (before : Option (List ℕ)) → HasChecked limit name bytes fault total before (written h.held w)
+    → EndsWith (check_status total.findings total.end) h h' w w' result (total_line limit total.frames total.streams total.findings total.end) → IsReadAndTold (check_report limit name) HandsNothing limit bytes fault total.end before (written h'.held w') result
 check_told limit name bytes fault total before c ends = record {
   records = c.records;
   ends = c.ends;

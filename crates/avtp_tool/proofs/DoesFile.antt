@@ -6,6 +6,7 @@ use Rattle.avtp_base.specs.declared.failed.OpenFault.{OpenFault}
 use Rattle.avtp_base.specs.declared.failed.OpenFault.TheVariants as open_fault
 use Rattle.avtp_base.specs.Faults.{IsOpenCounted, Rose}
 use Rattle.avtp_base.specs.Files.{Files, Slots, IsMissing}
+use Rattle.avtp_base.specs.States.{ShelfState, SinkState}
 use Rattle.pcap_frames.specs.Capture.{Record}
 use Rattle.capture_io.specs.declared.end.End.{End}
 use Rattle.capture_io.specs.Ends.{CountsFault}
@@ -23,15 +24,15 @@ use Rattle.avtp_tool.proofs.Outcomes.{counts_unopened, IsCut, missing_none, tell
 use Rattle.avtp_tool.specs.Yield.{GivesPart}
 
 -- it could not be opened
-pub does_unopened : {T : Type 0} {f g : Option Files} {s t : Slots} {r q w x : ℕ} {a b : List (List ℕ) → Type 0} {h h' : Option (List ℕ)} {l l' : List ℕ} {n n' : ℕ} {result : Result Status Failed} {handed : List Shown → Type 0} (report : Report) (limit : ℕ) (fault : OpenFault) (name : List ℕ)
-    → handed [] → IsOpenCounted {T = T} r q (Err fault) → (IsErrOf {T = T} (Err fault) open_fault.Missing → IsMissing f name) → OnlyReads f g s t r q w x a b (name ∷ []) → EndsUnopened fault h h' l l' n n' result
-    → DoesFile report handed limit name f g s t r q w x a b h h' l l' n n' result
-does_unopened {T} {f} {r = r} {q} {h = h} {h'} {l} {l'} {result = result} report limit fault name none counts missing keeps ends = record {
+pub does_unopened : {T : Type 0} {s t : ShelfState} {h h' : SinkState} {l l' : List ℕ} {result : Result Status Failed} {handed : List Shown → Type 0} (report : Report) (limit : ℕ) (fault : OpenFault) (name : List ℕ)
+    → handed [] → IsOpenCounted {T = T} s.reading_faults t.reading_faults (Err fault) → (IsErrOf {T = T} (Err fault) open_fault.Missing → IsMissing s.files name) → OnlyReads s t (name ∷ []) → EndsUnopened fault h h' l l' result
+    → DoesFile report handed limit name s t h h' l l' result
+does_unopened {T} {s} {t} {h} {h'} {l} {l'} {result = result} report limit fault name none counts missing keeps ends = record {
   tells = λ all told.
-      tells_unopened {T = T} fault r q f name (file_status report limit (all name)) (file_yield report limit (all name)) (yield_telling (written h l) (written h' l') read_fault_line none) (file_here report limit (all name) (Rose r q))
-      (λ cause. file_fault report limit (all name) (Rose r q) (elim cause [ inl rose ↦ inl rose | inr gone ↦ inr (missing_none f name all told gone) ])) counts missing ends;
+      tells_unopened {T = T} fault s.reading_faults t.reading_faults s.files name (file_status report limit (all name)) (file_yield report limit (all name)) (yield_telling (written h.held l) (written h'.held l') read_fault_line none) (file_here report limit (all name) (Rose s.reading_faults t.reading_faults))
+      (λ cause. file_fault report limit (all name) (Rose s.reading_faults t.reading_faults) (elim cause [ inl rose ↦ inl rose | inr gone ↦ inr (missing_none s.files name all told gone) ])) counts missing ends;
   keeps = keeps;
-  counts = counts_unopened {T = T} fault r q f name counts missing ends;
+  counts = counts_unopened {T = T} fault s.reading_faults t.reading_faults s.files name counts missing ends;
   own = unopened_own fault ends;
   sink = ends.sink;
 }
@@ -47,15 +48,15 @@ pub record IsReadAndTold (report : Report) (handed : List Shown → Type 0) (lim
   pub tells : TellsYield (Only (report.status records how) (report.yields records how)) handed before now result
 
 -- it was opened, read, closed and told
-pub does_read : {f g : Option Files} {s t : Slots} {r r' q' q w x : ℕ} {a b : List (List ℕ) → Type 0} {h h' : Option (List ℕ)} {l l' : List ℕ} {n n' : ℕ} {remains : Option (List ℕ)} {source : Sourcing} {handed : List Shown → Type 0} (report : Report) (limit : ℕ) (name : List ℕ) (how : End) (result : Result Status Failed)
-    → IsBegun limit name f remains source → ((bytes : List ℕ) → HasGiven limit bytes remains source [] → IsReadAndTold report handed limit bytes (Rose r' q') how (written h l) (written h' l') result)
-    → r' ≡ r → q ≡ q' → OnlyReads f g s t r q w x a b (name ∷ []) → CountsReading (name ∷ []) f r q result → IsReadingStatus result → KeepsSink h h' n n' result → DoesFile report handed limit name f g s t r q w x a b h h' l l' n n' result
-does_read {f} {r = r} {r'} {q'} {q} report limit name how result begun told first last keeps counts own sink = record {
+pub does_read : {s t : ShelfState} {r' q' : ℕ} {h h' : SinkState} {l l' : List ℕ} {remains : Option (List ℕ)} {source : Sourcing} {handed : List Shown → Type 0} (report : Report) (limit : ℕ) (name : List ℕ) (how : End) (result : Result Status Failed)
+    → IsBegun limit name s.files remains source → ((bytes : List ℕ) → HasGiven limit bytes remains source [] → IsReadAndTold report handed limit bytes (Rose r' q') how (written h.held l) (written h'.held l') result)
+    → r' ≡ s.reading_faults → t.reading_faults ≡ q' → OnlyReads s t (name ∷ []) → CountsReading (name ∷ []) s.files s.reading_faults t.reading_faults result → IsReadingStatus result → KeepsSink h h' result → DoesFile report handed limit name s t h h' l l' result
+does_read {s} {t} {r'} {q'} report limit name how result begun told first last keeps counts own sink = record {
   tells = λ all is.
       let bytes = begun all is in
       let read = told bytes.0 bytes.2 in
-      let weaker = λ (rose : Rose r' q'). subst (λ (n : ℕ). Rose n q) first (subst (λ (n : ℕ). Rose r' n) (sym last) rose) in
-      tells_weaker (file_read report limit bytes.0 (all name) (Rose r' q') (Rose r q) how read.records weaker bytes.1 read.ends) read.tells;
+      let weaker = λ (rose : Rose r' q'). subst (λ (n : ℕ). Rose n t.reading_faults) first (subst (λ (n : ℕ). Rose r' n) (sym last) rose) in
+      tells_weaker (file_read report limit bytes.0 (all name) (Rose r' q') (Rose s.reading_faults t.reading_faults) how read.records weaker bytes.1 read.ends) read.tells;
   keeps = keeps;
   counts = counts;
   own = own;
@@ -69,14 +70,14 @@ counts_read {r} {r'} {q'} {q} how result first last counts make =
     make (subst (λ (n : ℕ). CountsFault None (Some how) n q) first (subst (λ (n : ℕ). CountsFault None (Some how) r' n) (sym last) counts))
 
 -- it was opened and read, and telling it was cut short
-pub does_cut : {f g : Option Files} {s t : Slots} {r q w x : ℕ} {a b : List (List ℕ) → Type 0} {h h' : Option (List ℕ)} {l l' : List ℕ} {n n' : ℕ} {remains : Option (List ℕ)} {source : Sourcing} {handed : List Shown → Type 0} (report : Report) (limit : ℕ) (name : List ℕ) (result : Result Status Failed)
-    → IsBegun limit name f remains source → ((bytes : List ℕ) → HasGiven limit bytes remains source [] → GivesPart handed (written h l) (written h' l') (file_yield report limit (Some bytes))) → IsCut result
-    → OnlyReads f g s t r q w x a b (name ∷ []) → CountsReading (name ∷ []) f r q result → IsReadingStatus result → KeepsSink h h' n n' result → DoesFile report handed limit name f g s t r q w x a b h h' l l' n n' result
-does_cut {f} {r = r} {q} {h = h} {h'} {l} {l'} {handed = handed} report limit name result begun part cut keeps counts own sink = record {
+pub does_cut : {s t : ShelfState} {h h' : SinkState} {l l' : List ℕ} {remains : Option (List ℕ)} {source : Sourcing} {handed : List Shown → Type 0} (report : Report) (limit : ℕ) (name : List ℕ) (result : Result Status Failed)
+    → IsBegun limit name s.files remains source → ((bytes : List ℕ) → HasGiven limit bytes remains source [] → GivesPart handed (written h.held l) (written h'.held l') (file_yield report limit (Some bytes))) → IsCut result
+    → OnlyReads s t (name ∷ []) → CountsReading (name ∷ []) s.files s.reading_faults t.reading_faults result → IsReadingStatus result → KeepsSink h h' result → DoesFile report handed limit name s t h h' l l' result
+does_cut {s} {t} {h} {h'} {l} {l'} {handed = handed} report limit name result begun part cut keeps counts own sink = record {
   tells = λ all is.
       let bytes = begun all is in
-      let given = subst (λ (told : Option (List ℕ)). GivesPart handed (written h l) (written h' l') (file_yield report limit told)) (sym bytes.1) (part bytes.0 bytes.2) in
-      tells_cut (file_status report limit (all name)) (file_yield report limit (all name)) (file_here report limit (all name) (Rose r q)) cut given;
+      let given = subst (λ (told : Option (List ℕ)). GivesPart handed (written h.held l) (written h'.held l') (file_yield report limit told)) (sym bytes.1) (part bytes.0 bytes.2) in
+      tells_cut (file_status report limit (all name)) (file_yield report limit (all name)) (file_here report limit (all name) (Rose s.reading_faults t.reading_faults)) cut given;
   keeps = keeps;
   counts = counts;
   own = own;

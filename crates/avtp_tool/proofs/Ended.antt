@@ -6,13 +6,14 @@ use Rattle.avtp_base.specs.declared.failed.Failed.{Failed}
 use Rattle.avtp_base.specs.Faults.{IsQuiet, Rose}
 use Rattle.avtp_base.specs.Files.{Files, KeepsFiles}
 use Rattle.avtp_base.specs.Told.{Appends}
+use Rattle.avtp_base.specs.States.{Asks, ShelfState, SinkState, WasAsked}
 use Rattle.avtp_text.specs.Written.{AppendsPrefix, written}
 use Rattle.avtp_text.proofs.Printing.{prefix_none, prefix_whole}
 use Rattle.avtp_words.specs.Grammar.{IsCommandLine, output_of, Request, show, check, listen, Listening, talk, soak, Talking}
 use Rattle.avtp_tool.specs.declared.status.Status.{Status}
 use Rattle.avtp_tool.specs.declared.status.Status.TheVariants as status
 use Rattle.avtp_tool.specs.Made.{KeepsFilesBut}
-use Rattle.avtp_tool.specs.Outcome.{Asks, AsksFor, EndsWith, Finishes, TellsRun}
+use Rattle.avtp_tool.specs.Outcome.{AsksFor, EndsWith, Finishes, TellsRun}
 use Rattle.avtp_tool.specs.Run.{is_listening, is_through, IsThrough, MakesFrom, MakesOf}
 use Rattle.avtp_tool.specs.Yield.{Gives, Yield}
 use Rattle.sample_schedule.specs.declared.shown.Shown.{Shown}
@@ -24,7 +25,7 @@ pub quiet_not : (before after : ℕ) → IsQuiet before after → Rose before af
 quiet_not before after quiet rose = omega (arith, quiet, rose)
 
 -- the run ended with a status of its own, so the text is whole
-pub told_whole : {Outcome : List (List ℕ) → Status → Yield → Type 0} {handed : List Shown → Type 0} {a b : List (List ℕ) → Type 0} {before now : Option (List ℕ)} {ended : Result Status Failed} (result : Status) → ended ≡ Ok result → result ≢ status.Memory → result ≢ status.WriteFault
+pub told_whole : {Outcome : List (List ℕ) → Status → Yield → Type 0} {handed : List Shown → Type 0} {a b : ShelfState} {before now : Option (List ℕ)} {ended : Result Status Failed} (result : Status) → ended ≡ Ok result → result ≢ status.Memory → result ≢ status.WriteFault
     → TellsRun Outcome handed a b before now ended → (came : List (List ℕ)) × (yields : Yield) × Outcome came result yields × Gives handed before now yields × Asks came a b
 told_whole {Outcome} {handed} {a} {b} {before} {now} result same memory write tells =
     let t = subst (TellsRun Outcome handed a b before now) same tells in
@@ -32,13 +33,13 @@ told_whole {Outcome} {handed} {a} {b} {before} {now} result same memory write te
     (t.came, t.yields, subst (λ (s : Status). Outcome t.came s t.yields) (sym whole.0) t.outcome, whole.1, whole.2)
 
 -- and so is its last line
-pub ends_whole : {h h' : Option (List ℕ)} {w w' : List ℕ} {f f' : ℕ} {ended : Result Status Failed} {s : Status} {line : List ℕ} (result : Status) → ended ≡ Ok result → EndsWith s h h' w w' f f' ended line
-    → (result ≡ s) × Appends (written h w) (written h' w') line
-ends_whole {h} {h'} {w} {w'} {f} {f'} {ended} {s} {line} result same ends = let e = subst (λ (r : Result Status Failed). EndsWith s h h' w w' f f' r line) same ends in (e.status, e.written)
+pub ends_whole : {h h' : SinkState} {w w' : List ℕ} {ended : Result Status Failed} {s : Status} {line : List ℕ} (result : Status) → ended ≡ Ok result → EndsWith s h h' w w' ended line
+    → (result ≡ s) × Appends (written h.held w) (written h'.held w') line
+ends_whole {h} {h'} {w} {w'} {ended} {s} {line} result same ends = let e = subst (λ (r : Result Status Failed). EndsWith s h h' w w' r line) same ends in (e.status, e.written)
 
-pub ends_prefix : {h h' : Option (List ℕ)} {w w' : List ℕ} {f f' : ℕ} {s : Status} {line : List ℕ} (ended : Result Status Failed) → EndsWith s h h' w w' f f' ended line → AppendsPrefix (written h w) (written h' w') line
-ends_prefix {h} {h'} {w} {w'} {line = line} (Ok r) ends = prefix_whole (written h w) (written h' w') line ends.written
-ends_prefix {h} {h'} {w} {w'} {line = line} (Err e) ends = prefix_none (written h w) (written h' w') line ends.written
+pub ends_prefix : {h h' : SinkState} {w w' : List ℕ} {s : Status} {line : List ℕ} (ended : Result Status Failed) → EndsWith s h h' w w' ended line → AppendsPrefix (written h.held w) (written h'.held w') line
+ends_prefix {h} {h'} {w} {w'} {line = line} (Ok r) ends = prefix_whole (written h.held w) (written h'.held w') line ends.written
+ends_prefix {h} {h'} {w} {w'} {line = line} (Err e) ends = prefix_none (written h.held w) (written h'.held w') line ends.written
 
 -- ---- the status
 
@@ -46,11 +47,11 @@ not_write : (result other : Status) → result ≡ other → other ≢ status.Wr
 not_write result other is differs e = differs (sym is ∙ e)
 
 -- it ended with this status before, where that is no failed write
-pub ended_as : {h h' : Option (List ℕ)} {w w' : List ℕ} {f f' : ℕ} {ended : Result Status Failed} {result : Status} (other : Status) → other ≢ status.WriteFault → Finishes h h' w w' f f' ended result → result ≡ other → ended ≡ Ok other
+pub ended_as : {h h' : SinkState} {w w' : List ℕ} {ended : Result Status Failed} {result : Status} (other : Status) → other ≢ status.WriteFault → Finishes h h' w w' ended result → result ≡ other → ended ≡ Ok other
 ended_as {result = result} other differs finishes is = (finishes.whole (not_write result other is differs)).0 ∙ ap (λ (s : Status). Ok s) is
 
 -- all was done before
-pub through_to : {h h' : Option (List ℕ)} {w w' : List ℕ} {f f' : ℕ} {ended : Result Status Failed} {result : Status} → Finishes h h' w w' f f' ended result → is_through result ≡ true → IsThrough ended
+pub through_to : {h h' : SinkState} {w w' : List ℕ} {ended : Result Status Failed} {result : Status} → Finishes h h' w w' ended result → is_through result ≡ true → IsThrough ended
 through_to {result = result} finishes through =
     let other : result ≢ status.WriteFault = λ e. (let t : false ≡ true = ap is_through (sym e) ∙ through in cc) in
     subst IsThrough (sym (finishes.whole other).0) through
@@ -65,7 +66,7 @@ quiet_if {P} result same fault memory write quiet = subst (λ (r : Result Status
 
 -- ---- words that are no command line
 
-pub offence_ends : {h h' : Option (List ℕ)} {w w' : List ℕ} {f f' : ℕ} {ended : Result Status Failed} {line : List ℕ} (other : Status) → status.Words ≢ other → EndsWith status.Words h h' w w' f f' ended line → ended ≡ Ok other → ⊥
+pub offence_ends : {h h' : SinkState} {w w' : List ℕ} {ended : Result Status Failed} {line : List ℕ} (other : Status) → status.Words ≢ other → EndsWith status.Words h h' w w' ended line → ended ≡ Ok other → ⊥
 offence_ends {ended = ended} other differs ends e = differs (sym (ends_whole other e ends).0)
 
 -- ---- files
@@ -94,11 +95,11 @@ untouched_by request (Some all) g ended result same done write memory makes keep
 
 -- ---- names
 
-pub asks_same : {a b : List (List ℕ) → Type 0} {p q : Type 0} (names : List (List ℕ)) → (q → p) → AsksFor names a b p → AsksFor names a b q
+pub asks_same : {a b : ShelfState} {p q : Type 0} (names : List (List ℕ)) → (q → p) → AsksFor names a b p → AsksFor names a b q
 asks_same names weaker asks = record { count = asks.count; within = asks.within; all = λ done. asks.all (weaker done); asked = asks.asked }
 
-pub asks_nothing : {p : Type 0} (names : List (List ℕ)) (a : List (List ℕ) → Type 0) → (p → ⊥) → AsksFor names a a p
-asks_nothing names a never = record { count = 0; within = omega arith; all = λ done. absurd (never done); asked = λ before stands. subst a (sym (append-nil before)) stands }
+pub asks_nothing : {p : Type 0} (names : List (List ℕ)) (a : ShelfState) → (p → ⊥) → AsksFor names a a p
+asks_nothing names a never = record { count = 0; within = omega arith; all = λ done. absurd (never done); asked = λ before stands. subst (WasAsked a.asked) (sym (append-nil before)) stands }
 
 -- ---- devices
 

@@ -7,6 +7,7 @@ use Rattle.avtp_base.specs.declared.failed.Failed.{Failed}
 use Rattle.avtp_base.specs.Faults.{Rose}
 use Rattle.avtp_base.specs.Files.{Files, Slots}
 use Rattle.avtp_base.specs.Told.{Appends}
+use Rattle.avtp_base.specs.States.{Asks, ShelfState, SinkState}
 use Rattle.avtp_text.specs.Notices.{device_fault_line}
 use Rattle.avtp_text.specs.Written.{written}
 use Rattle.sample_schedule.specs.declared.shown.Shown.{Shown}
@@ -14,7 +15,7 @@ use Rattle.avtp_words.specs.Grammar.{listen, Listening}
 use Rattle.avtp_tool.specs.declared.status.Status.{Status}
 use Rattle.avtp_tool.specs.declared.status.Status.TheVariants as status
 use Rattle.avtp_tool.specs.Listen.{listen_plan}
-use Rattle.avtp_tool.specs.Outcome.{Asks, AsksFor, EndsWith, TellsRun}
+use Rattle.avtp_tool.specs.Outcome.{AsksFor, EndsWith, TellsRun}
 use Rattle.avtp_tool.specs.Reading.{DoesFiles, PlanOutcome, ReadPlan}
 use Rattle.avtp_tool.specs.Run.{device_notice, device_status, IsThrough, ListenOutcome, Runs, TellsDevices}
 use Rattle.avtp_tool.specs.Yield.{Gives, GivesPart, HandsNothing, says, with_more, Yield}
@@ -47,22 +48,22 @@ plain_status true status.Limit plain = (refl, refl)
 plain_status true status.DeviceFault plain = (refl, refl)
 plain_status true status.TalkInput plain = (refl, refl)
 
-plain_tells : {a b : List (List ℕ) → Type 0} {handed : List Shown → Type 0} {before now : Option (List ℕ)} (asked : Listening) (all : Files) (fault : Type 0) (failed : Bool) (result : Result Status Failed) → IsPlain failed result
-    → TellsRun (PlanOutcome (listen_plan asked) all fault) handed a b before now result → TellsRun (ListenOutcome asked all fault failed) handed a b before now result
-plain_tells {a} {b} {handed} {before} {now} asked all fault failed result plain t = record {
-  came = t.came;
-  ended = device_status failed t.ended;
-  yields = with_more t.yields (says (device_notice failed t.ended));
-  outcome = record { heard = t.ended; given = t.yields; reads = t.outcome; status = refl; notice = refl };
-  whole = whole_at result plain t.whole;
-  part = part_before t.yields (says (device_notice failed t.ended)) t.part;
+plain_tells : {s t : ShelfState} {handed : List Shown → Type 0} {before now : Option (List ℕ)} (asked : Listening) (all : Files) (fault : Type 0) (failed : Bool) (result : Result Status Failed) → IsPlain failed result
+    → TellsRun (PlanOutcome (listen_plan asked) all fault) handed s t before now result → TellsRun (ListenOutcome asked all fault failed) handed s t before now result
+plain_tells {s} {t} {handed} {before} {now} asked all fault failed result plain told = record {
+  came = told.came;
+  ended = device_status failed told.ended;
+  yields = with_more told.yields (says (device_notice failed told.ended));
+  outcome = record { heard = told.ended; given = told.yields; reads = told.outcome; status = refl; notice = refl };
+  whole = whole_at result plain told.whole;
+  part = part_before told.yields (says (device_notice failed told.ended)) told.part;
 } where
-  whole_at : (r : Result Status Failed) → IsPlain failed r → IfOk r (λ s. s ≢ status.Memory → s ≢ status.WriteFault → (s ≡ t.ended) × Gives handed before now t.yields × Asks t.came a b)
-      → IfOk r (λ s. s ≢ status.Memory → s ≢ status.WriteFault → (s ≡ device_status failed t.ended) × Gives handed before now (with_more t.yields (says (device_notice failed t.ended))) × Asks t.came a b)
-  whole_at (Ok s) plain whole = λ memory write.
+  whole_at : (r : Result Status Failed) → IsPlain failed r → IfOk r (λ e. e ≢ status.Memory → e ≢ status.WriteFault → (e ≡ told.ended) × Gives handed before now told.yields × Asks told.came s t)
+      → IfOk r (λ e. e ≢ status.Memory → e ≢ status.WriteFault → (e ≡ device_status failed told.ended) × Gives handed before now (with_more told.yields (says (device_notice failed told.ended))) × Asks told.came s t)
+  whole_at (Ok ended) plain whole = λ memory write.
       let w = whole memory write in
-      let is = plain_status failed t.ended (λ e. plain (ap (λ (x : Status). Ok x) w.0 ∙ e)) in
-      let same : with_more t.yields (says (device_notice failed t.ended)) ≡ t.yields = ap (λ (line : List ℕ). with_more t.yields (says line)) is.1 ∙ more_none t.yields in
+      let is = plain_status failed told.ended (λ e. plain (ap (λ (x : Status). Ok x) w.0 ∙ e)) in
+      let same : with_more told.yields (says (device_notice failed told.ended)) ≡ told.yields = ap (λ (line : List ℕ). with_more told.yields (says line)) is.1 ∙ more_none told.yields in
       (w.0 ∙ sym is.0, subst (Gives handed before now) (sym same) w.1, w.2)
   whole_at (Err e) plain whole = tt
 
@@ -71,34 +72,34 @@ plain_tells {a} {b} {handed} {before} {now} asked all fault failed result plain 
 noticed : (failed : Bool) (ended : Status) → failed ≡ true → status.Done ≡ ended → (status.DeviceFault ≡ device_status failed ended) × (device_fault_line ≡ device_notice failed ended)
 noticed failed ended is done = rw (is, sym done) (refl, refl)
 
-module _ {a b : List (List ℕ) → Type 0} {handed : List Shown → Type 0} {before : Option (List ℕ)} {h h' : Option (List ℕ)} {l l' : List ℕ} {n n' : ℕ} (asked : Listening) (all : Files) (fault : Type 0) (failed : Bool) where
-  fault_tells : (result : Result Status Failed) → failed ≡ true → EndsWith status.DeviceFault h h' l l' n n' result device_fault_line
-      → TellsRun (PlanOutcome (listen_plan asked) all fault) handed a b before (written h l) (Ok status.Done) → TellsRun (ListenOutcome asked all fault failed) handed a b before (written h' l') result
-  fault_tells result is last t =
-      let w = t.whole (λ e. cc) (λ e. cc) in
-      let said = noticed failed t.ended is w.0 in
+module _ {s t : ShelfState} {handed : List Shown → Type 0} {before : Option (List ℕ)} {h h' : SinkState} {l l' : List ℕ} (asked : Listening) (all : Files) (fault : Type 0) (failed : Bool) where
+  fault_tells : (result : Result Status Failed) → failed ≡ true → EndsWith status.DeviceFault h h' l l' result device_fault_line
+      → TellsRun (PlanOutcome (listen_plan asked) all fault) handed s t before (written h.held l) (Ok status.Done) → TellsRun (ListenOutcome asked all fault failed) handed s t before (written h'.held l') result
+  fault_tells result is last told =
+      let w = told.whole (λ e. cc) (λ e. cc) in
+      let said = noticed failed told.ended is w.0 in
       record {
-        came = t.came;
-        ended = device_status failed t.ended;
-        yields = with_more t.yields (says (device_notice failed t.ended));
-        outcome = record { heard = t.ended; given = t.yields; reads = t.outcome; status = refl; notice = refl };
+        came = told.came;
+        ended = device_status failed told.ended;
+        yields = with_more told.yields (says (device_notice failed told.ended));
+        outcome = record { heard = told.ended; given = told.yields; reads = told.outcome; status = refl; notice = refl };
         whole = whole_at result last said w.1 w.2;
         part = part_at result last said w.1;
       } where
         Said : Type 0
-        Said = (status.DeviceFault ≡ device_status failed t.ended) × (device_fault_line ≡ device_notice failed t.ended)
+        Said = (status.DeviceFault ≡ device_status failed told.ended) × (device_fault_line ≡ device_notice failed told.ended)
 
-        line_given : Said → Appends (written h l) (written h' l') device_fault_line → Gives HandsNothing (written h l) (written h' l') (says (device_notice failed t.ended))
-        line_given said grown = record { text = subst (Appends (written h l) (written h' l')) said.1 grown; items = refl }
+        line_given : Said → Appends (written h.held l) (written h'.held l') device_fault_line → Gives HandsNothing (written h.held l) (written h'.held l') (says (device_notice failed told.ended))
+        line_given said grown = record { text = subst (Appends (written h.held l) (written h'.held l')) said.1 grown; items = refl }
 
-        whole_at : (r : Result Status Failed) → EndsWith status.DeviceFault h h' l l' n n' r device_fault_line → Said → Gives handed before (written h l) t.yields → Asks t.came a b
-            → IfOk r (λ s. s ≢ status.Memory → s ≢ status.WriteFault → (s ≡ device_status failed t.ended) × Gives handed before (written h' l') (with_more t.yields (says (device_notice failed t.ended))) × Asks t.came a b)
-        whole_at (Ok s) last said given asks = λ memory write. (last.status ∙ said.0, gives_then (joins_text handed) t.yields (says (device_notice failed t.ended)) given (line_given said last.written), asks)
+        whole_at : (r : Result Status Failed) → EndsWith status.DeviceFault h h' l l' r device_fault_line → Said → Gives handed before (written h.held l) told.yields → Asks told.came s t
+            → IfOk r (λ e. e ≢ status.Memory → e ≢ status.WriteFault → (e ≡ device_status failed told.ended) × Gives handed before (written h'.held l') (with_more told.yields (says (device_notice failed told.ended))) × Asks told.came s t)
+        whole_at (Ok ended) last said given asks = λ memory write. (last.status ∙ said.0, gives_then (joins_text handed) told.yields (says (device_notice failed told.ended)) given (line_given said last.written), asks)
         whole_at (Err e) last said given asks = tt
 
-        part_at : (r : Result Status Failed) → EndsWith status.DeviceFault h h' l l' n n' r device_fault_line → Said → Gives handed before (written h l) t.yields → GivesPart handed before (written h' l') (with_more t.yields (says (device_notice failed t.ended)))
-        part_at (Ok s) last said given = part_whole _ (gives_then (joins_text handed) t.yields (says (device_notice failed t.ended)) given (line_given said last.written))
-        part_at (Err e) last said given = part_then (joins_text handed) t.yields (says (device_notice failed t.ended)) given (part_none refl (says (device_notice failed t.ended)) last.written)
+        part_at : (r : Result Status Failed) → EndsWith status.DeviceFault h h' l l' r device_fault_line → Said → Gives handed before (written h.held l) told.yields → GivesPart handed before (written h'.held l') (with_more told.yields (says (device_notice failed told.ended)))
+        part_at (Ok ended) last said given = part_whole _ (gives_then (joins_text handed) told.yields (says (device_notice failed told.ended)) given (line_given said last.written))
+        part_at (Err e) last said given = part_then (joins_text handed) told.yields (says (device_notice failed told.ended)) given (part_none refl (says (device_notice failed told.ended)) last.written)
 
 -- ---- the run
 
@@ -109,13 +110,13 @@ tells_plain asked failed result plain never = record { fault = λ e. absurd (nev
   unfailed true never = absurd (never refl)
   unfailed false never = refl
 
-module _ {f g : Option Files} {s t : Slots} {r r' w w' : ℕ} {a b : List (List ℕ) → Type 0} {h h' : Option (List ℕ)} {l l' : List ℕ} {n n' : ℕ} {handed : List Shown → Type 0} (asked : Listening) (failed : Bool) where
-  pub plain_runs : (read result : Result Status Failed) → read ≡ result → IsPlain failed result → DoesFiles (listen_plan asked) handed f g s t r r' w w' a b h h' l l' n n' read → Runs (listen asked) handed failed f g s t r r' w w' a b h h' l l' n n' result
+module _ {s t : ShelfState} {h h' : SinkState} {l l' : List ℕ} {handed : List Shown → Type 0} (asked : Listening) (failed : Bool) where
+  pub plain_runs : (read result : Result Status Failed) → read ≡ result → IsPlain failed result → DoesFiles (listen_plan asked) handed s t h h' l l' read → Runs (listen asked) handed failed s t h h' l l' result
   plain_runs read result same plain did =
-      let does = subst (DoesFiles (listen_plan asked) handed f g s t r r' w w' a b h h' l l' n n') same did in
+      let does = subst (DoesFiles (listen_plan asked) handed s t h h' l l') same did in
       let never = never_ends result status.DeviceFault refl does.own in
       record {
-        tells = λ all told still. plain_tells asked all (Rose r r') failed result plain (does.tells all told still);
+        tells = λ all told still. plain_tells asked all (Rose s.reading_faults t.reading_faults) failed result plain (does.tells all told still);
         makes = λ all told. does.keeps.files;
         files = does.keeps.files;
         slots = does.keeps.slots;
@@ -123,17 +124,17 @@ module _ {f g : Option Files} {s t : Slots} {r r' w w' : ℕ} {a b : List (List 
         writing = only_read does.keeps.writing (never_ends result status.WriteFault refl does.own);
         no_words = never_ends result status.Words refl does.own;
         devices = tells_plain asked failed result plain never;
-        asks = subst (λ (ns : List (List ℕ)). AsksFor ns a b (IsThrough result)) (sym (append-nil asked.files)) (through_as never (record { count = does.count; within = does.within; all = does.all; asked = does.keeps.asked }));
+        asks = subst (λ (ns : List (List ℕ)). AsksFor ns s t (IsThrough result)) (sym (append-nil asked.files)) (through_as never (record { count = does.count; within = does.within; all = does.all; asked = does.keeps.asked }));
         sink = does.sink;
       }
 
-  pub fault_runs : {h'' : Option (List ℕ)} {l'' : List ℕ} {n'' : ℕ} (read result : Result Status Failed) → read ≡ Ok status.Done → failed ≡ true → EndsWith status.DeviceFault h' h'' l' l'' n' n'' result device_fault_line
-      → DoesFiles (listen_plan asked) handed f g s t r r' w w' a b h h' l l' n n' read → Runs (listen asked) handed failed f g s t r r' w w' a b h h'' l l'' n n'' result
+  pub fault_runs : {h'' : SinkState} {l'' : List ℕ} (read result : Result Status Failed) → read ≡ Ok status.Done → failed ≡ true → EndsWith status.DeviceFault h' h'' l' l'' result device_fault_line
+      → DoesFiles (listen_plan asked) handed s t h h' l l' read → Runs (listen asked) handed failed s t h h'' l l'' result
   fault_runs read result done is last did =
-      let does = subst (DoesFiles (listen_plan asked) handed f g s t r r' w w' a b h h' l l' n n') done did in
-      let still : r' ≡ r = does.counts.quiet (λ e. cc) (λ e. cc) (λ e. cc) in
+      let does = subst (DoesFiles (listen_plan asked) handed s t h h' l l') done did in
+      let still : t.reading_faults ≡ s.reading_faults = does.counts.quiet (λ e. cc) (λ e. cc) (λ e. cc) in
       record {
-        tells = λ all told still. fault_tells asked all (Rose r r') failed result is last (does.tells all told still);
+        tells = λ all told still. fault_tells asked all (Rose s.reading_faults t.reading_faults) failed result is last (does.tells all told still);
         makes = λ all told. does.keeps.files;
         files = does.keeps.files;
         slots = does.keeps.slots;
@@ -141,11 +142,11 @@ module _ {f g : Option Files} {s t : Slots} {r r' w w' : ℕ} {a b : List (List 
         writing = only_read does.keeps.writing (ends_not status.WriteFault (λ x. cc) last);
         no_words = ends_not status.Words (λ x. cc) last;
         devices = record { fault = λ e. (refl, is); quiet = λ listens e. absurd (ends_not status.Done (λ x. cc) last e) };
-        asks = subst (λ (ns : List (List ℕ)). AsksFor ns a b (IsThrough result)) (sym (append-nil asked.files)) (record { count = does.count; within = does.within; all = λ through. does.all refl; asked = does.keeps.asked });
+        asks = subst (λ (ns : List (List ℕ)). AsksFor ns s t (IsThrough result)) (sym (append-nil asked.files)) (record { count = does.count; within = does.within; all = λ through. does.all refl; asked = does.keeps.asked });
         sink = sink_then does.sink last.sink;
       } where
-        quiet_at : (x : Result Status Failed) → r' ≡ r → IfOk x (λ s. s ≢ status.ReadFault → s ≢ status.Memory → s ≢ status.WriteFault → r' ≡ r)
-        quiet_at (Ok s) same = λ fault memory write. same
+        quiet_at : (x : Result Status Failed) → t.reading_faults ≡ s.reading_faults → IfOk x (λ e. e ≢ status.ReadFault → e ≢ status.Memory → e ≢ status.WriteFault → t.reading_faults ≡ s.reading_faults)
+        quiet_at (Ok ended) same = λ fault memory write. same
         quiet_at (Err e) same = tt
 
 pub err_plain : (failed : Bool) (result : Result Status Failed) → IsErr result → IsPlain failed result
@@ -159,9 +160,9 @@ less_is first second less = rw (sym first, sym second) (lt-ltb _ _ less)
 pub more_is : {a b x y : ℕ} → a ≡ x → b ≡ y → b ≤ a → nat_lt x y ≡ true → ⊥
 more_is first second more is = let t : false ≡ true = sym (rw (sym first, sym second) (le-ltb _ _ more)) ∙ is in cc
 
-pub failed_as : {h h' : Option (List ℕ)} {l l' : List ℕ} {n n' : ℕ} {plan : ReadPlan} {f g : Option Files} {s t : Slots} {r r' w w' : ℕ} {a b : List (List ℕ) → Type 0} {handed : List Shown → Type 0} {e : Failed} (result : Result Status Failed) → IsErr result
-    → DoesFiles plan handed f g s t r r' w w' a b h h' l l' n n' (Err e) → DoesFiles plan handed f g s t r r' w w' a b h h' l l' n n' result
-failed_as (Ok s) err does = absurd cc
+pub failed_as : {h h' : SinkState} {l l' : List ℕ} {plan : ReadPlan} {s t : ShelfState} {handed : List Shown → Type 0} {e : Failed} (result : Result Status Failed) → IsErr result
+    → DoesFiles plan handed s t h h' l l' (Err e) → DoesFiles plan handed s t h h' l l' result
+failed_as (Ok ended) err does = absurd cc
 failed_as (Err e') err does = record {
   tells = λ all told still. let to = does.tells all told still in record { came = to.came; ended = to.ended; yields = to.yields; outcome = to.outcome; whole = tt; part = to.part };
   count = does.count;

@@ -5,6 +5,7 @@ use mathlib.Core.List.{IsPrefix}
 use Rattle.std.proofs.lemmas.Grind.{flat_map-append}
 use Rattle.avtp_base.specs.declared.failed.Failed.{Failed}
 use Rattle.avtp_base.specs.Told.{Appends}
+use Rattle.avtp_base.specs.States.{SinkState}
 use Rattle.pcap_frames.specs.Capture.{Record}
 use Rattle.capture_io.specs.Formats.{records_in}
 use Rattle.sample_schedule.specs.declared.shown.Shown.{Shown}
@@ -146,8 +147,8 @@ hears_counted NoMemory listener before after over counted = counted
 abbrev yields_with : List ℕ → List Shown → Yield
 yields_with text items = record { text = text; items = items }
 
-listen_told : {handed : List Shown → Type 0} {h h' : Option (List ℕ)} {w w' : List ℕ} {n n' : ℕ} {result : Result Status Failed} (asked : Listening) (name bytes : List ℕ) (fault : Type 0) (how : End) (counts : Counts) (before : Option (List ℕ)) → HasHeard asked handed name bytes fault how counts before (written h w)
-    → EndsWith (status_of how) h h' w w' n n' result (last_line asked.limit counts how) → IsReadAndTold (listen_report asked name) handed asked.limit bytes fault how before (written h' w') result
+listen_told : {handed : List Shown → Type 0} {h h' : SinkState} {w w' : List ℕ} {result : Result Status Failed} (asked : Listening) (name bytes : List ℕ) (fault : Type 0) (how : End) (counts : Counts) (before : Option (List ℕ)) → HasHeard asked handed name bytes fault how counts before (written h.held w)
+    → EndsWith (status_of how) h h' w w' result (last_line asked.limit counts how) → IsReadAndTold (listen_report asked name) handed asked.limit bytes fault how before (written h'.held w') result
 listen_told asked name bytes fault how counts before heard ends = record {
   records = heard.records;
   ends = heard.ends;
@@ -160,10 +161,10 @@ listen_told asked name bytes fault how counts before heard ends = record {
 pub ended_as : (result : Result Heard Failed) (heard made : Heard) → result ≡ Ok heard → heard ≡ made → result ≡ Ok made
 ended_as result heard made is same = is ∙ ap (λ (h : Heard). Ok h) same
 
-pub told_heard : {handed : List Shown → Type 0} {h h' : Option (List ℕ)} {w w' : List ℕ} {n n' : ℕ} {result : Result Status Failed} (asked : Listening) (name bytes : List ℕ) (fault : Type 0) (how : End) (counts : Counts) (before : Option (List ℕ)) (made : Result Heard Failed) → made ≡ Ok (far.Ended how counts)
-    → HearsRecords asked handed name bytes fault before (written h w) made → EndsWith (status_of how) h h' w w' n n' result (last_line asked.limit counts how) → IsReadAndTold (listen_report asked name) handed asked.limit bytes fault how before (written h' w') result
+pub told_heard : {handed : List Shown → Type 0} {h h' : SinkState} {w w' : List ℕ} {result : Result Status Failed} (asked : Listening) (name bytes : List ℕ) (fault : Type 0) (how : End) (counts : Counts) (before : Option (List ℕ)) (made : Result Heard Failed) → made ≡ Ok (far.Ended how counts)
+    → HearsRecords asked handed name bytes fault before (written h.held w) made → EndsWith (status_of how) h h' w w' result (last_line asked.limit counts how) → IsReadAndTold (listen_report asked name) handed asked.limit bytes fault how before (written h'.held w') result
 told_heard {handed} {h} {w = w} asked name bytes fault how counts before made is heard ends =
-    listen_told asked name bytes fault how counts before (subst (λ (r : Result Heard Failed). HearsRecords asked handed name bytes fault before (written h w) r) is heard) ends
+    listen_told asked name bytes fault how counts before (subst (λ (r : Result Heard Failed). HearsRecords asked handed name bytes fault before (written h.held w) r) is heard) ends
 
 pub cut_heard : {handed : List Shown → Type 0} {before now : Option (List ℕ)} (asked : Listening) (name bytes : List ℕ) (fault : Type 0) (made : Result Heard Failed) → made ≡ Ok far.NoMemory → HearsRecords asked handed name bytes fault before now made → IsCutYield asked handed name bytes before now
 cut_heard {handed} {before} {now} asked name bytes fault made is hears = subst (λ (r : Result Heard Failed). HearsRecords asked handed name bytes fault before now r) is hears

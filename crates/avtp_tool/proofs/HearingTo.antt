@@ -7,6 +7,7 @@ use Rattle.std.proofs.lemmas.List.Sums.{sum_by-cons}
 use Rattle.std.specs.Option.{option_to_list}
 use Rattle.avtp_base.specs.Faults.{Rose}
 use Rattle.avtp_base.specs.Files.{Files, Open, Slots, left_in}
+use Rattle.avtp_base.specs.States.{ShelfState}
 use Rattle.pcap_frames.specs.Capture.{Record}
 use Rattle.capture_io.specs.declared.end.End.{End}
 use Rattle.capture_io.specs.declared.end.End.TheVariants as end
@@ -159,12 +160,12 @@ ended_live (Some file) s o live is = is
 out_same : (old now : ListenState) (records : List Record) → Keeps old now → out now records ≡ out old records
 out_same old now records keeps = rw (keeps.closed, keeps.plan) refl
 
-module _ {f g : Option Files} {s t : Slots} {r q w v : ℕ} {a b : List (List ℕ) → Type 0} {begun source : Sourcing} {first old new : ListenState} {stage : Stage} {items : List Shown} where
+module _ {s t : ShelfState} {begun source : Sourcing} {first old new : ListenState} {stage : Stage} {items : List Shown} where
   -- an item more was shown
   pub shows_item : (x : Shown) → pull_at stage ≡ None → Keeps old new
       → ((records : List Record) (given : ℕ) → StandsFor records given old → Some x ≡ slice_get (out old records) given)
       → ((records : List Record) (given : ℕ) → StandsFor records given old → StandsFor records (given + 1) new)
-      → Shows f g s t r q w v a b begun source first old stage items → Shows f g s t r q w v a b begun source first new stage (items ++ x ∷ [])
+      → Shows s t begun source first old stage items → Shows s t begun source first new stage (items ++ x ∷ [])
   shows_item x going keeps at stands shows = record {
     capture = shows.capture;
     plan = keeps.plan ∙ shows.plan;
@@ -183,7 +184,7 @@ module _ {f g : Option Files} {s t : Slots} {r q w v : ℕ} {a b : List (List �
   -- none was
   pub shows_still : pull_at stage ≡ None → Keeps old new
       → ((records : List Record) (given : ℕ) → StandsFor records given old → StandsFor records (given + 0) new)
-      → Shows f g s t r q w v a b begun source first old stage items → Shows f g s t r q w v a b begun source first new stage items
+      → Shows s t begun source first old stage items → Shows s t begun source first new stage items
   shows_still going keeps stands shows = record {
     capture = shows.capture;
     plan = keeps.plan ∙ shows.plan;
@@ -203,9 +204,9 @@ module _ {f g : Option Files} {s t : Slots} {r q w v : ℕ} {a b : List (List �
   pub shows_all : (how : End) → stage ≡ Showing how → Keeps old new
       → ((records : List Record) (given : ℕ) → StandsFor records given old → None ≡ slice_get (out old records) given)
       → ((records : List Record) (given : ℕ) → StandsFor records given old → StandsFor records (given + 0) new)
-      → Shows f g s t r q w v a b begun source first old stage items → Shows f g s t r q w v a b begun source first new (Ended how) items
+      → Shows s t begun source first old stage items → Shows s t begun source first new (Ended how) items
   shows_all how is keeps at stands showing =
-      let shows = subst (λ (x : Stage). Shows f g s t r q w v a b begun source first old x items) is showing in
+      let shows = subst (λ (x : Stage). Shows s t begun source first old x items) is showing in
       record {
         capture = record { reads = shows.capture.reads; counted = shows.capture.counted };
         plan = keeps.plan ∙ shows.plan;
@@ -248,22 +249,22 @@ end_grows (end.Refused refusal) old new records items going closed plan first = 
 end_grows end.ReadFault old new records items going closed plan first = subst (IsPrefix items) (due_here old records going ∙ ap (λ p. due_of p records) (sym plan) ∙ sym (due_here new records closed)) first
 end_grows end.Limit old new records items going closed plan first = subst (IsPrefix items) (due_here old records going ∙ ap (λ p. due_of p records) (sym plan) ∙ sym (due_here new records closed)) first
 
-module _ {f g h : Option Files} {s t u : Slots} {r q p w v x : ℕ} {a b c : List (List ℕ) → Type 0} {begun old_source source : Sourcing} {first old new : ListenState} {items : List Shown} where
+module _ {s t u : ShelfState} {begun old_source source : Sourcing} {first old new : ListenState} {items : List Shown} where
   -- the reading went on, and the record was taken
-  pub shows_record : (record_ : Record) → old_source.ended ≡ None → GivesNext (left_in t (slot_of old_source)) (left_in u (slot_of source)) q p old_source source None → ReadsSlot g h t u q p v x b c (slot_of old_source) (slot_of source) → held_in source ≡ Some record_
-      → is_closed old ≡ false → is_closed new ≡ false → new.plan ≡ old.plan → ((records : List Record) (given : ℕ) → StandsFor records given old → StandsFor (records ++ record_ ∷ []) given new) → {stage : Stage} → stage ≡ Reading → Shows f g s t r q w v a b begun old_source first old stage items → Shows f h s u r p w x a c begun source first new stage items
+  pub shows_record : (record_ : Record) → old_source.ended ≡ None → GivesNext t u old_source source None → ReadsSlot t u (slot_of old_source) (slot_of source) → held_in source ≡ Some record_
+      → is_closed old ≡ false → is_closed new ≡ false → new.plan ≡ old.plan → ((records : List Record) (given : ℕ) → StandsFor records given old → StandsFor (records ++ record_ ∷ []) given new) → {stage : Stage} → stage ≡ Reading → Shows s t begun old_source first old stage items → Shows s u begun source first new stage items
   shows_record record_ none next reads held going on plan stands reading showing =
-      let shows = subst (λ (y : Stage). Shows f g s t r q w v a b begun old_source first old y items) reading showing in
-      let same : p ≡ q = quiet_next old_source.ended None q p none refl next.counted in
-      subst (λ (y : Stage). Shows f h s u r p w x a c begun source first new y items) (sym reading) (record {
+      let shows = subst (λ (y : Stage). Shows s t begun old_source first old y items) reading showing in
+      let same : u.reading_faults ≡ t.reading_faults = quiet_next old_source.ended None t.reading_faults u.reading_faults none refl next.counted in
+      subst (λ (y : Stage). Shows s u begun source first new y items) (sym reading) (record {
         capture = record { reads = reads_on shows.capture.reads reads; counted = same ∙ shows.capture.counted };
         plan = plan ∙ shows.plan;
         shown = λ limit bytes given begins unclosed.
             let was = shows.shown limit bytes given begins unclosed in
             let more = next.given refl limit bytes was.records was.read in
             let is : more.0 ≡ record_ = some_same (held_in source) more.0 record_ more.1 held in
-            let read = subst (λ (y : Record). HasGiven limit bytes (left_in u (slot_of source)) source (was.records ++ y ∷ [])) is more.2 in
-            let all = given_first limit bytes (left_in u (slot_of source)) source (was.records ++ record_ ∷ []) read in
+            let read = subst (λ (y : Record). HasGiven limit bytes (left_in u.slots (slot_of source)) source (was.records ++ y ∷ [])) is more.2 in
+            let all = given_first limit bytes (left_in u.slots (slot_of source)) source (was.records ++ record_ ∷ []) read in
             record {
               records = was.records ++ record_ ∷ [];
               first = (all.0, sym all.1);
@@ -275,10 +276,10 @@ module _ {f g h : Option Files} {s t u : Slots} {r q p w v x : ℕ} {a b c : Lis
       })
 
   -- the record was not taken, and the listener is as it was
-  pub shows_no_memory : old_source.ended ≡ None → GivesNext (left_in t (slot_of old_source)) (left_in u (slot_of source)) q p old_source source None → ReadsSlot g h t u q p v x b c (slot_of old_source) (slot_of source) → new ≡ old → {stage : Stage} → stage ≡ Reading → Shows f g s t r q w v a b begun old_source first old stage items → Shows f h s u r p w x a c begun source first new NoMemory items
+  pub shows_no_memory : old_source.ended ≡ None → GivesNext t u old_source source None → ReadsSlot t u (slot_of old_source) (slot_of source) → new ≡ old → {stage : Stage} → stage ≡ Reading → Shows s t begun old_source first old stage items → Shows s u begun source first new NoMemory items
   shows_no_memory none next reads same reading showing =
-      let shows = subst (λ (y : Stage). Shows f g s t r q w v a b begun old_source first old y items) reading showing in
-      let quiet : p ≡ q = quiet_next old_source.ended None q p none refl next.counted in
+      let shows = subst (λ (y : Stage). Shows s t begun old_source first old y items) reading showing in
+      let quiet : u.reading_faults ≡ t.reading_faults = quiet_next old_source.ended None t.reading_faults u.reading_faults none refl next.counted in
       record {
         capture = record { reads = reads_on shows.capture.reads reads; counted = quiet ∙ shows.capture.counted };
         plan = ap (λ (l : ListenState). l.plan) same ∙ shows.plan;
@@ -295,20 +296,20 @@ module _ {f g h : Option Files} {s t u : Slots} {r q p w v x : ℕ} {a b c : Lis
       }
 
   -- the reading ended
-  pub shows_end : (how : End) → old_source.ended ≡ None → GivesNext (left_in t (slot_of old_source)) (left_in u (slot_of source)) q p old_source source (Some how) → ReadsSlot g h t u q p v x b c (slot_of old_source) (slot_of source)
-      → is_closed old ≡ false → is_closed new ≡ is_all how → new.plan ≡ old.plan → ((records : List Record) (given : ℕ) → StandsFor records given old → StandsFor records given new) → {stage : Stage} → stage ≡ Reading → Shows f g s t r q w v a b begun old_source first old stage items → Shows f h s u r p w x a c begun source first new (Showing how) items
+  pub shows_end : (how : End) → old_source.ended ≡ None → GivesNext t u old_source source (Some how) → ReadsSlot t u (slot_of old_source) (slot_of source)
+      → is_closed old ≡ false → is_closed new ≡ is_all how → new.plan ≡ old.plan → ((records : List Record) (given : ℕ) → StandsFor records given old → StandsFor records given new) → {stage : Stage} → stage ≡ Reading → Shows s t begun old_source first old stage items → Shows s u begun source first new (Showing how) items
   shows_end how none next reads going closed plan stands reading showing =
-      let shows = subst (λ (y : Stage). Shows f g s t r q w v a b begun old_source first old y items) reading showing in
-      let same : q ≡ r = shows.capture.counted in
+      let shows = subst (λ (y : Stage). Shows s t begun old_source first old y items) reading showing in
+      let same : t.reading_faults ≡ s.reading_faults = shows.capture.counted in
       record {
-        capture = record { reads = reads_on shows.capture.reads reads; counted = subst (λ (n : ℕ). CountsFault None (Some how) n p) same (ended_so old_source.ended how q p none next.counted) };
+        capture = record { reads = reads_on shows.capture.reads reads; counted = subst (λ (n : ℕ). CountsFault None (Some how) n u.reading_faults) same (ended_so old_source.ended how t.reading_faults u.reading_faults none next.counted) };
         plan = plan ∙ shows.plan;
         shown = λ limit bytes given begins unclosed.
             let was = shows.shown limit bytes given begins unclosed in
             record {
               records = was.records;
               first = was.first;
-              read = after_weaker limit bytes (Rose q p) (Rose r p) how was.records (λ rose. subst (λ (n : ℕ). Rose n p) same rose) (next.ends limit bytes was.records was.read);
+              read = after_weaker limit bytes (Rose t.reading_faults u.reading_faults) (Rose s.reading_faults u.reading_faults) how was.records (λ rose. subst (λ (n : ℕ). Rose n u.reading_faults) same rose) (next.ends limit bytes was.records was.read);
               stands = stands was.records (length items) was.stands;
               given = end_grows how old new was.records items going closed plan was.given;
               whole = λ how' is. absurd (let e : Showing how ≡ Ended how' = is in cc);
@@ -317,12 +318,12 @@ module _ {f g h : Option Files} {s t u : Slots} {r q p w v x : ℕ} {a b c : Lis
 
 -- ---- before the first step
 
-pub shows_none : (files : Option Files) (slots : Slots) (reading writing : ℕ) (asked : List (List ℕ) → Type 0) (source : Sourcing) (listener : ListenState) (stage : Stage) → IsSome (slots (slot_of source)) → stage ≡ Reading
-    → Shows files files slots slots reading reading writing writing asked asked source source listener listener stage []
-shows_none files slots reading writing asked source listener stage live is =
-    subst (λ (x : Stage). Shows files files slots slots reading reading writing writing asked asked source source listener listener x []) (sym is)
+pub shows_none : (shelf : ShelfState) (source : Sourcing) (listener : ListenState) (stage : Stage) → IsSome (shelf.slots (slot_of source)) → stage ≡ Reading
+    → Shows shelf shelf source source listener listener stage []
+shows_none shelf source listener stage live is =
+    subst (λ (x : Stage). Shows shelf shelf source source listener listener x []) (sym is)
     (record {
-      capture = record { reads = reads_nothing files slots reading writing asked (slot_of source) live; counted = refl };
+      capture = record { reads = reads_nothing shelf (slot_of source) live; counted = refl };
       plan = refl;
       shown = λ limit bytes given stands unclosed. record {
         records = [];

@@ -3,10 +3,11 @@ use Rattle.std.proofs.Common.{◌≡◌, ℕ, List, [], ◌∷◌, ◌++◌, Opt
 use Rattle.std.specs.Prelude.{◌≢◌, IfOk}
 use Rattle.std.proofs.lemmas.Bool.{cases_Bool}
 use Rattle.avtp_base.specs.declared.failed.Failed.{Failed}
+use Rattle.avtp_base.specs.States.{Asks, ShelfState}
 use Rattle.sample_schedule.specs.declared.shown.Shown.{Shown}
 use Rattle.avtp_tool.specs.declared.status.Status.{Status}
 use Rattle.avtp_tool.specs.declared.status.Status.TheVariants as status
-use Rattle.avtp_tool.specs.Outcome.{Asks, is_done, IsDone, TellsRun, TellsYield}
+use Rattle.avtp_tool.specs.Outcome.{is_done, IsDone, TellsRun, TellsYield}
 use Rattle.avtp_tool.specs.Reading.{InOrder, in_order_read, in_order_status, in_order_yield, joined}
 use Rattle.avtp_tool.specs.Yield.{Gives, says, with_more, Yield}
 use Rattle.avtp_tool.proofs.Yields.{gives_then, Joins, more_more, more_none, part_before, part_then}
@@ -146,7 +147,7 @@ order_here one ends yields here (name ∷ names) =
 -- ---- what a run tells of them
 
 -- the run was stopped in a file
-pub tells_stopped : {a b : List (List ℕ) → Type 0} {before mid now : Option (List ℕ)} {earlier handed all_handed : List Shown → Type 0} {result : Result Status Failed} (one : List ℕ → Status → Yield → Type 0) (ends : List ℕ → Status) (yields : List ℕ → Yield) → ((name : List ℕ) → one name (ends name) (yields name))
+pub tells_stopped : {a b : ShelfState} {before mid now : Option (List ℕ)} {earlier handed all_handed : List Shown → Type 0} {result : Result Status Failed} (one : List ℕ → Status → Yield → Type 0) (ends : List ℕ → Status) (yields : List ℕ → Yield) → ((name : List ℕ) → one name (ends name) (yields name))
     → Joins earlier handed all_handed → (names rest all : List (List ℕ)) (name : List ℕ) (first : Yield) (so_far : Status) → all ≡ names ++ name ∷ rest → is_done so_far ≡ true → InOrder one names names so_far first → Gives earlier before mid first → TellsYield (one name) handed mid now result
     → (IsDone result → ⊥) → Asks (names ++ name ∷ []) a b → TellsRun (InOrder one all) all_handed a b before now result
 unfolding InOrder

@@ -8,28 +8,28 @@ use Rattle.avtp_tool.specs.Made.{CountsWriting}
 use Rattle.avtp_tool.specs.Reading.{ended_in, IsReadingStatus, is_of_reading, ReadsCapture}
 use Rattle.avtp_tool.specs.Status.{status_of}
 use Rattle.avtp_base.specs.Files.{Files, Slots}
+use Rattle.avtp_base.specs.States.{ShelfState}
 use Rattle.capture_io.specs.declared.end.End.{End}
 use Rattle.capture_io.specs.declared.end.End.TheVariants as end
 use Rattle.capture_io.specs.Ends.{CountsFault}
 use Rattle.capture_io.specs.Reads.{ClosesSlot, OnlyReads, OpensSlot, ReadsSlot}
 use Rattle.capture_io.proofs.Leaving.{closes_as, only_reads_closed, opens_then, reads_then}
 
-pub reads_on : {f g h : Option Files} {s t u : Slots} {r r' r'' w w' w'' : ℕ} {a b c : List (List ℕ) → Type 0} {k j i : ℕ} → ReadsSlot f g s t r r' w w' a b k j → ReadsSlot g h t u r' r'' w' w'' b c j i → ReadsSlot f h s u r r'' w w'' a c k i
-reads_on {f} {g} {h} {s} {t} {u} {r} {r'} {r''} {w} {w'} {w''} {a} {b} {c} {k} {j} {i} first second = reads_then f g h s t u r r' r'' w w' w'' a b c k j i first second
+pub reads_on : {s t u : ShelfState} {k j i : ℕ} → ReadsSlot s t k j → ReadsSlot t u j i → ReadsSlot s u k i
+reads_on {s} {t} {u} {k} {j} {i} first second = reads_then s t u k j i first second
 
 -- a file was opened, read and closed
-pub read_through : {f g h i : Option Files} {s t u v : Slots} {r r' r'' q w w' w'' x : ℕ} {a b c d : List (List ℕ) → Type 0} {name : List ℕ} {k j : ℕ}
-    → OpensSlot f g s t r r' w w' a b name k → ReadsSlot g h t u r' r'' w' w'' b c k j → ClosesSlot h i u v r'' q w'' x c d j → OnlyReads f i s v r q w x a d (name ∷ [])
-read_through {f} {g} {h} {i} {s} {t} {u} {v} {r} {r'} {r''} {q} {w} {w'} {w''} {x} {a} {b} {c} {d} {name} {k} {j} opens reads closes =
-    only_reads_closed f h i s u v r r'' q w w'' x a c d name k (opens_then f g h s t u r r' r'' w w' w'' a b c name k j opens reads) (closes_as h i u v r'' q w'' x c d j k reads.slot closes)
+pub read_through : {s t u v : ShelfState} {name : List ℕ} {k j : ℕ}
+    → OpensSlot s t name k → ReadsSlot t u k j → ClosesSlot u v j → OnlyReads s v (name ∷ [])
+read_through {s} {t} {u} {v} {name} {k} {j} opens reads closes = only_reads_closed s u v name k (opens_then s t u name k j opens reads) (closes_as u v j k reads.slot closes)
 
 -- the reading ended
 pub ended_so : (ended : Option End) (how : End) (before after : ℕ) → ended ≡ None → CountsFault ended (Some how) before after → CountsFault None (Some how) before after
 ended_so ended how before after none counts = subst (λ (e : Option End). CountsFault e (Some how) before after) none counts
 
 -- it was read, and what is done with its records was cut short
-pub capture_cut : {f g : Option Files} {s t : Slots} {r r' w w' : ℕ} {a b : List (List ℕ) → Type 0} {k j : ℕ} (how : Option End) → how ≡ None → ReadsSlot f g s t r r' w w' a b k j → r' ≡ r → ReadsCapture f g s t r r' w w' a b k j how
-capture_cut {r = r} {r'} how none reads same = record { reads = reads; counted = subst (λ (h : Option End). CountsFault None h r r') (sym none) same }
+pub capture_cut : {s t : ShelfState} {k j : ℕ} (how : Option End) → how ≡ None → ReadsSlot s t k j → t.reading_faults ≡ s.reading_faults → ReadsCapture s t k j how
+capture_cut {s} {t} how none reads same = record { reads = reads; counted = subst (λ (h : Option End). CountsFault None h s.reading_faults t.reading_faults) (sym none) same }
 
 pub none_ended : {T E : Type 0} (end : T → End) (result : Result T E) → IsErr result → ended_in end result ≡ None
 none_ended end (Ok x) err = absurd cc

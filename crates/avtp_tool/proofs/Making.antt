@@ -6,21 +6,29 @@ use Rattle.avtp_base.specs.declared.failed.OpenFault.{OpenFault}
 use Rattle.avtp_base.specs.declared.failed.OpenFault.TheVariants as open_fault
 use Rattle.avtp_base.specs.Faults.{IsCounted, Rose}
 use Rattle.avtp_base.specs.Files.{Files, Slots, KeepsFiles, PutsFile}
+use Rattle.avtp_base.specs.States.{Asks, ShelfState, WasAsked}
 use Rattle.avtp_base.proofs.Files.{KeepsFiles-refl, KeepsFiles-puts, KeepsFiles-trans}
 use Rattle.capture_io.specs.Writing.{IsWriting, KeepsSlotsBut, MakesPrefix, PutsPrefix, Writing}
 use Rattle.avtp_tool.specs.Made.{CountsWriting, IsWritingPart, KeepsFilesBut, Makes, MakesFile, unmade_as}
-use Rattle.avtp_tool.specs.Outcome.{Asks, AsksFor, is_done, IsDone}
+use Rattle.avtp_tool.specs.Outcome.{AsksFor, is_done, IsDone}
 use Rattle.avtp_tool.specs.Talk.{WritesOnly}
 use Rattle.avtp_tool.specs.declared.status.Status.{Status}
 use Rattle.avtp_tool.specs.declared.status.Status.TheVariants as status
 
 -- ---- names
 
-asks_one : {a b : List (List ℕ) → Type 0} {done : Type 0} (name : List ℕ) → ((names : List (List ℕ)) → a names → b (names ++ name ∷ [])) → AsksFor (name ∷ []) a b done
+pub asks_one : {a b : ShelfState} {done : Type 0} (name : List ℕ) → Asks (name ∷ []) a b → AsksFor (name ∷ []) a b done
 asks_one name asked = record { count = 1; within = omega arith; all = λ d. refl; asked = asked }
 
-asks_none : (a : List (List ℕ) → Type 0) (done : Type 0) (name : List ℕ) → (done → ⊥) → AsksFor (name ∷ []) a a done
-asks_none a done name never = record { count = 0; within = omega arith; all = λ d. absurd (never d); asked = λ before stands. subst a (sym (append-nil before)) stands }
+asks_none : (a : ShelfState) (done : Type 0) (name : List ℕ) → (done → ⊥) → AsksFor (name ∷ []) a a done
+asks_none a done name never = record { count = 0; within = omega arith; all = λ d. absurd (never d); asked = λ before stands. subst (WasAsked a.asked) (sym (append-nil before)) stands }
+
+-- ---- files
+
+pub files_still : (output : Option (List ℕ)) (files : Option Files) → KeepsFilesBut output files files
+files_still None files = KeepsFiles-refl files
+files_still (Some name) None = tt
+files_still (Some name) (Some files) = λ other differs. refl
 
 -- ---- slots
 
@@ -30,8 +38,8 @@ slots_still files slots name = record { same = λ j. refl; left = λ told j diff
 -- ---- a file that was made, or not
 
 -- it was made, and writing it failed
-pub unmade_part : {f g : Option Files} {s t : Slots} {r q w x : ℕ} {a b : List (List ℕ) → Type 0} (name bytes : List ℕ) → PutsPrefix f g name bytes → KeepsSlotsBut f s t name → q ≡ r → w ≤ x → Rose w x
-    → ((names : List (List ℕ)) → a names → b (names ++ name ∷ [])) → MakesFile f g s t r q w x a b name bytes (Err open_fault.Failed)
+pub unmade_part : {s t : ShelfState} (name bytes : List ℕ) → PutsPrefix s.files t.files name bytes → KeepsSlotsBut s.files s.slots t.slots name → t.reading_faults ≡ s.reading_faults → s.writing_faults ≤ t.writing_faults → Rose s.writing_faults t.writing_faults
+    → (Asks (name ∷ []) s t) → MakesFile s t name bytes (Err open_fault.Failed)
 unmade_part name bytes part slots reading falls rose asked = record {
   made = tt;
   part = inr part;
@@ -43,8 +51,8 @@ unmade_part name bytes part slots reading falls rose asked = record {
 }
 
 -- all of it was written
-pub made_all : {f g : Option Files} {s t : Slots} {r q w x : ℕ} {a b : List (List ℕ) → Type 0} (name bytes : List ℕ) (ok : Unit) → PutsFile f g name bytes → KeepsSlotsBut f s t name → q ≡ r → x ≡ w
-    → ((names : List (List ℕ)) → a names → b (names ++ name ∷ [])) → MakesFile f g s t r q w x a b name bytes (Ok ok)
+pub made_all : {s t : ShelfState} (name bytes : List ℕ) (ok : Unit) → PutsFile s.files t.files name bytes → KeepsSlotsBut s.files s.slots t.slots name → t.reading_faults ≡ s.reading_faults → t.writing_faults ≡ s.writing_faults
+    → (Asks (name ∷ []) s t) → MakesFile s t name bytes (Ok ok)
 made_all name bytes ok put slots reading writing asked = record {
   made = put;
   part = tt;
@@ -58,18 +66,18 @@ made_all name bytes ok put slots reading writing asked = record {
 -- ---- the bytes that were written
 
 -- the shelf failed, and a prefix of them was
-pub wrote_part : {f g : Option Files} {s t : Slots} {r q : ℕ} {w : Writing} {name : List ℕ} (bytes prefix rest : List ℕ) (result : Result Unit Failed) → IsErr result → prefix ++ rest ≡ bytes → IsWriting f g s t r q w name prefix
-    → IsWritingPart f g s t r q w name bytes result
+pub wrote_part : {s t : ShelfState} {w : Writing} {name : List ℕ} (bytes prefix rest : List ℕ) (result : Result Unit Failed) → IsErr result → prefix ++ rest ≡ bytes → IsWriting s t w name prefix
+    → IsWritingPart s t w name bytes result
 wrote_part bytes prefix rest (Ok x) err split writing = absurd cc
 wrote_part bytes prefix rest (Err e) err split writing = record { prefix = prefix; rest = rest; split = sym split; whole = tt; writing = writing }
 
 -- no byte more was to be written
-pub wrote_to_end : {f g : Option Files} {s t : Slots} {r q : ℕ} {w : Writing} {name : List ℕ} (bytes prefix : List ℕ) (ok : Unit) → prefix ≡ bytes → IsWriting f g s t r q w name prefix → IsWritingPart f g s t r q w name bytes (Ok ok)
+pub wrote_to_end : {s t : ShelfState} {w : Writing} {name : List ℕ} (bytes prefix : List ℕ) (ok : Unit) → prefix ≡ bytes → IsWriting s t w name prefix → IsWritingPart s t w name bytes (Ok ok)
 wrote_to_end bytes prefix ok is writing = record { prefix = prefix; rest = []; split = sym is ∙ sym (append-nil prefix); whole = refl; writing = writing }
 
 -- all of them
-pub wrote_all : {f g : Option Files} {s t : Slots} {r q : ℕ} {w : Writing} {name bytes : List ℕ} (result : Result Unit Failed) → is_err result ≡ false → IsWritingPart f g s t r q w name bytes result → IsWriting f g s t r q w name bytes
-wrote_all {f} {g} {s} {t} {r} {q} {w} {name} {bytes} (Ok ok) went p = subst (IsWriting f g s t r q w name) (sym (p.split ∙ (ap (λ (l : List ℕ). p.prefix ++ l) p.whole ∙ append-nil p.prefix))) p.writing
+pub wrote_all : {s t : ShelfState} {w : Writing} {name bytes : List ℕ} (result : Result Unit Failed) → is_err result ≡ false → IsWritingPart s t w name bytes result → IsWriting s t w name bytes
+wrote_all {s} {t} {w} {name} {bytes} (Ok ok) went p = subst (IsWriting s t w name) (sym (p.split ∙ (ap (λ (l : List ℕ). p.prefix ++ l) p.whole ∙ append-nil p.prefix))) p.writing
 wrote_all (Err e) went p = absurd cc
 
 pub still_counted : (result : Result Unit Failed) (before after : ℕ) → is_err result ≡ false → IsCounted before after result → after ≡ before
@@ -121,30 +129,26 @@ makes_after {a} {b} {c} {name} {bytes} {result} keeps m = record {
 -- ---- all else that a run leaves
 
 -- the run never came to the file
-pub writes_none : {f : Option Files} {s : Slots} {r w : ℕ} {a : List (List ℕ) → Type 0} (name : List ℕ) (result : Result Status Failed) → (IsDone result → ⊥) → (result ≡ Ok status.WriteFault → ⊥) → WritesOnly f f s s r r w w a a name result
-writes_none {f} {s} {r} {w} {a} name result not_done not_failed = record {
-  files = still f;
-  slots = slots_still f s name;
+pub writes_none : {s : ShelfState} (name : List ℕ) (result : Result Status Failed) → (IsDone result → ⊥) → (result ≡ Ok status.WriteFault → ⊥) → WritesOnly s s name result
+writes_none {s} name result not_done not_failed = record {
+  files = files_still (Some name) s.files;
+  slots = slots_still s.files s.slots name;
   reading = refl;
   writing = record { never_falls = omega arith; failed = λ e. absurd (not_failed e); other = λ e. refl; unwritten = λ e. absurd cc };
-  asked = asks_none a _ name not_done;
+  asked = asks_none s _ name not_done;
   came = never result not_done;
 } where
-  still : (files : Option Files) → KeepsFilesBut (Some name) files files
-  still None = tt
-  still (Some files) = λ other differs. refl
-
-  never : (x : Result Status Failed) → (IsDone x → ⊥) → IfOk x (λ s. s ≢ status.Memory → s ≢ status.WriteFault → Asks (if is_done s then name ∷ [] else []) a a)
-  never (Ok s) other = elim (is_done s) as (λ b. is_done s ≡ b → s ≢ status.Memory → s ≢ status.WriteFault → Asks (if b then name ∷ [] else []) a a) [
+  never : (x : Result Status Failed) → (IsDone x → ⊥) → IfOk x (λ e. e ≢ status.Memory → e ≢ status.WriteFault → Asks (if is_done e then name ∷ [] else []) s s)
+  never (Ok e) other = elim (is_done e) as (λ b. is_done e ≡ b → e ≢ status.Memory → e ≢ status.WriteFault → Asks (if b then name ∷ [] else []) s s) [
     | true ↦ λ is. absurd (other is)
-    | false ↦ λ is memory write before stands. subst a (sym (append-nil before)) stands
+    | false ↦ λ is memory write before stands. subst (WasAsked s.asked) (sym (append-nil before)) stands
   ] refl
   never (Err e) other = tt
 
 -- it came to the file, and all else is as it was
-pub writes_made : {f g : Option Files} {s t : Slots} {r q w x : ℕ} {a b : List (List ℕ) → Type 0} {bytes : List ℕ} (name : List ℕ) (made : Result Unit OpenFault) (result : Result Status Failed) → MakesFile f g s t r q w x a b name bytes made
-    → KeepsFilesBut (Some name) f g → CountsWriting (Some name) w x result → (IsDone result → IsOk made) → IfOk result (λ s. (s ≡ status.Memory) ⊎ ((s ≡ status.WriteFault) ⊎ (s ≡ status.Done))) → WritesOnly f g s t r q w x a b name result
-writes_made {a = a} {b} name made result makes files writing done ends = record {
+pub writes_made : {s t : ShelfState} {bytes : List ℕ} (name : List ℕ) (made : Result Unit OpenFault) (result : Result Status Failed) → MakesFile s t name bytes made
+    → KeepsFilesBut (Some name) s.files t.files → CountsWriting (Some name) s.writing_faults t.writing_faults result → (IsDone result → IsOk made) → IfOk result (λ e. (e ≡ status.Memory) ⊎ ((e ≡ status.WriteFault) ⊎ (e ≡ status.Done))) → WritesOnly s t name result
+writes_made {s = s} {t} name made result makes files writing done ends = record {
   files = files;
   slots = makes.slots;
   reading = makes.reading;
@@ -152,11 +156,11 @@ writes_made {a = a} {b} name made result makes files writing done ends = record 
   asked = record { count = makes.asked.count; within = makes.asked.within; all = λ d. makes.asked.all (done d); asked = makes.asked.asked };
   came = by_status result done ends;
 } where
-  asked_one : (count : ℕ) → count ≡ 1 → Asks (take count (name ∷ [])) a b → Asks (name ∷ []) a b
-  asked_one count is asks = subst (λ (n : ℕ). Asks (take n (name ∷ [])) a b) is asks
+  asked_one : (count : ℕ) → count ≡ 1 → Asks (take count (name ∷ [])) s t → Asks (name ∷ []) s t
+  asked_one count is asks = subst (λ (n : ℕ). Asks (take n (name ∷ [])) s t) is asks
 
-  by_status : (x : Result Status Failed) → (IsDone x → IsOk made) → IfOk x (λ s. (s ≡ status.Memory) ⊎ ((s ≡ status.WriteFault) ⊎ (s ≡ status.Done))) → IfOk x (λ s. s ≢ status.Memory → s ≢ status.WriteFault → Asks (if is_done s then name ∷ [] else []) a b)
-  by_status (Ok s) done (inl is) = λ memory. absurd (memory is)
-  by_status (Ok s) done (inr (inl is)) = λ memory write. absurd (write is)
-  by_status (Ok s) done (inr (inr is)) = λ memory write. rw is (asked_one makes.asked.count (makes.asked.all (done (rw is refl))) makes.asked.asked)
+  by_status : (x : Result Status Failed) → (IsDone x → IsOk made) → IfOk x (λ e. (e ≡ status.Memory) ⊎ ((e ≡ status.WriteFault) ⊎ (e ≡ status.Done))) → IfOk x (λ e. e ≢ status.Memory → e ≢ status.WriteFault → Asks (if is_done e then name ∷ [] else []) s t)
+  by_status (Ok ended) done (inl is) = λ memory. absurd (memory is)
+  by_status (Ok ended) done (inr (inl is)) = λ memory write. absurd (write is)
+  by_status (Ok ended) done (inr (inr is)) = λ memory write. rw is (asked_one makes.asked.count (makes.asked.all (done (rw is refl))) makes.asked.asked)
   by_status (Err e) done ends = tt

@@ -8,6 +8,7 @@ use Rattle.avtp_base.specs.Faults.{IsCounted, IsOpenCounted, Rose}
 use Rattle.avtp_base.specs.Files.{Files, IsMissing}
 use Rattle.avtp_text.specs.Notices.{read_fault_line}
 use Rattle.avtp_base.specs.Told.{Appends, Keeps}
+use Rattle.avtp_base.specs.States.{SinkState}
 use Rattle.avtp_base.proofs.Told.{Appends-trans, Appends-kept}
 use Rattle.avtp_text.specs.Written.{AppendsPrefix, Prints, PrintsPart, written}
 use Rattle.avtp_text.proofs.Growth.{grows_further, grows_none}
@@ -28,39 +29,39 @@ use Rattle.std.proofs.lemmas.List.{append-nil}
 
 -- ---- the sink
 
-pub sink_still : {T : Type 0} (held : Option (List ℕ)) (faults : ℕ) (x : T) → KeepsSink held held faults faults (Ok x)
-sink_still held faults x = record { grows = grows_none held; counted = record { never_falls = omega arith; ok = refl; failed = tt } }
+pub sink_still : {T : Type 0} (s : SinkState) (x : T) → KeepsSink s s (Ok x)
+sink_still s x = record { grows = grows_none s.held; counted = record { never_falls = omega arith; ok = refl; failed = tt } }
 
-pub sink_then : {T U : Type 0} {h h' h'' : Option (List ℕ)} {f f' f'' : ℕ} {x : T} {result : Result U Failed} → KeepsSink h h' f f' (Ok x) → KeepsSink h' h'' f' f'' result → KeepsSink h h'' f f'' result
-sink_then {U = U} {h} {h'} {h''} {f} {f'} {f''} {x} {result} first second = record {
-  grows = grows_further h h' h'' first.grows second.grows;
-  counted = subst (λ (n : ℕ). IsCounted {T = U} n f'' result) first.counted.ok second.counted;
+pub sink_then : {T U : Type 0} {h h' h'' : SinkState} {x : T} {result : Result U Failed} → KeepsSink h h' (Ok x) → KeepsSink h' h'' result → KeepsSink h h'' result
+sink_then {U = U} {h} {h'} {h''} {x} {result} first second = record {
+  grows = grows_further h.held h'.held h''.held first.grows second.grows;
+  counted = subst (λ (n : ℕ). IsCounted {T = U} n h''.faults result) first.counted.ok second.counted;
 }
 
 -- a failure is a failure whatever was to be answered
-pub sink_failed : {T U : Type 0} {h h' : Option (List ℕ)} {f f' : ℕ} {e : Failed} {result : Result U Failed} → IsErr result → KeepsSink {T = T} h h' f f' (Err e) → KeepsSink h h' f f' result
+pub sink_failed : {T U : Type 0} {h h' : SinkState} {e : Failed} {result : Result U Failed} → IsErr result → KeepsSink {T = T} h h' (Err e) → KeepsSink h h' result
 sink_failed {result = Ok x} err first = absurd cc
 sink_failed {result = Err e'} err first = record { grows = first.grows; counted = record { never_falls = first.counted.never_falls; ok = tt; failed = first.counted.failed } }
 
-pub sink_err : {T U : Type 0} {h h' : Option (List ℕ)} {f f' : ℕ} {e : Failed} → KeepsSink {T = T} h h' f f' (Err e) → KeepsSink {T = U} h h' f f' (Err e)
+pub sink_err : {T U : Type 0} {h h' : SinkState} {e : Failed} → KeepsSink {T = T} h h' (Err e) → KeepsSink {T = U} h h' (Err e)
 sink_err kept = record { grows = kept.grows; counted = record { never_falls = kept.counted.never_falls; ok = tt; failed = kept.counted.failed } }
 
-pub sink_printed : {h h' : Option (List ℕ)} {w w' : List ℕ} {f f' : ℕ} {result : Result Unit Failed} {text : List ℕ} → Prints h h' w w' f f' result text → KeepsSink h h' f f' result
+pub sink_printed : {h h' : SinkState} {w w' : List ℕ} {result : Result Unit Failed} {text : List ℕ} → Prints h h' w w' result text → KeepsSink h h' result
 sink_printed prints = record { grows = prints.grows; counted = prints.counted }
 
-pub sink_part : {h h' : Option (List ℕ)} {w w' : List ℕ} {f f' : ℕ} {result : Result Unit Failed} {text : List ℕ} → PrintsPart h h' w w' f f' result text → KeepsSink h h' f f' result
+pub sink_part : {h h' : SinkState} {w w' : List ℕ} {result : Result Unit Failed} {text : List ℕ} → PrintsPart h h' w w' result text → KeepsSink h h' result
 sink_part prints = record { grows = prints.grows; counted = prints.counted }
 
 -- an answer of another value
-pub sink_ok : {T U : Type 0} {h h' : Option (List ℕ)} {f f' : ℕ} {x : T} (y : U) → KeepsSink h h' f f' (Ok x) → KeepsSink h h' f f' (Ok y)
+pub sink_ok : {T U : Type 0} {h h' : SinkState} {x : T} (y : U) → KeepsSink h h' (Ok x) → KeepsSink h h' (Ok y)
 sink_ok y first = record { grows = first.grows; counted = record { never_falls = first.counted.never_falls; ok = first.counted.ok; failed = tt } }
 
 -- ---- the last line
 
-pub ends_printed : {h h' : Option (List ℕ)} {w w' : List ℕ} {f f' : ℕ} {ok : Unit} {line : List ℕ} (ended : Status) → Prints h h' w w' f f' (Ok ok) line → EndsWith ended h h' w w' f f' (Ok ended) line
+pub ends_printed : {h h' : SinkState} {w w' : List ℕ} {ok : Unit} {line : List ℕ} (ended : Status) → Prints h h' w w' (Ok ok) line → EndsWith ended h h' w w' (Ok ended) line
 ends_printed ended prints = record { status = refl; written = prints.written; sink = sink_ok ended (sink_printed prints) }
 
-pub ends_failed : {h h' : Option (List ℕ)} {w w' : List ℕ} {f f' : ℕ} {e : Failed} {line : List ℕ} {result : Result Status Failed} (ended : Status) → IsErr result → Prints h h' w w' f f' (Err e) line → EndsWith ended h h' w w' f f' result line
+pub ends_failed : {h h' : SinkState} {w w' : List ℕ} {e : Failed} {line : List ℕ} {result : Result Status Failed} (ended : Status) → IsErr result → Prints h h' w w' (Err e) line → EndsWith ended h h' w w' result line
 ends_failed {result = Ok s} ended err prints = absurd cc
 ends_failed {result = Err e'} ended err prints = record { status = tt; written = prints.written; sink = sink_failed err (sink_printed prints) }
 
@@ -93,22 +94,22 @@ pub yield_telling : {handed : List Shown → Type 0} (before now : Option (List 
 yield_telling before now line none = record { says = λ grown. record { text = grown; items = none }; none = part_none none; part = part_whole }
 
 -- the last line alone
-pub tells_last : {Y : Type 0} {Outcome : Status → Y → Type 0} {Whole Part : Y → Type 0} {h h' : Option (List ℕ)} {w w' : List ℕ} {f f' : ℕ} {result : Result Status Failed} {ended : Status} {line : List ℕ} {one : Y}
-    → Telling Whole Part (written h w) (written h' w') line one → Outcome ended one → EndsWith ended h h' w w' f f' result line → Tells Outcome Whole Part result
+pub tells_last : {Y : Type 0} {Outcome : Status → Y → Type 0} {Whole Part : Y → Type 0} {h h' : SinkState} {w w' : List ℕ} {result : Result Status Failed} {ended : Status} {line : List ℕ} {one : Y}
+    → Telling Whole Part (written h.held w) (written h'.held w') line one → Outcome ended one → EndsWith ended h h' w w' result line → Tells Outcome Whole Part result
 tells_last {result = Ok s} {ended} {one = one} telling outcome last = record { ended = ended; yields = one; outcome = outcome; whole = λ memory write. (last.status, telling.says last.written); part = telling.part one (telling.says last.written) }
 tells_last {result = Err e} {ended} {one = one} telling outcome last = record { ended = ended; yields = one; outcome = outcome; whole = tt; part = telling.none one last.written }
 
-pub tells_line : {Outcome : Status → List ℕ → Type 0} {h h' : Option (List ℕ)} {w w' : List ℕ} {f f' : ℕ} {result : Result Status Failed} {ended : Status} {line : List ℕ}
-    → Outcome ended line → EndsWith ended h h' w w' f f' result line → TellsText Outcome (written h w) (written h' w') result
-tells_line {h = h} {h'} {w} {w'} {line = line} outcome last = tells_last (text_telling (written h w) (written h' w') line) outcome last
+pub tells_line : {Outcome : Status → List ℕ → Type 0} {h h' : SinkState} {w w' : List ℕ} {result : Result Status Failed} {ended : Status} {line : List ℕ}
+    → Outcome ended line → EndsWith ended h h' w w' result line → TellsText Outcome (written h.held w) (written h'.held w') result
+tells_line {h = h} {h'} {w} {w'} {line = line} outcome last = tells_last (text_telling (written h.held w) (written h'.held w') line) outcome last
 
 -- a text was printed, the items of it handed on, and a last line printed after it
-pub tells_end : {Outcome : Status → Yield → Type 0} {handed : List Shown → Type 0} {before : Option (List ℕ)} {h h' : Option (List ℕ)} {w w' : List ℕ} {f f' : ℕ} {result : Result Status Failed} {ended : Status} {line : List ℕ} (text : List ℕ) (items : List Shown)
-    → Outcome ended (record { text = text ++ line; items = items }) → Appends before (written h w) text → handed items → EndsWith ended h h' w w' f f' result line → TellsYield Outcome handed before (written h' w') result
+pub tells_end : {Outcome : Status → Yield → Type 0} {handed : List Shown → Type 0} {before : Option (List ℕ)} {h h' : SinkState} {w w' : List ℕ} {result : Result Status Failed} {ended : Status} {line : List ℕ} (text : List ℕ) (items : List Shown)
+    → Outcome ended (record { text = text ++ line; items = items }) → Appends before (written h.held w) text → handed items → EndsWith ended h h' w w' result line → TellsYield Outcome handed before (written h'.held w') result
 tells_end {handed = handed} {before} {h} {h'} {w} {w'} {result = Ok s} {ended} {line} text items outcome first hands last =
-    let all = Appends-trans before (written h w) (written h' w') text line first last.written in
+    let all = Appends-trans before (written h.held w) (written h'.held w') text line first last.written in
     let yields : Yield = record { text = text ++ line; items = items } in
-    let given : Gives handed before (written h' w') yields = record { text = all; items = hands } in
+    let given : Gives handed before (written h'.held w') yields = record { text = all; items = hands } in
     record { ended = ended; yields = yields; outcome = outcome; whole = λ memory write. (last.status, given); part = part_whole yields given }
 tells_end {handed = handed} {before} {h} {h'} {w} {w'} {result = Err e} {ended} {line} text items outcome first hands last =
     record {
@@ -117,7 +118,7 @@ tells_end {handed = handed} {before} {h} {h'} {w} {w'} {result = Err e} {ended} 
       outcome = outcome;
       whole = tt;
       part = record {
-        text = record { prefix = text; rest = line; split = refl; appends = Appends-kept before (written h w) (written h' w') text first last.written };
+        text = record { prefix = text; rest = line; split = refl; appends = Appends-kept before (written h.held w) (written h'.held w') text first last.written };
         front = items;
         first = ([], append-nil items);
         items = hands;
@@ -151,10 +152,10 @@ pub missing_none : (files : Option Files) (name : List ℕ) (all : Files) → fi
 missing_none None name all told missing = absurd missing
 missing_none (Some files) name all told missing = let same : files ≡ all = cc in subst (λ (m : Files). m name ≡ None) same missing
 
-pub tells_unopened : {T Y : Type 0} {Outcome : Status → Y → Type 0} {Whole Part : Y → Type 0} {h h' : Option (List ℕ)} {w w' : List ℕ} {f f' : ℕ} {result : Result Status Failed} {one : Y} (fault : OpenFault) (before after : ℕ) (files : Option Files) (name : List ℕ) (ended : Status) (yields : Y)
-    → Telling Whole Part (written h w) (written h' w') read_fault_line one → Outcome ended yields → (Unopened before after files name → Outcome status.ReadFault one)
+pub tells_unopened : {T Y : Type 0} {Outcome : Status → Y → Type 0} {Whole Part : Y → Type 0} {h h' : SinkState} {w w' : List ℕ} {result : Result Status Failed} {one : Y} (fault : OpenFault) (before after : ℕ) (files : Option Files) (name : List ℕ) (ended : Status) (yields : Y)
+    → Telling Whole Part (written h.held w) (written h'.held w') read_fault_line one → Outcome ended yields → (Unopened before after files name → Outcome status.ReadFault one)
     → IsOpenCounted {T = T} before after (Err fault) → (IsErrOf {T = T} (Err fault) open_fault.Missing → IsMissing files name)
-    → EndsUnopened fault h h' w w' f f' result → Tells Outcome Whole Part result
+    → EndsUnopened fault h h' w w' result → Tells Outcome Whole Part result
 tells_unopened {result = result} fault before after files name ended yields telling outcome other counts missing ends =
     elim (memory_or fault) [
       | inl is ↦ let left = ends.memory is in tells_cut ended yields outcome (subst IsCut (sym left.0) (inl refl)) (telling.none yields left.1)
@@ -191,9 +192,9 @@ counts_memory (Err e) falls is = absurd cc
 pub counts_failed : {before after : ℕ} {names : List (List ℕ)} {files : Option Files} (e : Failed) → before ≤ after → CountsReading names files before after (Err e)
 counts_failed e falls = record { never_falls = falls; fault = λ same. absurd cc; quiet = tt }
 
-pub counts_unopened : {T : Type 0} {h h' : Option (List ℕ)} {w w' : List ℕ} {f f' : ℕ} {result : Result Status Failed} (fault : OpenFault) (before after : ℕ) (files : Option Files) (name : List ℕ)
+pub counts_unopened : {T : Type 0} {h h' : SinkState} {w w' : List ℕ} {result : Result Status Failed} (fault : OpenFault) (before after : ℕ) (files : Option Files) (name : List ℕ)
     → IsOpenCounted {T = T} before after (Err fault) → (IsErrOf {T = T} (Err fault) open_fault.Missing → IsMissing files name)
-    → EndsUnopened fault h h' w w' f f' result → CountsReading (name ∷ []) files before after result
+    → EndsUnopened fault h h' w w' result → CountsReading (name ∷ []) files before after result
 counts_unopened {result = result} fault before after files name counts missing ends =
     elim (memory_or fault) [
       | inl is ↦ counts_memory result counts.never_falls (ends.memory is).0
@@ -225,7 +226,7 @@ counts_ended end.Limit (Ok s) falls counts is = record {
   fault = λ e. absurd (elim is [ inl m ↦ (let t : status.ReadFault ≡ status.Memory = sym (ok_same (Ok s) s status.ReadFault refl e) ∙ m in cc) | inr f ↦ (let t : status.ReadFault ≡ status.Limit = sym (ok_same (Ok s) s status.ReadFault refl e) ∙ f in cc) ]);
 }
 
-pub unopened_other : {h h' : Option (List ℕ)} {w w' : List ℕ} {f f' : ℕ} {result : Result Status Failed} (fault : OpenFault) (other : Status) → status.Memory ≢ other → status.ReadFault ≢ other → EndsUnopened fault h h' w w' f f' result → result ≡ Ok other → ⊥
+pub unopened_other : {h h' : SinkState} {w w' : List ℕ} {result : Result Status Failed} (fault : OpenFault) (other : Status) → status.Memory ≢ other → status.ReadFault ≢ other → EndsUnopened fault h h' w w' result → result ≡ Ok other → ⊥
 unopened_other {result = result} fault other no_memory no_fault ends e =
     elim (memory_or fault) [
       | inl is ↦ no_memory (ok_same result status.Memory other (ends.memory is).0 e)
@@ -244,24 +245,24 @@ undone_by (Err e) ended stops is done = done
 pub undone_as : (result : Result Status Failed) (ended : Status) → is_done ended ≡ false → result ≡ Ok ended → IsDone result → ⊥
 undone_as result ended stops is = undone_by result ended stops (subst (λ (r : Result Status Failed). IfOk r (λ s. s ≡ ended)) (sym is) refl)
 
-pub unopened_undone : {h h' : Option (List ℕ)} {w w' : List ℕ} {f f' : ℕ} (fault : OpenFault) (result : Result Status Failed) → EndsUnopened fault h h' w w' f f' result → IsDone result → ⊥
+pub unopened_undone : {h h' : SinkState} {w w' : List ℕ} (fault : OpenFault) (result : Result Status Failed) → EndsUnopened fault h h' w w' result → IsDone result → ⊥
 unopened_undone fault result ends =
     elim (memory_or fault) [
       | inl is ↦ undone_as result status.Memory refl (ends.memory is).0
       | inr opened ↦ undone_by result status.ReadFault refl (ends.other opened).status
     ]
 
-pub unopened_own : {h h' : Option (List ℕ)} {w w' : List ℕ} {f f' : ℕ} {result : Result Status Failed} (fault : OpenFault) → EndsUnopened fault h h' w w' f f' result → IsReadingStatus result
+pub unopened_own : {h h' : SinkState} {w w' : List ℕ} {result : Result Status Failed} (fault : OpenFault) → EndsUnopened fault h h' w w' result → IsReadingStatus result
 unopened_own {result = result} fault ends =
     elim (memory_or fault) [
       | inl is ↦ subst IsReadingStatus (sym (ends.memory is).0) refl
       | inr opened ↦ own_as result status.ReadFault refl (ends.other opened).status
     ]
 
-pub unopened_writes : {h h' : Option (List ℕ)} {w w' : List ℕ} {f f' : ℕ} {result : Result Status Failed} (fault : OpenFault) → EndsUnopened fault h h' w w' f f' result → result ≡ Ok status.WriteFault → ⊥
+pub unopened_writes : {h h' : SinkState} {w w' : List ℕ} {result : Result Status Failed} (fault : OpenFault) → EndsUnopened fault h h' w w' result → result ≡ Ok status.WriteFault → ⊥
 unopened_writes fault ends e = unopened_other fault status.WriteFault (λ t. cc) (λ t. cc) ends e
 
-pub unopened_words : {h h' : Option (List ℕ)} {w w' : List ℕ} {f f' : ℕ} {result : Result Status Failed} (fault : OpenFault) → EndsUnopened fault h h' w w' f f' result → result ≡ Ok status.Words → ⊥
+pub unopened_words : {h h' : SinkState} {w w' : List ℕ} {result : Result Status Failed} (fault : OpenFault) → EndsUnopened fault h h' w w' result → result ≡ Ok status.Words → ⊥
 unopened_words fault ends e = unopened_other fault status.Words (λ t. cc) (λ t. cc) ends e
 
 -- ---- failures, whatever was to be answered

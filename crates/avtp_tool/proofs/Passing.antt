@@ -13,6 +13,7 @@ use Rattle.avtp_tool.specs.declared.hearing.Stage.{Stage}
 use Rattle.avtp_tool.specs.Hearing.{ended_at, pull_at}
 use Rattle.avtp_base.specs.declared.failed.Failed.{Failed}
 use Rattle.avtp_base.specs.Faults.{IsCounted, Rose}
+use Rattle.avtp_base.specs.States.{SinkState}
 use Rattle.sample_schedule.specs.declared.shown.Shown.{Shown}
 use Rattle.presenter_ring.specs.declared.pipe.Pipe.{Pipe}
 use Rattle.presenter_ring.specs.declared.receiver.Pull.{Pull}
@@ -72,9 +73,9 @@ lines_more : (items : List Shown) (x : Shown) → list_lines items ++ shown_line
 lines_more items x = ap (λ (t : List ℕ). list_lines items ++ t) (sym (append-nil (shown_lines x))) ∙ sym (flat_map-append shown_lines items (x ∷ []))
 
 -- none was given before the first
-pub gives_none : {handed : List Shown → Type 0} {h : Option (List ℕ)} {w : List ℕ} {f : ℕ} (result : Result Unit Failed) → result ≡ Ok tt → handed [] → GivesItems handed h h w w f f result []
-gives_none {handed} {h} {w} {f} result fine none = subst (λ (r : Result Unit Failed). GivesItems handed h h w w f f r []) (sym fine) (record {
-  prints = part_none h w f tt;
+pub gives_none : {handed : List Shown → Type 0} {h : SinkState} {w : List ℕ} (result : Result Unit Failed) → result ≡ Ok tt → handed [] → GivesItems handed h h w w result []
+gives_none {handed} {h} {w} result fine none = subst (λ (r : Result Unit Failed). GivesItems handed h h w w r []) (sym fine) (record {
+  prints = part_none h w tt;
   front = [];
   first = ([], refl);
   all = refl;
@@ -82,10 +83,10 @@ gives_none {handed} {h} {w} {f} result fine none = subst (λ (r : Result Unit Fa
   hands = none;
 })
 
-module _ {handed : List Shown → Type 0} {h h' h'' : Option (List ℕ)} {w w' w'' : List ℕ} {f f' f'' : ℕ} where
+module _ {handed : List Shown → Type 0} {h h' h'' : SinkState} {w w' w'' : List ℕ} where
   -- an item more was printed, and handed on
   pub gives_one : {more : List Shown → Type 0} (items : List Shown) (x : Shown) (was result : Result Unit Failed) → is_err was ≡ false → is_err result ≡ false → (handed items → more (items ++ x ∷ []))
-      → GivesItems handed h h' w w' f f' was items → PrintsPart h' h'' w' w'' f' f'' result (shown_lines x) → GivesItems more h h'' w w'' f f'' result (items ++ x ∷ [])
+      → GivesItems handed h h' w w' was items → PrintsPart h' h'' w' w'' result (shown_lines x) → GivesItems more h h'' w w'' result (items ++ x ∷ [])
   gives_one items x (Ok o) (Ok p) fine printed hand first second = record {
     prints = part_as (list_lines items ++ shown_lines x) (list_lines (items ++ x ∷ [])) (lines_more items x) (part_then {ok = o} (list_lines items) (shown_lines x) first.prints second);
     front = items ++ x ∷ [];
@@ -99,7 +100,7 @@ module _ {handed : List Shown → Type 0} {h h' h'' : Option (List ℕ)} {w w' w
 
   -- a part of it was printed, and none handed on
   pub gives_failed : (items : List Shown) (x : Shown) (was result : Result Unit Failed) → is_err was ≡ false → is_err result ≡ true
-      → GivesItems handed h h' w w' f f' was items → PrintsPart h' h'' w' w'' f' f'' result (shown_lines x) → GivesItems handed h h'' w w'' f f'' result (items ++ x ∷ [])
+      → GivesItems handed h h' w w' was items → PrintsPart h' h'' w' w'' result (shown_lines x) → GivesItems handed h h'' w w'' result (items ++ x ∷ [])
   gives_failed items x (Ok o) (Err e) fine failed first second = record {
     prints = part_as (list_lines items ++ shown_lines x) (list_lines (items ++ x ∷ [])) (lines_more items x) (part_then {ok = o} (list_lines items) (shown_lines x) first.prints second);
     front = items;
@@ -112,7 +113,7 @@ module _ {handed : List Shown → Type 0} {h h' h'' : Option (List ℕ)} {w w' w
   gives_failed items x (Err e) result fine failed first second = absurd cc
 
 -- no item is given once the sink has failed
-pub gives_no_more : {handed : List Shown → Type 0} {h h' : Option (List ℕ)} {w w' : List ℕ} {f f' : ℕ} (items more : List Shown) (result : Result Unit Failed) → is_err result ≡ true → GivesItems handed h h' w w' f f' result items → GivesItems handed h h' w w' f f' result (items ++ more)
+pub gives_no_more : {handed : List Shown → Type 0} {h h' : SinkState} {w w' : List ℕ} (items more : List Shown) (result : Result Unit Failed) → is_err result ≡ true → GivesItems handed h h' w w' result items → GivesItems handed h h' w w' result (items ++ more)
 gives_no_more items more (Ok o) failed g = absurd cc
 gives_no_more items more (Err e) failed g = record {
   prints = part_as (list_lines items ++ list_lines more) (list_lines (items ++ more)) (sym (flat_map-append shown_lines items more)) (part_failed {e = e} (list_lines items) (list_lines more) refl g.prints);
@@ -124,10 +125,10 @@ gives_no_more items more (Err e) failed g = record {
 }
 
 -- what was given is all that came, or the first of it
-pub gives_given : {handed : List Shown → Type 0} {h h' : Option (List ℕ)} {w w' : List ℕ} {f f' : ℕ} (A : Type 0) (presented given : List Shown) (result : Result Unit Failed) → OnOk result ((presented ≡ given) × A) → IsPrefix presented given
-    → GivesItems handed h h' w w' f f' result presented → GivesItems handed h h' w w' f f' result given
-gives_given {handed} {h} {h'} {w} {w'} {f} {f'} A presented given (Ok o) whole first g = subst (GivesItems handed h h' w w' f f' (Ok o)) whole.0 g
-gives_given {handed} {h} {h'} {w} {w'} {f} {f'} A presented given (Err e) whole first g = subst (GivesItems handed h h' w w' f f' (Err e)) first.1 (gives_no_more presented first.0 (Err e) refl g)
+pub gives_given : {handed : List Shown → Type 0} {h h' : SinkState} {w w' : List ℕ} (A : Type 0) (presented given : List Shown) (result : Result Unit Failed) → OnOk result ((presented ≡ given) × A) → IsPrefix presented given
+    → GivesItems handed h h' w w' result presented → GivesItems handed h h' w w' result given
+gives_given {handed} {h} {h'} {w} {w'} A presented given (Ok o) whole first g = subst (GivesItems handed h h' w w' (Ok o)) whole.0 g
+gives_given {handed} {h} {h'} {w} {w'} A presented given (Err e) whole first g = subst (GivesItems handed h h' w w' (Err e)) first.1 (gives_no_more presented first.0 (Err e) refl g)
 
 pub over_on : (A : Type 0) (file : Option Open) (stage : Stage) (result : Result Unit Failed) → OnOk result (A × IsSome (ended_at file stage)) → IsSome file → OnOk result (IsSome (pull_at stage))
 over_on A None stage result over live = absurd cc
@@ -135,14 +136,14 @@ over_on A (Some file) stage (Ok o) over live = over.1
 over_on A (Some file) stage (Err e) over live = tt
 
 -- what waited was written out behind a text, or a part of that
-pub flushed : {h h' h'' : Option (List ℕ)} {w w' w'' : List ℕ} {f f' f'' : ℕ} (result : Result Unit Failed) (text : List ℕ) → PrintsPart h h' w w' f f' (Ok tt) text → Keeps (written h' w') (written h'' w'') → Grows h' h'' → IsCounted f' f'' result
-    → PrintsPart h h'' w w'' f f'' result text
+pub flushed : {h h' h'' : SinkState} {w w' w'' : List ℕ} (result : Result Unit Failed) (text : List ℕ) → PrintsPart h h' w w' (Ok tt) text → Keeps (written h'.held w') (written h''.held w'') → Grows h'.held h''.held → IsCounted h'.faults h''.faults result
+    → PrintsPart h h'' w w'' result text
 flushed {h' = h'} {h''} {w' = w'} {w''} (Ok o) text first kept grows counted =
-    part_as (text ++ []) text (append-nil text) (part_then {ok = tt} text [] first (record { written = Keeps-none (written h' w') (written h'' w'') kept; grows = grows; counted = counted }))
+    part_as (text ++ []) text (append-nil text) (part_then {ok = tt} text [] first (record { written = Keeps-none (written h'.held w') (written h''.held w'') kept; grows = grows; counted = counted }))
 flushed {h' = h'} {h''} {w' = w'} {w''} (Err e) text first kept grows counted =
-    part_as (text ++ []) text (append-nil text) (part_then {ok = tt} text [] first (record { written = prefix_none (written h' w') (written h'' w'') [] kept; grows = grows; counted = counted }))
+    part_as (text ++ []) text (append-nil text) (part_then {ok = tt} text [] first (record { written = prefix_none (written h'.held w') (written h''.held w'') [] kept; grows = grows; counted = counted }))
 
 -- a failure is a failure whatever was to be answered
-pub failed_as : {h h' : Option (List ℕ)} {w w' : List ℕ} {f f' : ℕ} {e : Failed} (result : Result Unit Failed) (text : List ℕ) → IsErr result → PrintsPart h h' w w' f f' (Err e) text → PrintsPart h h' w w' f f' result text
+pub failed_as : {h h' : SinkState} {w w' : List ℕ} {e : Failed} (result : Result Unit Failed) (text : List ℕ) → IsErr result → PrintsPart h h' w w' (Err e) text → PrintsPart h h' w w' result text
 failed_as (Ok o) text err first = absurd cc
 failed_as (Err e') text err first = record { written = first.written; grows = first.grows; counted = record { never_falls = first.counted.never_falls; ok = tt; failed = first.counted.failed } }

@@ -6,6 +6,7 @@ use Rattle.std.proofs.lemmas.List.{append-nil}
 use Rattle.avtp_base.specs.declared.failed.Failed.{Failed}
 use Rattle.avtp_base.specs.Faults.{Rose}
 use Rattle.avtp_base.specs.Files.{Files, Slots, KeepsFiles}
+use Rattle.avtp_base.specs.States.{Asks, ShelfState, SinkState}
 use Rattle.sample_schedule.specs.declared.shown.Shown.{Shown}
 use Rattle.capture_io.specs.Reads.{OnlyReads}
 use Rattle.avtp_text.specs.Written.{written}
@@ -13,7 +14,7 @@ use Rattle.avtp_words.specs.Grammar.{check, files_of, listen, output_of, Request
 use Rattle.avtp_tool.specs.declared.status.Status.{Status}
 use Rattle.avtp_tool.specs.declared.status.Status.TheVariants as status
 use Rattle.avtp_tool.specs.Made.{CountsWriting, KeepsFilesBut, KeepsSlotsFor}
-use Rattle.avtp_tool.specs.Outcome.{Asks, AsksFor, CountsReading, is_done, IsDone, TellsRun, TellsYield}
+use Rattle.avtp_tool.specs.Outcome.{AsksFor, CountsReading, is_done, IsDone, TellsRun, TellsYield}
 use Rattle.avtp_tool.specs.Reading.{DoesFile, DoesFiles, InOrder, one_outcome, PlanOutcome, ReadPlan}
 use Rattle.avtp_tool.specs.Run.{is_listening, IsThrough, MakesOf, Outcome, Runs, TellsDevices}
 use Rattle.avtp_tool.specs.Yield.{Gives, HandsNothing, Yield}
@@ -23,7 +24,7 @@ use Rattle.avtp_tool.proofs.Leaving.{never_ends, only_read}
 
 -- ---- one file
 
-single : {a b : List (List ℕ) → Type 0} {before now : Option (List ℕ)} {handed : List Shown → Type 0} {result : Result Status Failed} (one : List ℕ → Status → Yield → Type 0) (name : List ℕ) → TellsYield (one name) handed before now result → Asks (name ∷ []) a b
+single : {a b : ShelfState} {before now : Option (List ℕ)} {handed : List Shown → Type 0} {result : Result Status Failed} (one : List ℕ → Status → Yield → Type 0) (name : List ℕ) → TellsYield (one name) handed before now result → Asks (name ∷ []) a b
     → TellsRun (InOrder one (name ∷ [])) handed a b before now result
 single {a} {b} {before} {now} {handed} {result} one name t asked = record {
   came = name ∷ [];
@@ -38,16 +39,16 @@ single {a} {b} {before} {now} {handed} {result} one name t asked = record {
   whole_at (Ok s) whole = λ memory write. let w = whole memory write in (w.0, w.1, asked)
   whole_at (Err e) whole = tt
 
-pub one_file : {f g : Option Files} {s t : Slots} {r r' w w' : ℕ} {a b : List (List ℕ) → Type 0} {h h' : Option (List ℕ)} {l l' : List ℕ} {n n' : ℕ} {result : Result Status Failed} {handed : List Shown → Type 0} (plan : ReadPlan) (name : List ℕ) → plan.names ≡ name ∷ []
-    → DoesFile (plan.report name) handed plan.limit name f g s t r r' w w' a b h h' l l' n n' result → DoesFiles plan handed f g s t r r' w w' a b h h' l l' n n' result
-one_file {f} {g} {s} {t} {r} {r'} {w} {w'} {a} {b} {h} {h'} {l} {l'} {result = result} {handed} plan name named does = record {
+pub one_file : {s t : ShelfState} {h h' : SinkState} {l l' : List ℕ} {result : Result Status Failed} {handed : List Shown → Type 0} (plan : ReadPlan) (name : List ℕ) → plan.names ≡ name ∷ []
+    → DoesFile (plan.report name) handed plan.limit name s t h h' l l' result → DoesFiles plan handed s t h h' l l' result
+one_file {s} {t} {h} {h'} {l} {l'} {result = result} {handed} plan name named does = record {
   tells = λ all told still.
-      subst (λ (ns : List (List ℕ)). TellsRun (InOrder (one_outcome plan all (Rose r r')) ns) handed a b (written h l) (written h' l') result) (sym named) (single (one_outcome plan all (Rose r r')) name (does.tells all told) does.keeps.asked);
+      subst (λ (ns : List (List ℕ)). TellsRun (InOrder (one_outcome plan all (Rose s.reading_faults t.reading_faults)) ns) handed s t (written h.held l) (written h'.held l') result) (sym named) (single (one_outcome plan all (Rose s.reading_faults t.reading_faults)) name (does.tells all told) does.keeps.asked);
   count = length plan.names;
   within = omega arith;
   all = λ done. refl;
-  keeps = subst (λ (ns : List (List ℕ)). OnlyReads f g s t r r' w w' a b (take (length ns) ns)) (sym named) does.keeps;
-  counts = subst (λ (ns : List (List ℕ)). CountsReading ns f r r' result) (sym named) does.counts;
+  keeps = subst (λ (ns : List (List ℕ)). OnlyReads s t (take (length ns) ns)) (sym named) does.keeps;
+  counts = subst (λ (ns : List (List ℕ)). CountsReading ns s.files s.reading_faults t.reading_faults result) (sym named) does.counts;
   own = does.own;
   sink = does.sink;
 }
@@ -71,27 +72,27 @@ through_done (Ok status.DeviceFault) other through = absurd (other refl)
 through_done (Ok status.TalkInput) other through = through
 through_done (Err e) other through = through
 
-pub through_as : {names : List (List ℕ)} {a b : List (List ℕ) → Type 0} {result : Result Status Failed} → (result ≡ Ok status.DeviceFault → ⊥) → AsksFor names a b (IsDone result) → AsksFor names a b (IsThrough result)
+pub through_as : {names : List (List ℕ)} {a b : ShelfState} {result : Result Status Failed} → (result ≡ Ok status.DeviceFault → ⊥) → AsksFor names a b (IsDone result) → AsksFor names a b (IsThrough result)
 through_as {result = result} other asks = record { count = asks.count; within = asks.within; all = λ through. asks.all (through_done result other through); asked = asks.asked }
 
 -- a command that hands nothing on
 pub no_devices : {request : Request} {failed : Bool} {result : Result Status Failed} → is_listening request ≡ false → (result ≡ Ok status.DeviceFault → ⊥) → TellsDevices request failed result
 no_devices other never = record { fault = λ e. absurd (never e); quiet = λ listens. absurd (let t : true ≡ false = sym listens ∙ other in cc) }
 
-pub plan_runs : {f g : Option Files} {s t : Slots} {r r' w w' : ℕ} {a b : List (List ℕ) → Type 0} {h h' : Option (List ℕ)} {l l' : List ℕ} {n n' : ℕ} {result : Result Status Failed} {handed : List Shown → Type 0} (request : Request) (plan : ReadPlan) (failed : Bool) (other : Request) → request ≡ other → IsPlanOf request plan → is_listening request ≡ false → files_of request ≡ plan.names → output_of request ≡ None
-    → ((all : Files) → KeepsFiles f g → MakesOf request all f g result) → DoesFiles plan handed f g s t r r' w w' a b h h' l l' n n' result → Runs other handed failed f g s t r r' w w' a b h h' l l' n n' result
-plan_runs {f} {g} {s} {t} {r} {r'} {w} {w'} {a} {b} {h} {h'} {l} {l'} {n} {n'} {result} {handed} request plan failed other same is deaf named none makes does = subst (λ (q : Request). Runs q handed failed f g s t r r' w w' a b h h' l l' n n' result) same (record {
+pub plan_runs : {s t : ShelfState} {h h' : SinkState} {l l' : List ℕ} {result : Result Status Failed} {handed : List Shown → Type 0} (request : Request) (plan : ReadPlan) (failed : Bool) (other : Request) → request ≡ other → IsPlanOf request plan → is_listening request ≡ false → files_of request ≡ plan.names → output_of request ≡ None
+    → ((all : Files) → KeepsFiles s.files t.files → MakesOf request all s.files t.files result) → DoesFiles plan handed s t h h' l l' result → Runs other handed failed s t h h' l l' result
+plan_runs {s} {t} {h} {h'} {l} {l'} {result} {handed} request plan failed other same is deaf named none makes does = subst (λ (q : Request). Runs q handed failed s t h h' l l' result) same (record {
   tells = λ all told still.
       let to = does.tells all told still in
-      record { came = to.came; ended = to.ended; yields = to.yields; outcome = is all (Rose r r') failed to.came to.ended to.yields to.outcome; whole = to.whole; part = to.part };
+      record { came = to.came; ended = to.ended; yields = to.yields; outcome = is all (Rose s.reading_faults t.reading_faults) failed to.came to.ended to.yields to.outcome; whole = to.whole; part = to.part };
   makes = λ all told. makes all does.keeps.files;
-  files = subst (λ (o : Option (List ℕ)). KeepsFilesBut o f g) (sym none) does.keeps.files;
-  slots = subst (λ (o : Option (List ℕ)). KeepsSlotsFor o g s t) (sym none) does.keeps.slots;
-  counts = subst (λ (ns : List (List ℕ)). CountsReading ns f r r' result) (sym named) does.counts;
-  writing = subst (λ (o : Option (List ℕ)). CountsWriting o w w' result) (sym none) (only_read does.keeps.writing (never_ends result status.WriteFault refl does.own));
+  files = subst (λ (o : Option (List ℕ)). KeepsFilesBut o s.files t.files) (sym none) does.keeps.files;
+  slots = subst (λ (o : Option (List ℕ)). KeepsSlotsFor o t.files s.slots t.slots) (sym none) does.keeps.slots;
+  counts = subst (λ (ns : List (List ℕ)). CountsReading ns s.files s.reading_faults t.reading_faults result) (sym named) does.counts;
+  writing = subst (λ (o : Option (List ℕ)). CountsWriting o s.writing_faults t.writing_faults result) (sym none) (only_read does.keeps.writing (never_ends result status.WriteFault refl does.own));
   no_words = never_ends result status.Words refl does.own;
   devices = no_devices deaf (never_ends result status.DeviceFault refl does.own);
-  asks = subst (λ (ns : List (List ℕ)). AsksFor ns a b (IsThrough result)) (sym (rw (named, none) (append-nil plan.names))) (through_as (never_ends result status.DeviceFault refl does.own) (record { count = does.count; within = does.within; all = does.all; asked = does.keeps.asked }));
+  asks = subst (λ (ns : List (List ℕ)). AsksFor ns s t (IsThrough result)) (sym (rw (named, none) (append-nil plan.names))) (through_as (never_ends result status.DeviceFault refl does.own) (record { count = does.count; within = does.within; all = does.all; asked = does.keeps.asked }));
   sink = does.sink;
 })
 
@@ -104,9 +105,9 @@ outcome_deaf (listen asked) all fault failed other came ended yields deaf o = ab
 outcome_deaf (talk asked) all fault failed other came ended yields deaf o = o
 outcome_deaf (soak packets) all fault failed other came ended yields deaf o = o
 
-pub runs_deaf : {f g : Option Files} {s t : Slots} {r r' w w' : ℕ} {a b : List (List ℕ) → Type 0} {h h' : Option (List ℕ)} {l l' : List ℕ} {n n' : ℕ} {result : Result Status Failed} {handed : List Shown → Type 0} {failed : Bool} (request : Request) → is_listening request ≡ false → handed []
-    → Runs request HandsNothing false f g s t r r' w w' a b h h' l l' n n' result → Runs request handed failed f g s t r r' w w' a b h h' l l' n n' result
-runs_deaf {a = a} {b} {h} {h'} {l} {l'} {result = result} {handed} {failed} request deaf none runs = record {
+pub runs_deaf : {s t : ShelfState} {h h' : SinkState} {l l' : List ℕ} {result : Result Status Failed} {handed : List Shown → Type 0} {failed : Bool} (request : Request) → is_listening request ≡ false → handed []
+    → Runs request HandsNothing false s t h h' l l' result → Runs request handed failed s t h h' l l' result
+runs_deaf {s = s} {t} {h} {h'} {l} {l'} {result = result} {handed} {failed} request deaf none runs = record {
   tells = λ all told still.
       let to = runs.tells all told still in
       record {
@@ -123,19 +124,19 @@ runs_deaf {a = a} {b} {h} {h'} {l} {l'} {result = result} {handed} {failed} requ
   counts = runs.counts;
   writing = runs.writing;
   no_words = runs.no_words;
-  devices = no_devices deaf (λ e. absurd (let t : false ≡ true = (runs.devices.fault e).1 in cc));
+  devices = no_devices deaf (λ e. absurd (let never : false ≡ true = (runs.devices.fault e).1 in cc));
   asks = runs.asks;
   sink = runs.sink;
 } where
   nothing : (items : List Shown) → HandsNothing items → handed items
   nothing items is = subst handed (sym is) none
 
-  whole_at : (x : Result Status Failed) (came : List (List ℕ)) (ended : Status) (yields : Yield) → IfOk x (λ s. s ≢ status.Memory → s ≢ status.WriteFault → (s ≡ ended) × Gives HandsNothing (written h l) (written h' l') yields × Asks came a b)
-      → IfOk x (λ s. s ≢ status.Memory → s ≢ status.WriteFault → (s ≡ ended) × Gives handed (written h l) (written h' l') yields × Asks came a b)
-  whole_at (Ok s) came ended yields whole = λ memory write. let w = whole memory write in (w.0, gives_as nothing yields w.1, w.2)
+  whole_at : (x : Result Status Failed) (came : List (List ℕ)) (ended : Status) (yields : Yield) → IfOk x (λ e. e ≢ status.Memory → e ≢ status.WriteFault → (e ≡ ended) × Gives HandsNothing (written h.held l) (written h'.held l') yields × Asks came s t)
+      → IfOk x (λ e. e ≢ status.Memory → e ≢ status.WriteFault → (e ≡ ended) × Gives handed (written h.held l) (written h'.held l') yields × Asks came s t)
+  whole_at (Ok e) came ended yields whole = λ memory write. let w = whole memory write in (w.0, gives_as nothing yields w.1, w.2)
   whole_at (Err e) came ended yields whole = tt
 
 -- the same of the request that the words are
-pub runs_of : {f g : Option Files} {s t : Slots} {r r' w w' : ℕ} {a b : List (List ℕ) → Type 0} {h h' : Option (List ℕ)} {l l' : List ℕ} {n n' : ℕ} {result : Result Status Failed} {handed : List Shown → Type 0} {failed : Bool} {request other : Request} → request ≡ other
-    → Runs request handed failed f g s t r r' w w' a b h h' l l' n n' result → Runs other handed failed f g s t r r' w w' a b h h' l l' n n' result
-runs_of {f} {g} {s} {t} {r} {r'} {w} {w'} {a} {b} {h} {h'} {l} {l'} {n} {n'} {result} {handed} {failed} same runs = subst (λ (q : Request). Runs q handed failed f g s t r r' w w' a b h h' l l' n n' result) same runs
+pub runs_of : {s t : ShelfState} {h h' : SinkState} {l l' : List ℕ} {result : Result Status Failed} {handed : List Shown → Type 0} {failed : Bool} {request other : Request} → request ≡ other
+    → Runs request handed failed s t h h' l l' result → Runs other handed failed s t h h' l l' result
+runs_of {s} {t} {h} {h'} {l} {l'} {result} {handed} {failed} same runs = subst (λ (q : Request). Runs q handed failed s t h h' l l' result) same runs

@@ -8,6 +8,7 @@ use Rattle.avtp_base.proofs.Told.{Appends-nil}
 use Rattle.avtp_base.specs.declared.failed.Failed.{Failed}
 use Rattle.avtp_base.specs.Faults.{Rose}
 use Rattle.avtp_base.specs.Files.{Files, Slots, IsMissing, KeepsFiles}
+use Rattle.avtp_base.specs.States.{ShelfState, SinkState, WasAsked}
 use Rattle.sample_schedule.specs.declared.shown.Shown.{Shown}
 use Rattle.avtp_text.specs.Written.{written}
 use Rattle.avtp_words.specs.Word.{texts}
@@ -74,19 +75,18 @@ pub record IsReadTo (plan : ReadPlan) (handed : List Shown → Type 0) (all : Fi
   pub gives : Gives handed old now yields
 
 -- the same where the files are told, and all else that a run so far left
-pub record ReadsTo (plan : ReadPlan) (handed : List Shown → Type 0) (names : List (List ℕ)) (ended : Status) (old_files new_files : Option Files) (old_slots new_slots : Slots) (old_reading new_reading old_writing new_writing : ℕ)
-    (old_asked new_asked : List (List ℕ) → Type 0) (old now : Option (List ℕ)) : Type 0 where
+pub record ReadsTo (plan : ReadPlan) (handed : List Shown → Type 0) (names : List (List ℕ)) (ended : Status) (s t : ShelfState) (old now : Option (List ℕ)) : Type 0 where
   pub done : is_done ended ≡ true
-  pub reading : new_reading ≡ old_reading
-  pub keeps : OnlyReads old_files new_files old_slots new_slots old_reading new_reading old_writing new_writing old_asked new_asked names
-  pub tells : (all : Files) → old_files ≡ Some all → IsSome new_files → IsReadTo plan handed all old_reading new_reading names ended old now
+  pub reading : t.reading_faults ≡ s.reading_faults
+  pub keeps : OnlyReads s t names
+  pub tells : (all : Files) → s.files ≡ Some all → IsSome t.files → IsReadTo plan handed all s.reading_faults t.reading_faults names ended old now
 
-pub reads_none : {f : Option Files} {s : Slots} {r w : ℕ} {a : List (List ℕ) → Type 0} {now : Option (List ℕ)} {handed : List Shown → Type 0} (plan : ReadPlan) → handed [] → ReadsTo plan handed [] status.Done f f s s r r w w a a now now
-reads_none {f} {s} {r} {w} {a} {now} plan none = record {
+pub reads_none : {s : ShelfState} {now : Option (List ℕ)} {handed : List Shown → Type 0} (plan : ReadPlan) → handed [] → ReadsTo plan handed [] status.Done s s now now
+reads_none {s} {now} plan none = record {
   done = refl;
   reading = refl;
-  keeps = only_reads_nothing f s r w a;
-  tells = λ all told some. record { yields = says []; order = none_read (one_outcome plan all (Rose r r)); gives = record { text = Appends-nil now; items = none } };
+  keeps = only_reads_nothing s;
+  tells = λ all told some. record { yields = says []; order = none_read (one_outcome plan all (Rose s.reading_faults s.reading_faults)); gives = record { text = Appends-nil now; items = none } };
 }
 
 -- ---- one file more
@@ -126,37 +126,37 @@ order_step r q r' ended yields plan all names same falls order =
     order_weaker (one_outcome plan all (Rose r q)) (one_outcome plan all (Rose r r'))
     (λ name s t outcome. file_weaker (plan.report name) plan.limit (all name) (Rose r q) (Rose r r') s t (λ rose. omega (arith, rose, same, falls)) outcome) names names ended yields order
 
-keeps_more : {f g h : Option Files} {s t u : Slots} {r r' r'' w w' w'' : ℕ} {a b c : List (List ℕ) → Type 0} (files : List (String Global)) (i : ℕ) (d : String Global) (name : List ℕ) → i < length files → string_bytes (get_or files i d) ≡ name
-    → OnlyReads f g s t r r' w w' a b (take i (texts files)) → OnlyReads g h t u r' r'' w' w'' b c (name ∷ []) → OnlyReads f h s u r r'' w w'' a c (take (i + 1) (texts files))
-keeps_more {f} {g} {h} {s} {t} {u} {r} {r'} {r''} {w} {w'} {w''} {a} {b} {c} files i d name within is first second =
-    subst (OnlyReads f h s u r r'' w w'' a c) (more_named files i d name within is)
-    (only_reads_then f g h s t u r r' r'' w w' w'' a b c (take i (texts files)) (name ∷ []) first second)
+keeps_more : {s t u : ShelfState} (files : List (String Global)) (i : ℕ) (d : String Global) (name : List ℕ) → i < length files → string_bytes (get_or files i d) ≡ name
+    → OnlyReads s t (take i (texts files)) → OnlyReads t u (name ∷ []) → OnlyReads s u (take (i + 1) (texts files))
+keeps_more {s} {t} {u} files i d name within is first second =
+    subst (OnlyReads s u) (more_named files i d name within is)
+    (only_reads_then s t u (take i (texts files)) (name ∷ []) first second)
 
 -- it was read to its end
-pub reads_more : {f h g : Option Files} {s t u : Slots} {r q r' w x w' : ℕ} {a b c : List (List ℕ) → Type 0} {before : Option (List ℕ)} {h' h'' : Option (List ℕ)} {l' l'' : List ℕ} {n' n'' : ℕ} {so_far : Status} {result : Result Status Failed} {earlier handed all_handed : List Shown → Type 0} (plan : ReadPlan) (files : List (String Global)) (i : ℕ) (d : String Global) (name : List ℕ)
-    (ended : Status) → Joins earlier handed all_handed → i < length files → string_bytes (get_or files i d) ≡ name → is_done ended ≡ true → result ≡ Ok ended → ReadsTo plan earlier (take i (texts files)) so_far f h s t r q w x a b before (written h' l')
-    → DoesFile (plan.report name) handed plan.limit name h g t u q r' x w' b c h' h'' l' l'' n' n'' result → ReadsTo plan all_handed (take (i + 1) (texts files)) (joined so_far ended) f g s u r r' w w' a c before (written h'' l'')
-reads_more {f} {h} {g} {s} {t} {u} {r} {q} {r'} {w} {x} {w'} {a} {b} {c} {before} {h'} {h''} {l'} {l''} {so_far = so_far} {result} {earlier} {handed} {all_handed} plan files i d name ended join within is goes same first second =
+pub reads_more : {s t u : ShelfState} {before : Option (List ℕ)} {h' h'' : SinkState} {l' l'' : List ℕ} {so_far : Status} {result : Result Status Failed} {earlier handed all_handed : List Shown → Type 0} (plan : ReadPlan) (files : List (String Global)) (i : ℕ) (d : String Global) (name : List ℕ)
+    (ended : Status) → Joins earlier handed all_handed → i < length files → string_bytes (get_or files i d) ≡ name → is_done ended ≡ true → result ≡ Ok ended → ReadsTo plan earlier (take i (texts files)) so_far s t before (written h'.held l')
+    → DoesFile (plan.report name) handed plan.limit name t u h' h'' l' l'' result → ReadsTo plan all_handed (take (i + 1) (texts files)) (joined so_far ended) s u before (written h''.held l'')
+reads_more {s} {t} {u} {before} {h'} {h''} {l'} {l''} {so_far = so_far} {result} {earlier} {handed} {all_handed} plan files i d name ended join within is goes same first second =
     let keeps = keeps_more files i d name within is first.keeps second.keeps in
-    let here = subst (λ (x : Result Status Failed). IfOk x (λ s. s ≢ status.ReadFault → s ≢ status.Memory → s ≢ status.WriteFault → r' ≡ q)) same second.counts.quiet in
+    let here = subst (λ (x : Result Status Failed). IfOk x (λ e. e ≢ status.ReadFault → e ≢ status.Memory → e ≢ status.WriteFault → u.reading_faults ≡ t.reading_faults)) same second.counts.quiet in
     record {
       done = all_done so_far ended first.done goes;
       reading = here (not_done ended status.ReadFault goes refl) (not_done ended status.Memory goes refl) (not_done ended status.WriteFault goes refl) ∙ first.reading;
       keeps = keeps;
       tells = λ all told still.
-          let some = told_still h g second.keeps.files still in
-          let later = told_later f h all told first.keeps.files some in
+          let some = told_still t.files u.files second.keeps.files still in
+          let later = told_later s.files t.files all told first.keeps.files some in
           let to = first.tells all told some in
-          let tells = subst (λ (x : Result Status Failed). TellsYield (one_outcome plan all (Rose r r') name) handed (written h' l') (written h'' l'') x) same (tells_step q r r' plan all later.0 name (later.2 name) first.reading (second.tells later.0 later.1)) in
-          let more = tells_done before (written h' l') (written h'' l'') (one_outcome plan all (Rose r r')) (take i (texts files)) name to.yields so_far ended join first.done goes (order_step r q r' so_far to.yields plan all (take i (texts files)) first.reading keeps.reading to.order) to.gives tells in
-          subst (λ (ns : List (List ℕ)). IsReadTo plan all_handed all r r' ns (joined so_far ended) before (written h'' l'')) (more_named files i d name within is) (record { yields = more.0; order = more.1; gives = more.2 });
+          let tells = subst (λ (x : Result Status Failed). TellsYield (one_outcome plan all (Rose s.reading_faults u.reading_faults) name) handed (written h'.held l') (written h''.held l'') x) same (tells_step t.reading_faults s.reading_faults u.reading_faults plan all later.0 name (later.2 name) first.reading (second.tells later.0 later.1)) in
+          let more = tells_done before (written h'.held l') (written h''.held l'') (one_outcome plan all (Rose s.reading_faults u.reading_faults)) (take i (texts files)) name to.yields so_far ended join first.done goes (order_step s.reading_faults t.reading_faults u.reading_faults so_far to.yields plan all (take i (texts files)) first.reading keeps.reading to.order) to.gives tells in
+          subst (λ (ns : List (List ℕ)). IsReadTo plan all_handed all s.reading_faults u.reading_faults ns (joined so_far ended) before (written h''.held l'')) (more_named files i d name within is) (record { yields = more.0; order = more.1; gives = more.2 });
     }
 
 -- it ended the run
-pub reads_stopped : {f h g : Option Files} {s t u : Slots} {r q r' w x w' : ℕ} {a b c : List (List ℕ) → Type 0} {k h' h'' : Option (List ℕ)} {l l' l'' : List ℕ} {n n' n'' : ℕ} {so_far : Status} {result : Result Status Failed} {earlier handed all_handed : List Shown → Type 0} (plan : ReadPlan) (files : List (String Global)) (i : ℕ) (d : String Global) (name : List ℕ)
-    → Joins earlier handed all_handed → plan.names ≡ texts files → i < length files → string_bytes (get_or files i d) ≡ name → (IsDone result → ⊥) → ReadsTo plan earlier (take i (texts files)) so_far f h s t r q w x a b (written k l) (written h' l')
-    → KeepsSink {T = Unit} k h' n n' (Ok tt) → DoesFile (plan.report name) handed plan.limit name h g t u q r' x w' b c h' h'' l' l'' n' n'' result → DoesFiles plan all_handed f g s u r r' w w' a c k h'' l l'' n n'' result
-reads_stopped {f} {h} {g} {s} {t} {u} {r} {q} {r'} {w} {x} {w'} {a} {b} {c} {so_far = so_far} {result} plan files i d name join named within is stopped first sink second =
+pub reads_stopped : {s t u : ShelfState} {k h' h'' : SinkState} {l l' l'' : List ℕ} {so_far : Status} {result : Result Status Failed} {earlier handed all_handed : List Shown → Type 0} (plan : ReadPlan) (files : List (String Global)) (i : ℕ) (d : String Global) (name : List ℕ)
+    → Joins earlier handed all_handed → plan.names ≡ texts files → i < length files → string_bytes (get_or files i d) ≡ name → (IsDone result → ⊥) → ReadsTo plan earlier (take i (texts files)) so_far s t (written k.held l) (written h'.held l')
+    → KeepsSink {T = Unit} k h' (Ok tt) → DoesFile (plan.report name) handed plan.limit name t u h' h'' l' l'' result → DoesFiles plan all_handed s u k h'' l l'' result
+reads_stopped {s} {t} {u} {so_far = so_far} {result} plan files i d name join named within is stopped first sink second =
     let before_it = take i (texts files) in
     let rest = drop (suc i) (texts files) in
     let split = named ∙ split_named files i d name within is in
@@ -164,16 +164,16 @@ reads_stopped {f} {h} {g} {s} {t} {u} {r} {q} {r'} {w} {x} {w'} {a} {b} {c} {so_
     let all_names = names_count files in
     record {
       tells = λ all told still.
-          let some = told_still h g second.keeps.files still in
-          let later = told_later f h all told first.keeps.files some in
+          let some = told_still t.files u.files second.keeps.files still in
+          let later = told_later s.files t.files all told first.keeps.files some in
           let to = first.tells all told some in
-          tells_stopped (one_outcome plan all (Rose r r')) (one_status plan all) (one_yield plan all) (λ n. file_here (plan.report n) plan.limit (all n) (Rose r r')) join before_it rest plan.names name to.yields so_far split first.done
-          (order_step r q r' so_far to.yields plan all before_it first.reading keeps.reading to.order) to.gives (tells_step q r r' plan all later.0 name (later.2 name) first.reading (second.tells later.0 later.1)) stopped
-          (λ names stands. subst (λ (ns : List (List ℕ)). c (names ++ ns)) (sym (more_named files i d name within is)) (keeps.asked names stands));
+          tells_stopped (one_outcome plan all (Rose s.reading_faults u.reading_faults)) (one_status plan all) (one_yield plan all) (λ n. file_here (plan.report n) plan.limit (all n) (Rose s.reading_faults u.reading_faults)) join before_it rest plan.names name to.yields so_far split first.done
+          (order_step s.reading_faults t.reading_faults u.reading_faults so_far to.yields plan all before_it first.reading keeps.reading to.order) to.gives (tells_step t.reading_faults s.reading_faults u.reading_faults plan all later.0 name (later.2 name) first.reading (second.tells later.0 later.1)) stopped
+          (λ names stands. subst (λ (ns : List (List ℕ)). WasAsked u.asked (names ++ ns)) (sym (more_named files i d name within is)) (keeps.asked names stands));
       count = i + 1;
       within = subst (λ (ns : List (List ℕ)). i + 1 ≤ length ns) (sym named) (omega (arith, within, all_names));
       all = λ done. absurd (stopped done);
-      keeps = subst (λ (ns : List (List ℕ)). OnlyReads f g s u r r' w w' a c (take (i + 1) ns)) (sym named) keeps;
+      keeps = subst (λ (ns : List (List ℕ)). OnlyReads s u (take (i + 1) ns)) (sym named) keeps;
       counts = counts_step result plan.names before_it rest name split first.keeps.files first.reading second.counts;
       own = second.own;
       sink = sink_then sink second.sink;
@@ -192,20 +192,20 @@ done_reads status.DeviceFault done = absurd cc
 done_reads status.TalkInput done = absurd cc
 
 -- no file was left
-pub reads_all : {f g : Option Files} {s t : Slots} {r r' w w' : ℕ} {a b : List (List ℕ) → Type 0} {h h' : Option (List ℕ)} {l l' : List ℕ} {n n' : ℕ} {handed : List Shown → Type 0} (plan : ReadPlan) (files : List (String Global)) (i : ℕ) (ended : Status) → plan.names ≡ texts files → length files ≤ i
-    → ReadsTo plan handed (take i (texts files)) ended f g s t r r' w w' a b (written h l) (written h' l') → KeepsSink {T = Unit} h h' n n' (Ok tt) → DoesFiles plan handed f g s t r r' w w' a b h h' l l' n n' (Ok ended)
-reads_all {f} {g} {s} {t} {r} {r'} {w} {w'} {a} {b} {h} {h'} {l} {l'} {handed = handed} plan files i ended named past to sink =
+pub reads_all : {s t : ShelfState} {h h' : SinkState} {l l' : List ℕ} {handed : List Shown → Type 0} (plan : ReadPlan) (files : List (String Global)) (i : ℕ) (ended : Status) → plan.names ≡ texts files → length files ≤ i
+    → ReadsTo plan handed (take i (texts files)) ended s t (written h.held l) (written h'.held l') → KeepsSink {T = Unit} h h' (Ok tt) → DoesFiles plan handed s t h h' l l' (Ok ended)
+reads_all {s} {t} {h} {h'} {l} {l'} {handed = handed} plan files i ended named past to sink =
     let count = names_count files in
     let whole : take i (texts files) ≡ plan.names = take_all i (texts files) (omega (arith, count, past)) ∙ sym named in
-    let keeps = subst (OnlyReads f g s t r r' w w' a b) whole to.keeps in
+    let keeps = subst (OnlyReads s t) whole to.keeps in
     record {
       tells = λ all told still.
-          let read = subst (λ (ns : List (List ℕ)). IsReadTo plan handed all r r' ns ended (written h l) (written h' l')) whole (to.tells all told still) in
+          let read = subst (λ (ns : List (List ℕ)). IsReadTo plan handed all s.reading_faults t.reading_faults ns ended (written h.held l) (written h'.held l')) whole (to.tells all told still) in
           record { came = plan.names; ended = ended; yields = read.yields; outcome = read.order; whole = λ memory write. (refl, read.gives, keeps.asked); part = part_whole read.yields read.gives };
       count = length plan.names;
       within = omega arith;
       all = λ done. refl;
-      keeps = subst (OnlyReads f g s t r r' w w' a b) (sym (take_all (length plan.names) plan.names (omega arith))) keeps;
+      keeps = subst (OnlyReads s t) (sym (take_all (length plan.names) plan.names (omega arith))) keeps;
       counts = record { never_falls = omega (arith, to.reading); fault = λ e. absurd (not_done ended status.ReadFault to.done refl cc); quiet = λ fault memory write. to.reading };
       own = done_reads ended to.done;
       sink = sink_ok ended sink;
@@ -231,18 +231,18 @@ other_ends status.DeviceFault done findings is = absurd cc
 other_ends status.TalkInput done findings is = absurd cc
 
 -- it is one whatever was to be answered
-pub does_failed : {report : Report} {limit : ℕ} {name : List ℕ} {f g : Option Files} {s t : Slots} {r r' w w' : ℕ} {a b : List (List ℕ) → Type 0} {h h' : Option (List ℕ)} {l l' : List ℕ} {n n' : ℕ} {e : Failed} {handed : List Shown → Type 0} (result : Result Status Failed) → IsErr result
-    → DoesFile report handed limit name f g s t r r' w w' a b h h' l l' n n' (Err e) → DoesFile report handed limit name f g s t r r' w w' a b h h' l l' n n' result
-does_failed (Ok s) err does = absurd cc
+pub does_failed : {report : Report} {limit : ℕ} {name : List ℕ} {s t : ShelfState} {h h' : SinkState} {l l' : List ℕ} {e : Failed} {handed : List Shown → Type 0} (result : Result Status Failed) → IsErr result
+    → DoesFile report handed limit name s t h h' l l' (Err e) → DoesFile report handed limit name s t h h' l l' result
+does_failed (Ok ended) err does = absurd cc
 does_failed (Err e') err does = record { tells = λ all told. tells_err err (does.tells all told); keeps = does.keeps; counts = counts_err (Err e') err does.keeps.reading; own = tt; sink = sink_failed err does.sink }
 
 -- a file with which nothing is handed on
-pub does_deaf : {report : Report} {limit : ℕ} {name : List ℕ} {f g : Option Files} {s t : Slots} {r r' w w' : ℕ} {a b : List (List ℕ) → Type 0} {h h' : Option (List ℕ)} {l l' : List ℕ} {n n' : ℕ} {result : Result Status Failed} {handed : List Shown → Type 0} → handed []
-    → DoesFile report HandsNothing limit name f g s t r r' w w' a b h h' l l' n n' result → DoesFile report handed limit name f g s t r r' w w' a b h h' l l' n n' result
+pub does_deaf : {report : Report} {limit : ℕ} {name : List ℕ} {s t : ShelfState} {h h' : SinkState} {l l' : List ℕ} {result : Result Status Failed} {handed : List Shown → Type 0} → handed []
+    → DoesFile report HandsNothing limit name s t h h' l l' result → DoesFile report handed limit name s t h h' l l' result
 does_deaf {h = h} {h'} {l} {l'} {result = result} {handed} none does = record {
   tells = λ all told.
-      let t = does.tells all told in
-      record { ended = t.ended; yields = t.yields; outcome = t.outcome; whole = whole_at result t.ended t.yields t.whole; part = part_as nothing t.yields t.part };
+      let to = does.tells all told in
+      record { ended = to.ended; yields = to.yields; outcome = to.outcome; whole = whole_at result to.ended to.yields to.whole; part = part_as nothing to.yields to.part };
   keeps = does.keeps;
   counts = does.counts;
   own = does.own;
@@ -251,7 +251,7 @@ does_deaf {h = h} {h'} {l} {l'} {result = result} {handed} none does = record {
   nothing : (items : List Shown) → HandsNothing items → handed items
   nothing items is = subst handed (sym is) none
 
-  whole_at : (x : Result Status Failed) (ended : Status) (yields : Yield) → IfOk x (λ s. s ≢ status.Memory → s ≢ status.WriteFault → (s ≡ ended) × Gives HandsNothing (written h l) (written h' l') yields)
-      → IfOk x (λ s. s ≢ status.Memory → s ≢ status.WriteFault → (s ≡ ended) × Gives handed (written h l) (written h' l') yields)
+  whole_at : (x : Result Status Failed) (ended : Status) (yields : Yield) → IfOk x (λ s. s ≢ status.Memory → s ≢ status.WriteFault → (s ≡ ended) × Gives HandsNothing (written h.held l) (written h'.held l') yields)
+      → IfOk x (λ s. s ≢ status.Memory → s ≢ status.WriteFault → (s ≡ ended) × Gives handed (written h.held l) (written h'.held l') yields)
   whole_at (Ok s) ended yields whole = λ memory write. let w = whole memory write in (w.0, gives_as nothing yields w.1)
   whole_at (Err e) ended yields whole = tt

@@ -13,6 +13,7 @@ use Rattle.avtp_tool.specs.Record.{record_content}
 use Rattle.std.specs.Prelude.{IsErr}
 use Rattle.capture_io.specs.Ends.{end_of}
 use Rattle.avtp_base.specs.declared.failed.Failed.{Failed}
+use Rattle.avtp_base.specs.States.{SinkState}
 use Rattle.avtp_text.specs.Written.{written}
 use Rattle.avtp_tool.specs.declared.show.Printed.{Printed}
 use Rattle.avtp_tool.specs.declared.status.Status.{Status}
@@ -68,8 +69,8 @@ records_failed limit bytes fault before now (Err e) err prefix = prefix
 -- ---- what `show` makes of a file
 
 -- its records were printed, and the last line
-pub show_told : {h h' : Option (List ℕ)} {w w' : List ℕ} {n n' : ℕ} {result : Result Status Failed} (limit : ℕ) (bytes : List ℕ) (fault : Type 0) (printed : Printed) (before : Option (List ℕ)) → HasPrinted limit bytes fault printed before (written h w)
-    → EndsWith (status_of printed.end) h h' w w' n n' result (end_line limit printed.frames printed.end) → IsReadAndTold (show_report limit) HandsNothing limit bytes fault printed.end before (written h' w') result
+pub show_told : {h h' : SinkState} {w w' : List ℕ} {result : Result Status Failed} (limit : ℕ) (bytes : List ℕ) (fault : Type 0) (printed : Printed) (before : Option (List ℕ)) → HasPrinted limit bytes fault printed before (written h.held w)
+    → EndsWith (status_of printed.end) h h' w w' result (end_line limit printed.frames printed.end) → IsReadAndTold (show_report limit) HandsNothing limit bytes fault printed.end before (written h'.held w') result
 show_told limit bytes fault printed before p ends = record {
   records = p.records;
   ends = p.ends;

@@ -5,12 +5,13 @@ use Rattle.std.proofs.lemmas.List.{append-nil}
 use Rattle.avtp_base.specs.declared.failed.Failed.{Failed}
 use Rattle.avtp_base.specs.Files.{Files, KeepsFiles, Slots}
 use Rattle.avtp_base.specs.Told.{Appends, Keeps}
+use Rattle.avtp_base.specs.States.{Asks, ShelfState, SinkState, WasAsked}
 use Rattle.avtp_text.specs.Written.{written}
 use Rattle.avtp_text.proofs.Printing.{prefix_none}
 use Rattle.avtp_words.specs.Grammar.{Request, soak}
 use Rattle.avtp_tool.specs.declared.status.Status.{Status}
 use Rattle.avtp_tool.specs.declared.status.Status.TheVariants as status
-use Rattle.avtp_tool.specs.Outcome.{Asks, EndsWith, KeepsSink, Only}
+use Rattle.avtp_tool.specs.Outcome.{EndsWith, KeepsSink, Only}
 use Rattle.avtp_tool.specs.Run.{Runs}
 use Rattle.avtp_tool.specs.Soak.{Says, soak_report}
 use Rattle.avtp_tool.specs.Yield.{Gives, HandsNothing, says as only_text}
@@ -20,7 +21,7 @@ use Rattle.avtp_tool.proofs.Ended.{ends_prefix}
 
 -- ---- the line
 
-pub says_line : {h h' : Option (List ℕ)} {w w' : List ℕ} {f f' : ℕ} {line : List ℕ} (result : Result Status Failed) → EndsWith status.Done h h' w w' f f' result line → Says line h h' w w' f f' result
+pub says_line : {h h' : SinkState} {w w' : List ℕ} {line : List ℕ} (result : Result Status Failed) → EndsWith status.Done h h' w w' result line → Says line h h' w w' result
 says_line {line = line} (Ok s) ends = record {
   tells = record { ended = status.Done; yields = line; outcome = (refl, refl); whole = λ memory write. (ends.status, ends.written); part = ends_prefix (Ok s) ends };
   own = inl ends.status;
@@ -33,9 +34,9 @@ says_line {line = line} (Err e) ends = record {
 }
 
 -- no memory was found, and nothing printed
-pub says_nothing : {h h' : Option (List ℕ)} {w w' : List ℕ} {f f' : ℕ} (line : List ℕ) → Keeps (written h w) (written h' w') → KeepsSink {T = Status} h h' f f' (Ok status.Memory) → Says line h h' w w' f f' (Ok status.Memory)
+pub says_nothing : {h h' : SinkState} {w w' : List ℕ} (line : List ℕ) → Keeps (written h.held w) (written h'.held w') → KeepsSink {T = Status} h h' (Ok status.Memory) → Says line h h' w w' (Ok status.Memory)
 says_nothing {h} {h'} {w} {w'} line keeps sink = record {
-  tells = record { ended = status.Done; yields = line; outcome = (refl, refl); whole = λ memory write. absurd (memory refl); part = prefix_none (written h w) (written h' w') line keeps };
+  tells = record { ended = status.Done; yields = line; outcome = (refl, refl); whole = λ memory write. absurd (memory refl); part = prefix_none (written h.held w) (written h'.held w') line keeps };
   own = inr refl;
   sink = sink;
 }
@@ -51,10 +52,10 @@ other_status (Ok s) other (inl done) first second is = absurd (first cc)
 other_status (Ok s) other (inr memory) first second is = absurd (second cc)
 other_status (Err e) other own first second is = absurd cc
 
-asks_none : (a : List (List ℕ) → Type 0) → Asks [] a a
-asks_none a before stands = subst a (sym (append-nil before)) stands
+asks_none : (a : ShelfState) → Asks [] a a
+asks_none a before stands = subst (WasAsked a.asked) (sym (append-nil before)) stands
 
-with_names : (a : List (List ℕ) → Type 0) (before now : Option (List ℕ)) (text : List ℕ) (ended : Status) (result : Result Status Failed) → IfOk result (λ s. s ≢ status.Memory → s ≢ status.WriteFault → (s ≡ ended) × Appends before now text)
+with_names : (a : ShelfState) (before now : Option (List ℕ)) (text : List ℕ) (ended : Status) (result : Result Status Failed) → IfOk result (λ s. s ≢ status.Memory → s ≢ status.WriteFault → (s ≡ ended) × Appends before now text)
     → IfOk result (λ s. s ≢ status.Memory → s ≢ status.WriteFault → (s ≡ ended) × Gives HandsNothing before now (only_text text) × Asks [] a a)
 with_names a before now text ended (Ok s) whole = λ memory write. let w = whole memory write in (w.0, record { text = w.1; items = refl }, asks_none a)
 with_names a before now text ended (Err e) whole = tt
@@ -63,24 +64,24 @@ quiet : (count : ℕ) (result : Result Status Failed) → IfOk result (λ s. s �
 quiet count (Ok s) = λ fault memory write. refl
 quiet count (Err e) = tt
 
-pub soak_runs : {f : Option Files} {s : Slots} {r w : ℕ} {a : List (List ℕ) → Type 0} {h h' : Option (List ℕ)} {l l' : List ℕ} {n n' : ℕ} {result : Result Status Failed} (packets : ℕ) (other : Request) → soak packets ≡ other → Says (soak_report packets) h h' l l' n n' result
-    → Runs other HandsNothing false f f s s r r w w a a h h' l l' n n' result
-soak_runs {f} {s} {r} {w} {a} {h} {h'} {l} {l'} {n} {n'} {result} packets other same told = subst (λ (q : Request). Runs q HandsNothing false f f s s r r w w a a h h' l l' n n' result) same (record {
+pub soak_runs : {s : ShelfState} {h h' : SinkState} {l l' : List ℕ} {result : Result Status Failed} (packets : ℕ) (other : Request) → soak packets ≡ other → Says (soak_report packets) h h' l l' result
+    → Runs other HandsNothing false s s h h' l l' result
+soak_runs {s} {h} {h'} {l} {l'} {result} packets other same told = subst (λ (q : Request). Runs q HandsNothing false s s h h' l l' result) same (record {
   tells = λ all is some. record {
     came = [];
     ended = told.tells.ended;
     yields = only_text told.tells.yields;
     outcome = (refl, (told.tells.outcome.0, ap only_text told.tells.outcome.1));
-    whole = with_names a (written h l) (written h' l') told.tells.yields told.tells.ended result told.tells.whole;
+    whole = with_names s (written h.held l) (written h'.held l') told.tells.yields told.tells.ended result told.tells.whole;
     part = part_text refl (only_text told.tells.yields) told.tells.part;
   };
-  makes = λ all told. same_files f;
-  files = same_files f;
+  makes = λ all told. same_files s.files;
+  files = same_files s.files;
   slots = λ k. refl;
-  counts = record { never_falls = omega arith; fault = λ e. absurd (other_status result status.ReadFault told.own (λ d. cc) (λ d. cc) e); quiet = quiet r result };
+  counts = record { never_falls = omega arith; fault = λ e. absurd (other_status result status.ReadFault told.own (λ d. cc) (λ d. cc) e); quiet = quiet s.reading_faults result };
   writing = record { never_falls = omega arith; failed = λ e. absurd (other_status result status.WriteFault told.own (λ d. cc) (λ d. cc) e); other = λ e. refl; unwritten = λ e. refl };
   no_words = λ e. other_status result status.Words told.own (λ d. cc) (λ d. cc) e;
   devices = no_devices refl (λ e. other_status result status.DeviceFault told.own (λ d. cc) (λ d. cc) e);
-  asks = record { count = 0; within = omega arith; all = λ done. refl; asked = asks_none a };
+  asks = record { count = 0; within = omega arith; all = λ done. refl; asked = asks_none s };
   sink = told.sink;
 })

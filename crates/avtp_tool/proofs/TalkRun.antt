@@ -7,6 +7,7 @@ use Rattle.avtp_base.specs.declared.failed.OpenFault.TheVariants as open_fault
 use Rattle.avtp_base.specs.Faults.{Rose}
 use Rattle.avtp_base.specs.Files.{Files, Slots, IsMissing, KeepsFiles, KeepsSlots, name_in}
 use Rattle.avtp_base.specs.Told.{Appends}
+use Rattle.avtp_base.specs.States.{Asks, ShelfState, SinkState, WasAsked}
 use Rattle.capture_io.specs.declared.contents.Contents.{Contents}
 use Rattle.capture_io.specs.declared.end.Stop.{Stop}
 use Rattle.capture_io.specs.declared.end.Stop.TheVariants as stop
@@ -21,7 +22,7 @@ use Rattle.avtp_words.specs.Grammar.{talk, Talking}
 use Rattle.avtp_tool.specs.declared.status.Status.{Status}
 use Rattle.avtp_tool.specs.declared.status.Status.TheVariants as status
 use Rattle.avtp_tool.specs.Made.{CountsWriting, KeepsFilesBut, Makes}
-use Rattle.avtp_tool.specs.Outcome.{Asks, AsksFor, EndsUnopened, is_done, IsDone, KeepsSink, TellsRun, TellsText}
+use Rattle.avtp_tool.specs.Outcome.{AsksFor, EndsUnopened, is_done, IsDone, KeepsSink, TellsRun, TellsText}
 use Rattle.avtp_tool.specs.Run.{MakesFrom, Runs, talk_came}
 use Rattle.avtp_tool.specs.Talk.{FaultStops, TalkedOutcome, TalkOutcome, talk_plan, talk_report, talk_status, WritesOnly}
 use Rattle.avtp_tool.proofs.Complete.{talk_here}
@@ -36,10 +37,10 @@ use Rattle.avtp_tool.proofs.Talked.{read_counted, talks_unopened, tells_caused}
 -- ---- the names to which it came
 
 -- which names were asked for, by the status
-abbrev pub CameAs : Talking → Result Status Failed → (List (List ℕ) → Type 0) → (List (List ℕ) → Type 0) → Type 0
+abbrev pub CameAs : Talking → Result Status Failed → ShelfState → ShelfState → Type 0
 CameAs asked result a b = IfOk result (λ s. s ≢ status.Memory → s ≢ status.WriteFault → Asks (talk_came asked s) a b)
 
-talk_tells : {a b : List (List ℕ) → Type 0} {before now : Option (List ℕ)} {result : Result Status Failed} (asked : Talking) (told : Option (List ℕ)) (fault : Type 0) → CameAs asked result a b → TellsText (TalkOutcome (talk_plan asked) told fault) before now result
+talk_tells : {a b : ShelfState} {before now : Option (List ℕ)} {result : Result Status Failed} (asked : Talking) (told : Option (List ℕ)) (fault : Type 0) → CameAs asked result a b → TellsText (TalkOutcome (talk_plan asked) told fault) before now result
     → TellsRun (λ came ended yields. (came ≡ talk_came asked ended) × TalkOutcome (talk_plan asked) told fault ended yields.text × (yields.items ≡ [])) HandsNothing a b before now result
 talk_tells {a} {b} {before} {now} {result} asked told fault came tells = record {
   came = talk_came asked tells.ended;
@@ -54,7 +55,7 @@ talk_tells {a} {b} {before} {now} {result} asked told fault came tells = record 
   whole_at (Ok s) asks whole = λ memory write. let w = whole memory write in (w.0, record { text = w.1; items = refl }, subst (λ (x : Status). Asks (talk_came asked x) a b) w.0 (asks memory write))
   whole_at (Err e) asks whole = tt
 
-came_unopened : (a b : List (List ℕ) → Type 0) (asked : Talking) (result : Result Status Failed) → Asks (asked.input ∷ []) a b → (IsDone result → ⊥) → CameAs asked result a b
+came_unopened : (a b : ShelfState) (asked : Talking) (result : Result Status Failed) → Asks (asked.input ∷ []) a b → (IsDone result → ⊥) → CameAs asked result a b
 came_unopened a b asked (Ok s) asks not_done =
     elim (is_done s) as (λ d. is_done s ≡ d → s ≢ status.Memory → s ≢ status.WriteFault → Asks (asked.input ∷ (if d then asked.output ∷ [] else [])) a b) [
       | true ↦ λ is. absurd (not_done is)
@@ -62,9 +63,9 @@ came_unopened a b asked (Ok s) asks not_done =
     ] refl
 came_unopened a b asked (Err e) asks not_done = tt
 
-came_opened : (a b c : List (List ℕ) → Type 0) (asked : Talking) (result : Result Status Failed) → Asks (asked.input ∷ []) a b → IfOk result (λ s. s ≢ status.Memory → s ≢ status.WriteFault → Asks (if is_done s then asked.output ∷ [] else []) b c) → CameAs asked result a c
+came_opened : (a b c : ShelfState) (asked : Talking) (result : Result Status Failed) → Asks (asked.input ∷ []) a b → IfOk result (λ s. s ≢ status.Memory → s ≢ status.WriteFault → Asks (if is_done s then asked.output ∷ [] else []) b c) → CameAs asked result a c
 came_opened a b c asked (Ok s) first second = λ memory write before stands.
-    subst c (append_assoc before (asked.input ∷ []) (if is_done s then asked.output ∷ [] else [])) (second memory write (before ++ asked.input ∷ []) (first before stands))
+    subst (WasAsked c.asked) (append_assoc before (asked.input ∷ []) (if is_done s then asked.output ∷ [] else [])) (second memory write (before ++ asked.input ∷ []) (first before stands))
 came_opened a b c asked (Err e) first second = tt
 
 -- ---- an input that was not opened
@@ -82,22 +83,22 @@ made_none : (asked : Talking) (told : Option (List ℕ)) (f g : Option Files) (r
 made_none asked None f g result keeps never = keeps
 made_none asked (Some bytes) f g result keeps never = makes_after keeps (makes_none g result never)
 
-pub unopened_runs : {f g : Option Files} {s t : Slots} {r q w x : ℕ} {a b : List (List ℕ) → Type 0} {h h' : Option (List ℕ)} {l l' : List ℕ} {n n' : ℕ} {result : Result Status Failed} (asked : Talking) (why : OpenFault)
-    → (IsErrOf {T = Contents} (Err why) open_fault.Missing → IsMissing f asked.input) → IsReadCounted r q (Err why) → OnlyReads f g s t r q w x a b (asked.input ∷ []) → EndsUnopened why h h' l l' n n' result
-    → Runs (talk asked) HandsNothing false f g s t r q w x a b h h' l l' n n' result
-unopened_runs {f} {g} {s} {t} {r} {q} {w} {x} {a} {b} {h} {h'} {l} {l'} {n} {n'} {result} asked why missing counts keeps ends =
+pub unopened_runs : {s t : ShelfState} {h h' : SinkState} {l l' : List ℕ} {result : Result Status Failed} (asked : Talking) (why : OpenFault)
+    → (IsErrOf {T = Contents} (Err why) open_fault.Missing → IsMissing s.files asked.input) → IsReadCounted s.reading_faults t.reading_faults (Err why) → OnlyReads s t (asked.input ∷ []) → EndsUnopened why h h' l l' result
+    → Runs (talk asked) HandsNothing false s t h h' l l' result
+unopened_runs {s} {t} {h} {h'} {l} {l'} {result} asked why missing counts keeps ends =
     let plan = talk_plan asked in
     let not_done = unopened_other why status.Done (λ e. cc) (λ e. cc) ends in
     let not_failed = unopened_writes why ends in
     let not_device = unopened_other why status.DeviceFault (λ e. cc) (λ e. cc) ends in
     record {
-      tells = λ all told some. talk_tells asked (all asked.input) (Rose r q) (came_unopened a b asked result keeps.asked (unopened_undone why result ends))
-          (tells_unopened {T = Contents} {Outcome = TalkOutcome plan (all asked.input) (Rose r q)} why r q f asked.input (talk_status plan (all asked.input)) (talk_report plan (all asked.input)) (text_telling (written h l) (written h' l') read_fault_line) (talk_here plan (all asked.input) (Rose r q))
-          (λ cause. talks_unopened plan r q f asked.input all told cause) (read_counted counts) missing ends);
-      makes = λ all told. made_none asked (all asked.input) f g result keeps.files not_done;
-      files = kept_but f g asked.output keeps.files;
-      slots = slots_but g s t asked.output keeps.slots;
-      counts = counts_unopened {T = Contents} why r q f asked.input (read_counted counts) missing ends;
+      tells = λ all told some. talk_tells asked (all asked.input) (Rose s.reading_faults t.reading_faults) (came_unopened s t asked result keeps.asked (unopened_undone why result ends))
+          (tells_unopened {T = Contents} {Outcome = TalkOutcome plan (all asked.input) (Rose s.reading_faults t.reading_faults)} why s.reading_faults t.reading_faults s.files asked.input (talk_status plan (all asked.input)) (talk_report plan (all asked.input)) (text_telling (written h.held l) (written h'.held l') read_fault_line) (talk_here plan (all asked.input) (Rose s.reading_faults t.reading_faults))
+          (λ cause. talks_unopened plan s.reading_faults t.reading_faults s.files asked.input all told cause) (read_counted counts) missing ends);
+      makes = λ all told. made_none asked (all asked.input) s.files t.files result keeps.files not_done;
+      files = kept_but s.files t.files asked.output keeps.files;
+      slots = slots_but t.files s.slots t.slots asked.output keeps.slots;
+      counts = counts_unopened {T = Contents} why s.reading_faults t.reading_faults s.files asked.input (read_counted counts) missing ends;
       writing = record { never_falls = omega (arith, keeps.writing); failed = λ e. absurd (not_failed e); other = λ e. keeps.writing; unwritten = λ e. absurd cc };
       no_words = unopened_words why ends;
       devices = no_devices refl not_device;
@@ -126,12 +127,12 @@ slots_from g k s t u name files first second = record {
   left = λ told j differs. second.left (told_before g k name files told) j (λ (e : name_in t j ≡ Some name). differs (rw (first j) at e)) ∙ (rw (first j) refl);
 }
 
-asks_from : {a b c : List (List ℕ) → Type 0} {done : Type 0} (input output : List ℕ) → ((names : List (List ℕ)) → a names → b (names ++ input ∷ [])) → AsksFor (output ∷ []) b c done → AsksFor (input ∷ output ∷ []) a c done
+asks_from : {a b c : ShelfState} {done : Type 0} (input output : List ℕ) → Asks (input ∷ []) a b → AsksFor (output ∷ []) b c done → AsksFor (input ∷ output ∷ []) a c done
 asks_from {c = c} input output first second = record {
   count = suc second.count;
   within = omega (arith, second.within);
   all = λ done. ap suc (second.all done);
-  asked = λ before stands. subst c (append_assoc before (input ∷ []) (take second.count (output ∷ []))) (second.asked (before ++ input ∷ []) (first before stands));
+  asked = λ before stands. subst (WasAsked c.asked) (append_assoc before (input ∷ []) (take second.count (output ∷ []))) (second.asked (before ++ input ∷ []) (first before stands));
 }
 
 rose_by : (halt : Stop) (before after : ℕ) → CountsStop (Some halt) before after → halt ≡ stop.Fault → Rose before after
@@ -154,25 +155,25 @@ IsInput files name contents = (all : Files) → files ≡ Some all → (bytes : 
 made_from : (asked : Talking) (told : Option (List ℕ)) (bytes : List ℕ) (f g k : Option Files) (result : Result Status Failed) → told ≡ Some bytes → KeepsFiles f g → Makes asked.output (capture (talk_plan asked) bytes) g k result → MakesFrom asked told f k result
 made_from asked told bytes f g k result is keeps makes = subst (λ (t : Option (List ℕ)). MakesFrom asked t f k result) (sym is) (makes_after keeps makes)
 
-pub opened_runs : {f g k : Option Files} {s t u : Slots} {r q q' w x x' : ℕ} {a b c : List (List ℕ) → Type 0} {h h' : Option (List ℕ)} {l l' : List ℕ} {n n' : ℕ} {result : Result Status Failed} (asked : Talking) (contents : Contents)
-    → IsInput f asked.input contents → CountsStop (Some contents.stop) r q → OnlyReads f g s t r q w x a b (asked.input ∷ [])
-    → ((bytes : List ℕ) → IsContents most_input bytes contents.stop contents.bytes.items → TellsText (TalkedOutcome (talk_plan asked) bytes (contents.stop ≡ stop.Fault)) (written h l) (written h' l') result)
-    → ((bytes : List ℕ) → IsContents most_input bytes contents.stop contents.bytes.items → Makes asked.output (capture (talk_plan asked) bytes) g k result)
-    → WritesOnly g k t u q q' x x' b c asked.output result → FaultStops contents.stop result → KeepsSink h h' n n' result → Runs (talk asked) HandsNothing false f k s u r q' w x' a c h h' l l' n n' result
-opened_runs {f} {g} {k} {s} {t} {u} {r} {q} {q'} {w} {x} {x'} {a} {b} {c} {h} {h'} {l} {l'} {result = result} asked contents read counted keeps tells makes writes stops sink =
+pub opened_runs : {s t u : ShelfState} {h h' : SinkState} {l l' : List ℕ} {result : Result Status Failed} (asked : Talking) (contents : Contents)
+    → IsInput s.files asked.input contents → CountsStop (Some contents.stop) s.reading_faults t.reading_faults → OnlyReads s t (asked.input ∷ [])
+    → ((bytes : List ℕ) → IsContents most_input bytes contents.stop contents.bytes.items → TellsText (TalkedOutcome (talk_plan asked) bytes (contents.stop ≡ stop.Fault)) (written h.held l) (written h'.held l') result)
+    → ((bytes : List ℕ) → IsContents most_input bytes contents.stop contents.bytes.items → Makes asked.output (capture (talk_plan asked) bytes) t.files u.files result)
+    → WritesOnly t u asked.output result → FaultStops contents.stop result → KeepsSink h h' result → Runs (talk asked) HandsNothing false s u h h' l l' result
+opened_runs {s} {t} {u} {h} {h'} {l} {l'} {result = result} asked contents read counted keeps tells makes writes stops sink =
     let plan = talk_plan asked in
-    let counts : CountsStop (Some contents.stop) r q' = subst (λ (n : ℕ). CountsStop (Some contents.stop) r n) (sym writes.reading) counted in
+    let counts : CountsStop (Some contents.stop) s.reading_faults u.reading_faults = subst (λ (n : ℕ). CountsStop (Some contents.stop) s.reading_faults n) (sym writes.reading) counted in
     record {
       tells = λ all told some.
           let input = read all told in
-          talk_tells asked (all asked.input) (Rose r q') (came_opened a b c asked result keeps.asked writes.came)
-          (subst (λ (v : Option (List ℕ)). TellsText (TalkOutcome plan v (Rose r q')) (written h l) (written h' l') result) (sym input.1)
-          (tells_caused plan input.0 (contents.stop ≡ stop.Fault) (Rose r q') (rose_by contents.stop r q' counts) (tells input.0 input.2)));
-      makes = λ all told. let input = read all told in made_from asked (all asked.input) input.0 f g k result input.1 keeps.files (makes input.0 input.2);
-      files = files_from f g k asked.output keeps.files writes.files;
-      slots = slots_from g k s t u asked.output writes.files keeps.slots writes.slots;
-      counts = record { never_falls = omega (arith, keeps.reading, writes.reading); fault = λ e. inl (rose_by contents.stop r q' counts (stops.fault e)); quiet = quiet_by contents.stop result r q' counts stops.quiet };
-      writing = subst (λ (n : ℕ). CountsWriting (Some asked.output) n x' result) keeps.writing writes.writing;
+          talk_tells asked (all asked.input) (Rose s.reading_faults u.reading_faults) (came_opened s t u asked result keeps.asked writes.came)
+          (subst (λ (v : Option (List ℕ)). TellsText (TalkOutcome plan v (Rose s.reading_faults u.reading_faults)) (written h.held l) (written h'.held l') result) (sym input.1)
+          (tells_caused plan input.0 (contents.stop ≡ stop.Fault) (Rose s.reading_faults u.reading_faults) (rose_by contents.stop s.reading_faults u.reading_faults counts) (tells input.0 input.2)));
+      makes = λ all told. let input = read all told in made_from asked (all asked.input) input.0 s.files t.files u.files result input.1 keeps.files (makes input.0 input.2);
+      files = files_from s.files t.files u.files asked.output keeps.files writes.files;
+      slots = slots_from t.files u.files s.slots t.slots u.slots asked.output writes.files keeps.slots writes.slots;
+      counts = record { never_falls = omega (arith, keeps.reading, writes.reading); fault = λ e. inl (rose_by contents.stop s.reading_faults u.reading_faults counts (stops.fault e)); quiet = quiet_by contents.stop result s.reading_faults u.reading_faults counts stops.quiet };
+      writing = subst (λ (n : ℕ). CountsWriting (Some asked.output) n u.writing_faults result) keeps.writing writes.writing;
       no_words = stops.no_words;
       devices = no_devices refl stops.no_devices;
       asks = through_as stops.no_devices (asks_from asked.input asked.output keeps.asked writes.asked);

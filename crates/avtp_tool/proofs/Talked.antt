@@ -6,6 +6,7 @@ use Rattle.avtp_base.specs.declared.failed.OpenFault.{OpenFault}
 use Rattle.avtp_base.specs.declared.failed.OpenFault.TheVariants as open_fault
 use Rattle.avtp_base.specs.Faults.{IsOpenCounted, Rose}
 use Rattle.avtp_base.specs.Files.{Files}
+use Rattle.avtp_base.specs.States.{SinkState}
 use Rattle.talker.specs.declared.fault.TalkFault.{TalkFault}
 use Rattle.talker.specs.declared.fault.TalkFault.TheVariants as fault
 use Rattle.talker.specs.declared.plan.TalkPlan.{TalkPlan}
@@ -56,14 +57,14 @@ memory_or fault.NalType = inr (λ e. cc)
 memory_or fault.Packets = inr (λ e. cc)
 memory_or fault.Arrival = inr (λ e. cc)
 
-pub tells_refused : {h h' : Option (List ℕ)} {w w' : List ℕ} {f f' : ℕ} {result : Result Status Failed} (plan : TalkPlan) (bytes : List ℕ) (cause : Type 0) (why : TalkFault) → length bytes ≤ most_input
-    → (fault_of plan bytes ≡ Some why) ⊎ (why ≡ fault.Memory) → EndsRefused why h h' w w' f f' result → TellsText (TalkedOutcome plan bytes cause) (written h w) (written h' w') result
+pub tells_refused : {h h' : SinkState} {w w' : List ℕ} {result : Result Status Failed} (plan : TalkPlan) (bytes : List ℕ) (cause : Type 0) (why : TalkFault) → length bytes ≤ most_input
+    → (fault_of plan bytes ≡ Some why) ⊎ (why ≡ fault.Memory) → EndsRefused why h h' w w' result → TellsText (TalkedOutcome plan bytes cause) (written h.held w) (written h'.held w') result
 tells_refused {h} {h'} {w} {w'} {result = result} plan bytes cause why fits only ends =
     elim (memory_or why) [
       | inl is ↦
           let left = ends.memory is in
           let known : Option TalkFault = fault_of plan bytes in
-          tells_cut (status_by known) (line_by known plan bytes) (talks_by plan bytes cause known fits refl) (subst IsCut (sym left.0) (inl refl)) (prefix_none (written h w) (written h' w') (line_by known plan bytes) left.1)
+          tells_cut (status_by known) (line_by known plan bytes) (talks_by plan bytes cause known fits refl) (subst IsCut (sym left.0) (inl refl)) (prefix_none (written h.held w) (written h'.held w') (line_by known plan bytes) left.1)
       | inr other ↦ elim only [
         | inl is ↦ tells_line (talks_by plan bytes cause (Some why) fits is) (ends.other other)
         | inr memory ↦ absurd (other memory)
@@ -75,17 +76,17 @@ ends_other (Ok s) ended other differ is e = differ (sym is ∙ ok_same (Ok s) s 
 ends_other (Err x) ended other differ is e = absurd cc
 
 -- a run whose last line is of one status does not end with another
-pub ends_not : {h h' : Option (List ℕ)} {w w' : List ℕ} {f f' : ℕ} {result : Result Status Failed} {ended : Status} {line : List ℕ} (other : Status) → ended ≢ other → EndsWith ended h h' w w' f f' result line → result ≡ Ok other → ⊥
+pub ends_not : {h h' : SinkState} {w w' : List ℕ} {result : Result Status Failed} {ended : Status} {line : List ℕ} (other : Status) → ended ≢ other → EndsWith ended h h' w w' result line → result ≡ Ok other → ⊥
 ends_not {result = result} {ended} other differ ends e = ends_other result ended other differ ends.status e
 
-pub refused_not : {h h' : Option (List ℕ)} {w w' : List ℕ} {f f' : ℕ} {result : Result Status Failed} (why : TalkFault) (other : Status) → status.Memory ≢ other → status.TalkInput ≢ other → EndsRefused why h h' w w' f f' result → result ≡ Ok other → ⊥
+pub refused_not : {h h' : SinkState} {w w' : List ℕ} {result : Result Status Failed} (why : TalkFault) (other : Status) → status.Memory ≢ other → status.TalkInput ≢ other → EndsRefused why h h' w w' result → result ≡ Ok other → ⊥
 refused_not {result = result} why other no_memory no_input ends e =
     elim (memory_or why) [
       | inl is ↦ no_memory (ok_same result status.Memory other (ends.memory is).0 e)
       | inr differs ↦ ends_not other no_input (ends.other differs) e
     ]
 
-pub refused_undone : {h h' : Option (List ℕ)} {w w' : List ℕ} {f f' : ℕ} (result : Result Status Failed) (why : TalkFault) → EndsRefused why h h' w w' f f' result → IsDone result → ⊥
+pub refused_undone : {h h' : SinkState} {w w' : List ℕ} (result : Result Status Failed) (why : TalkFault) → EndsRefused why h h' w w' result → IsDone result → ⊥
 refused_undone result why ends =
     elim (memory_or why) [
       | inl is ↦ undone_as result status.Memory refl (ends.memory is).0
@@ -145,14 +146,14 @@ quiet_fault : (halt : Stop) (result : Result Status Failed) → IfOk result (λ 
 quiet_fault halt (Ok s) is = λ fault. absurd (fault is)
 quiet_fault halt (Err e) is = tt
 
-pub stops_fault : {h h' : Option (List ℕ)} {w w' : List ℕ} {f f' : ℕ} {line : List ℕ} (halt : Stop) (result : Result Status Failed) → halt ≡ stop.Fault → EndsWith status.ReadFault h h' w w' f f' result line → FaultStops halt result
+pub stops_fault : {h h' : SinkState} {w w' : List ℕ} {line : List ℕ} (halt : Stop) (result : Result Status Failed) → halt ≡ stop.Fault → EndsWith status.ReadFault h h' w w' result line → FaultStops halt result
 stops_fault halt result is ends = record { fault = λ e. is; quiet = quiet_fault halt result ends.status; no_words = ends_not status.Words (λ t. cc) ends; no_devices = ends_not status.DeviceFault (λ t. cc) ends }
 
 quiet_limit : (halt : Stop) (result : Result Status Failed) → halt ≡ stop.Limit → IfOk result (λ s. s ≢ status.ReadFault → s ≢ status.Memory → s ≢ status.WriteFault → halt ≢ stop.Fault)
 quiet_limit halt (Ok s) is = λ fault memory write e. absurd (let t : stop.Limit ≡ stop.Fault = sym is ∙ e in cc)
 quiet_limit halt (Err e) is = tt
 
-pub stops_limit : {h h' : Option (List ℕ)} {w w' : List ℕ} {f f' : ℕ} {line : List ℕ} (halt : Stop) (result : Result Status Failed) → halt ≡ stop.Limit → EndsWith status.Limit h h' w w' f f' result line → FaultStops halt result
+pub stops_limit : {h h' : SinkState} {w w' : List ℕ} {line : List ℕ} (halt : Stop) (result : Result Status Failed) → halt ≡ stop.Limit → EndsWith status.Limit h h' w w' result line → FaultStops halt result
 stops_limit halt result is ends = record { fault = λ e. absurd (ends_not status.ReadFault (λ t. cc) ends e); quiet = quiet_limit halt result is; no_words = ends_not status.Words (λ t. cc) ends; no_devices = ends_not status.DeviceFault (λ t. cc) ends }
 
 -- ---- an input that could not be opened

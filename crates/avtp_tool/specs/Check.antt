@@ -33,6 +33,7 @@ use Rattle.avtp_tool.specs.Reading.{ReadPlan, Report}
 use Rattle.avtp_tool.specs.Record.{inside}
 use Rattle.avtp_tool.specs.Status.{status_of}
 use Rattle.avtp_tool.specs.Yield.{says}
+use Rattle.avtp_base.specs.States.{SinkState}
 
 -- ---- a record by itself
 
@@ -131,10 +132,10 @@ check_plan limit names = record { names = names; limit = limit; report = check_r
 -- ---- what is done
 
 -- The lines of the findings in a record were printed, and counted; or where the sink failed, none of them.
-pub record PrintsFound (held held' : Option (List ℕ)) (waits waits' : List ℕ) (faults faults' : ℕ) (result : Result ℕ Failed) (lines : List (List ℕ)) : Type 0 where
-  pub written : MatchResult result (λ _. Appends (written held waits) (written held' waits') (joined_lines lines)) (λ _. Keeps (written held waits) (written held' waits'))
+pub record PrintsFound (out out' : SinkState) (waits waits' : List ℕ) (result : Result ℕ Failed) (lines : List (List ℕ)) : Type 0 where
+  pub written : MatchResult result (λ _. Appends (written out.held waits) (written out'.held waits') (joined_lines lines)) (λ _. Keeps (written out.held waits) (written out'.held waits'))
   pub counted : IfOk result (λ n. n ≡ length lines)
-  pub sink : KeepsSink held held' faults faults' result
+  pub sink : KeepsSink out out' result
 
 -- The records of a file of these bytes, as far as it could be read, were checked and counted, and its reading ended so.
 pub record HasChecked (limit : ℕ) (name bytes : List ℕ) (fault : Type 0) (total : Total) (before now : Option (List ℕ)) : Type 0 where

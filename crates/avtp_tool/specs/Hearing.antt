@@ -3,6 +3,7 @@ use Rattle.std.specs.Prelude.{◌≡◌, ℕ, ◌+◌, ◌-◌, ◌≤◌, Bool,
 use mathlib.Core.List.{IsPrefix}
 use Rattle.avtp_base.specs.Faults.{Rose}
 use Rattle.avtp_base.specs.Files.{Files, Open, Slots, left_in}
+use Rattle.avtp_base.specs.States.{ShelfState}
 use Rattle.pcap_frames.specs.Capture.{Record}
 use Rattle.capture_io.specs.declared.end.End.{End}
 use Rattle.capture_io.specs.declared.end.End.TheVariants as end
@@ -113,9 +114,9 @@ pub record IsShown (stage : Stage) (limit : ℕ) (bytes : List ℕ) (fault : Typ
   pub whole : (how : End) → stage ≡ Ended how → items ≡ out listener records
 
 -- Since a capture was opened and a listener made for it, these items were shown, and nothing was done beside but to read it.
-pub record Shows (old_files new_files : Option Files) (old_slots new_slots : Slots) (old_reading new_reading old_writing new_writing : ℕ) (old_asked new_asked : List (List ℕ) → Type 0)
+pub record Shows (shelf shelf' : ShelfState)
     (old_source source : Sourcing) (old_listener listener : ListenState) (stage : Stage) (items : List Shown) : Type 0 where
-  pub capture : ReadsCapture old_files new_files old_slots new_slots old_reading new_reading old_writing new_writing old_asked new_asked (slot_of old_source) (slot_of source) (read_end stage)
+  pub capture : ReadsCapture shelf shelf' (slot_of old_source) (slot_of source) (read_end stage)
   pub plan : listener.plan ≡ old_listener.plan
-  pub shown : (limit : ℕ) (bytes : List ℕ) → HasGiven limit bytes (left_in old_slots (slot_of old_source)) old_source [] → StandsFor [] 0 old_listener → is_closed old_listener ≡ false
-      → IsShown stage limit bytes (Rose old_reading new_reading) (left_in new_slots (slot_of source)) source listener items
+  pub shown : (limit : ℕ) (bytes : List ℕ) → HasGiven limit bytes (left_in shelf.slots (slot_of old_source)) old_source [] → StandsFor [] 0 old_listener → is_closed old_listener ≡ false
+      → IsShown stage limit bytes (Rose shelf.reading_faults shelf'.reading_faults) (left_in shelf'.slots (slot_of source)) source listener items

@@ -3,6 +3,7 @@ use Rattle.std.specs.Prelude.{◌≡◌, ℕ, ℤ, List, [], ◌++◌, Option, N
 use Rattle.avtp_base.specs.declared.failed.Failed.{Failed}
 use Rattle.avtp_base.specs.declared.refusal.Refusal.{Refusal}
 use Rattle.avtp_base.specs.Files.{Files, Slots}
+use Rattle.avtp_base.specs.States.{ShelfState, SinkState}
 use Rattle.avtp_base.specs.Told.{Appends}
 use Rattle.pcap_frames.specs.Capture.{Record}
 use Rattle.capture_io.specs.Formats.{records_in, refusal_in}
@@ -119,9 +120,9 @@ heard_end NoMemory = None
 
 -- Items were shown, their lines printed and each handed on once its lines were; all of them where the hearing ended, or the
 -- first where the sink failed.
-pub record HearsItems (handed : List Shown → Type 0) (old_files new_files : Option Files) (old_slots new_slots : Slots) (old_reading new_reading old_writing new_writing : ℕ) (old_asked new_asked : List (List ℕ) → Type 0)
-    (old_source source : Sourcing) (old_listener listener : ListenState) (stage : Stage) (held held' : Option (List ℕ)) (waits waits' : List ℕ) (faults faults' : ℕ) (result : Result Unit Failed) : Type 0 where
+pub record HearsItems (handed : List Shown → Type 0) (shelf shelf' : ShelfState)
+    (old_source source : Sourcing) (old_listener listener : ListenState) (stage : Stage) (out out' : SinkState) (waits waits' : List ℕ) (result : Result Unit Failed) : Type 0 where
   pub items : List Shown
-  pub shows : Shows old_files new_files old_slots new_slots old_reading new_reading old_writing new_writing old_asked new_asked old_source source old_listener listener stage items
-  pub gives : GivesItems handed held held' waits waits' faults faults' result items
+  pub shows : Shows shelf shelf' old_source source old_listener listener stage items
+  pub gives : GivesItems handed out out' waits waits' result items
   pub over : OnOk result (IsSome (pull_at stage))

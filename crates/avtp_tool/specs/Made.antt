@@ -5,6 +5,7 @@ use Rattle.avtp_base.specs.declared.failed.OpenFault.TheVariants as open_fault
 use Rattle.avtp_base.specs.declared.failed.Failed.{Failed}
 use Rattle.avtp_base.specs.Faults.{IsOpenCounted, Rose}
 use Rattle.avtp_base.specs.Files.{Files, Slots, KeepsFiles, KeepsSlots, PutsFile}
+use Rattle.avtp_base.specs.States.{ShelfState}
 use Rattle.capture_io.specs.Writing.{IsWriting, KeepsSlotsBut, MakesPrefix, Writing}
 use Rattle.avtp_tool.specs.Outcome.{AsksFor}
 use Rattle.avtp_tool.specs.declared.status.Status.{Status}
@@ -43,22 +44,22 @@ pub record CountsWriting (name : Option (List ℕ)) (before after : ℕ) (result
 
 -- A call made a file of these bytes, or answers why not. Where it was not made, it is as it was or has a prefix of them; the
 -- cause is the count of writing faults, or want of memory. All else is as it was, and no other name was asked for.
-pub record MakesFile (old_files new_files : Option Files) (old_slots new_slots : Slots) (old_reading new_reading old_writing new_writing : ℕ) (old_asked new_asked : List (List ℕ) → Type 0) (name bytes : List ℕ) (result : Result Unit OpenFault) : Type 0 where
-  pub made : OnOk result (PutsFile old_files new_files name bytes)
-  pub part : OnErr result (MakesPrefix old_files new_files name bytes)
+pub record MakesFile (shelf shelf' : ShelfState) (name bytes : List ℕ) (result : Result Unit OpenFault) : Type 0 where
+  pub made : OnOk result (PutsFile shelf.files shelf'.files name bytes)
+  pub part : OnErr result (MakesPrefix shelf.files shelf'.files name bytes)
   pub not_missing : IsErrOf result open_fault.Missing → ⊥
-  pub slots : KeepsSlotsBut old_files old_slots new_slots name
-  pub reading : new_reading ≡ old_reading
-  pub writing : IsOpenCounted old_writing new_writing result
-  pub asked : AsksFor (name ∷ []) old_asked new_asked (IsOk result)
+  pub slots : KeepsSlotsBut shelf.files shelf.slots shelf'.slots name
+  pub reading : shelf'.reading_faults ≡ shelf.reading_faults
+  pub writing : IsOpenCounted shelf.writing_faults shelf'.writing_faults result
+  pub asked : AsksFor (name ∷ []) shelf shelf' (IsOk result)
 
 -- a file is being written: it has all of these bytes, or where the shelf failed a prefix of them
-pub record IsWritingPart (old_files new_files : Option Files) (old_slots new_slots : Slots) (old_reading new_reading : ℕ) (writer : Writing) (name bytes : List ℕ) (result : Result Unit Failed) : Type 0 where
+pub record IsWritingPart (shelf shelf' : ShelfState) (writer : Writing) (name bytes : List ℕ) (result : Result Unit Failed) : Type 0 where
   pub prefix : List ℕ
   pub rest : List ℕ
   pub split : bytes ≡ prefix ++ rest
   pub whole : OnOk result (rest ≡ [])
-  pub writing : IsWriting old_files new_files old_slots new_slots old_reading new_reading writer name prefix
+  pub writing : IsWriting shelf shelf' writer name prefix
 
 -- the status of a run whose file could not be made
 abbrev pub unmade_as : OpenFault → Status

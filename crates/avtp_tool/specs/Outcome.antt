@@ -7,6 +7,7 @@ use Rattle.avtp_base.specs.declared.failed.OpenFault.TheVariants as open_fault
 use Rattle.avtp_text.specs.Notices.{read_fault_line}
 use Rattle.avtp_base.specs.Faults.{IsCounted, Rose}
 use Rattle.avtp_base.specs.Files.{Files, IsMissing}
+use Rattle.avtp_base.specs.States.{Asks, ShelfState, SinkState}
 use Rattle.avtp_base.specs.Told.{Appends, Keeps}
 use Rattle.avtp_text.specs.Written.{AppendsPrefix, Grows, written}
 use Rattle.avtp_tool.specs.declared.status.Status.{Status}
@@ -43,18 +44,14 @@ TellsText Outcome before now result = Tells Outcome (Appends before now) (Append
 abbrev pub TellsYield : (Status → Yield → Type 0) → (List Shown → Type 0) → Option (List ℕ) → Option (List ℕ) → Result Status Failed → Type 0
 TellsYield Outcome handed before now result = Tells Outcome (Gives handed before now) (GivesPart handed before now) result
 
--- A shelf was asked for exactly these names, in this order.
-abbrev pub Asks : List (List ℕ) → (List (List ℕ) → Type 0) → (List (List ℕ) → Type 0) → Type 0
-Asks names old_asked new_asked = (before : List (List ℕ)) → old_asked before → new_asked (before ++ names)
-
 -- The same of a whole run, of which the files belong to an outcome to which it came: where it ended with a status of its own,
 -- the shelf was asked for these and no other.
-pub record TellsRun (Outcome : List (List ℕ) → Status → Yield → Type 0) (handed : List Shown → Type 0) (old_asked new_asked : List (List ℕ) → Type 0) (before now : Option (List ℕ)) (result : Result Status Failed) : Type 0 where
+pub record TellsRun (Outcome : List (List ℕ) → Status → Yield → Type 0) (handed : List Shown → Type 0) (shelf shelf' : ShelfState) (before now : Option (List ℕ)) (result : Result Status Failed) : Type 0 where
   pub came : List (List ℕ)
   pub ended : Status
   pub yields : Yield
   pub outcome : Outcome came ended yields
-  pub whole : IfOk result (λ s. s ≢ status.Memory → s ≢ status.WriteFault → (s ≡ ended) × Gives handed before now yields × Asks came old_asked new_asked)
+  pub whole : IfOk result (λ s. s ≢ status.Memory → s ≢ status.WriteFault → (s ≡ ended) × Gives handed before now yields × Asks came shelf shelf')
   pub part : GivesPart handed before now yields
 
 -- one outcome and no other
@@ -62,32 +59,32 @@ abbrev pub Only : {Y : Type 0} → Status → Y → Status → Y → Type 0
 Only ended yields e y = (e ≡ ended) × (y ≡ yields)
 
 -- What the sink held stays, and a failure is the sink's.
-pub record KeepsSink {T : Type 0} (held held' : Option (List ℕ)) (faults faults' : ℕ) (result : Result T Failed) : Type 0 where
-  pub grows : Grows held held'
-  pub counted : IsCounted faults faults' result
+pub record KeepsSink {T : Type 0} (out out' : SinkState) (result : Result T Failed) : Type 0 where
+  pub grows : Grows out.held out'.held
+  pub counted : IsCounted out.faults out'.faults result
 
 -- The last line of a run was printed whole, and it ends with this status; or the sink failed, and nothing of it was.
-pub record EndsWith (ended : Status) (held held' : Option (List ℕ)) (waits waits' : List ℕ) (faults faults' : ℕ) (result : Result Status Failed) (line : List ℕ) : Type 0 where
+pub record EndsWith (ended : Status) (out out' : SinkState) (waits waits' : List ℕ) (result : Result Status Failed) (line : List ℕ) : Type 0 where
   pub status : IfOk result (λ s. s ≡ ended)
-  pub written : MatchResult result (λ _. Appends (written held waits) (written held' waits') line) (λ _. Keeps (written held waits) (written held' waits'))
-  pub sink : KeepsSink held held' faults faults' result
+  pub written : MatchResult result (λ _. Appends (written out.held waits) (written out'.held waits') line) (λ _. Keeps (written out.held waits) (written out'.held waits'))
+  pub sink : KeepsSink out out' result
 
 -- A run ends since a file could not be opened: for want of memory with that status and nothing printed, and else with the
 -- line that says so.
-pub record EndsUnopened (fault : OpenFault) (held held' : Option (List ℕ)) (waits waits' : List ℕ) (faults faults' : ℕ) (result : Result Status Failed) : Type 0 where
-  pub memory : fault ≡ open_fault.Memory → (result ≡ Ok status.Memory) × Keeps (written held waits) (written held' waits')
-  pub other : fault ≢ open_fault.Memory → EndsWith status.ReadFault held held' waits waits' faults faults' result read_fault_line
-  pub sink : KeepsSink held held' faults faults' result
+pub record EndsUnopened (fault : OpenFault) (out out' : SinkState) (waits waits' : List ℕ) (result : Result Status Failed) : Type 0 where
+  pub memory : fault ≡ open_fault.Memory → (result ≡ Ok status.Memory) × Keeps (written out.held waits) (written out'.held waits')
+  pub other : fault ≢ open_fault.Memory → EndsWith status.ReadFault out out' waits waits' result read_fault_line
+  pub sink : KeepsSink out out' result
 
 -- The text that waited was written, and the run ends with this status: that with which it had ended, where the sink took all;
 -- and else with that of a failed write. What the sink held stays, and it has all that was written, or a prefix of it.
-pub record Finishes (held held' : Option (List ℕ)) (waits waits' : List ℕ) (faults faults' : ℕ) (ended : Result Status Failed) (result : Status) : Type 0 where
+pub record Finishes (out out' : SinkState) (waits waits' : List ℕ) (ended : Result Status Failed) (result : Status) : Type 0 where
   pub whole : result ≢ status.WriteFault → (ended ≡ Ok result) × (waits' ≡ [])
-  pub kept : Keeps (written held waits) (written held' waits')
-  pub grows : Grows held held'
-  pub never_falls : faults ≤ faults'
-  pub fault : result ≡ status.WriteFault → IsErr ended ⊎ ((ended ≡ Ok status.WriteFault) ⊎ Rose faults faults')
-  pub quiet : result ≢ status.WriteFault → faults' ≡ faults
+  pub kept : Keeps (written out.held waits) (written out'.held waits')
+  pub grows : Grows out.held out'.held
+  pub never_falls : out.faults ≤ out'.faults
+  pub fault : result ≡ status.WriteFault → IsErr ended ⊎ ((ended ≡ Ok status.WriteFault) ⊎ Rose out.faults out'.faults)
+  pub quiet : result ≢ status.WriteFault → out'.faults ≡ out.faults
 
 -- ---- reading faults, and names
 
@@ -105,8 +102,8 @@ pub record CountsReading (names : List (List ℕ)) (files : Option Files) (befor
   pub quiet : IfOk result (λ s. s ≢ status.ReadFault → s ≢ status.Memory → s ≢ status.WriteFault → after ≡ before)
 
 -- A shelf was asked for the first of these names, in their order, and for no other; for all of them where all was done.
-pub record AsksFor (names : List (List ℕ)) (old_asked new_asked : List (List ℕ) → Type 0) (done : Type 0) : Type 0 where
+pub record AsksFor (names : List (List ℕ)) (shelf shelf' : ShelfState) (done : Type 0) : Type 0 where
   pub count : ℕ
   pub within : count ≤ length names
   pub all : done → count ≡ length names
-  pub asked : (before : List (List ℕ)) → old_asked before → new_asked (before ++ take count names)
+  pub asked : Asks (take count names) shelf shelf'

@@ -7,6 +7,7 @@ use Rattle.avtp_text.specs.Listen.{list_lines}
 use Rattle.avtp_text.specs.Written.{PrintsPart}
 use Rattle.sample_schedule.specs.declared.shown.Shown.{Shown}
 use Rattle.presenter_ring.specs.declared.receiver.Pull.{Pull}
+use Rattle.avtp_base.specs.States.{SinkState}
 
 -- the count of failures of a presenter that goes no further after the first
 abbrev pub failures : Result Unit Failed → ℕ
@@ -15,8 +16,8 @@ failures (Err e) = 1
 
 -- The lines of items were printed, and each item was handed on once its lines were. Where the sink failed that is a part of the
 -- lines, and the item whose lines failed and those after it were not handed on.
-pub record GivesItems (handed : List Shown → Type 0) (held held' : Option (List ℕ)) (waits waits' : List ℕ) (faults faults' : ℕ) (result : Result Unit Failed) (items : List Shown) : Type 0 where
-  pub prints : PrintsPart held held' waits waits' faults faults' result (list_lines items)
+pub record GivesItems (handed : List Shown → Type 0) (out out' : SinkState) (waits waits' : List ℕ) (result : Result Unit Failed) (items : List Shown) : Type 0 where
+  pub prints : PrintsPart out out' waits waits' result (list_lines items)
   pub front : List Shown
   pub first : IsPrefix front items
   pub all : OnOk result (front ≡ items)

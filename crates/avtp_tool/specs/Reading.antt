@@ -3,6 +3,7 @@ use Rattle.std.specs.Prelude.{◌≡◌, ◌≢◌, ◌⊎◌, ℕ, ◌^◌, ◌
 use Rattle.avtp_base.specs.declared.failed.Failed.{Failed}
 use Rattle.avtp_base.specs.Faults.{Rose}
 use Rattle.avtp_base.specs.Files.{Files, Slots}
+use Rattle.avtp_base.specs.States.{ShelfState, SinkState}
 use Rattle.pcap_frames.specs.Capture.{Record}
 use Rattle.capture_io.specs.Formats.{records_in}
 use Rattle.avtp_text.specs.Notices.{read_fault_line}
@@ -30,9 +31,9 @@ ended_in end (Err e) = None
 
 -- It was read, and is still open; all else is as it was. The count of reading faults rose where a fault ended the reading, and
 -- else it is as it was.
-pub record ReadsCapture (old_files new_files : Option Files) (old_slots new_slots : Slots) (old_reading new_reading old_writing new_writing : ℕ) (old_asked new_asked : List (List ℕ) → Type 0) (k now : ℕ) (how : Option End) : Type 0 where
-  pub reads : ReadsSlot old_files new_files old_slots new_slots old_reading new_reading old_writing new_writing old_asked new_asked k now
-  pub counted : CountsFault None how old_reading new_reading
+pub record ReadsCapture (shelf shelf' : ShelfState) (k now : ℕ) (how : Option End) : Type 0 where
+  pub reads : ReadsSlot shelf shelf' k now
+  pub counted : CountsFault None how shelf.reading_faults shelf'.reading_faults
 
 -- ---- one file
 
@@ -142,22 +143,20 @@ abbrev pub IsReadingStatus : Result Status Failed → Type 0
 IsReadingStatus result = IfOk result (λ s. is_of_reading s ≡ true)
 
 -- The file of a name was read, of which `limit` bytes may be, and nothing else was done but that items were handed on.
-pub record DoesFile (report : Report) (handed : List Shown → Type 0) (limit : ℕ) (name : List ℕ) (old_files new_files : Option Files) (old_slots new_slots : Slots) (old_reading new_reading old_writing new_writing : ℕ)
-    (old_asked new_asked : List (List ℕ) → Type 0) (held held' : Option (List ℕ)) (waits waits' : List ℕ) (faults faults' : ℕ) (result : Result Status Failed) : Type 0 where
-  pub tells : (all : Files) → old_files ≡ Some all → TellsYield (FileOutcome report limit (all name) (Rose old_reading new_reading)) handed (written held waits) (written held' waits') result
-  pub keeps : OnlyReads old_files new_files old_slots new_slots old_reading new_reading old_writing new_writing old_asked new_asked (name ∷ [])
-  pub counts : CountsReading (name ∷ []) old_files old_reading new_reading result
+pub record DoesFile (report : Report) (handed : List Shown → Type 0) (limit : ℕ) (name : List ℕ) (shelf shelf' : ShelfState) (out out' : SinkState) (waits waits' : List ℕ) (result : Result Status Failed) : Type 0 where
+  pub tells : (all : Files) → shelf.files ≡ Some all → TellsYield (FileOutcome report limit (all name) (Rose shelf.reading_faults shelf'.reading_faults)) handed (written out.held waits) (written out'.held waits') result
+  pub keeps : OnlyReads shelf shelf' (name ∷ [])
+  pub counts : CountsReading (name ∷ []) shelf.files shelf.reading_faults shelf'.reading_faults result
   pub own : IsReadingStatus result
-  pub sink : KeepsSink held held' faults faults' result
+  pub sink : KeepsSink out out' result
 
 -- The files of a plan were read in order, as far as the run came, and nothing else was done but that items were handed on.
-pub record DoesFiles (plan : ReadPlan) (handed : List Shown → Type 0) (old_files new_files : Option Files) (old_slots new_slots : Slots) (old_reading new_reading old_writing new_writing : ℕ)
-    (old_asked new_asked : List (List ℕ) → Type 0) (held held' : Option (List ℕ)) (waits waits' : List ℕ) (faults faults' : ℕ) (result : Result Status Failed) : Type 0 where
-  pub tells : (all : Files) → old_files ≡ Some all → IsSome new_files → TellsRun (PlanOutcome plan all (Rose old_reading new_reading)) handed old_asked new_asked (written held waits) (written held' waits') result
+pub record DoesFiles (plan : ReadPlan) (handed : List Shown → Type 0) (shelf shelf' : ShelfState) (out out' : SinkState) (waits waits' : List ℕ) (result : Result Status Failed) : Type 0 where
+  pub tells : (all : Files) → shelf.files ≡ Some all → IsSome shelf'.files → TellsRun (PlanOutcome plan all (Rose shelf.reading_faults shelf'.reading_faults)) handed shelf shelf' (written out.held waits) (written out'.held waits') result
   pub count : ℕ
   pub within : count ≤ length plan.names
   pub all : IsDone result → count ≡ length plan.names
-  pub keeps : OnlyReads old_files new_files old_slots new_slots old_reading new_reading old_writing new_writing old_asked new_asked (take count plan.names)
-  pub counts : CountsReading plan.names old_files old_reading new_reading result
+  pub keeps : OnlyReads shelf shelf' (take count plan.names)
+  pub counts : CountsReading plan.names shelf.files shelf.reading_faults shelf'.reading_faults result
   pub own : IsReadingStatus result
-  pub sink : KeepsSink held held' faults faults' result
+  pub sink : KeepsSink out out' result

@@ -3,6 +3,7 @@ use Rattle.std.specs.Prelude.{◌≡◌, ◌≢◌, ◌⊎◌, ℕ, ◌^◌, ◌
 use Rattle.avtp_base.specs.declared.failed.Failed.{Failed}
 use Rattle.avtp_base.specs.Faults.{Rose}
 use Rattle.avtp_base.specs.Files.{Files, Slots, KeepsFiles}
+use Rattle.avtp_base.specs.States.{ShelfState, SinkState}
 use Rattle.talker.specs.Frames.{capture}
 use Rattle.talker.specs.Plan.{IsPlan}
 use Rattle.sample_schedule.specs.Limits.{IsPlan as IsSchedulePlan}
@@ -120,18 +121,18 @@ pub record TellsDevices (request : Request) (failed : Bool) (result : Result Sta
 
 -- A run of the request left this: of the text and the items that were handed on, of the files and slots, of the counts of faults,
 -- and of the names that were asked for. Whether a device failed is `failed`.
-pub record Runs (request : Request) (handed : List Shown → Type 0) (failed : Bool) (old_files new_files : Option Files) (old_slots new_slots : Slots) (old_reading new_reading old_writing new_writing : ℕ) (old_asked new_asked : List (List ℕ) → Type 0)
-    (held held' : Option (List ℕ)) (waits waits' : List ℕ) (faults faults' : ℕ) (result : Result Status Failed) : Type 0 where
-  pub tells : (all : Files) → old_files ≡ Some all → IsSome new_files → TellsRun (Outcome request all (Rose old_reading new_reading) failed) handed old_asked new_asked (written held waits) (written held' waits') result
-  pub makes : (all : Files) → old_files ≡ Some all → MakesOf request all old_files new_files result
-  pub files : KeepsFilesBut (output_of request) old_files new_files
-  pub slots : KeepsSlotsFor (output_of request) new_files old_slots new_slots
-  pub counts : CountsReading (files_of request) old_files old_reading new_reading result
-  pub writing : CountsWriting (output_of request) old_writing new_writing result
+pub record Runs (request : Request) (handed : List Shown → Type 0) (failed : Bool) (shelf shelf' : ShelfState)
+    (out out' : SinkState) (waits waits' : List ℕ) (result : Result Status Failed) : Type 0 where
+  pub tells : (all : Files) → shelf.files ≡ Some all → IsSome shelf'.files → TellsRun (Outcome request all (Rose shelf.reading_faults shelf'.reading_faults) failed) handed shelf shelf' (written out.held waits) (written out'.held waits') result
+  pub makes : (all : Files) → shelf.files ≡ Some all → MakesOf request all shelf.files shelf'.files result
+  pub files : KeepsFilesBut (output_of request) shelf.files shelf'.files
+  pub slots : KeepsSlotsFor (output_of request) shelf'.files shelf.slots shelf'.slots
+  pub counts : CountsReading (files_of request) shelf.files shelf.reading_faults shelf'.reading_faults result
+  pub writing : CountsWriting (output_of request) shelf.writing_faults shelf'.writing_faults result
   pub no_words : result ≢ Ok status.Words
   pub devices : TellsDevices request failed result
-  pub asks : AsksFor (names_of request) old_asked new_asked (IsThrough result)
-  pub sink : KeepsSink held held' faults faults' result
+  pub asks : AsksFor (names_of request) shelf shelf' (IsThrough result)
+  pub sink : KeepsSink out out' result
 
 -- the words are a command line, or have an offence
 abbrev pub IsAsked : List (List ℕ) → Type 0

@@ -2,6 +2,7 @@
 use Rattle.std.specs.Prelude.{◌≡◌, ◌≢◌, ℕ, ◌≤◌, ◌<◌, nat_le, List, [], ◌∷◌, length, take, Option, Some, None, option_map, Result, Ok, IfOk, if◌then◌else◌}
 use Rattle.avtp_base.specs.declared.failed.Failed.{Failed}
 use Rattle.avtp_base.specs.Files.{Files, Slots}
+use Rattle.avtp_base.specs.States.{Asks, ShelfState, SinkState}
 use Rattle.capture_io.specs.declared.contents.Contents.{Contents}
 use Rattle.capture_io.specs.Contents.{IsContents}
 use Rattle.capture_io.specs.declared.end.Stop.{Stop}
@@ -24,7 +25,7 @@ use Rattle.avtp_text.specs.Talk.{talk_input_line, talk_line}
 use Rattle.avtp_tool.specs.declared.status.Status.{Status}
 use Rattle.avtp_tool.specs.declared.status.Status.TheVariants as status
 use Rattle.avtp_tool.specs.Made.{CountsWriting, KeepsFilesBut, Makes}
-use Rattle.avtp_tool.specs.Outcome.{Asks, AsksFor, EndsWith, is_done, IsDone, KeepsSink, TellsText}
+use Rattle.avtp_tool.specs.Outcome.{AsksFor, EndsWith, is_done, IsDone, KeepsSink, TellsText}
 use Rattle.talker.specs.declared.fault.TalkFault.TheVariants as fault
 use Rattle.avtp_base.specs.Told.{Keeps}
 use Rattle.avtp_text.specs.Written.{written}
@@ -102,31 +103,31 @@ pub record FaultStops (halt : Stop) (result : Result Status Failed) : Type 0 whe
   pub no_devices : result ≢ Ok status.DeviceFault
 
 -- A call that writes one file alone left this of all others, of the slots and of the counts, and asked for its name.
-pub record WritesOnly (old_files new_files : Option Files) (old_slots new_slots : Slots) (old_reading new_reading old_writing new_writing : ℕ) (old_asked new_asked : List (List ℕ) → Type 0) (name : List ℕ) (result : Result Status Failed) : Type 0 where
-  pub files : KeepsFilesBut (Some name) old_files new_files
-  pub slots : KeepsSlotsBut old_files old_slots new_slots name
-  pub reading : new_reading ≡ old_reading
-  pub writing : CountsWriting (Some name) old_writing new_writing result
-  pub asked : AsksFor (name ∷ []) old_asked new_asked (IsDone result)
-  pub came : IfOk result (λ s. s ≢ status.Memory → s ≢ status.WriteFault → Asks (if is_done s then name ∷ [] else []) old_asked new_asked)
+pub record WritesOnly (shelf shelf' : ShelfState) (name : List ℕ) (result : Result Status Failed) : Type 0 where
+  pub files : KeepsFilesBut (Some name) shelf.files shelf'.files
+  pub slots : KeepsSlotsBut shelf.files shelf.slots shelf'.slots name
+  pub reading : shelf'.reading_faults ≡ shelf.reading_faults
+  pub writing : CountsWriting (Some name) shelf.writing_faults shelf'.writing_faults result
+  pub asked : AsksFor (name ∷ []) shelf shelf' (IsDone result)
+  pub came : IfOk result (λ s. s ≢ status.Memory → s ≢ status.WriteFault → Asks (if is_done s then name ∷ [] else []) shelf shelf')
 
 -- A call that makes the file of this name of these bytes told one of the outcomes that there can be; it wrote the file, and left
 -- all else as it was.
-pub record Talks (Outcome : Status → List ℕ → Type 0) (name bytes : List ℕ) (old_files new_files : Option Files) (old_slots new_slots : Slots) (old_reading new_reading old_writing new_writing : ℕ) (old_asked new_asked : List (List ℕ) → Type 0)
-    (held held' : Option (List ℕ)) (waits waits' : List ℕ) (faults faults' : ℕ) (result : Result Status Failed) : Type 0 where
-  pub tells : TellsText Outcome (written held waits) (written held' waits') result
-  pub makes : Makes name bytes old_files new_files result
-  pub writes : WritesOnly old_files new_files old_slots new_slots old_reading new_reading old_writing new_writing old_asked new_asked name result
-  pub sink : KeepsSink held held' faults faults' result
+pub record Talks (Outcome : Status → List ℕ → Type 0) (name bytes : List ℕ) (shelf shelf' : ShelfState)
+    (out out' : SinkState) (waits waits' : List ℕ) (result : Result Status Failed) : Type 0 where
+  pub tells : TellsText Outcome (written out.held waits) (written out'.held waits') result
+  pub makes : Makes name bytes shelf.files shelf'.files result
+  pub writes : WritesOnly shelf shelf' name result
+  pub sink : KeepsSink out out' result
 
 -- The same of the capture of an input, by what was read of it.
-pub record TalksContents (plan : TalkPlan) (contents : Contents) (name : List ℕ) (old_files new_files : Option Files) (old_slots new_slots : Slots) (old_reading new_reading old_writing new_writing : ℕ) (old_asked new_asked : List (List ℕ) → Type 0)
-    (held held' : Option (List ℕ)) (waits waits' : List ℕ) (faults faults' : ℕ) (result : Result Status Failed) : Type 0 where
-  pub tells : (bytes : List ℕ) → IsContents most_input bytes contents.stop contents.bytes.items → TellsText (TalkedOutcome plan bytes (contents.stop ≡ stop.Fault)) (written held waits) (written held' waits') result
-  pub makes : (bytes : List ℕ) → IsContents most_input bytes contents.stop contents.bytes.items → Makes name (capture plan bytes) old_files new_files result
-  pub writes : WritesOnly old_files new_files old_slots new_slots old_reading new_reading old_writing new_writing old_asked new_asked name result
+pub record TalksContents (plan : TalkPlan) (contents : Contents) (name : List ℕ) (shelf shelf' : ShelfState)
+    (out out' : SinkState) (waits waits' : List ℕ) (result : Result Status Failed) : Type 0 where
+  pub tells : (bytes : List ℕ) → IsContents most_input bytes contents.stop contents.bytes.items → TellsText (TalkedOutcome plan bytes (contents.stop ≡ stop.Fault)) (written out.held waits) (written out'.held waits') result
+  pub makes : (bytes : List ℕ) → IsContents most_input bytes contents.stop contents.bytes.items → Makes name (capture plan bytes) shelf.files shelf'.files result
+  pub writes : WritesOnly shelf shelf' name result
   pub counts : FaultStops contents.stop result
-  pub sink : KeepsSink held held' faults faults' result
+  pub sink : KeepsSink out out' result
 
 -- A front of the room, of so many bytes, is what was spelled.
 pub record Puts (spelling room : List ℕ) (count : ℕ) : Type 0 where
@@ -135,7 +136,7 @@ pub record Puts (spelling room : List ℕ) (count : ℕ) : Type 0 where
 
 -- A run ends since the input makes no stream: for want of memory with that status and nothing printed, and else with the line
 -- that says why.
-pub record EndsRefused (why : TalkFault) (held held' : Option (List ℕ)) (waits waits' : List ℕ) (faults faults' : ℕ) (result : Result Status Failed) : Type 0 where
-  pub memory : why ≡ fault.Memory → (result ≡ Ok status.Memory) × Keeps (written held waits) (written held' waits')
-  pub other : why ≢ fault.Memory → EndsWith status.TalkInput held held' waits waits' faults faults' result (talk_input_line why)
-  pub sink : KeepsSink held held' faults faults' result
+pub record EndsRefused (why : TalkFault) (out out' : SinkState) (waits waits' : List ℕ) (result : Result Status Failed) : Type 0 where
+  pub memory : why ≡ fault.Memory → (result ≡ Ok status.Memory) × Keeps (written out.held waits) (written out'.held waits')
+  pub other : why ≢ fault.Memory → EndsWith status.TalkInput out out' waits waits' result (talk_input_line why)
+  pub sink : KeepsSink out out' result

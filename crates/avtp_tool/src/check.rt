@@ -41,8 +41,7 @@ pub fn check<F: Shelf, S: Sink>(
     out: &mut S,
 ) -> Result<Status, Failed>
     requires { limit ≤ 2 ^ 40 }
-    ensures { DoesFile (check_report limit file.now) HandsNothing limit file.now (F.files shelf.old) (F.files shelf.new) (F.slots shelf.old) (F.slots shelf.new) (F.reading_faults shelf.old) (F.reading_faults shelf.new)
-        (F.writing_faults shelf.old) (F.writing_faults shelf.new) (F.asked shelf.old) (F.asked shelf.new) (S.held out.old) (S.held out.new) text.old text.new (S.faults out.old) (S.faults out.new) result }
+    ensures { DoesFile (check_report limit file.now) HandsNothing limit file.now (F.state shelf.old) (F.state shelf.new) (S.state out.old) (S.state out.new) text.old text.new result }
 {
     let mut source = match Source::open(alloc, limit, shelf, file) {
         Ok(source) => source,
@@ -69,13 +68,12 @@ fn check_records<F: Shelf, S: Sink>(
     text: &mut Text,
     out: &mut S,
 ) -> Result<Total, Failed>
-    requires open { IsOpen (F.slots shelf.old) source.old }
+    requires open { IsOpen (F.state shelf.old).slots source.old }
     requires stands { StandsFor tracker [] }
-    ensures checked { (limit : ℕ) (bytes : List ℕ) → HasGiven limit bytes (left_in (F.slots shelf.old) (slot_of source.old)) source.old [] →
-        ChecksRecords limit file.now bytes (Rose (F.reading_faults shelf.old) (F.reading_faults shelf.new)) (written (S.held out.old) text.old) (written (S.held out.new) text.new) result }
-    ensures reads { ReadsCapture (F.files shelf.old) (F.files shelf.new) (F.slots shelf.old) (F.slots shelf.new) (F.reading_faults shelf.old) (F.reading_faults shelf.new)
-        (F.writing_faults shelf.old) (F.writing_faults shelf.new) (F.asked shelf.old) (F.asked shelf.new) (slot_of source.old) (slot_of source.new) (ended_in (λ t. t.end) result) }
-    ensures sink { KeepsSink (S.held out.old) (S.held out.new) (S.faults out.old) (S.faults out.new) result }
+    ensures checked { (limit : ℕ) (bytes : List ℕ) → HasGiven limit bytes (left_in (F.state shelf.old).slots (slot_of source.old)) source.old [] →
+        ChecksRecords limit file.now bytes (Rose (F.state shelf.old).reading_faults (F.state shelf.new).reading_faults) (written (S.state out.old).held text.old) (written (S.state out.new).held text.new) result }
+    ensures reads { ReadsCapture (F.state shelf.old) (F.state shelf.new) (slot_of source.old) (slot_of source.new) (ended_in (λ t. t.end) result) }
+    ensures sink { KeepsSink (S.state out.old) (S.state out.new) result }
 {
     text.capture(out, file)?;
     let mut frames = 0;
@@ -105,9 +103,9 @@ fn print_checked<S: Sink>(
 ) -> Result<u64, Failed>
     ensures stands { (notes : List SeenValue) → StandsFor tracker.old notes → StandsFor tracker.new (notes ++ noted checked) }
     ensures prints { (notes : List SeenValue) → StandsFor tracker.old notes →
-        PrintsFound (S.held out.old) (S.held out.new) text.old text.new (S.faults out.old) (S.faults out.new) result (found_lines number notes checked) }
+        PrintsFound (S.state out.old) (S.state out.new) text.old text.new result (found_lines number notes checked) }
     ensures few { IfOk result (λ n. n ≤ 5) }
-    ensures sink { KeepsSink (S.held out.old) (S.held out.new) (S.faults out.old) (S.faults out.new) result }
+    ensures sink { KeepsSink (S.state out.old) (S.state out.new) result }
 {
     match checked {
         Checked::Passed => Ok(0),
@@ -146,7 +144,7 @@ fn print_findings<S: Sink>(
     id: u64,
     findings: &Findings,
 ) -> Result<u64, Failed>
-    ensures prints { PrintsFound (S.held out.old) (S.held out.new) text.old text.new (S.faults out.old) (S.faults out.new) result (map (packet_line number id) (finding_texts findings.now)) }
+    ensures prints { PrintsFound (S.state out.old) (S.state out.new) text.old text.new result (map (packet_line number id) (finding_texts findings.now)) }
     ensures few { IfOk result (λ n. n ≤ 5) }
 {
     text.findings(out, number, id, findings)?;
@@ -160,7 +158,7 @@ fn print_total<S: Sink>(
     limit: u64,
     total: Total,
 ) -> Result<Status, Failed>
-    ensures { EndsWith (check_status total.findings total.end) (S.held out.old) (S.held out.new) text.old text.new (S.faults out.old) (S.faults out.new) result (total_line limit total.frames total.streams total.findings total.end) }
+    ensures { EndsWith (check_status total.findings total.end) (S.state out.old) (S.state out.new) text.old text.new result (total_line limit total.frames total.streams total.findings total.end) }
 {
     print_total_line(text, out, limit, total)?;
     Ok(status_of(total))
@@ -172,7 +170,7 @@ fn print_total_line<S: Sink>(
     limit: u64,
     total: Total,
 ) -> Result<(), Failed>
-    ensures { Prints (S.held out.old) (S.held out.new) text.old text.new (S.faults out.old) (S.faults out.new) result (total_line limit total.frames total.streams total.findings total.end) }
+    ensures { Prints (S.state out.old) (S.state out.new) text.old text.new result (total_line limit total.frames total.streams total.findings total.end) }
 {
     match total.end {
         End::Whole => text.end_check(out, total.frames, u64::from(total.streams), total.findings),

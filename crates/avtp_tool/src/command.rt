@@ -3,6 +3,7 @@
 ghost use Rattle.std.specs.Prelude.{◌≡◌, ◌≢◌, ◌≤◌, ◌⊎◌, ◌++◌, ◌∷◌, ℕ, ℤ, List, Ok, Some, None, true, false, nat_lt, IsSome, length, IfOk};
 ghost use Rattle.avtp_base.specs.Faults.{IsQuiet, Rose};
 ghost use Rattle.avtp_base.specs.Files.{Files, KeepsFiles, PutsFile};
+ghost use Rattle.avtp_base.specs.States.{Asks};
 ghost use Rattle.avtp_base.specs.Told.{Appends};
 ghost use Rattle.capture_io.specs.Formats.{records_in};
 ghost use Rattle.capture_io.specs.Writing.{MakesPrefix};
@@ -15,7 +16,7 @@ ghost use Rattle.avtp_words.specs.Grammar.{files_of, IsCommandLine, IsOffence, l
 ghost use Rattle.avtp_words.specs.Word.{texts};
 ghost use Rattle.avtp_tool.specs.Listen.{HasHeadline, listen_status, plan_of};
 ghost use Rattle.avtp_tool.specs.Made.{KeepsFilesBut, KeepsSlotsFor};
-ghost use Rattle.avtp_tool.specs.Outcome.{Asks, AsksFor, EndsUnopened, EndsWith, Finishes, IsOneMissing, KeepsSink};
+ghost use Rattle.avtp_tool.specs.Outcome.{AsksFor, EndsUnopened, EndsWith, Finishes, IsOneMissing, KeepsSink};
 ghost use Rattle.avtp_tool.specs.Run.{came_for, is_listening, is_through, IsAsked, names_of, Outcome, Runs, status_for, yield_for};
 ghost use Rattle.avtp_tool.specs.Talk.{talk_plan};
 ghost use Rattle.avtp_tool.specs.Yield.{HandsOn, Yield};
@@ -49,44 +50,44 @@ pub fn run<T: Threads + Sync, F: Shelf, S: Sink, G: Gate, D: Devices + Send>(
     // What is printed is the report of the files to which the run came, each device was handed what is presented in it, and it came
     // to these files alone.
     ensures shown { result ≢ Status.Memory → result ≢ Status.WriteFault → (request : Request) (files : Files) →
-        IsCommandLine (texts words.now) request → F.files shelf.old ≡ Some files → IsSome (F.files shelf.new) →
-        (came : List (List ℕ)) × (yields : Yield) × Outcome request files (Rose (F.reading_faults shelf.old) (F.reading_faults shelf.new)) (nat_lt (D.failures rack.old) (D.failures rack.new)) came result yields
-        × Appends (S.held out.old) (S.held out.new) yields.text × HandsOn D.handed rack.old rack.new yields.items × Asks came (F.asked shelf.old) (F.asked shelf.new) }
+        IsCommandLine (texts words.now) request → (F.state shelf.old).files ≡ Some files → IsSome (F.state shelf.new).files →
+        (came : List (List ℕ)) × (yields : Yield) × Outcome request files (Rose (F.state shelf.old).reading_faults (F.state shelf.new).reading_faults) (nat_lt (D.failures rack.old) (D.failures rack.new)) came result yields
+        × Appends (S.state out.old).held (S.state out.new).held yields.text × HandsOn D.handed rack.old rack.new yields.items × Asks came (F.state shelf.old) (F.state shelf.new) }
 
     // Where no fault of reading comes, that is the whole report.
     ensures complete { result ≢ Status.Memory → result ≢ Status.WriteFault → (request : Request) (files : Files) →
-        IsCommandLine (texts words.now) request → F.files shelf.old ≡ Some files → IsSome (F.files shelf.new) →
-        IsQuiet (F.reading_faults shelf.old) (F.reading_faults shelf.new) →
+        IsCommandLine (texts words.now) request → (F.state shelf.old).files ≡ Some files → IsSome (F.state shelf.new).files →
+        IsQuiet (F.state shelf.old).reading_faults (F.state shelf.new).reading_faults →
         (yields : Yield) × (yields ≡ yield_for request files (nat_lt (D.failures rack.old) (D.failures rack.new))) × (result ≡ status_for request files (nat_lt (D.failures rack.old) (D.failures rack.new)))
-        × Appends (S.held out.old) (S.held out.new) yields.text × HandsOn D.handed rack.old rack.new yields.items × Asks (came_for request files) (F.asked shelf.old) (F.asked shelf.new) }
+        × Appends (S.state out.old).held (S.state out.new).held yields.text × HandsOn D.handed rack.old rack.new yields.items × Asks (came_for request files) (F.state shelf.old) (F.state shelf.new) }
 
     // What `listen` prints of a talker that keeps the rules, whatever its capture lost, repeats or reorders: of each file to
     // which the run came, with a journal of its own.
     ensures headline { result ≢ Status.Memory → result ≢ Status.WriteFault →
         (asked : Listening) (files : Files) (earlier later : List (List ℕ)) (name bytes : List ℕ) (shift : ℤ) (p : PacketJournal) →
-        IsCommandLine (texts words.now) (listen_request asked) → F.files shelf.old ≡ Some files → IsSome (F.files shelf.new) →
-        IsQuiet (F.reading_faults shelf.old) (F.reading_faults shelf.new) →
+        IsCommandLine (texts words.now) (listen_request asked) → (F.state shelf.old).files ≡ Some files → IsSome (F.state shelf.new).files →
+        IsQuiet (F.state shelf.old).reading_faults (F.state shelf.new).reading_faults →
         asked.files ≡ earlier ++ name ∷ later → listen_status asked files earlier ≡ Status.Done → files name ≡ Some bytes →
         length bytes ≤ asked.limit → HearsTalker shift p (plan_of asked) (records_in bytes) →
-        (yields : Yield) × HasHeadline asked name shift p bytes yields × Appends (S.held out.old) (S.held out.new) yields.text × HandsOn D.handed rack.old rack.new yields.items }
+        (yields : Yield) × HasHeadline asked name shift p bytes yields × Appends (S.state out.old).held (S.state out.new).held yields.text × HandsOn D.handed rack.old rack.new yields.items }
 
     // Words that are no command line are told by the first that cannot stand.
     ensures words { result ≢ Status.Memory → result ≢ Status.WriteFault → (position : ℕ) → IsOffence (texts words.now) position →
-        (result ≡ Status.Words) × Appends (S.held out.old) (S.held out.new) (words_line position) }
+        (result ≡ Status.Words) × Appends (S.state out.old).held (S.state out.new).held (words_line position) }
     ensures only_words { result ≡ Status.Words → (position : ℕ) × IsOffence (texts words.now) position }
     ensures unopened { (position : ℕ) → IsOffence (texts words.now) position → (shelf.new ≡ shelf.old) × (rack.new ≡ rack.old) }
 
     // Whatever comes, the sink keeps what it held, and gains a prefix of such a text and nothing else; the devices are handed the
     // first of such items.
-    ensures grows { Grows (S.held out.old) (S.held out.new) }
+    ensures grows { Grows (S.state out.old).held (S.state out.new).held }
     ensures part { (request : Request) (files : Files) →
-        IsCommandLine (texts words.now) request → F.files shelf.old ≡ Some files → IsSome (F.files shelf.new) →
-        (came : List (List ℕ)) × (ended : Status) × (yields : Yield) × Outcome request files (Rose (F.reading_faults shelf.old) (F.reading_faults shelf.new)) (nat_lt (D.failures rack.old) (D.failures rack.new)) came ended yields
-        × AppendsPrefix (S.held out.old) (S.held out.new) yields.text × ((front : List Shown) × IsPrefix front yields.items × HandsOn D.handed rack.old rack.new front) }
+        IsCommandLine (texts words.now) request → (F.state shelf.old).files ≡ Some files → IsSome (F.state shelf.new).files →
+        (came : List (List ℕ)) × (ended : Status) × (yields : Yield) × Outcome request files (Rose (F.state shelf.old).reading_faults (F.state shelf.new).reading_faults) (nat_lt (D.failures rack.old) (D.failures rack.new)) came ended yields
+        × AppendsPrefix (S.state out.old).held (S.state out.new).held yields.text × ((front : List Shown) × IsPrefix front yields.items × HandsOn D.handed rack.old rack.new front) }
     ensures part_complete { (request : Request) (files : Files) →
-        IsCommandLine (texts words.now) request → F.files shelf.old ≡ Some files → IsSome (F.files shelf.new) →
-        IsQuiet (F.reading_faults shelf.old) (F.reading_faults shelf.new) → AppendsPrefix (S.held out.old) (S.held out.new) (yield_for request files (nat_lt (D.failures rack.old) (D.failures rack.new))).text }
-    ensures part_words { (position : ℕ) → IsOffence (texts words.now) position → AppendsPrefix (S.held out.old) (S.held out.new) (words_line position) }
+        IsCommandLine (texts words.now) request → (F.state shelf.old).files ≡ Some files → IsSome (F.state shelf.new).files →
+        IsQuiet (F.state shelf.old).reading_faults (F.state shelf.new).reading_faults → AppendsPrefix (S.state out.old).held (S.state out.new).held (yield_for request files (nat_lt (D.failures rack.old) (D.failures rack.new))).text }
+    ensures part_words { (position : ℕ) → IsOffence (texts words.now) position → AppendsPrefix (S.state out.old).held (S.state out.new).held (words_line position) }
 
     // A run ends with a device's fault exactly where it listened, all else was done, and a device failed in it; and no other command
     // touches the devices.
@@ -95,37 +96,37 @@ pub fn run<T: Threads + Sync, F: Shelf, S: Sink, G: Gate, D: Devices + Send>(
     ensures devices_kept { (request : Request) → IsCommandLine (texts words.now) request → is_listening request ≡ false → rack.new ≡ rack.old }
 
     // A fault is the outside's.
-    ensures read_fault { result ≡ Status.ReadFault → Rose (F.reading_faults shelf.old) (F.reading_faults shelf.new)
-        ⊎ ((request : Request) × IsCommandLine (texts words.now) request × IsOneMissing (files_of request) (F.files shelf.old)) }
-    ensures no_read_fault { result ≢ Status.ReadFault → result ≢ Status.WriteFault → result ≢ Status.Memory → F.reading_faults shelf.new ≡ F.reading_faults shelf.old }
-    ensures write_fault { result ≡ Status.WriteFault → Rose (S.faults out.old) (S.faults out.new) ⊎ Rose (F.writing_faults shelf.old) (F.writing_faults shelf.new) }
-    ensures no_write_fault { result ≢ Status.WriteFault → S.faults out.new ≡ S.faults out.old }
-    ensures no_file_fault { result ≢ Status.WriteFault → F.writing_faults shelf.new ≡ F.writing_faults shelf.old }
+    ensures read_fault { result ≡ Status.ReadFault → Rose (F.state shelf.old).reading_faults (F.state shelf.new).reading_faults
+        ⊎ ((request : Request) × IsCommandLine (texts words.now) request × IsOneMissing (files_of request) (F.state shelf.old).files) }
+    ensures no_read_fault { result ≢ Status.ReadFault → result ≢ Status.WriteFault → result ≢ Status.Memory → (F.state shelf.new).reading_faults ≡ (F.state shelf.old).reading_faults }
+    ensures write_fault { result ≡ Status.WriteFault → Rose (S.state out.old).faults (S.state out.new).faults ⊎ Rose (F.state shelf.old).writing_faults (F.state shelf.new).writing_faults }
+    ensures no_write_fault { result ≢ Status.WriteFault → (S.state out.new).faults ≡ (S.state out.old).faults }
+    ensures no_file_fault { result ≢ Status.WriteFault → (F.state shelf.new).writing_faults ≡ (F.state shelf.old).writing_faults }
 
     // Where all was done, the file that `talk` writes has the capture of its input; else it is as it was, or has a prefix of
     // that.
     ensures made { result ≡ Status.Done → (asked : Talking) (files : Files) (bytes : List ℕ) →
-        IsCommandLine (texts words.now) (talk_request asked) → F.files shelf.old ≡ Some files → files asked.input ≡ Some bytes →
-        PutsFile (F.files shelf.old) (F.files shelf.new) asked.output (capture (talk_plan asked) bytes) }
+        IsCommandLine (texts words.now) (talk_request asked) → (F.state shelf.old).files ≡ Some files → files asked.input ≡ Some bytes →
+        PutsFile (F.state shelf.old).files (F.state shelf.new).files asked.output (capture (talk_plan asked) bytes) }
     ensures part_made { (asked : Talking) (files : Files) (bytes : List ℕ) →
-        IsCommandLine (texts words.now) (talk_request asked) → F.files shelf.old ≡ Some files → files asked.input ≡ Some bytes →
-        MakesPrefix (F.files shelf.old) (F.files shelf.new) asked.output (capture (talk_plan asked) bytes) }
-    ensures not_made { (asked : Talking) (files : Files) → IsCommandLine (texts words.now) (talk_request asked) → F.files shelf.old ≡ Some files → files asked.input ≡ None →
-        KeepsFiles (F.files shelf.old) (F.files shelf.new) }
-    ensures untouched { result ≢ Status.Done → result ≢ Status.WriteFault → result ≢ Status.Memory → KeepsFiles (F.files shelf.old) (F.files shelf.new) }
+        IsCommandLine (texts words.now) (talk_request asked) → (F.state shelf.old).files ≡ Some files → files asked.input ≡ Some bytes →
+        MakesPrefix (F.state shelf.old).files (F.state shelf.new).files asked.output (capture (talk_plan asked) bytes) }
+    ensures not_made { (asked : Talking) (files : Files) → IsCommandLine (texts words.now) (talk_request asked) → (F.state shelf.old).files ≡ Some files → files asked.input ≡ None →
+        KeepsFiles (F.state shelf.old).files (F.state shelf.new).files }
+    ensures untouched { result ≢ Status.Done → result ≢ Status.WriteFault → result ≢ Status.Memory → KeepsFiles (F.state shelf.old).files (F.state shelf.new).files }
 
     // No name but those of the words is asked for, and these in their order: all of them where all was done.
-    ensures asks { (request : Request) → IsCommandLine (texts words.now) request → AsksFor (names_of request) (F.asked shelf.old) (F.asked shelf.new) (is_through result ≡ true) }
+    ensures asks { (request : Request) → IsCommandLine (texts words.now) request → AsksFor (names_of request) (F.state shelf.old) (F.state shelf.new) (is_through result ≡ true) }
 
     // Every other file is as it was, and each that was opened is closed.
     ensures files { (request : Request) → IsCommandLine (texts words.now) request →
-        KeepsFilesBut (output_of request) (F.files shelf.old) (F.files shelf.new) }
+        KeepsFilesBut (output_of request) (F.state shelf.old).files (F.state shelf.new).files }
     ensures slots { (request : Request) → IsCommandLine (texts words.now) request →
-        KeepsSlotsFor (output_of request) (F.files shelf.new) (F.slots shelf.old) (F.slots shelf.new) }
-    ensures never_falls { F.reading_faults shelf.old ≤ F.reading_faults shelf.new }
-    ensures writing { F.writing_faults shelf.old ≤ F.writing_faults shelf.new }
+        KeepsSlotsFor (output_of request) (F.state shelf.new).files (F.state shelf.old).slots (F.state shelf.new).slots }
+    ensures never_falls { (F.state shelf.old).reading_faults ≤ (F.state shelf.new).reading_faults }
+    ensures writing { (F.state shelf.old).writing_faults ≤ (F.state shelf.new).writing_faults }
     ensures not_written { (request : Request) → IsCommandLine (texts words.now) request → output_of request ≡ None →
-        F.writing_faults shelf.new ≡ F.writing_faults shelf.old }
+        (F.state shelf.new).writing_faults ≡ (F.state shelf.old).writing_faults }
 {
     let Ok(mut text) = Text::new(alloc) else {
         return Status::Memory;
@@ -145,14 +146,12 @@ fn execute<T: Threads + Sync, F: Shelf, S: Sink, G: Gate, D: Devices + Send>(
     gate: &G,
     rack: &mut D,
 ) -> Result<Status, Failed>
-    ensures runs { (request : Request) → IsCommandLine (texts words.now) request → Runs request (HandsOn D.handed rack.old rack.new) (nat_lt (D.failures rack.old) (D.failures rack.new)) (F.files shelf.old) (F.files shelf.new) (F.slots shelf.old) (F.slots shelf.new) (F.reading_faults shelf.old) (F.reading_faults shelf.new)
-        (F.writing_faults shelf.old) (F.writing_faults shelf.new) (F.asked shelf.old) (F.asked shelf.new)
-        (S.held out.old) (S.held out.new) text.old text.new (S.faults out.old) (S.faults out.new) result }
+    ensures runs { (request : Request) → IsCommandLine (texts words.now) request → Runs request (HandsOn D.handed rack.old rack.new) (nat_lt (D.failures rack.old) (D.failures rack.new)) (F.state shelf.old) (F.state shelf.new) (S.state out.old) (S.state out.new) text.old text.new result }
     ensures words { (position : ℕ) → IsOffence (texts words.now) position →
-        (shelf.new ≡ shelf.old) × (rack.new ≡ rack.old) × EndsWith Status.Words (S.held out.old) (S.held out.new) text.old text.new (S.faults out.old) (S.faults out.new) result (words_line position) }
+        (shelf.new ≡ shelf.old) × (rack.new ≡ rack.old) × EndsWith Status.Words (S.state out.old) (S.state out.new) text.old text.new result (words_line position) }
     ensures either { IsAsked (texts words.now) }
     ensures devices { (request : Request) → IsCommandLine (texts words.now) request → is_listening request ≡ false → rack.new ≡ rack.old }
-    ensures sink { KeepsSink (S.held out.old) (S.held out.new) (S.faults out.old) (S.faults out.new) result }
+    ensures sink { KeepsSink (S.state out.old) (S.state out.new) result }
 {
     match parse(words) {
         Ok(Command::Show { limit, file }) => show(alloc, limit, file, shelf, text, out),
@@ -176,7 +175,7 @@ fn execute<T: Threads + Sync, F: Shelf, S: Sink, G: Gate, D: Devices + Send>(
 
 /// Says which word is the first that cannot stand at its place.
 fn print_offence<S: Sink>(text: &mut Text, out: &mut S, position: u64) -> Result<Status, Failed>
-    ensures { EndsWith Status.Words (S.held out.old) (S.held out.new) text.old text.new (S.faults out.old) (S.faults out.new) result (words_line position) }
+    ensures { EndsWith Status.Words (S.state out.old) (S.state out.new) text.old text.new result (words_line position) }
 {
     text.words(out, position)?;
     Ok(Status::Words)
@@ -184,7 +183,7 @@ fn print_offence<S: Sink>(text: &mut Text, out: &mut S, position: u64) -> Result
 
 /// Says that a file could not be read.
 pub fn print_fault<S: Sink>(text: &mut Text, out: &mut S) -> Result<Status, Failed>
-    ensures { EndsWith Status.ReadFault (S.held out.old) (S.held out.new) text.old text.new (S.faults out.old) (S.faults out.new) result read_fault_line }
+    ensures { EndsWith Status.ReadFault (S.state out.old) (S.state out.new) text.old text.new result read_fault_line }
 {
     text.read_fault(out)?;
     Ok(Status::ReadFault)
@@ -196,7 +195,7 @@ pub fn print_unopened<S: Sink>(
     out: &mut S,
     fault: OpenFault,
 ) -> Result<Status, Failed>
-    ensures { EndsUnopened fault (S.held out.old) (S.held out.new) text.old text.new (S.faults out.old) (S.faults out.new) result }
+    ensures { EndsUnopened fault (S.state out.old) (S.state out.new) text.old text.new result }
 {
     match fault {
         OpenFault::Memory => Ok(Status::Memory),
@@ -207,7 +206,7 @@ pub fn print_unopened<S: Sink>(
 
 /// Writes the text that still waits.
 fn finish<S: Sink>(text: &mut Text, out: &mut S, ended: Result<Status, Failed>) -> Status
-    ensures { Finishes (S.held out.old) (S.held out.new) text.old text.new (S.faults out.old) (S.faults out.new) ended result }
+    ensures { Finishes (S.state out.old) (S.state out.new) text.old text.new ended result }
 {
     let Ok(status) = ended else {
         return Status::WriteFault;

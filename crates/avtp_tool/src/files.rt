@@ -46,8 +46,7 @@ pub fn read_files<T: Threads + Sync, F: Shelf, S: Sink, G: Gate, D: Devices + Se
 ) -> Result<Status, Failed>
     requires { IsReading reading.now }
     ensures kept { is_hearing reading.now ≡ false → rack.new ≡ rack.old }
-    ensures does { DoesFiles (plan_for reading.now (texts files.now)) (HandsOn D.handed rack.old rack.new) (F.files shelf.old) (F.files shelf.new) (F.slots shelf.old) (F.slots shelf.new) (F.reading_faults shelf.old) (F.reading_faults shelf.new)
-        (F.writing_faults shelf.old) (F.writing_faults shelf.new) (F.asked shelf.old) (F.asked shelf.new) (S.held out.old) (S.held out.new) text.old text.new (S.faults out.old) (S.faults out.new) result }
+    ensures does { DoesFiles (plan_for reading.now (texts files.now)) (HandsOn D.handed rack.old rack.new) (F.state shelf.old) (F.state shelf.new) (S.state out.old) (S.state out.new) text.old text.new result }
 {
     let mut ended = Status::Done;
     for file in files {
@@ -72,8 +71,7 @@ pub fn hear_files<T: Threads + Sync, F: Shelf, S: Sink, G: Gate, D: Devices + Se
     rack: &mut D,
 ) -> Result<Status, Failed>
     requires { IsListening (listening_of asked.now) }
-    ensures { Runs (listen_request (listening_of asked.now)) (HandsOn D.handed rack.old rack.new) (nat_lt (D.failures rack.old) (D.failures rack.new)) (F.files shelf.old) (F.files shelf.new) (F.slots shelf.old) (F.slots shelf.new) (F.reading_faults shelf.old) (F.reading_faults shelf.new)
-        (F.writing_faults shelf.old) (F.writing_faults shelf.new) (F.asked shelf.old) (F.asked shelf.new) (S.held out.old) (S.held out.new) text.old text.new (S.faults out.old) (S.faults out.new) result }
+    ensures { Runs (listen_request (listening_of asked.now)) (HandsOn D.handed rack.old rack.new) (nat_lt (D.failures rack.old) (D.failures rack.new)) (F.state shelf.old) (F.state shelf.new) (S.state out.old) (S.state out.new) text.old text.new result }
 {
     let failed = rack.count_failed();
     let reading = Reading::Listen(asked);
@@ -101,7 +99,7 @@ pub fn hear_files<T: Threads + Sync, F: Shelf, S: Sink, G: Gate, D: Devices + Se
 
 /// Says that a device failed.
 fn print_device_fault<S: Sink>(text: &mut Text, out: &mut S) -> Result<Status, Failed>
-    ensures { EndsWith Status.DeviceFault (S.held out.old) (S.held out.new) text.old text.new (S.faults out.old) (S.faults out.new) result device_fault_line }
+    ensures { EndsWith Status.DeviceFault (S.state out.old) (S.state out.new) text.old text.new result device_fault_line }
 {
     text.device_fault(out)?;
     Ok(Status::DeviceFault)
@@ -121,8 +119,7 @@ fn read_file<T: Threads + Sync, F: Shelf, S: Sink, G: Gate, D: Devices + Send>(
 ) -> Result<Status, Failed>
     requires { IsReading reading.now }
     ensures kept { is_hearing reading.now ≡ false → rack.new ≡ rack.old }
-    ensures does { DoesFile (report_for reading.now file.now) (HandsOn D.handed rack.old rack.new) (limit_for reading.now) file.now (F.files shelf.old) (F.files shelf.new) (F.slots shelf.old) (F.slots shelf.new) (F.reading_faults shelf.old) (F.reading_faults shelf.new)
-        (F.writing_faults shelf.old) (F.writing_faults shelf.new) (F.asked shelf.old) (F.asked shelf.new) (S.held out.old) (S.held out.new) text.old text.new (S.faults out.old) (S.faults out.new) result }
+    ensures does { DoesFile (report_for reading.now file.now) (HandsOn D.handed rack.old rack.new) (limit_for reading.now) file.now (F.state shelf.old) (F.state shelf.new) (S.state out.old) (S.state out.new) text.old text.new result }
 {
     match reading {
         Reading::Check { limit } => check(alloc, *limit, file, shelf, text, out),

@@ -98,9 +98,8 @@ impl Hearing {
 
     /// Closes the capture's file, wherever the hearing stands.
     pub fn close<F: Shelf>(self, shelf: &mut F)
-        requires { IsSome (F.slots shelf.old (slot_of self.source)) }
-        ensures { ClosesSlot (F.files shelf.old) (F.files shelf.new) (F.slots shelf.old) (F.slots shelf.new) (F.reading_faults shelf.old) (F.reading_faults shelf.new)
-            (F.writing_faults shelf.old) (F.writing_faults shelf.new) (F.asked shelf.old) (F.asked shelf.new) (slot_of self.source) }
+        requires { IsSome ((F.state shelf.old).slots (slot_of self.source)) }
+        ensures { ClosesSlot (F.state shelf.old) (F.state shelf.new) (slot_of self.source) }
     {
         let Hearing {
             source,
@@ -113,14 +112,12 @@ impl Hearing {
 
     /// The next item that is shown, or where there is none how the hearing ended.
     pub fn next<F: ReadSlots>(&mut self, shelf: &mut F) -> Pull
-        requires live { IsSome (F.slots shelf.old (slot_of self.old.source)) }
+        requires live { IsSome ((F.state shelf.old).slots (slot_of self.old.source)) }
         requires going { pull_at self.old.stage ≡ None }
         ensures shows { (begun : F) (source : Sourcing) (listener : ListenState) (items : List ShownValue) →
-            Shows (F.files begun) (F.files shelf.old) (F.slots begun) (F.slots shelf.old) (F.reading_faults begun) (F.reading_faults shelf.old) (F.writing_faults begun) (F.writing_faults shelf.old)
-            (F.asked begun) (F.asked shelf.old) source self.old.source listener self.old.listener self.old.stage items →
-            Shows (F.files begun) (F.files shelf.new) (F.slots begun) (F.slots shelf.new) (F.reading_faults begun) (F.reading_faults shelf.new) (F.writing_faults begun) (F.writing_faults shelf.new)
-            (F.asked begun) (F.asked shelf.new) source self.new.source listener self.new.listener self.new.stage (items ++ items_of result) }
-        ensures live { IsSome (F.slots shelf.new (slot_of self.new.source)) }
+            Shows (F.state begun) (F.state shelf.old) source self.old.source listener self.old.listener self.old.stage items →
+            Shows (F.state begun) (F.state shelf.new) source self.new.source listener self.new.listener self.new.stage (items ++ items_of result) }
+        ensures live { IsSome ((F.state shelf.new).slots (slot_of self.new.source)) }
         ensures left { left_of self.new.stage self.new.source self.new.listener + length (items_of result) ≤ left_of self.old.stage self.old.source self.old.listener }
         ensures ended { pull_at self.new.stage ≡ ending_of result }
     {
@@ -144,15 +141,13 @@ impl Hearing {
 
     /// Reads the next record and has the listener take it, or ends the reading. Nothing is due of the records before.
     fn read_record<F: ReadSlots>(&mut self, shelf: &mut F) -> Result<(), NoMemory>
-        requires live { IsSome (F.slots shelf.old (slot_of self.old.source)) }
+        requires live { IsSome ((F.state shelf.old).slots (slot_of self.old.source)) }
         requires reading { self.old.stage ≡ Stage.Reading }
         requires idle { IsIdle self.old.listener }
         ensures shows { (begun : F) (source : Sourcing) (listener : ListenState) (items : List ShownValue) →
-            Shows (F.files begun) (F.files shelf.old) (F.slots begun) (F.slots shelf.old) (F.reading_faults begun) (F.reading_faults shelf.old) (F.writing_faults begun) (F.writing_faults shelf.old)
-            (F.asked begun) (F.asked shelf.old) source self.old.source listener self.old.listener self.old.stage items →
-            Shows (F.files begun) (F.files shelf.new) (F.slots begun) (F.slots shelf.new) (F.reading_faults begun) (F.reading_faults shelf.new) (F.writing_faults begun) (F.writing_faults shelf.new)
-            (F.asked begun) (F.asked shelf.new) source self.new.source listener self.new.listener self.new.stage items }
-        ensures live { IsSome (F.slots shelf.new (slot_of self.new.source)) }
+            Shows (F.state begun) (F.state shelf.old) source self.old.source listener self.old.listener self.old.stage items →
+            Shows (F.state begun) (F.state shelf.new) source self.new.source listener self.new.listener self.new.stage items }
+        ensures live { IsSome ((F.state shelf.new).slots (slot_of self.new.source)) }
         ensures left { left_of self.new.stage self.new.source self.new.listener ≤ left_of self.old.stage self.old.source self.old.listener }
         ensures on { MatchResult result (λ _. (pull_at self.new.stage ≡ None) × (reads_left self.new.stage self.new.source < reads_left self.old.stage self.old.source)) (λ _. self.new.stage ≡ Stage.NoMemory) }
     {

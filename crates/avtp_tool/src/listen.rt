@@ -62,8 +62,7 @@ pub fn listen<T: Threads + Sync, F: Shelf, S: Sink, G: Gate, D: Devices + Send>(
     rack: &mut D,
 ) -> Result<Status, Failed>
     requires { IsListening (listening_of asked.now) }
-    ensures { DoesFile (listen_report (listening_of asked.now) file.now) (HandsOn D.handed rack.old rack.new) asked.now.limit file.now (F.files shelf.old) (F.files shelf.new) (F.slots shelf.old) (F.slots shelf.new) (F.reading_faults shelf.old) (F.reading_faults shelf.new)
-        (F.writing_faults shelf.old) (F.writing_faults shelf.new) (F.asked shelf.old) (F.asked shelf.new) (S.held out.old) (S.held out.new) text.old text.new (S.faults out.old) (S.faults out.new) result }
+    ensures { DoesFile (listen_report (listening_of asked.now) file.now) (HandsOn D.handed rack.old rack.new) asked.now.limit file.now (F.state shelf.old) (F.state shelf.new) (S.state out.old) (S.state out.new) text.old text.new result }
 {
     let source = match Source::open(alloc, asked.limit, shelf, file) {
         Ok(source) => source,
@@ -109,14 +108,13 @@ fn hear_records<T: Threads + Sync, F: Shelf, S: Sink, G: Gate, D: Devices + Send
     rack: &mut D,
 ) -> Result<Heard, Failed>
     requires ring { (1 ≤ ring) × (ring ≤ 256) }
-    requires live { IsSome (F.slots shelf.old (slot_of hearing.old.source)) }
+    requires live { IsSome ((F.state shelf.old).slots (slot_of hearing.old.source)) }
     requires begun { (hearing.old.stage ≡ Stage.Reading) × StandsFor [] 0 hearing.old.listener }
-    ensures heard { (asked : Listening) (bytes : List ℕ) → hearing.old.listener.plan ≡ plan_of asked → HasGiven asked.limit bytes (left_in (F.slots shelf.old) (slot_of hearing.old.source)) hearing.old.source [] →
-        HearsRecords asked (HandsOn D.handed rack.old rack.new) file.now bytes (Rose (F.reading_faults shelf.old) (F.reading_faults shelf.new)) (written (S.held out.old) text.old) (written (S.held out.new) text.new) result }
-    ensures reads { ReadsSlot (F.files shelf.old) (F.files shelf.new) (F.slots shelf.old) (F.slots shelf.new) (F.reading_faults shelf.old) (F.reading_faults shelf.new)
-        (F.writing_faults shelf.old) (F.writing_faults shelf.new) (F.asked shelf.old) (F.asked shelf.new) (slot_of hearing.old.source) (slot_of hearing.new.source) }
-    ensures counted { IfOk result (λ heard. CountsFault None (heard_end heard) (F.reading_faults shelf.old) (F.reading_faults shelf.new)) }
-    ensures sink { KeepsSink (S.held out.old) (S.held out.new) (S.faults out.old) (S.faults out.new) result }
+    ensures heard { (asked : Listening) (bytes : List ℕ) → hearing.old.listener.plan ≡ plan_of asked → HasGiven asked.limit bytes (left_in (F.state shelf.old).slots (slot_of hearing.old.source)) hearing.old.source [] →
+        HearsRecords asked (HandsOn D.handed rack.old rack.new) file.now bytes (Rose (F.state shelf.old).reading_faults (F.state shelf.new).reading_faults) (written (S.state out.old).held text.old) (written (S.state out.new).held text.new) result }
+    ensures reads { ReadsSlot (F.state shelf.old) (F.state shelf.new) (slot_of hearing.old.source) (slot_of hearing.new.source) }
+    ensures counted { IfOk result (λ heard. CountsFault None (heard_end heard) (F.state shelf.old).reading_faults (F.state shelf.new).reading_faults) }
+    ensures sink { KeepsSink (S.state out.old) (S.state out.new) result }
 {
     let Ok(mut pipe) = Pipe::begin(alloc, ring) else {
         return Ok(Heard::NoMemory);
@@ -138,11 +136,9 @@ fn hear_items<T: Threads + Sync, F: Shelf, S: Sink, G: Gate, D: Devices + Send>(
     rack: &mut D,
 ) -> Result<(), Failed>
     requires pipe { (waiting_in pipe.old ≡ []) × (ended_with pipe.old ≡ None) × (given_to pipe.old ≡ 0) }
-    requires live { IsSome (F.slots shelf.old (slot_of hearing.old.source)) }
+    requires live { IsSome ((F.state shelf.old).slots (slot_of hearing.old.source)) }
     requires begun { hearing.old.stage ≡ Stage.Reading }
-    ensures { HearsItems (HandsOn D.handed rack.old rack.new) (F.files shelf.old) (F.files shelf.new) (F.slots shelf.old) (F.slots shelf.new) (F.reading_faults shelf.old) (F.reading_faults shelf.new)
-        (F.writing_faults shelf.old) (F.writing_faults shelf.new) (F.asked shelf.old) (F.asked shelf.new) hearing.old.source hearing.new.source hearing.old.listener hearing.new.listener hearing.new.stage
-        (S.held out.old) (S.held out.new) text.old text.new (S.faults out.old) (S.faults out.new) result }
+    ensures { HearsItems (HandsOn D.handed rack.old rack.new) (F.state shelf.old) (F.state shelf.new) hearing.old.source hearing.new.source hearing.old.listener hearing.new.listener hearing.new.stage (S.state out.old) (S.state out.new) text.old text.new result }
 {
     let mut receiver = Receiving { hearing, shelf };
     let mut presenter = Presenting {
@@ -164,14 +160,13 @@ fn hear_through<T: Threads + Sync, F: Shelf, S: Sink, G: Gate, D: Devices + Send
     gate: &G,
 ) -> Result<(), Failed>
     requires pipe { (waiting_in pipe.old ≡ []) × (ended_with pipe.old ≡ None) × (given_to pipe.old ≡ 0) }
-    requires live { IsSome (F.slots receiver.old.shelf.now (slot_of receiver.old.hearing.now.source)) }
+    requires live { IsSome ((F.state receiver.old.shelf.now).slots (slot_of receiver.old.hearing.now.source)) }
     requires begun { (receiver.old.hearing.now.stage ≡ Stage.Reading) × (presenter.old.result ≡ Ok tt) }
     ensures receiver { (receiver.new.shelf.ghost_name ≡ receiver.old.shelf.ghost_name) × (receiver.new.hearing.ghost_name ≡ receiver.old.hearing.ghost_name) }
     ensures presenter { (presenter.new.text.ghost_name ≡ presenter.old.text.ghost_name) × (presenter.new.out.ghost_name ≡ presenter.old.out.ghost_name) × (presenter.new.rack.ghost_name ≡ presenter.old.rack.ghost_name) }
-    ensures hears { HearsItems (HandsOn D.handed presenter.old.rack.now presenter.new.rack.now) (F.files receiver.old.shelf.now) (F.files receiver.new.shelf.now) (F.slots receiver.old.shelf.now) (F.slots receiver.new.shelf.now) (F.reading_faults receiver.old.shelf.now) (F.reading_faults receiver.new.shelf.now)
-        (F.writing_faults receiver.old.shelf.now) (F.writing_faults receiver.new.shelf.now) (F.asked receiver.old.shelf.now) (F.asked receiver.new.shelf.now)
+    ensures hears { HearsItems (HandsOn D.handed presenter.old.rack.now presenter.new.rack.now) (F.state receiver.old.shelf.now) (F.state receiver.new.shelf.now)
         receiver.old.hearing.now.source receiver.new.hearing.now.source receiver.old.hearing.now.listener receiver.new.hearing.now.listener receiver.new.hearing.now.stage
-        (S.held presenter.old.out.now) (S.held presenter.new.out.now) presenter.old.text.now presenter.new.text.now (S.faults presenter.old.out.now) (S.faults presenter.new.out.now) result }
+        (S.state presenter.old.out.now) (S.state presenter.new.out.now) presenter.old.text.now presenter.new.text.now result }
 {
     present_all(rt, pipe, receiver, presenter, gate)
 }
@@ -184,7 +179,7 @@ fn print_last<S: Sink>(
     counts: &Counts,
     end: End,
 ) -> Result<Status, Failed>
-    ensures { EndsWith (status_of end) (S.held out.old) (S.held out.new) text.old text.new (S.faults out.old) (S.faults out.new) result (last_line limit counts.now end) }
+    ensures { EndsWith (status_of end) (S.state out.old) (S.state out.new) text.old text.new result (last_line limit counts.now end) }
 {
     print_last_line(text, out, limit, counts, end)?;
     Ok(Status::of(end))
@@ -197,7 +192,7 @@ fn print_last_line<S: Sink>(
     counts: &Counts,
     end: End,
 ) -> Result<(), Failed>
-    ensures { Prints (S.held out.old) (S.held out.new) text.old text.new (S.faults out.old) (S.faults out.new) result (last_line limit counts.now end) }
+    ensures { Prints (S.state out.old) (S.state out.new) text.old text.new result (last_line limit counts.now end) }
 {
     match end {
         End::Whole => text.end_listen(out, counts),

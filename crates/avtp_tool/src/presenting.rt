@@ -31,7 +31,7 @@ impl<'a, S: Sink, D: Devices + Send> Presenter for Presenting<'a, S, D> {
 
     ghost handed = { λ begun now items. (now.text.ghost_name ≡ begun.text.ghost_name) × (now.out.ghost_name ≡ begun.out.ghost_name) × (now.rack.ghost_name ≡ begun.rack.ghost_name)
         × (begun.result ≡ Ok tt → GivesItems (HandsOn D.handed begun.rack.now now.rack.now)
-        (S.held begun.out.now) (S.held now.out.now) begun.text.now now.text.now (S.faults begun.out.now) (S.faults now.out.now) now.result items) };
+        (S.state begun.out.now) (S.state now.out.now) begun.text.now now.text.now now.result items) };
 
     ghost faults = { λ presenting. failures presenting.result };
 
@@ -55,7 +55,7 @@ fn print_item<S: Output>(
     shown: &Shown,
     number: u64,
 ) -> Result<(), Failed>
-    ensures { PrintsPart (S.held out.old) (S.held out.new) text.old text.new (S.faults out.old) (S.faults out.new) result (shown_lines shown.now) }
+    ensures { PrintsPart (S.state out.old) (S.state out.new) text.old text.new result (shown_lines shown.now) }
 {
     text.shown(out, shown)?;
     if number.is_power_of_two() {

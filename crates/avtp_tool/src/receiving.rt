@@ -18,13 +18,12 @@ impl<'a, F: Shelf> Receiver for Receiving<'a, F> {
     ghost use Rattle.avtp_tool.specs.Hearing.{Shows, ended_at, left_of};
 
     ghost gave = { λ begun now items. (now.shelf.ghost_name ≡ begun.shelf.ghost_name) × (now.hearing.ghost_name ≡ begun.hearing.ghost_name)
-        × Shows (F.files begun.shelf.now) (F.files now.shelf.now) (F.slots begun.shelf.now) (F.slots now.shelf.now) (F.reading_faults begun.shelf.now) (F.reading_faults now.shelf.now) (F.writing_faults begun.shelf.now) (F.writing_faults now.shelf.now)
-        (F.asked begun.shelf.now) (F.asked now.shelf.now) begun.hearing.now.source now.hearing.now.source begun.hearing.now.listener now.hearing.now.listener now.hearing.now.stage items };
+        × Shows (F.state begun.shelf.now) (F.state now.shelf.now) begun.hearing.now.source now.hearing.now.source begun.hearing.now.listener now.hearing.now.listener now.hearing.now.stage items };
 
     ghost left = { λ receiving. left_of receiving.hearing.now.stage receiving.hearing.now.source receiving.hearing.now.listener };
 
     // One whose file is not open cannot go on: it counts as ended by a fault of reading.
-    ghost ended = { λ receiving. ended_at (F.slots receiving.shelf.now (slot_of receiving.hearing.now.source)) receiving.hearing.now.stage };
+    ghost ended = { λ receiving. ended_at ((F.state receiving.shelf.now).slots (slot_of receiving.hearing.now.source)) receiving.hearing.now.stage };
 
     fn next(&mut self) -> Pull {
         self.hearing.next(self.shelf)

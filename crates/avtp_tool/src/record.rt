@@ -19,7 +19,7 @@ pub fn print_record<S: Sink>(
     number: u64,
     held: &RecordView<'_>,
 ) -> Result<(), Failed>
-    ensures { Prints (S.held out.old) (S.held out.new) text.old text.new (S.faults out.old) (S.faults out.new) result (frame_line number held.now.arrival (record_content held.now.bytes.now)) }
+    ensures { Prints (S.state out.old) (S.state out.new) text.old text.new result (frame_line number held.now.arrival (record_content held.now.bytes.now)) }
 {
     match read_frame(held.bytes) {
         Err(refusal) => text.frame_refused(out, number, held.arrival, refusal),
@@ -43,7 +43,7 @@ fn print_packet<S: Sink>(
     frame: &FrameView<'_>,
 ) -> Result<(), Failed>
     requires { frame.now.start < 2 ^ 32 }
-    ensures { Prints (S.held out.old) (S.held out.new) text.old text.new (S.faults out.old) (S.faults out.new) result (frame_line number arrival (packet_content frame.now.start frame.now.payload.now)) }
+    ensures { Prints (S.state out.old) (S.state out.new) text.old text.new result (frame_line number arrival (packet_content frame.now.start frame.now.payload.now)) }
 {
     match read_packet(frame.payload) {
         Err(refusal) => text.frame_refused(out, number, arrival, in_frame(frame, refusal)),

@@ -36,8 +36,7 @@ pub fn show<F: Shelf, S: Sink>(
     out: &mut S,
 ) -> Result<Status, Failed>
     requires { limit ≤ 2 ^ 40 }
-    ensures { DoesFile (show_report limit) HandsNothing limit file.now (F.files shelf.old) (F.files shelf.new) (F.slots shelf.old) (F.slots shelf.new) (F.reading_faults shelf.old) (F.reading_faults shelf.new)
-        (F.writing_faults shelf.old) (F.writing_faults shelf.new) (F.asked shelf.old) (F.asked shelf.new) (S.held out.old) (S.held out.new) text.old text.new (S.faults out.old) (S.faults out.new) result }
+    ensures { DoesFile (show_report limit) HandsNothing limit file.now (F.state shelf.old) (F.state shelf.new) (S.state out.old) (S.state out.new) text.old text.new result }
 {
     let mut source = match Source::open(alloc, limit, shelf, file) {
         Ok(source) => source,
@@ -58,12 +57,11 @@ fn print_records<F: Shelf, S: Sink>(
     text: &mut Text,
     out: &mut S,
 ) -> Result<Printed, Failed>
-    requires open { IsOpen (F.slots shelf.old) source.old }
-    ensures printed { (limit : ℕ) (bytes : List ℕ) → HasGiven limit bytes (left_in (F.slots shelf.old) (slot_of source.old)) source.old [] →
-        PrintsRecords limit bytes (Rose (F.reading_faults shelf.old) (F.reading_faults shelf.new)) (written (S.held out.old) text.old) (written (S.held out.new) text.new) result }
-    ensures reads { ReadsCapture (F.files shelf.old) (F.files shelf.new) (F.slots shelf.old) (F.slots shelf.new) (F.reading_faults shelf.old) (F.reading_faults shelf.new)
-        (F.writing_faults shelf.old) (F.writing_faults shelf.new) (F.asked shelf.old) (F.asked shelf.new) (slot_of source.old) (slot_of source.new) (ended_in (λ p. p.end) result) }
-    ensures sink { KeepsSink (S.held out.old) (S.held out.new) (S.faults out.old) (S.faults out.new) result }
+    requires open { IsOpen (F.state shelf.old).slots source.old }
+    ensures printed { (limit : ℕ) (bytes : List ℕ) → HasGiven limit bytes (left_in (F.state shelf.old).slots (slot_of source.old)) source.old [] →
+        PrintsRecords limit bytes (Rose (F.state shelf.old).reading_faults (F.state shelf.new).reading_faults) (written (S.state out.old).held text.old) (written (S.state out.new).held text.new) result }
+    ensures reads { ReadsCapture (F.state shelf.old) (F.state shelf.new) (slot_of source.old) (slot_of source.new) (ended_in (λ p. p.end) result) }
+    ensures sink { KeepsSink (S.state out.old) (S.state out.new) result }
 {
     let mut frames = 0;
     loop {
@@ -82,7 +80,7 @@ fn print_end<S: Sink>(
     limit: u64,
     printed: Printed,
 ) -> Result<Status, Failed>
-    ensures { EndsWith (status_of printed.end) (S.held out.old) (S.held out.new) text.old text.new (S.faults out.old) (S.faults out.new) result (end_line limit printed.frames printed.end) }
+    ensures { EndsWith (status_of printed.end) (S.state out.old) (S.state out.new) text.old text.new result (end_line limit printed.frames printed.end) }
 {
     print_end_line(text, out, limit, printed)?;
     Ok(Status::of(printed.end))
@@ -94,7 +92,7 @@ fn print_end_line<S: Sink>(
     limit: u64,
     printed: Printed,
 ) -> Result<(), Failed>
-    ensures { Prints (S.held out.old) (S.held out.new) text.old text.new (S.faults out.old) (S.faults out.new) result (end_line limit printed.frames printed.end) }
+    ensures { Prints (S.state out.old) (S.state out.new) text.old text.new result (end_line limit printed.frames printed.end) }
 {
     match printed.end {
         End::Whole => text.end_frames(out, printed.frames),

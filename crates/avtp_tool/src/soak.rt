@@ -20,7 +20,7 @@ pub fn soak<S: Sink>(
     out: &mut S,
 ) -> Result<Status, Failed>
     requires { packets ≤ 1000000 }
-    ensures { Says (soak_report packets) (S.held out.old) (S.held out.new) text.old text.new (S.faults out.old) (S.faults out.new) result }
+    ensures { Says (soak_report packets) (S.state out.old) (S.state out.new) text.old text.new result }
 {
     match soak_run::soak(alloc, packets) {
         Ok(counts) => print_counts(text, out, packets, &counts),
@@ -35,7 +35,7 @@ fn print_counts<S: Sink>(
     packets: u32,
     counts: &SoakCounts,
 ) -> Result<Status, Failed>
-    ensures { EndsWith Status.Done (S.held out.old) (S.held out.new) text.old text.new (S.faults out.old) (S.faults out.new) result (soak_line packets counts.now) }
+    ensures { EndsWith Status.Done (S.state out.old) (S.state out.new) text.old text.new result (soak_line packets counts.now) }
 {
     text.soak(out, packets, counts)?;
     Ok(Status::Done)

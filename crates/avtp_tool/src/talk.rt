@@ -2,7 +2,7 @@
 
 ghost use Rattle.std.specs.Prelude.{◌≡◌, ◌≤◌, ◌<◌, false, ℕ, List, [], Option, option_map, Ok, Some, IfOk, length, take};
 ghost use Rattle.avtp_base.specs.Faults.{IsCounted};
-ghost use Rattle.avtp_base.specs.Files.{Files, Slots};
+ghost use Rattle.avtp_base.specs.States.{ShelfState};
 ghost use Rattle.pcap_frames.specs.Capture.{header_spelling, record_spelling, HasSpelling};
 ghost use Rattle.talker.specs.Frames.{capture, capture_style, record_of, sent_frame};
 ghost use Rattle.talker.specs.Plan.{IsPlan};
@@ -91,9 +91,7 @@ pub fn talk<F: Shelf, S: Sink>(
     out: &mut S,
 ) -> Result<Status, Failed>
     requires { IsPlan (talk_plan (talking_of asked.now)) }
-    ensures { Runs (talk_request (talking_of asked.now)) HandsNothing false (F.files shelf.old) (F.files shelf.new) (F.slots shelf.old) (F.slots shelf.new) (F.reading_faults shelf.old) (F.reading_faults shelf.new)
-        (F.writing_faults shelf.old) (F.writing_faults shelf.new) (F.asked shelf.old) (F.asked shelf.new)
-        (S.held out.old) (S.held out.new) text.old text.new (S.faults out.old) (S.faults out.new) result }
+    ensures { Runs (talk_request (talking_of asked.now)) HandsNothing false (F.state shelf.old) (F.state shelf.new) (S.state out.old) (S.state out.new) text.old text.new result }
 {
     match read_contents(alloc, LIMIT, shelf, asked.input) {
         Ok(contents) => talk_contents(
@@ -121,8 +119,7 @@ fn talk_contents<F: Shelf, S: Sink>(
 ) -> Result<Status, Failed>
     requires plan { IsPlan plan }
     requires bounded { length contents.now.bytes.items ≤ most_input }
-    ensures { TalksContents plan contents.now output.now (F.files shelf.old) (F.files shelf.new) (F.slots shelf.old) (F.slots shelf.new) (F.reading_faults shelf.old) (F.reading_faults shelf.new)
-        (F.writing_faults shelf.old) (F.writing_faults shelf.new) (F.asked shelf.old) (F.asked shelf.new) (S.held out.old) (S.held out.new) text.old text.new (S.faults out.old) (S.faults out.new) result }
+    ensures { TalksContents plan contents.now output.now (F.state shelf.old) (F.state shelf.new) (S.state out.old) (S.state out.new) text.old text.new result }
 {
     match contents.stop {
         Stop::End => talk_input(
@@ -151,8 +148,7 @@ fn talk_input<F: Shelf, S: Sink>(
 ) -> Result<Status, Failed>
     requires plan { IsPlan plan }
     requires limit { length input.now ≤ most_input }
-    ensures { Talks (TalkedOutcome plan input.now ⊥) output.now (capture plan input.now) (F.files shelf.old) (F.files shelf.new) (F.slots shelf.old) (F.slots shelf.new) (F.reading_faults shelf.old) (F.reading_faults shelf.new)
-        (F.writing_faults shelf.old) (F.writing_faults shelf.new) (F.asked shelf.old) (F.asked shelf.new) (S.held out.old) (S.held out.new) text.old text.new (S.faults out.old) (S.faults out.new) result }
+    ensures { Talks (TalkedOutcome plan input.now ⊥) output.now (capture plan input.now) (F.state shelf.old) (F.state shelf.new) (S.state out.old) (S.state out.new) text.old text.new result }
 {
     match Talker::begin(alloc, plan, input) {
         Ok(mut talker) => send(alloc, &mut talker, output, shelf, text, out),
@@ -170,8 +166,7 @@ fn send<F: Shelf, S: Sink>(
     out: &mut S,
 ) -> Result<Status, Failed>
     requires begun { talker.old.given ≡ 0 }
-    ensures { Talks (Only Status.Done (sent_line talker.old.plan talker.old.input)) output.now (capture talker.old.plan talker.old.input) (F.files shelf.old) (F.files shelf.new) (F.slots shelf.old) (F.slots shelf.new) (F.reading_faults shelf.old) (F.reading_faults shelf.new)
-        (F.writing_faults shelf.old) (F.writing_faults shelf.new) (F.asked shelf.old) (F.asked shelf.new) (S.held out.old) (S.held out.new) text.old text.new (S.faults out.old) (S.faults out.new) result }
+    ensures { Talks (Only Status.Done (sent_line talker.old.plan talker.old.input)) output.now (capture talker.old.plan talker.old.input) (F.state shelf.old) (F.state shelf.new) (S.state out.old) (S.state out.new) text.old text.new result }
 {
     let packets = talker.packets();
     let clocks = talker.clocks();
@@ -202,8 +197,7 @@ fn make_capture<F: Shelf>(
     talker: &mut Talker<'_>,
 ) -> Result<(), OpenFault>
     requires begun { talker.old.given ≡ 0 }
-    ensures { MakesFile (F.files shelf.old) (F.files shelf.new) (F.slots shelf.old) (F.slots shelf.new) (F.reading_faults shelf.old) (F.reading_faults shelf.new)
-        (F.writing_faults shelf.old) (F.writing_faults shelf.new) (F.asked shelf.old) (F.asked shelf.new) name.now (capture talker.old.plan talker.old.input) result }
+    ensures { MakesFile (F.state shelf.old) (F.state shelf.new) name.now (capture talker.old.plan talker.old.input) result }
 {
     let Ok(buffer) = Buffer::new(alloc) else {
         return Err(OpenFault::Memory);
@@ -226,13 +220,12 @@ fn write_capture<F: Shelf>(
     shelf: &mut F,
     talker: &mut Talker<'_>,
 ) -> Result<(), Failed>
-    requires made { IsMadeIn (F.slots shelf.old) writer.old.slot }
+    requires made { IsMadeIn (F.state shelf.old).slots writer.old.slot }
     requires begun { talker.old.given ≡ 0 }
-    ensures written { (files : Option Files) (slots : Slots) (reading : ℕ) (name : List ℕ) →
-        IsWriting files (F.files shelf.old) slots (F.slots shelf.old) reading (F.reading_faults shelf.old) writer.old name [] →
-        IsWritingPart files (F.files shelf.new) slots (F.slots shelf.new) reading (F.reading_faults shelf.new) writer.new name (capture talker.old.plan talker.old.input) result }
-    ensures writes { WritesSlot (F.slots shelf.old) (F.slots shelf.new) (F.reading_faults shelf.old) (F.reading_faults shelf.new) (F.writing_faults shelf.old) (F.writing_faults shelf.new)
-        (F.asked shelf.old) (F.asked shelf.new) writer.old writer.new result }
+    ensures written { (begun : ShelfState) (name : List ℕ) →
+        IsWriting begun (F.state shelf.old) writer.old name [] →
+        IsWritingPart begun (F.state shelf.new) writer.new name (capture talker.old.plan talker.old.input) result }
+    ensures writes { WritesSlot (F.state shelf.old) (F.state shelf.new) writer.old writer.new result }
 {
     let mut room = [0; RECORD];
     let size = put_header(&mut room);
@@ -281,7 +274,7 @@ fn print_sent<S: Sink>(
     packets: u64,
     clocks: u64,
 ) -> Result<Status, Failed>
-    ensures { EndsWith Status.Done (S.held out.old) (S.held out.new) text.old text.new (S.faults out.old) (S.faults out.new) result (talk_line packets clocks) }
+    ensures { EndsWith Status.Done (S.state out.old) (S.state out.new) text.old text.new result (talk_line packets clocks) }
 {
     text.talk(out, packets, clocks)?;
     Ok(Status::Done)
@@ -293,7 +286,7 @@ fn print_talk_fault<S: Sink>(
     out: &mut S,
     fault: TalkFault,
 ) -> Result<Status, Failed>
-    ensures { EndsRefused fault (S.held out.old) (S.held out.new) text.old text.new (S.faults out.old) (S.faults out.new) result }
+    ensures { EndsRefused fault (S.state out.old) (S.state out.new) text.old text.new result }
 {
     match fault {
         TalkFault::Memory => Ok(Status::Memory),
@@ -306,7 +299,7 @@ fn print_talk_fault<S: Sink>(
 }
 
 fn print_input<S: Sink>(text: &mut Text, out: &mut S, fault: TalkFault) -> Result<Status, Failed>
-    ensures { EndsWith Status.TalkInput (S.held out.old) (S.held out.new) text.old text.new (S.faults out.old) (S.faults out.new) result (talk_input_line fault) }
+    ensures { EndsWith Status.TalkInput (S.state out.old) (S.state out.new) text.old text.new result (talk_input_line fault) }
 {
     text.talk_input(out, fault)?;
     Ok(Status::TalkInput)
@@ -314,7 +307,7 @@ fn print_input<S: Sink>(text: &mut Text, out: &mut S, fault: TalkFault) -> Resul
 
 /// Says that the input is too long.
 fn print_limit<S: Sink>(text: &mut Text, out: &mut S) -> Result<Status, Failed>
-    ensures { EndsWith Status.Limit (S.held out.old) (S.held out.new) text.old text.new (S.faults out.old) (S.faults out.new) result (limit_line most_input) }
+    ensures { EndsWith Status.Limit (S.state out.old) (S.state out.new) text.old text.new result (limit_line most_input) }
 {
     text.limit(out, LIMIT)?;
     Ok(Status::Limit)

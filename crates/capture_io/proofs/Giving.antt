@@ -4,6 +4,8 @@ use Rattle.std.specs.Prelude.{IfSome, IsSome, is_some, option_to_list}
 use Rattle.std.proofs.lemmas.List.{append-nil}
 use Rattle.avtp_base.specs.declared.refusal.Refusal.{Refusal}
 use Rattle.avtp_base.specs.Faults.{Rose}
+use Rattle.avtp_base.specs.Files.{left_in}
+use Rattle.avtp_base.specs.States.{ShelfState}
 use Rattle.pcap_frames.specs.Capture.{Record}
 use Rattle.capture_io.specs.declared.end.End.{End}
 use Rattle.capture_io.specs.declared.end.End.TheVariants as end
@@ -14,7 +16,7 @@ use Rattle.capture_io.specs.Ends.{CountsFault, CountsStop, at_end, end_at}
 use Rattle.capture_io.specs.Formats.{records_in}
 use Rattle.capture_io.specs.Pieces.{Piecing, HasTaken}
 use Rattle.capture_io.specs.Reader.{CaptureReading, EndsHere, HasRead, RefusedAfter, Releases, held, nothing_read, refusal_of}
-use Rattle.capture_io.specs.Source.{Sourcing, EndsAfter, GivesNext, HasFed, HasGiven, ReadsOn, held_in, slot_of, to_do}
+use Rattle.capture_io.specs.Source.{Sourcing, EndsAfter, GivesNext, HasFed, HasGiven, ReadsOn, held_in, remains_of, slot_of, to_do}
 use Rattle.capture_io.proofs.Ending.{ends_limit, ends_refused, ends_whole, limited}
 use Rattle.capture_io.proofs.Reader.{first_held, read_nothing}
 
@@ -92,11 +94,11 @@ holds_next limit bytes remains source records some going fed = holds_next_by lim
 -- ---- reading on
 
 -- the reading ended so
-pub ended_so : {remains remains' : Option (List ℕ)} {before after : ℕ} {old new : Sourcing} {result : Option End} (how : End) → result ≡ Some how
-    → ((limit : ℕ) (bytes : List ℕ) (records : List Record) → HasFed limit bytes remains old records → EndsAfter limit bytes (Rose before after) how records)
-    → CountsFault None (Some how) before after → slot_of new ≡ slot_of old → ReadsOn remains remains' before after old new result
-ended_so {remains} {remains'} {before} {after} {old} {new} how is ends counted slot =
-    subst (ReadsOn remains remains' before after old new) (sym is) (record { more = λ none. absurd cc; ends = ends; less = λ none. absurd cc; counted = counted; slot = slot })
+pub ended_so : {before after : ShelfState} {old new : Sourcing} {result : Option End} (how : End) → result ≡ Some how
+    → ((limit : ℕ) (bytes : List ℕ) (records : List Record) → HasFed limit bytes (remains_of before old) old records → EndsAfter limit bytes (Rose before.reading_faults after.reading_faults) how records)
+    → CountsFault None (Some how) before.reading_faults after.reading_faults → slot_of new ≡ slot_of old → ReadsOn before after old new result
+ended_so {before} {after} {old} {new} how is ends counted slot =
+    subst (ReadsOn before after old new) (sym is) (record { more = λ none. absurd cc; ends = ends; less = λ none. absurd cc; counted = counted; slot = slot })
 
 -- the count of reading faults where the reading stopped
 pub stop_counted : (before after : ℕ) (halt : Stop) (x : Option Refusal) → CountsStop (Some halt) before after → CountsFault None (Some (end_at halt x)) before after
@@ -108,50 +110,51 @@ stop_counted before after stop.Limit x counted = counted
 pub stop_rose : (before after : ℕ) (halt : Stop) → CountsStop (Some halt) before after → halt ≡ stop.Fault → Rose before after
 stop_rose before after halt counted is = subst (λ (h : Stop). CountsStop (Some h) before after) is counted
 
--- what is left in the slot, under the number that the slot has now, which is the same
-pub same_slot : (left : ℕ → Option (List ℕ)) {before after : ℕ} {old new : Sourcing} {result : Option End} → ReadsOn (left (slot_of old)) (left (slot_of old)) before after old new result
-    → ReadsOn (left (slot_of old)) (left (slot_of new)) before after old new result
-same_slot left {before} {after} {old} {new} {result} on = subst (λ (k : ℕ). ReadsOn (left (slot_of old)) (left k) before after old new result) (sym on.slot) on
-
 -- ---- the next record
 
 pub not_some : (e : Option End) → is_some e ≡ false → e ≡ None
 not_some None none = refl
 not_some (Some how) none = absurd cc
 
+-- the held record was given up, of a source whose slot is the same
+released_here : (shelf : ShelfState) (old new : Sourcing) → new.pieces ≡ old.pieces → Releases old.reader new.reader
+    → (limit : ℕ) (bytes : List ℕ) (records : List Record) → HasGiven limit bytes (remains_of shelf old) old records → HasFed limit bytes (remains_of shelf new) new records
+released_here shelf old new same releases limit bytes records given =
+    subst (λ (p : Piecing). HasFed limit bytes (left_in shelf.slots p.slot) new records) (sym same) (released limit bytes (remains_of shelf old) old new records given same releases)
+
 -- a reading that had ended answers the same again
-pub gives_again : (remains : Option (List ℕ)) (n : ℕ) (s : Sourcing) (e : Option End) → s.ended ≡ e → is_some e ≡ true → GivesNext remains remains n n s s e
-gives_again remains n s None is some = absurd cc
-gives_again remains n s (Some how) is some = record {
+pub gives_again : (shelf : ShelfState) (s : Sourcing) (e : Option End) → s.ended ≡ e → is_some e ≡ true → GivesNext shelf shelf s s e
+gives_again shelf s None is some = absurd cc
+gives_again shelf s (Some how) is some = record {
   given = λ none. absurd cc;
   ends = λ limit bytes records given. absurd (let t : None ≡ Some how = sym given.going ∙ is in cc);
   held = λ none. absurd cc;
   less = λ none. absurd cc;
   ended = is;
   lasting = subst (λ (x : Option End). IfSome x (λ (h : End). Some how ≡ Some h)) (sym is) refl;
-  counted = subst (λ (x : Option End). CountsFault x (Some how) n n) (sym is) refl;
+  counted = subst (λ (x : Option End). CountsFault x (Some how) shelf.reading_faults shelf.reading_faults) (sym is) refl;
 }
 
 -- the held record was given up, and the reading went on
-pub gives_next : (remains remains' : Option (List ℕ)) (before after : ℕ) (old mid next : Sourcing) (result : Option End) → old.ended ≡ None → mid.pieces ≡ old.pieces → Releases old.reader mid.reader → ReadsOn remains remains' before after mid next result
-    → (result ≡ None → IsSome (held_in next)) → GivesNext remains remains' before after old (record next { ended = result }) result
-gives_next remains remains' before after old mid next None going same releases on some = record {
+pub gives_next : (before after : ShelfState) (old mid next : Sourcing) (result : Option End) → old.ended ≡ None → mid.pieces ≡ old.pieces → Releases old.reader mid.reader → ReadsOn before after mid next result
+    → (result ≡ None → IsSome (held_in next)) → GivesNext before after old (record next { ended = result }) result
+gives_next before after old mid next None going same releases on some = let here = released_here before old mid same releases in record {
   given = λ none limit bytes records given.
-      let fed = on.more refl limit bytes records (released limit bytes remains old mid records given same releases) in
-      holds_next limit bytes remains' (record next { ended = None }) records (some refl) refl (record { prefix = fed.prefix; taken = fed.taken; accepted = fed.accepted; read = fed.read });
+      let fed = on.more refl limit bytes records (here limit bytes records given) in
+      holds_next limit bytes (remains_of after next) (record next { ended = None }) records (some refl) refl (record { prefix = fed.prefix; taken = fed.taken; accepted = fed.accepted; read = fed.read });
   ends = tt;
   held = λ none. some refl;
   less = λ none. subst (λ (p : Piecing). to_do next < 2 * p.left + length p.waiting) same (on.less refl);
   ended = refl;
   lasting = subst (λ (x : Option End). IfSome x (λ (h : End). None ≡ Some h)) (sym going) tt;
-  counted = subst (λ (x : Option End). CountsFault x None before after) (sym going) on.counted;
+  counted = subst (λ (x : Option End). CountsFault x None before.reading_faults after.reading_faults) (sym going) on.counted;
 }
-gives_next remains remains' before after old mid next (Some how) going same releases on some = record {
+gives_next before after old mid next (Some how) going same releases on some = let here = released_here before old mid same releases in record {
   given = λ none. absurd cc;
-  ends = λ limit bytes records given. on.ends limit bytes records (released limit bytes remains old mid records given same releases);
+  ends = λ limit bytes records given. on.ends limit bytes records (here limit bytes records given);
   held = λ none. absurd cc;
   less = λ none. absurd cc;
   ended = refl;
   lasting = subst (λ (x : Option End). IfSome x (λ (h : End). Some how ≡ Some h)) (sym going) tt;
-  counted = subst (λ (x : Option End). CountsFault x (Some how) before after) (sym going) on.counted;
+  counted = subst (λ (x : Option End). CountsFault x (Some how) before.reading_faults after.reading_faults) (sym going) on.counted;
 }

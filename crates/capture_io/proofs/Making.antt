@@ -3,62 +3,63 @@ use Rattle.std.proofs.Common.{◌≡◌, ℕ, arith, List, [], ◌++◌, take, d
 use Rattle.std.specs.Prelude.{Result, Ok, Err, OnOk}
 use Rattle.avtp_base.specs.declared.failed.Failed.{Failed}
 use Rattle.avtp_base.specs.Faults.{IsCounted}
-use Rattle.avtp_base.specs.Files.{AppendsTo, Files, KeepsFiles, KeepsOtherFiles, PutsFile, Slots, name_in}
+use Rattle.avtp_base.specs.Files.{AppendsTo, Files, KeepsFiles, KeepsOtherFiles, PutsFile, name_in}
+use Rattle.avtp_base.specs.States.{ShelfState}
 use Rattle.avtp_base.proofs.Files.{KeepsOtherFiles-trans, PutsFile-appends, PutsFile-kept, named_as}
 use Rattle.capture_io.specs.Writing.{IsMadeIn, IsWriting, PutsPrefix, WritesSlot, Writing}
 
 -- ---- what is left of a slot
 
-pub writes_nothing : (slots : Slots) (reading writing : ℕ) (asked : List (List ℕ) → Type 0) (w : Writing) (ok : Unit) → IsMadeIn slots w.slot → WritesSlot slots slots reading reading writing writing asked asked w w (Ok ok)
-writes_nothing slots reading writing asked w ok made = record {
+pub writes_nothing : (s : ShelfState) (w : Writing) (ok : Unit) → IsMadeIn s.slots w.slot → WritesSlot s s w w (Ok ok)
+writes_nothing s w ok made = record {
   slot = refl;
   made = made;
   slots = record { same = λ j. refl; left = λ j differs. refl };
   reading = refl;
   counted = record { never_falls = omega arith; ok = refl; failed = tt };
-  asked = λ before stands. stands;
+  asked = λ names stands. stands;
 }
 
-pub writes_then : {s t u : Slots} {r r' r'' x x' x'' : ℕ} {a b c : List (List ℕ) → Type 0} {v v' v'' : Writing} {ok : Unit} {result : Result Unit Failed}
-    → WritesSlot s t r r' x x' a b v v' (Ok ok) → WritesSlot t u r' r'' x' x'' b c v' v'' result → WritesSlot s u r r'' x x'' a c v v'' result
-writes_then {s} {t} {u} {x'' = x''} {v = v} {result = result} first second = record {
+pub writes_then : {s t u : ShelfState} {v v' v'' : Writing} {ok : Unit} {result : Result Unit Failed} → WritesSlot s t v v' (Ok ok) → WritesSlot t u v' v'' result → WritesSlot s u v v'' result
+writes_then {s} {t} {u} {v = v} {result = result} first second = record {
   slot = second.slot ∙ first.slot;
-  made = subst (IsMadeIn u) first.slot second.made;
-  slots = KeepsOtherFiles-trans s t u v.slot first.slots (subst (λ (k : ℕ). KeepsOtherFiles t u (name_in t k)) first.slot second.slots);
+  made = subst (IsMadeIn u.slots) first.slot second.made;
+  slots = KeepsOtherFiles-trans s.slots t.slots u.slots v.slot first.slots (subst (λ (k : ℕ). KeepsOtherFiles t.slots u.slots (name_in t.slots k)) first.slot second.slots);
   reading = second.reading ∙ first.reading;
-  counted = subst (λ (n : ℕ). IsCounted n x'' result) first.counted.ok second.counted;
-  asked = λ before stands. second.asked before (first.asked before stands);
+  counted = subst (λ (n : ℕ). IsCounted n u.writing_faults result) first.counted.ok second.counted;
+  asked = λ names stands. second.asked names (first.asked names stands);
 }
 
 -- ---- the bytes
 
 -- the first of the bytes that wait were written
-pub writing_more : (files a b : Option Files) (slots s t : Slots) (reading r r' : ℕ) (w : Writing) (name all : List ℕ) (n : ℕ) → IsWriting files a slots s reading r w name all
-    → AppendsTo a b (name_in s w.slot) (take n w.waiting) → IsMadeIn t w.slot → KeepsOtherFiles s t (name_in s w.slot) → r' ≡ r → IsWriting files b slots t reading r' (record w { waiting = drop n w.waiting }) name all
-writing_more files a b slots s t reading r r' w name all n is more made keeps same = record {
+pub writing_more : (begun s t : ShelfState) (w : Writing) (name all : List ℕ) (n : ℕ) → IsWriting begun s w name all
+    → AppendsTo s.files t.files (name_in s.slots w.slot) (take n w.waiting) → IsMadeIn t.slots w.slot → KeepsOtherFiles s.slots t.slots (name_in s.slots w.slot) → t.reading_faults ≡ s.reading_faults
+    → IsWriting begun t (record w { waiting = drop n w.waiting }) name all
+writing_more begun s t w name all n is more made keeps same = record {
   held = is.held ++ take n w.waiting;
   split = is.split ∙ (ap (λ (l : List ℕ). is.held ++ l) (sym (take-append-drop n w.waiting)) ∙ sym (append_assoc is.held (take n w.waiting) (drop n w.waiting)));
-  put = PutsFile-appends files a b name is.held (take n w.waiting) (name_in s w.slot) is.named is.put more;
+  put = PutsFile-appends begun.files s.files t.files name is.held (take n w.waiting) (name_in s.slots w.slot) is.named is.put more;
   free = is.free;
   made = made;
-  named = λ told. named_as (s w.slot) (t w.slot) (keeps.same w.slot) ∙ is.named told;
+  named = λ told. named_as (s.slots w.slot) (t.slots w.slot) (keeps.same w.slot) ∙ is.named told;
   same = λ j differ. keeps.same j ∙ is.same j differ;
   left = λ told j differ other.
-      keeps.left j (λ (e : name_in s j ≡ name_in s w.slot). other (sym (named_as (slots j) (s j) (is.same j differ)) ∙ (e ∙ is.named told))) ∙ is.left told j differ other;
+      keeps.left j (λ (e : name_in s.slots j ≡ name_in s.slots w.slot). other (sym (named_as (begun.slots j) (s.slots j) (is.same j differ)) ∙ (e ∙ is.named told))) ∙ is.left told j differ other;
   reading = same ∙ is.reading;
 }
 
 -- ---- closing
 
 -- nothing waits, and the file is closed
-pub puts_all : (files a b : Option Files) (slots s : Slots) (reading r : ℕ) (w : Writing) (name all : List ℕ) → IsWriting files a slots s reading r w name all → w.waiting ≡ [] → KeepsFiles a b → PutsFile files b name all
-puts_all files a b slots s reading r w name all is none keeps =
+pub puts_all : (begun s : ShelfState) (files : Option Files) (w : Writing) (name all : List ℕ) → IsWriting begun s w name all → w.waiting ≡ [] → KeepsFiles s.files files → PutsFile begun.files files name all
+puts_all begun s files w name all is none keeps =
     let whole : is.held ≡ all = sym (is.split ∙ (ap (λ (l : List ℕ). is.held ++ l) none ∙ append-nil is.held)) in
-    subst (PutsFile files b name) whole (PutsFile-kept files a b name is.held is.put keeps)
+    subst (PutsFile begun.files files name) whole (PutsFile-kept begun.files s.files files name is.held is.put keeps)
 
-pub puts_prefix : (files a b : Option Files) (slots s : Slots) (reading r : ℕ) (w : Writing) (name all : List ℕ) → IsWriting files a slots s reading r w name all → KeepsFiles a b → PutsPrefix files b name all
-puts_prefix files a b slots s reading r w name all is keeps =
-    record { prefix = is.held; rest = w.waiting; split = is.split; put = PutsFile-kept files a b name is.held is.put keeps }
+pub puts_prefix : (begun s : ShelfState) (files : Option Files) (w : Writing) (name all : List ℕ) → IsWriting begun s w name all → KeepsFiles s.files files → PutsPrefix begun.files files name all
+puts_prefix begun s files w name all is keeps =
+    record { prefix = is.held; rest = w.waiting; split = is.split; put = PutsFile-kept begun.files s.files files name is.held is.put keeps }
 
 -- ---- answers
 

@@ -1,7 +1,8 @@
 -- The records of a capture, one after the other.
 use Rattle.std.specs.Prelude.{◌≡◌, ◌++◌, ◌+◌, ◌*◌, ◌<◌, ℕ, List, [], ◌∷◌, length, IfSome, IsSome, Option, Some, None, option_to_list}
 use Rattle.avtp_base.specs.Faults.{Rose}
-use Rattle.avtp_base.specs.Files.{Slots}
+use Rattle.avtp_base.specs.Files.{Slots, left_in}
+use Rattle.avtp_base.specs.States.{ShelfState}
 use Rattle.pcap_frames.specs.Capture.{Record}
 use Rattle.capture_io.specs.declared.end.End.{End}
 use Rattle.capture_io.specs.Ends.{CountsFault, EndsAt}
@@ -18,6 +19,10 @@ pub record Sourcing : Type 0 where
 -- the slot of the file
 abbrev pub slot_of : Sourcing → ℕ
 slot_of source = source.pieces.slot
+
+-- what is left to read of the file, where the shelf tells it
+abbrev pub remains_of : ShelfState → Sourcing → Option (List ℕ)
+remains_of shelf source = left_in shelf.slots (slot_of source)
 
 -- the record that is held
 abbrev pub held_in : Sourcing → Option Record
@@ -51,11 +56,11 @@ to_do source = 2 * source.pieces.left + length source.pieces.waiting
 -- A call that read on, or took what waits, left this. Where the reading goes on, the source has given up the same records of
 -- the same file, and less is to be done. Where it ended, it ended so after them. The count of reading faults rose where a
 -- fault ended it, and else is as it was.
-pub record ReadsOn (old_remains new_remains : Option (List ℕ)) (before after : ℕ) (old new : Sourcing) (result : Option End) : Type 0 where
-  pub more : result ≡ None → (limit : ℕ) (bytes : List ℕ) (records : List Record) → HasFed limit bytes old_remains old records → HasFed limit bytes new_remains new records
-  pub ends : IfSome result (λ how. (limit : ℕ) (bytes : List ℕ) (records : List Record) → HasFed limit bytes old_remains old records → EndsAfter limit bytes (Rose before after) how records)
+pub record ReadsOn (before after : ShelfState) (old new : Sourcing) (result : Option End) : Type 0 where
+  pub more : result ≡ None → (limit : ℕ) (bytes : List ℕ) (records : List Record) → HasFed limit bytes (remains_of before old) old records → HasFed limit bytes (remains_of after new) new records
+  pub ends : IfSome result (λ how. (limit : ℕ) (bytes : List ℕ) (records : List Record) → HasFed limit bytes (remains_of before old) old records → EndsAfter limit bytes (Rose before.reading_faults after.reading_faults) how records)
   pub less : result ≡ None → to_do new < to_do old
-  pub counted : CountsFault None result before after
+  pub counted : CountsFault None result before.reading_faults after.reading_faults
   pub slot : slot_of new ≡ slot_of old
 
 -- the file is open, and no record is held
@@ -64,12 +69,12 @@ IsReady slots source = IsSome (slots (slot_of source)) × (held_in source ≡ No
 
 -- The next record was read, and is held now; or the reading ended so after the records that were given, and the count of
 -- reading faults rose where a fault ended it. A reading that had ended answers the same again.
-pub record GivesNext (old_remains new_remains : Option (List ℕ)) (before after : ℕ) (old new : Sourcing) (result : Option End) : Type 0 where
-  pub given : result ≡ None → (limit : ℕ) (bytes : List ℕ) (records : List Record) → HasGiven limit bytes old_remains old records
-      → (next : Record) × (held_in new ≡ Some next) × HasGiven limit bytes new_remains new (records ++ next ∷ [])
-  pub ends : IfSome result (λ how. (limit : ℕ) (bytes : List ℕ) (records : List Record) → HasGiven limit bytes old_remains old records → EndsAfter limit bytes (Rose before after) how records)
+pub record GivesNext (before after : ShelfState) (old new : Sourcing) (result : Option End) : Type 0 where
+  pub given : result ≡ None → (limit : ℕ) (bytes : List ℕ) (records : List Record) → HasGiven limit bytes (remains_of before old) old records
+      → (next : Record) × (held_in new ≡ Some next) × HasGiven limit bytes (remains_of after new) new (records ++ next ∷ [])
+  pub ends : IfSome result (λ how. (limit : ℕ) (bytes : List ℕ) (records : List Record) → HasGiven limit bytes (remains_of before old) old records → EndsAfter limit bytes (Rose before.reading_faults after.reading_faults) how records)
   pub held : result ≡ None → IsSome (held_in new)
   pub less : result ≡ None → to_do new < to_do old
   pub ended : new.ended ≡ result
   pub lasting : IfSome old.ended (λ how. result ≡ Some how)
-  pub counted : CountsFault old.ended result before after
+  pub counted : CountsFault old.ended result before.reading_faults after.reading_faults

@@ -5,6 +5,7 @@ use Rattle.avtp_base.specs.declared.failed.OpenFault.{OpenFault}
 use Rattle.avtp_base.specs.declared.failed.OpenFault.TheVariants as open_fault
 use Rattle.avtp_base.specs.Faults.{IsCounted, IsOpenCounted}
 use Rattle.avtp_base.specs.Files.{Files, Slots, file_of, left_in, name_in, KeepsFiles, KeepsOtherFiles, KeepsSlots, PutsFile}
+use Rattle.avtp_base.specs.States.{Asks, AsksNothing, ShelfState}
 
 -- The slot of the file, and the bytes that wait to be written to it.
 pub record Writing : Type 0 where
@@ -15,46 +16,46 @@ pub record Writing : Type 0 where
 abbrev pub IsMadeIn : Slots → ℕ → Type 0
 IsMadeIn slots k = option_map (λ o. o.made) (slots k) ≡ Some true
 
--- Since files, slots and the count of reading faults stood so, the file of this name was made, and it is open in the
+-- Since the shelf stood so, the file of this name was made, and it is open in the
 -- writer's slot, which was not live. The bytes are those that it has and then those that wait. All other files are as they
 -- were where they are told, and so are the other slots, but for what is left there of this file.
-pub record IsWriting (old_files new_files : Option Files) (old_slots new_slots : Slots) (old_reading new_reading : ℕ) (writer : Writing) (name bytes : List ℕ) : Type 0 where
+pub record IsWriting (before after : ShelfState) (writer : Writing) (name bytes : List ℕ) : Type 0 where
   pub held : List ℕ
   pub split : bytes ≡ held ++ writer.waiting
-  pub put : PutsFile old_files new_files name held
-  pub free : old_slots writer.slot ≡ None
-  pub made : IsMadeIn new_slots writer.slot
-  pub named : IsSome old_files → name_in new_slots writer.slot ≡ Some name
-  pub same : (j : ℕ) → j ≢ writer.slot → option_map file_of (new_slots j) ≡ option_map file_of (old_slots j)
-  pub left : IsSome old_files → (j : ℕ) → j ≢ writer.slot → name_in old_slots j ≢ Some name → left_in new_slots j ≡ left_in old_slots j
-  pub reading : new_reading ≡ old_reading
+  pub put : PutsFile before.files after.files name held
+  pub free : before.slots writer.slot ≡ None
+  pub made : IsMadeIn after.slots writer.slot
+  pub named : IsSome before.files → name_in after.slots writer.slot ≡ Some name
+  pub same : (j : ℕ) → j ≢ writer.slot → option_map file_of (after.slots j) ≡ option_map file_of (before.slots j)
+  pub left : IsSome before.files → (j : ℕ) → j ≢ writer.slot → name_in before.slots j ≢ Some name → left_in after.slots j ≡ left_in before.slots j
+  pub reading : after.reading_faults ≡ before.reading_faults
 
 -- The writer's file was written, or not, and is still open. The count of writing faults rose where the shelf failed; no reading
 -- fault was counted, and no name was asked for.
-pub record WritesSlot (old_slots new_slots : Slots) (old_reading new_reading old_writing new_writing : ℕ) (old_asked new_asked : List (List ℕ) → Type 0) (old new : Writing) (result : Result Unit Failed) : Type 0 where
+pub record WritesSlot (before after : ShelfState) (old new : Writing) (result : Result Unit Failed) : Type 0 where
   pub slot : new.slot ≡ old.slot
-  pub made : IsMadeIn new_slots old.slot
-  pub slots : KeepsOtherFiles old_slots new_slots (name_in old_slots old.slot)
-  pub reading : new_reading ≡ old_reading
-  pub counted : IsCounted old_writing new_writing result
-  pub asked : (before : List (List ℕ)) → old_asked before → new_asked before
+  pub made : IsMadeIn after.slots old.slot
+  pub slots : KeepsOtherFiles before.slots after.slots (name_in before.slots old.slot)
+  pub reading : after.reading_faults ≡ before.reading_faults
+  pub counted : IsCounted before.writing_faults after.writing_faults result
+  pub asked : AsksNothing before after
 
 -- ---- what is left
 
 -- a file was not made
-pub record NotMade (old_files new_files : Option Files) (old_slots new_slots : Slots) (old_reading new_reading : ℕ) : Type 0 where
-  pub files : KeepsFiles old_files new_files
-  pub slots : KeepsSlots old_slots new_slots
-  pub reading : new_reading ≡ old_reading
+pub record NotMade (before after : ShelfState) : Type 0 where
+  pub files : KeepsFiles before.files after.files
+  pub slots : KeepsSlots before.slots after.slots
+  pub reading : after.reading_faults ≡ before.reading_faults
 
 -- A file of this name was made, and is written through a buffer in which nothing waits; or it was not made, and the count of
 -- writing faults rose where the shelf failed. The name was asked for.
-pub record CreatesFile (old_files new_files : Option Files) (old_slots new_slots : Slots) (old_reading new_reading old_writing new_writing : ℕ) (old_asked new_asked : List (List ℕ) → Type 0) (name : List ℕ) (result : Result Writing OpenFault) : Type 0 where
-  pub begun : IfOk result (λ writer. IsWriting old_files new_files old_slots new_slots old_reading new_reading writer name [])
-  pub not_made : OnErr result (NotMade old_files new_files old_slots new_slots old_reading new_reading)
+pub record CreatesFile (before after : ShelfState) (name : List ℕ) (result : Result Writing OpenFault) : Type 0 where
+  pub begun : IfOk result (λ writer. IsWriting before after writer name [])
+  pub not_made : OnErr result (NotMade before after)
   pub not_missing : IsErrOf result open_fault.Missing → ⊥
-  pub counted : IsOpenCounted old_writing new_writing result
-  pub asked : (names : List (List ℕ)) → old_asked names → new_asked (names ++ name ∷ [])
+  pub counted : IsOpenCounted before.writing_faults after.writing_faults result
+  pub asked : Asks (name ∷ []) before after
 
 -- the file has a prefix of these bytes now, and all other files that are told stay as they were
 pub record PutsPrefix (old new : Option Files) (name bytes : List ℕ) : Type 0 where
@@ -74,9 +75,9 @@ pub record KeepsSlotsBut (files : Option Files) (old new : Slots) (name : List �
 
 -- The writer's file was closed, which has a prefix of all that was added. Every other file and slot is as it was; the count of
 -- writing faults rose where the shelf failed, no reading fault was counted, and no name was asked for.
-pub record ClosesFile (old_files new_files : Option Files) (old_slots new_slots : Slots) (old_reading new_reading old_writing new_writing : ℕ) (old_asked new_asked : List (List ℕ) → Type 0) (writer : Writing) (result : Result Unit Failed) : Type 0 where
-  pub prefix : (files : Option Files) (slots : Slots) (reading : ℕ) (name all : List ℕ) → IsWriting files old_files slots old_slots reading old_reading writer name all → PutsPrefix files new_files name all
-  pub slots : (files : Option Files) (slots : Slots) (reading : ℕ) (name all : List ℕ) → IsWriting files old_files slots old_slots reading old_reading writer name all → KeepsSlotsBut files slots new_slots name
-  pub reading : new_reading ≡ old_reading
-  pub counted : IsCounted old_writing new_writing result
-  pub asked : (before : List (List ℕ)) → old_asked before → new_asked before
+pub record ClosesFile (before after : ShelfState) (writer : Writing) (result : Result Unit Failed) : Type 0 where
+  pub prefix : (begun : ShelfState) (name all : List ℕ) → IsWriting begun before writer name all → PutsPrefix begun.files after.files name all
+  pub slots : (begun : ShelfState) (name all : List ℕ) → IsWriting begun before writer name all → KeepsSlotsBut begun.files begun.slots after.slots name
+  pub reading : after.reading_faults ≡ before.reading_faults
+  pub counted : IsCounted before.writing_faults after.writing_faults result
+  pub asked : AsksNothing before after

@@ -31,13 +31,12 @@ pub fn read_contents<F: Shelf>(
     shelf: &mut F,
     name: &str,
 ) -> Result<Contents, OpenFault>
-    ensures read { IfOk result (λ contents. (files : Files) → F.files shelf.old ≡ Some files →
+    ensures read { IfOk result (λ contents. (files : Files) → (F.state shelf.old).files ≡ Some files →
         (bytes : List ℕ) × (files name.now ≡ Some bytes) × IsContents limit bytes contents.stop contents.bytes.items) }
     ensures bounded { IfOk result (λ contents. length contents.bytes.items ≤ limit) }
-    ensures missing { IsErrOf result OpenFault.Missing → IsMissing (F.files shelf.old) name.now }
-    ensures counted { IsReadCounted (F.reading_faults shelf.old) (F.reading_faults shelf.new) result }
-    ensures keeps { OnlyReads (F.files shelf.old) (F.files shelf.new) (F.slots shelf.old) (F.slots shelf.new) (F.reading_faults shelf.old) (F.reading_faults shelf.new)
-        (F.writing_faults shelf.old) (F.writing_faults shelf.new) (F.asked shelf.old) (F.asked shelf.new) (name.now ∷ []) }
+    ensures missing { IsErrOf result OpenFault.Missing → IsMissing (F.state shelf.old).files name.now }
+    ensures counted { IsReadCounted (F.state shelf.old).reading_faults (F.state shelf.new).reading_faults result }
+    ensures keeps { OnlyReads (F.state shelf.old) (F.state shelf.new) (name.now ∷ []) }
 {
     let mut pieces = Pieces::open(alloc, limit, shelf, name)?;
     let contents = join(alloc, &mut pieces, shelf);
@@ -50,14 +49,13 @@ pub fn read_contents<F: Shelf>(
 
 /// Reads all pieces, and puts them one after the other.
 fn join<F: Shelf>(alloc: Global, pieces: &mut Pieces, shelf: &mut F) -> Result<Contents, NoMemory>
-    requires live { IsSome (F.slots shelf.old pieces.old.slot) }
+    requires live { IsSome ((F.state shelf.old).slots pieces.old.slot) }
     requires none_waits { pieces.old.waiting ≡ [] }
     ensures read { IfOk result (λ contents. (limit : ℕ) (bytes : List ℕ) →
-        HasTaken limit bytes (left_in (F.slots shelf.old) pieces.old.slot) pieces.old [] → IsContents limit bytes contents.stop contents.bytes.items) }
+        HasTaken limit bytes (left_in (F.state shelf.old).slots pieces.old.slot) pieces.old [] → IsContents limit bytes contents.stop contents.bytes.items) }
     ensures bounded { IfOk result (λ contents. length contents.bytes.items ≤ pieces.old.left) }
-    ensures counted { CountsStop (stop_of result) (F.reading_faults shelf.old) (F.reading_faults shelf.new) }
-    ensures reads { ReadsSlot (F.files shelf.old) (F.files shelf.new) (F.slots shelf.old) (F.slots shelf.new) (F.reading_faults shelf.old) (F.reading_faults shelf.new)
-        (F.writing_faults shelf.old) (F.writing_faults shelf.new) (F.asked shelf.old) (F.asked shelf.new) pieces.old.slot pieces.new.slot }
+    ensures counted { CountsStop (stop_of result) (F.state shelf.old).reading_faults (F.state shelf.new).reading_faults }
+    ensures reads { ReadsSlot (F.state shelf.old) (F.state shelf.new) pieces.old.slot pieces.new.slot }
 {
     let mut bytes = Vec::new(alloc);
     loop {

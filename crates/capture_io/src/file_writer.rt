@@ -1,7 +1,8 @@
 //! A file that is written through a buffer.
 
-ghost use Rattle.std.specs.Prelude.{◌≡◌, ◌≤◌, ◌++◌, ℕ, List, [], Ok, Option, length, OnOk, OnErr};
-ghost use Rattle.avtp_base.specs.Files.{Files, Slots, PutsFile};
+ghost use Rattle.std.specs.Prelude.{◌≡◌, ◌≤◌, ◌++◌, ℕ, List, [], Ok, length, OnOk, OnErr};
+ghost use Rattle.avtp_base.specs.Files.{PutsFile};
+ghost use Rattle.avtp_base.specs.States.{ShelfState};
 ghost use Rattle.capture_io.specs.Writing.{ClosesFile, CreatesFile, IsMadeIn, IsWriting, WritesSlot};
 
 use avtp_base::{Buffer, Failed, OpenFault, Shelf, Slot};
@@ -32,8 +33,7 @@ impl FileWriter {
     /// never answers `Missing`.
     pub fn create<F: Shelf>(buffer: Buffer, shelf: &mut F, name: &str) -> Result<Self, OpenFault>
         requires none_waits { buffer ≡ [] }
-        ensures { CreatesFile (F.files shelf.old) (F.files shelf.new) (F.slots shelf.old) (F.slots shelf.new) (F.reading_faults shelf.old) (F.reading_faults shelf.new)
-            (F.writing_faults shelf.old) (F.writing_faults shelf.new) (F.asked shelf.old) (F.asked shelf.new) name.now result }
+        ensures { CreatesFile (F.state shelf.old) (F.state shelf.new) name.now result }
     {
         let slot = shelf.create_file(name)?;
         Ok(FileWriter { slot, buffer })
@@ -41,16 +41,15 @@ impl FileWriter {
 
     /// Adds at most [`Buffer::ROOM`] bytes, or nothing where the shelf fails.
     pub fn add<F: Shelf>(&mut self, shelf: &mut F, bytes: &[u8]) -> Result<(), Failed>
-        requires made { IsMadeIn (F.slots shelf.old) self.old.slot }
+        requires made { IsMadeIn (F.state shelf.old).slots self.old.slot }
         requires size { length bytes.now ≤ 65536 }
-        ensures added { OnOk result ((files : Option Files) (slots : Slots) (reading : ℕ) (name all : List ℕ) →
-            IsWriting files (F.files shelf.old) slots (F.slots shelf.old) reading (F.reading_faults shelf.old) self.old name all →
-            IsWriting files (F.files shelf.new) slots (F.slots shelf.new) reading (F.reading_faults shelf.new) self.new name (all ++ bytes.now)) }
-        ensures kept { OnErr result ((files : Option Files) (slots : Slots) (reading : ℕ) (name all : List ℕ) →
-            IsWriting files (F.files shelf.old) slots (F.slots shelf.old) reading (F.reading_faults shelf.old) self.old name all →
-            IsWriting files (F.files shelf.new) slots (F.slots shelf.new) reading (F.reading_faults shelf.new) self.new name all) }
-        ensures writes { WritesSlot (F.slots shelf.old) (F.slots shelf.new) (F.reading_faults shelf.old) (F.reading_faults shelf.new) (F.writing_faults shelf.old) (F.writing_faults shelf.new)
-            (F.asked shelf.old) (F.asked shelf.new) self.old self.new result }
+        ensures added { OnOk result ((begun : ShelfState) (name all : List ℕ) →
+            IsWriting begun (F.state shelf.old) self.old name all →
+            IsWriting begun (F.state shelf.new) self.new name (all ++ bytes.now)) }
+        ensures kept { OnErr result ((begun : ShelfState) (name all : List ℕ) →
+            IsWriting begun (F.state shelf.old) self.old name all →
+            IsWriting begun (F.state shelf.new) self.new name all) }
+        ensures writes { WritesSlot (F.state shelf.old) (F.state shelf.new) self.old self.new result }
     {
         if self.buffer.room() < bytes.len() {
             self.flush(shelf)?;
@@ -61,13 +60,12 @@ impl FileWriter {
 
     /// Writes all that waits.
     fn flush<F: Shelf>(&mut self, shelf: &mut F) -> Result<(), Failed>
-        requires made { IsMadeIn (F.slots shelf.old) self.old.slot }
+        requires made { IsMadeIn (F.state shelf.old).slots self.old.slot }
         ensures none_waits { OnOk result (self.new.waiting ≡ []) }
-        ensures kept { (files : Option Files) (slots : Slots) (reading : ℕ) (name all : List ℕ) →
-            IsWriting files (F.files shelf.old) slots (F.slots shelf.old) reading (F.reading_faults shelf.old) self.old name all →
-            IsWriting files (F.files shelf.new) slots (F.slots shelf.new) reading (F.reading_faults shelf.new) self.new name all }
-        ensures writes { WritesSlot (F.slots shelf.old) (F.slots shelf.new) (F.reading_faults shelf.old) (F.reading_faults shelf.new) (F.writing_faults shelf.old) (F.writing_faults shelf.new)
-            (F.asked shelf.old) (F.asked shelf.new) self.old self.new result }
+        ensures kept { (begun : ShelfState) (name all : List ℕ) →
+            IsWriting begun (F.state shelf.old) self.old name all →
+            IsWriting begun (F.state shelf.new) self.new name all }
+        ensures writes { WritesSlot (F.state shelf.old) (F.state shelf.new) self.old self.new result }
     {
         while !self.buffer.waiting().is_empty() {
             let count = shelf.write(self.slot, self.buffer.waiting())?;
@@ -78,11 +76,10 @@ impl FileWriter {
 
     /// Writes what waits, and closes the file. At `Ok` the file has all that was added; else it has a prefix of that.
     pub fn finish<F: Shelf>(self, shelf: &mut F) -> Result<(), Failed>
-        requires made { IsMadeIn (F.slots shelf.old) self.slot }
-        ensures put { OnOk result ((files : Option Files) (slots : Slots) (reading : ℕ) (name all : List ℕ) →
-            IsWriting files (F.files shelf.old) slots (F.slots shelf.old) reading (F.reading_faults shelf.old) self name all → PutsFile files (F.files shelf.new) name all) }
-        ensures closes { ClosesFile (F.files shelf.old) (F.files shelf.new) (F.slots shelf.old) (F.slots shelf.new) (F.reading_faults shelf.old) (F.reading_faults shelf.new)
-            (F.writing_faults shelf.old) (F.writing_faults shelf.new) (F.asked shelf.old) (F.asked shelf.new) self result }
+        requires made { IsMadeIn (F.state shelf.old).slots self.slot }
+        ensures put { OnOk result ((begun : ShelfState) (name all : List ℕ) →
+            IsWriting begun (F.state shelf.old) self name all → PutsFile begun.files (F.state shelf.new).files name all) }
+        ensures closes { ClosesFile (F.state shelf.old) (F.state shelf.new) self result }
     {
         let mut writer = self;
         let written = writer.flush(shelf);
@@ -92,9 +89,8 @@ impl FileWriter {
 
     /// Closes the file, which has a prefix of what was added.
     pub fn abandon<F: Shelf>(self, shelf: &mut F)
-        requires made { IsMadeIn (F.slots shelf.old) self.slot }
-        ensures { ClosesFile (F.files shelf.old) (F.files shelf.new) (F.slots shelf.old) (F.slots shelf.new) (F.reading_faults shelf.old) (F.reading_faults shelf.new)
-            (F.writing_faults shelf.old) (F.writing_faults shelf.new) (F.asked shelf.old) (F.asked shelf.new) self (Ok tt) }
+        requires made { IsMadeIn (F.state shelf.old).slots self.slot }
+        ensures { ClosesFile (F.state shelf.old) (F.state shelf.new) self (Ok tt) }
     {
         shelf.close_file(self.slot);
     }

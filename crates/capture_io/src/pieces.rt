@@ -51,13 +51,11 @@ impl Pieces {
         shelf: &mut F,
         name: &str,
     ) -> Result<Self, OpenFault>
-        ensures begun { IfOk result (λ pieces. (files : Files) → F.files shelf.old ≡ Some files → (bytes : List ℕ) × (files name.now ≡ Some bytes)
-            × HasTaken limit bytes (left_in (F.slots shelf.new) pieces.slot) pieces []) }
+        ensures begun { IfOk result (λ pieces. (files : Files) → (F.state shelf.old).files ≡ Some files → (bytes : List ℕ) × (files name.now ≡ Some bytes)
+            × HasTaken limit bytes (left_in (F.state shelf.new).slots pieces.slot) pieces []) }
         ensures nothing { IfOk result (λ pieces. (pieces.waiting ≡ []) × (pieces.left ≡ limit)) }
-        ensures opened { IfOk result (λ pieces. OpensSlot (F.files shelf.old) (F.files shelf.new) (F.slots shelf.old) (F.slots shelf.new) (F.reading_faults shelf.old) (F.reading_faults shelf.new)
-            (F.writing_faults shelf.old) (F.writing_faults shelf.new) (F.asked shelf.old) (F.asked shelf.new) name.now pieces.slot) }
-        ensures tries { TriesOpen (F.files shelf.old) (F.files shelf.new) (F.slots shelf.old) (F.slots shelf.new) (F.reading_faults shelf.old) (F.reading_faults shelf.new)
-            (F.writing_faults shelf.old) (F.writing_faults shelf.new) (F.asked shelf.old) (F.asked shelf.new) name.now result }
+        ensures opened { IfOk result (λ pieces. OpensSlot (F.state shelf.old) (F.state shelf.new) name.now pieces.slot) }
+        ensures tries { TriesOpen (F.state shelf.old) (F.state shelf.new) name.now result }
     {
         let slot = shelf.open_file(name)?;
         let Ok(piece) = vec![in alloc; 0u8; PIECE] else {
@@ -76,16 +74,15 @@ impl Pieces {
 
     /// Reads the next piece, where none waits: then bytes wait, or it answers where the reading stopped.
     pub fn read<F: ReadSlots>(&mut self, shelf: &mut F) -> Option<Stop>
-        requires live { IsSome (F.slots shelf.old self.old.slot) }
+        requires live { IsSome ((F.state shelf.old).slots self.old.slot) }
         requires none_waits { self.old.waiting ≡ [] }
         ensures more { result ≡ None → (limit : ℕ) (bytes prefix : List ℕ) →
-            HasTaken limit bytes (left_in (F.slots shelf.old) self.old.slot) self.old prefix → HasTaken limit bytes (left_in (F.slots shelf.new) self.new.slot) self.new prefix }
+            HasTaken limit bytes (left_in (F.state shelf.old).slots self.old.slot) self.old prefix → HasTaken limit bytes (left_in (F.state shelf.new).slots self.new.slot) self.new prefix }
         ensures stopped { IfSome result (λ stop. (limit : ℕ) (bytes prefix : List ℕ) →
-            HasTaken limit bytes (left_in (F.slots shelf.old) self.old.slot) self.old prefix → IsContents limit bytes stop prefix) }
+            HasTaken limit bytes (left_in (F.state shelf.old).slots self.old.slot) self.old prefix → IsContents limit bytes stop prefix) }
         ensures piece { ReadsPiece self.old self.new result }
-        ensures reads { ReadsSlot (F.files shelf.old) (F.files shelf.new) (F.slots shelf.old) (F.slots shelf.new) (F.reading_faults shelf.old) (F.reading_faults shelf.new)
-            (F.writing_faults shelf.old) (F.writing_faults shelf.new) (F.asked shelf.old) (F.asked shelf.new) self.old.slot self.new.slot }
-        ensures counted { CountsStop result (F.reading_faults shelf.old) (F.reading_faults shelf.new) }
+        ensures reads { ReadsSlot (F.state shelf.old) (F.state shelf.new) self.old.slot self.new.slot }
+        ensures counted { CountsStop result (F.state shelf.old).reading_faults (F.state shelf.new).reading_faults }
     {
         if self.over {
             return Some(Stop::Limit);
@@ -128,9 +125,8 @@ impl Pieces {
 
     /// Closes the file.
     pub fn close<F: Shelf>(self, shelf: &mut F)
-        requires { IsSome (F.slots shelf.old self.slot) }
-        ensures { ClosesSlot (F.files shelf.old) (F.files shelf.new) (F.slots shelf.old) (F.slots shelf.new) (F.reading_faults shelf.old) (F.reading_faults shelf.new)
-            (F.writing_faults shelf.old) (F.writing_faults shelf.new) (F.asked shelf.old) (F.asked shelf.new) self.slot }
+        requires { IsSome ((F.state shelf.old).slots self.slot) }
+        ensures { ClosesSlot (F.state shelf.old) (F.state shelf.new) self.slot }
     {
         shelf.close_file(self.slot);
     }

@@ -1,12 +1,13 @@
 //! A capture that is read record by record.
 
 ghost use Rattle.std.specs.Prelude.{◌≡◌, ◌≤◌, ◌<◌, ◌∷◌, ◌++◌, ◌^◌, ℕ, List, [], Some, None, length, Option, IsSome, IfSome, IfOk, ◌*◌};
-ghost use Rattle.avtp_base.specs.Files.{Files, left_in};
+ghost use Rattle.avtp_base.specs.Files.{Files};
+ghost use Rattle.avtp_base.specs.States.{ShelfState};
 ghost use Rattle.pcap_frames.specs.Capture.{Record};
 ghost use Rattle.pcap_frames.specs.Layout.{IsRecordTime};
 ghost use Rattle.pcap_frames.specs.Reading.{shown};
 ghost use Rattle.capture_io.specs.Reads.{TriesOpen, ReadsSlot, OpensSlot, ClosesSlot};
-ghost use Rattle.capture_io.specs.Source.{GivesNext, HasGiven, IsReady, ReadsOn, held_in, slot_of, to_do};
+ghost use Rattle.capture_io.specs.Source.{GivesNext, HasGiven, IsReady, ReadsOn, held_in, remains_of, slot_of, to_do};
 
 use crate::capture_reader::CaptureReader;
 use crate::end::End;
@@ -50,13 +51,11 @@ impl Source {
         name: &str,
     ) -> Result<Self, OpenFault>
         requires limit { limit ≤ 2 ^ 62 }
-        ensures begun { IfOk result (λ source. (files : Files) → F.files shelf.old ≡ Some files → (bytes : List ℕ) × (files name.now ≡ Some bytes)
-            × HasGiven limit bytes (left_in (F.slots shelf.new) (slot_of source)) source []) }
+        ensures begun { IfOk result (λ source. (files : Files) → (F.state shelf.old).files ≡ Some files → (bytes : List ℕ) × (files name.now ≡ Some bytes)
+            × HasGiven limit bytes (remains_of (F.state shelf.new) source) source []) }
         ensures going { IfOk result (λ source. (source.ended ≡ None) × (to_do source ≤ 2 * limit)) }
-        ensures opened { IfOk result (λ source. OpensSlot (F.files shelf.old) (F.files shelf.new) (F.slots shelf.old) (F.slots shelf.new) (F.reading_faults shelf.old) (F.reading_faults shelf.new)
-            (F.writing_faults shelf.old) (F.writing_faults shelf.new) (F.asked shelf.old) (F.asked shelf.new) name.now (slot_of source)) }
-        ensures tries { TriesOpen (F.files shelf.old) (F.files shelf.new) (F.slots shelf.old) (F.slots shelf.new) (F.reading_faults shelf.old) (F.reading_faults shelf.new)
-            (F.writing_faults shelf.old) (F.writing_faults shelf.new) (F.asked shelf.old) (F.asked shelf.new) name.now result }
+        ensures opened { IfOk result (λ source. OpensSlot (F.state shelf.old) (F.state shelf.new) name.now (slot_of source)) }
+        ensures tries { TriesOpen (F.state shelf.old) (F.state shelf.new) name.now result }
     {
         let pieces = Pieces::open(alloc, limit, shelf, name)?;
         let Ok(reader) = CaptureReader::new(alloc) else {
@@ -73,10 +72,9 @@ impl Source {
     /// Drops the record that is held, and reads on to the next. At `None` one is held now; else it answers how the reading
     /// ended. Once it has ended, each further call answers the same and reads nothing.
     pub fn next<F: ReadSlots>(&mut self, shelf: &mut F) -> Option<End>
-        requires live { IsSome (F.slots shelf.old (slot_of self.old)) }
-        ensures gives { GivesNext (left_in (F.slots shelf.old) (slot_of self.old)) (left_in (F.slots shelf.new) (slot_of self.new)) (F.reading_faults shelf.old) (F.reading_faults shelf.new) self.old self.new result }
-        ensures reads { ReadsSlot (F.files shelf.old) (F.files shelf.new) (F.slots shelf.old) (F.slots shelf.new) (F.reading_faults shelf.old) (F.reading_faults shelf.new)
-            (F.writing_faults shelf.old) (F.writing_faults shelf.new) (F.asked shelf.old) (F.asked shelf.new) (slot_of self.old) (slot_of self.new) }
+        requires live { IsSome ((F.state shelf.old).slots (slot_of self.old)) }
+        ensures gives { GivesNext (F.state shelf.old) (F.state shelf.new) self.old self.new result }
+        ensures reads { ReadsSlot (F.state shelf.old) (F.state shelf.new) (slot_of self.old) (slot_of self.new) }
     {
         if self.ended.is_some() {
             return self.ended;
@@ -88,11 +86,10 @@ impl Source {
 
     /// Reads on until a record is held, or the reading ends.
     fn read_on<F: ReadSlots>(&mut self, shelf: &mut F) -> Option<End>
-        requires ready { IsReady (F.slots shelf.old) self.old }
-        ensures on { ReadsOn (left_in (F.slots shelf.old) (slot_of self.old)) (left_in (F.slots shelf.new) (slot_of self.new)) (F.reading_faults shelf.old) (F.reading_faults shelf.new) self.old self.new result }
+        requires ready { IsReady (F.state shelf.old).slots self.old }
+        ensures on { ReadsOn (F.state shelf.old) (F.state shelf.new) self.old self.new result }
         ensures held { result ≡ None → IsSome (held_in self.new) }
-        ensures reads { ReadsSlot (F.files shelf.old) (F.files shelf.new) (F.slots shelf.old) (F.slots shelf.new) (F.reading_faults shelf.old) (F.reading_faults shelf.new)
-            (F.writing_faults shelf.old) (F.writing_faults shelf.new) (F.asked shelf.old) (F.asked shelf.new) (slot_of self.old) (slot_of self.new) }
+        ensures reads { ReadsSlot (F.state shelf.old) (F.state shelf.new) (slot_of self.old) (slot_of self.new) }
     {
         loop {
             if let Some(end) = self.step(shelf) {
@@ -106,10 +103,9 @@ impl Source {
 
     /// Feeds the reader what waits, or where nothing waits reads the next piece.
     fn step<F: ReadSlots>(&mut self, shelf: &mut F) -> Option<End>
-        requires ready { IsReady (F.slots shelf.old) self.old }
-        ensures on { ReadsOn (left_in (F.slots shelf.old) (slot_of self.old)) (left_in (F.slots shelf.new) (slot_of self.new)) (F.reading_faults shelf.old) (F.reading_faults shelf.new) self.old self.new result }
-        ensures reads { ReadsSlot (F.files shelf.old) (F.files shelf.new) (F.slots shelf.old) (F.slots shelf.new) (F.reading_faults shelf.old) (F.reading_faults shelf.new)
-            (F.writing_faults shelf.old) (F.writing_faults shelf.new) (F.asked shelf.old) (F.asked shelf.new) (slot_of self.old) (slot_of self.new) }
+        requires ready { IsReady (F.state shelf.old).slots self.old }
+        ensures on { ReadsOn (F.state shelf.old) (F.state shelf.new) self.old self.new result }
+        ensures reads { ReadsSlot (F.state shelf.old) (F.state shelf.new) (slot_of self.old) (slot_of self.new) }
     {
         if self.pieces.waiting().is_empty() {
             return self.read_piece(shelf);
@@ -119,11 +115,10 @@ impl Source {
 
     /// Reads the next piece, where nothing waits.
     fn read_piece<F: ReadSlots>(&mut self, shelf: &mut F) -> Option<End>
-        requires ready { IsReady (F.slots shelf.old) self.old }
+        requires ready { IsReady (F.state shelf.old).slots self.old }
         requires none_waits { self.old.pieces.waiting ≡ [] }
-        ensures on { ReadsOn (left_in (F.slots shelf.old) (slot_of self.old)) (left_in (F.slots shelf.new) (slot_of self.new)) (F.reading_faults shelf.old) (F.reading_faults shelf.new) self.old self.new result }
-        ensures reads { ReadsSlot (F.files shelf.old) (F.files shelf.new) (F.slots shelf.old) (F.slots shelf.new) (F.reading_faults shelf.old) (F.reading_faults shelf.new)
-            (F.writing_faults shelf.old) (F.writing_faults shelf.new) (F.asked shelf.old) (F.asked shelf.new) (slot_of self.old) (slot_of self.new) }
+        ensures on { ReadsOn (F.state shelf.old) (F.state shelf.new) self.old self.new result }
+        ensures reads { ReadsSlot (F.state shelf.old) (F.state shelf.new) (slot_of self.old) (slot_of self.new) }
     {
         let stop = self.pieces.read(shelf)?;
         Some(stop.end(self.reader.finish().err()))
@@ -133,7 +128,7 @@ impl Source {
     fn feed_piece(&mut self) -> Option<End>
         requires free { held_in self.old ≡ None }
         requires some { 0 < length self.old.pieces.waiting }
-        ensures { (remains : Option (List ℕ)) (reading : ℕ) → ReadsOn remains remains reading reading self.old self.new result }
+        ensures { (shelf : ShelfState) → ReadsOn shelf shelf self.old self.new result }
     {
         match self.reader.feed(self.pieces.waiting()) {
             Ok(taken) => {
@@ -161,9 +156,8 @@ impl Source {
 
     /// Closes the file, wherever the reading stands.
     pub fn close<F: Shelf>(self, shelf: &mut F)
-        requires { IsSome (F.slots shelf.old (slot_of self)) }
-        ensures { ClosesSlot (F.files shelf.old) (F.files shelf.new) (F.slots shelf.old) (F.slots shelf.new) (F.reading_faults shelf.old) (F.reading_faults shelf.new)
-            (F.writing_faults shelf.old) (F.writing_faults shelf.new) (F.asked shelf.old) (F.asked shelf.new) (slot_of self) }
+        requires { IsSome ((F.state shelf.old).slots (slot_of self)) }
+        ensures { ClosesSlot (F.state shelf.old) (F.state shelf.new) (slot_of self) }
     {
         self.pieces.close(shelf);
     }

@@ -1,12 +1,13 @@
 -- Bytes that a sink took, one piece after the other.
-use Rattle.std.proofs.Common.{◌≡◌, ℕ, ◌+◌, ◌-◌, List, ◌++◌, length, take, drop, Option, refl, sym, ap, subst, ◌∙◌, append_assoc, arith, length-drop, take-append-drop}
+use Rattle.std.proofs.Common.{◌≡◌, ℕ, ◌+◌, ◌-◌, List, [], ◌++◌, length, take, drop, Option, refl, sym, ap, subst, ◌∙◌, append_assoc, arith, length-drop, take-append-drop}
 use Rattle.std.proofs.lemmas.List.{take_all}
 use Rattle.std.proofs.Math.Seq.{take-add}
 use Rattle.std.specs.Prelude.{Result, Ok, Err, IsErr}
-use Rattle.avtp_base.proofs.Told.{Appends-trans, Appends-kept}
+use Rattle.avtp_base.proofs.Told.{Appends-nil, Appends-trans, Appends-kept}
 use Rattle.avtp_base.specs.declared.failed.Failed.{Failed}
 use Rattle.avtp_base.specs.Told.{Appends, Keeps}
 use Rattle.avtp_base.specs.Faults.{IsCounted}
+use Rattle.avtp_base.specs.States.{SinkState}
 use Rattle.device_rack.specs.Written.{AppendsPrefix, HasWritten}
 
 -- a sink took the front of the bytes, and then more of them
@@ -34,46 +35,51 @@ prefix_behind a b c xs ys first taken =
     (xs ++ part, (rest, append_assoc xs part rest ∙ ap (λ (zs : List ℕ). xs ++ zs) is), Appends-trans a b c xs part first taken.2)
 
 -- a count that stayed, and then the count of a call
-counted-then : {T U : Type 0} (f g h : ℕ) (e e' : Failed) → g ≡ f → IsCounted {T = T} g h (Err e) → IsCounted {T = U} f h (Err e')
-counted-then f g h e e' quiet counted = record {
+counted-then : {T U : Type 0} {f g h : ℕ} {e e' : Failed} → g ≡ f → IsCounted {T = T} g h (Err e) → IsCounted {T = U} f h (Err e')
+counted-then quiet counted = record {
   never_falls = rw (← quiet) counted.never_falls;
   ok = tt;
   failed = rw (← quiet) counted.failed;
 }
 
+-- nothing was written yet
+pub HasWritten-none : {T : Type 0} (a : SinkState) (ok : T) → HasWritten a a (Ok ok) []
+HasWritten-none a ok = record { whole = Appends-nil a.held; part = tt; counted = record { never_falls = omega arith; ok = refl; failed = tt } }
+
 -- bytes were written, and then more
-pub HasWritten-then : {T : Type 0} (a b c : Option (List ℕ)) (f g h : ℕ) (r : Result T Failed) (xs ys : List ℕ)
-    → Appends a b xs → g ≡ f → HasWritten b c g h r ys → HasWritten a c f h r (xs ++ ys)
-HasWritten-then {T} a b c f g h (Ok x) xs ys first quiet written = record {
-  whole = Appends-trans a b c xs ys first written.whole;
+pub HasWritten-then : {T U : Type 0} {a b c : SinkState} {ok : U} {r : Result T Failed} (xs ys : List ℕ)
+    → HasWritten {T = U} a b (Ok ok) xs → HasWritten b c r ys → HasWritten a c r (xs ++ ys)
+HasWritten-then {T} {a = a} {b = b} {c = c} {r = Ok x} xs ys first second = record {
+  whole = Appends-trans a.held b.held c.held xs ys first.whole second.whole;
   part = tt;
-  counted = subst (λ (k : ℕ). IsCounted {T = T} k h (Ok x)) quiet written.counted;
+  counted = subst (λ (k : ℕ). IsCounted {T = T} k c.faults (Ok x)) first.counted.ok second.counted;
 }
-HasWritten-then {T} a b c f g h (Err e) xs ys first quiet written = record {
+HasWritten-then {a = a} {b = b} {c = c} {r = Err e} xs ys first second = record {
   whole = tt;
-  part = prefix_behind a b c xs ys first written.part;
-  counted = counted-then f g h e e quiet written.counted;
+  part = prefix_behind a.held b.held c.held xs ys first.whole second.part;
+  counted = counted-then first.counted.ok second.counted;
 }
 
 -- the sink failed before the rest came
-pub HasWritten-cut : {T U : Type 0} (a b : Option (List ℕ)) (f g : ℕ) (e : Failed) (r : Result U Failed) (xs ys : List ℕ)
-    → HasWritten {T = T} a b f g (Err e) xs → IsErr r → HasWritten a b f g r (xs ++ ys)
-HasWritten-cut a b f g e (Ok x) xs ys written fails = absurd cc
-HasWritten-cut a b f g e (Err e') xs ys written is = record {
+pub HasWritten-cut : {T U : Type 0} {a b : SinkState} {e : Failed} {r : Result U Failed} (xs ys : List ℕ)
+    → HasWritten {T = T} a b (Err e) xs → IsErr r → HasWritten a b r (xs ++ ys)
+HasWritten-cut {r = Ok x} xs ys written fails = absurd cc
+HasWritten-cut {a = a} {b = b} {r = Err e'} xs ys written fails = record {
   whole = tt;
-  part = prefix_of_all a b xs ys written.part;
-  counted = counted-then f f g e e' refl written.counted;
+  part = prefix_of_all a.held b.held xs ys written.part;
+  counted = counted-then refl written.counted;
 }
 
 -- the sink took the front of the bytes, and failed
-pub HasWritten-stopped : {T U : Type 0} (a b c : Option (List ℕ)) (f g h : ℕ) (e : Failed) (r : Result U Failed) (bytes : List ℕ) (taken : ℕ)
-    → Appends a b (take taken bytes) → g ≡ f → Keeps b c → IsCounted {T = T} g h (Err e) → IsErr r → HasWritten a c f h r bytes
-HasWritten-stopped a b c f g h e (Ok x) bytes taken first quiet kept counted fails = absurd cc
-HasWritten-stopped a b c f g h e (Err e') bytes taken first quiet kept counted is = record {
+pub HasWritten-stopped : {T U : Type 0} (a b c : SinkState) {e : Failed} {r : Result U Failed} (bytes : List ℕ) (taken : ℕ)
+    → Appends a.held b.held (take taken bytes) → b.faults ≡ a.faults → Keeps b.held c.held → IsCounted {T = T} b.faults c.faults (Err e) → IsErr r
+    → HasWritten a c r bytes
+HasWritten-stopped a b c {r = Ok x} bytes taken first quiet kept counted fails = absurd cc
+HasWritten-stopped a b c {r = Err e'} bytes taken first quiet kept counted fails = record {
   whole = tt;
-  part = (take taken bytes, (drop taken bytes, take-append-drop taken bytes), Appends-kept a b c (take taken bytes) first kept);
-  counted = counted-then f g h e e' quiet counted;
+  part = (take taken bytes, (drop taken bytes, take-append-drop taken bytes), Appends-kept a.held b.held c.held (take taken bytes) first kept);
+  counted = counted-then quiet counted;
 }
 
-pub HasWritten-same : {T : Type 0} (a b : Option (List ℕ)) (f g : ℕ) (r : Result T Failed) (xs ys : List ℕ) → xs ≡ ys → HasWritten a b f g r xs → HasWritten a b f g r ys
-HasWritten-same {T} a b f g r xs ys same written = subst (λ (zs : List ℕ). HasWritten {T = T} a b f g r zs) same written
+pub HasWritten-same : {T : Type 0} {a b : SinkState} {r : Result T Failed} (xs ys : List ℕ) → xs ≡ ys → HasWritten a b r xs → HasWritten a b r ys
+HasWritten-same xs ys same written = subst (HasWritten _ _ _) same written

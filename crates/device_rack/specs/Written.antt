@@ -4,6 +4,7 @@ use Rattle.std.specs.List.{last_or}
 use mathlib.Core.List.{IsPrefix}
 use Rattle.avtp_base.specs.declared.failed.Failed.{Failed}
 use Rattle.avtp_base.specs.Faults.{IsCounted}
+use Rattle.avtp_base.specs.States.{SinkState}
 use Rattle.avtp_base.specs.Told.{Appends}
 use Rattle.sample_schedule.specs.Batches.{Presented, sample_instant}
 use Rattle.sample_schedule.specs.declared.shown.Shown.{Shown}
@@ -18,10 +19,10 @@ abbrev pub AppendsPrefix : Option (List ℕ) → Option (List ℕ) → List ℕ 
 AppendsPrefix before after bs = (part : List ℕ) × IsPrefix part bs × Appends before after part
 
 -- A sink was given bytes: it took all of them at Ok, and a prefix where it failed, and its count rose there alone.
-pub record HasWritten {T : Type 0} (held held' : Option (List ℕ)) (faults faults' : ℕ) (result : Result T Failed) (bytes : List ℕ) : Type 0 where
-  pub whole : OnOk result (Appends held held' bytes)
-  pub part : OnErr result (AppendsPrefix held held' bytes)
-  pub counted : IsCounted faults faults' result
+pub record HasWritten {T : Type 0} (before after : SinkState) (result : Result T Failed) (bytes : List ℕ) : Type 0 where
+  pub whole : OnOk result (Appends before.held after.held bytes)
+  pub part : OnErr result (AppendsPrefix before.held after.held bytes)
+  pub counted : IsCounted before.faults after.faults result
 
 -- what is kept of a batch: its line, the instant behind its last sample, and the bytes of one sample
 pub record IsPrevious (previous : Previous) (batch : Presented) : Type 0 where
@@ -52,15 +53,15 @@ module _ {S : Type 0} where
   abbrev pub annexb_failed : AnnexBDevice S → Bool
   annexb_failed device = device.failed
 
-  -- The device has taken these items, in this order, since its sink held `start`: the sink holds their output behind that,
-  -- as long as the device has not failed.
-  pub record HasTakenRaw (held : S → Option (List ℕ)) (start : Option (List ℕ)) (device : RawDevice S) (items : List Shown) : Type 0 where
+  -- The device has taken these items, in this order, since its sink was as in `start`: the sink holds their output behind
+  -- what it held then, as long as the device has not failed.
+  pub record HasTakenRaw (state : S → SinkState) (start : SinkState) (device : RawDevice S) (items : List Shown) : Type 0 where
     pub previous : IsPreviousOf device.previous (last_or None (sample_batches items))
-    pub holds : raw_failed device ≡ false → Appends start (held (raw_sink device)) (raw (silence_in device) items)
+    pub holds : raw_failed device ≡ false → Appends start.held (state (raw_sink device)).held (raw (silence_in device) items)
 
-  abbrev pub HasTakenUnits : (S → Option (List ℕ)) → Option (List ℕ) → AnnexBDevice S → List Shown → Type 0
-  HasTakenUnits held start device items = annexb_failed device ≡ false → Appends start (held (annexb_sink device)) (annexb items)
+  abbrev pub HasTakenUnits : (S → SinkState) → SinkState → AnnexBDevice S → List Shown → Type 0
+  HasTakenUnits state start device items = annexb_failed device ≡ false → Appends start.held (state (annexb_sink device)).held (annexb items)
 
--- told bytes grow by all of bs and then by a part, and both are a prefix of more
-abbrev pub AppendsUpTo : Option (List ℕ) → Option (List ℕ) → List ℕ → List ℕ → Type 0
-AppendsUpTo before after bs more = (part : List ℕ) × IsPrefix (bs ++ part) more × Appends before after (bs ++ part)
+-- what a sink tells grew by all of bs and then by a part, and both are a prefix of more
+abbrev pub AppendsUpTo : SinkState → SinkState → List ℕ → List ℕ → Type 0
+AppendsUpTo before after bs more = (part : List ℕ) × IsPrefix (bs ++ part) more × Appends before.held after.held (bs ++ part)

@@ -22,7 +22,7 @@ impl<S: Sink + Drop> AnnexBDevice<S> {
 
     /// A device that has taken nothing. Takes no memory, and writes nothing.
     pub fn over(sink: S) -> Self
-        ensures new { HasTakenUnits S.held (S.held sink) result [] }
+        ensures new { HasTakenUnits S.state (S.state sink) result [] }
         ensures sink { annexb_sink result ≡ sink }
         ensures failed { annexb_failed result ≡ false }
     {
@@ -41,24 +41,25 @@ impl<S: Sink + Drop> AnnexBDevice<S> {
 }
 
 impl<S: Sink + Drop> Device for AnnexBDevice<S> {
-    ghost use Rattle.std.specs.Prelude.{◌≡◌, ◌++◌, [], ◌∷◌, ◌||◌, List, ℕ, false, None, Option, OnOk, OnErr, is_err};
+    ghost use Rattle.std.specs.Prelude.{◌≡◌, ◌++◌, [], ◌∷◌, ◌||◌, List, false, None, OnOk, OnErr, is_err};
     ghost use Rattle.avtp_base.specs.Faults.{IsCounted};
+    ghost use Rattle.avtp_base.specs.States.{SinkState};
     ghost use Rattle.sample_schedule.specs.declared.shown.Shown.{Shown as ShownValue};
     ghost use Rattle.device_rack.specs.Output.{annexb};
     ghost use Rattle.device_rack.specs.Written.{AppendsUpTo, HasTakenUnits, annexb_sink, annexb_failed};
 
-    ghost took = { λ device items. (start : Option (List ℕ)) × HasTakenUnits S.held start device items };
+    ghost took = { λ device items. (start : SinkState) × HasTakenUnits S.state start device items };
 
-    ghost faults = { λ device. S.faults (annexb_sink device) };
+    ghost faults = { λ device. (S.state (annexb_sink device)).faults };
 
     ghost failing = { λ device. None };
 
     fn take(&mut self, shown: &Shown) -> Result<(), Failed>
-        ensures took { OnOk result ((start : Option (List ℕ)) (items : List ShownValue) → HasTakenUnits S.held start self.old items → HasTakenUnits S.held start self.new (items ++ shown.now ∷ [])) }
-        ensures refused { OnErr result ((start : Option (List ℕ)) (items : List ShownValue) → HasTakenUnits S.held start self.old items → HasTakenUnits S.held start self.new items) }
-        ensures part { OnErr result (annexb_failed self.old ≡ false → (start : Option (List ℕ)) (items : List ShownValue) → HasTakenUnits S.held start self.old items → AppendsUpTo start (S.held (annexb_sink self.new)) (annexb items) (annexb (items ++ shown.now ∷ []))) }
+        ensures took { OnOk result ((start : SinkState) (items : List ShownValue) → HasTakenUnits S.state start self.old items → HasTakenUnits S.state start self.new (items ++ shown.now ∷ [])) }
+        ensures refused { OnErr result ((start : SinkState) (items : List ShownValue) → HasTakenUnits S.state start self.old items → HasTakenUnits S.state start self.new items) }
+        ensures part { OnErr result (annexb_failed self.old ≡ false → (start : SinkState) (items : List ShownValue) → HasTakenUnits S.state start self.old items → AppendsUpTo start (S.state (annexb_sink self.new)) (annexb items) (annexb (items ++ shown.now ∷ []))) }
         ensures failed { annexb_failed self.new ≡ (annexb_failed self.old || is_err result) }
-        ensures counted { IsCounted (S.faults (annexb_sink self.old)) (S.faults (annexb_sink self.new)) result }
+        ensures counted { IsCounted (S.state (annexb_sink self.old)).faults (S.state (annexb_sink self.new)).faults result }
     {
         match shown {
             Shown::Present(batch) if is_unit(batch) => {

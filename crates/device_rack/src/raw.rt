@@ -27,7 +27,7 @@ impl<S: Sink + Drop> RawDevice<S> {
 
     /// A device that has taken nothing. Takes no memory, and writes nothing.
     pub fn over(sink: S, silence: Silence) -> Self
-        ensures new { HasTakenRaw S.held (S.held sink) result [] }
+        ensures new { HasTakenRaw S.state (S.state sink) result [] }
         ensures sink { raw_sink result ≡ sink }
         ensures silence { silence_in result ≡ silence }
         ensures failed { raw_failed result ≡ false }
@@ -49,26 +49,27 @@ impl<S: Sink + Drop> RawDevice<S> {
 }
 
 impl<S: Sink + Drop> Device for RawDevice<S> {
-    ghost use Rattle.std.specs.Prelude.{◌≡◌, ◌++◌, [], ◌∷◌, ◌||◌, List, ℕ, false, None, Option, OnOk, OnErr, IfSome, is_err};
+    ghost use Rattle.std.specs.Prelude.{◌≡◌, ◌++◌, [], ◌∷◌, ◌||◌, List, false, None, OnOk, OnErr, IfSome, is_err};
     ghost use Rattle.avtp_base.specs.Faults.{IsCounted};
+    ghost use Rattle.avtp_base.specs.States.{SinkState};
     ghost use Rattle.sample_schedule.specs.Devices.{FailsAsTold};
     ghost use Rattle.sample_schedule.specs.declared.shown.Shown.{Shown as ShownValue};
     ghost use Rattle.device_rack.specs.Output.{raw};
     ghost use Rattle.device_rack.specs.Written.{AppendsUpTo, HasTakenRaw, raw_sink, raw_failed, silence_in};
 
-    ghost took = { λ device items. (start : Option (List ℕ)) × HasTakenRaw S.held start device items };
+    ghost took = { λ device items. (start : SinkState) × HasTakenRaw S.state start device items };
 
-    ghost faults = { λ device. S.faults (raw_sink device) };
+    ghost faults = { λ device. (S.state (raw_sink device)).faults };
 
     ghost failing = { λ device. None };
 
     fn take(&mut self, shown: &Shown) -> Result<(), Failed>
-        ensures took { OnOk result ((start : Option (List ℕ)) (items : List ShownValue) → HasTakenRaw S.held start self.old items → HasTakenRaw S.held start self.new (items ++ shown.now ∷ [])) }
-        ensures refused { OnErr result ((start : Option (List ℕ)) (items : List ShownValue) → HasTakenRaw S.held start self.old items → HasTakenRaw S.held start self.new items) }
-        ensures part { OnErr result (raw_failed self.old ≡ false → (start : Option (List ℕ)) (items : List ShownValue) → HasTakenRaw S.held start self.old items → AppendsUpTo start (S.held (raw_sink self.new)) (raw (silence_in self.old) items) (raw (silence_in self.old) (items ++ shown.now ∷ []))) }
+        ensures took { OnOk result ((start : SinkState) (items : List ShownValue) → HasTakenRaw S.state start self.old items → HasTakenRaw S.state start self.new (items ++ shown.now ∷ [])) }
+        ensures refused { OnErr result ((start : SinkState) (items : List ShownValue) → HasTakenRaw S.state start self.old items → HasTakenRaw S.state start self.new items) }
+        ensures part { OnErr result (raw_failed self.old ≡ false → (start : SinkState) (items : List ShownValue) → HasTakenRaw S.state start self.old items → AppendsUpTo start (S.state (raw_sink self.new)) (raw (silence_in self.old) items) (raw (silence_in self.old) (items ++ shown.now ∷ []))) }
         ensures failed { raw_failed self.new ≡ (raw_failed self.old || is_err result) }
         ensures silence { silence_in self.new ≡ silence_in self.old }
-        ensures counted { IsCounted (S.faults (raw_sink self.old)) (S.faults (raw_sink self.new)) result }
+        ensures counted { IsCounted (S.state (raw_sink self.old)).faults (S.state (raw_sink self.new)).faults result }
     {
         match shown {
             Shown::Present(batch) if !is_unit(batch) => {

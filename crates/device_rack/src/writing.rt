@@ -12,7 +12,7 @@ const START_CODE: [u8; 4] = [0, 0, 0, 1];
 
 /// Writes all the bytes. Where the sink fails it has taken a prefix of them.
 fn write_all<S: Output>(sink: &mut S, bytes: &[u8]) -> Result<(), Failed>
-    ensures { HasWritten (S.held sink.old) (S.held sink.new) (S.faults sink.old) (S.faults sink.new) result bytes.now }
+    ensures { HasWritten (S.state sink.old) (S.state sink.new) result bytes.now }
 {
     let mut written = 0;
     while written < bytes.len() {
@@ -23,7 +23,7 @@ fn write_all<S: Output>(sink: &mut S, bytes: &[u8]) -> Result<(), Failed>
 
 /// Writes so many bytes of silence, as `write_all` does.
 fn write_silence<S: Output>(sink: &mut S, silence: Silence, count: usize) -> Result<(), Failed>
-    ensures { HasWritten (S.held sink.old) (S.held sink.new) (S.faults sink.old) (S.faults sink.new) result (silence_of silence count) }
+    ensures { HasWritten (S.state sink.old) (S.state sink.new) result (silence_of silence count) }
 {
     if count == 0 {
         return Ok(());
@@ -42,7 +42,7 @@ pub fn write_samples<S: Output>(
     silent: usize,
     bytes: &[u8],
 ) -> Result<(), Failed>
-    ensures { HasWritten (S.held sink.old) (S.held sink.new) (S.faults sink.old) (S.faults sink.new) result (silence_of silence silent ++ bytes.now) }
+    ensures { HasWritten (S.state sink.old) (S.state sink.new) result (silence_of silence silent ++ bytes.now) }
 {
     write_silence(sink, silence, silent)?;
     write_all(sink, bytes)
@@ -50,7 +50,7 @@ pub fn write_samples<S: Output>(
 
 /// Writes a unit after a start code, as `write_all` does.
 pub fn write_unit<S: Output>(sink: &mut S, bytes: &[u8]) -> Result<(), Failed>
-    ensures { HasWritten (S.held sink.old) (S.held sink.new) (S.faults sink.old) (S.faults sink.new) result (0 ∷ 0 ∷ 0 ∷ 1 ∷ bytes.now) }
+    ensures { HasWritten (S.state sink.old) (S.state sink.new) result (0 ∷ 0 ∷ 0 ∷ 1 ∷ bytes.now) }
 {
     write_all(sink, &START_CODE)?;
     write_all(sink, bytes)

@@ -99,19 +99,10 @@ struct MeetingShelf {
 }
 
 impl Shelf for MeetingShelf {
-    ghost use Rattle.std.specs.Prelude.{Some};
     ghost use Rattle.avtp_base.specs.MemoryFiles.{told_of_live};
-    ghost use Rattle.avtp_base.specs.MemoryShelf.{files_of, slots_of, asked_of, reading_count, writing_count};
+    ghost use Rattle.avtp_base.specs.MemoryShelf.{state_of};
 
-    ghost files = { λ meeting. Some (files_of meeting.shelf) };
-
-    ghost asked = { λ meeting. asked_of meeting.shelf };
-
-    ghost slots = { λ meeting. slots_of meeting.shelf };
-
-    ghost reading_faults = { λ meeting. reading_count meeting.shelf };
-
-    ghost writing_faults = { λ meeting. writing_count meeting.shelf };
+    ghost state = { λ meeting. state_of meeting.shelf };
 
     ghost told = { λ meeting k told live. told_of_live meeting.shelf.held k live };
 
@@ -155,9 +146,7 @@ impl Sink for MeetingSink {
     ghost use Rattle.std.specs.Prelude.{Some};
     ghost use Rattle.avtp_base.specs.MemorySink.{kept, fault_count};
 
-    ghost held = { λ meeting. Some (kept meeting.sink) };
-
-    ghost faults = { λ meeting. fault_count meeting.sink };
+    ghost state = { λ meeting. record { held = Some (kept meeting.sink); faults = fault_count meeting.sink } };
 
     fn write(&mut self, piece: &[u8]) -> Result<usize, Failed> {
         stay(

@@ -18,8 +18,8 @@ returns-in-Err g c =
 pub returns-in_default : goal.returns-in_default
 returns-in_default g c =
     let opened = c.in-Ok.ensures in
-    let keeps = read_through opened.opened (reads_nothing _ _ _ _ _ _ opened.opened.live) c.close.ensures in
-    does_cut (check_report c.args.limit c.args.file.now) c.args.limit c.args.file.now (Ok status.Memory) opened.begun (λ bytes given. part_none refl _ (Keeps-refl _)) (inl refl) keeps (counts_memory _ keeps.reading refl) refl (sink_still _ _ _)
+    let keeps = read_through opened.opened (reads_nothing _ _ opened.opened.live) c.close.ensures in
+    does_cut (check_report c.args.limit c.args.file.now) c.args.limit c.args.file.now (Ok status.Memory) opened.begun (λ bytes given. part_none refl _ (Keeps-refl _)) (inl refl) keeps (counts_memory _ keeps.reading refl) refl (sink_still _ _)
 
 pub returns-in-Ok-checked : goal.returns-in-Ok-checked
 returns-in-Ok-checked g c =

@@ -22,7 +22,7 @@ loop-end-init g c = record {
   bounded = omega (arith, c.requires.open.2);
   few = omega arith;
   reading = refl;
-  reads = reads_nothing _ _ _ _ _ _ c.requires.open.1;
+  reads = reads_nothing _ _ c.requires.open.1;
   sink = sink_ok tt (sink_part c.in_ok-capture.ensures);
   checked = λ limit bytes given. none_checked c.args.file.now given c.requires.stands c.in_ok-capture.ensures.written;
 }
@@ -45,7 +45,7 @@ loop-end-preserved g c =
           let more = next.given none limit bytes to.records to.given in
           let same = some_same _ _ _ more.1 c.record.ensures.exact in
           one_checked (shown c.record.result) to
-          (subst (λ (r : Record). HasGiven limit bytes (left_in (g.F.Shelf.slots c.next.new.shelf) (slot_of c.next.new.self)) c.next.new.self (to.records ++ r ∷ [])) same more.2) here.stands here.prints;
+          (subst (λ (r : Record). HasGiven limit bytes (left_in (g.F.Shelf.state c.next.new.shelf).slots (slot_of c.next.new.self)) c.next.new.self (to.records ++ r ∷ [])) same more.2) here.stands here.prints;
     }
 
 pub returns-in-Some-clause-checked : goal.returns-in-Some-clause-checked
@@ -53,7 +53,7 @@ returns-in-Some-clause-checked g c limit bytes given =
     let to = c.loop-end.invariant.checked limit bytes given in
     record {
       records = to.records;
-      ends = after_weaker limit bytes _ _ c.in-Some.end to.records (λ rose. subst (λ (n : ℕ). Rose n (g.F.Shelf.reading_faults c.next.new.shelf)) c.loop-end.invariant.reading rose) (c.in-Some.ensures.gives.ends limit bytes to.records to.given);
+      ends = after_weaker limit bytes _ _ c.in-Some.end to.records (λ rose. subst (λ (n : ℕ). Rose n (g.F.Shelf.state c.next.new.shelf).reading_faults) c.loop-end.invariant.reading rose) (c.in-Some.ensures.gives.ends limit bytes to.records to.given);
       frames = to.counted;
       streams = c.streams.ensures (notes_of to.records) to.stands;
       found = to.total;

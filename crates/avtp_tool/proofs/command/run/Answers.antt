@@ -1,19 +1,20 @@
 use Rattle.std.proofs.Common.{ℕ, List, [], inl, inr, refl, sym, ap, subst, ◌∙◌, arith}
 use Rattle.avtp_base.proofs.Files.{KeepsFiles-refl}
 use Rattle.avtp_base.proofs.Told.{Keeps-refl}
+use Rattle.avtp_base.specs.States.{Asks}
 use Rattle.avtp_text.specs.Notices.{words_line}
 use Rattle.avtp_text.specs.Written.{AppendsPrefix}
 use Rattle.avtp_text.proofs.Growth.{grows_further}
 use Rattle.avtp_text.proofs.Printing.{prefix_none}
-use Rattle.avtp_words.specs.Grammar.{listen, talk}
+use Rattle.avtp_words.specs.Grammar.{listen, output_of, talk}
 use Rattle.avtp_tool.specs.declared.status.Status.TheVariants as status
 use Rattle.avtp_tool.specs.Listen.{HasHeadline}
-use Rattle.avtp_tool.specs.Outcome.{Asks}
 use Rattle.avtp_tool.specs.Run.{came_for, MakesFrom, names_of, status_for, yield_for}
 use Rattle.avtp_tool.specs.Yield.{Yield}
 use Rattle.avtp_tool.proofs.Yields.{hands_nothing}
 use Rattle.avtp_tool.proofs.Complete.{complete_of, has_headline, outcome_here}
 use Rattle.avtp_tool.proofs.Ended.{asks_nothing, asks_same, ended_as, ends_prefix, ends_whole, not_ended, listens_to, offence_ends, quiet_if, quiet_not, through_to, told_whole, untouched_by}
+use Rattle.avtp_tool.proofs.Making.{files_still}
 use Rattle.avtp_tool.proofs.Finished.{flushed, gains_prefix, rose_later}
 use Rattle.avtp_tool.proofs.command.run.Goals as goal
 
@@ -27,6 +28,9 @@ returns-in_default-clause-part_complete g c request files line told some quiet =
 
 pub returns-in_default-clause-part_words : goal.returns-in_default-clause-part_words
 returns-in_default-clause-part_words g c position offence = prefix_none _ _ _ (Keeps-refl _)
+
+pub returns-in_default-clause-files : goal.returns-in_default-clause-files
+returns-in_default-clause-files g c request line = files_still (output_of request) _
 
 pub returns-in_default-clause-asks : goal.returns-in_default-clause-asks
 returns-in_default-clause-asks g c request line = asks_nothing (names_of request) _ (λ e. cc)
@@ -43,7 +47,7 @@ pub returns-clause-complete : goal.returns-clause-complete
 returns-clause-complete g c memory write request files line told some quiet =
     let all = returns-clause-shown g c memory write request files line told some in
     let same = complete_of request files _ _ all.0 c.finish.result all.1 (quiet_not _ _ quiet) all.2 in
-    (all.1, same.2, same.1, all.3, all.4, subst (λ (ns : List (List ℕ)). Asks ns (g.F.Shelf.asked c.args.shelf.now) (g.F.Shelf.asked c.execute-ended.new.shelf)) same.0 all.5)
+    (all.1, same.2, same.1, all.3, all.4, subst (λ (ns : List (List ℕ)). Asks ns (g.F.Shelf.state c.args.shelf.now) (g.F.Shelf.state c.execute-ended.new.shelf)) same.0 all.5)
 
 pub returns-clause-headline : goal.returns-clause-headline
 returns-clause-headline g c memory write asked files earlier later name bytes shift p line told some quiet split done has fits hears =
@@ -79,7 +83,7 @@ pub returns-clause-part_complete : goal.returns-clause-part_complete
 returns-clause-part_complete g c request files line told some quiet =
     let part = returns-clause-part g c request files line told some in
     let same = complete_of request files _ _ part.0 part.1 part.2 (quiet_not _ _ quiet) part.3 in
-    subst (λ (y : Yield). AppendsPrefix (g.S.Sink.held c.args.out.now) (g.S.Sink.held c.finish.new.out) y.text) same.2 part.4
+    subst (λ (y : Yield). AppendsPrefix (g.S.Sink.state c.args.out.now).held (g.S.Sink.state c.finish.new.out).held y.text) same.2 part.4
 
 pub returns-clause-part_words : goal.returns-clause-part_words
 returns-clause-part_words g c position offence =
@@ -104,7 +108,7 @@ returns-clause-no_read_fault g c fault write memory =
     let done = c.finish.ensures.whole write in
     elim c.execute-ended.ensures.either [
       | inl request ↦ quiet_if c.finish.result done.0 fault memory write (c.execute-ended.ensures.runs request.0 request.1).counts.quiet
-      | inr offence ↦ ap g.F.Shelf.reading_faults (c.execute-ended.ensures.words offence.0 offence.1).0
+      | inr offence ↦ ap (λ shelf. (g.F.Shelf.state shelf).reading_faults) (c.execute-ended.ensures.words offence.0 offence.1).0
     ]
 
 pub returns-clause-write_fault : goal.returns-clause-write_fault
@@ -131,21 +135,21 @@ returns-clause-no_file_fault g c write =
     let done = c.finish.ensures.whole write in
     elim c.execute-ended.ensures.either [
       | inl request ↦ (c.execute-ended.ensures.runs request.0 request.1).writing.other (not_ended c.finish.result status.WriteFault done.0 write)
-      | inr offence ↦ ap g.F.Shelf.writing_faults (c.execute-ended.ensures.words offence.0 offence.1).0
+      | inr offence ↦ ap (λ shelf. (g.F.Shelf.state shelf).writing_faults) (c.execute-ended.ensures.words offence.0 offence.1).0
     ]
 
 pub returns-clause-never_falls : goal.returns-clause-never_falls
 returns-clause-never_falls g c =
     elim c.execute-ended.ensures.either [
       | inl request ↦ (c.execute-ended.ensures.runs request.0 request.1).counts.never_falls
-      | inr offence ↦ let same = ap g.F.Shelf.reading_faults (c.execute-ended.ensures.words offence.0 offence.1).0 in omega (arith, same)
+      | inr offence ↦ let same = ap (λ shelf. (g.F.Shelf.state shelf).reading_faults) (c.execute-ended.ensures.words offence.0 offence.1).0 in omega (arith, same)
     ]
 
 pub returns-clause-writing : goal.returns-clause-writing
 returns-clause-writing g c =
     elim c.execute-ended.ensures.either [
       | inl request ↦ (c.execute-ended.ensures.runs request.0 request.1).writing.never_falls
-      | inr offence ↦ let same = ap g.F.Shelf.writing_faults (c.execute-ended.ensures.words offence.0 offence.1).0 in omega (arith, same)
+      | inr offence ↦ let same = ap (λ shelf. (g.F.Shelf.state shelf).writing_faults) (c.execute-ended.ensures.words offence.0 offence.1).0 in omega (arith, same)
     ]
 
 pub returns-clause-not_written : goal.returns-clause-not_written
@@ -155,24 +159,24 @@ returns-clause-not_written g c request line none = (c.execute-ended.ensures.runs
 
 pub returns-clause-made : goal.returns-clause-made
 returns-clause-made g c is asked files bytes line told has =
-    let makes = subst (λ t. MakesFrom asked t (g.F.Shelf.files c.args.shelf.now) (g.F.Shelf.files c.execute-ended.new.shelf) c.execute-ended.result) has ((c.execute-ended.ensures.runs (talk asked) line).makes files told) in
+    let makes = subst (λ t. MakesFrom asked t (g.F.Shelf.state c.args.shelf.now).files (g.F.Shelf.state c.execute-ended.new.shelf).files c.execute-ended.result) has ((c.execute-ended.ensures.runs (talk asked) line).makes files told) in
     makes.done (ended_as status.Done (λ e. cc) c.finish.ensures is)
 
 pub returns-clause-part_made : goal.returns-clause-part_made
 returns-clause-part_made g c asked files bytes line told has =
-    let makes = subst (λ t. MakesFrom asked t (g.F.Shelf.files c.args.shelf.now) (g.F.Shelf.files c.execute-ended.new.shelf) c.execute-ended.result) has ((c.execute-ended.ensures.runs (talk asked) line).makes files told) in
+    let makes = subst (λ t. MakesFrom asked t (g.F.Shelf.state c.args.shelf.now).files (g.F.Shelf.state c.execute-ended.new.shelf).files c.execute-ended.result) has ((c.execute-ended.ensures.runs (talk asked) line).makes files told) in
     makes.part
 
 pub returns-clause-not_made : goal.returns-clause-not_made
 returns-clause-not_made g c asked files line told none =
-    subst (λ t. MakesFrom asked t (g.F.Shelf.files c.args.shelf.now) (g.F.Shelf.files c.execute-ended.new.shelf) c.execute-ended.result) none ((c.execute-ended.ensures.runs (talk asked) line).makes files told)
+    subst (λ t. MakesFrom asked t (g.F.Shelf.state c.args.shelf.now).files (g.F.Shelf.state c.execute-ended.new.shelf).files c.execute-ended.result) none ((c.execute-ended.ensures.runs (talk asked) line).makes files told)
 
 pub returns-clause-untouched : goal.returns-clause-untouched
 returns-clause-untouched g c done write memory =
     let whole = c.finish.ensures.whole write in
     elim c.execute-ended.ensures.either [
-      | inl request ↦ let runs = c.execute-ended.ensures.runs request.0 request.1 in untouched_by request.0 (g.F.Shelf.files c.args.shelf.now) (g.F.Shelf.files c.execute-ended.new.shelf) c.execute-ended.result c.finish.result whole.0 done write memory runs.makes runs.files
-      | inr offence ↦ rw (c.execute-ended.ensures.words offence.0 offence.1).0 (KeepsFiles-refl (g.F.Shelf.files c.args.shelf.now))
+      | inl request ↦ let runs = c.execute-ended.ensures.runs request.0 request.1 in untouched_by request.0 (g.F.Shelf.state c.args.shelf.now).files (g.F.Shelf.state c.execute-ended.new.shelf).files c.execute-ended.result c.finish.result whole.0 done write memory runs.makes runs.files
+      | inr offence ↦ rw (c.execute-ended.ensures.words offence.0 offence.1).0 (KeepsFiles-refl (g.F.Shelf.state c.args.shelf.now).files)
     ]
 
 pub returns-clause-asks : goal.returns-clause-asks

@@ -13,7 +13,7 @@ use Rattle.avtp_tool.proofs.Yields.{hands_both, hands_nothing}
 use Rattle.avtp_tool.proofs.files.read_files.Goals.{in-Done, in-Findings}
 
 pub loop-file-init : goal.loop-file-init
-loop-file-init g c = record { kept = λ deaf. refl; sink = sink_still _ _ tt; reads = reads_none (plan_for c.args.reading.now (texts c.args.files.now)) (hands_nothing g.D.Devices.handed _) }
+loop-file-init g c = record { kept = λ deaf. refl; sink = sink_still _ tt; reads = reads_none (plan_for c.args.reading.now (texts c.args.files.now)) (hands_nothing g.D.Devices.handed _) }
 
 pub returns-in_err-other-clause-does : goal.returns-in_err-other-clause-does
 returns-in_err-other-clause-does g c =

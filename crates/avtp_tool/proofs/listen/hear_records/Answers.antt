@@ -13,17 +13,17 @@ pub returns-in_default-clause-heard : goal.returns-in_default-clause-heard
 returns-in_default-clause-heard g c asked bytes plan given = part_none (hands_nothing g.D.Devices.handed _) _ (Keeps-refl _)
 
 pub returns-in_default-clause-reads : goal.returns-in_default-clause-reads
-returns-in_default-clause-reads g c = reads_nothing _ _ _ _ _ _ c.requires.live
+returns-in_default-clause-reads g c = reads_nothing _ _ c.requires.live
 
 pub returns-in_default-clause-sink : goal.returns-in_default-clause-sink
-returns-in_default-clause-sink g c = sink_still _ _ _
+returns-in_default-clause-sink g c = sink_still _ _
 
 pub returns-in_err-capture-clause-heard : goal.returns-in_err-capture-clause-heard
 returns-in_err-capture-clause-heard g c asked bytes plan given =
     hears_failed asked c.args.file.now bytes _ _ _ c.from_residual.result c.from_residual.ensures.0 (name_cut asked c.args.file.now bytes (hands_nothing g.D.Devices.handed _) c.in_err-capture.ensures.written)
 
 pub returns-in_err-capture-clause-reads : goal.returns-in_err-capture-clause-reads
-returns-in_err-capture-clause-reads g c = reads_nothing _ _ _ _ _ _ c.requires.live
+returns-in_err-capture-clause-reads g c = reads_nothing _ _ c.requires.live
 
 pub returns-in_err-capture-clause-sink : goal.returns-in_err-capture-clause-sink
 returns-in_err-capture-clause-sink g c = sink_failed c.from_residual.ensures.0 (sink_part c.in_err-capture.ensures)

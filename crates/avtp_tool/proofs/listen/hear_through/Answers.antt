@@ -8,7 +8,7 @@ use Rattle.avtp_tool.proofs.listen.hear_through.Goals as goal
 
 pub returns-clause-receiver : goal.returns-clause-receiver
 returns-clause-receiver g c =
-    let shown = c.present_all.ensures.gives c.args.receiver.now [] (refl, refl, shows_none _ _ _ _ _ _ _ _ c.requires.live c.requires.begun.0) in
+    let shown = c.present_all.ensures.gives c.args.receiver.now [] (refl, refl, shows_none _ _ _ _ c.requires.live c.requires.begun.0) in
     (shown.0, shown.1)
 
 pub returns-clause-presenter : goal.returns-clause-presenter
@@ -19,14 +19,14 @@ returns-clause-presenter g c =
 pub returns-clause-hears : goal.returns-clause-hears
 returns-clause-hears g c =
     let passed = c.present_all.ensures in
-    let shown = passed.gives c.args.receiver.now [] (refl, refl, shows_none _ _ _ _ _ _ _ _ c.requires.live c.requires.begun.0) in
+    let shown = passed.gives c.args.receiver.now [] (refl, refl, shows_none _ _ _ _ c.requires.live c.requires.begun.0) in
     let printed = passed.hands c.args.presenter.now [] (refl, refl, refl, λ fine. gives_none _ fine (hands_nothing g.D.Devices.handed _)) in
     let same = same_result c.args.presenter.now.result c.present_all.new.presenter.result c.present_all.result c.requires.begun.1 passed.quiet passed.rose in
     record {
       items = passed.given;
       shows = shown.2;
       gives = gives_given _ passed.presented passed.given c.present_all.result passed.whole passed.first (rw same (printed.3 c.requires.begun.1));
-      over = over_on _ _ _ c.present_all.result passed.whole (subst (λ (k : ℕ). IsSome (g.F.Shelf.slots c.present_all.new.receiver.shelf.now k)) (sym shown.2.capture.reads.slot) shown.2.capture.reads.live);
+      over = over_on _ _ _ c.present_all.result passed.whole (subst (λ (k : ℕ). IsSome ((g.F.Shelf.state c.present_all.new.receiver.shelf.now).slots k)) (sym shown.2.capture.reads.slot) shown.2.capture.reads.live);
     }
 
 pub present_all-requires-clause-live : goal.present_all-requires-clause-live

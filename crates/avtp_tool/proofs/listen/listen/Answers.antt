@@ -21,8 +21,8 @@ returns-in-Err g c =
 pub returns-in_default : goal.returns-in_default
 returns-in_default g c =
     let opened = c.in-Ok.ensures in
-    let keeps = read_through opened.opened (reads_nothing _ _ _ _ _ _ opened.opened.live) c.close.ensures in
-    does_cut (listen_report (listening_of c.args.asked.now) c.args.file.now) c.args.asked.now.limit c.args.file.now (Ok status.Memory) opened.begun (λ bytes given. part_none (hands_nothing g.D.Devices.handed _) _ (Keeps-refl _)) (inl refl) keeps (counts_memory _ keeps.reading refl) refl (sink_still _ _ _)
+    let keeps = read_through opened.opened (reads_nothing _ _ opened.opened.live) c.close.ensures in
+    does_cut (listen_report (listening_of c.args.asked.now) c.args.file.now) c.args.asked.now.limit c.args.file.now (Ok status.Memory) opened.begun (λ bytes given. part_none (hands_nothing g.D.Devices.handed _) _ (Keeps-refl _)) (inl refl) keeps (counts_memory _ keeps.reading refl) refl (sink_still _ _)
 
 pub returns-in-Ended : goal.returns-in-Ended
 returns-in-Ended g c =

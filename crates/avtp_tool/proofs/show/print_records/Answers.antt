@@ -31,8 +31,8 @@ loop-end-init g c = record {
   going = c.requires.open.0;
   bounded = omega (arith, c.requires.open.2);
   reading = refl;
-  reads = reads_nothing _ _ _ _ _ _ c.requires.open.1;
-  sink = sink_still _ _ tt;
+  reads = reads_nothing _ _ c.requires.open.1;
+  sink = sink_still _ tt;
   printed = λ limit bytes given. none_printed limit bytes _ _ _ given;
 }
 
@@ -41,7 +41,7 @@ returns-in-Some-clause-printed g c limit bytes given =
     let to = c.loop-end.invariant.printed limit bytes given in
     record {
       records = to.records;
-      ends = after_weaker limit bytes _ _ c.in-Some.end to.records (λ rose. subst (λ (n : ℕ). Rose n (g.F.Shelf.reading_faults c.next.new.shelf)) c.loop-end.invariant.reading rose) (c.in-Some.ensures.gives.ends limit bytes to.records to.given);
+      ends = after_weaker limit bytes _ _ c.in-Some.end to.records (λ rose. subst (λ (n : ℕ). Rose n (g.F.Shelf.state c.next.new.shelf).reading_faults) c.loop-end.invariant.reading rose) (c.in-Some.ensures.gives.ends limit bytes to.records to.given);
       counted = to.counted;
       lines = to.lines;
     }

@@ -12,12 +12,11 @@ invariant-loop-end g l =
     record {
       going : l.source.ended ≡ None;
       bounded : l.frames + to_do l.source ≤ 2 ^ 41;
-      reading : g.F.Shelf.reading_faults l.shelf ≡ g.F.Shelf.reading_faults l.fn.shelf;
-      reads : ReadsSlot (g.F.Shelf.files l.fn.shelf) (g.F.Shelf.files l.shelf) (g.F.Shelf.slots l.fn.shelf) (g.F.Shelf.slots l.shelf) (g.F.Shelf.reading_faults l.fn.shelf) (g.F.Shelf.reading_faults l.shelf)
-          (g.F.Shelf.writing_faults l.fn.shelf) (g.F.Shelf.writing_faults l.shelf) (g.F.Shelf.asked l.fn.shelf) (g.F.Shelf.asked l.shelf) (slot_of l.fn.source) (slot_of l.source);
-      sink : KeepsSink {T = Unit} (g.S.Sink.held l.fn.out) (g.S.Sink.held l.out) (g.S.Sink.faults l.fn.out) (g.S.Sink.faults l.out) (Ok tt);
-      printed : (limit : ℕ) (bytes : List ℕ) → HasGiven limit bytes (left_in (g.F.Shelf.slots l.fn.shelf) (slot_of l.fn.source)) l.fn.source []
-          → IsPrintedTo limit bytes (left_in (g.F.Shelf.slots l.shelf) (slot_of l.source)) l.source l.frames (written (g.S.Sink.held l.fn.out) l.fn.text) (written (g.S.Sink.held l.out) l.text);
+      reading : (g.F.Shelf.state l.shelf).reading_faults ≡ (g.F.Shelf.state l.fn.shelf).reading_faults;
+      reads : ReadsSlot (g.F.Shelf.state l.fn.shelf) (g.F.Shelf.state l.shelf) (slot_of l.fn.source) (slot_of l.source);
+      sink : KeepsSink {T = Unit} (g.S.Sink.state l.fn.out) (g.S.Sink.state l.out) (Ok tt);
+      printed : (limit : ℕ) (bytes : List ℕ) → HasGiven limit bytes (left_in (g.F.Shelf.state l.fn.shelf).slots (slot_of l.fn.source)) l.fn.source []
+          → IsPrintedTo limit bytes (left_in (g.F.Shelf.state l.shelf).slots (slot_of l.source)) l.source l.frames (written (g.S.Sink.state l.fn.out).held l.fn.text) (written (g.S.Sink.state l.out).held l.text);
     }
 
 abbrev pub decreases-loop-end : goal.decreases-loop-end

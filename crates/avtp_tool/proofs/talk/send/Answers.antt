@@ -23,7 +23,7 @@ pub returns-in-Err : goal.returns-in-Err
 returns-in-Err g c = record {
   tells = (let cut = subst (λ (s : Status). IsCut (Ok s)) (sym c.unmade.ensures) (unmade_cut c.in-Err.fault) in
       tells_cut status.Done (sent_line c.args.talker.now.plan c.args.talker.now.input) (refl, refl) cut (prefix_none _ _ _ (Keeps-refl _)));
-  makes = subst (λ (s : Status). Makes c.args.output.now (capture c.args.talker.now.plan c.args.talker.now.input) (g.F.Shelf.files c.args.shelf.now) (g.F.Shelf.files c.make_capture.new.shelf) (Ok s)) (sym c.unmade.ensures) (makes_part c.in-Err.fault c.in-Err.ensures.part);
+  makes = subst (λ (s : Status). Makes c.args.output.now (capture c.args.talker.now.plan c.args.talker.now.input) (g.F.Shelf.state c.args.shelf.now).files (g.F.Shelf.state c.make_capture.new.shelf).files (Ok s)) (sym c.unmade.ensures) (makes_part c.in-Err.fault c.in-Err.ensures.part);
   writes = writes_made c.args.output.now (Err c.in-Err.fault) (Ok c.unmade.result) c.in-Err.ensures (search rules) (search rules) (λ done. absurd (cut_undone c.in-Err.fault _ c.unmade.ensures done)) (cut_by c.in-Err.fault _ c.unmade.ensures);
   sink = (search rules);
 }

@@ -7,9 +7,9 @@ use Rattle.avtp_tool.proofs.Sending.{last_frame, next_frame, sent_all, sent_fewe
 use Rattle.avtp_tool.proofs.talk.write_capture.Goals as goal
 
 pub returns-in_err-add-clause-written : goal.returns-in_err-add-clause-written
-returns-in_err-add-clause-written g c = λ files slots reading name making.
+returns-in_err-add-clause-written g c = λ begun name making.
     let all : List ℕ = capture c.args.talker.now.plan c.args.talker.now.input in
-    wrote_part all [] all c.from_residual.result c.from_residual.ensures.0 refl (c.in_err-add.ensures.kept files slots reading name [] making)
+    wrote_part all [] all c.from_residual.result c.from_residual.ensures.0 refl (c.in_err-add.ensures.kept begun name [] making)
 
 pub loop-sent-smaller : goal.loop-sent-smaller
 loop-sent-smaller g c =
@@ -33,21 +33,21 @@ loop-sent-preserved g c =
       room = c.put_record-size.auto.room ∙ before.room;
       plan = ap (λ (t : _). t.plan) on ∙ before.plan;
       input = ap (λ (t : _). t.input) on ∙ before.input;
-      put = λ files slots reading name making.
-          subst (IsWriting files _ slots _ reading _ c.add-in-Some.new.self name) (rw c.put_record-size.ensures.text more) (added.added files slots reading name _ (before.put files slots reading name making));
+      put = λ begun name making.
+          subst (IsWriting begun _ c.add-in-Some.new.self name) (rw c.put_record-size.ensures.text more) (added.added begun name _ (before.put begun name making));
       writes = writes_then before.writes added.writes;
     }
 
 pub returns-in_err-add-2-clause-written : goal.returns-in_err-add-2-clause-written
-returns-in_err-add-2-clause-written g c = λ files slots reading name making.
+returns-in_err-add-2-clause-written g c = λ begun name making.
     let plan = c.args.talker.now.plan in
     let input : List ℕ = c.args.talker.now.input in
-    wrote_part _ _ _ c.from_residual-in_err-add-2.result c.from_residual-in_err-add-2.ensures.0 (sent_rest plan input c.loop-sent.talker.given) (c.in_err-add-2.ensures.kept files slots reading name _ (c.loop-sent.invariant.put files slots reading name making))
+    wrote_part _ _ _ c.from_residual-in_err-add-2.result c.from_residual-in_err-add-2.ensures.0 (sent_rest plan input c.loop-sent.talker.given) (c.in_err-add-2.ensures.kept begun name _ (c.loop-sent.invariant.put begun name making))
 
 pub returns-clause-written : goal.returns-clause-written
-returns-clause-written g c = λ files slots reading name making.
+returns-clause-written g c = λ begun name making.
     let plan = c.args.talker.now.plan in
     let input : List ℕ = c.args.talker.now.input in
     let before = c.loop-sent.invariant in
     let all = sent_all plan input c.loop-sent.talker.given (last_frame c.next.result c.loop-sent.talker plan input before.plan before.input c.next.ensures.frame c.in_default.not-Some) in
-    wrote_to_end _ _ _ all (before.put files slots reading name making)
+    wrote_to_end _ _ _ all (before.put begun name making)

@@ -9,11 +9,10 @@ invariant-loop-stop g l =
     record {
       none_waits : l.pieces.waiting ≡ [];
       count : length l.bytes.items + l.pieces.left ≤ l.fn.pieces.left;
-      quiet : g.F.Shelf.reading_faults l.shelf ≡ g.F.Shelf.reading_faults l.fn.shelf;
-      reads : ReadsSlot (g.F.Shelf.files l.fn.shelf) (g.F.Shelf.files l.shelf) (g.F.Shelf.slots l.fn.shelf) (g.F.Shelf.slots l.shelf) (g.F.Shelf.reading_faults l.fn.shelf) (g.F.Shelf.reading_faults l.shelf)
-          (g.F.Shelf.writing_faults l.fn.shelf) (g.F.Shelf.writing_faults l.shelf) (g.F.Shelf.asked l.fn.shelf) (g.F.Shelf.asked l.shelf) l.fn.pieces.slot l.pieces.slot;
-      read : (limit : ℕ) (bytes : List ℕ) → HasTaken limit bytes (left_in (g.F.Shelf.slots l.fn.shelf) l.fn.pieces.slot) l.fn.pieces []
-          → HasTaken limit bytes (left_in (g.F.Shelf.slots l.shelf) l.pieces.slot) l.pieces l.bytes.items;
+      quiet : (g.F.Shelf.state l.shelf).reading_faults ≡ (g.F.Shelf.state l.fn.shelf).reading_faults;
+      reads : ReadsSlot (g.F.Shelf.state l.fn.shelf) (g.F.Shelf.state l.shelf) l.fn.pieces.slot l.pieces.slot;
+      read : (limit : ℕ) (bytes : List ℕ) → HasTaken limit bytes (left_in (g.F.Shelf.state l.fn.shelf).slots l.fn.pieces.slot) l.fn.pieces []
+          → HasTaken limit bytes (left_in (g.F.Shelf.state l.shelf).slots l.pieces.slot) l.pieces l.bytes.items;
     }
 
 abbrev pub decreases-loop-stop : goal.decreases-loop-stop

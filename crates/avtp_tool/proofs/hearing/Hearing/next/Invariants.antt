@@ -9,14 +9,12 @@ use Rattle.avtp_tool.proofs.hearing.Hearing.next.Given as goal
 abbrev pub invariant-loop-shown : goal.invariant-loop-shown
 invariant-loop-shown g l =
     record {
-      live : IsSome (g.F.ReadSlots.slots l.shelf (slot_of l.self.source));
+      live : IsSome ((g.F.ReadSlots.state l.shelf).slots (slot_of l.self.source));
       going : pull_at l.self.stage ≡ None;
       left : left_of l.self.stage l.self.source l.self.listener ≤ left_of l.fn.self.stage l.fn.self.source l.fn.self.listener;
       shows : (begun : g.row.F.Denot) (source : Sourcing) (listener : ListenState) (items : List Shown)
-          → Shows (g.F.ReadSlots.files begun) (g.F.ReadSlots.files l.fn.shelf) (g.F.ReadSlots.slots begun) (g.F.ReadSlots.slots l.fn.shelf) (g.F.ReadSlots.reading_faults begun) (g.F.ReadSlots.reading_faults l.fn.shelf)
-          (g.F.ReadSlots.writing_faults begun) (g.F.ReadSlots.writing_faults l.fn.shelf) (g.F.ReadSlots.asked begun) (g.F.ReadSlots.asked l.fn.shelf) source l.fn.self.source listener l.fn.self.listener l.fn.self.stage items
-          → Shows (g.F.ReadSlots.files begun) (g.F.ReadSlots.files l.shelf) (g.F.ReadSlots.slots begun) (g.F.ReadSlots.slots l.shelf) (g.F.ReadSlots.reading_faults begun) (g.F.ReadSlots.reading_faults l.shelf)
-          (g.F.ReadSlots.writing_faults begun) (g.F.ReadSlots.writing_faults l.shelf) (g.F.ReadSlots.asked begun) (g.F.ReadSlots.asked l.shelf) source l.self.source listener l.self.listener l.self.stage items;
+          → Shows (g.F.ReadSlots.state begun) (g.F.ReadSlots.state l.fn.shelf) source l.fn.self.source listener l.fn.self.listener l.fn.self.stage items
+          → Shows (g.F.ReadSlots.state begun) (g.F.ReadSlots.state l.shelf) source l.self.source listener l.self.listener l.self.stage items;
     }
 
 abbrev pub decreases-loop-shown : goal.decreases-loop-shown

@@ -11,7 +11,7 @@ use Rattle.capture_io.proofs.pieces.Pieces.read.Goals as goal
 pub returns-after-within-eq0-clause-more : goal.returns-after-within-eq0-clause-more
 returns-after-within-eq0-clause-more g c goes limit bytes prefix h =
     let view = c.self.view_is in
-    let here = subst (λ (p : Piecing). HasTaken limit bytes (left_in (g.F.ReadSlots.slots c.args.shelf.now) p.slot) p prefix) (sym view) h in
+    let here = subst (λ (p : Piecing). HasTaken limit bytes (left_in (g.F.ReadSlots.state c.args.shelf.now).slots p.slot) p prefix) (sym view) h in
     let none : _ ≡ [] = ap (λ (p : Piecing). p.waiting) view ∙ c.requires.none_waits in
     let within : ℕ = c.min-within.result in
     let q : Piecing = record { slot = c.self.inside.slot.0; waiting = slice_range (with_items c.self.inside.piece c.read_slot.new.buf).items 0 within; left = c.self.inside.left - within; over = nat_lt within c.in-Ok.count } in

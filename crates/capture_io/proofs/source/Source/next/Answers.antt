@@ -1,24 +1,21 @@
 use Rattle.std.proofs.Common.{◌≡◌, IsSome, None, ap, refl, sym, subst, ◌∙◌}
-use Rattle.avtp_base.specs.Files.{left_in}
-use Rattle.capture_io.specs.Source.{Sourcing, GivesNext, ReadsOn, held_in, slot_of}
+use Rattle.capture_io.specs.Source.{Sourcing, GivesNext, ReadsOn, held_in}
 use Rattle.capture_io.proofs.Giving.{gives_again, gives_next, not_some}
 use Rattle.capture_io.proofs.source.Source.next.Goals as goal
 
 pub returns-then-is_some-clause-gives : goal.returns-then-is_some-clause-gives
-returns-then-is_some-clause-gives g c = gives_again _ _ c.args.self.now c.self.inside.ended (ap (λ (s : Sourcing). s.ended) (sym c.self.view_is)) (sym c.is_some.ensures ∙ c.if-is_some.true)
+returns-then-is_some-clause-gives g c = gives_again _ c.args.self.now c.self.inside.ended (ap (λ (s : Sourcing). s.ended) (sym c.self.view_is)) (sym c.is_some.ensures ∙ c.if-is_some.true)
 
 pub returns-clause-gives : goal.returns-clause-gives
 returns-clause-gives g c =
     let ran = c.read_on-self-inside.ensures in
     let result = c.read_on-self-inside.result in
-    let old = g.F.ReadSlots.slots c.args.shelf.now in
-    let new = g.F.ReadSlots.slots c.read_on-self-inside.new.shelf in
-    let before = g.F.ReadSlots.reading_faults c.args.shelf.now in
-    let after = g.F.ReadSlots.reading_faults c.read_on-self-inside.new.shelf in
+    let before = g.F.ReadSlots.state c.args.shelf.now in
+    let after = g.F.ReadSlots.state c.read_on-self-inside.new.shelf in
     let begun : Sourcing = record { pieces = c.self.inside.pieces; reader = c.self.inside.reader; ended = c.self.inside.ended } in
     let mid : Sourcing = record { pieces = c.self.inside.pieces; reader = c.release.new.self; ended = c.self.inside.ended } in
     let next : Sourcing = record { pieces = c.self-2.inside.pieces; reader = c.self-2.inside.reader; ended = c.self-2.inside.ended } in
-    let on = subst (λ (s : Sourcing). ReadsOn (left_in old (slot_of mid)) (left_in new (slot_of s)) before after mid s result) (sym c.self-2.view_is) ran.on in
+    let on = subst (λ (s : Sourcing). ReadsOn before after mid s result) (sym c.self-2.view_is) ran.on in
     let some = λ (none : result ≡ None). subst (λ (s : Sourcing). IsSome (held_in s)) (sym c.self-2.view_is) (ran.held none) in
-    subst (λ (s : Sourcing). GivesNext (left_in old (slot_of s)) (left_in new (slot_of next)) before after s (record next { ended = result }) result) c.self.view_is
-    (gives_next _ _ before after begun mid next result (not_some c.self.inside.ended (sym c.is_some.ensures ∙ c.if-is_some.false)) refl c.release.ensures on some)
+    subst (λ (s : Sourcing). GivesNext before after s (record next { ended = result }) result) c.self.view_is
+    (gives_next before after begun mid next result (not_some c.self.inside.ended (sym c.is_some.ensures ∙ c.if-is_some.false)) refl c.release.ensures on some)

@@ -10,7 +10,7 @@ returns-in-Ok-clause-took g c =
     let bytes : c.as_slice.result.now ≡ c.in-Present.batch.bytes = c.as_slice.ensures ∙ ap (λ b. b.bytes) c.batch.view_is in
     rw (c.in-Ok.is, c.in-Present.is) (λ start items taken.
     let silence = c.silent_before-silent.ensures c.args.self.now.silence (last_or None (sample_batches items)) taken.previous in
-    raw_added g.S.Sink.held start c.args.self.now _ items c.in-Present.batch (sym c.if-not-is_unit.ensures) taken refl refl c.of.ensures
+    raw_added g.S.Sink.state start c.args.self.now _ items c.in-Present.batch (sym c.if-not-is_unit.ensures) taken refl refl c.of.ensures
     (rw (silence, bytes) at c.in-Ok.ensures.whole))
 
 pub returns-in-Err-clause-part : goal.returns-in-Err-clause-part
@@ -18,13 +18,13 @@ returns-in-Err-clause-part g c =
     let bytes : c.as_slice.result.now ≡ c.in-Present.batch.bytes = c.as_slice.ensures ∙ ap (λ b. b.bytes) c.batch.view_is in
     rw (c.in-Err.is, c.in-Present.is) (λ lives start items taken.
     let silence = c.silent_before-silent.ensures c.args.self.now.silence (last_or None (sample_batches items)) taken.previous in
-    raw_part g.S.Sink.held start _ c.args.self.now items c.in-Present.batch (sym c.if-not-is_unit.ensures) lives taken
+    raw_part g.S.Sink.state start (g.S.Sink.state c.write_samples-written.new.sink) c.args.self.now items c.in-Present.batch (sym c.if-not-is_unit.ensures) lives taken
     (rw (silence, bytes) at c.in-Err.ensures.part))
 
 pub returns-in_default-clause-took : goal.returns-in_default-clause-took
 returns-in_default-clause-took g c = rw c.in-Present.is (λ start items taken.
-    raw_same g.S.Sink.held start c.args.self.now items _ (samples_of_unit items c.in-Present.batch (sym c.if-not-is_unit.ensures)) taken)
+    raw_same g.S.Sink.state start c.args.self.now items _ (samples_of_unit items c.in-Present.batch (sym c.if-not-is_unit.ensures)) taken)
 
 pub returns-in_default-2-clause-took : goal.returns-in_default-2-clause-took
 returns-in_default-2-clause-took g c = rw c.in_default.is (λ start items taken.
-    raw_same g.S.Sink.held start c.args.self.now items _ (samples_of_flag items c.in_default.field-0 c.in_default.field-1 c.in_default.field-2) taken)
+    raw_same g.S.Sink.state start c.args.self.now items _ (samples_of_flag items c.in_default.field-0 c.in_default.field-1 c.in_default.field-2) taken)
