@@ -168,7 +168,7 @@ fn execute<T: Threads + Sync, F: Shelf, S: Sink, G: Gate, D: Devices + Send>(
         ),
         Ok(Command::Listen(asked)) => hear_files(rt, alloc, &asked, shelf, text, out, gate, rack),
         Ok(Command::Talk(asked)) => talk(alloc, &asked, shelf, text, out),
-        Ok(Command::Soak { packets }) => soak(alloc, packets, text, out),
+        Ok(Command::Soak { packets }) => soak(rt, alloc, packets, text, out),
         Err(offence) => print_offence(text, out, offence.position as u64),
     }
 }

@@ -10,10 +10,12 @@ use avtp_base::{Failed, NoMemory, Sink};
 use avtp_text::Text;
 use soak_run::SoakCounts;
 use std::alloc::Global;
+use std::thread::Threads;
 
 /// Sends so many packets over a network that loses, repeats and delays them, and prints what a listener makes of those that
-/// arrive.
-pub fn soak<S: Sink>(
+/// arrive. One thread hears, and another counts.
+pub fn soak<T: Threads + Sync, S: Sink>(
+    rt: &T,
     alloc: Global,
     packets: u32,
     text: &mut Text,
@@ -22,7 +24,7 @@ pub fn soak<S: Sink>(
     requires { packets ≤ 1000000 }
     ensures { Says (soak_report packets) (S.state out.old) (S.state out.new) text.old text.new result }
 {
-    match soak_run::soak(alloc, packets) {
+    match soak_run::soak(rt, alloc, packets) {
         Ok(counts) => print_counts(text, out, packets, &counts),
         Err(NoMemory) => Ok(Status::Memory),
     }

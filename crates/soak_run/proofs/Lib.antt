@@ -1,4 +1,6 @@
 pub mod CountLemmas
+pub mod HearingLemmas
+pub mod RoundLemmas
 pub mod DeliveryLemmas
 pub mod StreamSizes
 pub mod Taken

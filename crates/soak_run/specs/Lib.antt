@@ -1,3 +1,5 @@
 pub mod Captured
 pub mod Outcomes
 pub mod Counting
+pub mod Hearing
+pub mod Showing

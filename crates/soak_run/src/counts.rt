@@ -1,12 +1,15 @@
 //! What becomes of deliveries, counted.
 
-ghost use Rattle.std.specs.Prelude.{◌≡◌, ◌<◌, ◌^◌, []};
+ghost use Rattle.std.specs.Prelude.{◌≡◌, []};
 ghost use Rattle.soak_run.specs.Counting.{with_flag as with_flag_of, with_shown as with_shown_of};
-ghost use Rattle.soak_run.specs.Outcomes.{outcomes, total};
+ghost use Rattle.soak_run.specs.Outcomes.{outcomes};
 
+use avtp_base::Failed;
+use presenter_ring::Presenter;
 use sample_schedule::{Reason, Shown};
 
-/// What becomes of the packets of a stream that are delivered.
+/// What becomes of the packets of a stream that are delivered. As a presenter it counts what it is handed, each number up to
+/// the largest of 64 bits.
 #[derive(Clone, Copy, Debug, PartialEq, Eq)]
 pub struct SoakCounts {
     /// The deliveries: packets that arrive, where one that arrives twice counts twice.
@@ -39,13 +42,12 @@ impl SoakCounts {
     }
 
     /// The counts with one more item that is shown.
-    pub(crate) fn with_shown(self, shown: &Shown) -> Self
-        requires { total self < 2 ^ 63 }
+    fn with_shown(self, shown: &Shown) -> Self
         ensures { result ≡ with_shown_of self shown.now }
     {
         match shown {
             Shown::Present(_) => SoakCounts {
-                presented: self.presented + 1,
+                presented: self.presented.saturating_add(1),
                 ..self
             },
             Shown::Flag { reason, .. } => self.with_flag(*reason),
@@ -54,27 +56,40 @@ impl SoakCounts {
 
     /// The counts with one more item that is flagged.
     fn with_flag(self, reason: Reason) -> Self
-        requires { total self < 2 ^ 63 }
         ensures { result ≡ with_flag_of self reason }
     {
         match reason {
             Reason::Late => SoakCounts {
-                late: self.late + 1,
+                late: self.late.saturating_add(1),
                 ..self
             },
             Reason::Repeat => SoakCounts {
-                repeat: self.repeat + 1,
+                repeat: self.repeat.saturating_add(1),
                 ..self
             },
             Reason::Untimed => SoakCounts {
-                untimed: self.untimed + 1,
+                untimed: self.untimed.saturating_add(1),
                 ..self
             },
             Reason::Full => SoakCounts {
-                full: self.full + 1,
+                full: self.full.saturating_add(1),
                 ..self
             },
             _ => self,
         }
+    }
+}
+
+impl Presenter for SoakCounts {
+    ghost use Rattle.std.specs.Prelude.{◌≡◌};
+    ghost use Rattle.soak_run.specs.Counting.{with_all};
+
+    ghost handed = { λ begun now items. now ≡ with_all begun items };
+
+    ghost faults = { λ _. 0 };
+
+    fn present(&mut self, shown: Shown) -> Result<(), Failed> {
+        *self = self.with_shown(&shown);
+        Ok(())
     }
 }

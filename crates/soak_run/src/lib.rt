@@ -2,6 +2,7 @@
 #![tactic(auto)]
 
 mod counts;
+mod hearing;
 pub mod laws;
 mod run;
 mod samples;

@@ -24,7 +24,7 @@ const ROWS: [Row; 7] = [
 #[test]
 fn worked_counts(rt: HostRuntime) -> Result<(), Fail> {
     for (packets, [delivered, presented, late, repeat, untimed, full]) in ROWS {
-        let Ok(counts) = soak(rt.alloc(), packets) else {
+        let Ok(counts) = soak(&rt, rt.alloc(), packets) else {
             return Err(Fail::from("there is memory"));
         };
         let want = SoakCounts {

@@ -1,16 +1,11 @@
--- The deliveries so far were given to the listener, and what is due of them is counted.
-use Rattle.std.proofs.Common.{◌≡◌, false, length, map, take}
-use Rattle.listener.specs.Listening.{IsIdle, is_closed}
-use Rattle.talker.specs.Journal.{stream_of}
-use Rattle.soak_run.specs.Captured.{captured, soak_listener}
-use Rattle.soak_run.specs.Counting.{HasCounted}
+-- What was shown so far was counted, but for what waits in the pipe.
+use Rattle.std.proofs.Common.{length}
+use Rattle.presenter_ring.specs.Pipes.{work}
+use Rattle.soak_run.proofs.RoundLemmas.{HasCounted, left}
 use Rattle.soak_run.proofs.run.hear.Given as goal
 
-abbrev pub invariant-loop-delivery : goal.invariant-loop-delivery
-invariant-loop-delivery l = record {
-  same : l.talker ≡ l.fn.talker;
-  has : HasCounted (length l.deliveries) (map (captured (stream_of l.fn.talker.plan l.fn.talker.input)) (take l.delivery-index l.deliveries)) l.counts l.listener;
-  idle : IsIdle l.listener;
-  opened : is_closed l.listener ≡ false;
-  plan : l.listener.plan ≡ soak_listener;
-}
+abbrev pub invariant-loop : goal.invariant-loop
+invariant-loop g l = HasCounted (length l.fn.deliveries) l.initial.hearing l.hearing l.pipe l.counts
+
+abbrev pub decreases-loop : goal.decreases-loop
+decreases-loop g l = work (left l.hearing) l.pipe

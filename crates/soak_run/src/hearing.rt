@@ -1,0 +1,160 @@
+//! Deliveries that a listener hears one by one: what it shows of them comes item by item.
+
+ghost use Rattle.std.specs.Prelude.{◌≡◌, ◌≤◌, ◌<◌, ◌^◌, [], All, IfOk, IsTrue, List, None, false, length, ℕ};
+ghost use Rattle.listener.specs.Listening.{StandsFor, is_closed};
+ghost use Rattle.talker.specs.Journal.{stream_of};
+ghost use Rattle.soak_run.specs.Captured.{captured, soak_listener};
+ghost use Rattle.soak_run.specs.Hearing.{IsDeliverable, IsReady, Takes, closed_at, records_of, shown_by};
+
+use avtp_base::NoMemory;
+use listener::{ListenPlan, RecordListener};
+use pcap_frames::RecordView;
+use presenter_ring::{Pull, Receiver};
+use std::alloc::Global;
+use talker::Talker;
+
+/// The listener of the stream.
+const SOAK_LISTENER: ListenPlan = ListenPlan {
+    stream: 0x0200_0000_0001_0001,
+    clock: None,
+    buffer: 4_096,
+    room: 67_108_864,
+    look: 32,
+    lead: 2_000_000,
+    shift: 0,
+};
+
+/// Where the hearing of deliveries stands.
+#[derive(Clone, Copy, Debug, PartialEq, Eq)]
+pub enum Stage {
+    /// Deliveries are given to the listener, and what is due of them is shown.
+    Giving,
+    /// All were given, and the rest is shown.
+    Showing,
+    /// All was shown.
+    Ended,
+    /// No memory was found for a delivery.
+    NoMemory,
+}
+
+/// Gives a delivery to the listener.
+fn deliver(
+    alloc: Global,
+    talker: &mut Talker<'_>,
+    listener: &mut RecordListener,
+    delivery: (i64, u64),
+) -> Result<(), NoMemory>
+    requires deliverable { IsDeliverable talker.old delivery }
+    requires ready { IsReady listener.old }
+    ensures takes { Takes (captured (stream_of talker.old.plan talker.old.input) delivery) listener.old listener.new result }
+    ensures talker { talker.new ≡ talker.old }
+{
+    let (arrival, number) = delivery;
+    let sent = talker.packet(number);
+    let record = RecordView {
+        arrival,
+        orig_len: sent.bytes.len() as u32,
+        bytes: sent.bytes,
+    };
+    listener.take_record(alloc, &record)?;
+    Ok(())
+}
+
+/// Packets of a talker that are delivered, the listener that is given them, and how far it was.
+#[derive(Drop)]
+pub struct Hearing<'a> {
+    pub alloc: Global,
+    pub talker: Talker<'a>,
+    pub deliveries: &'a [(i64, u64)],
+    /// How many deliveries were given.
+    pub given: usize,
+    pub listener: RecordListener,
+    pub stage: Stage,
+    ghost deliverable: { All (IsDeliverable talker) deliveries.now },
+    ghost few: { length deliveries.now ≤ 2 ^ 62 },
+    ghost closed: { is_closed listener ≡ closed_at stage },
+    ghost stands: { ∥ StandsFor (records_of talker deliveries.now given) (shown_by listener) listener ∥₁ },
+}
+
+impl<'a> Hearing<'a> {
+    ghost use Rattle.std.specs.Prelude.{MatchResult};
+    ghost use Rattle.sample_schedule.specs.declared.shown.Shown.{Shown as ShownValue};
+    ghost use Rattle.listener.specs.Listening.{IsIdle};
+    ghost use Rattle.soak_run.specs.declared.hearing.Hearing.{Hearing as HearingValue};
+    ghost use Rattle.soak_run.specs.Hearing.{left_of, pull_at, steps_left};
+    ghost use Rattle.soak_run.specs.Showing.{HasShown};
+
+    /// The hearing of deliveries of which none was given yet.
+    pub fn begin(
+        alloc: Global,
+        talker: Talker<'a>,
+        deliveries: &'a [(i64, u64)],
+    ) -> Result<Self, NoMemory>
+        requires deliverable { All (IsDeliverable talker) deliveries.now }
+        requires few { length deliveries.now ≤ 2 ^ 62 }
+        ensures begun { IfOk result (λ hearing. (hearing.stage ≡ Stage.Giving) × HasShown hearing hearing []) }
+        ensures plan { IfOk result (λ hearing. hearing.listener.plan ≡ soak_listener) }
+        ensures talker { IfOk result (λ hearing. hearing.talker ≡ talker.entry) }
+        ensures deliveries { IfOk result (λ hearing. hearing.deliveries.now ≡ deliveries.now) }
+    {
+        let listener = RecordListener::begin(alloc, SOAK_LISTENER)?;
+        Ok(Hearing {
+            alloc,
+            talker,
+            deliveries,
+            given: 0,
+            listener,
+            stage: Stage::Giving,
+        })
+    }
+
+    /// Gives the next delivery to the listener, or closes it where all were given. Nothing is due of those before.
+    fn go_on(&mut self) -> Result<(), NoMemory>
+        requires giving { self.old.stage ≡ Stage.Giving }
+        requires idle { IsIdle self.old.listener }
+        ensures shows { (begun : HearingValue) (items : List ShownValue) → HasShown begun self.old items → HasShown begun self.new items }
+        ensures left { left_of self.new.deliveries.now self.new.listener ≤ left_of self.old.deliveries.now self.old.listener }
+        ensures on { MatchResult result (λ _. (pull_at self.new.stage ≡ None) × (steps_left self.new.stage self.new.deliveries.now self.new.given < steps_left self.old.stage self.old.deliveries.now self.old.given)) (λ _. self.new.stage ≡ Stage.Giving) }
+    {
+        if self.given < self.deliveries.len() {
+            let delivery = self.deliveries[self.given];
+            deliver(self.alloc, &mut self.talker, &mut self.listener, delivery)?;
+            self.given += 1;
+        } else {
+            self.listener.close();
+            self.stage = Stage::Showing;
+        }
+        Ok(())
+    }
+}
+
+impl<'a> Receiver for Hearing<'a> {
+    ghost use Rattle.soak_run.specs.Hearing.{left_of, pull_at};
+    ghost use Rattle.soak_run.specs.Showing.{HasShown};
+
+    ghost gave = { HasShown };
+
+    ghost left = { λ hearing. left_of hearing.deliveries.now hearing.listener };
+
+    ghost ended = { λ hearing. pull_at hearing.stage };
+
+    fn next(&mut self) -> Pull {
+        loop {
+            if let Some(shown) = self.listener.next_out() {
+                return Pull::Item(shown);
+            }
+            match self.stage {
+                Stage::Showing => {
+                    self.stage = Stage::Ended;
+                    return Pull::Done;
+                }
+                _ => {
+                    if self.go_on().is_err() {
+                        self.stage = Stage::NoMemory;
+                        return Pull::Memory;
+                    }
+                }
+            }
+        }
+    }
+}
