@@ -18,6 +18,8 @@ mod losses;
 #[cfg(test)]
 mod pcapng;
 #[cfg(test)]
+mod racks;
+#[cfg(test)]
 mod rings;
 #[cfg(test)]
 mod runs;

@@ -19,7 +19,7 @@ const SAMPLES: [(u64, &str); 6] = [
 ];
 
 /// The lines of a packet that holds the vector's samples.
-fn lines(alloc: Global, first: u64, frame: u64, seq: u8) -> Result<String, AllocError> {
+pub fn lines(alloc: Global, first: u64, frame: u64, seq: u8) -> Result<String, AllocError> {
     let mut text = String::new(alloc);
     for (j, (offset, bytes)) in SAMPLES.iter().enumerate() {
         let instant = first.saturating_add(*offset);
