@@ -7,97 +7,35 @@
 //!   2,048 the latter 1,024 are sparse, which leaves one timestamp in eight, and one in 16 comes twice. Then come a frame of
 //!   the greatest length and a record that is cut off.
 
+mod packets;
+
+use packets::{Capture, LONGEST, TIMESTAMP, packet, packet_of};
 use std::env;
 use std::fs::File;
 use std::io::{self, BufWriter, Error, Write};
 
-/// The Ethernet frame with its VLAN tag, the header of the AAF packet, and its samples.
-const FRAME: [u8; 66] = [
-    0x91, 0xe0, 0xf0, 0x00, 0xfe, 0x00, 0x02, 0, 0, 0, 0, 1, 0x81, 0x00, 0x60, 0x02, 0x22, 0xf0, //
-    0x02, 0x81, 0, 0, 0x02, 0, 0, 0, 0, 1, 0, 1, 0, 0, 0, 0, 0x04, 0x50, 0x02, 0x10, 0, 24, 0, 0, //
-    0, 1, 0xff, 0xff, 0, 2, 0xff, 0xfe, 0, 3, 0xff, 0xfd, 0, 4, 0xff, 0xfc, 0, 5, 0xff, 0xfb, 0, 6, 0xff,
-    0xfa,
-];
-
-/// Where `tv`, the sequence number, the end of the stream id, the timestamp and `sp` stand in the frame.
+/// Where `tv` and `sp` stand in the frame.
 const TV: usize = 19;
-const SEQUENCE_NUM: usize = 20;
-const STREAM_ID_END: usize = 30;
-const TIMESTAMP: usize = 30;
 const SP: usize = 40;
 
-/// The most bytes that a record may have.
-const LONGEST: usize = 262_144;
-
-struct Capture {
-    out: BufWriter<File>,
-    big_endian: bool,
-    /// In nanoseconds.
-    unit: u64,
-}
-
-impl Capture {
-    fn numbers(&mut self, numbers: &[u32]) -> io::Result<()> {
-        for number in numbers {
-            let bytes = if self.big_endian {
-                number.to_be_bytes()
-            } else {
-                number.to_le_bytes()
-            };
-            self.out.write_all(&bytes)?;
+fn put_damaged_packets(capture: &mut Capture<impl Write>, count: u64) -> io::Result<()> {
+    let mut noise = 1;
+    for n in 0..count {
+        let whole = if n % 2048 < 1024 {
+            packet(n)
+        } else {
+            sparse_packet(n)
+        };
+        let frame = if n % 2 == 1 {
+            damaged(whole, &mut noise)
+        } else {
+            whole.to_vec()
+        };
+        for _ in 0..if n % 16 == 2 { 2 } else { 1 } {
+            capture.record(n, &frame)?;
         }
-        Ok(())
     }
-
-    fn header(&mut self) -> io::Result<()> {
-        let magic = if self.unit == 1 { 0xa1b2_3c4d } else { 0xa1b2_c3d4 };
-        let version = if self.big_endian { 2 << 16 | 4 } else { 4 << 16 | 2 };
-        self.numbers(&[magic, version, 0, 0, LONGEST as u32, 1])
-    }
-
-    fn record(&mut self, n: u64, frame: &[u8]) -> io::Result<()> {
-        let arrival = 1_000_000_000 + n * 125_000;
-        let fraction = arrival % 1_000_000_000 / self.unit;
-        let len = frame.len() as u32;
-        self.numbers(&[(arrival / 1_000_000_000) as u32, fraction as u32, len, len])?;
-        self.out.write_all(frame)
-    }
-
-    fn damaged_packets(&mut self, count: u64) -> io::Result<()> {
-        let mut noise = 1;
-        for n in 0..count {
-            let whole = if n % 2048 < 1024 {
-                packet(n)
-            } else {
-                sparse_packet(n)
-            };
-            let frame = if n % 2 == 1 {
-                damaged(whole, &mut noise)
-            } else {
-                whole.to_vec()
-            };
-            for _ in 0..if n % 16 == 2 { 2 } else { 1 } {
-                self.record(n, &frame)?;
-            }
-        }
-        Ok(())
-    }
-}
-
-fn packet(n: u64) -> [u8; 66] {
-    let mut frame = FRAME;
-    let due = 1_002_000_000 + n * 125_000;
-    frame[SEQUENCE_NUM] = n as u8;
-    frame[TIMESTAMP..TIMESTAMP + 4].copy_from_slice(&(due as u32).to_be_bytes());
-    frame
-}
-
-/// The packet with this number of all, of one of so many streams.
-fn packet_of(n: u64, streams: u64) -> [u8; 66] {
-    let mut frame = packet(n);
-    frame[SEQUENCE_NUM] = (n / streams) as u8;
-    frame[STREAM_ID_END - 2..STREAM_ID_END].copy_from_slice(&((n % streams) as u16).to_be_bytes());
-    frame
+    Ok(())
 }
 
 /// The same packet of a sparse stream.
@@ -144,7 +82,7 @@ fn main() -> io::Result<()> {
     };
     capture.header()?;
     if style.is_some() {
-        capture.damaged_packets(count)?;
+        put_damaged_packets(&mut capture, count)?;
         capture.record(count, &[0; LONGEST])?;
         capture.numbers(&[0, 0, 66])?;
     } else if let Some(streams) = streams {

@@ -5,14 +5,17 @@
 
 mod aaf;
 mod pcap;
+mod stream;
 mod text;
 
 use aaf::{HEADER, RATES, check_header, read_aaf};
-use pcap::{read_frame, read_records, u16_at};
+use pcap::{read_records, u16_at};
 use std::collections::VecDeque;
 use std::env;
+use std::fs::File;
 use std::io::{self, Write};
 use std::process::ExitCode;
+use stream::packet_of_stream;
 use text::{Line, Text, two_digits};
 
 /// The most batches that wait, and the most bytes that they have together.
@@ -220,20 +223,9 @@ impl Listener {
         }
     }
 
-    /// The packet in a frame, where it is of the stream.
-    #[inline(always)]
-    fn wanted<'a>(&self, frame: &'a [u8]) -> Option<&'a [u8]> {
-        let (0x22f0, start) = read_frame(frame).ok()? else {
-            return None;
-        };
-        let pdu = &frame[start..];
-        let is_wanted = pdu.len() >= 12 && matches!(pdu[0], 0 | 2) && pdu[1] & 0x80 != 0 && pdu[4..12] == self.stream;
-        is_wanted.then_some(pdu)
-    }
-
     #[inline(always)]
     fn take(&mut self, frame: u64, arrival: i64, bytes: &[u8]) -> io::Result<()> {
-        let Some(pdu) = self.wanted(bytes) else {
+        let Some(pdu) = packet_of_stream(bytes, self.stream) else {
             return Ok(());
         };
         self.packets += 1;
@@ -386,7 +378,7 @@ fn main() -> io::Result<ExitCode> {
     let stream = u64::from_str_radix(stream, 16).map_err(io::Error::other)?;
     writeln!(io::stdout(), "capture {path}")?;
     let mut listener = Listener::new(stream);
-    let end = read_records(path, |number, arrival, frame| {
+    let end = read_records(File::open(path)?, |number, arrival, frame| {
         listener.take(number, arrival as i64, frame)
     })?;
     listener.present_before(i64::MAX)?;

@@ -1,6 +1,5 @@
 //! The records of a classic capture, looked at where they were read, and the Ethernet frames in them.
 
-use std::fs::File;
 use std::io::{self, Read};
 
 const FILE_HEADER: usize = 24;
@@ -125,23 +124,22 @@ fn whole_record(style: Style, bytes: &[u8], start: usize) -> Result<usize, Refus
     Err(cut_off(&FIELDS, bytes.len(), start).unwrap())
 }
 
-/// What was read of a file and is not used yet, in a buffer that has room for a record and a piece.
-struct Input {
-    file: File,
+/// What was read of a source and is not used yet, in a buffer that has room for a record and a piece.
+struct Input<R: Read> {
+    source: R,
     buffer: Vec<u8>,
     used: usize,
     len: usize,
 }
 
-impl Input {
-    fn open(path: &str) -> io::Result<Self> {
-        let buffer = vec![0; RECORD_HEADER + RECORD_LIMIT + PIECE];
-        Ok(Input {
-            file: File::open(path)?,
-            buffer,
+impl<R: Read> Input<R> {
+    fn new(source: R) -> Self {
+        Input {
+            source,
+            buffer: vec![0; RECORD_HEADER + RECORD_LIMIT + PIECE],
             used: 0,
             len: 0,
-        })
+        }
     }
 
     fn unused(&self) -> &[u8] {
@@ -153,7 +151,7 @@ impl Input {
         self.buffer.copy_within(self.used..self.len, 0);
         self.len -= self.used;
         self.used = 0;
-        let moved = self.file.read(&mut self.buffer[self.len..self.len + PIECE])?;
+        let moved = self.source.read(&mut self.buffer[self.len..self.len + PIECE])?;
         self.len += moved;
         Ok(moved > 0)
     }
@@ -163,10 +161,10 @@ impl Input {
 /// the number of records, or the capture's first refusal.
 #[inline(always)]
 pub fn read_records(
-    path: &str,
+    source: impl Read,
     mut take: impl FnMut(u64, u64, &[u8]) -> io::Result<()>,
 ) -> io::Result<Result<u64, Refusal>> {
-    let mut input = Input::open(path)?;
+    let mut input = Input::new(source);
     while input.len < FILE_HEADER && input.read()? {}
     let style = match read_style(&input.buffer[..input.len.min(FILE_HEADER)]) {
         Ok(style) => style,

@@ -9,6 +9,7 @@ mod text;
 use aaf::{HEADER, check_header, read_aaf};
 use pcap::{Refusal, cut_off, read_frame, read_records, u16_at};
 use std::env;
+use std::fs::File;
 use std::io;
 use std::process::ExitCode;
 use text::{Line, Text};
@@ -259,7 +260,7 @@ fn show_frame<'a>(mut line: Line<'a>, frame: &[u8]) -> Line<'a> {
 fn main() -> io::Result<ExitCode> {
     let path = env::args().nth(1).ok_or(io::ErrorKind::InvalidInput)?;
     let mut text = Text::new();
-    let end = read_records(&path, |number, arrival, frame| {
+    let end = read_records(File::open(path)?, |number, arrival, frame| {
         let mut line = text.line(Line::ROOM)?;
         line.number(b"frame ", number);
         line.number(b" at ", arrival);

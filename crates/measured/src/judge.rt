@@ -5,17 +5,11 @@ ghost use Rattle.sample_schedule.specs.Judge.{IsIdle, Keeps, taken};
 ghost use Rattle.sample_schedule.specs.Limits.{IsEntry};
 
 use crate::stream::Stream;
+use crate::timed::Timed;
 use sample_schedule::{Entry, Judge, SchedulePlan, Shown};
 use std::alloc::Global;
 use std::collections::VecDeque;
 use std::time::{Clock, Instant};
-
-/// How many packets a judge presented, and in how many nanoseconds.
-#[derive(Clone, Copy)]
-pub struct Judged {
-    pub presented: u64,
-    pub nanoseconds: u64,
-}
 
 /// Judges so many packets of a stream, with a look-ahead of 0 to 64 entries. The entries are made before the time begins.
 pub fn judge<C: Clock>(
@@ -24,7 +18,7 @@ pub fn judge<C: Clock>(
     stream: &Stream,
     look: u32,
     count: u32,
-) -> Option<Judged>
+) -> Option<Timed>
     requires some { 1 ≤ stream.now.waiting }
     requires most { stream.now.waiting ≤ 65536 }
     requires look { look ≤ 64 }
@@ -42,7 +36,7 @@ pub fn judge<C: Clock>(
     let start = Instant::now(clock).ok()?;
     let presented = judge_all(&mut judge, entries);
     let nanoseconds = u64::try_from(start.elapsed(clock).ok()?.as_nanos()).ok()?;
-    Some(Judged {
+    Some(Timed {
         presented,
         nanoseconds,
     })

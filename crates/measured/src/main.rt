@@ -2,18 +2,24 @@
 //! through a ring from one thread to another, and `measured lines TIMESTAMPS LOOK-UPS` asks a media clock whose window is full
 //! of packets of so many timestamps. Both print how many items or lines they had. `measured judge ORDER WAITING LOOK CLOCK
 //! ITEMS` judges so many packets, which come in an order of their instants (rising, falling, random, middle or equal), with a
-//! look-ahead and with a clock or none. It prints how many are presented, and in how many nanoseconds all were judged.
+//! look-ahead and with a clock or none. `measured listener STREAMS PACKETS` feeds a listener with a capture of so many packets
+//! of so many streams, of which it listens to one. These print how many packets are presented, and in how many nanoseconds.
 #![tactic(auto)]
 
+mod capture;
+mod hearing;
 mod judge;
 mod lines;
 mod rounds;
 mod stream;
+mod timed;
 
+use crate::hearing::hear;
 use crate::judge::judge;
 use crate::lines::lines;
 use crate::rounds::rounds;
 use crate::stream::{Order, Stream};
+use crate::timed::Timed;
 use std::alloc::Global;
 use std::env;
 use std::process::ExitCode;
@@ -40,11 +46,14 @@ fn words_of(rt: &HostRuntime) -> Option<Vec<String>> {
 
 /// Does what the words ask for. `None` comes where they ask for nothing that is measured, or memory is not found.
 fn measured<T: Threads + Sync + Clock>(rt: &T, alloc: Global, words: &[String]) -> Option<String> {
-    if words.get(0)?.as_str() == "judge" {
-        return judged(rt, alloc, words);
+    match words.get(0)?.as_str() {
+        "judge" => judged(rt, alloc, words)?.text(alloc),
+        "listener" => heard(rt, alloc, words)?.text(alloc),
+        _ => {
+            let count = counted(rt, alloc, words)?;
+            format!(in alloc; "{count}").ok()
+        }
     }
-    let count = counted(rt, alloc, words)?;
-    format!(in alloc; "{count}").ok()
 }
 
 fn counted<T: Threads + Sync>(rt: &T, alloc: Global, words: &[String]) -> Option<u64> {
@@ -58,7 +67,7 @@ fn counted<T: Threads + Sync>(rt: &T, alloc: Global, words: &[String]) -> Option
     }
 }
 
-fn judged<C: Clock>(clock: &C, alloc: Global, words: &[String]) -> Option<String> {
+fn judged<C: Clock>(clock: &C, alloc: Global, words: &[String]) -> Option<Timed> {
     let stream = Stream {
         order: order_of(words.get(1)?)?,
         waiting: words.get(2)?.parse().ok()?,
@@ -69,8 +78,16 @@ fn judged<C: Clock>(clock: &C, alloc: Global, words: &[String]) -> Option<String
     if stream.waiting == 0 || stream.waiting > 65_536 || look > 64 {
         return None;
     }
-    let judged = judge(clock, alloc, &stream, look, count)?;
-    format!(in alloc; "{} {}", judged.presented, judged.nanoseconds).ok()
+    judge(clock, alloc, &stream, look, count)
+}
+
+fn heard<C: Clock>(clock: &C, alloc: Global, words: &[String]) -> Option<Timed> {
+    let streams: u32 = words.get(1)?.parse().ok()?;
+    let packets: u32 = words.get(2)?.parse().ok()?;
+    if streams == 0 || streams > 65_536 {
+        return None;
+    }
+    hear(clock, alloc, streams, packets)
 }
 
 fn order_of(word: &str) -> Option<Order> {

@@ -1,0 +1,108 @@
+//! The yardstick of `bench/run` for a listener: `listener STREAMS PACKETS` makes the capture that `measured listener` makes of
+//! these words, and listens to its first stream by the same design, without contracts. It reads records in pieces, looks at
+//! each where it was read, copies the samples of a packet of the stream once, and judges it. It prints how many packets are
+//! presented, and in how many nanoseconds, once the capture was made.
+
+mod aaf;
+mod packets;
+mod pcap;
+mod schedule;
+mod stream;
+
+use aaf::{HEADER, read_aaf};
+use packets::{Capture, packet_of};
+use pcap::{Refusal, read_records, u16_at};
+use schedule::{Bad, HeadRule, Item, Judge, Packet, Plan, Reason, drain};
+use std::env;
+use std::io::{self, Error};
+use std::time::Instant;
+use stream::packet_of_stream;
+
+const STREAM: u64 = 0x0200_0000_0001_0000;
+
+const PLAN: Plan = Plan {
+    buffer: 4_096,
+    room: 67_108_864,
+    look: 0,
+    lead: 2_000_000,
+    clock: false,
+};
+
+/// The item of a packet, with its samples copied.
+#[inline(always)]
+fn item_of(frame: u64, arrival: i64, pdu: &[u8]) -> Item {
+    let seq = pdu[2];
+    let Ok((_, size, rate)) = read_aaf(pdu) else {
+        return Item::Bad(Bad {
+            frame,
+            arrival,
+            seq,
+            reason: Reason::Malformed,
+        });
+    };
+    let len = usize::from(u16_at(pdu, 20));
+    let stamp = u32::from_be_bytes(pdu[12..16].try_into().unwrap());
+    Item::Packet(Packet {
+        frame,
+        arrival,
+        seq,
+        mr: pdu[1] & 8 != 0,
+        tu: pdu[3] & 1 != 0,
+        stamp: (pdu[1] & 1 != 0).then_some(stamp),
+        rule: if pdu[22] & 0x10 != 0 {
+            HeadRule::Eight
+        } else {
+            HeadRule::Own
+        },
+        rate,
+        count: len as u32 / size,
+        bytes: pdu[HEADER..HEADER + len].to_vec(),
+    })
+}
+
+fn capture_of(streams: u64, packets: u64) -> io::Result<Vec<u8>> {
+    let mut capture = Capture {
+        out: Vec::new(),
+        big_endian: false,
+        unit: 1,
+    };
+    capture.header()?;
+    for n in 0..packets {
+        capture.record(n, &packet_of(n, streams))?;
+    }
+    Ok(capture.out)
+}
+
+/// How many packets of the first stream are presented.
+fn listen(judge: &mut Judge, capture: &[u8]) -> io::Result<u64> {
+    let stream = STREAM.to_be_bytes();
+    let mut presented = 0;
+    let end = read_records(capture, |frame, arrival, bytes| {
+        if let Some(pdu) = packet_of_stream(bytes, stream) {
+            judge.step(item_of(frame, arrival as i64, pdu));
+            presented += drain(judge);
+        }
+        Ok(())
+    })?;
+    if let Err(Refusal(field, at, _)) = end {
+        return Err(Error::other(format!("{field} at {at} is refused")));
+    }
+    judge.close();
+    Ok(presented + drain(judge))
+}
+
+fn main() -> io::Result<()> {
+    let words: Vec<String> = env::args().skip(1).collect();
+    let [streams, packets] = &words[..] else {
+        return Err(Error::other("listener STREAMS PACKETS"));
+    };
+    let capture = capture_of(
+        streams.parse().map_err(Error::other)?,
+        packets.parse().map_err(Error::other)?,
+    )?;
+    let mut judge = Judge::begin(PLAN);
+    let start = Instant::now();
+    let presented = listen(&mut judge, &capture)?;
+    println!("{presented} {}", start.elapsed().as_nanos());
+    Ok(())
+}
