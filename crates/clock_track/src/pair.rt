@@ -1,6 +1,6 @@
 //! Two points of a clock, and the line behind them.
 
-ghost use Rattle.std.specs.Prelude.{Some, ◌≡◌, ◌≤◌, ◌<◌, ◌*◌, ◌^◌, pos, ◌-ℤ◌, ◌*ℤ◌, ◌+ℤ◌, IsTrue};
+ghost use Rattle.std.specs.Prelude.{Some, ◌≡◌, ◌≤◌, ◌<◌, ◌*◌, ◌^◌, ◌↔◌, pos, ◌-ℤ◌, ◌*ℤ◌, ◌+ℤ◌, IsTrue};
 ghost use Rattle.clock_track.specs.Limits.{IsSmall};
 ghost use Rattle.clock_track.specs.Pairs.{Covers, IsJoined, covers as covers_of, is_joined as is_joined_of, nominal as nominal_of, period as period_of, nearest_event as nearest_event_of, spot_by, step_den, step_num as step_num_of};
 ghost use Rattle.clock_track.specs.Search.{IsAfter, IsCovering};
@@ -108,7 +108,7 @@ impl Pair {
     /// Whether an instant lies before all that the later point covers in a stream of this rate, whatever the earlier point.
     pub fn is_after(&self, rate: u32, instant: i64) -> bool
         requires { IsSmall self.now }
-        ensures { IsTrue result → IsAfter self.now rate instant }
+        ensures { IsTrue result ↔ IsAfter self.now rate instant }
     {
         scaled(instant, self.later, 2 * self.nominal(), self.step_den(rate)) < 0
     }
