@@ -20,11 +20,10 @@ use Rattle.capture_io.specs.declared.end.End.{End}
 use Rattle.capture_io.specs.declared.end.End.TheVariants as end
 use Rattle.capture_io.specs.Ends.{CountsFault}
 use Rattle.capture_io.specs.Source.{HasGiven, Sourcing}
-use Rattle.capture_io.proofs.Giving.{given_first}
 use Rattle.avtp_tool.specs.declared.check.Total.{Total}
 use Rattle.avtp_tool.specs.declared.status.Status.{Status}
 use Rattle.avtp_tool.specs.declared.status.Status.TheVariants as status
-use Rattle.avtp_tool.specs.Check.{check_lines, check_report, check_status, checked_record, ChecksRecords, found_lines, HasChecked, joined_lines, noted, notes_of, PrintsFound, total_line}
+use Rattle.avtp_tool.specs.Check.{check_lines, check_report, check_status, checked_record, found_lines, HasChecked, joined_lines, noted, notes_of, PrintsFound, total_line}
 use Rattle.avtp_tool.specs.Lines.{of_each}
 use Rattle.avtp_tool.specs.Outcome.{CountsReading, EndsWith}
 use Rattle.avtp_tool.specs.Yield.{GivesPart, HandsNothing}
@@ -33,7 +32,7 @@ use Rattle.avtp_tool.specs.Reading.{file_yield, IsReadingStatus}
 use Rattle.avtp_tool.proofs.DoesFile.{IsReadAndTold}
 use Rattle.avtp_tool.proofs.Lines.{each_first, each_more, each_none}
 use Rattle.avtp_tool.proofs.Leaving.{own_as, own_ended}
-use Rattle.avtp_tool.proofs.Outcomes.{counts_ended, counts_failed, ok_same, tells_end}
+use Rattle.avtp_tool.proofs.Outcomes.{TellsFault, counts_by, tells_end}
 
 -- ---- lists
 
@@ -59,7 +58,7 @@ text_more name records r =
     ∙ ap (λ (t : List ℕ). capture_line name ++ t) (flat_map-append (λ (line : List ℕ). line) (of_each check_lines records) (check_lines records r))
     ∙ sym (append_assoc (capture_line name) (joined_lines (of_each check_lines records)) (joined_lines (check_lines records r)))
 
-text_first : (name : List ℕ) (records others : List Record) → (rest : List ℕ) × (text_of name (records ++ others) ≡ text_of name records ++ rest)
+pub text_first : (name : List ℕ) (records others : List Record) → (rest : List ℕ) × (text_of name (records ++ others) ≡ text_of name records ++ rest)
 text_first name records others =
     let first = each_first check_lines records others in (
       joined_lines first.0,
@@ -116,21 +115,9 @@ one_checked {name = name} {tracker' = tracker'} {frames} {found} {n} {before} {h
 
 -- ---- cut short
 
--- of the first records a prefix of the lines was printed, so it was of all
-pub some_checked : {limit : ℕ} {bytes : List ℕ} {remains : Option (List ℕ)} {source : Sourcing} {before now : Option (List ℕ)} (name : List ℕ) (records : List Record) → HasGiven limit bytes remains source records → AppendsPrefix before now (text_of name records)
-    → AppendsPrefix before now (text_of name (records_in (take limit bytes)))
-some_checked {limit} {bytes} {remains} {source} {before} {now} name records given prefix =
-    let first = given_first limit bytes remains source records given in
-    let after = text_first name records first.0 in
-    subst (AppendsPrefix before now) (sym (ap (text_of name) first.1 ∙ after.1)) (prefix_before before now (text_of name records) after.0 prefix)
-
 -- the capture's name is the beginning of every text
 pub name_checked : {before now : Option (List ℕ)} (limit : ℕ) (bytes name : List ℕ) → AppendsPrefix before now (capture_line name) → AppendsPrefix before now (text_of name (records_in (take limit bytes)))
 name_checked {before} {now} limit bytes name prefix = prefix_before before now (capture_line name) (joined_lines (of_each check_lines (records_in (take limit bytes)))) prefix
-
-pub checks_failed : (limit : ℕ) (name bytes : List ℕ) (fault : Type 0) (before now : Option (List ℕ)) (result : Result Total Failed) → IsErr result → AppendsPrefix before now (text_of name (records_in (take limit bytes))) → ChecksRecords limit name bytes fault before now result
-checks_failed limit name bytes fault before now (Ok total) err prefix = absurd cc
-checks_failed limit name bytes fault before now (Err e) err prefix = prefix
 
 -- ---- what `check` makes of a file
 
@@ -150,20 +137,22 @@ found_done : (found : ℕ) → (check_status found end.Whole ≡ status.Done) �
 found_done found =
     elim (found == 0) as (λ (b : Bool). ((if b then status.Done else status.Findings) ≡ status.Done) ⊎ ((if b then status.Done else status.Findings) ≡ status.Findings)) [ true ↦ inl refl | false ↦ inr refl ]
 
+checks_fault : (found : ℕ) (how : End) (before after : ℕ) → CountsFault None (Some how) before after → TellsFault (check_status found how) before after
+checks_fault found end.Whole before after counts =
+    inl (
+      elim (found_done found) [
+        | inl done ↦ λ e. (let t : status.ReadFault ≡ status.Done = sym e ∙ done in cc)
+        | inr findings ↦ λ e. (let t : status.ReadFault ≡ status.Findings = sym e ∙ findings in cc)
+      ],
+      counts,
+    )
+checks_fault found (end.Refused refusal) before after counts = inl (λ e. cc, counts)
+checks_fault found end.ReadFault before after counts = inr (refl, counts)
+checks_fault found end.Limit before after counts = inl (λ e. cc, counts)
+
 pub counts_checked : {before after : ℕ} {names : List (List ℕ)} {files : Option Files} (found : ℕ) (how : End) (result : Result Status Failed) → before ≤ after → CountsFault None (Some how) before after
     → IfOk result (λ s. s ≡ check_status found how) → CountsReading names files before after result
-counts_checked found how (Err e) falls counts is = counts_failed e falls
-counts_checked found end.Whole (Ok s) falls counts is = record {
-  never_falls = falls;
-  fault = λ e. absurd (elim (found_done found) [
-    | inl done ↦ (let t : status.ReadFault ≡ status.Done = sym (ok_same (Ok s) s status.ReadFault refl e) ∙ (is ∙ done) in cc)
-    | inr findings ↦ (let t : status.ReadFault ≡ status.Findings = sym (ok_same (Ok s) s status.ReadFault refl e) ∙ (is ∙ findings) in cc)
-  ]);
-  quiet = λ fault memory write. counts;
-}
-counts_checked found (end.Refused refusal) (Ok s) falls counts is = counts_ended (end.Refused refusal) (Ok s) falls counts (inr is)
-counts_checked found end.ReadFault (Ok s) falls counts is = counts_ended end.ReadFault (Ok s) falls counts (inr is)
-counts_checked found end.Limit (Ok s) falls counts is = counts_ended end.Limit (Ok s) falls counts (inr is)
+counts_checked {before} {after} found how result falls counts is = counts_by (check_status found how) result falls (checks_fault found how before after counts) is
 
 pub own_checked : (found : ℕ) (how : End) (result : Result Status Failed) → IfOk result (λ s. s ≡ check_status found how) → IsReadingStatus result
 own_checked found how (Err e) is = tt

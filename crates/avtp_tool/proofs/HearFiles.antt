@@ -20,8 +20,7 @@ use Rattle.avtp_tool.specs.Reading.{DoesFiles, PlanOutcome, ReadPlan}
 use Rattle.avtp_tool.specs.Run.{device_notice, device_status, IsThrough, ListenOutcome, Runs, TellsDevices}
 use Rattle.avtp_tool.specs.Yield.{Gives, GivesPart, HandsNothing, says, with_more, Yield}
 use Rattle.avtp_tool.proofs.Leaving.{never_ends, only_read}
-use Rattle.avtp_tool.proofs.Outcomes.{counts_failed, sink_failed, sink_then}
-use Rattle.avtp_tool.proofs.Talked.{ends_not}
+use Rattle.avtp_tool.proofs.Outcomes.{counts_failed, ends_not, sink_failed, sink_then}
 use Rattle.avtp_tool.proofs.PlanRuns.{through_as}
 use Rattle.avtp_tool.proofs.Yields.{gives_then, Joins, more_none, part_before, part_none, part_then, part_whole}
 

@@ -131,10 +131,6 @@ hears handed before now asked name bytes (Ended how) fault remains source listen
 hears handed before now asked name bytes NoMemory fault remains source listener items over plan closed shown lines hands =
     items_cut asked name bytes NoMemory fault remains source listener items items plan closed shown (prefix_whole before now (shown_text name items) lines) ([], append-nil items) hands
 
-pub hears_failed : {handed : List Shown → Type 0} (asked : Listening) (name bytes : List ℕ) (fault : Type 0) (before now : Option (List ℕ)) (result : Result Heard Failed) → IsErr result → IsCutYield asked handed name bytes before now → HearsRecords asked handed name bytes fault before now result
-hears_failed asked name bytes fault before now (Ok heard) err prefix = absurd cc
-hears_failed asked name bytes fault before now (Err e) err prefix = prefix
-
 -- the count of reading faults, once the hearing has ended
 pub hears_counted : (stage : Stage) (listener : ListenState) (before after : ℕ) → IsSome (pull_at stage) → CountsFault None (read_end stage) before after → CountsFault None (heard_end (heard_at stage listener)) before after
 hears_counted Reading listener before after over counted = absurd cc
@@ -171,7 +167,3 @@ cut_heard {handed} {before} {now} asked name bytes fault made is hears = subst (
 
 pub counts_heard : (how : End) (counts : Counts) (made : Result Heard Failed) (before after : ℕ) → made ≡ Ok (far.Ended how counts) → IfOk made (λ h. CountsFault None (heard_end h) before after) → CountsFault None (Some how) before after
 counts_heard how counts made before after is counted = subst (λ (r : Result Heard Failed). IfOk r (λ h. CountsFault None (heard_end h) before after)) is counted
-
-pub cut_err : (result : Result Status Failed) → IsErr result → IsCut result
-cut_err (Ok s) err = absurd cc
-cut_err (Err e) err = tt

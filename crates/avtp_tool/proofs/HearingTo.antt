@@ -13,11 +13,10 @@ use Rattle.capture_io.specs.declared.end.End.{End}
 use Rattle.capture_io.specs.declared.end.End.TheVariants as end
 use Rattle.capture_io.specs.Ends.{CountsFault}
 use Rattle.capture_io.specs.Formats.{records_in}
-use Rattle.capture_io.specs.Reads.{ReadsSlot}
 use Rattle.capture_io.specs.Source.{EndsAfter, GivesNext, HasGiven, Sourcing, held_in, slot_of, to_do}
 use Rattle.capture_io.proofs.Ending.{after_weaker}
 use Rattle.capture_io.proofs.Giving.{given_first}
-use Rattle.capture_io.proofs.Leaving.{reads_nothing}
+use Rattle.capture_io.proofs.Leaving.{reads_nothing, reads_then}
 use Rattle.sample_schedule.specs.declared.shown.Shown.{Shown}
 use Rattle.sample_schedule.specs.declared.shown.Shown.TheVariants.{Flag, Present}
 use Rattle.listener.specs.Heard.{due_of, is_flag, is_present, shown_of}
@@ -28,9 +27,9 @@ use Rattle.presenter_ring.specs.declared.receiver.Pull.{Pull}
 use Rattle.presenter_ring.specs.Pulls.{ending_of, items_of}
 use Rattle.avtp_tool.specs.declared.hearing.Stage.{Stage}
 use Rattle.avtp_tool.specs.declared.hearing.Stage.TheVariants.{Reading, Showing, Ended, NoMemory}
-use Rattle.avtp_tool.specs.Hearing.{WasGiven, IsShown, IsStable, Shows, closed_at, ended_at, has_stopped, is_all, left_of, pull_at, pull_with, reads_left, unread}
+use Rattle.avtp_tool.specs.Hearing.{GoesOn, IsFresh, IsSoundAt, WasGiven, IsShown, IsStable, Shows, closed_at, ended_at, has_stopped, is_all, left_of, pull_at, pull_with, reads_left, unread}
 use Rattle.avtp_tool.specs.Reading.{ReadsCapture}
-use Rattle.avtp_tool.proofs.Leaving.{ended_so, none_left, quiet_next, reads_on, some_same}
+use Rattle.avtp_tool.proofs.Leaving.{ended_so, quiet_next, some_same}
 
 -- ---- lists
 
@@ -50,6 +49,10 @@ prefix_next {X} (z ∷ xs) (y ∷ ys) x first at =
     let rest = prefix_next xs ys x (first.0, cc) at in
     let head : z ≡ y = cc in
     (rest.0, ap (λ (l : List X). z ∷ l) rest.1 ∙ ap (λ (h : X). h ∷ ys) head)
+
+prefix_out : {X : Type 0} (xs ys : List X) (next : Option X) → IsPrefix xs ys → next ≡ slice_get ys (length xs) → IsPrefix (xs ++ option_to_list next) ys
+prefix_out {X} xs ys None first at = subst (λ (l : List X). IsPrefix l ys) (sym (append-nil xs)) first
+prefix_out {X} xs ys (Some x) first at = prefix_next xs ys x first at
 
 -- nothing comes next
 prefix_all : {X : Type 0} (xs ys : List X) → IsPrefix xs ys → None ≡ slice_get ys (length xs) → xs ≡ ys
@@ -118,9 +121,6 @@ stands_same {old} {new} stands records given was = (records, subst (λ (n : ℕ)
 pub left_same : (old new : ListenState) (stage : Stage) (source source' : Sourcing) → new ≡ old → left_of NoMemory source' new ≤ left_of stage source old
 left_same old new stage source source' same = rw same (omega arith)
 
-pub stable_same : (old new : ListenState) → new ≡ old → IsStable old → IsStable new
-stable_same old new same stable = subst IsStable (sym same) stable
-
 -- ---- stages
 
 pub reading_by : (s : Stage) → pull_at s ≡ None → ((how : End) → s ≡ Showing how → ⊥) → s ≡ Reading
@@ -133,9 +133,9 @@ pub not_stopped : (source : Sourcing) (e : Option End) → source.ended ≡ e �
 not_stopped source None is none = is
 not_stopped source (Some how) is none = absurd cc
 
-pub reads_on_at : (s : Stage) (source : Sourcing) → s ≡ Reading → has_stopped s source ≡ false → source.ended ≡ None
-reads_on_at s source is stopped =
-    let here : has_stopped Reading source ≡ false = ap (λ (x : Stage). has_stopped x source) (sym is) ∙ stopped in
+pub reads_on_at : {s : Stage} {source : Sourcing} {listener : ListenState} → s ≡ Reading → IsSoundAt s source listener → source.ended ≡ None
+reads_on_at {s} {source} is sound =
+    let here : has_stopped Reading source ≡ false = ap (λ (x : Stage). has_stopped x source) (sym is) ∙ sound.going in
     not_stopped source source.ended refl here
 
 pub going_on : (s : Stage) (how : End) → pull_at s ≡ None → s ≡ Ended how → ⊥
@@ -161,47 +161,29 @@ out_same : (old now : ListenState) (records : List Record) → Keeps old now →
 out_same old now records keeps = rw (keeps.closed, keeps.plan) refl
 
 module _ {s t : ShelfState} {begun source : Sourcing} {first old new : ListenState} {stage : Stage} {items : List Shown} where
-  -- an item more was shown
-  pub shows_item : (x : Shown) → pull_at stage ≡ None → Keeps old new
-      → ((records : List Record) (given : ℕ) → StandsFor records given old → Some x ≡ slice_get (out old records) given)
-      → ((records : List Record) (given : ℕ) → StandsFor records given old → StandsFor records (given + 1) new)
-      → Shows s t begun source first old stage items → Shows s t begun source first new stage (items ++ x ∷ [])
-  shows_item x going keeps at stands shows = record {
+  -- an item more was shown, or none
+  shows_out : (result : Option Shown) → pull_at stage ≡ None → Keeps old new
+      → ((records : List Record) (given : ℕ) → StandsFor records given old → result ≡ slice_get (out old records) given)
+      → ((records : List Record) (given : ℕ) → StandsFor records given old → StandsFor records (given + length (option_to_list result)) new)
+      → Shows s t begun source first old stage items → Shows s t begun source first new stage (items ++ option_to_list result)
+  shows_out result going keeps at stands shows = record {
     capture = shows.capture;
     plan = keeps.plan ∙ shows.plan;
     shown = λ limit bytes given none unclosed.
         let was = shows.shown limit bytes given none unclosed in
+        let more : List Shown = option_to_list result in
         record {
           records = was.records;
           first = was.first;
           read = was.read;
-          stands = subst (λ (n : ℕ). StandsFor was.records n new) (sym (length-append items (x ∷ []))) (stands was.records (length items) was.stands);
-          given = subst (IsPrefix (items ++ x ∷ [])) (sym (out_same old new was.records keeps)) (prefix_next items (out old was.records) x was.given (at was.records (length items) was.stands));
-          whole = λ how is. absurd (going_on stage how going is);
-        };
-  }
-
-  -- none was
-  pub shows_still : pull_at stage ≡ None → Keeps old new
-      → ((records : List Record) (given : ℕ) → StandsFor records given old → StandsFor records (given + 0) new)
-      → Shows s t begun source first old stage items → Shows s t begun source first new stage items
-  shows_still going keeps stands shows = record {
-    capture = shows.capture;
-    plan = keeps.plan ∙ shows.plan;
-    shown = λ limit bytes given none unclosed.
-        let was = shows.shown limit bytes given none unclosed in
-        record {
-          records = was.records;
-          first = was.first;
-          read = was.read;
-          stands = subst (λ (n : ℕ). StandsFor was.records n new) (omega arith) (stands was.records (length items) was.stands);
-          given = subst (IsPrefix items) (sym (out_same old new was.records keeps)) was.given;
+          stands = subst (λ (n : ℕ). StandsFor was.records n new) (sym (length-append items more)) (stands was.records (length items) was.stands);
+          given = subst (IsPrefix (items ++ more)) (sym (out_same old new was.records keeps)) (prefix_out items (out old was.records) result was.given (at was.records (length items) was.stands));
           whole = λ how is. absurd (going_on stage how going is);
         };
   }
 
   -- none is left of what is shown once the reading has ended
-  pub shows_all : (how : End) → stage ≡ Showing how → Keeps old new
+  shows_all : (how : End) → stage ≡ Showing how → Keeps old new
       → ((records : List Record) (given : ℕ) → StandsFor records given old → None ≡ slice_get (out old records) given)
       → ((records : List Record) (given : ℕ) → StandsFor records given old → StandsFor records (given + 0) new)
       → Shows s t begun source first old stage items → Shows s t begun source first new (Ended how) items
@@ -251,13 +233,13 @@ end_grows end.Limit old new records items going closed plan first = subst (IsPre
 
 module _ {s t u : ShelfState} {begun old_source source : Sourcing} {first old new : ListenState} {items : List Shown} where
   -- the reading went on, and the record was taken
-  pub shows_record : (record_ : Record) → old_source.ended ≡ None → GivesNext t u old_source source None → ReadsSlot t u (slot_of old_source) (slot_of source) → held_in source ≡ Some record_
+  pub shows_record : (record_ : Record) → old_source.ended ≡ None → GivesNext t u old_source source None → held_in source ≡ Some record_
       → is_closed old ≡ false → is_closed new ≡ false → new.plan ≡ old.plan → ((records : List Record) (given : ℕ) → StandsFor records given old → StandsFor (records ++ record_ ∷ []) given new) → {stage : Stage} → stage ≡ Reading → Shows s t begun old_source first old stage items → Shows s u begun source first new stage items
-  shows_record record_ none next reads held going on plan stands reading showing =
+  shows_record record_ none next held going on plan stands reading showing =
       let shows = subst (λ (y : Stage). Shows s t begun old_source first old y items) reading showing in
       let same : u.reading_faults ≡ t.reading_faults = quiet_next old_source.ended None t.reading_faults u.reading_faults none refl next.counted in
       subst (λ (y : Stage). Shows s u begun source first new y items) (sym reading) (record {
-        capture = record { reads = reads_on shows.capture.reads reads; counted = same ∙ shows.capture.counted };
+        capture = record { reads = reads_then shows.capture.reads next.reads; counted = same ∙ shows.capture.counted };
         plan = plan ∙ shows.plan;
         shown = λ limit bytes given begins unclosed.
             let was = shows.shown limit bytes given begins unclosed in
@@ -276,12 +258,12 @@ module _ {s t u : ShelfState} {begun old_source source : Sourcing} {first old ne
       })
 
   -- the record was not taken, and the listener is as it was
-  pub shows_no_memory : old_source.ended ≡ None → GivesNext t u old_source source None → ReadsSlot t u (slot_of old_source) (slot_of source) → new ≡ old → {stage : Stage} → stage ≡ Reading → Shows s t begun old_source first old stage items → Shows s u begun source first new NoMemory items
-  shows_no_memory none next reads same reading showing =
+  pub shows_no_memory : old_source.ended ≡ None → GivesNext t u old_source source None → new ≡ old → {stage : Stage} → stage ≡ Reading → Shows s t begun old_source first old stage items → Shows s u begun source first new NoMemory items
+  shows_no_memory none next same reading showing =
       let shows = subst (λ (y : Stage). Shows s t begun old_source first old y items) reading showing in
       let quiet : u.reading_faults ≡ t.reading_faults = quiet_next old_source.ended None t.reading_faults u.reading_faults none refl next.counted in
       record {
-        capture = record { reads = reads_on shows.capture.reads reads; counted = quiet ∙ shows.capture.counted };
+        capture = record { reads = reads_then shows.capture.reads next.reads; counted = quiet ∙ shows.capture.counted };
         plan = ap (λ (l : ListenState). l.plan) same ∙ shows.plan;
         shown = λ limit bytes given begins unclosed.
             let was = shows.shown limit bytes given begins unclosed in
@@ -296,13 +278,13 @@ module _ {s t u : ShelfState} {begun old_source source : Sourcing} {first old ne
       }
 
   -- the reading ended
-  pub shows_end : (how : End) → old_source.ended ≡ None → GivesNext t u old_source source (Some how) → ReadsSlot t u (slot_of old_source) (slot_of source)
+  pub shows_end : (how : End) → old_source.ended ≡ None → GivesNext t u old_source source (Some how)
       → is_closed old ≡ false → is_closed new ≡ is_all how → new.plan ≡ old.plan → ((records : List Record) (given : ℕ) → StandsFor records given old → StandsFor records given new) → {stage : Stage} → stage ≡ Reading → Shows s t begun old_source first old stage items → Shows s u begun source first new (Showing how) items
-  shows_end how none next reads going closed plan stands reading showing =
+  shows_end how none next going closed plan stands reading showing =
       let shows = subst (λ (y : Stage). Shows s t begun old_source first old y items) reading showing in
       let same : t.reading_faults ≡ s.reading_faults = shows.capture.counted in
       record {
-        capture = record { reads = reads_on shows.capture.reads reads; counted = subst (λ (n : ℕ). CountsFault None (Some how) n u.reading_faults) same (ended_so old_source.ended how t.reading_faults u.reading_faults none next.counted) };
+        capture = record { reads = reads_then shows.capture.reads next.reads; counted = subst (λ (n : ℕ). CountsFault None (Some how) n u.reading_faults) same (ended_so old_source.ended how t.reading_faults u.reading_faults none next.counted) };
         plan = plan ∙ shows.plan;
         shown = λ limit bytes given begins unclosed.
             let was = shows.shown limit bytes given begins unclosed in
@@ -315,6 +297,61 @@ module _ {s t u : ShelfState} {begun old_source source : Sourcing} {first old ne
               whole = λ how' is. absurd (let e : Showing how ≡ Ended how' = is in cc);
             };
       }
+
+-- ---- what holds of every hearing
+
+pub sound_few : {stage : Stage} {source : Sourcing} {listener : ListenState} → IsSoundAt stage source listener → listener.counts.frames < 2 ^ 62
+sound_few sound = omega (arith, sound.bounded)
+
+pub sound_fresh : (source : Sourcing) (listener : ListenState) → IsFresh source listener → IsSoundAt Reading source listener
+sound_fresh source listener fresh =
+    record { bounded = fresh.bounded; going = rw fresh.going refl; closed = fresh.unclosed; stable = λ none. none (record { records = []; given = 0; stands = fresh.stands }) }
+
+-- an item more was shown, or none
+pub sound_on : {stage : Stage} {source : Sourcing} {old new : ListenState} (count : ℕ) → IsSoundAt stage source old → Keeps old new → ((records : List Record) (given : ℕ) → StandsFor records given old → StandsFor records (given + count) new) → IsSoundAt stage source new
+sound_on count sound keeps stands =
+    record { bounded = omega (arith, sound.bounded, keeps.frames); going = sound.going; closed = keeps.closed ∙ sound.closed; stable = stable_on count sound.stable (λ records given was. (records, stands records given was)) }
+
+-- all was shown
+pub sound_over : {stage : Stage} {source : Sourcing} {listener : ListenState} (how : End) → stage ≡ Showing how → IsSoundAt stage source listener → IsSoundAt (Ended how) source listener
+sound_over how is sound = record { bounded = omega (arith, sound.bounded); going = refl; closed = sound.closed ∙ ap closed_at is; stable = sound.stable }
+
+-- ---- going on
+
+-- what is shown does not change, and not more can be shown
+pub goes_still : {t u : ShelfState} {old_source source : Sourcing} {old new : ListenState} {stage stage' : Stage}
+    → ((begun : ShelfState) (first : Sourcing) (fresh : ListenState) (earlier : List Shown) → Shows begun t first old_source fresh old stage earlier → Shows begun u first source fresh new stage' earlier)
+    → IsSome (u.slots (slot_of source)) → left_of stage' source new ≤ left_of stage old_source old → GoesOn t u old_source source old new stage stage' []
+goes_still {t} {u} {old_source} {source} {old} {new} {stage} {stage'} shows live left = record {
+  shows = λ begun first fresh earlier was. subst (Shows begun u first source fresh new stage') (sym (append-nil earlier)) (shows begun first fresh earlier was);
+  live = live;
+  left = omega (arith, left);
+}
+
+pub goes_then : {s t u : ShelfState} {a b c : Sourcing} {k l m : ListenState} {x y z : Stage} {items more : List Shown} → GoesOn s t a b k l x y items → GoesOn t u b c l m y z more → GoesOn s u a c k m x z (items ++ more)
+goes_then {s} {t} {u} {a} {b} {c} {k} {l} {m} {x} {y} {z} {items} {more} first second = record {
+  shows = λ begun from fresh earlier was. subst (Shows begun u from c fresh m z) (append_assoc earlier items more) (second.shows begun from fresh (earlier ++ items) (first.shows begun from fresh earlier was));
+  live = second.live;
+  left = omega (arith, first.left, second.left, length-append items more);
+}
+
+-- what came out of the listener is shown
+pub goes_out : {s : ShelfState} {source : Sourcing} {old new : ListenState} {stage : Stage} (result : Option Shown) → IsSome (s.slots (slot_of source)) → pull_at stage ≡ None → IsSoundAt stage source old → Keeps old new
+    → ((records : List Record) (given : ℕ) → StandsFor records given old → result ≡ slice_get (out old records) given)
+    → ((records : List Record) (given : ℕ) → StandsFor records given old → StandsFor records (given + length (option_to_list result)) new) → GoesOn s s source source old new stage stage (option_to_list result)
+goes_out {source = source} {stage = stage} result live going sound keeps at stands = record {
+  shows = λ begun first fresh earlier was. shows_out result going keeps at stands was;
+  live = live;
+  left = left_on (length (option_to_list result)) sound.stable (λ records given was. (records, stands records given was)) stage stage source source (omega (arith, keeps.frames));
+}
+
+-- nothing came out of it, once the reading has ended
+pub goes_over : {s : ShelfState} {source : Sourcing} {old new : ListenState} {stage : Stage} (how : End) → stage ≡ Showing how → IsSome (s.slots (slot_of source)) → IsSoundAt stage source old → Keeps old new
+    → ((records : List Record) (given : ℕ) → StandsFor records given old → None ≡ slice_get (out old records) given)
+    → ((records : List Record) (given : ℕ) → StandsFor records given old → StandsFor records (given + 0) new) → GoesOn s s source source old new stage (Ended how) []
+goes_over {source = source} {stage = stage} how is live sound keeps at stands =
+    let on = left_on 0 sound.stable (λ records given was. (records, stands records given was)) stage (Ended how) source source (omega (arith, keeps.frames)) in
+    goes_still (λ begun first fresh earlier was. shows_all how is keeps at stands was) live (omega (arith, on))
 
 -- ---- before the first step
 
@@ -335,8 +372,8 @@ shows_none shelf source listener stage live is =
       };
     })
 
-pub left_most : (given : ℕ) (stage : Stage) (source : Sourcing) (listener : ListenState) → given ≡ 0 → listener.counts.frames + unread stage source ≤ 2 ^ 41 → given + left_of stage source listener ≤ 2 ^ 62
-left_most given stage source listener none bounded = omega (arith, none, bounded)
+pub left_most : {stage : Stage} {source : Sourcing} {listener : ListenState} (given : ℕ) → given ≡ 0 → IsSoundAt stage source listener → given + left_of stage source listener ≤ 2 ^ 62
+left_most given none sound = omega (arith, none, sound.bounded)
 
 pub reading_pull : (s : Stage) → s ≡ Reading → pull_at s ≡ None
 reading_pull s is = ap pull_at is
@@ -349,8 +386,8 @@ pub went_on : {T E : Type 0} (result : Result T E) (P : Type 0) → is_err resul
 went_on (Ok x) P fine on = on
 went_on (Err e) P fine on = absurd cc
 
-pub open_at : (listener : ListenState) (stage : Stage) → is_closed listener ≡ closed_at stage → stage ≡ Reading → is_closed listener ≡ false
-open_at listener stage closed reading = closed ∙ ap closed_at reading
+pub open_at : {stage : Stage} {source : Sourcing} {listener : ListenState} → IsSoundAt stage source listener → stage ≡ Reading → is_closed listener ≡ false
+open_at sound reading = sound.closed ∙ ap closed_at reading
 
 pub unread_at : (stage : Stage) (source : Sourcing) → stage ≡ Reading → unread stage source ≡ to_do source
 unread_at stage source reading = ap (λ (s : Stage). unread s source) reading

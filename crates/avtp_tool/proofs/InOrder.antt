@@ -1,6 +1,6 @@
 -- Files that are read in order.
 use Rattle.std.proofs.Common.{◌≡◌, ℕ, List, [], ◌∷◌, ◌++◌, Option, Result, Ok, Err, true, false, inl, inr, refl, sym, ap, subst, ◌∙◌}
-use Rattle.std.specs.Prelude.{◌≢◌, IfOk}
+use Rattle.std.specs.Prelude.{◌⊎◌, ◌≢◌, IfOk}
 use Rattle.std.proofs.lemmas.Bool.{cases_Bool}
 use Rattle.avtp_base.specs.declared.failed.Failed.{Failed}
 use Rattle.avtp_base.specs.States.{Asks, ShelfState}
@@ -14,67 +14,38 @@ use Rattle.avtp_tool.proofs.Yields.{gives_then, Joins, more_more, more_none, par
 
 -- ---- the status of files that follow each other
 
+-- all but one take the place of that before
+last_of : (s : Status) → (s ≡ status.Done) ⊎ ((first : Status) → joined first s ≡ s)
+last_of status.Done = inl refl
+last_of status.Findings = inr (λ first. refl)
+last_of status.Words = inr (λ first. refl)
+last_of status.Refused = inr (λ first. refl)
+last_of status.ReadFault = inr (λ first. refl)
+last_of status.WriteFault = inr (λ first. refl)
+last_of status.Memory = inr (λ first. refl)
+last_of status.Limit = inr (λ first. refl)
+last_of status.DeviceFault = inr (λ first. refl)
+last_of status.TalkInput = inr (λ first. refl)
+
 pub joined_none : (rest : Status) → joined status.Done rest ≡ rest
-joined_none status.Done = refl
-joined_none status.Findings = refl
-joined_none status.Words = refl
-joined_none status.Refused = refl
-joined_none status.ReadFault = refl
-joined_none status.WriteFault = refl
-joined_none status.Memory = refl
-joined_none status.Limit = refl
-joined_none status.DeviceFault = refl
-joined_none status.TalkInput = refl
+joined_none rest = elim (last_of rest) [ inl done ↦ subst (λ (s : Status). joined status.Done s ≡ s) (sym done) refl | inr last ↦ last status.Done ]
 
 joined_twice : (a b c : Status) → joined (joined a b) c ≡ joined a (joined b c)
-joined_twice a b status.Done = refl
-joined_twice a b status.Findings = refl
-joined_twice a b status.Words = refl
-joined_twice a b status.Refused = refl
-joined_twice a b status.ReadFault = refl
-joined_twice a b status.WriteFault = refl
-joined_twice a b status.Memory = refl
-joined_twice a b status.Limit = refl
-joined_twice a b status.DeviceFault = refl
-joined_twice a b status.TalkInput = refl
+joined_twice a b c = elim (last_of c) [
+  | inl done ↦ subst (λ (s : Status). joined (joined a b) s ≡ joined a (joined b s)) (sym done) refl
+  | inr last ↦ last (joined a b) ∙ sym (ap (joined a) (last b) ∙ last a)
+]
 
 -- where all was done, all of the rest was
 pub rest_done : (first rest : Status) → is_done (joined first rest) ≡ true → is_done rest ≡ true
-rest_done first status.Done done = refl
-rest_done first status.Findings done = refl
-rest_done first status.Words done = done
-rest_done first status.Refused done = done
-rest_done first status.ReadFault done = done
-rest_done first status.WriteFault done = done
-rest_done first status.Memory done = done
-rest_done first status.Limit done = done
-rest_done first status.DeviceFault done = done
-rest_done first status.TalkInput done = done
+rest_done first rest done = elim (last_of rest) [ inl is ↦ ap is_done is | inr last ↦ ap is_done (sym (last first)) ∙ done ]
 
 pub all_done : (first rest : Status) → is_done first ≡ true → is_done rest ≡ true → is_done (joined first rest) ≡ true
-all_done first status.Done done more = done
-all_done first status.Findings done more = refl
-all_done first status.Words done more = more
-all_done first status.Refused done more = more
-all_done first status.ReadFault done more = more
-all_done first status.WriteFault done more = more
-all_done first status.Memory done more = more
-all_done first status.Limit done more = more
-all_done first status.DeviceFault done more = more
-all_done first status.TalkInput done more = more
+all_done first rest done more = elim (last_of rest) [ inl is ↦ ap (λ (s : Status). is_done (joined first s)) is ∙ done | inr last ↦ ap is_done (last first) ∙ more ]
 
 -- a run that stops ends as its last file does
 joined_stop : (first rest : Status) → is_done rest ≡ false → joined first rest ≡ rest
-joined_stop first status.Done stops = absurd cc
-joined_stop first status.Findings stops = refl
-joined_stop first status.Words stops = refl
-joined_stop first status.Refused stops = refl
-joined_stop first status.ReadFault stops = refl
-joined_stop first status.WriteFault stops = refl
-joined_stop first status.Memory stops = refl
-joined_stop first status.Limit stops = refl
-joined_stop first status.DeviceFault stops = refl
-joined_stop first status.TalkInput stops = refl
+joined_stop first rest stops = elim (last_of rest) [ inl is ↦ absurd (let t : true ≡ false = sym (ap is_done is) ∙ stops in cc) | inr last ↦ last first ]
 
 -- ---- files
 

@@ -1,11 +1,11 @@
 -- What reading leaves, of calls that follow each other.
-use Rattle.std.proofs.Common.{◌≡◌, ℕ, true, false, List, [], ◌∷◌, Option, Some, None, Result, Ok, Err, sym, ap, subst, refl, arith, inl, inr, ◌∙◌}
-use Rattle.std.specs.Prelude.{◌⊎◌, IfOk, IsErr}
+use Rattle.std.proofs.Common.{◌≡◌, ◌+◌, ◌^◌, ◌≤◌, ℕ, true, false, List, [], ◌∷◌, Option, Some, None, Result, Ok, Err, sym, ap, subst, refl, arith, inl, inr, ◌∙◌}
+use Rattle.std.specs.Prelude.{◌⊎◌, IfOk, IsErr, IsSome}
 use Rattle.avtp_base.specs.declared.failed.Failed.{Failed}
 use Rattle.avtp_tool.specs.declared.status.Status.{Status}
 use Rattle.avtp_tool.specs.declared.status.Status.TheVariants as status
 use Rattle.avtp_tool.specs.Made.{CountsWriting}
-use Rattle.avtp_tool.specs.Reading.{ended_in, IsReadingStatus, is_of_reading, ReadsCapture}
+use Rattle.avtp_tool.specs.Reading.{IsOpen, IsReadingStatus, is_of_reading, ReadsCapture}
 use Rattle.avtp_tool.specs.Status.{status_of}
 use Rattle.avtp_base.specs.Files.{Files, Slots}
 use Rattle.avtp_base.specs.States.{ShelfState}
@@ -13,31 +13,70 @@ use Rattle.capture_io.specs.declared.end.End.{End}
 use Rattle.capture_io.specs.declared.end.End.TheVariants as end
 use Rattle.capture_io.specs.Ends.{CountsFault}
 use Rattle.capture_io.specs.Reads.{ClosesSlot, OnlyReads, OpensSlot, ReadsSlot}
-use Rattle.capture_io.proofs.Leaving.{closes_as, only_reads_closed, opens_then, reads_then}
+use Rattle.pcap_frames.specs.Capture.{Record}
+use Rattle.avtp_base.specs.Faults.{Rose}
+use Rattle.capture_io.specs.Source.{EndsAfter, GivesNext, HasGivenOf, Sourcing, slot_of, to_do}
+use Rattle.capture_io.proofs.Ending.{after_weaker}
+use Rattle.capture_io.proofs.Leaving.{only_reads_closed, opens_then, reads_nothing, reads_then}
 
-pub reads_on : {s t u : ShelfState} {k j i : ℕ} → ReadsSlot s t k j → ReadsSlot t u j i → ReadsSlot s u k i
-reads_on {s} {t} {u} {k} {j} {i} first second = reads_then s t u k j i first second
+-- the slot that was read is live under the number that it has now
+pub live_now : {s t : ShelfState} {k j : ℕ} → ReadsSlot s t k j → IsSome (t.slots j)
+live_now {t = t} reads = subst (λ (n : ℕ). IsSome (t.slots n)) (sym reads.slot) reads.live
+
+-- what holds of a failure
+pub on_err : {T : Type 0} (A : Result T Failed → Type 0) (result : Result T Failed) → IsErr result → ((e : Failed) → A (Err e)) → A result
+on_err A (Ok x) err holds = absurd cc
+on_err A (Err e) err holds = holds e
 
 -- a file was opened, read and closed
 pub read_through : {s t u v : ShelfState} {name : List ℕ} {k j : ℕ}
     → OpensSlot s t name k → ReadsSlot t u k j → ClosesSlot u v j → OnlyReads s v (name ∷ [])
-read_through {s} {t} {u} {v} {name} {k} {j} opens reads closes = only_reads_closed s u v name k (opens_then s t u name k j opens reads) (closes_as u v j k reads.slot closes)
+read_through {s} {t} {u} {v} {name} {k} {j} opens reads closes = only_reads_closed s u v name k (opens_then s t u name k j opens reads) (subst (ClosesSlot u v) reads.slot closes)
 
 -- the reading ended
 pub ended_so : (ended : Option End) (how : End) (before after : ℕ) → ended ≡ None → CountsFault ended (Some how) before after → CountsFault None (Some how) before after
 ended_so ended how before after none counts = subst (λ (e : Option End). CountsFault e (Some how) before after) none counts
 
--- it was read, and what is done with its records was cut short
-pub capture_cut : {s t : ShelfState} {k j : ℕ} (how : Option End) → how ≡ None → ReadsSlot s t k j → t.reading_faults ≡ s.reading_faults → ReadsCapture s t k j how
-capture_cut {s} {t} how none reads same = record { reads = reads; counted = subst (λ (h : Option End). CountsFault None h s.reading_faults t.reading_faults) (sym none) same }
-
-pub none_ended : {T E : Type 0} (end : T → End) (result : Result T E) → IsErr result → ended_in end result ≡ None
-none_ended end (Ok x) err = absurd cc
-none_ended end (Err e) err = refl
-
 -- a record more was read, so no fault was counted
 pub quiet_next : (ended result : Option End) (before after : ℕ) → ended ≡ None → result ≡ None → CountsFault ended result before after → after ≡ before
 quiet_next ended result before after none more counts = subst (λ (r : Option End). CountsFault None r before after) more (subst (λ (e : Option End). CountsFault e result before after) none counts)
+
+-- ---- an open capture between two of its records
+
+-- It was read on, its reading has not ended, and no fault was counted.
+pub record IsAmid (shelf shelf' : ShelfState) (old new : Sourcing) (frames : ℕ) : Type 0 where
+  pub going : new.ended ≡ None
+  pub bounded : frames + to_do new ≤ 2 ^ 41
+  pub reading : shelf'.reading_faults ≡ shelf.reading_faults
+  pub reads : ReadsSlot shelf shelf' (slot_of old) (slot_of new)
+
+pub amid_begun : (shelf : ShelfState) (source : Sourcing) → IsOpen shelf.slots source → IsAmid shelf shelf source source 0
+amid_begun shelf source ready = record { going = ready.0; bounded = omega (arith, ready.2); reading = refl; reads = reads_nothing shelf (slot_of source) ready.1 }
+
+module _ {s t u : ShelfState} {first old new : Sourcing} {frames : ℕ} where
+  -- one record more was read
+  pub amid_next : {result : Option End} → IsAmid s t first old frames → result ≡ None → GivesNext t u old new result → IsAmid s u first new (frames + 1)
+  amid_next {result} amid none next = record {
+    going = next.ended ∙ none;
+    bounded = omega (arith, next.less none, amid.bounded);
+    reading = quiet_next old.ended result t.reading_faults u.reading_faults amid.going none next.counted ∙ amid.reading;
+    reads = reads_then amid.reads next.reads;
+  }
+
+  -- the reading ended so
+  pub amid_over : (how : End) → IsAmid s t first old frames → GivesNext t u old new (Some how) → ReadsCapture s u (slot_of first) (slot_of new) (Some how)
+  amid_over how amid next = record {
+    reads = reads_then amid.reads next.reads;
+    counted = subst (λ (n : ℕ). CountsFault None (Some how) n u.reading_faults) amid.reading (ended_so old.ended how t.reading_faults u.reading_faults amid.going next.counted);
+  }
+
+  pub amid_ends : (how : End) (limit : ℕ) (bytes : List ℕ) (records : List Record) → IsAmid s t first old frames → GivesNext t u old new (Some how) → HasGivenOf limit bytes t old records → EndsAfter limit bytes (Rose s.reading_faults u.reading_faults) how records
+  amid_ends how limit bytes records amid next given =
+      after_weaker limit bytes (Rose t.reading_faults u.reading_faults) (Rose s.reading_faults u.reading_faults) how records (λ rose. subst (λ (n : ℕ). Rose n u.reading_faults) amid.reading rose) (next.ends limit bytes records given)
+
+-- what is done with its records was cut short
+pub amid_cut : {s t : ShelfState} {first old : Sourcing} {frames : ℕ} → IsAmid s t first old frames → ReadsCapture s t (slot_of first) (slot_of old) None
+amid_cut amid = record { reads = amid.reads; counted = amid.reading }
 
 pub some_same : {A : Type 0} (o : Option A) (x y : A) → o ≡ Some x → o ≡ Some y → x ≡ y
 some_same o x y first second = cc
@@ -56,10 +95,6 @@ pub own_as : (result : Result Status Failed) (ended : Status) → is_of_reading 
 own_as (Ok s) ended reads is = ap is_of_reading is ∙ reads
 own_as (Err e) ended reads is = tt
 
-pub own_err : (result : Result Status Failed) → IsErr result → IsReadingStatus result
-own_err (Ok s) err = absurd cc
-own_err (Err e) err = tt
-
 ends_reading : (how : End) → is_of_reading (status_of how) ≡ true
 ends_reading end.Whole = refl
 ends_reading (end.Refused refusal) = refl
@@ -74,7 +109,3 @@ own_ended result how is = own_as result (status_of how) (ends_reading how) is
 pub never_ends : (result : Result Status Failed) (other : Status) → is_of_reading other ≡ false → IsReadingStatus result → result ≡ Ok other → ⊥
 never_ends (Ok s) other differs own is = let same : s ≡ other = cc in let t : true ≡ false = sym own ∙ (ap is_of_reading same ∙ differs) in cc
 never_ends (Err e) other differs own is = absurd cc
-
-pub as_ended : (result : Result Status Failed) (how : End) → IfOk result (λ s. s ≡ status_of how) → IfOk result (λ s. (s ≡ status.Memory) ⊎ (s ≡ status_of how))
-as_ended (Ok s) how is = inr is
-as_ended (Err f) how is = tt

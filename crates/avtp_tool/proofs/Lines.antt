@@ -1,10 +1,13 @@
 -- What is printed of the records of a capture, one after the other.
-use Rattle.std.proofs.Common.{◌≡◌, ℕ, List, [], ◌∷◌, ◌++◌, Option, refl, sym, ap, ◌∙◌, append_assoc, append-nil}
+use Rattle.std.proofs.Common.{◌≡◌, ℕ, List, [], ◌∷◌, ◌++◌, take, Option, refl, sym, ap, subst, ◌∙◌, append_assoc, append-nil}
 use Rattle.avtp_base.specs.Told.{Appends, Keeps}
 use Rattle.avtp_base.proofs.Told.{Appends-kept}
 use Rattle.pcap_frames.specs.Capture.{Record}
 use Rattle.avtp_text.specs.Written.{AppendsPrefix}
-use Rattle.avtp_text.proofs.Printing.{prefix_whole}
+use Rattle.avtp_text.proofs.Printing.{prefix_before, prefix_whole}
+use Rattle.capture_io.specs.Formats.{records_in}
+use Rattle.capture_io.specs.Source.{HasGiven, Sourcing}
+use Rattle.capture_io.proofs.Giving.{given_first}
 use Rattle.avtp_tool.specs.Lines.{after, of_each}
 
 pub each_none : {A : Type 0} (one : List Record → Record → List A) → of_each one [] ≡ []
@@ -36,3 +39,11 @@ each_first one records others = after_first one [] records others
 -- a text was written whole, and nothing after it
 pub prefix_kept : (before mid now : Option (List ℕ)) (text : List ℕ) → Appends before mid text → Keeps mid now → AppendsPrefix before now text
 prefix_kept before mid now text appends keeps = prefix_whole before now text (Appends-kept before mid now text appends keeps)
+
+-- a text of the first records is a prefix of that of all
+pub some_first : {limit : ℕ} {bytes : List ℕ} {remains : Option (List ℕ)} {source : Sourcing} {before now : Option (List ℕ)} {records : List Record} (text : List Record → List ℕ)
+    → ((first others : List Record) → (rest : List ℕ) × (text (first ++ others) ≡ text first ++ rest)) → HasGiven limit bytes remains source records → AppendsPrefix before now (text records) → AppendsPrefix before now (text (records_in (take limit bytes)))
+some_first {limit} {bytes} {remains} {source} {before} {now} {records} text longer given prefix =
+    let first = given_first limit bytes remains source records given in
+    let after = longer records first.0 in
+    subst (AppendsPrefix before now) (sym (ap text first.1 ∙ after.1)) (prefix_before before now (text records) after.0 prefix)

@@ -43,7 +43,7 @@ pub sink_failed : {T U : Type 0} {h h' : SinkState} {e : Failed} {result : Resul
 sink_failed {result = Ok x} err first = absurd cc
 sink_failed {result = Err e'} err first = record { grows = first.grows; counted = record { never_falls = first.counted.never_falls; ok = tt; failed = first.counted.failed } }
 
-pub sink_err : {T U : Type 0} {h h' : SinkState} {e : Failed} → KeepsSink {T = T} h h' (Err e) → KeepsSink {T = U} h h' (Err e)
+pub sink_err : {T U : Type 0} {h h' : SinkState} {e e' : Failed} → KeepsSink {T = T} h h' (Err e) → KeepsSink {T = U} h h' (Err e')
 sink_err kept = record { grows = kept.grows; counted = record { never_falls = kept.counted.never_falls; ok = tt; failed = kept.counted.failed } }
 
 pub sink_printed : {h h' : SinkState} {w w' : List ℕ} {result : Result Unit Failed} {text : List ℕ} → Prints h h' w w' result text → KeepsSink h h' result
@@ -201,40 +201,41 @@ counts_unopened {result = result} fault before after files name counts missing e
       | inr no_memory ↦ counts_fault result before after files name counts.never_falls (cause_of fault before after files name no_memory counts missing) (ends.other no_memory).status
     ]
 
+-- a fault of reading is told by its status, and by it alone
+abbrev pub TellsFault : Status → ℕ → ℕ → Type 0
+TellsFault ended before after = ((ended ≢ status.ReadFault) × (after ≡ before)) ⊎ ((ended ≡ status.ReadFault) × Rose before after)
+
+pub counts_by : {before after : ℕ} {names : List (List ℕ)} {files : Option Files} (ended : Status) (result : Result Status Failed) → before ≤ after → TellsFault ended before after → IfOk result (λ s. s ≡ ended) → CountsReading names files before after result
+counts_by ended (Err e) falls told is = counts_failed e falls
+counts_by ended (Ok s) falls told is = elim told [
+  | inl other ↦ record { never_falls = falls; fault = λ e. absurd (other.0 (sym is ∙ ok_same (Ok s) s status.ReadFault refl e)); quiet = λ fault memory write. other.1 }
+  | inr fault ↦ record { never_falls = falls; fault = λ e. inl fault.1; quiet = λ other memory write. absurd (other (is ∙ fault.0)) }
+]
+
 -- the reading of a capture ended so, and the run with its status
-pub counts_ended : {before after : ℕ} {names : List (List ℕ)} {files : Option Files} (how : End) (result : Result Status Failed) → before ≤ after → CountsFault None (Some how) before after
-    → IfOk result (λ s. (s ≡ status.Memory) ⊎ (s ≡ status_of how)) → CountsReading names files before after result
-counts_ended how (Err e) falls counts is = counts_failed e falls
-counts_ended end.ReadFault (Ok s) falls counts is = record {
-  never_falls = falls;
-  fault = λ e. inl counts;
-  quiet = λ fault memory write. elim is [ inl m ↦ absurd (memory m) | inr f ↦ absurd (fault f) ];
-}
-counts_ended end.Whole (Ok s) falls counts is = record {
-  never_falls = falls;
-  quiet = λ fault memory write. counts;
-  fault = λ e. absurd (elim is [ inl m ↦ (let t : status.ReadFault ≡ status.Memory = sym (ok_same (Ok s) s status.ReadFault refl e) ∙ m in cc) | inr f ↦ (let t : status.ReadFault ≡ status.Done = sym (ok_same (Ok s) s status.ReadFault refl e) ∙ f in cc) ]);
-}
-counts_ended (end.Refused refusal) (Ok s) falls counts is = record {
-  never_falls = falls;
-  quiet = λ fault memory write. counts;
-  fault = λ e. absurd (elim is [ inl m ↦ (let t : status.ReadFault ≡ status.Memory = sym (ok_same (Ok s) s status.ReadFault refl e) ∙ m in cc) | inr f ↦ (let t : status.ReadFault ≡ status.Refused = sym (ok_same (Ok s) s status.ReadFault refl e) ∙ f in cc) ]);
-}
-counts_ended end.Limit (Ok s) falls counts is = record {
-  never_falls = falls;
-  quiet = λ fault memory write. counts;
-  fault = λ e. absurd (elim is [ inl m ↦ (let t : status.ReadFault ≡ status.Memory = sym (ok_same (Ok s) s status.ReadFault refl e) ∙ m in cc) | inr f ↦ (let t : status.ReadFault ≡ status.Limit = sym (ok_same (Ok s) s status.ReadFault refl e) ∙ f in cc) ]);
-}
+ends_fault : (how : End) (before after : ℕ) → CountsFault None (Some how) before after → TellsFault (status_of how) before after
+ends_fault end.Whole before after counts = inl (λ e. cc, counts)
+ends_fault (end.Refused refusal) before after counts = inl (λ e. cc, counts)
+ends_fault end.ReadFault before after counts = inr (refl, counts)
+ends_fault end.Limit before after counts = inl (λ e. cc, counts)
+
+pub counts_ended : {before after : ℕ} {names : List (List ℕ)} {files : Option Files} (how : End) (result : Result Status Failed) → before ≤ after → CountsFault None (Some how) before after → IfOk result (λ s. s ≡ status_of how) → CountsReading names files before after result
+counts_ended {before} {after} how result falls counts is = counts_by (status_of how) result falls (ends_fault how before after counts) is
+
+ends_other : (result : Result Status Failed) (ended other : Status) → ended ≢ other → IfOk result (λ s. s ≡ ended) → result ≡ Ok other → ⊥
+ends_other (Ok s) ended other differ is e = differ (sym is ∙ ok_same (Ok s) s other refl e)
+ends_other (Err x) ended other differ is e = absurd cc
+
+-- a run whose last line is of one status does not end with another
+pub ends_not : {h h' : SinkState} {w w' : List ℕ} {result : Result Status Failed} {ended : Status} {line : List ℕ} (other : Status) → ended ≢ other → EndsWith ended h h' w w' result line → result ≡ Ok other → ⊥
+ends_not {result = result} {ended} other differ ends e = ends_other result ended other differ ends.status e
 
 pub unopened_other : {h h' : SinkState} {w w' : List ℕ} {result : Result Status Failed} (fault : OpenFault) (other : Status) → status.Memory ≢ other → status.ReadFault ≢ other → EndsUnopened fault h h' w w' result → result ≡ Ok other → ⊥
 unopened_other {result = result} fault other no_memory no_fault ends e =
     elim (memory_or fault) [
       | inl is ↦ no_memory (ok_same result status.Memory other (ends.memory is).0 e)
-      | inr opened ↦ by_fault result (ends.other opened).status e
-    ] where
-      by_fault : (r : Result Status Failed) → IfOk r (λ s. s ≡ status.ReadFault) → r ≡ Ok other → ⊥
-      by_fault (Ok s) is e = no_fault (sym is ∙ ok_same (Ok s) s other refl e)
-      by_fault (Err x) is e = absurd cc
+      | inr opened ↦ ends_not other no_fault (ends.other opened) e
+    ]
 
 -- ---- runs in which not all was done
 
@@ -259,18 +260,8 @@ unopened_own {result = result} fault ends =
       | inr opened ↦ own_as result status.ReadFault refl (ends.other opened).status
     ]
 
-pub unopened_writes : {h h' : SinkState} {w w' : List ℕ} {result : Result Status Failed} (fault : OpenFault) → EndsUnopened fault h h' w w' result → result ≡ Ok status.WriteFault → ⊥
-unopened_writes fault ends e = unopened_other fault status.WriteFault (λ t. cc) (λ t. cc) ends e
-
-pub unopened_words : {h h' : SinkState} {w w' : List ℕ} {result : Result Status Failed} (fault : OpenFault) → EndsUnopened fault h h' w w' result → result ≡ Ok status.Words → ⊥
-unopened_words fault ends e = unopened_other fault status.Words (λ t. cc) (λ t. cc) ends e
-
 -- ---- failures, whatever was to be answered
 
 pub tells_err : {Y : Type 0} {Outcome : Status → Y → Type 0} {Whole Part : Y → Type 0} {result : Result Status Failed} {e : Failed} → IsErr result → Tells Outcome Whole Part (Err e) → Tells Outcome Whole Part result
 tells_err {result = Ok s} err tells = absurd cc
 tells_err {result = Err e'} err tells = record { ended = tells.ended; yields = tells.yields; outcome = tells.outcome; whole = tt; part = tells.part }
-
-pub counts_err : {before after : ℕ} {names : List (List ℕ)} {files : Option Files} (result : Result Status Failed) → IsErr result → before ≤ after → CountsReading names files before after result
-counts_err (Ok s) err falls = absurd cc
-counts_err (Err e) err falls = counts_failed e falls

@@ -22,7 +22,7 @@ use Rattle.avtp_tool.specs.Yield.{Gives, HandsNothing, says, Yield}
 use Rattle.avtp_tool.proofs.Yields.{gives_as, Joins, part_as, part_whole}
 use Rattle.avtp_tool.proofs.InOrder.{all_done, none_read, order_weaker, tells_done, tells_stopped}
 use Rattle.avtp_tool.proofs.OneFile.{file_here, file_weaker}
-use Rattle.avtp_tool.proofs.Outcomes.{counts_err, sink_failed, sink_ok, sink_then, tells_err}
+use Rattle.avtp_tool.proofs.Outcomes.{counts_failed, sink_failed, sink_ok, sink_then, tells_err}
 
 -- ---- names
 
@@ -234,7 +234,7 @@ other_ends status.TalkInput done findings is = absurd cc
 pub does_failed : {report : Report} {limit : ℕ} {name : List ℕ} {s t : ShelfState} {h h' : SinkState} {l l' : List ℕ} {e : Failed} {handed : List Shown → Type 0} (result : Result Status Failed) → IsErr result
     → DoesFile report handed limit name s t h h' l l' (Err e) → DoesFile report handed limit name s t h h' l l' result
 does_failed (Ok ended) err does = absurd cc
-does_failed (Err e') err does = record { tells = λ all told. tells_err err (does.tells all told); keeps = does.keeps; counts = counts_err (Err e') err does.keeps.reading; own = tt; sink = sink_failed err does.sink }
+does_failed (Err e') err does = record { tells = λ all told. tells_err err (does.tells all told); keeps = does.keeps; counts = counts_failed e' does.keeps.reading; own = tt; sink = sink_failed err does.sink }
 
 -- a file with which nothing is handed on
 pub does_deaf : {report : Report} {limit : ℕ} {name : List ℕ} {s t : ShelfState} {h h' : SinkState} {l l' : List ℕ} {result : Result Status Failed} {handed : List Shown → Type 0} → handed []

@@ -8,9 +8,7 @@ use Rattle.avtp_text.specs.Show.{frame_line}
 use Rattle.avtp_text.specs.Written.{AppendsPrefix}
 use Rattle.avtp_text.proofs.Printing.{prefix_before}
 use Rattle.capture_io.specs.Source.{HasGiven, Sourcing}
-use Rattle.capture_io.proofs.Giving.{given_first}
 use Rattle.avtp_tool.specs.Record.{record_content}
-use Rattle.std.specs.Prelude.{IsErr}
 use Rattle.capture_io.specs.Ends.{end_of}
 use Rattle.avtp_base.specs.declared.failed.Failed.{Failed}
 use Rattle.avtp_base.specs.States.{SinkState}
@@ -21,11 +19,11 @@ use Rattle.avtp_tool.specs.Outcome.{EndsWith}
 use Rattle.avtp_tool.specs.Reading.{file_yield}
 use Rattle.avtp_tool.specs.Yield.{GivesPart, HandsNothing, says}
 use Rattle.avtp_tool.proofs.Yields.{part_text}
-use Rattle.avtp_tool.specs.Show.{end_line, HasPrinted, PrintsRecords, show_line, show_report}
+use Rattle.avtp_tool.specs.Show.{end_line, HasPrinted, show_line, show_report}
 use Rattle.avtp_tool.specs.Lines.{of_each}
 use Rattle.avtp_tool.specs.Status.{status_of}
 use Rattle.avtp_tool.proofs.DoesFile.{IsReadAndTold}
-use Rattle.avtp_tool.proofs.Lines.{each_first, each_more, each_none}
+use Rattle.avtp_tool.proofs.Lines.{each_more, each_none}
 use Rattle.avtp_tool.proofs.Outcomes.{tells_end}
 
 -- The records that a source gave were printed and counted.
@@ -52,19 +50,6 @@ one_printed limit bytes remains source records r frames before mid now given cou
   counted = simp length-append (omega (arith, counted));
   lines = subst (Appends before now) (sym (line_of frames records r counted)) (Appends-trans before mid now _ _ lines line);
 }
-
--- nothing or a part of it was: so a prefix of all lines
-pub some_printed : (limit : ℕ) (bytes : List ℕ) (remains : Option (List ℕ)) (source : Sourcing) (records : List Record) (before now : Option (List ℕ))
-    → HasGiven limit bytes remains source records → AppendsPrefix before now (of_each show_line records) → AppendsPrefix before now (of_each show_line (records_in (take limit bytes)))
-some_printed limit bytes remains source records before now given prefix =
-    let first = given_first limit bytes remains source records given in
-    let after = each_first show_line records first.0 in
-    subst (AppendsPrefix before now) (sym (ap (of_each show_line) first.1 ∙ after.1)) (prefix_before before now (of_each show_line records) after.0 prefix)
-
-pub records_failed : (limit : ℕ) (bytes : List ℕ) (fault : Type 0) (before now : Option (List ℕ)) (result : Result Printed Failed) → IsErr result → AppendsPrefix before now (of_each show_line (records_in (take limit bytes)))
-    → PrintsRecords limit bytes fault before now result
-records_failed limit bytes fault before now (Ok p) err prefix = absurd cc
-records_failed limit bytes fault before now (Err e) err prefix = prefix
 
 -- ---- what `show` makes of a file
 

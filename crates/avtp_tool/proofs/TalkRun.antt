@@ -31,7 +31,7 @@ use Rattle.avtp_text.specs.Notices.{read_fault_line}
 use Rattle.avtp_tool.specs.Yield.{Gives, HandsNothing, says}
 use Rattle.avtp_tool.proofs.PlanRuns.{no_devices, through_as}
 use Rattle.avtp_tool.proofs.Yields.{part_text}
-use Rattle.avtp_tool.proofs.Outcomes.{counts_unopened, tells_unopened, text_telling, unopened_other, unopened_undone, unopened_words, unopened_writes}
+use Rattle.avtp_tool.proofs.Outcomes.{counts_unopened, tells_unopened, text_telling, unopened_other, unopened_undone}
 use Rattle.avtp_tool.proofs.Talked.{read_counted, talks_unopened, tells_caused}
 
 -- ---- the names to which it came
@@ -89,7 +89,7 @@ pub unopened_runs : {s t : ShelfState} {h h' : SinkState} {l l' : List ℕ} {res
 unopened_runs {s} {t} {h} {h'} {l} {l'} {result} asked why missing counts keeps ends =
     let plan = talk_plan asked in
     let not_done = unopened_other why status.Done (λ e. cc) (λ e. cc) ends in
-    let not_failed = unopened_writes why ends in
+    let not_failed = unopened_other why status.WriteFault (λ e. cc) (λ e. cc) ends in
     let not_device = unopened_other why status.DeviceFault (λ e. cc) (λ e. cc) ends in
     record {
       tells = λ all told some. talk_tells asked (all asked.input) (Rose s.reading_faults t.reading_faults) (came_unopened s t asked result keeps.asked (unopened_undone why result ends))
@@ -100,7 +100,7 @@ unopened_runs {s} {t} {h} {h'} {l} {l'} {result} asked why missing counts keeps 
       slots = slots_but t.files s.slots t.slots asked.output keeps.slots;
       counts = counts_unopened {T = Contents} why s.reading_faults t.reading_faults s.files asked.input (read_counted counts) missing ends;
       writing = record { never_falls = omega (arith, keeps.writing); failed = λ e. absurd (not_failed e); other = λ e. keeps.writing; unwritten = λ e. absurd cc };
-      no_words = unopened_words why ends;
+      no_words = unopened_other why status.Words (λ e. cc) (λ e. cc) ends;
       devices = no_devices refl not_device;
       asks = through_as not_device (record { count = 1; within = omega arith; all = λ d. absurd (unopened_undone why result ends d); asked = keeps.asked });
       sink = ends.sink;

@@ -25,7 +25,7 @@ use Rattle.avtp_tool.specs.Made.{unmade_as}
 use Rattle.avtp_tool.specs.Outcome.{EndsWith, IsDone, TellsText}
 use Rattle.avtp_tool.specs.Talk.{EndsRefused, FaultStops, line_by, status_by, TalkedOutcome, TalkOutcome}
 use Rattle.avtp_tool.proofs.Complete.{talks_by}
-use Rattle.avtp_tool.proofs.Outcomes.{IsCut, missing_none, ok_same, tells_cut, tells_line, tells_weaker, undone_as, undone_by, Unopened}
+use Rattle.avtp_tool.proofs.Outcomes.{IsCut, ends_not, missing_none, ok_same, tells_cut, tells_line, tells_weaker, undone_as, undone_by, Unopened}
 
 -- a file that could not be made cuts a run short
 pub unmade_cut : (why : OpenFault) → IsCut (Ok (unmade_as why))
@@ -70,14 +70,6 @@ tells_refused {h} {h'} {w} {w'} {result = result} plan bytes cause why fits only
         | inr memory ↦ absurd (other memory)
       ]
     ]
-
-ends_other : (result : Result Status Failed) (ended other : Status) → ended ≢ other → IfOk result (λ s. s ≡ ended) → result ≡ Ok other → ⊥
-ends_other (Ok s) ended other differ is e = differ (sym is ∙ ok_same (Ok s) s other refl e)
-ends_other (Err x) ended other differ is e = absurd cc
-
--- a run whose last line is of one status does not end with another
-pub ends_not : {h h' : SinkState} {w w' : List ℕ} {result : Result Status Failed} {ended : Status} {line : List ℕ} (other : Status) → ended ≢ other → EndsWith ended h h' w w' result line → result ≡ Ok other → ⊥
-ends_not {result = result} {ended} other differ ends e = ends_other result ended other differ ends.status e
 
 pub refused_not : {h h' : SinkState} {w w' : List ℕ} {result : Result Status Failed} (why : TalkFault) (other : Status) → status.Memory ≢ other → status.TalkInput ≢ other → EndsRefused why h h' w w' result → result ≡ Ok other → ⊥
 refused_not {result = result} why other no_memory no_input ends e =

@@ -1,5 +1,5 @@
 -- What `check` prints and how it ends. Its rules are this project's own.
-use Rattle.std.specs.Prelude.{◌≡◌, ◌==◌, ℕ, ◌+◌, Bool, false, if◌then◌else◌, List, [], ◌∷◌, ◌++◌, flat_map, length, map, take, Option, Some, None, MatchResult, IfOk, Result, Ok, Err}
+use Rattle.std.specs.Prelude.{◌≡◌, ◌==◌, ◌≤◌, ℕ, ◌+◌, Bool, false, if◌then◌else◌, List, [], ◌∷◌, ◌++◌, flat_map, length, map, take, Option, Some, None, MatchResult, IfOk, Result, Ok, Err}
 use Rattle.std.specs.Option.{option_map}
 use Rattle.avtp_base.specs.declared.failed.Failed.{Failed}
 use Rattle.avtp_base.specs.declared.refusal.Refusal.{Refusal}
@@ -15,6 +15,9 @@ use Rattle.avtp_packet.specs.StampPattern.{stamp_is_off}
 use Rattle.sequence_track.specs.declared.seen.Findings.{Findings}
 use Rattle.sequence_track.specs.declared.seen.Seen.{Seen}
 use Rattle.sequence_track.specs.Findings.{findings, tracked}
+use Rattle.sequence_track.specs.declared.stream.StreamKey.{StreamKey}
+use Rattle.sequence_track.specs.declared.stream.StreamState.{StreamState}
+use Rattle.sequence_track.specs.Tracking.{StandsFor}
 use Rattle.avtp_text.specs.Check.{end_check_line, finding_texts, malformed_line, packet_line}
 use Rattle.avtp_text.specs.Listen.{capture_line}
 use Rattle.avtp_text.specs.Notices.{capture_refused_line, limit_line, read_fault_line}
@@ -131,10 +134,18 @@ check_plan limit names = record { names = names; limit = limit; report = check_r
 
 -- ---- what is done
 
--- The lines of the findings in a record were printed, and counted; or where the sink failed, none of them.
+-- The lines of the findings in a record were printed, and counted, which are few; or where the sink failed, none of them.
 pub record PrintsFound (out out' : SinkState) (waits waits' : List ℕ) (result : Result ℕ Failed) (lines : List (List ℕ)) : Type 0 where
   pub written : MatchResult result (λ _. Appends (written out.held waits) (written out'.held waits') (joined_lines lines)) (λ _. Keeps (written out.held waits) (written out'.held waits'))
   pub counted : IfOk result (λ n. n ≡ length lines)
+  pub few : IfOk result (λ n. n ≤ 5)
+  pub sink : KeepsSink out out' result
+
+-- The packet of a record of this number was noted, and what is found in it was printed.
+pub record ChecksOne (tracker tracker' : List (StreamKey × StreamState)) (number : ℕ) (checked : Checked) (out out' : SinkState) (waits waits' : List ℕ) (result : Result ℕ Failed) : Type 0 where
+  pub stands : (notes : List Seen) → StandsFor tracker notes → StandsFor tracker' (notes ++ noted checked)
+  pub prints : (notes : List Seen) → StandsFor tracker notes → PrintsFound out out' waits waits' result (found_lines number notes checked)
+  pub few : IfOk result (λ n. n ≤ 5)
   pub sink : KeepsSink out out' result
 
 -- The records of a file of these bytes, as far as it could be read, were checked and counted, and its reading ended so.

@@ -1,5 +1,5 @@
 -- A capture that is heard item by item, and what was shown of it so far.
-use Rattle.std.specs.Prelude.{◌≡◌, ℕ, ◌+◌, ◌-◌, ◌≤◌, Bool, true, false, List, [], length, take, Option, None, Some, is_some, ⊤}
+use Rattle.std.specs.Prelude.{◌≡◌, ℕ, ◌+◌, ◌-◌, ◌^◌, ◌≤◌, Bool, true, false, List, [], ◌++◌, length, take, Option, None, Some, IsSome, is_some, ⊤}
 use mathlib.Core.List.{IsPrefix}
 use Rattle.avtp_base.specs.Faults.{Rose}
 use Rattle.avtp_base.specs.Files.{Files, Open, Slots, left_in}
@@ -70,6 +70,28 @@ abbrev pub has_stopped : Stage → Sourcing → Bool
 has_stopped Reading source = is_some source.ended
 has_stopped stage source = false
 
+-- the file is open, and the hearing has not ended
+abbrev pub IsGoing : Slots → Sourcing → Stage → Type 0
+IsGoing slots source stage = IsSome (slots (slot_of source)) × (pull_at stage ≡ None)
+
+-- the file is open, and its records are read
+abbrev pub IsAtReading : Slots → Sourcing → Stage → Type 0
+IsAtReading slots source stage = IsSome (slots (slot_of source)) × (stage ≡ Reading)
+
+-- The listener was closed where all is shown of a capture whose reading ended so, and not only what was due.
+pub record ClosesAt (how : End) (old new : ListenState) : Type 0 where
+  pub stands : (records : List Record) (given : ℕ) → StandsFor records given old → StandsFor records given new
+  pub plan : new.plan ≡ old.plan
+  pub frames : new.counts.frames ≡ old.counts.frames
+  pub closed : is_closed new ≡ is_all how
+
+-- a capture that was opened now, and a listener that was given no record
+pub record IsFresh (source : Sourcing) (listener : ListenState) : Type 0 where
+  pub going : source.ended ≡ None
+  pub unclosed : is_closed listener ≡ false
+  pub stands : StandsFor [] 0 listener
+  pub bounded : listener.counts.frames + to_do source ≤ 2 ^ 41
+
 -- ---- how much is left
 
 -- how much is still to be read: it falls with each record
@@ -94,6 +116,14 @@ pub record WasGiven (listener : ListenState) : Type 0 where
 -- the same, though not which: it is not so that there are none
 abbrev pub IsStable : ListenState → Type 0
 IsStable listener = (WasGiven listener → ⊥) → ⊥
+
+-- What holds of every hearing at this stage: as many records as may still come can be counted, the reading of the file ends
+-- with the stage, and the listener is closed where all is shown.
+pub record IsSoundAt (stage : Stage) (source : Sourcing) (listener : ListenState) : Type 0 where
+  pub bounded : listener.counts.frames + unread stage source ≤ 2 ^ 41
+  pub going : has_stopped stage source ≡ false
+  pub closed : is_closed listener ≡ closed_at stage
+  pub stable : IsStable listener
 
 -- ---- what was shown
 
@@ -120,3 +150,10 @@ pub record Shows (shelf shelf' : ShelfState)
   pub plan : listener.plan ≡ old_listener.plan
   pub shown : (limit : ℕ) (bytes : List ℕ) → HasGiven limit bytes (left_in shelf.slots (slot_of old_source)) old_source [] → StandsFor [] 0 old_listener → is_closed old_listener ≡ false
       → IsShown stage limit bytes (Rose shelf.reading_faults shelf'.reading_faults) (left_in shelf'.slots (slot_of source)) source listener items
+
+-- The hearing went on: whatever was shown since the capture was opened, these items more were, and fewer can still be shown.
+pub record GoesOn (shelf shelf' : ShelfState) (old_source source : Sourcing) (old_listener listener : ListenState) (old_stage stage : Stage) (items : List Shown) : Type 0 where
+  pub shows : (begun : ShelfState) (first : Sourcing) (fresh : ListenState) (earlier : List Shown)
+      → Shows begun shelf first old_source fresh old_listener old_stage earlier → Shows begun shelf' first source fresh listener stage (earlier ++ items)
+  pub live : IsSome (shelf'.slots (slot_of source))
+  pub left : left_of stage source listener + length items ≤ left_of old_stage old_source old_listener

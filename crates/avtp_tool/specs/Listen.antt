@@ -1,7 +1,8 @@
 -- What `listen` prints and how it ends.
-use Rattle.std.specs.Prelude.{◌≡◌, ℕ, ℤ, List, [], ◌++◌, Option, None, Some, IsSome, OnOk, Result, Ok, Err}
+use Rattle.std.specs.Prelude.{◌≡◌, ℕ, ℤ, List, [], ◌++◌, Option, None, Some, IfOk, IsSome, OnOk, Result, Ok, Err}
 use Rattle.avtp_base.specs.declared.failed.Failed.{Failed}
 use Rattle.avtp_base.specs.declared.refusal.Refusal.{Refusal}
+use Rattle.avtp_base.specs.Faults.{Rose}
 use Rattle.avtp_base.specs.Files.{Files, Slots}
 use Rattle.avtp_base.specs.States.{ShelfState, SinkState}
 use Rattle.avtp_base.specs.Told.{Appends}
@@ -17,14 +18,18 @@ use Rattle.listener.specs.Listening.{ListenState}
 use Rattle.avtp_words.specs.Grammar.{Listening}
 use Rattle.avtp_text.specs.Listen.{capture_line, list_lines, end_listen_line}
 use Rattle.avtp_text.specs.Notices.{capture_refused_line, read_fault_line, limit_line}
+use Rattle.avtp_text.specs.Written.{written}
 use Rattle.capture_io.specs.declared.end.End.{End}
 use Rattle.capture_io.specs.declared.end.End.TheVariants as end
-use Rattle.capture_io.specs.Source.{EndsAfter, Sourcing}
+use Rattle.capture_io.specs.Ends.{CountsFault}
+use Rattle.capture_io.specs.Reads.{ReadsSlot}
+use Rattle.capture_io.specs.Source.{EndsAfter, HasGivenOf, Sourcing, slot_of}
 use Rattle.avtp_tool.specs.declared.hearing.Heard.{Heard}
 use Rattle.avtp_tool.specs.declared.hearing.Heard.TheVariants.{Ended, NoMemory}
 use Rattle.avtp_tool.specs.declared.hearing.Stage.{Stage}
 use Rattle.avtp_tool.specs.Hearing.{Shows, pull_at}
 use Rattle.avtp_tool.specs.declared.status.Status.{Status}
+use Rattle.avtp_tool.specs.Outcome.{KeepsSink}
 use Rattle.avtp_tool.specs.Presenting.{GivesItems}
 use Rattle.avtp_tool.specs.Reading.{file_yield, in_order_status, one_status, ReadPlan, Report}
 use Rattle.avtp_tool.specs.Status.{status_of}
@@ -126,3 +131,12 @@ pub record HearsItems (handed : List Shown → Type 0) (shelf shelf' : ShelfStat
   pub shows : Shows shelf shelf' old_source source old_listener listener stage items
   pub gives : GivesItems handed out out' waits waits' result items
   pub over : OnOk result (IsSome (pull_at stage))
+
+-- The records of an open capture were heard by this listener, and told of. The count of reading faults rose where a fault ended
+-- the reading, and the sink keeps what it held.
+pub record HearsCapture (handed : List Shown → Type 0) (name : List ℕ) (listener : ListenState) (shelf shelf' : ShelfState) (old new : Sourcing) (out out' : SinkState) (waits waits' : List ℕ) (result : Result Heard Failed) : Type 0 where
+  pub heard : (asked : Listening) (bytes : List ℕ) → listener.plan ≡ plan_of asked → HasGivenOf asked.limit bytes shelf old []
+      → HearsRecords asked handed name bytes (Rose shelf.reading_faults shelf'.reading_faults) (written out.held waits) (written out'.held waits') result
+  pub reads : ReadsSlot shelf shelf' (slot_of old) (slot_of new)
+  pub counted : IfOk result (λ h. CountsFault None (heard_end h) shelf.reading_faults shelf'.reading_faults)
+  pub sink : KeepsSink out out' result

@@ -6,7 +6,7 @@ use Rattle.avtp_base.specs.declared.failed.Failed.{Failed}
 use Rattle.avtp_base.specs.Faults.{IsOpenCounted, Rose}
 use Rattle.avtp_base.specs.Files.{Files, Slots, KeepsFiles, KeepsSlots, PutsFile}
 use Rattle.avtp_base.specs.States.{ShelfState}
-use Rattle.capture_io.specs.Writing.{IsWriting, KeepsSlotsBut, MakesPrefix, Writing}
+use Rattle.capture_io.specs.Writing.{IsWriting, KeepsSlotsBut, MakesPrefix, WritesSlot, Writing}
 use Rattle.avtp_tool.specs.Outcome.{AsksFor}
 use Rattle.avtp_tool.specs.declared.status.Status.{Status}
 use Rattle.avtp_tool.specs.declared.status.Status.TheVariants as status
@@ -60,6 +60,11 @@ pub record IsWritingPart (shelf shelf' : ShelfState) (writer : Writing) (name by
   pub split : bytes ≡ prefix ++ rest
   pub whole : OnOk result (rest ≡ [])
   pub writing : IsWriting shelf shelf' writer name prefix
+
+-- These bytes were written through a writer that had been given none, or where the shelf failed a prefix of them.
+pub record WritesPart (before after : ShelfState) (old new : Writing) (bytes : List ℕ) (result : Result Unit Failed) : Type 0 where
+  pub written : (begun : ShelfState) (name : List ℕ) → IsWriting begun before old name [] → IsWritingPart begun after new name bytes result
+  pub writes : WritesSlot before after old new result
 
 -- the status of a run whose file could not be made
 abbrev pub unmade_as : OpenFault → Status

@@ -1,12 +1,14 @@
 -- What the two sides of a ring did until all was presented, or the presenter failed.
-use Rattle.std.specs.Prelude.{◌≡◌, ℕ, ◌<◌, ◌++◌, length, List, Option, Some, None, IsSome, Result, Ok, Err, OnOk, OnErr}
+use Rattle.std.specs.Prelude.{◌≡◌, ℕ, ◌+◌, ◌^◌, ◌≤◌, ◌<◌, ◌++◌, length, List, [], Option, Some, None, IsSome, Result, Ok, Err, OnOk, OnErr}
 use mathlib.Core.List.{IsPrefix}
 use Rattle.avtp_base.specs.declared.failed.Failed.{Failed}
 use Rattle.avtp_base.specs.Faults.{Rose}
 use Rattle.avtp_text.specs.Listen.{list_lines}
 use Rattle.avtp_text.specs.Written.{PrintsPart}
 use Rattle.sample_schedule.specs.declared.shown.Shown.{Shown}
+use Rattle.presenter_ring.specs.declared.pipe.Pipe.{Pipe}
 use Rattle.presenter_ring.specs.declared.receiver.Pull.{Pull}
+use Rattle.presenter_ring.specs.Pipes.{ended_with, given_to, waiting_in}
 use Rattle.avtp_base.specs.States.{SinkState}
 
 -- the count of failures of a presenter that goes no further after the first
@@ -23,6 +25,13 @@ pub record GivesItems (handed : List Shown → Type 0) (out out' : SinkState) (w
   pub all : OnOk result (front ≡ items)
   pub fewer : OnErr result (length front < length items)
   pub hands : handed front
+
+-- Nothing waits in a pipe, neither it nor its receiver has ended, and all that the receiver has left can be counted.
+pub record CanPass (pipe : Pipe) (ended : Option Pull) (left : ℕ) : Type 0 where
+  pub empty : waiting_in pipe ≡ []
+  pub begun : ended_with pipe ≡ None
+  pub live : ended ≡ None
+  pub room : given_to pipe + left ≤ 2 ^ 62
 
 -- The receiver gave these items, and the presenter was handed them in this order: all that were given up to its end, or where
 -- it failed the first of them. The meanings are those of the two sides.

@@ -11,7 +11,7 @@ use Rattle.avtp_text.specs.Written.{written}
 use Rattle.capture_io.specs.declared.end.End.{End}
 use Rattle.capture_io.specs.Ends.{CountsFault, EndsAt, end_of}
 use Rattle.capture_io.specs.Reads.{OnlyReads, ReadsSlot}
-use Rattle.capture_io.specs.Source.{Sourcing, slot_of, to_do}
+use Rattle.capture_io.specs.Source.{HasGivenOf, Sourcing, slot_of, to_do}
 use Rattle.avtp_tool.specs.declared.status.Status.{Status}
 use Rattle.avtp_tool.specs.declared.status.Status.TheVariants as status
 use Rattle.avtp_tool.specs.Yield.{says, with_more, Yield}
@@ -34,6 +34,14 @@ ended_in end (Err e) = None
 pub record ReadsCapture (shelf shelf' : ShelfState) (k now : ℕ) (how : Option End) : Type 0 where
   pub reads : ReadsSlot shelf shelf' k now
   pub counted : CountsFault None how shelf.reading_faults shelf'.reading_faults
+
+-- Its records were read, as far as could be, and told of. What they are told as is `Told`: it is said of how many bytes may be
+-- read, the bytes of the file, what a fault of reading needs, the text that was known before and now, and the result.
+pub record ReadsRecords {T : Type 0} (Told : ℕ → List ℕ → Type 0 → Option (List ℕ) → Option (List ℕ) → Result T Failed → Type 0) (ending : T → End)
+    (shelf shelf' : ShelfState) (old new : Sourcing) (out out' : SinkState) (waits waits' : List ℕ) (result : Result T Failed) : Type 0 where
+  pub told : (limit : ℕ) (bytes : List ℕ) → HasGivenOf limit bytes shelf old [] → Told limit bytes (Rose shelf.reading_faults shelf'.reading_faults) (written out.held waits) (written out'.held waits') result
+  pub reads : ReadsCapture shelf shelf' (slot_of old) (slot_of new) (ended_in ending result)
+  pub sink : KeepsSink out out' result
 
 -- ---- one file
 

@@ -1,16 +1,12 @@
 //! The command `check`: what breaks the rules of a stream.
 
-ghost use Rattle.std.specs.Prelude.{◌≡◌, ◌==◌, ◌*◌, ◌+◌, ◌++◌, ◌^◌, ◌≤◌, ℕ, List, None, [], IsSome, IfOk, map};
-ghost use Rattle.avtp_base.specs.Faults.{Rose};
-ghost use Rattle.avtp_base.specs.Files.{left_in};
-ghost use Rattle.sequence_track.specs.declared.seen.Seen.{Seen as SeenValue};
+ghost use Rattle.std.specs.Prelude.{◌≡◌, ◌^◌, ◌≤◌, [], map};
 ghost use Rattle.sequence_track.specs.Tracking.{StandsFor};
 ghost use Rattle.avtp_text.specs.Check.{finding_texts, packet_line};
-ghost use Rattle.avtp_text.specs.Written.{written, Prints};
-ghost use Rattle.capture_io.specs.Source.{HasGiven, slot_of};
-ghost use Rattle.avtp_tool.specs.Check.{check_report, check_status, ChecksRecords, found_lines, noted, PrintsFound, total_line, unmarked_findings};
-ghost use Rattle.avtp_tool.specs.Outcome.{EndsWith, KeepsSink};
-ghost use Rattle.avtp_tool.specs.Reading.{DoesFile, ended_in, IsOpen, ReadsCapture};
+ghost use Rattle.avtp_text.specs.Written.{Prints};
+ghost use Rattle.avtp_tool.specs.Check.{check_report, check_status, ChecksOne, ChecksRecords, PrintsFound, total_line, unmarked_findings};
+ghost use Rattle.avtp_tool.specs.Outcome.{EndsWith};
+ghost use Rattle.avtp_tool.specs.Reading.{DoesFile, IsOpen, ReadsRecords};
 ghost use Rattle.avtp_tool.specs.Yield.{HandsNothing};
 
 use crate::checked::{Checked, checked_record, count};
@@ -70,10 +66,7 @@ fn check_records<F: Shelf, S: Sink>(
 ) -> Result<Total, Failed>
     requires open { IsOpen (F.state shelf.old).slots source.old }
     requires stands { StandsFor tracker [] }
-    ensures checked { (limit : ℕ) (bytes : List ℕ) → HasGiven limit bytes (left_in (F.state shelf.old).slots (slot_of source.old)) source.old [] →
-        ChecksRecords limit file.now bytes (Rose (F.state shelf.old).reading_faults (F.state shelf.new).reading_faults) (written (S.state out.old).held text.old) (written (S.state out.new).held text.new) result }
-    ensures reads { ReadsCapture (F.state shelf.old) (F.state shelf.new) (slot_of source.old) (slot_of source.new) (ended_in (λ t. t.end) result) }
-    ensures sink { KeepsSink (S.state out.old) (S.state out.new) result }
+    ensures { ReadsRecords (λ limit. ChecksRecords limit file.now) (λ t. t.end) (F.state shelf.old) (F.state shelf.new) source.old source.new (S.state out.old) (S.state out.new) text.old text.new result }
 {
     text.capture(out, file)?;
     let mut frames = 0;
@@ -101,11 +94,7 @@ fn print_checked<S: Sink>(
     number: u64,
     checked: Checked,
 ) -> Result<u64, Failed>
-    ensures stands { (notes : List SeenValue) → StandsFor tracker.old notes → StandsFor tracker.new (notes ++ noted checked) }
-    ensures prints { (notes : List SeenValue) → StandsFor tracker.old notes →
-        PrintsFound (S.state out.old) (S.state out.new) text.old text.new result (found_lines number notes checked) }
-    ensures few { IfOk result (λ n. n ≤ 5) }
-    ensures sink { KeepsSink (S.state out.old) (S.state out.new) result }
+    ensures { ChecksOne tracker.old tracker.new number checked (S.state out.old) (S.state out.new) text.old text.new result }
 {
     match checked {
         Checked::Passed => Ok(0),
@@ -144,8 +133,7 @@ fn print_findings<S: Sink>(
     id: u64,
     findings: &Findings,
 ) -> Result<u64, Failed>
-    ensures prints { PrintsFound (S.state out.old) (S.state out.new) text.old text.new result (map (packet_line number id) (finding_texts findings.now)) }
-    ensures few { IfOk result (λ n. n ≤ 5) }
+    ensures { PrintsFound (S.state out.old) (S.state out.new) text.old text.new result (map (packet_line number id) (finding_texts findings.now)) }
 {
     text.findings(out, number, id, findings)?;
     Ok(count(findings))

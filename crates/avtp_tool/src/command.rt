@@ -1,6 +1,6 @@
 //! The command `avtp`, over the outside that it is given.
 
-ghost use Rattle.std.specs.Prelude.{◌≡◌, ◌≢◌, ◌≤◌, ◌⊎◌, ◌++◌, ◌∷◌, ℕ, ℤ, List, Ok, Some, None, true, false, nat_lt, IsSome, length, IfOk};
+ghost use Rattle.std.specs.Prelude.{◌≡◌, ◌≢◌, ◌≤◌, ◌⊎◌, ◌++◌, ◌∷◌, ℕ, ℤ, List, Ok, Some, None, true, false, nat_lt, IsSome, length};
 ghost use Rattle.avtp_base.specs.Faults.{IsQuiet, Rose};
 ghost use Rattle.avtp_base.specs.Files.{Files, KeepsFiles, PutsFile};
 ghost use Rattle.avtp_base.specs.States.{Asks};
@@ -11,7 +11,7 @@ ghost use Rattle.listener.specs.Laws.{HearsTalker};
 ghost use Rattle.packet_journal.specs.Packets.{PacketJournal};
 ghost use Rattle.talker.specs.Frames.{capture};
 ghost use Rattle.avtp_text.specs.Notices.{read_fault_line, words_line};
-ghost use Rattle.avtp_text.specs.Written.{written, AppendsPrefix, Grows};
+ghost use Rattle.avtp_text.specs.Written.{AppendsPrefix, Grows};
 ghost use Rattle.avtp_words.specs.Grammar.{files_of, IsCommandLine, IsOffence, listen as listen_request, Listening, output_of, Request, talk as talk_request, Talking};
 ghost use Rattle.avtp_words.specs.Word.{texts};
 ghost use Rattle.avtp_tool.specs.Listen.{HasHeadline, listen_status, plan_of};

@@ -1,7 +1,6 @@
 //! Files that are read one after the other.
 
 ghost use Rattle.std.specs.Prelude.{◌≡◌, false, nat_lt};
-ghost use Rattle.avtp_text.specs.Written.{written};
 ghost use Rattle.avtp_tool.specs.Yield.{HandsOn};
 ghost use Rattle.avtp_words.specs.Grammar.{listen as listen_request, listening_of};
 ghost use Rattle.avtp_words.specs.Word.{texts};

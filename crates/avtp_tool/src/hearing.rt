@@ -1,13 +1,11 @@
 //! A capture that is heard: what is shown of it comes item by item, as its records are read.
 
-ghost use Rattle.std.specs.Prelude.{◌≡◌, ◌+◌, ◌≤◌, ◌<◌, ◌++◌, ◌^◌, ℕ, List, [], IsSome, MatchResult, None, Some, false, length};
-ghost use Rattle.sample_schedule.specs.declared.shown.Shown.{Shown as ShownValue};
+ghost use Rattle.std.specs.Prelude.{◌≡◌, ◌<◌, [], IsSome, MatchResult, None, Some, false};
 ghost use Rattle.capture_io.specs.Reads.{ClosesSlot};
-ghost use Rattle.capture_io.specs.Source.{Sourcing, slot_of, to_do};
-ghost use Rattle.listener.specs.Listening.{IsIdle, ListenState, StandsFor, is_closed};
+ghost use Rattle.capture_io.specs.Source.{slot_of};
+ghost use Rattle.listener.specs.Listening.{IsIdle, is_closed};
 ghost use Rattle.presenter_ring.specs.Pulls.{items_of, ending_of};
-ghost use Rattle.avtp_tool.specs.Hearing.{IsStable, Shows, closed_at, has_stopped, heard_at, is_all, left_of, pull_at, pull_with, reads_left, unread};
-ghost use Rattle.pcap_frames.specs.Capture.{Record};
+ghost use Rattle.avtp_tool.specs.Hearing.{ClosesAt, GoesOn, IsFresh, IsGoing, IsAtReading, IsSoundAt, heard_at, pull_at, pull_with, reads_left};
 
 use avtp_base::{NoMemory, Shelf};
 use capture_io::{End, ReadSlots, Source};
@@ -51,12 +49,8 @@ fn pull_of(end: End) -> Pull
 
 /// Closes the listener where all is shown of a capture whose reading ended so, and not only what was due.
 fn close_at(listener: &mut RecordListener, end: End)
-    requires open { is_closed listener.old ≡ false }
-    requires idle { IsIdle listener.old }
-    ensures stands { (records : List Record) (given : ℕ) → StandsFor records given listener.old → StandsFor records given listener.new }
-    ensures plan { listener.new.plan ≡ listener.old.plan }
-    ensures frames { listener.new.counts.frames ≡ listener.old.counts.frames }
-    ensures closed { is_closed listener.new ≡ is_all end }
+    requires { (is_closed listener.old ≡ false) × IsIdle listener.old }
+    ensures { ClosesAt end listener.old listener.new }
 {
     match end {
         End::Whole | End::Refused(_) => listener.close(),
@@ -71,22 +65,14 @@ pub struct Hearing {
     pub listener: RecordListener,
     pub alloc: Global,
     pub stage: Stage,
-    ghost bounded: { listener.counts.frames + unread stage source ≤ 2 ^ 41 },
-    ghost going: { has_stopped stage source ≡ false },
-    ghost closed: { is_closed listener ≡ closed_at stage },
-    ghost sound: { IsStable listener },
+    ghost sound: { IsSoundAt stage source listener },
 }
 
 impl Hearing {
     /// The hearing of a capture that was opened now, by a listener that was given no record.
     pub fn begin(source: Source, listener: RecordListener, alloc: Global) -> Self
-        requires going { source.ended ≡ None }
-        requires open { is_closed listener ≡ false }
-        requires stands { StandsFor [] 0 listener }
-        requires bounded { listener.counts.frames + to_do source ≤ 2 ^ 41 }
-        ensures source { result.source ≡ source }
-        ensures listener { result.listener ≡ listener }
-        ensures stage { result.stage ≡ Stage.Reading }
+        requires { IsFresh source listener }
+        ensures { (result.source ≡ source) × (result.listener ≡ listener) × (result.stage ≡ Stage.Reading) }
     {
         Hearing {
             source,
@@ -112,13 +98,8 @@ impl Hearing {
 
     /// The next item that is shown, or where there is none how the hearing ended.
     pub fn next<F: ReadSlots>(&mut self, shelf: &mut F) -> Pull
-        requires live { IsSome ((F.state shelf.old).slots (slot_of self.old.source)) }
-        requires going { pull_at self.old.stage ≡ None }
-        ensures shows { (begun : F) (source : Sourcing) (listener : ListenState) (items : List ShownValue) →
-            Shows (F.state begun) (F.state shelf.old) source self.old.source listener self.old.listener self.old.stage items →
-            Shows (F.state begun) (F.state shelf.new) source self.new.source listener self.new.listener self.new.stage (items ++ items_of result) }
-        ensures live { IsSome ((F.state shelf.new).slots (slot_of self.new.source)) }
-        ensures left { left_of self.new.stage self.new.source self.new.listener + length (items_of result) ≤ left_of self.old.stage self.old.source self.old.listener }
+        requires { IsGoing (F.state shelf.old).slots self.old.source self.old.stage }
+        ensures on { GoesOn (F.state shelf.old) (F.state shelf.new) self.old.source self.new.source self.old.listener self.new.listener self.old.stage self.new.stage (items_of result) }
         ensures ended { pull_at self.new.stage ≡ ending_of result }
     {
         loop {
@@ -141,15 +122,10 @@ impl Hearing {
 
     /// Reads the next record and has the listener take it, or ends the reading. Nothing is due of the records before.
     fn read_record<F: ReadSlots>(&mut self, shelf: &mut F) -> Result<(), NoMemory>
-        requires live { IsSome ((F.state shelf.old).slots (slot_of self.old.source)) }
-        requires reading { self.old.stage ≡ Stage.Reading }
+        requires reading { IsAtReading (F.state shelf.old).slots self.old.source self.old.stage }
         requires idle { IsIdle self.old.listener }
-        ensures shows { (begun : F) (source : Sourcing) (listener : ListenState) (items : List ShownValue) →
-            Shows (F.state begun) (F.state shelf.old) source self.old.source listener self.old.listener self.old.stage items →
-            Shows (F.state begun) (F.state shelf.new) source self.new.source listener self.new.listener self.new.stage items }
-        ensures live { IsSome ((F.state shelf.new).slots (slot_of self.new.source)) }
-        ensures left { left_of self.new.stage self.new.source self.new.listener ≤ left_of self.old.stage self.old.source self.old.listener }
-        ensures on { MatchResult result (λ _. (pull_at self.new.stage ≡ None) × (reads_left self.new.stage self.new.source < reads_left self.old.stage self.old.source)) (λ _. self.new.stage ≡ Stage.NoMemory) }
+        ensures on { GoesOn (F.state shelf.old) (F.state shelf.new) self.old.source self.new.source self.old.listener self.new.listener self.old.stage self.new.stage [] }
+        ensures stage { MatchResult result (λ _. (pull_at self.new.stage ≡ None) × (reads_left self.new.stage self.new.source < reads_left self.old.stage self.old.source)) (λ _. self.new.stage ≡ Stage.NoMemory) }
     {
         match self.source.next(shelf) {
             None => {

@@ -1,24 +1,20 @@
 //! The command `listen`: when each sample of a stream is due.
 
-ghost use Rattle.std.specs.Prelude.{◌≡◌, ◌≤◌, ℕ, List, [], Ok, IfOk, IsSome, None};
-ghost use Rattle.avtp_base.specs.Faults.{Rose};
-ghost use Rattle.avtp_base.specs.Files.{left_in};
-ghost use Rattle.avtp_words.specs.Grammar.{Listening, listening_of};
-ghost use Rattle.avtp_text.specs.Written.{written, Prints};
-ghost use Rattle.capture_io.specs.Ends.{CountsFault};
-ghost use Rattle.capture_io.specs.Reads.{ReadsSlot};
-ghost use Rattle.capture_io.specs.Source.{HasGiven, slot_of};
+ghost use Rattle.std.specs.Prelude.{◌≡◌, ◌≤◌, [], Ok, None};
+ghost use Rattle.avtp_words.specs.Grammar.{listening_of};
+ghost use Rattle.avtp_text.specs.Written.{Prints};
 ghost use Rattle.avtp_tool.specs.Yield.{HandsOn};
 ghost use Rattle.listener.specs.Listening.{StandsFor};
 ghost use Rattle.presenter_ring.specs.Pipes.{ended_with, given_to, waiting_in};
-ghost use Rattle.avtp_tool.specs.Listen.{HearsItems, HearsRecords, heard_end, last_line, listen_report, plan_of};
-ghost use Rattle.avtp_tool.specs.Outcome.{EndsWith, KeepsSink};
+ghost use Rattle.avtp_tool.specs.Hearing.{IsAtReading};
+ghost use Rattle.avtp_tool.specs.Listen.{HearsCapture, HearsItems, last_line, listen_report, plan_of};
+ghost use Rattle.avtp_tool.specs.Outcome.{EndsWith};
 ghost use Rattle.avtp_tool.specs.Reading.{DoesFile};
 ghost use Rattle.avtp_tool.specs.Run.{IsListening};
 ghost use Rattle.avtp_tool.specs.Status.{status_of};
 
 use crate::command::print_unopened;
-use crate::hearing::{Heard, Hearing, Stage};
+use crate::hearing::{Heard, Hearing};
 use crate::presenting::Presenting;
 use crate::receiving::Receiving;
 use crate::rounds::present_all;
@@ -108,13 +104,9 @@ fn hear_records<T: Threads + Sync, F: Shelf, S: Sink, G: Gate, D: Devices + Send
     rack: &mut D,
 ) -> Result<Heard, Failed>
     requires ring { (1 ≤ ring) × (ring ≤ 256) }
-    requires live { IsSome ((F.state shelf.old).slots (slot_of hearing.old.source)) }
-    requires begun { (hearing.old.stage ≡ Stage.Reading) × StandsFor [] 0 hearing.old.listener }
-    ensures heard { (asked : Listening) (bytes : List ℕ) → hearing.old.listener.plan ≡ plan_of asked → HasGiven asked.limit bytes (left_in (F.state shelf.old).slots (slot_of hearing.old.source)) hearing.old.source [] →
-        HearsRecords asked (HandsOn D.handed rack.old rack.new) file.now bytes (Rose (F.state shelf.old).reading_faults (F.state shelf.new).reading_faults) (written (S.state out.old).held text.old) (written (S.state out.new).held text.new) result }
-    ensures reads { ReadsSlot (F.state shelf.old) (F.state shelf.new) (slot_of hearing.old.source) (slot_of hearing.new.source) }
-    ensures counted { IfOk result (λ heard. CountsFault None (heard_end heard) (F.state shelf.old).reading_faults (F.state shelf.new).reading_faults) }
-    ensures sink { KeepsSink (S.state out.old) (S.state out.new) result }
+    requires reading { IsAtReading (F.state shelf.old).slots hearing.old.source hearing.old.stage }
+    requires stands { StandsFor [] 0 hearing.old.listener }
+    ensures { HearsCapture (HandsOn D.handed rack.old rack.new) file.now hearing.old.listener (F.state shelf.old) (F.state shelf.new) hearing.old.source hearing.new.source (S.state out.old) (S.state out.new) text.old text.new result }
 {
     let Ok(mut pipe) = Pipe::begin(alloc, ring) else {
         return Ok(Heard::NoMemory);
@@ -136,8 +128,7 @@ fn hear_items<T: Threads + Sync, F: Shelf, S: Sink, G: Gate, D: Devices + Send>(
     rack: &mut D,
 ) -> Result<(), Failed>
     requires pipe { (waiting_in pipe.old ≡ []) × (ended_with pipe.old ≡ None) × (given_to pipe.old ≡ 0) }
-    requires live { IsSome ((F.state shelf.old).slots (slot_of hearing.old.source)) }
-    requires begun { hearing.old.stage ≡ Stage.Reading }
+    requires reading { IsAtReading (F.state shelf.old).slots hearing.old.source hearing.old.stage }
     ensures { HearsItems (HandsOn D.handed rack.old rack.new) (F.state shelf.old) (F.state shelf.new) hearing.old.source hearing.new.source hearing.old.listener hearing.new.listener hearing.new.stage (S.state out.old) (S.state out.new) text.old text.new result }
 {
     let mut receiver = Receiving { hearing, shelf };
@@ -160,10 +151,9 @@ fn hear_through<T: Threads + Sync, F: Shelf, S: Sink, G: Gate, D: Devices + Send
     gate: &G,
 ) -> Result<(), Failed>
     requires pipe { (waiting_in pipe.old ≡ []) × (ended_with pipe.old ≡ None) × (given_to pipe.old ≡ 0) }
-    requires live { IsSome ((F.state receiver.old.shelf.now).slots (slot_of receiver.old.hearing.now.source)) }
-    requires begun { (receiver.old.hearing.now.stage ≡ Stage.Reading) × (presenter.old.result ≡ Ok tt) }
-    ensures receiver { (receiver.new.shelf.ghost_name ≡ receiver.old.shelf.ghost_name) × (receiver.new.hearing.ghost_name ≡ receiver.old.hearing.ghost_name) }
-    ensures presenter { (presenter.new.text.ghost_name ≡ presenter.old.text.ghost_name) × (presenter.new.out.ghost_name ≡ presenter.old.out.ghost_name) × (presenter.new.rack.ghost_name ≡ presenter.old.rack.ghost_name) }
+    requires begun { IsAtReading (F.state receiver.old.shelf.now).slots receiver.old.hearing.now.source receiver.old.hearing.now.stage × (presenter.old.result ≡ Ok tt) }
+    ensures same { (receiver.new.shelf.ghost_name ≡ receiver.old.shelf.ghost_name) × (receiver.new.hearing.ghost_name ≡ receiver.old.hearing.ghost_name)
+        × (presenter.new.text.ghost_name ≡ presenter.old.text.ghost_name) × (presenter.new.out.ghost_name ≡ presenter.old.out.ghost_name) × (presenter.new.rack.ghost_name ≡ presenter.old.rack.ghost_name) }
     ensures hears { HearsItems (HandsOn D.handed presenter.old.rack.now presenter.new.rack.now) (F.state receiver.old.shelf.now) (F.state receiver.new.shelf.now)
         receiver.old.hearing.now.source receiver.new.hearing.now.source receiver.old.hearing.now.listener receiver.new.hearing.now.listener receiver.new.hearing.now.stage
         (S.state presenter.old.out.now) (S.state presenter.new.out.now) presenter.old.text.now presenter.new.text.now result }

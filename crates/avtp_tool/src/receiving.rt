@@ -12,9 +12,8 @@ pub struct Receiving<'a, F: Shelf> {
 }
 
 impl<'a, F: Shelf> Receiver for Receiving<'a, F> {
-    ghost use Rattle.std.specs.Prelude.{◌≡◌, Some, None, MatchOption};
+    ghost use Rattle.std.specs.Prelude.{◌≡◌};
     ghost use Rattle.capture_io.specs.Source.{slot_of};
-    ghost use Rattle.presenter_ring.specs.declared.receiver.Pull.TheVariants.{ReadFault};
     ghost use Rattle.avtp_tool.specs.Hearing.{Shows, ended_at, left_of};
 
     ghost gave = { λ begun now items. (now.shelf.ghost_name ≡ begun.shelf.ghost_name) × (now.hearing.ghost_name ≡ begun.hearing.ghost_name)

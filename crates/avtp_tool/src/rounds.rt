@@ -1,8 +1,6 @@
 //! The rounds of a pipe.
 
-ghost use Rattle.std.specs.Prelude.{◌≡◌, ◌+◌, ◌≤◌, ◌^◌, [], None};
-ghost use Rattle.presenter_ring.specs.Pipes.{ended_with, given_to, waiting_in};
-ghost use Rattle.avtp_tool.specs.Presenting.{HasPassed};
+ghost use Rattle.avtp_tool.specs.Presenting.{CanPass, HasPassed};
 
 use avtp_base::Failed;
 use presenter_ring::{Gate, Pipe, Presenter, Receiver, Round};
@@ -16,10 +14,7 @@ pub fn present_all<T: Threads + Sync, R: Receiver, P: Presenter, G: Gate>(
     presenter: &mut P,
     gate: &G,
 ) -> Result<(), Failed>
-    requires empty { waiting_in pipe.old ≡ [] }
-    requires begun { ended_with pipe.old ≡ None }
-    requires live { R.ended receiver.old ≡ None }
-    requires room { given_to pipe.old + R.left receiver.old ≤ 2 ^ 62 }
+    requires { CanPass pipe.old (R.ended receiver.old) (R.left receiver.old) }
     ensures { HasPassed R.gave R.ended P.handed P.faults receiver.old receiver.new presenter.old presenter.new result }
 {
     loop {

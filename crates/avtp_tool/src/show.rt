@@ -1,12 +1,9 @@
 //! The command `show`: what each record of a capture holds.
 
-ghost use Rattle.std.specs.Prelude.{◌≡◌, ◌*◌, ◌^◌, ◌≤◌, ℕ, List, None, [], IsSome};
-ghost use Rattle.avtp_base.specs.Faults.{Rose};
-ghost use Rattle.avtp_base.specs.Files.{left_in};
-ghost use Rattle.avtp_text.specs.Written.{written, Prints};
-ghost use Rattle.capture_io.specs.Source.{HasGiven, slot_of};
-ghost use Rattle.avtp_tool.specs.Outcome.{EndsWith, KeepsSink};
-ghost use Rattle.avtp_tool.specs.Reading.{DoesFile, ended_in, IsOpen, ReadsCapture};
+ghost use Rattle.std.specs.Prelude.{◌^◌, ◌≤◌};
+ghost use Rattle.avtp_text.specs.Written.{Prints};
+ghost use Rattle.avtp_tool.specs.Outcome.{EndsWith};
+ghost use Rattle.avtp_tool.specs.Reading.{DoesFile, IsOpen, ReadsRecords};
 ghost use Rattle.avtp_tool.specs.Show.{end_line, PrintsRecords, show_report};
 ghost use Rattle.avtp_tool.specs.Yield.{HandsNothing};
 ghost use Rattle.avtp_tool.specs.Status.{status_of};
@@ -57,11 +54,8 @@ fn print_records<F: Shelf, S: Sink>(
     text: &mut Text,
     out: &mut S,
 ) -> Result<Printed, Failed>
-    requires open { IsOpen (F.state shelf.old).slots source.old }
-    ensures printed { (limit : ℕ) (bytes : List ℕ) → HasGiven limit bytes (left_in (F.state shelf.old).slots (slot_of source.old)) source.old [] →
-        PrintsRecords limit bytes (Rose (F.state shelf.old).reading_faults (F.state shelf.new).reading_faults) (written (S.state out.old).held text.old) (written (S.state out.new).held text.new) result }
-    ensures reads { ReadsCapture (F.state shelf.old) (F.state shelf.new) (slot_of source.old) (slot_of source.new) (ended_in (λ p. p.end) result) }
-    ensures sink { KeepsSink (S.state out.old) (S.state out.new) result }
+    requires { IsOpen (F.state shelf.old).slots source.old }
+    ensures { ReadsRecords PrintsRecords (λ p. p.end) (F.state shelf.old) (F.state shelf.new) source.old source.new (S.state out.old) (S.state out.new) text.old text.new result }
 {
     let mut frames = 0;
     loop {

@@ -1,8 +1,6 @@
 //! The command `talk`: a capture of a stream, made from raw samples or from a byte stream of H.264.
 
-ghost use Rattle.std.specs.Prelude.{◌≡◌, ◌≤◌, ◌<◌, false, ℕ, List, [], Option, option_map, Ok, Some, IfOk, length, take};
-ghost use Rattle.avtp_base.specs.Faults.{IsCounted};
-ghost use Rattle.avtp_base.specs.States.{ShelfState};
+ghost use Rattle.std.specs.Prelude.{◌≡◌, ◌≤◌, ◌<◌, false, Option, option_map, Ok, Some, length};
 ghost use Rattle.pcap_frames.specs.Capture.{header_spelling, record_spelling, HasSpelling};
 ghost use Rattle.talker.specs.Frames.{capture, capture_style, record_of, sent_frame};
 ghost use Rattle.talker.specs.Plan.{IsPlan};
@@ -10,8 +8,8 @@ ghost use Rattle.talker.specs.Talking.{most_input};
 ghost use Rattle.avtp_words.specs.Grammar.{talk as talk_request, talking_of};
 ghost use Rattle.avtp_text.specs.Talk.{talk_input_line, talk_line};
 ghost use Rattle.avtp_text.specs.Notices.{limit_line};
-ghost use Rattle.capture_io.specs.Writing.{IsMadeIn, IsWriting, WritesSlot};
-ghost use Rattle.avtp_tool.specs.Made.{IsWritingPart, MakesFile, unmade_as};
+ghost use Rattle.capture_io.specs.Writing.{IsMadeIn};
+ghost use Rattle.avtp_tool.specs.Made.{MakesFile, WritesPart, unmade_as};
 ghost use Rattle.avtp_tool.specs.Outcome.{EndsWith, Only};
 ghost use Rattle.avtp_tool.specs.Run.{Runs};
 ghost use Rattle.avtp_tool.specs.Yield.{HandsNothing};
@@ -222,10 +220,7 @@ fn write_capture<F: Shelf>(
 ) -> Result<(), Failed>
     requires made { IsMadeIn (F.state shelf.old).slots writer.old.slot }
     requires begun { talker.old.given ≡ 0 }
-    ensures written { (begun : ShelfState) (name : List ℕ) →
-        IsWriting begun (F.state shelf.old) writer.old name [] →
-        IsWritingPart begun (F.state shelf.new) writer.new name (capture talker.old.plan talker.old.input) result }
-    ensures writes { WritesSlot (F.state shelf.old) (F.state shelf.new) writer.old writer.new result }
+    ensures { WritesPart (F.state shelf.old) (F.state shelf.new) writer.old writer.new (capture talker.old.plan talker.old.input) result }
 {
     let mut room = [0; RECORD];
     let size = put_header(&mut room);

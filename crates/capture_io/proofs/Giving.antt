@@ -16,8 +16,10 @@ use Rattle.capture_io.specs.Ends.{CountsFault, CountsStop, at_end, end_at}
 use Rattle.capture_io.specs.Formats.{records_in}
 use Rattle.capture_io.specs.Pieces.{Piecing, HasTaken}
 use Rattle.capture_io.specs.Reader.{CaptureReading, EndsHere, HasRead, RefusedAfter, Releases, held, nothing_read, refusal_of}
-use Rattle.capture_io.specs.Source.{Sourcing, EndsAfter, GivesNext, HasFed, HasGiven, ReadsOn, held_in, remains_of, slot_of, to_do}
+use Rattle.capture_io.specs.Reads.{ReadsSlot}
+use Rattle.capture_io.specs.Source.{Sourcing, EndsAfter, GivesNext, HasFed, HasFedOf, HasGiven, HasGivenOf, ReadsOn, held_in, remains_of, slot_of, to_do}
 use Rattle.capture_io.proofs.Ending.{ends_limit, ends_refused, ends_whole, limited}
+use Rattle.capture_io.proofs.Leaving.{reads_nothing}
 use Rattle.capture_io.proofs.Reader.{first_held, read_nothing}
 
 -- the reader was refused
@@ -70,15 +72,16 @@ given_first limit bytes remains source records given =
     let first = first_held source.reader fed.prefix (take (limit - length fed.prefix) rest) given.before fed.read in
     (first.0, ap records_in (sym all) ∙ (first.1 ∙ ap (λ (rs : List Record). rs ++ first.0) (sym given.given)))
 
--- the held record was given up
-pub released : (limit : ℕ) (bytes : List ℕ) (remains : Option (List ℕ)) (old new : Sourcing) (records : List Record) → HasGiven limit bytes remains old records → new.pieces ≡ old.pieces
-    → Releases old.reader new.reader → HasFed limit bytes remains new records
-released limit bytes remains old new records given same releases = record {
-  prefix = given.fed.prefix;
-  taken = subst (λ (p : Piecing). HasTaken limit bytes remains p given.fed.prefix) (sym same) given.fed.taken;
-  accepted = releases.refusal ∙ given.fed.accepted;
-  read = subst (HasRead new.reader given.fed.prefix) (sym given.given) (releases.given_up given.fed.prefix given.before given.fed.read);
-}
+-- the held record was given up, of a source whose slot is the same
+released : (shelf : ShelfState) (old new : Sourcing) → new.pieces ≡ old.pieces → Releases old.reader new.reader → (limit : ℕ) (bytes : List ℕ) (records : List Record) → HasGivenOf limit bytes shelf old records → HasFedOf limit bytes shelf new records
+released shelf old new same releases limit bytes records given =
+    subst (λ (p : Piecing). HasFed limit bytes (left_in shelf.slots p.slot) new records) (sym same)
+    (record {
+      prefix = given.fed.prefix;
+      taken = subst (λ (p : Piecing). HasTaken limit bytes (remains_of shelf old) p given.fed.prefix) (sym same) given.fed.taken;
+      accepted = releases.refusal ∙ given.fed.accepted;
+      read = subst (HasRead new.reader given.fed.prefix) (sym given.given) (releases.given_up given.fed.prefix given.before given.fed.read);
+    })
 
 -- the next record is held
 holds_next_by : (limit : ℕ) (bytes : List ℕ) (remains : Option (List ℕ)) (source : Sourcing) (records : List Record) (h : Option Record) → held_in source ≡ h → IsSome h → source.ended ≡ None → HasFed limit bytes remains source records
@@ -96,9 +99,9 @@ holds_next limit bytes remains source records some going fed = holds_next_by lim
 -- the reading ended so
 pub ended_so : {before after : ShelfState} {old new : Sourcing} {result : Option End} (how : End) → result ≡ Some how
     → ((limit : ℕ) (bytes : List ℕ) (records : List Record) → HasFed limit bytes (remains_of before old) old records → EndsAfter limit bytes (Rose before.reading_faults after.reading_faults) how records)
-    → CountsFault None (Some how) before.reading_faults after.reading_faults → slot_of new ≡ slot_of old → ReadsOn before after old new result
-ended_so {before} {after} {old} {new} how is ends counted slot =
-    subst (ReadsOn before after old new) (sym is) (record { more = λ none. absurd cc; ends = ends; less = λ none. absurd cc; counted = counted; slot = slot })
+    → CountsFault None (Some how) before.reading_faults after.reading_faults → ReadsSlot before after (slot_of old) (slot_of new) → ReadsOn before after old new result
+ended_so {before} {after} {old} {new} how is ends counted reads =
+    subst (ReadsOn before after old new) (sym is) (record { more = λ none. absurd cc; ends = ends; less = λ none. absurd cc; counted = counted; reads = reads })
 
 -- the count of reading faults where the reading stopped
 pub stop_counted : (before after : ℕ) (halt : Stop) (x : Option Refusal) → CountsStop (Some halt) before after → CountsFault None (Some (end_at halt x)) before after
@@ -116,16 +119,10 @@ pub not_some : (e : Option End) → is_some e ≡ false → e ≡ None
 not_some None none = refl
 not_some (Some how) none = absurd cc
 
--- the held record was given up, of a source whose slot is the same
-released_here : (shelf : ShelfState) (old new : Sourcing) → new.pieces ≡ old.pieces → Releases old.reader new.reader
-    → (limit : ℕ) (bytes : List ℕ) (records : List Record) → HasGiven limit bytes (remains_of shelf old) old records → HasFed limit bytes (remains_of shelf new) new records
-released_here shelf old new same releases limit bytes records given =
-    subst (λ (p : Piecing). HasFed limit bytes (left_in shelf.slots p.slot) new records) (sym same) (released limit bytes (remains_of shelf old) old new records given same releases)
-
 -- a reading that had ended answers the same again
-pub gives_again : (shelf : ShelfState) (s : Sourcing) (e : Option End) → s.ended ≡ e → is_some e ≡ true → GivesNext shelf shelf s s e
-gives_again shelf s None is some = absurd cc
-gives_again shelf s (Some how) is some = record {
+pub gives_again : (shelf : ShelfState) (s : Sourcing) (e : Option End) → IsSome (shelf.slots (slot_of s)) → s.ended ≡ e → is_some e ≡ true → GivesNext shelf shelf s s e
+gives_again shelf s None live is some = absurd cc
+gives_again shelf s (Some how) live is some = record {
   given = λ none. absurd cc;
   ends = λ limit bytes records given. absurd (let t : None ≡ Some how = sym given.going ∙ is in cc);
   held = λ none. absurd cc;
@@ -133,28 +130,25 @@ gives_again shelf s (Some how) is some = record {
   ended = is;
   lasting = subst (λ (x : Option End). IfSome x (λ (h : End). Some how ≡ Some h)) (sym is) refl;
   counted = subst (λ (x : Option End). CountsFault x (Some how) shelf.reading_faults shelf.reading_faults) (sym is) refl;
+  reads = reads_nothing shelf (slot_of s) live;
 }
+
+if_some : {A : Type 0} {P Q : A → Type 0} (o : Option A) → ((x : A) → P x → Q x) → IfSome o P → IfSome o Q
+if_some None more p = tt
+if_some (Some x) more p = more x p
 
 -- the held record was given up, and the reading went on
 pub gives_next : (before after : ShelfState) (old mid next : Sourcing) (result : Option End) → old.ended ≡ None → mid.pieces ≡ old.pieces → Releases old.reader mid.reader → ReadsOn before after mid next result
     → (result ≡ None → IsSome (held_in next)) → GivesNext before after old (record next { ended = result }) result
-gives_next before after old mid next None going same releases on some = let here = released_here before old mid same releases in record {
+gives_next before after old mid next result going same releases on some = record {
   given = λ none limit bytes records given.
-      let fed = on.more refl limit bytes records (here limit bytes records given) in
-      holds_next limit bytes (remains_of after next) (record next { ended = None }) records (some refl) refl (record { prefix = fed.prefix; taken = fed.taken; accepted = fed.accepted; read = fed.read });
-  ends = tt;
-  held = λ none. some refl;
-  less = λ none. subst (λ (p : Piecing). to_do next < 2 * p.left + length p.waiting) same (on.less refl);
+      let fed = on.more none limit bytes records (released before old mid same releases limit bytes records given) in
+      holds_next limit bytes (remains_of after next) (record next { ended = result }) records (some none) none (record { prefix = fed.prefix; taken = fed.taken; accepted = fed.accepted; read = fed.read });
+  ends = if_some result (λ how ends limit bytes records given. ends limit bytes records (released before old mid same releases limit bytes records given)) on.ends;
+  held = some;
+  less = λ none. subst (λ (p : Piecing). to_do next < 2 * p.left + length p.waiting) same (on.less none);
   ended = refl;
-  lasting = subst (λ (x : Option End). IfSome x (λ (h : End). None ≡ Some h)) (sym going) tt;
-  counted = subst (λ (x : Option End). CountsFault x None before.reading_faults after.reading_faults) (sym going) on.counted;
-}
-gives_next before after old mid next (Some how) going same releases on some = let here = released_here before old mid same releases in record {
-  given = λ none. absurd cc;
-  ends = λ limit bytes records given. on.ends limit bytes records (here limit bytes records given);
-  held = λ none. absurd cc;
-  less = λ none. absurd cc;
-  ended = refl;
-  lasting = subst (λ (x : Option End). IfSome x (λ (h : End). Some how ≡ Some h)) (sym going) tt;
-  counted = subst (λ (x : Option End). CountsFault x (Some how) before.reading_faults after.reading_faults) (sym going) on.counted;
+  lasting = subst (λ (x : Option End). IfSome x (λ (h : End). result ≡ Some h)) (sym going) tt;
+  counted = subst (λ (x : Option End). CountsFault x result before.reading_faults after.reading_faults) (sym going) on.counted;
+  reads = subst (λ (p : Piecing). ReadsSlot before after p.slot (slot_of next)) same on.reads;
 }

@@ -1,6 +1,7 @@
 -- What two calls after each other leave of a shelf.
 use Rattle.std.proofs.Common.{◌≡◌, ℕ, List, [], ◌∷◌, ◌++◌, refl, sym, subst, ◌∙◌, arith, append_assoc, append-nil}
 use Rattle.std.specs.Prelude.{IsSome}
+use Rattle.avtp_base.specs.Files.{KeepsOthers}
 use Rattle.avtp_base.specs.States.{ShelfState, WasAsked}
 use Rattle.avtp_base.proofs.Files.{KeepsFiles-refl, KeepsFiles-trans, KeepsOthers-closed, KeepsOthers-trans}
 use Rattle.capture_io.specs.Reads.{OnlyReads, ReadsSlot, OpensSlot, ClosesSlot}
@@ -40,23 +41,16 @@ reads_nothing s k live = record {
 pub reads_still : (s : ShelfState) (k j : ℕ) → j ≡ k → IsSome (s.slots k) → ReadsSlot s s k j
 reads_still s k j same live = subst (ReadsSlot s s k) (sym same) (reads_nothing s k live)
 
-reads_then_here : (s t u : ShelfState) (k : ℕ) → ReadsSlot s t k k → ReadsSlot t u k k → ReadsSlot s u k k
-reads_then_here s t u k first second = record {
-  slot = refl;
+pub reads_then : {s t u : ShelfState} {k j i : ℕ} → ReadsSlot s t k j → ReadsSlot t u j i → ReadsSlot s u k i
+reads_then {s} {t} {u} {k} first second = record {
+  slot = second.slot ∙ first.slot;
   files = KeepsFiles-trans s.files t.files u.files first.files second.files;
-  live = second.live;
-  others = KeepsOthers-trans s.slots t.slots u.slots k first.others second.others;
+  live = subst (λ (n : ℕ). IsSome (u.slots n)) first.slot second.live;
+  others = KeepsOthers-trans s.slots t.slots u.slots k first.others (subst (KeepsOthers t.slots u.slots) first.slot second.others);
   reading = omega (arith, first.reading, second.reading);
   writing = second.writing ∙ first.writing;
   asked = λ names stands. second.asked names (first.asked names stands);
 }
-
-reads_at : (s t : ShelfState) (k j i : ℕ) → j ≡ k → ReadsSlot s t j i → ReadsSlot s t k k
-reads_at s t k j i same reads = subst (λ (n : ℕ). ReadsSlot s t k n) (reads.slot ∙ same) (subst (λ (n : ℕ). ReadsSlot s t n i) same reads)
-
-pub reads_then : (s t u : ShelfState) (k j i : ℕ) → ReadsSlot s t k j → ReadsSlot t u j i → ReadsSlot s u k i
-reads_then s t u k j i first second =
-    subst (λ (n : ℕ). ReadsSlot s u k n) (sym (second.slot ∙ first.slot)) (reads_then_here s t u k (reads_at s t k k j refl first) (reads_at t u k j i first.slot second))
 
 pub opens_then : (s t u : ShelfState) (name : List ℕ) (k j : ℕ) → OpensSlot s t name k → ReadsSlot t u k j → OpensSlot s u name k
 opens_then s t u name k j first second = record {
@@ -78,7 +72,3 @@ only_reads_closed s t u name k first second = record {
   writing = second.writing ∙ first.writing;
   asked = λ earlier stands. second.asked (earlier ++ name ∷ []) (first.asked earlier stands);
 }
-
--- the same under another number of the slot, which is the same
-pub closes_as : (s t : ShelfState) (k j : ℕ) → k ≡ j → ClosesSlot s t k → ClosesSlot s t j
-closes_as s t k j same closes = subst (ClosesSlot s t) same closes

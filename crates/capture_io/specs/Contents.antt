@@ -1,13 +1,16 @@
 -- A file that is read whole.
-use Rattle.std.specs.Prelude.{◌≡◌, ◌++◌, ◌<◌, ◌≤◌, ℕ, List, length, take, Option, Some, None, Result, Ok, Err, IfOk, IsErrOf}
+use Rattle.std.specs.Prelude.{◌≡◌, ◌++◌, ◌∷◌, ◌<◌, ◌≤◌, ℕ, List, [], length, take, Option, Some, None, Result, Ok, Err, IfOk, IsErrOf}
 use Rattle.avtp_base.specs.Faults.{Rose}
 use Rattle.avtp_base.specs.declared.failed.NoMemory.{NoMemory}
 use Rattle.avtp_base.specs.declared.failed.OpenFault.{OpenFault}
 use Rattle.avtp_base.specs.declared.failed.OpenFault.TheVariants as open_fault
+use Rattle.avtp_base.specs.Files.{Files, IsMissing}
+use Rattle.avtp_base.specs.States.{ShelfState}
 use Rattle.capture_io.specs.declared.contents.Contents.{Contents}
 use Rattle.capture_io.specs.declared.end.Stop.{Stop}
 use Rattle.capture_io.specs.declared.end.Stop.TheVariants as stop
 use Rattle.capture_io.specs.Ends.{CountsStop}
+use Rattle.capture_io.specs.Reads.{OnlyReads}
 
 -- Of a file of these bytes this prefix was read: all of them; or as many as come before a fault; or as many as may be
 -- read, and there are more.
@@ -29,3 +32,14 @@ pub record IsReadCounted (before after : ℕ) (result : Result Contents OpenFaul
   pub missing : IsErrOf result open_fault.Missing → after ≡ before
   pub memory : IsErrOf result open_fault.Memory → after ≡ before
   pub failed : IsErrOf result open_fault.Failed → Rose before after
+
+-- The file of this name was read whole, or as much of it as could or might be, of which no more than `limit` bytes; or it was
+-- not opened, or found no memory. It is closed again, and nothing else was done.
+pub record ReadsContents (before after : ShelfState) (limit : ℕ) (name : List ℕ) (result : Result Contents OpenFault) : Type 0 where
+  -- the bytes are those of the file, where the shelf tells it
+  pub read : IfOk result (λ contents. (files : Files) → before.files ≡ Some files → (bytes : List ℕ) × (files name ≡ Some bytes) × IsContents limit bytes contents.stop contents.bytes.items)
+  pub bounded : IfOk result (λ contents. length contents.bytes.items ≤ limit)
+  -- no file has the name, and the shelf tells it
+  pub missing : IsErrOf result open_fault.Missing → IsMissing before.files name
+  pub counted : IsReadCounted before.reading_faults after.reading_faults result
+  pub keeps : OnlyReads before after (name ∷ [])

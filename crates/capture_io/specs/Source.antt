@@ -1,7 +1,8 @@
 -- The records of a capture, one after the other.
-use Rattle.std.specs.Prelude.{◌≡◌, ◌++◌, ◌+◌, ◌*◌, ◌<◌, ℕ, List, [], ◌∷◌, length, IfSome, IsSome, Option, Some, None, option_to_list}
+use Rattle.std.specs.Prelude.{◌≡◌, ◌++◌, ◌+◌, ◌*◌, ◌<◌, ◌≤◌, ℕ, List, [], ◌∷◌, length, IfOk, IfSome, IsSome, Option, Some, None, Result, option_to_list}
 use Rattle.avtp_base.specs.Faults.{Rose}
-use Rattle.avtp_base.specs.Files.{Slots, left_in}
+use Rattle.avtp_base.specs.declared.failed.OpenFault.{OpenFault}
+use Rattle.avtp_base.specs.Files.{Files, Slots, left_in}
 use Rattle.avtp_base.specs.States.{ShelfState}
 use Rattle.pcap_frames.specs.Capture.{Record}
 use Rattle.capture_io.specs.declared.end.End.{End}
@@ -9,6 +10,7 @@ use Rattle.capture_io.specs.Ends.{CountsFault, EndsAt}
 use Rattle.capture_io.specs.Formats.{records_in}
 use Rattle.capture_io.specs.Pieces.{Piecing, HasTaken}
 use Rattle.capture_io.specs.Reader.{CaptureReading, HasRead, held, refusal_of}
+use Rattle.capture_io.specs.Reads.{ReadsSlot, TriesOpen}
 
 -- The file and its pieces, the reader that takes them, and how the reading ended, once it has.
 pub record Sourcing : Type 0 where
@@ -43,6 +45,13 @@ pub record HasGiven (limit : ℕ) (bytes : List ℕ) (remains : Option (List ℕ
   pub fed : HasFed limit bytes remains source before
   pub given : records ≡ before ++ option_to_list (held_in source)
 
+-- the same of a shelf on which the file is open
+abbrev pub HasFedOf : ℕ → List ℕ → ShelfState → Sourcing → List Record → Type 0
+HasFedOf limit bytes shelf source records = HasFed limit bytes (remains_of shelf source) source records
+
+abbrev pub HasGivenOf : ℕ → List ℕ → ShelfState → Sourcing → List Record → Type 0
+HasGivenOf limit bytes shelf source records = HasGiven limit bytes (remains_of shelf source) source records
+
 -- The reading of a file of these bytes ends in this way, and these are the records before that place.
 pub record EndsAfter (limit : ℕ) (bytes : List ℕ) (fault : Type 0) (how : End) (records : List Record) : Type 0 where
   pub prefix : List ℕ
@@ -53,15 +62,22 @@ pub record EndsAfter (limit : ℕ) (bytes : List ℕ) (fault : Type 0) (how : En
 abbrev pub to_do : Sourcing → ℕ
 to_do source = 2 * source.pieces.left + length source.pieces.waiting
 
+-- A capture of this name was opened, of which `limit` bytes may be read, and no record was given yet; or it was not opened.
+pub record OpensSource (before after : ShelfState) (limit : ℕ) (name : List ℕ) (result : Result Sourcing OpenFault) : Type 0 where
+  -- nothing was given yet of the file's bytes, where the shelf tells them
+  pub begun : IfOk result (λ source. (files : Files) → before.files ≡ Some files → (bytes : List ℕ) × (files name ≡ Some bytes) × HasGivenOf limit bytes after source [])
+  pub going : IfOk result (λ source. (source.ended ≡ None) × (to_do source ≤ 2 * limit))
+  pub tries : TriesOpen slot_of before after name result
+
 -- A call that read on, or took what waits, left this. Where the reading goes on, the source has given up the same records of
 -- the same file, and less is to be done. Where it ended, it ended so after them. The count of reading faults rose where a
 -- fault ended it, and else is as it was.
 pub record ReadsOn (before after : ShelfState) (old new : Sourcing) (result : Option End) : Type 0 where
-  pub more : result ≡ None → (limit : ℕ) (bytes : List ℕ) (records : List Record) → HasFed limit bytes (remains_of before old) old records → HasFed limit bytes (remains_of after new) new records
-  pub ends : IfSome result (λ how. (limit : ℕ) (bytes : List ℕ) (records : List Record) → HasFed limit bytes (remains_of before old) old records → EndsAfter limit bytes (Rose before.reading_faults after.reading_faults) how records)
+  pub more : result ≡ None → (limit : ℕ) (bytes : List ℕ) (records : List Record) → HasFedOf limit bytes before old records → HasFedOf limit bytes after new records
+  pub ends : IfSome result (λ how. (limit : ℕ) (bytes : List ℕ) (records : List Record) → HasFedOf limit bytes before old records → EndsAfter limit bytes (Rose before.reading_faults after.reading_faults) how records)
   pub less : result ≡ None → to_do new < to_do old
   pub counted : CountsFault None result before.reading_faults after.reading_faults
-  pub slot : slot_of new ≡ slot_of old
+  pub reads : ReadsSlot before after (slot_of old) (slot_of new)
 
 -- the file is open, and no record is held
 abbrev pub IsReady : Slots → Sourcing → Type 0
@@ -70,11 +86,12 @@ IsReady slots source = IsSome (slots (slot_of source)) × (held_in source ≡ No
 -- The next record was read, and is held now; or the reading ended so after the records that were given, and the count of
 -- reading faults rose where a fault ended it. A reading that had ended answers the same again.
 pub record GivesNext (before after : ShelfState) (old new : Sourcing) (result : Option End) : Type 0 where
-  pub given : result ≡ None → (limit : ℕ) (bytes : List ℕ) (records : List Record) → HasGiven limit bytes (remains_of before old) old records
-      → (next : Record) × (held_in new ≡ Some next) × HasGiven limit bytes (remains_of after new) new (records ++ next ∷ [])
-  pub ends : IfSome result (λ how. (limit : ℕ) (bytes : List ℕ) (records : List Record) → HasGiven limit bytes (remains_of before old) old records → EndsAfter limit bytes (Rose before.reading_faults after.reading_faults) how records)
+  pub given : result ≡ None → (limit : ℕ) (bytes : List ℕ) (records : List Record) → HasGivenOf limit bytes before old records
+      → (next : Record) × (held_in new ≡ Some next) × HasGivenOf limit bytes after new (records ++ next ∷ [])
+  pub ends : IfSome result (λ how. (limit : ℕ) (bytes : List ℕ) (records : List Record) → HasGivenOf limit bytes before old records → EndsAfter limit bytes (Rose before.reading_faults after.reading_faults) how records)
   pub held : result ≡ None → IsSome (held_in new)
   pub less : result ≡ None → to_do new < to_do old
   pub ended : new.ended ≡ result
   pub lasting : IfSome old.ended (λ how. result ≡ Some how)
   pub counted : CountsFault old.ended result before.reading_faults after.reading_faults
+  pub reads : ReadsSlot before after (slot_of old) (slot_of new)

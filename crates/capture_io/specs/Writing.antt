@@ -1,5 +1,5 @@
 -- A file that is written through a buffer.
-use Rattle.std.specs.Prelude.{◌≡◌, ◌≢◌, ◌⊎◌, ℕ, true, List, [], ◌∷◌, ◌++◌, Option, None, Some, IfOk, IsErrOf, IsSome, OnErr, Result, option_map}
+use Rattle.std.specs.Prelude.{◌≡◌, ◌≢◌, ◌⊎◌, ℕ, true, List, [], ◌∷◌, ◌++◌, Option, None, Some, IfOk, IsErrOf, IsSome, OnErr, OnOk, Result, option_map}
 use Rattle.avtp_base.specs.declared.failed.Failed.{Failed}
 use Rattle.avtp_base.specs.declared.failed.OpenFault.{OpenFault}
 use Rattle.avtp_base.specs.declared.failed.OpenFault.TheVariants as open_fault
@@ -39,6 +39,18 @@ pub record WritesSlot (before after : ShelfState) (old new : Writing) (result : 
   pub reading : after.reading_faults ≡ before.reading_faults
   pub counted : IsCounted before.writing_faults after.writing_faults result
   pub asked : AsksNothing before after
+
+-- These bytes were added, or nothing where the shelf failed.
+pub record AddsBytes (before after : ShelfState) (old new : Writing) (bytes : List ℕ) (result : Result Unit Failed) : Type 0 where
+  pub added : OnOk result ((begun : ShelfState) (name all : List ℕ) → IsWriting begun before old name all → IsWriting begun after new name (all ++ bytes))
+  pub kept : OnErr result ((begun : ShelfState) (name all : List ℕ) → IsWriting begun before old name all → IsWriting begun after new name all)
+  pub writes : WritesSlot before after old new result
+
+-- All that waited was written, or a part of it where the shelf failed.
+pub record WritesOut (before after : ShelfState) (old new : Writing) (result : Result Unit Failed) : Type 0 where
+  pub none_waits : OnOk result (new.waiting ≡ [])
+  pub kept : (begun : ShelfState) (name all : List ℕ) → IsWriting begun before old name all → IsWriting begun after new name all
+  pub writes : WritesSlot before after old new result
 
 -- ---- what is left
 
@@ -81,3 +93,8 @@ pub record ClosesFile (before after : ShelfState) (writer : Writing) (result : R
   pub reading : after.reading_faults ≡ before.reading_faults
   pub counted : IsCounted before.writing_faults after.writing_faults result
   pub asked : AsksNothing before after
+
+-- It was finished: closed, and where nothing failed it has all that was added.
+pub record FinishesFile (before after : ShelfState) (writer : Writing) (result : Result Unit Failed) : Type 0 where
+  pub put : OnOk result ((begun : ShelfState) (name all : List ℕ) → IsWriting begun before writer name all → PutsFile begun.files after.files name all)
+  pub closes : ClosesFile before after writer result

@@ -1,11 +1,7 @@
 //! A file that is read whole.
 
-ghost use Rattle.std.specs.Prelude.{◌≡◌, ◌≤◌, ◌∷◌, ℕ, List, [], Some, length, IsSome, IfOk, OnErr, IsErrOf};
-ghost use Rattle.avtp_base.specs.Files.{Files, left_in, IsMissing};
-ghost use Rattle.capture_io.specs.Contents.{IsContents, IsReadCounted, stop_of};
-ghost use Rattle.capture_io.specs.Ends.{CountsStop};
-ghost use Rattle.capture_io.specs.Pieces.{HasTaken};
-ghost use Rattle.capture_io.specs.Reads.{OnlyReads, ReadsSlot};
+ghost use Rattle.capture_io.specs.Contents.{ReadsContents};
+ghost use Rattle.capture_io.specs.Pieces.{IsDrained, JoinsPieces};
 
 use crate::end::Stop;
 use crate::pieces::Pieces;
@@ -31,12 +27,7 @@ pub fn read_contents<F: Shelf>(
     shelf: &mut F,
     name: &str,
 ) -> Result<Contents, OpenFault>
-    ensures read { IfOk result (λ contents. (files : Files) → (F.state shelf.old).files ≡ Some files →
-        (bytes : List ℕ) × (files name.now ≡ Some bytes) × IsContents limit bytes contents.stop contents.bytes.items) }
-    ensures bounded { IfOk result (λ contents. length contents.bytes.items ≤ limit) }
-    ensures missing { IsErrOf result OpenFault.Missing → IsMissing (F.state shelf.old).files name.now }
-    ensures counted { IsReadCounted (F.state shelf.old).reading_faults (F.state shelf.new).reading_faults result }
-    ensures keeps { OnlyReads (F.state shelf.old) (F.state shelf.new) (name.now ∷ []) }
+    ensures { ReadsContents (F.state shelf.old) (F.state shelf.new) limit name.now result }
 {
     let mut pieces = Pieces::open(alloc, limit, shelf, name)?;
     let contents = join(alloc, &mut pieces, shelf);
@@ -49,13 +40,8 @@ pub fn read_contents<F: Shelf>(
 
 /// Reads all pieces, and puts them one after the other.
 fn join<F: Shelf>(alloc: Global, pieces: &mut Pieces, shelf: &mut F) -> Result<Contents, NoMemory>
-    requires live { IsSome ((F.state shelf.old).slots pieces.old.slot) }
-    requires none_waits { pieces.old.waiting ≡ [] }
-    ensures read { IfOk result (λ contents. (limit : ℕ) (bytes : List ℕ) →
-        HasTaken limit bytes (left_in (F.state shelf.old).slots pieces.old.slot) pieces.old [] → IsContents limit bytes contents.stop contents.bytes.items) }
-    ensures bounded { IfOk result (λ contents. length contents.bytes.items ≤ pieces.old.left) }
-    ensures counted { CountsStop (stop_of result) (F.state shelf.old).reading_faults (F.state shelf.new).reading_faults }
-    ensures reads { ReadsSlot (F.state shelf.old) (F.state shelf.new) pieces.old.slot pieces.new.slot }
+    requires { IsDrained (F.state shelf.old).slots pieces.old }
+    ensures { JoinsPieces (F.state shelf.old) (F.state shelf.new) pieces.old pieces.new result }
 {
     let mut bytes = Vec::new(alloc);
     loop {

@@ -1,9 +1,7 @@
 //! A file that is written through a buffer.
 
-ghost use Rattle.std.specs.Prelude.{◌≡◌, ◌≤◌, ◌++◌, ℕ, List, [], Ok, length, OnOk, OnErr};
-ghost use Rattle.avtp_base.specs.Files.{PutsFile};
-ghost use Rattle.avtp_base.specs.States.{ShelfState};
-ghost use Rattle.capture_io.specs.Writing.{ClosesFile, CreatesFile, IsMadeIn, IsWriting, WritesSlot};
+ghost use Rattle.std.specs.Prelude.{◌≡◌, ◌≤◌, [], Ok, length};
+ghost use Rattle.capture_io.specs.Writing.{AddsBytes, ClosesFile, CreatesFile, FinishesFile, IsMadeIn, WritesOut};
 
 use avtp_base::{Buffer, Failed, OpenFault, Shelf, Slot};
 use std::marker::Model;
@@ -32,7 +30,7 @@ impl FileWriter {
     /// `Failed` comes only where the writing count rose, and `Memory` is the shelf's; after both the file is as it was. It
     /// never answers `Missing`.
     pub fn create<F: Shelf>(buffer: Buffer, shelf: &mut F, name: &str) -> Result<Self, OpenFault>
-        requires none_waits { buffer ≡ [] }
+        requires { buffer ≡ [] }
         ensures { CreatesFile (F.state shelf.old) (F.state shelf.new) name.now result }
     {
         let slot = shelf.create_file(name)?;
@@ -43,13 +41,7 @@ impl FileWriter {
     pub fn add<F: Shelf>(&mut self, shelf: &mut F, bytes: &[u8]) -> Result<(), Failed>
         requires made { IsMadeIn (F.state shelf.old).slots self.old.slot }
         requires size { length bytes.now ≤ 65536 }
-        ensures added { OnOk result ((begun : ShelfState) (name all : List ℕ) →
-            IsWriting begun (F.state shelf.old) self.old name all →
-            IsWriting begun (F.state shelf.new) self.new name (all ++ bytes.now)) }
-        ensures kept { OnErr result ((begun : ShelfState) (name all : List ℕ) →
-            IsWriting begun (F.state shelf.old) self.old name all →
-            IsWriting begun (F.state shelf.new) self.new name all) }
-        ensures writes { WritesSlot (F.state shelf.old) (F.state shelf.new) self.old self.new result }
+        ensures { AddsBytes (F.state shelf.old) (F.state shelf.new) self.old self.new bytes.now result }
     {
         if self.buffer.room() < bytes.len() {
             self.flush(shelf)?;
@@ -60,12 +52,8 @@ impl FileWriter {
 
     /// Writes all that waits.
     fn flush<F: Shelf>(&mut self, shelf: &mut F) -> Result<(), Failed>
-        requires made { IsMadeIn (F.state shelf.old).slots self.old.slot }
-        ensures none_waits { OnOk result (self.new.waiting ≡ []) }
-        ensures kept { (begun : ShelfState) (name all : List ℕ) →
-            IsWriting begun (F.state shelf.old) self.old name all →
-            IsWriting begun (F.state shelf.new) self.new name all }
-        ensures writes { WritesSlot (F.state shelf.old) (F.state shelf.new) self.old self.new result }
+        requires { IsMadeIn (F.state shelf.old).slots self.old.slot }
+        ensures { WritesOut (F.state shelf.old) (F.state shelf.new) self.old self.new result }
     {
         while !self.buffer.waiting().is_empty() {
             let count = shelf.write(self.slot, self.buffer.waiting())?;
@@ -76,10 +64,8 @@ impl FileWriter {
 
     /// Writes what waits, and closes the file. At `Ok` the file has all that was added; else it has a prefix of that.
     pub fn finish<F: Shelf>(self, shelf: &mut F) -> Result<(), Failed>
-        requires made { IsMadeIn (F.state shelf.old).slots self.slot }
-        ensures put { OnOk result ((begun : ShelfState) (name all : List ℕ) →
-            IsWriting begun (F.state shelf.old) self name all → PutsFile begun.files (F.state shelf.new).files name all) }
-        ensures closes { ClosesFile (F.state shelf.old) (F.state shelf.new) self result }
+        requires { IsMadeIn (F.state shelf.old).slots self.slot }
+        ensures { FinishesFile (F.state shelf.old) (F.state shelf.new) self result }
     {
         let mut writer = self;
         let written = writer.flush(shelf);
@@ -89,7 +75,7 @@ impl FileWriter {
 
     /// Closes the file, which has a prefix of what was added.
     pub fn abandon<F: Shelf>(self, shelf: &mut F)
-        requires made { IsMadeIn (F.state shelf.old).slots self.slot }
+        requires { IsMadeIn (F.state shelf.old).slots self.slot }
         ensures { ClosesFile (F.state shelf.old) (F.state shelf.new) self (Ok tt) }
     {
         shelf.close_file(self.slot);

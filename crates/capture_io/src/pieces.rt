@@ -1,11 +1,8 @@
 //! A file that is read in pieces, up to a limit.
 
-ghost use Rattle.std.specs.Prelude.{◌≡◌, ◌≤◌, ◌∷◌, ℕ, List, [], Some, None, length, drop, IsSome, IfSome, IfOk};
-ghost use Rattle.avtp_base.specs.Files.{Files, left_in};
-ghost use Rattle.capture_io.specs.Contents.{IsContents};
-ghost use Rattle.capture_io.specs.Ends.{CountsStop};
-ghost use Rattle.capture_io.specs.Pieces.{HasTaken, ReadsPiece};
-ghost use Rattle.capture_io.specs.Reads.{TriesOpen, ReadsSlot, OpensSlot, ClosesSlot};
+ghost use Rattle.std.specs.Prelude.{◌≡◌, ◌≤◌, [], length, drop, IsSome};
+ghost use Rattle.capture_io.specs.Pieces.{IsDrained, OpensPieces, ReadsPiece};
+ghost use Rattle.capture_io.specs.Reads.{ClosesSlot};
 
 use crate::end::Stop;
 use crate::read_slots::ReadSlots;
@@ -51,11 +48,7 @@ impl Pieces {
         shelf: &mut F,
         name: &str,
     ) -> Result<Self, OpenFault>
-        ensures begun { IfOk result (λ pieces. (files : Files) → (F.state shelf.old).files ≡ Some files → (bytes : List ℕ) × (files name.now ≡ Some bytes)
-            × HasTaken limit bytes (left_in (F.state shelf.new).slots pieces.slot) pieces []) }
-        ensures nothing { IfOk result (λ pieces. (pieces.waiting ≡ []) × (pieces.left ≡ limit)) }
-        ensures opened { IfOk result (λ pieces. OpensSlot (F.state shelf.old) (F.state shelf.new) name.now pieces.slot) }
-        ensures tries { TriesOpen (F.state shelf.old) (F.state shelf.new) name.now result }
+        ensures { OpensPieces (F.state shelf.old) (F.state shelf.new) limit name.now result }
     {
         let slot = shelf.open_file(name)?;
         let Ok(piece) = vec![in alloc; 0u8; PIECE] else {
@@ -74,15 +67,8 @@ impl Pieces {
 
     /// Reads the next piece, where none waits: then bytes wait, or it answers where the reading stopped.
     pub fn read<F: ReadSlots>(&mut self, shelf: &mut F) -> Option<Stop>
-        requires live { IsSome ((F.state shelf.old).slots self.old.slot) }
-        requires none_waits { self.old.waiting ≡ [] }
-        ensures more { result ≡ None → (limit : ℕ) (bytes prefix : List ℕ) →
-            HasTaken limit bytes (left_in (F.state shelf.old).slots self.old.slot) self.old prefix → HasTaken limit bytes (left_in (F.state shelf.new).slots self.new.slot) self.new prefix }
-        ensures stopped { IfSome result (λ stop. (limit : ℕ) (bytes prefix : List ℕ) →
-            HasTaken limit bytes (left_in (F.state shelf.old).slots self.old.slot) self.old prefix → IsContents limit bytes stop prefix) }
-        ensures piece { ReadsPiece self.old self.new result }
-        ensures reads { ReadsSlot (F.state shelf.old) (F.state shelf.new) self.old.slot self.new.slot }
-        ensures counted { CountsStop result (F.state shelf.old).reading_faults (F.state shelf.new).reading_faults }
+        requires { IsDrained (F.state shelf.old).slots self.old }
+        ensures { ReadsPiece (F.state shelf.old) (F.state shelf.new) self.old self.new result }
     {
         if self.over {
             return Some(Stop::Limit);

@@ -1,13 +1,11 @@
 //! A capture that is read record by record.
 
-ghost use Rattle.std.specs.Prelude.{◌≡◌, ◌≤◌, ◌<◌, ◌∷◌, ◌++◌, ◌^◌, ℕ, List, [], Some, None, length, Option, IsSome, IfSome, IfOk, ◌*◌};
-ghost use Rattle.avtp_base.specs.Files.{Files};
+ghost use Rattle.std.specs.Prelude.{◌≡◌, ◌≤◌, ◌<◌, ◌^◌, [], Some, None, length, IsSome};
 ghost use Rattle.avtp_base.specs.States.{ShelfState};
-ghost use Rattle.pcap_frames.specs.Capture.{Record};
 ghost use Rattle.pcap_frames.specs.Layout.{IsRecordTime};
 ghost use Rattle.pcap_frames.specs.Reading.{shown};
-ghost use Rattle.capture_io.specs.Reads.{TriesOpen, ReadsSlot, OpensSlot, ClosesSlot};
-ghost use Rattle.capture_io.specs.Source.{GivesNext, HasGiven, IsReady, ReadsOn, held_in, remains_of, slot_of, to_do};
+ghost use Rattle.capture_io.specs.Reads.{ClosesSlot};
+ghost use Rattle.capture_io.specs.Source.{GivesNext, IsReady, OpensSource, ReadsOn, held_in, slot_of};
 
 use crate::capture_reader::CaptureReader;
 use crate::end::End;
@@ -50,12 +48,8 @@ impl Source {
         shelf: &mut F,
         name: &str,
     ) -> Result<Self, OpenFault>
-        requires limit { limit ≤ 2 ^ 62 }
-        ensures begun { IfOk result (λ source. (files : Files) → (F.state shelf.old).files ≡ Some files → (bytes : List ℕ) × (files name.now ≡ Some bytes)
-            × HasGiven limit bytes (remains_of (F.state shelf.new) source) source []) }
-        ensures going { IfOk result (λ source. (source.ended ≡ None) × (to_do source ≤ 2 * limit)) }
-        ensures opened { IfOk result (λ source. OpensSlot (F.state shelf.old) (F.state shelf.new) name.now (slot_of source)) }
-        ensures tries { TriesOpen (F.state shelf.old) (F.state shelf.new) name.now result }
+        requires { limit ≤ 2 ^ 62 }
+        ensures { OpensSource (F.state shelf.old) (F.state shelf.new) limit name.now result }
     {
         let pieces = Pieces::open(alloc, limit, shelf, name)?;
         let Ok(reader) = CaptureReader::new(alloc) else {
@@ -72,9 +66,8 @@ impl Source {
     /// Drops the record that is held, and reads on to the next. At `None` one is held now; else it answers how the reading
     /// ended. Once it has ended, each further call answers the same and reads nothing.
     pub fn next<F: ReadSlots>(&mut self, shelf: &mut F) -> Option<End>
-        requires live { IsSome ((F.state shelf.old).slots (slot_of self.old)) }
-        ensures gives { GivesNext (F.state shelf.old) (F.state shelf.new) self.old self.new result }
-        ensures reads { ReadsSlot (F.state shelf.old) (F.state shelf.new) (slot_of self.old) (slot_of self.new) }
+        requires { IsSome ((F.state shelf.old).slots (slot_of self.old)) }
+        ensures { GivesNext (F.state shelf.old) (F.state shelf.new) self.old self.new result }
     {
         if self.ended.is_some() {
             return self.ended;
@@ -86,10 +79,9 @@ impl Source {
 
     /// Reads on until a record is held, or the reading ends.
     fn read_on<F: ReadSlots>(&mut self, shelf: &mut F) -> Option<End>
-        requires ready { IsReady (F.state shelf.old).slots self.old }
+        requires { IsReady (F.state shelf.old).slots self.old }
         ensures on { ReadsOn (F.state shelf.old) (F.state shelf.new) self.old self.new result }
         ensures held { result ≡ None → IsSome (held_in self.new) }
-        ensures reads { ReadsSlot (F.state shelf.old) (F.state shelf.new) (slot_of self.old) (slot_of self.new) }
     {
         loop {
             if let Some(end) = self.step(shelf) {
@@ -103,9 +95,8 @@ impl Source {
 
     /// Feeds the reader what waits, or where nothing waits reads the next piece.
     fn step<F: ReadSlots>(&mut self, shelf: &mut F) -> Option<End>
-        requires ready { IsReady (F.state shelf.old).slots self.old }
-        ensures on { ReadsOn (F.state shelf.old) (F.state shelf.new) self.old self.new result }
-        ensures reads { ReadsSlot (F.state shelf.old) (F.state shelf.new) (slot_of self.old) (slot_of self.new) }
+        requires { IsReady (F.state shelf.old).slots self.old }
+        ensures { ReadsOn (F.state shelf.old) (F.state shelf.new) self.old self.new result }
     {
         if self.pieces.waiting().is_empty() {
             return self.read_piece(shelf);
@@ -117,8 +108,7 @@ impl Source {
     fn read_piece<F: ReadSlots>(&mut self, shelf: &mut F) -> Option<End>
         requires ready { IsReady (F.state shelf.old).slots self.old }
         requires none_waits { self.old.pieces.waiting ≡ [] }
-        ensures on { ReadsOn (F.state shelf.old) (F.state shelf.new) self.old self.new result }
-        ensures reads { ReadsSlot (F.state shelf.old) (F.state shelf.new) (slot_of self.old) (slot_of self.new) }
+        ensures { ReadsOn (F.state shelf.old) (F.state shelf.new) self.old self.new result }
     {
         let stop = self.pieces.read(shelf)?;
         Some(stop.end(self.reader.finish().err()))
@@ -126,9 +116,8 @@ impl Source {
 
     /// Feeds the reader what waits, up to the end of one record, or answers the refusal that ends the reading.
     fn feed_piece(&mut self) -> Option<End>
-        requires free { held_in self.old ≡ None }
-        requires some { 0 < length self.old.pieces.waiting }
-        ensures { (shelf : ShelfState) → ReadsOn shelf shelf self.old self.new result }
+        requires { 0 < length self.old.pieces.waiting }
+        ensures { (shelf : ShelfState) → IsReady shelf.slots self.old → ReadsOn shelf shelf self.old self.new result }
     {
         match self.reader.feed(self.pieces.waiting()) {
             Ok(taken) => {

@@ -1,23 +1,26 @@
-use Rattle.std.proofs.Common.{refl, ℕ, ◌∙◌, subst, arith}
-use Rattle.avtp_base.specs.Faults.{Rose}
-use Rattle.capture_io.proofs.Ending.{after_weaker}
-use Rattle.capture_io.proofs.Leaving.{reads_nothing}
-use Rattle.avtp_tool.proofs.Leaving.{none_left, quiet_next, reads_on, some_same}
-use Rattle.avtp_tool.proofs.Outcomes.{sink_failed, sink_printed, sink_still, sink_then}
-use Rattle.avtp_tool.proofs.Lines.{prefix_kept}
-use Rattle.avtp_tool.proofs.Shown.{none_printed, one_printed, records_failed, some_printed}
+use Rattle.avtp_tool.specs.Lines.{of_each}
+use Rattle.avtp_tool.specs.Reading.{ReadsRecords}
+use Rattle.avtp_tool.specs.Show.{show_line}
+use Rattle.avtp_tool.proofs.Leaving.{amid_begun, amid_cut, amid_ends, amid_next, amid_over, none_left, on_err, some_same}
+use Rattle.avtp_tool.proofs.Outcomes.{sink_err, sink_ok, sink_printed, sink_still, sink_then}
+use Rattle.avtp_tool.proofs.Lines.{each_first, prefix_kept, some_first}
+use Rattle.avtp_tool.proofs.Shown.{none_printed, one_printed}
 use Rattle.avtp_tool.proofs.show.print_records.Goals as goal
+
+pub loop-end-init : goal.loop-end-init
+loop-end-init g c = record {
+  amid = amid_begun _ _ c.requires;
+  sink = sink_still _ tt;
+  printed = λ limit bytes given. none_printed limit bytes _ _ _ given;
+}
 
 pub loop-end-preserved : goal.loop-end-preserved
 loop-end-preserved g c =
     let before = c.loop-end.invariant in
-    let next = c.next.ensures.gives in
+    let next = c.next.ensures in
     let none = none_left c.next.result c.in_default.not-Some in
     record {
-      going = next.ended ∙ none;
-      bounded = omega (arith, next.less none, before.bounded);
-      reading = quiet_next _ _ _ _ before.going none next.counted ∙ before.reading;
-      reads = reads_on before.reads c.next.ensures.reads;
+      amid = amid_next before.amid none next;
       sink = sink_then before.sink (sink_printed c.in_ok-print_record.ensures);
       printed = λ limit bytes given.
           let to = before.printed limit bytes given in
@@ -26,31 +29,25 @@ loop-end-preserved g c =
           one_printed limit bytes _ _ to.records more.0 c.loop-end.frames _ _ _ more.2 to.counted to.lines (rw same c.in_ok-print_record.ensures.written);
     }
 
-pub loop-end-init : goal.loop-end-init
-loop-end-init g c = record {
-  going = c.requires.open.0;
-  bounded = omega (arith, c.requires.open.2);
-  reading = refl;
-  reads = reads_nothing _ _ c.requires.open.1;
-  sink = sink_still _ tt;
-  printed = λ limit bytes given. none_printed limit bytes _ _ _ given;
-}
-
-pub returns-in-Some-clause-printed : goal.returns-in-Some-clause-printed
-returns-in-Some-clause-printed g c limit bytes given =
-    let to = c.loop-end.invariant.printed limit bytes given in
+pub returns-in-Some : goal.returns-in-Some
+returns-in-Some g c =
+    let before = c.loop-end.invariant in
+    let how = c.in-Some.end in
     record {
-      records = to.records;
-      ends = after_weaker limit bytes _ _ c.in-Some.end to.records (λ rose. subst (λ (n : ℕ). Rose n (g.F.Shelf.state c.next.new.shelf).reading_faults) c.loop-end.invariant.reading rose) (c.in-Some.ensures.gives.ends limit bytes to.records to.given);
-      counted = to.counted;
-      lines = to.lines;
+      told = λ limit bytes given.
+          let to = before.printed limit bytes given in
+          record { records = to.records; ends = amid_ends how limit bytes to.records before.amid c.in-Some.ensures to.given; counted = to.counted; lines = to.lines };
+      reads = amid_over how before.amid c.in-Some.ensures;
+      sink = sink_ok _ before.sink;
     }
 
-pub returns-in_err-print_record-clause-sink : goal.returns-in_err-print_record-clause-sink
-returns-in_err-print_record-clause-sink g c = sink_failed c.from_residual.ensures.0 (sink_then c.loop-end.invariant.sink (sink_printed c.in_err-print_record.ensures))
-
-pub returns-in_err-print_record-clause-printed : goal.returns-in_err-print_record-clause-printed
-returns-in_err-print_record-clause-printed g c limit bytes given =
+pub returns-in_err-print_record : goal.returns-in_err-print_record
+returns-in_err-print_record g c =
     let before = c.loop-end.invariant in
-    let to = before.printed limit bytes given in
-    records_failed limit bytes _ _ _ c.from_residual.result c.from_residual.ensures.0 (some_printed limit bytes _ _ to.records _ _ to.given (prefix_kept _ _ _ _ to.lines c.in_err-print_record.ensures.written))
+    on_err (ReadsRecords _ _ _ _ _ _ _ _ _ _) c.from_residual.result c.from_residual.ensures.0 (λ e. record {
+      told = λ limit bytes given.
+          let to = before.printed limit bytes given in
+          some_first (of_each show_line) (each_first show_line) to.given (prefix_kept _ _ _ _ to.lines c.in_err-print_record.ensures.written);
+      reads = amid_cut (amid_next before.amid (none_left c.next.result c.in_default.not-Some) c.next.ensures);
+      sink = sink_err (sink_then before.sink (sink_printed c.in_err-print_record.ensures));
+    })

@@ -2,8 +2,8 @@ use Rattle.std.proofs.Common.{refl, rules}
 use Rattle.talker.specs.Talking.{most_input}
 use Rattle.avtp_tool.specs.declared.status.Status.TheVariants as status
 use Rattle.avtp_tool.proofs.Making.{makes_none, writes_none}
-use Rattle.avtp_tool.proofs.Outcomes.{tells_line, undone_by}
-use Rattle.avtp_tool.proofs.Talked.{ends_not, stops_end, stops_fault, stops_limit, too_long}
+use Rattle.avtp_tool.proofs.Outcomes.{ends_not, tells_line, undone_by}
+use Rattle.avtp_tool.proofs.Talked.{stops_end, stops_fault, stops_limit, too_long}
 use Rattle.avtp_tool.proofs.talk.talk_contents.Goals as goal
 
 pub returns-in-End : goal.returns-in-End

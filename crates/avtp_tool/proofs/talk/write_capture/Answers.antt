@@ -1,4 +1,4 @@
-use Rattle.std.proofs.Common.{ℕ, List, [], refl, ap, subst, ◌∙◌}
+use Rattle.std.proofs.Common.{ℕ, List, [], refl, rules, ap, subst, ◌∙◌}
 use Rattle.capture_io.specs.Writing.{IsWriting}
 use Rattle.capture_io.proofs.Making.{writes_then}
 use Rattle.talker.specs.Frames.{capture}
@@ -6,10 +6,13 @@ use Rattle.avtp_tool.proofs.Making.{wrote_part, wrote_to_end}
 use Rattle.avtp_tool.proofs.Sending.{last_frame, next_frame, sent_all, sent_fewer, sent_more, sent_rest}
 use Rattle.avtp_tool.proofs.talk.write_capture.Goals as goal
 
-pub returns-in_err-add-clause-written : goal.returns-in_err-add-clause-written
-returns-in_err-add-clause-written g c = λ begun name making.
+pub returns-in_err-add : goal.returns-in_err-add
+returns-in_err-add g c =
     let all : List ℕ = capture c.args.talker.now.plan c.args.talker.now.input in
-    wrote_part all [] all c.from_residual.result c.from_residual.ensures.0 refl (c.in_err-add.ensures.kept begun name [] making)
+    record {
+      written = λ begun name making. wrote_part all [] all c.from_residual.result c.from_residual.ensures.0 refl (c.in_err-add.ensures.kept begun name [] making);
+      writes = (search rules);
+    }
 
 pub loop-sent-smaller : goal.loop-sent-smaller
 loop-sent-smaller g c =
@@ -38,16 +41,25 @@ loop-sent-preserved g c =
       writes = writes_then before.writes added.writes;
     }
 
-pub returns-in_err-add-2-clause-written : goal.returns-in_err-add-2-clause-written
-returns-in_err-add-2-clause-written g c = λ begun name making.
-    let plan = c.args.talker.now.plan in
-    let input : List ℕ = c.args.talker.now.input in
-    wrote_part _ _ _ c.from_residual-in_err-add-2.result c.from_residual-in_err-add-2.ensures.0 (sent_rest plan input c.loop-sent.talker.given) (c.in_err-add-2.ensures.kept begun name _ (c.loop-sent.invariant.put begun name making))
-
-pub returns-clause-written : goal.returns-clause-written
-returns-clause-written g c = λ begun name making.
-    let plan = c.args.talker.now.plan in
-    let input : List ℕ = c.args.talker.now.input in
+pub returns-in_err-add-2 : goal.returns-in_err-add-2
+returns-in_err-add-2 g c =
     let before = c.loop-sent.invariant in
-    let all = sent_all plan input c.loop-sent.talker.given (last_frame c.next.result c.loop-sent.talker plan input before.plan before.input c.next.ensures.frame c.in_default.not-Some) in
-    wrote_to_end _ _ _ all (before.put begun name making)
+    let plan = c.args.talker.now.plan in
+    let input : List ℕ = c.args.talker.now.input in
+    record {
+      written = λ begun name making.
+          wrote_part _ _ _ c.from_residual-in_err-add-2.result c.from_residual-in_err-add-2.ensures.0 (sent_rest plan input c.loop-sent.talker.given) (c.in_err-add-2.ensures.kept begun name _ (before.put begun name making));
+      writes = (search rules);
+    }
+
+pub returns : goal.returns
+returns g c =
+    let before = c.loop-sent.invariant in
+    let plan = c.args.talker.now.plan in
+    let input : List ℕ = c.args.talker.now.input in
+    record {
+      written = λ begun name making.
+          let all = sent_all plan input c.loop-sent.talker.given (last_frame c.next.result c.loop-sent.talker plan input before.plan before.input c.next.ensures.frame c.in_default.not-Some) in
+          wrote_to_end _ _ _ all (before.put begun name making);
+      writes = before.writes;
+    }

@@ -1,85 +1,49 @@
-use Rattle.std.proofs.Common.{◌≡◌, ◌+◌, ◌≤◌, [], ◌++◌, length, false, true, refl, sym, ap, ◌∙◌, arith, append-nil}
+use Rattle.std.proofs.Common.{Some, None, false, true, sym, ap, ◌∙◌, arith}
 use Rattle.std.specs.Prelude.{is_err}
-use Rattle.avtp_tool.specs.declared.hearing.Stage.TheVariants.{Ended}
-use Rattle.avtp_tool.specs.Hearing.{closed_at, pull_at}
-use Rattle.avtp_tool.proofs.HearingTo.{fine_match, left_on, pull_none, shows_all, shows_item, shows_still, stable_on, wrong_match}
+use Rattle.avtp_tool.specs.Hearing.{pull_at}
+use Rattle.avtp_tool.proofs.HearingTo.{fine_match, goes_out, goes_over, goes_still, goes_then, pull_none, sound_on, sound_over, wrong_match}
 use Rattle.avtp_tool.proofs.hearing.Hearing.next.Goals as goal
 
+pub loop-shown-init : goal.loop-shown-init
+loop-shown-init g c = record { going = c.requires.1; on = goes_still (λ begun first fresh earlier was. was) c.requires.0 (omega arith) }
+
 pub invariant_of-self : goal.invariant_of-self
-invariant_of-self g c =
-    let out = c.next_out.ensures in
-    record {
-      bounded = omega (arith, c.loop-shown.self.bounded, out.keeps.frames);
-      going = c.loop-shown.self.going;
-      closed = out.keeps.closed ∙ c.loop-shown.self.closed;
-      sound = stable_on _ c.loop-shown.self.sound (λ records given stands. (records, out.stands records given stands));
-    }
+invariant_of-self g c = record { sound = sound_on _ c.loop-shown.self.sound c.next_out.ensures.keeps c.next_out.ensures.stands }
 
 pub invariant_of-self-in_default-stage : goal.invariant_of-self-in_default-stage
-invariant_of-self-in_default-stage g c =
-    let out = c.next_out.ensures in
-    record {
-      bounded = omega (arith, c.loop-shown.self.bounded, out.keeps.frames);
-      going = c.loop-shown.self.going;
-      closed = out.keeps.closed ∙ c.loop-shown.self.closed;
-      sound = stable_on _ c.loop-shown.self.sound (λ records given stands. (records, out.stands records given stands));
-    }
+invariant_of-self-in_default-stage g c = record { sound = sound_on _ c.loop-shown.self.sound c.next_out.ensures.keeps c.next_out.ensures.stands }
 
 pub invariant_of-self-in-Showing : goal.invariant_of-self-in-Showing
-invariant_of-self-in-Showing g c =
-    let out = c.next_out.ensures in
-    record {
-      bounded = omega (arith, c.loop-shown.self.bounded, out.keeps.frames);
-      going = refl;
-      closed = out.keeps.closed ∙ c.loop-shown.self.closed ∙ ap closed_at c.in-Showing.is;
-      sound = stable_on _ c.loop-shown.self.sound (λ records given stands. (records, out.stands records given stands));
-    }
+invariant_of-self-in-Showing g c = record { sound = sound_over c.in-Showing.end c.in-Showing.is (sound_on _ c.loop-shown.self.sound c.next_out.ensures.keeps c.next_out.ensures.stands) }
 
-pub returns-in-Some-clause-shows : goal.returns-in-Some-clause-shows
-returns-in-Some-clause-shows g c begun source listener items shows =
-    shows_item c.in-Some.shown c.loop-shown.invariant.going c.in-Some.ensures.keeps c.in-Some.ensures.given c.in-Some.ensures.stands (c.loop-shown.invariant.shows begun source listener items shows)
+pub returns-in-Some-clause-on : goal.returns-in-Some-clause-on
+returns-in-Some-clause-on g c =
+    let before = c.loop-shown.invariant in
+    let out = c.in-Some.ensures in
+    goes_then before.on (goes_out (Some c.in-Some.shown) before.on.live before.going c.loop-shown.self.sound out.keeps out.given out.stands)
 
-pub returns-in-Some-clause-left : goal.returns-in-Some-clause-left
-returns-in-Some-clause-left g c =
-    let self = c.loop-shown.self in
-    let on = left_on 1 self.sound (λ records given stands. (records, c.in-Some.ensures.stands records given stands)) self.stage self.stage self.source self.source (omega (arith, c.in-Some.ensures.keeps.frames)) in
-    omega (arith, on, c.loop-shown.invariant.left)
-
-pub returns-in-Showing-clause-shows : goal.returns-in-Showing-clause-shows
-returns-in-Showing-clause-shows g c begun source listener items shows =
-    rw (c.pull_of.ensures, pull_none c.in-Showing.end, append-nil items)
-    (shows_all c.in-Showing.end c.in-Showing.is c.in_default.ensures.keeps c.in_default.ensures.given c.in_default.ensures.stands (c.loop-shown.invariant.shows begun source listener items shows))
-
-pub returns-in-Showing-clause-left : goal.returns-in-Showing-clause-left
-returns-in-Showing-clause-left g c =
-    let self = c.loop-shown.self in
-    let on = left_on 0 self.sound (λ records given stands. (records, c.in_default.ensures.stands records given stands)) self.stage (Ended c.in-Showing.end) self.source self.source (omega (arith, c.in_default.ensures.keeps.frames)) in
-    rw (c.pull_of.ensures, pull_none c.in-Showing.end) (omega (arith, on, c.loop-shown.invariant.left))
+pub returns-in-Showing-clause-on : goal.returns-in-Showing-clause-on
+returns-in-Showing-clause-on g c =
+    let before = c.loop-shown.invariant in
+    let out = c.in_default.ensures in
+    rw (c.pull_of.ensures, pull_none c.in-Showing.end) (goes_then before.on (goes_over c.in-Showing.end c.in-Showing.is before.on.live c.loop-shown.self.sound out.keeps out.given out.stands))
 
 pub returns-then-is_err : goal.returns-then-is_err
 returns-then-is_err g c =
-    let self = c.loop-shown.self in
-    let on = left_on 0 self.sound (λ records given stands. (records, c.in_default.ensures.stands records given stands)) self.stage self.stage self.source self.source (omega (arith, c.in_default.ensures.keeps.frames)) in
-    let stage = wrong_match c.read_record.result _ _ (sym c.is_err.ensures.value ∙ c.if-is_err.true) c.read_record.ensures.on in
+    let before = c.loop-shown.invariant in
+    let out = c.in_default.ensures in
+    let read = c.read_record.ensures in
     record {
-      shows = λ begun source listener items shows. rw (append-nil items)
-          (c.read_record.ensures.shows begun source listener items
-          (shows_still c.loop-shown.invariant.going c.in_default.ensures.keeps c.in_default.ensures.stands (c.loop-shown.invariant.shows begun source listener items shows)));
-      live = c.read_record.ensures.live;
-      left = omega (arith, on, c.read_record.ensures.left, c.loop-shown.invariant.left);
-      ended = ap pull_at stage;
+      on = goes_then before.on (goes_then (goes_out None before.on.live before.going c.loop-shown.self.sound out.keeps out.given out.stands) read.on);
+      ended = ap pull_at (wrong_match c.read_record.result _ _ (sym c.is_err.ensures.value ∙ c.if-is_err.true) read.stage);
     }
 
 pub loop-shown-preserved : goal.loop-shown-preserved
 loop-shown-preserved g c =
-    let self = c.loop-shown.self in
-    let on = left_on 0 self.sound (λ records given stands. (records, c.in_default.ensures.stands records given stands)) self.stage self.stage self.source self.source (omega (arith, c.in_default.ensures.keeps.frames)) in
-    let going = fine_match c.read_record.result _ _ (sym c.is_err.ensures.value ∙ c.if-is_err.false) c.read_record.ensures.on in
+    let before = c.loop-shown.invariant in
+    let out = c.in_default.ensures in
+    let read = c.read_record.ensures in
     record {
-      live = c.read_record.ensures.live;
-      going = going.0;
-      left = omega (arith, on, c.read_record.ensures.left, c.loop-shown.invariant.left);
-      shows = λ begun source listener items shows.
-          c.read_record.ensures.shows begun source listener items
-          (shows_still c.loop-shown.invariant.going c.in_default.ensures.keeps c.in_default.ensures.stands (c.loop-shown.invariant.shows begun source listener items shows));
+      going = (fine_match c.read_record.result _ _ (sym c.is_err.ensures.value ∙ c.if-is_err.false) read.stage).0;
+      on = goes_then before.on (goes_then (goes_out None before.on.live before.going c.loop-shown.self.sound out.keeps out.given out.stands) read.on);
     }

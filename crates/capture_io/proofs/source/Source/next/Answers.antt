@@ -3,11 +3,11 @@ use Rattle.capture_io.specs.Source.{Sourcing, GivesNext, ReadsOn, held_in}
 use Rattle.capture_io.proofs.Giving.{gives_again, gives_next, not_some}
 use Rattle.capture_io.proofs.source.Source.next.Goals as goal
 
-pub returns-then-is_some-clause-gives : goal.returns-then-is_some-clause-gives
-returns-then-is_some-clause-gives g c = gives_again _ c.args.self.now c.self.inside.ended (ap (λ (s : Sourcing). s.ended) (sym c.self.view_is)) (sym c.is_some.ensures ∙ c.if-is_some.true)
+pub returns-then-is_some : goal.returns-then-is_some
+returns-then-is_some g c = gives_again _ c.args.self.now c.self.inside.ended c.requires (ap (λ (s : Sourcing). s.ended) (sym c.self.view_is)) (sym c.is_some.ensures ∙ c.if-is_some.true)
 
-pub returns-clause-gives : goal.returns-clause-gives
-returns-clause-gives g c =
+pub returns : goal.returns
+returns g c =
     let ran = c.read_on-self-inside.ensures in
     let result = c.read_on-self-inside.result in
     let before = g.F.ReadSlots.state c.args.shelf.now in

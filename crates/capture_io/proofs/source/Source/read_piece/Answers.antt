@@ -6,8 +6,8 @@ use Rattle.capture_io.specs.Source.{EndsAfter, Sourcing, HasFed, held_in, remain
 use Rattle.capture_io.proofs.Giving.{ended_so, stop_counted, stop_rose, stopped}
 use Rattle.capture_io.proofs.source.Source.read_piece.Goals as goal
 
-pub returns-clause-on : goal.returns-clause-on
-returns-clause-on g c =
+pub returns : goal.returns
+returns g c =
     let before = (g.F.ReadSlots.state c.args.shelf.now).reading_faults in
     let after = (g.F.ReadSlots.state c.read.new.shelf).reading_faults in
     let free = ap held_in c.self.view_is ∙ c.requires.ready.1 in
