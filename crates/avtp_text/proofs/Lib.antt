@@ -5,3 +5,7 @@ pub mod Names
 pub mod Printing
 pub mod Hex
 pub mod Samples
+pub mod Overwriting
+pub mod Tables
+pub mod Gaps
+pub mod Carried

@@ -1,8 +1,12 @@
 pub mod Written
 pub mod Pieces
+pub mod Overwrites
+pub mod Pairs
+pub mod SampleLines
 pub mod Notices
 pub mod Show
 pub mod Check
 pub mod Listen
 pub mod Talk
 pub mod Soak
+pub mod Instants

@@ -1,6 +1,6 @@
 //! The one buffer through which all text goes.
 
-ghost use Rattle.std.specs.Prelude.{◌≡◌, ◌+◌, ◌≤◌, ◌<◌, [], ◌++◌, length, take, OnOk, IfOk, OnErr};
+ghost use Rattle.std.specs.Prelude.{◌≡◌, ◌+◌, ◌≤◌, ◌<◌, [], ◌++◌, length, take, OnOk, IfOk};
 ghost use Rattle.avtp_base.specs.Told.{Appends, Keeps};
 ghost use Rattle.avtp_base.specs.Faults.{IsCounted, Rose};
 ghost use Rattle.avtp_text.specs.Written.{written, Grows, Prints};
@@ -61,6 +61,7 @@ impl Text {
 
     /// Writes all that waits to the sink. Where the sink fails, what it has not taken still waits.
     #[tactic(auto, using(crate::proofs::Moved::written_moved, crate::proofs::Growth::grows_by))]
+    #[inline(never)]
     pub fn flush<S: Output>(&mut self, out: &mut S) -> Result<(), Failed>
         ensures written { Keeps (written (S.state out.old).held self.old) (written (S.state out.new).held self.new) }
         ensures none_waits { OnOk result (self.new ≡ []) }
@@ -78,6 +79,7 @@ impl Text {
 
     /// Makes room for a piece of so many bytes.
     #[tactic(auto, using(crate::proofs::Growth::grows_none))]
+    #[inline(always)]
     pub(crate) fn make_room<S: Output>(&mut self, out: &mut S, len: usize) -> Result<(), Failed>
         requires { len ≤ ROOM }
         ensures written { Keeps (written (S.state out.old).held self.old) (written (S.state out.new).held self.new) }
@@ -92,6 +94,7 @@ impl Text {
     }
 
     /// Adds a piece of text. There must be room for it.
+    #[inline(always)]
     pub(crate) fn push(&mut self, piece: &[u8])
         requires { length self.old + length piece.now ≤ ROOM }
         ensures { self.new ≡ self.old ++ piece.now }
@@ -100,6 +103,7 @@ impl Text {
     }
 
     /// Adds a piece of text of at most [`ROOM`] bytes, whole, or nothing where the sink fails.
+    #[inline(always)]
     pub fn print<S: Output>(&mut self, out: &mut S, piece: &[u8]) -> Result<(), Failed>
         requires { length piece.now ≤ ROOM }
         ensures { Prints (S.state out.old) (S.state out.new) self.old self.new result piece.now }

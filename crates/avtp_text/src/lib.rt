@@ -3,9 +3,12 @@
 
 mod buffer;
 mod check;
+mod instants;
 mod line;
 mod listen;
 mod notices;
+mod pairs;
+mod sample_line;
 mod show;
 mod soak;
 mod talk;

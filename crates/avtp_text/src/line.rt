@@ -1,10 +1,13 @@
 //! One line of text while it is put together.
 
-ghost use Rattle.std.specs.Prelude.{◌≡◌, ◌+◌, ◌*◌, ◌≤◌, [], ◌++◌, length, decimal};
+ghost use Rattle.std.specs.Prelude.{◌≡◌, ◌+◌, ◌*◌, ◌<◌, ◌≤◌, [], ◌++◌, length, decimal};
 ghost use Rattle.std.specs.Fmt.{signed_decimal};
 ghost use Rattle.hex.specs.Hex.{encode_lower};
 ghost use Rattle.avtp_text.specs.Pieces.{newline, id_text, flag_text, refusal_text};
+ghost use Rattle.avtp_text.specs.Overwrites.{Overwrites};
+ghost use Rattle.avtp_text.specs.Pairs.{eight_digits};
 
+use crate::pairs::{write_eight_digits, write_hex};
 use avtp_base::Refusal;
 use std::marker::Model;
 
@@ -52,6 +55,23 @@ impl Line {
             scratch: [0; LONGEST],
             start: LONGEST,
         }
+    }
+
+    /// Begins anew, with the newline alone.
+    #[inline(always)]
+    pub fn restart(&mut self)
+        ensures { self.new ≡ newline }
+    {
+        self.scratch[LONGEST - 1] = b'\n';
+        self.start = LONGEST - 1;
+    }
+
+    /// How many bytes the line has.
+    #[inline(always)]
+    pub fn len(&self) -> usize
+        ensures { result ≡ length self.now }
+    {
+        LONGEST - self.start
     }
 
     /// The line's bytes.
@@ -167,9 +187,7 @@ impl Line {
         ensures len { length self.new ≡ 2 * length bytes.now + length self.old }
     {
         let start = self.start - 2 * bytes.len();
-        let Ok(()) = hex::encode_to_slice(bytes, &mut self.scratch[start..self.start]) else {
-            unreachable!()
-        };
+        write_hex(bytes, &mut self.scratch[start..self.start]);
         self.start = start;
     }
 
@@ -185,5 +203,44 @@ impl Line {
         }
         self.prepend_u64(" at ", refusal.at);
         self.prepend(refusal.field.name());
+    }
+    /// Where in its memory so many bytes of the line begin that stand before its last `behind` ones.
+    #[inline(always)]
+    fn place_of(&self, len: usize, behind: usize) -> usize
+        requires { len + behind ≤ length self.now }
+        ensures { result + len + behind ≡ LONGEST }
+    {
+        self.start + (self.len() - behind - len)
+    }
+
+    /// Writes the last eight digits of a number over eight bytes of the line, before its last `behind` ones.
+    #[inline(always)]
+    pub fn overwrite_eight_digits(&mut self, number: u32, behind: usize)
+        requires number { number < 100000000 }
+        requires room { 8 + behind ≤ length self.old }
+        ensures { Overwrites self.old self.new (eight_digits number) behind }
+    {
+        let place = self.place_of(8, behind);
+        write_eight_digits(number, &mut self.scratch[place..place + 8]);
+    }
+
+    /// Writes a number's digits over as many bytes of the line, before its last `behind` ones.
+    #[inline(always)]
+    pub fn overwrite_decimal(&mut self, number: u64, behind: usize)
+        requires { length (decimal number) + behind ≤ length self.old }
+        ensures { Overwrites self.old self.new (decimal number) behind }
+    {
+        itoa::write_digits(number, &mut self.scratch, LONGEST - behind);
+    }
+
+    /// Writes the hexadecimal digits of bytes over as many bytes of the line, before its last `behind` ones.
+    #[inline(always)]
+    pub fn overwrite_hex(&mut self, bytes: &[u8], behind: usize)
+        requires { 2 * length bytes.now + behind ≤ length self.old }
+        ensures { Overwrites self.old self.new (encode_lower bytes.now) behind }
+    {
+        let len = 2 * bytes.len();
+        let place = self.place_of(len, behind);
+        write_hex(bytes, &mut self.scratch[place..place + len]);
     }
 }

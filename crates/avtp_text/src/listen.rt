@@ -3,33 +3,21 @@
 ghost use Rattle.std.specs.Prelude.{◌≡◌, ◌+◌, ◌*◌, ◌/◌, ◌<◌, ◌≤◌, ◌++◌, length};
 ghost use Rattle.hex.specs.Hex.{encode_lower};
 ghost use Rattle.avtp_text.specs.Listen.{batch_lines, capture_line, end_listen_line, flag_line, list_lines, reason_text, sample_bytes, sample_line, due_text, place_text, shown_lines};
+ghost use Rattle.avtp_text.specs.Instants.{IsInstantOf};
 ghost use Rattle.avtp_text.specs.Pieces.{newline};
+ghost use Rattle.avtp_text.specs.SampleLines.{KnowsGaps};
 ghost use Rattle.avtp_text.specs.Written.{Prints, PrintsPart};
 
 use crate::buffer::{ROOM, Text};
+use crate::instants::Instant;
 use crate::line::{LONGEST, Line};
+use crate::sample_line::{SHORT, SampleLine, prepend_place};
 use avtp_base::{Failed, Output};
 use listener::Counts;
 use sample_schedule::{Batch, Reason, Shown};
 
-/// The most bytes of a sample with which its line fits a [`Line`]: 64.
-const SHORT: usize = 64;
-
 /// The bytes that are printed at a time of a longer sample.
 const PIECE: usize = 2_048;
-
-/// Puts before the line which sample of which packet it is.
-#[tactic(auto, unfolding(crate::specs::Listen::place_text))]
-#[inline(always)]
-fn prepend_place(line: &mut Line, seq: u8, j: u32)
-    requires { 34 + length line.old ≤ LONGEST }
-    ensures text { line.new ≡ place_text seq j ++ line.old }
-    ensures len { length line.new ≤ 34 + length line.old }
-{
-    line.prepend(" ");
-    line.prepend_u32(" sample ", j);
-    line.prepend_u32(" seq ", seq as u32);
-}
 
 /// Puts before the line when a sample is due, and the frame that it came in.
 #[tactic(auto, unfolding(crate::specs::Listen::due_text))]
@@ -134,6 +122,56 @@ impl Text {
         self.print(out, line.as_slice())
     }
 
+    /// Prints a sample of a batch in one piece. Any line that stands there already is that of another sample of the batch.
+    #[inline(always)]
+    fn short_sample<S: Output>(
+        &mut self,
+        out: &mut S,
+        line: &mut SampleLine,
+        batch: &Batch,
+        instant: Instant,
+        bytes: &[u8],
+    ) -> Result<(), Failed>
+        requires short { length bytes.now ≤ SHORT }
+        requires inside { instant.j < batch.now.count }
+        requires bytes { bytes.now ≡ sample_bytes batch.now instant.j }
+        requires instant { IsInstantOf instant batch.now }
+        requires gaps { KnowsGaps line.old batch.now.frame batch.now.seq (length bytes.now) }
+        ensures prints { PrintsPart (S.state out.old) (S.state out.new) self.old self.new result (sample_line batch.now instant.j) }
+        ensures gaps { KnowsGaps line.new batch.now.frame batch.now.seq (length bytes.now) }
+    {
+        line.write(
+            instant.nanoseconds,
+            batch.frame,
+            batch.seq,
+            instant.j,
+            bytes,
+        );
+        self.print(out, line.as_slice())
+    }
+
+    /// Prints the samples of a batch, each of which has so few bytes that its line fits a [`Line`].
+    fn short_samples<S: Output>(
+        &mut self,
+        out: &mut S,
+        batch: &Batch,
+        size: usize,
+    ) -> Result<(), Failed>
+        requires short { size ≤ SHORT }
+        requires size { size ≡ length batch.now.bytes / batch.now.count }
+        ensures { PrintsPart (S.state out.old) (S.state out.new) self.old self.new result (batch_lines batch.now) }
+    {
+        let bytes = batch.bytes.as_slice();
+        let mut line = SampleLine::new();
+        let mut instant = Instant::first(batch);
+        for j in 0..batch.count {
+            let start = j as usize * size;
+            self.short_sample(out, &mut line, batch, instant, &bytes[start..start + size])?;
+            instant.next(batch);
+        }
+        Ok(())
+    }
+
     /// Prints sample `j` of a batch, whose bytes these are.
     fn sample<S: Output>(
         &mut self,
@@ -146,47 +184,7 @@ impl Text {
         requires bytes { bytes.now ≡ sample_bytes batch.now j }
         ensures { PrintsPart (S.state out.old) (S.state out.new) self.old self.new result (sample_line batch.now j) }
     {
-        self.one_sample(out, batch.instant(j), batch.frame, batch.seq, j, bytes)
-    }
-
-    /// Prints a sample with these bytes.
-    #[tactic(auto, using(crate::proofs::Printing::part_of))]
-    fn one_sample<S: Output>(
-        &mut self,
-        out: &mut S,
-        instant: i64,
-        frame: u64,
-        seq: u8,
-        j: u32,
-        bytes: &[u8],
-    ) -> Result<(), Failed>
-        ensures { PrintsPart (S.state out.old) (S.state out.new) self.old self.new result (due_text instant frame ++ place_text seq j ++ encode_lower bytes.now ++ newline) }
-    {
-        if bytes.len() <= SHORT {
-            self.short_sample(out, instant, frame, seq, j, bytes)
-        } else {
-            self.long_sample(out, instant, frame, seq, j, bytes)
-        }
-    }
-
-    /// Prints a sample in one piece.
-    fn short_sample<S: Output>(
-        &mut self,
-        out: &mut S,
-        instant: i64,
-        frame: u64,
-        seq: u8,
-        j: u32,
-        bytes: &[u8],
-    ) -> Result<(), Failed>
-        requires { length bytes.now ≤ SHORT }
-        ensures { Prints (S.state out.old) (S.state out.new) self.old self.new result (due_text instant frame ++ place_text seq j ++ encode_lower bytes.now ++ newline) }
-    {
-        let mut line = Line::new();
-        line.prepend_hex(bytes);
-        prepend_place(&mut line, seq, j);
-        prepend_due(&mut line, instant, frame);
-        self.print(out, line.as_slice())
+        self.long_sample(out, batch.instant(j), batch.frame, batch.seq, j, bytes)
     }
 
     /// Prints a sample of any length.
@@ -209,17 +207,34 @@ impl Text {
         self.print(out, b"\n")
     }
 
-    /// Prints the samples of a batch, one on each line.
-    fn batch<S: Output>(&mut self, out: &mut S, batch: &Batch) -> Result<(), Failed>
+    /// Prints the samples of a batch, of any length.
+    fn long_samples<S: Output>(
+        &mut self,
+        out: &mut S,
+        batch: &Batch,
+        size: usize,
+    ) -> Result<(), Failed>
+        requires { size ≡ length batch.now.bytes / batch.now.count }
         ensures { PrintsPart (S.state out.old) (S.state out.new) self.old self.new result (batch_lines batch.now) }
     {
         let bytes = batch.bytes.as_slice();
-        let size = bytes.len() / batch.count as usize;
         for j in 0..batch.count {
             let start = j as usize * size;
             self.sample(out, batch, j, &bytes[start..start + size])?;
         }
         Ok(())
+    }
+
+    /// Prints the samples of a batch, one on each line.
+    fn batch<S: Output>(&mut self, out: &mut S, batch: &Batch) -> Result<(), Failed>
+        ensures { PrintsPart (S.state out.old) (S.state out.new) self.old self.new result (batch_lines batch.now) }
+    {
+        let size = batch.bytes.as_slice().len() / batch.count as usize;
+        if size <= SHORT {
+            self.short_samples(out, batch, size)
+        } else {
+            self.long_samples(out, batch, size)
+        }
     }
 
     /// Prints what a schedule shows: the samples that are presented, and why an item is not.

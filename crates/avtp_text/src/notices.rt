@@ -1,6 +1,5 @@
 //! The lines that any command may write at its end.
 
-ghost use Rattle.std.specs.Prelude.{◌≡◌};
 ghost use Rattle.avtp_text.specs.Notices.{capture_refused_line, read_fault_line, device_fault_line, limit_line, words_line};
 ghost use Rattle.avtp_text.specs.Written.{Prints};
 

@@ -1,6 +1,5 @@
 //! The line of `soak`: what became of the packets of a stream that were sent over a bad network.
 
-ghost use Rattle.std.specs.Prelude.{◌≡◌};
 ghost use Rattle.avtp_text.specs.Soak.{soak_line};
 ghost use Rattle.avtp_text.specs.Written.{Prints};
 

@@ -1,6 +1,6 @@
 //! The printed text of each line, through sinks that take little at a time and fail in mid-stream.
 
-ghost use Rattle.std.specs.Prelude.{◌≡◌, ◌≤◌, IfOk};
+ghost use Rattle.std.specs.Prelude.{◌≡◌, ◌≤◌};
 
 use crate::Text;
 use aaf_format::{AafFormat, AafView};

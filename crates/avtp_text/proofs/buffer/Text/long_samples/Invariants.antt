@@ -2,7 +2,7 @@ use Rattle.std.proofs.Common.{Ok, flat_map}
 use Rattle.std.specs.List.{range_with_len}
 use Rattle.avtp_text.specs.Listen.{sample_line}
 use Rattle.avtp_text.specs.Written.{PrintsPart}
-use Rattle.avtp_text.proofs.buffer.Text.batch.Given as goal
+use Rattle.avtp_text.proofs.buffer.Text.long_samples.Given as goal
 
 abbrev pub invariant-loop-j : goal.invariant-loop-j
 invariant-loop-j g l =

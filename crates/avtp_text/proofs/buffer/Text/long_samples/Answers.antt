@@ -3,7 +3,7 @@ use Rattle.sample_schedule.specs.Batches.{Presented}
 use Rattle.avtp_text.specs.Listen.{sample_line}
 use Rattle.avtp_text.proofs.Printing.{part_as, part_then}
 use Rattle.avtp_text.proofs.Samples.{one_more, lines_failed}
-use Rattle.avtp_text.proofs.buffer.Text.batch.Goals as goal
+use Rattle.avtp_text.proofs.buffer.Text.long_samples.Goals as goal
 
 pub returns-in_err-sample : goal.returns-in_err-sample
 returns-in_err-sample g c =
