@@ -17,16 +17,17 @@ use Rattle.sample_schedule.specs.declared.item.Item.{Item}
 use Rattle.sample_schedule.specs.Judge.{JudgeState, StandsFor as JudgeStandsFor, taken}
 use Rattle.sample_schedule.specs.Schedule.{due}
 use Rattle.sample_schedule.proofs.Growing.{due-grows}
-use Rattle.sample_schedule.proofs.JudgeLemmas.{all-taken}
+use Rattle.sample_schedule.proofs.JudgeLemmas.{all-taken, nothing-due}
 use Rattle.packet_journal.specs.Deliveries.{Delivery, deliveries, delivery, is_delivered, packet_in}
 use Rattle.listener.specs.declared.heard.Counts.{Counts}
 use Rattle.listener.specs.declared.plan.ListenPlan.{ListenPlan}
 use Rattle.listener.specs.Heard.{counts_of, deliveries_of, entries_in, entries_so_far_in, is_flag, is_present, schedule_plan, shown_of, due_of}
 use Rattle.listener.specs.Gathering.{Gathered, HasUnits, item_entry, left}
 use Rattle.listener.specs.Items.{entries_so_far, given_by, items_so_far, left_at_end, made_entry}
-use Rattle.listener.specs.Listening.{Judges, ListenState, StandsFor, entries_by, is_closed, out, shown_by, with_record, with_shown}
+use Rattle.listener.specs.Listening.{Judges, ListenState, Rests, StandsFor, entries_by, is_closed, out, shown_by, with_record, with_shown}
 use Rattle.listener.proofs.Due.{due_first, entries_at_end}
 use Rattle.listener.proofs.Few.{deliveries-few, entries-few, few, so-far-few}
+use Rattle.listener.proofs.Judging.{none_in}
 use Rattle.listener.proofs.Further.{more_by, none_more, of_none, of_stream, one_more}
 use Rattle.listener.proofs.Made.{so_far_next}
 
@@ -346,6 +347,24 @@ stands_begun plan units judge counts schedule lasting stands has none no_counts 
 pub given_out : (records : List Record) (given : ℕ) (l : ListenState) (x : Option Shown) → StandsFor records given l
     → x ≡ slice_get (shown_by (is_closed l) l.judge.plan (entries_by (is_closed l) l.plan records)) given → x ≡ slice_get (out l records) given
 given_out records given l x st is = is ∙ ap (λ (o : List Shown). slice_get o given) (out_judged l records st.plan)
+
+-- a listener that rests shows nothing more
+pub nothing_out : (records : List Record) (given : ℕ) (l : ListenState) → StandsFor records given l → Rests l → None ≡ slice_get (out l records) given
+nothing_out records given l st rests =
+    let still = judge_open records given l st rests.opened in
+    given_out records given l None st
+    (none_in (is_closed l) l.judge l.units _ given st.judges rests.idle.none (λ e. never l.judge.closed e still) (λ e. never (is_closed l) e rests.opened)
+    (sym (nothing-due clock_spot st.judges.judged given l.judge st.judges.stands still rests.idle.judge)))
+
+-- a record that is passed leaves it at rest
+pub still_rests : (old new : ListenState) → is_closed new ≡ is_closed old → new.judge ≡ old.judge → new.units ≡ old.units → Rests old → Rests new
+still_rests old new closed judge units rests = record {
+  opened = closed ∙ rests.opened;
+  idle = record {
+    judge = ap (λ (j : JudgeState). j.current) judge ∙ rests.idle.judge;
+    none = ap left units ∙ rests.idle.none;
+  };
+}
 
 -- what is left to be shown is one less after an item
 pub work_less : (old new : Counts) (x : Shown) → new ≡ with_shown old x → old.presented + old.flagged < old.frames

@@ -52,6 +52,11 @@ pub record IsIdle (listener : ListenState) : Type 0 where
   pub judge : IsIdleJudge listener.judge
   pub none : left listener.units ≡ []
 
+-- all that is due was given, and records may follow
+pub record Rests (listener : ListenState) : Type 0 where
+  pub opened : is_closed listener ≡ false
+  pub idle : IsIdle listener
+
 -- The judge was given the first of these entries, and has given so many items of what it shows of them; the others wait.
 pub record Judges (entries : List Entry) (given : ℕ) (judge : JudgeState) (units : Gathered) : Type 0 where
   pub judged : List Entry

@@ -42,18 +42,21 @@ pub struct RecordListener {
     ended: bool,
     /// The judge was told that nothing follows.
     closed: bool,
+    /// All that is due was given, and nothing came since that could change that.
+    idle: bool,
     counts: Counts,
 }
 
 impl Model for RecordListener {
-    ghost use Rattle.std.specs.Prelude.{◌≡◌};
-    ghost use Rattle.listener.specs.Listening.{IsSound, ListenState};
+    ghost use Rattle.std.specs.Prelude.{◌≡◌, true};
+    ghost use Rattle.listener.specs.Listening.{IsSound, ListenState, Rests};
 
     ghost Value = { ListenState };
 
     ghost view = { λ listener. record { plan = listener.plan; units = listener.units; judge = listener.judge; ended = listener.ended; counts = listener.counts } };
 
-    ghost invariant = { λ listener. IsSound (record { plan = listener.plan; units = listener.units; judge = listener.judge; ended = listener.ended; counts = listener.counts }) × (listener.closed ≡ listener.judge.closed) };
+    ghost invariant = { λ listener. IsSound (record { plan = listener.plan; units = listener.units; judge = listener.judge; ended = listener.ended; counts = listener.counts }) × (listener.closed ≡ listener.judge.closed)
+        × (listener.idle ≡ true → Rests (record { plan = listener.plan; units = listener.units; judge = listener.judge; ended = listener.ended; counts = listener.counts })) };
 }
 
 impl RecordListener {
@@ -74,6 +77,7 @@ impl RecordListener {
             judge,
             ended: false,
             closed: false,
+            idle: false,
             counts: Counts::none(),
         })
     }
@@ -101,6 +105,7 @@ impl RecordListener {
             }
             Some(delivery) => {
                 take_delivery(alloc, &mut self.units, &mut self.judge, &delivery)?;
+                self.idle = false;
                 self.counts = self.counts.with_record(delivery.subtype != subtype::CRF);
                 Ok(())
             }
@@ -109,6 +114,7 @@ impl RecordListener {
 
     /// The next item that is shown of the records so far: while further ones may follow, of what is due, and once the listener
     /// is closed of all. None comes exactly where all of that was shown. Takes no memory.
+    #[inline(always)]
     pub fn next_out(&mut self) -> Option<Shown>
         ensures given { (records : List Record) (given : ℕ) → StandsFor records given self.old → result ≡ slice_get (out self.old records) given }
         ensures stands { (records : List Record) (given : ℕ) → StandsFor records given self.old → StandsFor records (given + length (option_to_list result)) self.new }
@@ -116,14 +122,24 @@ impl RecordListener {
         ensures keeps { Keeps self.old self.new }
         ensures less { work self.new + length (option_to_list result) ≤ work self.old }
     {
-        let shown = next_shown(
+        if self.idle {
+            return None;
+        }
+        match next_shown(
             &mut self.units,
             &mut self.judge,
             self.ended,
             &mut self.closed,
-        )?;
-        self.counts = self.counts.with_shown(&shown);
-        Some(shown)
+        ) {
+            Some(shown) => {
+                self.counts = self.counts.with_shown(&shown);
+                Some(shown)
+            }
+            None => {
+                self.idle = !self.ended;
+                None
+            }
+        }
     }
 
     /// Says that no record follows. Nothing is due of the records so far. Takes no memory.
@@ -138,6 +154,7 @@ impl RecordListener {
     {
         self.units.end();
         self.ended = true;
+        self.idle = false;
     }
 
     /// The numbers of the records so far, of those that belong to the stream, and of the batches and flags that were shown.

@@ -14,6 +14,7 @@ invariant_of-result c = (
     few = omega (arith, ap (λ (n : Counts). n.frames) c.none.ensures);
   },
   sym c.in_ok-judge.ensures.open,
+  λ rests. absurd cc,
 )
 
 pub returns-clause-stands : goal.returns-clause-stands

@@ -14,6 +14,7 @@ invariant_of-self c =
         few = sound.few;
       },
       c.self.invariant.1,
+      λ rests. absurd cc,
     )
 
 pub returns-clause-stands : goal.returns-clause-stands

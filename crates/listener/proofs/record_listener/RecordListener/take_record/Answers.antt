@@ -11,7 +11,7 @@ use Rattle.listener.specs.Items.{given_by, made_entry}
 use Rattle.listener.specs.Listening.{Judges, ListenState, StandsFor, is_closed, with_record}
 use Rattle.listener.specs.Views.{delivery_shape}
 use Rattle.listener.proofs.Further.{chosen, not_chosen}
-use Rattle.listener.proofs.Listened.{judge_open, judges_open, packets_few, stands_with, stands_without, taken_few}
+use Rattle.listener.proofs.Listened.{judge_open, judges_open, packets_few, stands_with, still_rests, stands_without, taken_few}
 use Rattle.listener.proofs.record_listener.RecordListener.take_record.Goals as goal
 
 pub with_record-self-inside-requires-clause-within : goal.with_record-self-inside-requires-clause-within
@@ -54,6 +54,7 @@ invariant_of-self c =
         few = omega (arith, c.requires.few, ap (λ (l : ListenState). l.counts.frames) c.self.view_is, ap (λ (n : Counts). n.frames) c.with_record-self-inside.ensures);
       },
       c.self.invariant.1,
+      λ rests. still_rests _ _ refl refl refl (c.self.invariant.2 rests),
     )
 
 pub returns-in_ok-take_delivery-in-Some-clause-stands : goal.returns-in_ok-take_delivery-in-Some-clause-stands
@@ -96,4 +97,5 @@ invariant_of-self-in-Some c =
         few = omega (arith, c.requires.few, ap (λ (l : ListenState). l.counts.frames) c.self.view_is, ap (λ (n : Counts). n.frames) c.with_record-self-inside-in-Some.ensures);
       },
       c.self.invariant.1 ∙ (judge_open records given _ st opened ∙ sym ok.open),
+      λ rests. absurd cc,
     )
