@@ -1,0 +1,92 @@
+//! What captures are drawn from: streams of conforming talkers, and the vectors.
+
+use crate::commands::talked;
+use crate::draws::Draws;
+use crate::records::{Record, records_of};
+use avtp_base::NoMemory;
+use std::alloc::Global;
+use std::thread::Threads;
+use vectors_avtp::vector;
+
+/// What talkers are asked for. All have one stream id, and one id of their media clocks.
+pub const TALKS: [&str; 9] = [
+    "--kind aaf",
+    "--sparse --restart 8",
+    "--crf 0200000000010002 --crf-interval 6",
+    "--format int24 --rate 96000 --channels 8 --crf 0200000000010002 --crf-points 3",
+    "--format float32 --rate 192000 --channels 1 --count 12",
+    "--kind am824",
+    "--kind am824 --rate 44100 --crf 0200000000010002",
+    "--kind h264",
+    "--kind h264 --last-stamp --rate 240",
+];
+
+/// The most records of a stream.
+const MOST: usize = 160;
+
+/// What the talkers are given, and the records of their streams and of the vectors.
+#[derive(Drop)]
+pub struct Bases {
+    input: Vec<u8>,
+    streams: Vec<Vec<Record>>,
+}
+
+impl Bases {
+    /// Has each talker talk.
+    pub fn new<T: Threads + Sync>(rt: &T, alloc: Global) -> Result<Self, NoMemory> {
+        let input = input(alloc)?;
+        let mut streams = Vec::new(alloc);
+        streams.push(vectors(alloc)?)?;
+        for options in TALKS {
+            let capture = talked(rt, alloc, options, &input)?;
+            streams.push(records_of(alloc, &capture, MOST)?)?;
+        }
+        Ok(Bases { input, streams })
+    }
+
+    /// Up to 40 records of a stream that stand beside each other.
+    pub fn records(&self, alloc: Global, draws: &mut Draws) -> Result<Vec<Record>, NoMemory> {
+        let mut records = Vec::new(alloc);
+        if let Some(stream) = self.streams.get(draws.below(self.streams.len())) {
+            let first = draws.below(stream.len());
+            for record in stream.iter().skip(first).take(draws.below(40) + 1) {
+                records.push(record.copied(alloc)?)?;
+            }
+        }
+        Ok(records)
+    }
+
+    /// A part of what the talkers are given.
+    pub fn samples(&self, alloc: Global, draws: &mut Draws) -> Result<Vec<u8>, NoMemory> {
+        let size = draws.below(self.input.len());
+        let part = self.input.get(..size - size % 24).unwrap_or(&[]);
+        Ok(Vec::from_slice(alloc, part)?)
+    }
+}
+
+/// Whole sample frames of each talker, which are a byte stream of H.264, too: short NAL units, and one that needs fragments.
+fn input(alloc: Global) -> Result<Vec<u8>, NoMemory> {
+    let mut bytes = Vec::new(alloc);
+    for n in 0..3_840_u32 {
+        bytes.push(match n % 240 {
+            0..=2 if n < 1_200 => 0,
+            3 if n < 1_200 => 1,
+            4 if n < 1_200 => 0x65,
+            _ => (n % 251) as u8,
+        })?;
+    }
+    Ok(bytes)
+}
+
+/// Records of the vectors' packets, each in a frame as the first one has it.
+fn vectors(alloc: Global) -> Result<Vec<Record>, NoMemory> {
+    let first = vector(alloc, 1)?;
+    let mut records = records_of(alloc, &first, MOST)?;
+    for n in 2..5 {
+        let mut frame = Vec::from_slice(alloc, first.get(40..58).unwrap_or(&[]))?;
+        frame.extend_from_slice(&vector(alloc, n)?)?;
+        let at = 1_000_000_000;
+        records.push(Record { at, frame })?;
+    }
+    Ok(records)
+}

@@ -1,0 +1,77 @@
+//! `hostile SEED COUNT` damages so many captures and runs every command over each, in this process: the text is of the grammar
+//! and goes with the status, a second run gives the same, and so does one that is given its file in pieces of one byte. A line
+//! tells of each command that is wrong, and the last one how many there were; the program ends with 0 where none was. `hostile
+//! SEED COUNT FIRST` begins at another number than 1: a capture is made of the seed and its number alone.
+#![tactic(auto)]
+
+mod bases;
+mod commands;
+mod damage;
+mod draws;
+mod grammar;
+mod records;
+mod trials;
+
+use crate::bases::Bases;
+use crate::draws::Draws;
+use crate::grammar::pattern;
+use crate::trials::try_commands;
+use regex::Regex;
+use std::env;
+use std::process::ExitCode;
+use std::thread::Threads;
+
+/// The runs over each capture: four commands, each once, once more, and once in pieces.
+const RUNS: u64 = 12;
+
+/// Which captures are made.
+#[derive(Clone, Copy)]
+struct Asked {
+    seed: u64,
+    count: u64,
+    first: u64,
+}
+
+fn main(rt: HostRuntime) -> ExitCode {
+    match run_all(&rt, &rt) {
+        Some(0) => ExitCode::SUCCESS,
+        _ => ExitCode::FAILURE,
+    }
+}
+
+/// What the words behind the program's name ask for.
+fn read_words(rt: &HostRuntime) -> Option<Asked> {
+    let words: Vec<String> = env::args(rt).ok()?.skip(1).collect(rt.alloc()).ok()?;
+    let first = words.get(2).map_or("1", |word| word.as_str());
+    Some(Asked {
+        seed: words.get(0)?.parse().ok()?,
+        count: words.get(1)?.parse().ok()?,
+        first: first.parse().ok()?,
+    })
+}
+
+/// Makes all captures, and answers how many commands were wrong.
+fn run_all<T: Threads + Sync>(rt: &HostRuntime, threads: &T) -> Option<u64> {
+    let alloc = rt.alloc();
+    let Asked { seed, count, first } = read_words(rt)?;
+    let bases = Bases::new(threads, alloc).ok()?;
+    let pattern = pattern(alloc).ok()?;
+    let regex = Regex::new(alloc, pattern.as_str()).ok()?;
+    let mut grammar = regex.matcher(alloc).ok()?;
+    let mut runs: u64 = 0;
+    let mut wrong: u64 = 0;
+    for number in first..first.saturating_add(count) {
+        let mut draws = Draws::of(seed, number);
+        runs = runs.saturating_add(RUNS);
+        for found in try_commands(threads, alloc, &mut grammar, &bases, &mut draws).ok()? {
+            wrong = wrong.saturating_add(1);
+            println!(rt;
+                "seed {seed} number {number} {:?}: {}",
+                found.wrong, found.line
+            )
+            .ok()?;
+        }
+    }
+    println!(rt; "seed {seed} captures {count} runs {runs} wrong {wrong}").ok()?;
+    Some(wrong)
+}

@@ -1,0 +1,80 @@
+//! Every command over one damaged capture.
+
+use crate::bases::{Bases, TALKS};
+use crate::commands::{Wrong, wrong_with};
+use crate::damage::{damage_bytes, damaged};
+use crate::draws::Draws;
+use avtp_base::NoMemory;
+use regex::Matcher;
+use std::alloc::Global;
+use std::thread::Threads;
+
+/// The most bytes that may be read.
+const LIMIT: usize = 1 << 40;
+
+/// What `listen` is asked for.
+const LISTENS: [&str; 12] = [
+    "0200000000010001",
+    "--ring 256 0200000000010001",
+    "--look 1 --room 24 0200000000010001",
+    "--look 64 --lead 1000000000 0200000000010001",
+    "--lead 0 --buffer 1 0200000000010001",
+    "--buffer 3 --ring 1 0200000000010001",
+    "--clock 0200000000010002 0200000000010001",
+    "--clock 0200000000010002 --crf-shift -1000000000 0200000000010001",
+    "--clock 0200000000010002 --crf-shift 1000000000 0200000000010001",
+    "--clock 0200000000010002 --look 8 0200000000010001",
+    "--clock 0200000000010001 0200000000010002",
+    "ffffffffffffffff",
+];
+
+/// A command line with which something is wrong.
+#[derive(Drop)]
+pub struct Found {
+    pub line: String,
+    pub wrong: Wrong,
+}
+
+/// Runs each command over a damaged capture, or `talk` over damaged samples, and tells with which something is wrong.
+pub fn try_commands<T: Threads + Sync>(
+    rt: &T,
+    alloc: Global,
+    grammar: &mut Matcher<'_>,
+    bases: &Bases,
+    draws: &mut Draws,
+) -> Result<Vec<Found>, NoMemory> {
+    let mut records = bases.records(alloc, draws)?;
+    if draws.one_in(4) {
+        records.append(&mut bases.records(alloc, draws)?)?;
+    }
+    let capture = damaged(alloc, draws, records)?;
+    let mut samples = bases.samples(alloc, draws)?;
+    for _ in 0..draws.below(3) {
+        damage_bytes(draws, &mut samples)?;
+    }
+    let limit = if draws.one_in(8) {
+        draws.below(capture.len()) + 1
+    } else {
+        LIMIT
+    };
+    let input = if draws.one_in(2) { &samples } else { &capture };
+    let show = format!(in alloc; "show --limit {limit} in")?;
+    let check = format!(in alloc; "check --limit {limit} in")?;
+    let options = draws.pick_text(&LISTENS);
+    let listen = format!(in alloc; "listen --limit {limit} {options} in")?;
+    let options = draws.pick_text(&TALKS);
+    let talk = format!(in alloc; "talk {options} in out")?;
+    let cases = [
+        (show, &capture),
+        (check, &capture),
+        (listen, &capture),
+        (talk, input),
+    ];
+    let mut found = Vec::new(alloc);
+    for (line, file) in cases {
+        if let Some(wrong) = wrong_with(rt, alloc, grammar, line.as_str(), file)? {
+            found.push(Found { line, wrong })?;
+        }
+    }
+    Ok(found)
+}
