@@ -1,13 +1,13 @@
 //! `measure_check AVTP PACKETS STREAMS CAPTURE ..`: runs `avtp check` and `avtp show` in turn, to nothing, on captures of so many
 //! packets of so many streams, which have no findings. Prints, for the best run of each, seconds and the ratio.
 
+mod machine;
 mod runner;
 
+use machine::machine;
 use runner::{Runner, best_of};
 use std::env;
-use std::fs;
 use std::io::{self, Error};
-use std::thread::available_parallelism;
 
 const ROUNDS: usize = 20;
 
@@ -16,12 +16,7 @@ fn main() -> io::Result<()> {
     let [avtp, packets, captures @ ..] = words.as_slice() else {
         return Err(Error::other("measure_check AVTP PACKETS [STREAMS CAPTURE] .."));
     };
-    let load = fs::read_to_string("/proc/loadavg")?;
-    println!(
-        "{packets} packets, {} processors, load {} at the start, best of {ROUNDS} runs.\n",
-        available_parallelism()?,
-        load.split(' ').next().unwrap_or("unknown"),
-    );
+    println!("{packets} packets, {}.\n", machine(ROUNDS)?);
     println!("| streams | seconds of `avtp check` | of `avtp show` | ratio | largest resident memory of `avtp check`, KiB |");
     println!("|---|---|---|---|---|");
     for pair in captures.chunks_exact(2) {

@@ -1,6 +1,7 @@
 //! `measure_judge MEASURED YARDSTICK`: runs `measured judge` and its yardstick in turn, on packets in several orders, and prints
 //! for the best run of each how many nanoseconds a packet takes.
 
+mod machine;
 mod timed;
 
 use std::env;

@@ -2,6 +2,7 @@
 //! of one stream, and of a hundred of which one is wanted, and prints for the best run of each how many packets of the capture
 //! it takes a second.
 
+mod machine;
 mod timed;
 
 use std::env;

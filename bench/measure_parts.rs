@@ -1,13 +1,14 @@
 //! `measure_parts MEASURED ROUNDS`: runs `measured rounds` at several capacities in turn with its yardstick, and `measured lines`
-//! over windows of several sizes. Prints items a second with the ratios, and nanoseconds a look-up.
+//! over windows of several sizes. Prints items a second with the ratios, nanoseconds of processor time an item, and nanoseconds
+//! a look-up.
 
+mod machine;
 mod runner;
 
+use machine::machine;
 use runner::{Runner, best_of};
 use std::env;
-use std::fs;
 use std::io::{self, Error};
-use std::thread::available_parallelism;
 
 /// So many items go through a ring: more through a larger one, so that each run takes about as long.
 const ITEMS: [(&str, &str, f64); 4] = [
@@ -26,14 +27,9 @@ fn main() -> io::Result<()> {
     let [measured, yardstick] = &words[..] else {
         return Err(Error::other("measure_parts MEASURED ROUNDS"));
     };
-    let load = fs::read_to_string("/proc/loadavg")?;
-    println!(
-        "{} processors, load {} at the start, best of {ROUNDS} runs.\n",
-        available_parallelism()?,
-        load.split(' ').next().unwrap_or("unknown"),
-    );
-    println!("| capacity | items a second | without contracts | ratio |");
-    println!("|---|---|---|---|");
+    println!("{}.\n", machine(ROUNDS)?);
+    println!("| capacity | items a second | without contracts | ratio | ns of processor time an item | without contracts |");
+    println!("|---|---|---|---|---|---|");
     for (capacity, items, count) in ITEMS {
         let mut runners = [
             Runner::new("`measured rounds`", measured, &["rounds", capacity, items], None),
@@ -42,10 +38,12 @@ fn main() -> io::Result<()> {
         best_of(ROUNDS, &mut runners)?;
         let [ours, theirs] = &runners;
         println!(
-            "| {capacity} | {:.0} | {:.0} | {:.2} |",
+            "| {capacity} | {:.0} | {:.0} | {:.2} | {:.0} | {:.0} |",
             count / ours.seconds,
             count / theirs.seconds,
-            theirs.seconds / ours.seconds
+            theirs.seconds / ours.seconds,
+            ours.processor_seconds * 1e9 / count,
+            theirs.processor_seconds * 1e9 / count
         );
     }
 

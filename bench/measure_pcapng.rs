@@ -1,13 +1,13 @@
 //! `measure_pcapng AVTP PACKETS CLASSIC PCAPNG`: runs `avtp show` in turn, to nothing, on captures of the same so many packets,
 //! one classic and one pcapng. Prints, for the best run of each, seconds, memory and the ratio.
 
+mod machine;
 mod runner;
 
+use machine::machine;
 use runner::{Runner, best_of};
 use std::env;
-use std::fs;
 use std::io::{self, Error};
-use std::thread::available_parallelism;
 
 const ROUNDS: usize = 20;
 
@@ -16,17 +16,13 @@ fn main() -> io::Result<()> {
     let [avtp, packets, classic, pcapng] = words.as_slice() else {
         return Err(Error::other("measure_pcapng AVTP PACKETS CLASSIC PCAPNG"));
     };
-    let load = fs::read_to_string("/proc/loadavg")?;
+    let machine = machine(ROUNDS)?;
     let mut runners = [
         Runner::new("classic", avtp, &["show", classic], None),
         Runner::new("pcapng", avtp, &["show", pcapng], None),
     ];
     best_of(ROUNDS, &mut runners)?;
-    println!(
-        "{packets} packets, {} processors, load {} at the start, best of {ROUNDS} runs.\n",
-        available_parallelism()?,
-        load.split(' ').next().unwrap_or("unknown"),
-    );
+    println!("{packets} packets, {machine}.\n");
     println!("| `avtp show` of | seconds | ratio | largest resident memory, KiB |");
     println!("|---|---|---|---|");
     for runner in &runners {

@@ -12,7 +12,7 @@ const FRAME: [u8; 66] = [
 ];
 
 /// Where the sequence number, the end of the stream id and the timestamp stand in the frame.
-const SEQUENCE_NUM: usize = 20;
+pub const SEQUENCE_NUM: usize = 20;
 const STREAM_ID_END: usize = 30;
 pub const TIMESTAMP: usize = 30;
 

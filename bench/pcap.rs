@@ -1,4 +1,5 @@
-//! The records of a classic capture, looked at where they were read, and the Ethernet frames in them.
+//! The records of a classic capture, looked at where they were read, and the Ethernet frames in them. Each yardstick uses a part.
+#![allow(dead_code)]
 
 use std::io::{self, Read};
 
@@ -157,6 +158,91 @@ impl<R: Read> Input<R> {
     }
 }
 
+/// The records of a capture, one after the other.
+pub struct Records<R: Read> {
+    input: Input<R>,
+    style: Style,
+    /// Where what is not used begins in the capture.
+    start: usize,
+    frames: u64,
+    arrival: u64,
+    frame_len: usize,
+}
+
+impl<R: Read> Records<R> {
+    pub fn of(source: R) -> Self {
+        Records {
+            input: Input::new(source),
+            style: Style { big: false, unit: 1 },
+            start: 0,
+            frames: 0,
+            arrival: 0,
+            frame_len: 0,
+        }
+    }
+
+    /// Reads the header of the capture.
+    #[cold]
+    fn read_header(&mut self) -> io::Result<Result<(), Refusal>> {
+        while self.input.len < FILE_HEADER && self.input.read()? {}
+        let header = self.input.unused();
+        Ok(read_style(&header[..header.len().min(FILE_HEADER)]).map(|style| {
+            self.style = style;
+            self.start = FILE_HEADER;
+            self.input.used = FILE_HEADER;
+        }))
+    }
+
+    /// Goes on to the next record. Answers whether there is one, or the capture's first refusal.
+    #[inline(always)]
+    pub fn advance(&mut self) -> io::Result<Result<bool, Refusal>> {
+        if self.start == 0
+            && let Err(refusal) = self.read_header()?
+        {
+            return Ok(Err(refusal));
+        }
+        loop {
+            let bytes = self.input.unused();
+            match whole_record(self.style, bytes, self.start) {
+                Ok(len) => {
+                    self.frames += 1;
+                    let seconds = u64::from(self.style.u32_at(bytes, 0));
+                    let fraction = u64::from(self.style.u32_at(bytes, 4));
+                    self.arrival = seconds * 1_000_000_000 + fraction * self.style.unit;
+                    self.frame_len = len;
+                    self.start += RECORD_HEADER + len;
+                    self.input.used += RECORD_HEADER + len;
+                    return Ok(Ok(true));
+                }
+                Err(refusal) if !refusal.2 => return Ok(Err(refusal)),
+                Err(refusal) => {
+                    if !self.input.read()? {
+                        return Ok(if self.input.len == 0 { Ok(false) } else { Err(refusal) });
+                    }
+                }
+            }
+        }
+    }
+
+    /// The number of the record, from 1.
+    #[inline(always)]
+    pub fn number(&self) -> u64 {
+        self.frames
+    }
+
+    /// The arrival of the record in nanoseconds.
+    #[inline(always)]
+    pub fn arrival(&self) -> u64 {
+        self.arrival
+    }
+
+    /// The frame of the record.
+    #[inline(always)]
+    pub fn frame(&self) -> &[u8] {
+        &self.input.buffer[self.input.used - self.frame_len..self.input.used]
+    }
+}
+
 /// Gives each whole record of the capture to `take`: its number, from 1, its arrival in nanoseconds, and its frame. Answers
 /// the number of records, or the capture's first refusal.
 #[inline(always)]
@@ -164,33 +250,12 @@ pub fn read_records(
     source: impl Read,
     mut take: impl FnMut(u64, u64, &[u8]) -> io::Result<()>,
 ) -> io::Result<Result<u64, Refusal>> {
-    let mut input = Input::new(source);
-    while input.len < FILE_HEADER && input.read()? {}
-    let style = match read_style(&input.buffer[..input.len.min(FILE_HEADER)]) {
-        Ok(style) => style,
-        Err(refusal) => return Ok(Err(refusal)),
-    };
-    input.used = FILE_HEADER;
-    let mut start = FILE_HEADER;
-    let mut frames = 0;
+    let mut records = Records::of(source);
     loop {
-        let bytes = input.unused();
-        match whole_record(style, bytes, start) {
-            Ok(len) => {
-                frames += 1;
-                let seconds = u64::from(style.u32_at(bytes, 0));
-                let fraction = u64::from(style.u32_at(bytes, 4));
-                let arrival = seconds * 1_000_000_000 + fraction * style.unit;
-                take(frames, arrival, &bytes[RECORD_HEADER..RECORD_HEADER + len])?;
-                start += RECORD_HEADER + len;
-                input.used += RECORD_HEADER + len;
-            }
-            Err(refusal) if !refusal.2 => return Ok(Err(refusal)),
-            Err(refusal) => {
-                if !input.read()? {
-                    return Ok(if input.len == 0 { Ok(frames) } else { Err(refusal) });
-                }
-            }
+        match records.advance()? {
+            Ok(true) => take(records.number(), records.arrival(), records.frame())?,
+            Ok(false) => return Ok(Ok(records.number())),
+            Err(refusal) => return Ok(Err(refusal)),
         }
     }
 }

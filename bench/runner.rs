@@ -1,4 +1,4 @@
-//! Runs programs in turn, and keeps the best time and the largest memory of each.
+//! Runs programs in turn, and keeps the best times and the largest memory of each.
 
 use std::fs::File;
 use std::io::{self, Error};
@@ -9,6 +9,7 @@ use std::time::Instant;
 #[repr(C)]
 #[derive(Default)]
 struct Usage {
+    /// In seconds and microseconds.
     user: [i64; 2],
     system: [i64; 2],
     /// In KiB, and never less than what the program held that started it: some 2 MiB here.
@@ -16,17 +17,29 @@ struct Usage {
     rest: [i64; 13],
 }
 
+impl Usage {
+    fn processor_seconds(&self) -> f64 {
+        [self.user, self.system]
+            .iter()
+            .map(|[seconds, micros]| *seconds as f64 + *micros as f64 / 1e6)
+            .sum()
+    }
+}
+
 unsafe extern "C" {
     fn wait4(pid: i32, status: *mut i32, options: i32, usage: *mut Usage) -> i32;
 }
 
-/// A program with its words, and the best of its runs.
+/// A program with its words, and the best of its runs, each figure by itself.
+#[allow(dead_code)] // Each program that measures prints a part.
 pub struct Runner {
     pub name: String,
     program: String,
     words: Vec<String>,
     output: Option<String>,
     pub seconds: f64,
+    /// Of processor time, in the program and in the system.
+    pub processor_seconds: f64,
     /// The largest resident memory.
     pub kib: i64,
 }
@@ -40,6 +53,7 @@ impl Runner {
             words,
             output: output.map(str::to_string),
             seconds: f64::INFINITY,
+            processor_seconds: f64::INFINITY,
             kib: 0,
         }
     }
@@ -62,6 +76,7 @@ impl Runner {
             return Err(Error::other(format!("{} failed", self.name)));
         }
         self.seconds = self.seconds.min(seconds);
+        self.processor_seconds = self.processor_seconds.min(usage.processor_seconds());
         self.kib = self.kib.max(usage.largest_resident);
         Ok(())
     }

@@ -6,6 +6,7 @@ mod pcap;
 use pcap::read_records;
 use std::env;
 use std::ffi::CString;
+use std::fs::File;
 use std::io::{self, Error};
 use std::os::raw::{c_char, c_int, c_uint, c_void};
 use std::thread::sleep;
@@ -59,7 +60,7 @@ fn main() -> io::Result<()> {
         length: 6,
         address: [0; 8],
     };
-    let sent = read_records(file, |_, _, frame| {
+    let sent = read_records(File::open(file)?, |_, _, frame| {
         let bytes = frame.as_ptr().cast();
         let len = size_of::<Address>() as c_uint;
         let moved = unsafe { sendto(socket, bytes, frame.len(), 0, &address, len) };

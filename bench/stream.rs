@@ -9,6 +9,6 @@ pub fn packet_of_stream(frame: &[u8], stream: [u8; 8]) -> Option<&[u8]> {
         return None;
     };
     let pdu = &frame[start..];
-    let is_wanted = pdu.len() >= 12 && matches!(pdu[0], 0 | 2) && pdu[1] & 0x80 != 0 && pdu[4..12] == stream;
+    let is_wanted = pdu.len() >= 12 && matches!(pdu[0], 0 | 2 | 3) && pdu[1] & 0x80 != 0 && pdu[4..12] == stream;
     is_wanted.then_some(pdu)
 }

@@ -1,10 +1,9 @@
 //! Runs a mode of `measured` and its yardstick in turn. Both say how many packets they presented and in how many nanoseconds,
 //! so that making the packets is not measured.
 
-use std::fs;
+use crate::machine::machine;
 use std::io::{self, Error};
 use std::process::Command;
-use std::thread::available_parallelism;
 
 const ROUNDS: usize = 20;
 
@@ -48,11 +47,6 @@ pub fn best_of_both(programs: [Timed; 2], words: &[&str]) -> io::Result<([f64; 2
 
 /// Says on what machine the runs are.
 pub fn print_machine() -> io::Result<()> {
-    let load = fs::read_to_string("/proc/loadavg")?;
-    println!(
-        "{} processors, load {} at the start, best of {ROUNDS} runs.\n",
-        available_parallelism()?,
-        load.split(' ').next().unwrap_or("unknown"),
-    );
+    println!("{}.\n", machine(ROUNDS)?);
     Ok(())
 }

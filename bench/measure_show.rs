@@ -1,16 +1,17 @@
-//! `measure AVTP YARDSTICK PACKETS TEXT TSHARK COMMAND [STREAM] CAPTURE`: runs a command of `avtp` and its yardstick in turn,
-//! to nothing and to a file that each of them leaves in TEXT, and tshark once where TSHARK is not empty. Prints, for the
-//! best run of each, packets a second, megabytes of text a second and the largest resident memory, and the ratios.
+//! `measure_show AVTP YARDSTICK PACKETS TEXT TSHARK CAPTURE`: runs `avtp show` and its yardstick in turn, to nothing and to a file
+//! that each of them leaves in TEXT, and tshark once where TSHARK is not empty. Prints, for the best run of each, packets a
+//! second, megabytes of text a second and the largest resident memory, and the ratios.
 
+mod machine;
 mod runner;
 
+use machine::machine;
 use runner::{Runner, best_of};
 use std::env;
 use std::fs;
 use std::io::{self, Error};
-use std::thread::available_parallelism;
 
-const USAGE: &str = "measure AVTP YARDSTICK PACKETS TEXT TSHARK COMMAND [STREAM] CAPTURE";
+const USAGE: &str = "measure_show AVTP YARDSTICK PACKETS TEXT TSHARK CAPTURE";
 
 const ROUNDS: usize = 20;
 
@@ -60,31 +61,25 @@ fn run_tshark(tshark: &str, capture: &str) -> io::Result<Runner> {
 fn main() -> io::Result<()> {
     let words: Vec<String> = env::args().skip(1).collect();
     let words: Vec<&str> = words.iter().map(String::as_str).collect();
-    let [avtp, yardstick, packets, text, tshark, ref asked @ ..] = words[..] else {
+    let [avtp, yardstick, packets, text, tshark, capture] = words[..] else {
         return Err(Error::other(USAGE));
     };
-    let [command, peer_words @ ..] = asked else {
-        return Err(Error::other(USAGE));
-    };
-    let capture = asked[asked.len() - 1];
     let packets: f64 = packets.parse().map_err(Error::other)?;
-    let load = fs::read_to_string("/proc/loadavg")?;
-    let command = format!("`avtp {command}`");
+    let machine = machine(ROUNDS)?;
+    let asked = ["show", capture];
     let mut runners = [
-        Runner::new(&format!("{command}, to nothing"), avtp, asked, None),
-        Runner::new("yardstick, to nothing", yardstick, peer_words, None),
-        Runner::new(&format!("{command}, to a file"), avtp, asked, Some(text)),
-        Runner::new("yardstick, to a file", yardstick, peer_words, Some(text)),
+        Runner::new("`avtp show`, to nothing", avtp, &asked, None),
+        Runner::new("yardstick, to nothing", yardstick, &[capture], None),
+        Runner::new("`avtp show`, to a file", avtp, &asked, Some(text)),
+        Runner::new("yardstick, to a file", yardstick, &[capture], Some(text)),
     ];
     best_of(ROUNDS, &mut runners)?;
     let text_len = fs::metadata(text)?.len() as f64;
 
     println!(
-        "{packets} packets, {:.1} MB, give {:.1} MB of text. {} processors, load {} at the start, best of {ROUNDS} runs.\n",
+        "{packets} packets, {:.1} MB, give {:.1} MB of text. {machine}.\n",
         fs::metadata(capture)?.len() as f64 / 1e6,
         text_len / 1e6,
-        available_parallelism()?,
-        load.split(' ').next().unwrap_or("unknown"),
     );
     println!("| | seconds | packets a second | MB of text a second | largest resident memory, KiB |");
     println!("|---|---|---|---|---|");
@@ -112,7 +107,7 @@ fn main() -> io::Result<()> {
     }
     println!();
     for (ratio, meaning) in ratios {
-        println!("{command} has {ratio:.2} {meaning}.");
+        println!("`avtp show` has {ratio:.2} {meaning}.");
     }
     println!();
     Ok(())

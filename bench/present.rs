@@ -1,0 +1,190 @@
+//! The presenter's side of the yardsticks for `listen`: the lines of what is shown, each written where the text waits, without
+//! a check of its bounds.
+
+use crate::aaf::RATES;
+use crate::batches::{Batch, Reason, SECOND};
+use crate::pcap::Refusal;
+use crate::receive::{Counts, Shown};
+use crate::text::{Line, Text, two_digits};
+use std::io::{self, Write};
+use std::process::ExitCode;
+
+/// From one sample to the next, by `nsr`: the whole nanoseconds, and what is left over in parts of one by the rate.
+const STEPS: [(i64, u32); RATES.len()] = {
+    let mut steps = [(0, 0); RATES.len()];
+    let mut nsr = 1;
+    while nsr < RATES.len() {
+        let rate = RATES[nsr] as u64;
+        steps[nsr] = ((SECOND / rate) as i64, (SECOND % rate) as u32);
+        nsr += 1;
+    }
+    steps
+};
+
+pub struct Presenter {
+    /// How the line before began.
+    due: Due,
+    /// What stands in each line of a batch between the instant and the number of the sample.
+    place: Short,
+    text: Text,
+}
+
+impl Presenter {
+    /// A presenter of the capture at this path, which it prints.
+    pub fn begin(path: &str) -> io::Result<Self> {
+        writeln!(io::stdout(), "capture {path}")?;
+        Ok(Presenter {
+            due: Due {
+                text: Short::new(),
+                from: None,
+            },
+            place: Short::new(),
+            text: Text::new(),
+        })
+    }
+
+    #[inline(always)]
+    pub fn present(&mut self, shown: &Shown) -> io::Result<()> {
+        match shown {
+            Shown::Present(batch) => self.samples(batch),
+            Shown::Flag { frame, seq, reason } => self.flag(*frame, *seq, reason),
+        }
+    }
+
+    #[inline(always)]
+    fn samples(&mut self, batch: &Batch) -> io::Result<()> {
+        let mut line = self.place.line();
+        line.number(b" frame ", batch.frame);
+        line.number(b" seq ", batch.seq.into());
+        line.add(b" sample ");
+        line.stop();
+
+        let rate = RATES[usize::from(batch.nsr)];
+        let (whole, part) = STEPS[usize::from(batch.nsr)];
+        let mut instant = batch.instant;
+        let mut rest = batch.rest;
+        for (j, sample) in batch.bytes.chunks_exact(batch.size).enumerate() {
+            let mut line = self.text.line(Line::ROOM + 2 * batch.size)?;
+            self.due.add_to(&mut line, instant);
+            line.short(&self.place);
+            line.number(b"", j as u64);
+            line.add(b" ");
+            let (fours, ones) = sample.as_chunks::<4>();
+            for four in fours {
+                line.hex(four);
+            }
+            for one in ones {
+                line.hex(&[*one]);
+            }
+            line.end();
+            instant += whole;
+            rest += part;
+            if rest >= rate {
+                rest -= rate;
+                instant += 1;
+            }
+        }
+        Ok(())
+    }
+
+    fn flag(&mut self, frame: u64, seq: u8, reason: &Reason) -> io::Result<()> {
+        let mut line = self.text.line(Line::ROOM)?;
+        line.number(b"flag frame ", frame);
+        line.number(b" seq ", seq.into());
+        line.add(b" ");
+        line.text(reason.0);
+        line.text(reason.1);
+        line.end();
+        Ok(())
+    }
+
+    /// Ends the text as the reading ended, and answers the status of that.
+    pub fn end(mut self, end: Result<Counts, Refusal>) -> io::Result<ExitCode> {
+        let status = if end.is_ok() { 0 } else { 3 };
+        let mut line = self.text.line(Line::ROOM)?;
+        match end {
+            Ok(counts) => {
+                line.number(b"end frames ", counts.frames);
+                line.number(b" packets ", counts.packets);
+                line.number(b" presented ", counts.presented);
+                line.number(b" flagged ", counts.flagged);
+            }
+            Err(refusal) => line.refusal(b"capture refused: ", refusal),
+        }
+        line.end();
+        self.text.flush()?;
+        Ok(ExitCode::from(status))
+    }
+}
+
+/// A text of at most `Short::ROOM` bytes that stands in many lines.
+struct Short(Vec<u8>);
+
+impl Short {
+    const ROOM: usize = 64;
+
+    fn new() -> Self {
+        Short(Vec::with_capacity(Self::ROOM))
+    }
+
+    #[inline(always)]
+    fn line(&mut self) -> Line<'_> {
+        self.0.clear();
+        Line::behind(&mut self.0)
+    }
+}
+
+/// How the lines of samples begin whose instants have the same digits but for the last eight.
+struct Due {
+    text: Short,
+    /// The first of these instants, and none before the first line.
+    from: Option<i64>,
+}
+
+impl Due {
+    const INSTANTS: i64 = 100_000_000;
+
+    #[inline(always)]
+    fn add_to(&mut self, line: &mut Line, instant: i64) {
+        if instant < Self::INSTANTS {
+            return line.number(b"at ", instant as u64);
+        }
+        let from = match self.from {
+            Some(from) if (from..from + Self::INSTANTS).contains(&instant) => from,
+            _ => self.begin(instant),
+        };
+        line.short(&self.text);
+        line.eight_digits((instant - from) as u32);
+    }
+
+    #[cold]
+    #[inline(never)]
+    fn begin(&mut self, instant: i64) -> i64 {
+        let before = instant / Self::INSTANTS;
+        let mut line = self.text.line();
+        line.number(b"at ", before as u64);
+        line.stop();
+        let from = before * Self::INSTANTS;
+        self.from = Some(from);
+        from
+    }
+}
+
+impl Line<'_> {
+    /// Adds a short text. As many bytes as it may have are moved, which is faster than to move as many as it has.
+    #[inline(always)]
+    fn short(&mut self, Short(text): &Short) {
+        unsafe {
+            self.at.copy_from_nonoverlapping(text.as_ptr(), Short::ROOM);
+            self.at = self.at.add(text.len());
+        }
+    }
+
+    #[inline(always)]
+    fn eight_digits(&mut self, number: u32) {
+        for four in [number / 10_000, number % 10_000] {
+            self.add(&two_digits(u64::from(four / 100 % 100)));
+            self.add(&two_digits(u64::from(four % 100)));
+        }
+    }
+}

@@ -1,0 +1,128 @@
+//! The receiver's side of the yardsticks for `listen`: it reads the capture once, looks at each record where it was read, and
+//! gives what is shown of the stream item by item.
+
+use crate::batches::{Batch, Batches, Reason};
+use crate::pcap::{Records, Refusal};
+use crate::stream::packet_of_stream;
+use std::fs::File;
+use std::io;
+
+/// An item as a listener shows it.
+pub enum Shown {
+    Present(Batch),
+    Flag { frame: u64, seq: u8, reason: Reason },
+}
+
+/// How many records were read, how many packets of the stream were among them, and what became of these.
+#[derive(Default)]
+pub struct Counts {
+    pub frames: u64,
+    pub packets: u64,
+    pub presented: u64,
+    pub flagged: u64,
+}
+
+pub struct Receiver {
+    records: Records<File>,
+    stream: [u8; 8],
+    /// Where the packet of the record begins in its frame, while it is still to be judged.
+    packet: Option<usize>,
+    batches: Batches,
+    counts: Counts,
+    has_ended: bool,
+    /// With which the reading ended, if with one.
+    refusal: Option<Refusal>,
+}
+
+impl Receiver {
+    pub fn new(stream: u64, capture: File) -> Self {
+        Receiver {
+            records: Records::of(capture),
+            stream: stream.to_be_bytes(),
+            packet: None,
+            batches: Batches::new(),
+            counts: Counts::default(),
+            has_ended: false,
+            refusal: None,
+        }
+    }
+
+    /// The next item, or none once all was given. It is a call of its own, which is faster than to have it in the loop over it.
+    #[inline(never)]
+    pub fn next(&mut self) -> io::Result<Option<Shown>> {
+        loop {
+            if let Some(batch) = self.batches.next_due() {
+                self.counts.presented += 1;
+                return Ok(Some(Shown::Present(batch)));
+            }
+            if let Some(start) = self.packet.take() {
+                if let Some(flag) = self.judge(start) {
+                    return Ok(Some(flag));
+                }
+            }
+            if self.has_ended {
+                return Ok(None);
+            }
+            self.read()?;
+        }
+    }
+
+    /// Takes back what was presented, so that its memory is used again.
+    #[inline(always)]
+    pub fn reuse(&mut self, shown: Shown) {
+        if let Shown::Present(batch) = shown {
+            self.batches.reuse(batch.bytes);
+        }
+    }
+
+    /// What was counted of the whole capture, or its first refusal, once all was given.
+    pub fn end(self) -> Result<Counts, Refusal> {
+        match self.refusal {
+            Some(refusal) => Err(refusal),
+            None => Ok(self.counts),
+        }
+    }
+
+    /// Reads the next record, or ends the reading, after which all that waits is due.
+    #[inline(always)]
+    fn read(&mut self) -> io::Result<()> {
+        match self.records.advance()? {
+            Ok(true) => {
+                self.counts.frames += 1;
+                let frame = self.records.frame();
+                if let Some(pdu) = packet_of_stream(frame, self.stream) {
+                    self.packet = Some(frame.len() - pdu.len());
+                    self.counts.packets += 1;
+                    self.batches.go_on(self.records.arrival() as i64);
+                }
+            }
+            Ok(false) => self.close(None),
+            Err(refusal) => self.close(Some(refusal)),
+        }
+        Ok(())
+    }
+
+    #[cold]
+    fn close(&mut self, refusal: Option<Refusal>) {
+        self.batches.go_on(i64::MAX);
+        self.has_ended = true;
+        self.refusal = refusal;
+    }
+
+    /// Judges the packet of the record, which begins there in its frame, and gives its flag where it gets one.
+    #[inline(always)]
+    fn judge(&mut self, start: usize) -> Option<Shown> {
+        let frame = self.records.number();
+        let pdu = &self.records.frame()[start..];
+        let judged = self
+            .batches
+            .judge(frame, self.records.arrival() as i64, pdu);
+        let reason = judged.err()?;
+        self.counts.flagged += 1;
+        Some(Shown::Flag {
+            frame,
+            seq: pdu[2],
+            reason,
+        })
+    }
+}
