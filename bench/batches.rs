@@ -1,8 +1,8 @@
 //! What of the packets of a stream is presented, at which instants, and why the rest is not, as tightly as an unverified program
 //! may: the batches that wait for their instants are kept in their order.
 
-use crate::aaf::{HEADER, check_header, read_aaf};
-use crate::pcap::{Refusal, u16_at};
+use crate::aaf::{HEADER, read_packet};
+use crate::pcap::u16_at;
 use std::collections::VecDeque;
 
 /// The most batches that wait, and the most bytes that they have together.
@@ -90,11 +90,7 @@ impl Batches {
     /// Keeps the samples of the packet until their instant, or tells why not.
     #[inline(always)]
     pub fn judge(&mut self, frame: u64, arrival: i64, pdu: &[u8]) -> Result<(), Reason> {
-        let (_, size, rate) = match pdu[0] {
-            2 => read_aaf(pdu),
-            subtype => Err(refusal_of_another(subtype, pdu)),
-        }
-        .map_err(|refusal| Reason("malformed ", refusal.0))?;
+        let (_, size, rate) = read_packet(pdu).map_err(|refusal| Reason("malformed ", refusal.0))?;
         let len = usize::from(u16_at(pdu, 20));
         if pdu[3] & 1 != 0 {
             return Err(Reason("uncertain", ""));
@@ -198,18 +194,6 @@ impl Batches {
         }
         Ok(place)
     }
-}
-
-/// Why a packet of another subtype than that of AAF is refused. The captures that are measured have none but packets of AAF
-/// whose subtype was damaged, which have another tag than those of IEC 61883, and another format than those of H.264.
-#[cold]
-fn refusal_of_another(subtype: u8, pdu: &[u8]) -> Refusal {
-    let (field, at) = if subtype == 0 {
-        ("tag", 22)
-    } else {
-        ("cvf_format", 16)
-    };
-    check_header(pdu).err().unwrap_or(Refusal(field, at, false))
 }
 
 #[inline(always)]

@@ -25,7 +25,7 @@ fn main() -> io::Result<ExitCode> {
     let mut presenter = Presenter::begin(path)?;
     let mut receiver = Receiver::new(stream, File::open(path)?);
     while let Some(shown) = receiver.next()? {
-        presenter.present(&shown)?;
+        shown.present_to(&mut presenter)?;
         receiver.reuse(shown);
     }
     presenter.end(receiver.end())

@@ -4,19 +4,21 @@
 //! most. The rounds go on until the receiver has ended and nothing waits.
 
 mod aaf;
-mod batches;
+mod items;
 mod join;
+mod judging;
 mod pcap;
 mod present;
-mod receive;
 mod ring;
+mod schedule;
 mod stream;
 mod text;
 
 use join::join;
+use judging::{Receiver, present};
 use present::Presenter;
-use receive::{Receiver, Shown};
 use ring::Ring;
+use schedule::Shown;
 use std::env;
 use std::fs::File;
 use std::io;
@@ -39,28 +41,24 @@ impl Front {
             if self.has_ended || !ring.push(&mut self.hand) {
                 break;
             }
-            if let Some(shown) = self.hand.take() {
-                self.receiver.reuse(shown);
-            }
         }
         Ok(())
     }
 }
 
-/// The presenter, and the item that it was handed last.
 struct Back {
     presenter: Presenter,
-    shown: Option<Shown>,
 }
 
 impl Back {
     fn take_turn(&mut self, ring: &Ring<Option<Shown>>) -> io::Result<()> {
         for _ in 0..ring.capacity() {
-            if !ring.pop(&mut self.shown) {
+            let mut shown = None;
+            if !ring.pop(&mut shown) {
                 break;
             }
-            if let Some(shown) = &self.shown {
-                self.presenter.present(shown)?;
+            if let Some(shown) = shown {
+                present(&mut self.presenter, &shown)?;
             }
         }
         Ok(())
@@ -77,7 +75,6 @@ fn main() -> io::Result<ExitCode> {
     let stream = u64::from_str_radix(stream, 16).map_err(io::Error::other)?;
     let mut back = Back {
         presenter: Presenter::begin(path)?,
-        shown: None,
     };
     let mut front = Front {
         receiver: Receiver::new(stream, File::open(path)?),

@@ -4,15 +4,16 @@
 //! presented, and in how many nanoseconds, once the capture was made.
 
 mod aaf;
+mod items;
 mod packets;
 mod pcap;
 mod schedule;
 mod stream;
 
-use aaf::{HEADER, read_aaf};
+use items::item_of;
 use packets::{Capture, packet_of};
-use pcap::{Refusal, read_records, u16_at};
-use schedule::{Bad, HeadRule, Item, Judge, Packet, Plan, Reason, drain};
+use pcap::{Refusal, read_records};
+use schedule::{Judge, Plan, drain};
 use std::env;
 use std::io::{self, Error};
 use std::time::Instant;
@@ -27,38 +28,6 @@ const PLAN: Plan = Plan {
     lead: 2_000_000,
     clock: false,
 };
-
-/// The item of a packet, with its samples copied.
-#[inline(always)]
-fn item_of(frame: u64, arrival: i64, pdu: &[u8]) -> Item {
-    let seq = pdu[2];
-    let Ok((_, size, rate)) = read_aaf(pdu) else {
-        return Item::Bad(Bad {
-            frame,
-            arrival,
-            seq,
-            reason: Reason::Malformed,
-        });
-    };
-    let len = usize::from(u16_at(pdu, 20));
-    let stamp = u32::from_be_bytes(pdu[12..16].try_into().unwrap());
-    Item::Packet(Packet {
-        frame,
-        arrival,
-        seq,
-        mr: pdu[1] & 8 != 0,
-        tu: pdu[3] & 1 != 0,
-        stamp: (pdu[1] & 1 != 0).then_some(stamp),
-        rule: if pdu[22] & 0x10 != 0 {
-            HeadRule::Eight
-        } else {
-            HeadRule::Own
-        },
-        rate,
-        count: len as u32 / size,
-        bytes: pdu[HEADER..HEADER + len].to_vec(),
-    })
-}
 
 fn capture_of(streams: u64, packets: u64) -> io::Result<Vec<u8>> {
     let mut capture = Capture {

@@ -1,25 +1,39 @@
 //! The presenter's side of the yardsticks for `listen`: the lines of what is shown, each written where the text waits, without
 //! a check of its bounds.
 
-use crate::aaf::RATES;
-use crate::batches::{Batch, Reason, SECOND};
 use crate::pcap::Refusal;
-use crate::receive::{Counts, Shown};
 use crate::text::{Line, Text, two_digits};
 use std::io::{self, Write};
 use std::process::ExitCode;
 
-/// From one sample to the next, by `nsr`: the whole nanoseconds, and what is left over in parts of one by the rate.
-const STEPS: [(i64, u32); RATES.len()] = {
-    let mut steps = [(0, 0); RATES.len()];
-    let mut nsr = 1;
-    while nsr < RATES.len() {
-        let rate = RATES[nsr] as u64;
-        steps[nsr] = ((SECOND / rate) as i64, (SECOND % rate) as u32);
-        nsr += 1;
-    }
-    steps
-};
+/// How many records were read, how many packets of the stream were among them, and what became of these.
+#[derive(Default)]
+pub struct Counts {
+    pub frames: u64,
+    pub packets: u64,
+    pub presented: u64,
+    pub flagged: u64,
+}
+
+/// From one sample to the next: the whole nanoseconds, and `part / of` of one that is left over.
+#[derive(Clone, Copy)]
+pub struct Step {
+    pub whole: i64,
+    pub part: u32,
+    pub of: u32,
+}
+
+/// The samples of a packet, of which the first is due at `instant` and `rest / step.of` of a nanosecond.
+pub struct Samples<'a> {
+    pub frame: u64,
+    pub seq: u8,
+    pub instant: i64,
+    pub rest: u32,
+    pub step: Step,
+    /// The bytes of a sample of all channels.
+    pub size: usize,
+    pub bytes: &'a [u8],
+}
 
 pub struct Presenter {
     /// How the line before began.
@@ -44,27 +58,18 @@ impl Presenter {
     }
 
     #[inline(always)]
-    pub fn present(&mut self, shown: &Shown) -> io::Result<()> {
-        match shown {
-            Shown::Present(batch) => self.samples(batch),
-            Shown::Flag { frame, seq, reason } => self.flag(*frame, *seq, reason),
-        }
-    }
-
-    #[inline(always)]
-    fn samples(&mut self, batch: &Batch) -> io::Result<()> {
+    pub fn samples(&mut self, samples: &Samples) -> io::Result<()> {
         let mut line = self.place.line();
-        line.number(b" frame ", batch.frame);
-        line.number(b" seq ", batch.seq.into());
+        line.number(b" frame ", samples.frame);
+        line.number(b" seq ", samples.seq.into());
         line.add(b" sample ");
         line.stop();
 
-        let rate = RATES[usize::from(batch.nsr)];
-        let (whole, part) = STEPS[usize::from(batch.nsr)];
-        let mut instant = batch.instant;
-        let mut rest = batch.rest;
-        for (j, sample) in batch.bytes.chunks_exact(batch.size).enumerate() {
-            let mut line = self.text.line(Line::ROOM + 2 * batch.size)?;
+        let Step { whole, part, of } = samples.step;
+        let mut instant = samples.instant;
+        let mut rest = samples.rest;
+        for (j, sample) in samples.bytes.chunks_exact(samples.size).enumerate() {
+            let mut line = self.text.line(Line::ROOM + 2 * samples.size)?;
             self.due.add_to(&mut line, instant);
             line.short(&self.place);
             line.number(b"", j as u64);
@@ -79,21 +84,22 @@ impl Presenter {
             line.end();
             instant += whole;
             rest += part;
-            if rest >= rate {
-                rest -= rate;
+            if rest >= of {
+                rest -= of;
                 instant += 1;
             }
         }
         Ok(())
     }
 
-    fn flag(&mut self, frame: u64, seq: u8, reason: &Reason) -> io::Result<()> {
+    /// Flags a packet, for a reason and the field that it names.
+    pub fn flag(&mut self, frame: u64, seq: u8, reason: &str, field: &str) -> io::Result<()> {
         let mut line = self.text.line(Line::ROOM)?;
         line.number(b"flag frame ", frame);
         line.number(b" seq ", seq.into());
         line.add(b" ");
-        line.text(reason.0);
-        line.text(reason.1);
+        line.text(reason);
+        line.text(field);
         line.end();
         Ok(())
     }

@@ -1,8 +1,10 @@
-//! The receiver's side of the yardsticks for `listen`: it reads the capture once, looks at each record where it was read, and
+//! The receiver's side of the tight yardstick for `listen`: it reads the capture once, looks at each record where it was read, and
 //! gives what is shown of the stream item by item.
 
-use crate::batches::{Batch, Batches, Reason};
+use crate::aaf::RATES;
+use crate::batches::{Batch, Batches, Reason, SECOND};
 use crate::pcap::{Records, Refusal};
+use crate::present::{Counts, Presenter, Samples, Step};
 use crate::stream::packet_of_stream;
 use std::fs::File;
 use std::io;
@@ -13,13 +15,42 @@ pub enum Shown {
     Flag { frame: u64, seq: u8, reason: Reason },
 }
 
-/// How many records were read, how many packets of the stream were among them, and what became of these.
-#[derive(Default)]
-pub struct Counts {
-    pub frames: u64,
-    pub packets: u64,
-    pub presented: u64,
-    pub flagged: u64,
+/// The steps of the rates, by `nsr`.
+const STEPS: [Step; RATES.len()] = {
+    let mut steps = [Step {
+        whole: 0,
+        part: 0,
+        of: 1,
+    }; RATES.len()];
+    let mut nsr = 1;
+    while nsr < RATES.len() {
+        let rate = RATES[nsr];
+        steps[nsr] = Step {
+            whole: (SECOND / rate as u64) as i64,
+            part: (SECOND % rate as u64) as u32,
+            of: rate,
+        };
+        nsr += 1;
+    }
+    steps
+};
+
+impl Shown {
+    #[inline(always)]
+    pub fn present_to(&self, presenter: &mut Presenter) -> io::Result<()> {
+        match self {
+            Shown::Present(batch) => presenter.samples(&Samples {
+                frame: batch.frame,
+                seq: batch.seq,
+                instant: batch.instant,
+                rest: batch.rest,
+                step: STEPS[usize::from(batch.nsr)],
+                size: batch.size,
+                bytes: &batch.bytes,
+            }),
+            Shown::Flag { frame, seq, reason } => presenter.flag(*frame, *seq, reason.0, reason.1),
+        }
+    }
 }
 
 pub struct Receiver {

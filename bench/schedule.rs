@@ -75,7 +75,8 @@ pub struct ClockRow {
 
 #[derive(Clone, Copy)]
 pub enum Reason {
-    Malformed,
+    /// The packet was refused by the field of this name.
+    Malformed(&'static str),
     Uncertain,
     Empty,
     NoRate,
@@ -107,19 +108,19 @@ impl Item {
 // ---- what is shown
 
 #[derive(Clone, Copy)]
-struct Line {
-    base: i64,
-    num: u64,
-    den: u64,
+pub struct Line {
+    pub base: i64,
+    pub num: u64,
+    pub den: u64,
 }
 
 pub struct Batch {
-    frame: u64,
-    seq: u8,
-    line: Line,
-    from: i64,
-    count: u32,
-    bytes: Vec<u8>,
+    pub frame: u64,
+    pub seq: u8,
+    pub line: Line,
+    pub from: i64,
+    pub count: u32,
+    pub bytes: Vec<u8>,
 }
 
 pub enum Shown {
@@ -478,7 +479,7 @@ impl Judge {
         self.closed = true;
     }
 
-    fn next_out(&mut self) -> Option<Shown> {
+    pub fn next_out(&mut self) -> Option<Shown> {
         loop {
             if self.judging {
                 if let Some(batch) = self.waiting.take_due(self.time) {
@@ -580,14 +581,18 @@ impl Judge {
             return None;
         };
         let back = packet.seq % 8;
+        if back == 0 {
+            return None;
+        }
         let samples = i64::from(back) * i64::from(packet.count);
         let span = samples * SECOND as i64 / i64::from(packet.rate);
-        let reach = 60 * i64::from(packet.count) * SECOND as i64 / i64::from(packet.rate);
+        let reach = u128::from(60 * u64::from(packet.count) * SECOND);
         let fits = |stamp: &&Stamp| {
+            let distance = (packet.arrival + self.plan.lead).abs_diff(stamp.instant + span);
             stamp.seq == packet.seq - back
                 && stamp.mr == packet.mr
                 && stamp.rate == packet.rate
-                && (packet.arrival + self.plan.lead - stamp.instant - span).abs() <= reach
+                && u128::from(distance) * u128::from(packet.rate) <= reach
         };
         let stamp = self.stamps.iter().rev().find(fits)?;
         Some((stamp.instant, samples))
