@@ -166,6 +166,7 @@ impl RecordListener {
 }
 
 /// Takes a delivery: points of the clock are judged, and what one of the stream gives waits to be judged.
+#[inline(always)]
 fn take_delivery(
     alloc: Global,
     units: &mut Units,
@@ -193,6 +194,7 @@ fn take_delivery(
 
 /// The next item that is shown, where the items that wait are judged one after the other, and the judge is closed once all
 /// items of a list that has ended are judged.
+#[inline(always)]
 fn next_shown(units: &mut Units, judge: &mut Judge, ended: bool, closed: &mut bool) -> Option<Shown>
     requires closed { closed.old ≡ judge.old.closed }
     requires over { judge.old.closed ≡ true → (ended ≡ true) × (left units.old ≡ []) }
@@ -216,6 +218,7 @@ fn next_shown(units: &mut Units, judge: &mut Judge, ended: bool, closed: &mut bo
 }
 
 /// Gives the judge the next item that waits, or, where none does and the list has ended, closes it. Whether it did.
+#[inline(always)]
 fn judge_next(units: &mut Units, judge: &mut Judge, ended: bool, closed: &mut bool) -> bool
     requires idle { IsIdleJudge judge.old }
     requires closed { closed.old ≡ judge.old.closed }

@@ -177,6 +177,7 @@ impl Units {
     }
 
     /// No unit goes on over a delivery with this item.
+    #[inline(always)]
     fn cut(&mut self, item: Item)
         requires { IsItem item }
         ensures { Cuts item self.old self.new }
@@ -215,6 +216,7 @@ impl Units {
     /// Takes the next delivery of the stream, where all items that those before it gave were taken.
     ///
     /// `NoMemory` comes where no memory is found for a packet's samples or for a unit; nothing changes then.
+    #[inline(always)]
     pub fn take_delivery(
         &mut self,
         alloc: Global,
@@ -268,6 +270,7 @@ impl Units {
     }
 
     /// The next item that the last delivery gave, or the end. Takes no memory.
+    #[inline(always)]
     pub fn next(&mut self) -> Option<Item>
         ensures stands { (ds : List Delivery) → HasUnits ds self.old → HasUnits ds self.new }
         ensures left { left self.old ≡ option_to_list result ++ left self.new }

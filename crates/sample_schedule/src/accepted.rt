@@ -2,6 +2,7 @@
 
 use crate::batch::Batch;
 use crate::shown::Shown;
+use time_unfold::Line;
 
 /// An accepted item: its place in the list, the instant of its first sample, and what is presented of it.
 #[derive(Debug, Drop)]
@@ -16,6 +17,7 @@ impl Accepted {
     ghost use Rattle.sample_schedule.specs.Schedule.{present as present_of};
 
     /// The item as it is shown.
+    #[inline(always)]
     pub fn present(self) -> Shown
         ensures { result ≡ present_of self }
     {
@@ -24,6 +26,22 @@ impl Accepted {
             instant: _,
             batch,
         } = self;
-        Shown::Present(batch)
+        let Batch {
+            frame,
+            seq,
+            count,
+            line: Line { base, num, den },
+            from,
+            bytes,
+        } = batch;
+        // Field by field, so that they go through registers.
+        Shown::Present(Batch {
+            frame,
+            seq,
+            count,
+            line: Line { base, num, den },
+            from,
+            bytes,
+        })
     }
 }

@@ -10,11 +10,11 @@ pub struct Batch {
     /// The number of the capture's frame, from 1.
     pub frame: u64,
     pub seq: u8,
+    /// The number of samples, 1 to 65,535.
+    pub count: u32,
     pub line: Line,
     /// The number of the first sample on the line.
     pub from: i64,
-    /// The number of samples, 1 to 65,535.
-    pub count: u32,
     /// The sample bytes, `count` times the same number.
     pub bytes: Bytes,
 }

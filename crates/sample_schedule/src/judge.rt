@@ -87,6 +87,7 @@ impl Judge {
     }
 
     /// An entry that left those that wait is judged next, and time goes on to its arrival.
+    #[inline(always)]
     fn judge_next(&mut self, next: Pending)
         requires idle { IsIdle self.old }
         requires taken { taken self.old < 2 ^ 62 }
@@ -99,6 +100,7 @@ impl Judge {
 
     /// Puts an entry behind those that wait for further ones; the first of them is judged next, once they are more than the
     /// look-ahead.
+    #[inline(always)]
     fn put(&mut self, pending: Pending)
         requires idle { IsIdle self.old }
         requires taken { taken self.old < 2 ^ 62 }
@@ -113,6 +115,7 @@ impl Judge {
 
     /// Takes the next item of the stream. Nothing is due from the entries so far, and the judge is not closed. At most 2^62
     /// entries may be taken. Takes no memory.
+    #[inline(always)]
     pub fn step(&mut self, item: Item)
         requires open { self.old.closed ≡ false }
         requires idle { IsIdle self.old }
@@ -145,6 +148,7 @@ impl Judge {
     }
 
     /// The front of what waits, where the arrival of the entry that is being judged has passed its instant.
+    #[inline(always)]
     fn give_due(&mut self) -> Option<Accepted>
         requires { self.old.current ≢ None }
         ensures due { IfSome result (λ first. first.instant <ℤ self.old.time) }
@@ -165,6 +169,7 @@ impl Judge {
     }
 
     /// Judges the entry that is being judged: a flag is given, and an accepted item waits for its instant.
+    #[inline(always)]
     fn judge(&mut self) -> Option<Shown>
         requires { starts_due self.old.time self.old.waiting ≡ false }
         ensures given { (clock : Clock) (entries : List EntryValue) (given : ℕ) → StandsFor clock entries given self.old → IfSome result (λ shown. slice_get (out clock self.old entries) given ≡ Some shown) }
@@ -203,6 +208,7 @@ impl Judge {
     }
 
     /// Gives what the entry that is being judged makes due, and then its flag, where it has one.
+    #[inline(always)]
     fn give_or_judge(&mut self) -> Option<Shown>
         ensures given { (clock : Clock) (entries : List EntryValue) (given : ℕ) → StandsFor clock entries given self.old → IfSome result (λ shown. slice_get (out clock self.old entries) given ≡ Some shown) }
         ensures stands { (clock : Clock) (entries : List EntryValue) (given : ℕ) → StandsFor clock entries given self.old → StandsFor clock entries (given + length (option_to_list result)) self.new }
@@ -221,6 +227,7 @@ impl Judge {
     }
 
     /// Once the list has ended, judges the next entry too; whether there is one.
+    #[inline(always)]
     fn take_ahead(&mut self) -> bool
         requires { IsIdle self.old }
         ensures stands { (clock : Clock) (entries : List EntryValue) (given : ℕ) → StandsFor clock entries given self.old → StandsFor clock entries given self.new }
@@ -242,6 +249,7 @@ impl Judge {
     }
 
     /// Once all entries of an ended list are judged, gives the front of what waits.
+    #[inline(always)]
     fn give_last(&mut self) -> Option<Shown>
         requires idle { IsIdle self.old }
         requires over { self.old.closed ≡ true → self.old.ahead ≡ [] }

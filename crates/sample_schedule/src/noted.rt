@@ -55,6 +55,7 @@ impl Noted {
     }
 
     /// Notes the usable stamp of an item, where it has one. Takes no memory.
+    #[inline(always)]
     pub fn note_item(&mut self, item: &Item)
         requires { IsItem item.now }
         ensures { (plan : SchedulePlanValue) (entries : List EntryValue) → HasNoted plan entries self.old → HasNoted plan (entries ++ OfItem item.now ∷ []) self.new }

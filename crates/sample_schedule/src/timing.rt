@@ -22,6 +22,7 @@ use time_unfold::{Head, Line};
 const NANOSECONDS: u64 = 1_000_000_000;
 
 /// The samples of a packet, of which the first has this number on a line.
+#[inline(always)]
 fn samples_on(packet: Packet, line: Line, from: i64) -> Batch
     requires { IsPresentable (samples_at packet (record { line = line; from = from })) }
     ensures { result ≡ samples_at packet (record { line = line; from = from }) }
@@ -49,6 +50,7 @@ fn samples_on(packet: Packet, line: Line, from: i64) -> Batch
 }
 
 /// The samples of a packet on the nominal line of its head.
+#[inline(always)]
 fn on_nominal_line(packet: Packet, head: &Head) -> Batch
     requires packet { IsPacket packet }
     requires rate { 1 ≤ packet.rate }
@@ -77,6 +79,7 @@ fn on_clock_line(packet: Packet, head: &Head, line: Line, number: u64) -> Batch
 
 /// The samples of a packet that are counted from its head: on the line of the clock that covers it, or on the nominal line
 /// where there is no clock.
+#[inline(always)]
 fn counted(noted: &Noted, packet: Packet, head: &Head) -> Result<Batch, Reason>
     requires packet { IsPacket packet }
     requires rate { 1 ≤ packet.rate }
@@ -94,6 +97,7 @@ fn counted(noted: &Noted, packet: Packet, head: &Head) -> Result<Batch, Reason>
 }
 
 #[tactic(auto, unfolding(crate::specs::Verdicts::timed))]
+#[inline(always)]
 fn timed_packet(plan: &SchedulePlan, noted: &Noted, packet: Packet) -> Result<Batch, Reason>
     requires plan { IsPlan plan.now }
     requires packet { IsPacket packet }
@@ -142,6 +146,7 @@ fn timed_unit(unit: Unit) -> Batch
 /// What can be presented of an item, given what was noted of the prefix that is known when it is judged; or the first reason
 /// why nothing can, whatever the time.
 #[tactic(auto, unfolding(crate::specs::Verdicts::timed))]
+#[inline(always)]
 pub fn timed(plan: &SchedulePlan, noted: &Noted, item: Item) -> Result<Batch, Reason>
     requires plan { IsPlan plan.now }
     requires item { IsItem item }

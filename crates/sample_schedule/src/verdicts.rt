@@ -18,6 +18,7 @@ use crate::shown::Reason;
 use crate::timing::timed;
 use crate::waiting_room::Waiting;
 
+#[inline(always)]
 fn judge(
     plan: &SchedulePlan,
     now: i64,
@@ -48,6 +49,7 @@ fn judge(
 }
 
 /// The verdict of an item, over what is accepted before it and waits, and what was noted of the prefix that is known.
+#[inline(always)]
 pub fn verdict(
     plan: &SchedulePlan,
     now: i64,

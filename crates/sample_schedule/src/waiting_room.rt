@@ -14,6 +14,7 @@ use slab::Slab;
 use std::alloc::Global;
 use std::marker::Model;
 
+#[inline(always)]
 fn sequence_number(accepted: &Accepted) -> u8
     ensures { result ≡ accepted.now.batch.seq }
 {
@@ -21,6 +22,7 @@ fn sequence_number(accepted: &Accepted) -> u8
 }
 
 /// The number of its sample bytes.
+#[inline(always)]
 fn size(accepted: &Accepted) -> u64
     ensures { result ≡ length accepted.now.batch.bytes }
 {
@@ -78,6 +80,7 @@ impl Waiting {
     }
 
     /// One of those that wait has the first instant and the sequence number.
+    #[inline(always)]
     pub fn has_copy(&self, instant: i64, seq: u8) -> bool
         ensures { result ≡ list_any (is_copy_of instant seq) self.now.list }
     {
@@ -85,6 +88,7 @@ impl Waiting {
     }
 
     /// So many batches wait as the buffer takes, or their bytes and so many more are more than its room.
+    #[inline(always)]
     pub fn is_full(&self, plan: &SchedulePlan, size: usize) -> bool
         ensures full { result ≡ is_full_of plan.now self.now.list size }
         ensures buffer { result ≡ false → length self.now.list < plan.now.buffer }
@@ -95,6 +99,7 @@ impl Waiting {
     }
 
     /// Puts one behind all that are not later. Takes no memory.
+    #[inline(always)]
     pub fn put_behind(&mut self, accepted: Accepted)
         requires room { length self.old.list < self.old.room }
         requires bytes { total_bytes self.old.list + length accepted.batch.bytes < 2 ^ 64 }
@@ -109,6 +114,7 @@ impl Waiting {
     }
 
     /// The first has an instant before `now`.
+    #[inline(always)]
     pub fn is_due(&self, now: i64) -> bool
         ensures { result ≡ starts_due now self.now.list }
     {
@@ -119,6 +125,7 @@ impl Waiting {
     }
 
     /// Takes the first one.
+    #[inline(always)]
     pub fn take_first(&mut self) -> Option<Accepted>
         ensures taken { self.old.list ≡ option_to_list result ++ self.new.list }
         ensures none { IfNone result (self.old.list ≡ []) }
@@ -133,6 +140,7 @@ impl Waiting {
     }
 
     /// Takes the first one, where its instant is before `now`.
+    #[inline(always)]
     pub fn take_due(&mut self, now: i64) -> Option<Accepted>
         ensures taken { self.old.list ≡ option_to_list result ++ self.new.list }
         ensures due { IfSome result (λ first. first.instant <ℤ now) }
