@@ -1,6 +1,6 @@
 -- What the judge of a listener shows of the items that wait.
 use Rattle.std.proofs.Common.{◌≡◌, ℕ, zero, suc, ◌+◌, Bool, true, false, List, [], ◌∷◌, ◌++◌, map, Some, None, refl, sym, ap, ◌∙◌, subst, append-nil, append_assoc}
-use Rattle.std.specs.Prelude.{◌==◌, if◌then◌else◌, slice_get}
+use Rattle.std.specs.Prelude.{◌==◌, if◌then◌else◌, is_some, Option, slice_get}
 use mathlib.Core.List.{IsPrefix}
 use Rattle.clock_track.specs.Rows.{clock_spot}
 use Rattle.sample_schedule.specs.declared.entry.Entry.{Entry}
@@ -30,7 +30,7 @@ all_judged : (entries : List Entry) (given : ℕ) (judge : JudgeState) (units : 
 all_judged entries given judge units none j = sym (append-nil j.judged) ∙ (ap (λ (l : List Item). j.judged ++ map item_entry l) (sym none) ∙ j.all)
 
 -- what the judge shows is shown of all entries
-pub found_in : (ended : Bool) (judge : JudgeState) (units : Gathered) (entries : List Entry) (given : ℕ) (x : Shown) → (j : Judges entries given judge units) → (judge.closed ≡ true → (ended ≡ true) × (left units ≡ []))
+found_in : (ended : Bool) (judge : JudgeState) (units : Gathered) (entries : List Entry) (given : ℕ) (x : Shown) → (j : Judges entries given judge units) → (judge.closed ≡ true → (ended ≡ true) × (left units ≡ []))
     → Some x ≡ slice_get (judge_out clock_spot judge j.judged) given → Some x ≡ slice_get (shown_by ended judge.plan entries) given
 found_in ended judge units entries given x j over is = by judge.closed ended refl refl is
   where
@@ -46,6 +46,15 @@ found_in ended judge units entries given x j over is = by judge.closed ended ref
     by true false f g h = let both = (over f).0 in absurd cc
     by false true f g h = of_prefix (due clock_spot judge.plan j.judged) (shown clock_spot judge.plan entries) given x first h
     by false false f g h = of_prefix (due clock_spot judge.plan j.judged) (due clock_spot judge.plan entries) given x grown h
+
+pub no_item : (next : Option Shown) → is_some next ≡ false → next ≡ None
+no_item None none = refl
+no_item (Some x) none = absurd cc
+
+pub found_out : (ended : Bool) (judge : JudgeState) (units : Gathered) (entries : List Entry) (given : ℕ) (next : Option Shown) → is_some next ≡ true → (j : Judges entries given judge units) → (judge.closed ≡ true → (ended ≡ true) × (left units ≡ []))
+    → next ≡ slice_get (judge_out clock_spot judge j.judged) given → next ≡ slice_get (shown_by ended judge.plan entries) given
+found_out ended judge units entries given None some j over is = absurd cc
+found_out ended judge units entries given (Some x) some j over is = found_in ended judge units entries given x j over is
 
 -- where it shows nothing more, and nothing waits, nothing more is shown of all
 pub none_in : (ended : Bool) (judge : JudgeState) (units : Gathered) (entries : List Entry) (given : ℕ) → (j : Judges entries given judge units) → left units ≡ [] → (judge.closed ≡ true → ended ≡ true) → (ended ≡ true → judge.closed ≡ true)
@@ -79,6 +88,10 @@ judges_given entries given judge old new more none gives j = record {
   stands = j.stands;
   all = ap (λ (l : List Entry). j.judged ++ l) gives ∙ ap (λ (l : List Entry). l ++ more) (all_judged entries given judge old none j);
 }
+
+-- the same items wait
+pub judges_left : (entries : List Entry) (given : ℕ) (judge : JudgeState) (old new : Gathered) → left old ≡ left new → Judges entries given judge old → Judges entries given judge new
+judges_left entries given judge old new same j = record { judged = j.judged; stands = j.stands; all = ap (λ (l : List Item). j.judged ++ map item_entry l) (sym same) ∙ j.all }
 
 -- an entry is judged at once
 pub judges_entry : (entries : List Entry) (given : ℕ) (old new : JudgeState) (units : Gathered) (entry : Entry) → left units ≡ []

@@ -1,5 +1,5 @@
 -- What one more record, one more shown item and the end leave of a listener.
-use Rattle.std.proofs.Common.{◌≡◌, ℕ, ◌+◌, ◌-◌, ◌<◌, ◌≤◌, zero, suc, Bool, true, false, List, [], ◌∷◌, ◌++◌, length, map, take, Option, Some, None, refl, sym, ap, ◌∙◌, subst, arith, length-append, append-nil, if◌then◌else◌, cond}
+use Rattle.std.proofs.Common.{◌≡◌, ℕ, ◌+◌, ◌-◌, ◌<◌, ◌≤◌, zero, suc, Bool, true, false, List, [], ◌∷◌, ◌++◌, length, map, take, Option, Some, None, refl, sym, ap, ◌∙◌, subst, arith, length-append, append-nil, if◌then◌else◌, cond, option_to_list}
 use Rattle.std.specs.Prelude.{count_by, slice_get, ◌==◌, not}
 use Rattle.std.proofs.lemmas.List.{length-map, map-append, take-append-le}
 use Rattle.std.proofs.lemmas.List.Sums.{sum_by-append, sum_by-cons}
@@ -211,7 +211,7 @@ pub record Goes (old new : ListenState) : Type 0 where
   pub units : (ds : List Delivery) → HasUnits ds old.units → HasUnits ds new.units
   pub ends : new.judge.closed ≡ true → (is_closed old ≡ true) × (left new.units ≡ [])
 
-pub stands_shown : (records : List Record) (given : ℕ) (old new : ListenState) (x : Shown) → StandsFor records given old → Some x ≡ slice_get (out old records) given
+stands_shown : (records : List Record) (given : ℕ) (old new : ListenState) (x : Shown) → StandsFor records given old → Some x ≡ slice_get (out old records) given
     → Goes old new → Judges (entries_by (is_closed old) old.plan records) (given + 1) new.judge new.units
     → new.counts ≡ with_shown old.counts x → StandsFor records (given + 1) new
 stands_shown records given old new x st is goes judges counts =
@@ -229,6 +229,14 @@ stands_shown records given old new x st is goes judges counts =
           ∙ (ap (λ (l : List Shown). counts_of old.plan records (take (given + 1) l)) (sym same)
           ∙ ap (λ (p : ListenPlan). counts_of p records (take (given + 1) (out new records))) (sym goes.plan)))));
     }
+
+-- the same for the next item, where there is one
+pub stands_next : (records : List Record) (given : ℕ) (old new : ListenState) (next : Option Shown) (x : Shown) → next ≡ Some x → StandsFor records given old → next ≡ slice_get (out old records) given
+    → Goes old new → Judges (entries_by (is_closed old) old.plan records) (given + length (option_to_list next)) new.judge new.units
+    → new.counts ≡ with_shown old.counts x → StandsFor records (given + length (option_to_list next)) new
+stands_next records given old new None x same st is goes judges counts = absurd cc
+stands_next records given old new (Some y) x same st is goes judges counts =
+    let e : y ≡ x = cc in stands_shown records given old new y st is goes judges (counts ∙ ap (with_shown old.counts) (sym e))
 
 -- nothing is left to show
 pub stands_still : (records : List Record) (given : ℕ) (old new : ListenState) → StandsFor records given old

@@ -125,21 +125,17 @@ impl RecordListener {
         if self.idle {
             return None;
         }
-        match next_shown(
+        let next = next_shown(
             &mut self.units,
             &mut self.judge,
             self.ended,
             &mut self.closed,
-        ) {
-            Some(shown) => {
-                self.counts = self.counts.with_shown(&shown);
-                Some(shown)
-            }
-            None => {
-                self.idle = !self.ended;
-                None
-            }
+        );
+        match &next {
+            Some(shown) => self.counts = self.counts.with_shown(shown),
+            None => self.idle = !self.ended,
         }
+        next
     }
 
     /// Says that no record follows. Nothing is due of the records so far. Takes no memory.
@@ -165,7 +161,7 @@ impl RecordListener {
     }
 }
 
-/// Takes a delivery: points of the clock are judged, and what one of the stream gives waits to be judged.
+/// Takes a delivery: points of the clock are judged, and of what one of the stream gives the first item; the others wait.
 #[inline(always)]
 fn take_delivery(
     alloc: Global,
@@ -188,6 +184,9 @@ fn take_delivery(
         judge.step_clock(delivery.arrival, &clock_points(delivery.packet));
     } else {
         units.take_delivery(alloc, delivery)?;
+        if let Some(first) = units.next() {
+            judge.step(first);
+        }
     }
     Ok(())
 }
@@ -208,8 +207,9 @@ fn next_shown(units: &mut Units, judge: &mut Judge, ended: bool, closed: &mut bo
     ensures over { judge.new.closed ≡ true → (ended ≡ true) × (left units.new ≡ []) }
 {
     loop {
-        if let Some(shown) = judge.next_out() {
-            return Some(shown);
+        let next = judge.next_out();
+        if next.is_some() {
+            return next;
         }
         if !judge_next(units, judge, ended, closed) {
             return None;

@@ -282,6 +282,9 @@ impl Units {
             self.taken += 1;
             return Some(lost_item(mark, reason_for(self.why)));
         }
+        if self.own.is_none() {
+            return None;
+        }
         self.own.take()
     }
 }

@@ -7,8 +7,8 @@ use Rattle.listener.specs.Listening.{Judges}
 use Rattle.listener.proofs.record_listener.next_shown.Given as goal
 
 -- some of the items that waited were judged, or the judge was closed
-abbrev pub invariant-loop-shown : goal.invariant-loop-shown
-invariant-loop-shown l =
+abbrev pub invariant-loop-next : goal.invariant-loop-next
+invariant-loop-next l =
     record {
       judges : (entries : List Entry) (given : ℕ) → Judges entries given l.fn.judge l.fn.units → Judges entries given l.judge l.units;
       units : (ds : List Delivery) → HasUnits ds l.fn.units → HasUnits ds l.units;
@@ -18,5 +18,5 @@ invariant-loop-shown l =
       few : taken l.judge + length (left l.units) ≤ 2 ^ 62;
     }
 
-abbrev pub decreases-loop-shown : goal.decreases-loop-shown
-decreases-loop-shown l = length (left l.units) + cond l.judge.closed 0 1
+abbrev pub decreases-loop-next : goal.decreases-loop-next
+decreases-loop-next l = length (left l.units) + cond l.judge.closed 0 1

@@ -1,12 +1,14 @@
-use Rattle.std.proofs.Common.{◌≡◌, ◌+◌, Some, None, refl, sym, subst, ap, ◌∙◌, arith}
+use Rattle.std.proofs.Common.{◌≡◌, ◌+◌, false, Option, Some, None, refl, sym, subst, ap, ◌∙◌, arith, length}
 use Rattle.std.specs.Prelude.{slice_get}
+use Rattle.std.specs.Option.{option_to_list}
+use Rattle.sample_schedule.specs.declared.shown.Shown.{Shown}
 use Rattle.listener.specs.declared.heard.Counts.{Counts}
 use Rattle.listener.specs.Listening.{ListenState, StandsFor, out, work}
-use Rattle.listener.proofs.Listened.{given_out, nothing_out, shown_few, shown_frames, stands_shown, taken_few, work_less}
+use Rattle.listener.proofs.Listened.{given_out, nothing_out, shown_few, shown_frames, stands_next, taken_few, work_less}
 use Rattle.listener.proofs.record_listener.RecordListener.next_out.Goals as goal
 
-pub next_shown-requires-clause-few : goal.next_shown-requires-clause-few
-next_shown-requires-clause-few c =
+pub next_shown-next-requires-clause-few : goal.next_shown-next-requires-clause-few
+next_shown-next-requires-clause-few c =
     let sound = c.self.invariant.0 in omega (arith, taken_few sound.records sound.given _ sound.stands, sound.few)
 
 pub returns-then-self-clause-given : goal.returns-then-self-clause-given
@@ -17,42 +19,48 @@ returns-then-self-clause-given c records given stands =
 pub returns-in-None-clause-given : goal.returns-in-None-clause-given
 returns-in-None-clause-given c records given stands =
     let st = subst (StandsFor records given) (sym c.self.view_is) stands in
-    subst (λ (l : ListenState). None ≡ slice_get (out l records) given) c.self.view_is (given_out records given _ None st (c.in-None.ensures.given _ given st.judges))
+    subst (λ (l : ListenState). c.next_shown-next.result ≡ slice_get (out l records) given) c.self.view_is (given_out records given _ c.next_shown-next.result st (c.next_shown-next.ensures.given _ given st.judges))
 
 pub with_shown-self-inside-requires : goal.with_shown-self-inside-requires
 with_shown-self-inside-requires c =
+    let is : c.next_shown-next.result ≡ Some c.in-Some.shown = cc in
     let sound = c.self.invariant.0 in
-    shown_few sound.records sound.given _ c.in-Some.shown sound.stands (given_out sound.records sound.given _ _ sound.stands (c.in-Some.ensures.given _ sound.given sound.stands.judges))
+    shown_few sound.records sound.given _ c.in-Some.shown sound.stands (sym is ∙ given_out sound.records sound.given _ _ sound.stands (c.next_shown-next.ensures.given _ sound.given sound.stands.judges))
 
 pub invariant_of-self : goal.invariant_of-self
 invariant_of-self c =
+    let is : c.next_shown-next.result ≡ Some c.in-Some.shown = cc in
+    let awake : c.self.inside.idle ≡ false = cc in
     let sound = c.self.invariant.0 in (
       record {
         records = sound.records;
-        given = sound.given + 1;
-        stands = stands_shown sound.records sound.given _ _ c.in-Some.shown sound.stands (given_out sound.records sound.given _ _ sound.stands (c.in-Some.ensures.given _ sound.given sound.stands.judges))
-            (record { plan = refl; closed = refl; schedule = c.in-Some.ensures.plan; units = c.in-Some.ensures.units; ends = c.in-Some.ensures.over })
-            (c.in-Some.ensures.judges _ sound.given sound.stands.judges) c.with_shown-self-inside.ensures;
+        given = sound.given + length (option_to_list c.next_shown-next.result);
+        stands = stands_next sound.records sound.given _ _ c.next_shown-next.result c.in-Some.shown is sound.stands (given_out sound.records sound.given _ _ sound.stands (c.next_shown-next.ensures.given _ sound.given sound.stands.judges))
+            (record { plan = refl; closed = refl; schedule = c.next_shown-next.ensures.plan; units = c.next_shown-next.ensures.units; ends = c.next_shown-next.ensures.over })
+            (c.next_shown-next.ensures.judges _ sound.given sound.stands.judges) c.with_shown-self-inside.ensures;
         few = omega (arith, sound.few, shown_frames c.self.inside.counts c.in-Some.shown, ap (λ (n : Counts). n.frames) c.with_shown-self-inside.ensures);
       },
-      c.in-Some.ensures.closed,
-      λ rests. absurd cc,
+      c.next_shown-next.ensures.closed,
+      λ rests. absurd (let both = sym rests ∙ awake in cc),
     )
 
 pub returns-in-Some-clause-given : goal.returns-in-Some-clause-given
 returns-in-Some-clause-given c records given stands =
     let st = subst (StandsFor records given) (sym c.self.view_is) stands in
-    subst (λ (l : ListenState). Some c.in-Some.shown ≡ slice_get (out l records) given) c.self.view_is (given_out records given _ (Some c.in-Some.shown) st (c.in-Some.ensures.given _ given st.judges))
+    subst (λ (l : ListenState). c.next_shown-next.result ≡ slice_get (out l records) given) c.self.view_is (given_out records given _ c.next_shown-next.result st (c.next_shown-next.ensures.given _ given st.judges))
 
 pub returns-in-Some-clause-stands : goal.returns-in-Some-clause-stands
 returns-in-Some-clause-stands c records given stands =
+    let is : c.next_shown-next.result ≡ Some c.in-Some.shown = cc in
     let st = subst (StandsFor records given) (sym c.self.view_is) stands in
-    stands_shown records given _ _ c.in-Some.shown st (given_out records given _ _ st (c.in-Some.ensures.given _ given st.judges))
-    (record { plan = refl; closed = refl; schedule = c.in-Some.ensures.plan; units = c.in-Some.ensures.units; ends = c.in-Some.ensures.over })
-    (c.in-Some.ensures.judges _ given st.judges) c.with_shown-self-inside.ensures
+    stands_next records given _ _ c.next_shown-next.result c.in-Some.shown is st (given_out records given _ _ st (c.next_shown-next.ensures.given _ given st.judges))
+    (record { plan = refl; closed = refl; schedule = c.next_shown-next.ensures.plan; units = c.next_shown-next.ensures.units; ends = c.next_shown-next.ensures.over })
+    (c.next_shown-next.ensures.judges _ given st.judges) c.with_shown-self-inside.ensures
 
 pub returns-in-Some-clause-less : goal.returns-in-Some-clause-less
 returns-in-Some-clause-less c =
+    let is : c.next_shown-next.result ≡ Some c.in-Some.shown = cc in
     let sound = c.self.invariant.0 in
-    let few = shown_few sound.records sound.given _ c.in-Some.shown sound.stands (given_out sound.records sound.given _ _ sound.stands (c.in-Some.ensures.given _ sound.given sound.stands.judges)) in
-    omega (arith, work_less _ _ c.in-Some.shown c.with_shown-self-inside.ensures few, ap work c.self.view_is)
+    let one : length (option_to_list c.next_shown-next.result) ≡ 1 = ap (λ (o : Option Shown). length (option_to_list o)) is in
+    let few = shown_few sound.records sound.given _ c.in-Some.shown sound.stands (sym is ∙ given_out sound.records sound.given _ _ sound.stands (c.next_shown-next.ensures.given _ sound.given sound.stands.judges)) in
+    omega (arith, one, work_less _ _ c.in-Some.shown c.with_shown-self-inside.ensures few, ap work c.self.view_is)
