@@ -96,3 +96,14 @@ pub record Releases (old new : CaptureReading) : Type 0 where
 pub record EndsHere (r : CaptureReading) (bytes : List ℕ) (records : List Record) (refusal : Option Refusal) : Type 0 where
   pub all : records_in bytes ≡ records ++ option_to_list (held r)
   pub first : refusal ≡ refusal_in bytes
+
+-- ---- a record that is lent
+
+-- the reader with these bytes taken of what is being read of a classic capture
+abbrev pub with_part : CaptureReading → List ℕ → CaptureReading
+with_part r bytes = record r { classic = classic.with_part r.classic bytes }
+
+-- These bytes are the next record of a classic capture, whole, and nothing of it was taken yet.
+pub record IsNext (r : CaptureReading) (bytes : List ℕ) : Type 0 where
+  pub format : r.format ≡ Some Classic
+  pub next : classic.IsNext r.classic bytes

@@ -1,5 +1,5 @@
 -- The records of a capture, one after the other.
-use Rattle.std.specs.Prelude.{◌≡◌, ◌++◌, ◌+◌, ◌*◌, ◌<◌, ◌≤◌, ℕ, List, [], ◌∷◌, length, IfOk, IfSome, IsSome, Option, Some, None, Result, option_to_list}
+use Rattle.std.specs.Prelude.{◌≡◌, ◌++◌, ◌+◌, ◌*◌, ◌<◌, ◌≤◌, ⊤, ℕ, List, [], ◌∷◌, length, take, drop, IfOk, IfSome, IsSome, Option, Some, None, Result, option_to_list}
 use Rattle.avtp_base.specs.Faults.{Rose}
 use Rattle.avtp_base.specs.declared.failed.OpenFault.{OpenFault}
 use Rattle.avtp_base.specs.Files.{Files, Slots, left_in}
@@ -9,7 +9,7 @@ use Rattle.capture_io.specs.declared.end.End.{End}
 use Rattle.capture_io.specs.Ends.{CountsFault, EndsAt}
 use Rattle.capture_io.specs.Formats.{records_in}
 use Rattle.capture_io.specs.Pieces.{Piecing, HasTaken}
-use Rattle.capture_io.specs.Reader.{CaptureReading, HasRead, held, refusal_of}
+use Rattle.capture_io.specs.Reader.{CaptureReading, HasRead, IsNext, Releases, held, refusal_of, with_part}
 use Rattle.capture_io.specs.Reads.{ReadsSlot, TriesOpen}
 
 -- The file and its pieces, the reader that takes them, and how the reading ended, once it has.
@@ -95,3 +95,30 @@ pub record GivesNext (before after : ShelfState) (old new : Sourcing) (result : 
   pub lasting : IfSome old.ended (λ how. result ≡ Some how)
   pub counted : CountsFault old.ended result before.reading_faults after.reading_faults
   pub reads : ReadsSlot before after (slot_of old) (slot_of new)
+
+-- ---- a record that is lent
+
+-- the source, with so many of the bytes that wait taken by its reader
+abbrev pub holding : Sourcing → ℕ → Sourcing
+holding source size = record source { pieces = record source.pieces { waiting = drop size source.pieces.waiting }; reader = with_part source.reader (take size source.pieces.waiting) }
+
+-- The reading has not ended, and so many of the bytes that wait are the next record.
+pub record LiesAhead (source : Sourcing) (size : ℕ) : Type 0 where
+  pub going : source.ended ≡ None
+  pub within : size ≤ length source.pieces.waiting
+  pub next : IsNext source.reader (take size source.pieces.waiting)
+
+-- a source that lends the record in so many of the bytes that wait, or none, stands for this one
+abbrev pub lending : Option ℕ → Sourcing → Sourcing
+lending None source = source
+lending (Some size) source = holding source size
+
+abbrev pub IsLending : Option ℕ → Sourcing → Type 0
+IsLending None source = ⊤
+IsLending (Some size) source = LiesAhead source size
+
+-- The record that was held was given up, and nothing else was done.
+pub record GivesUp (old new : Sourcing) : Type 0 where
+  pub pieces : new.pieces ≡ old.pieces
+  pub reader : Releases old.reader new.reader
+  pub ended : new.ended ≡ old.ended

@@ -1,12 +1,12 @@
 //! Captures in either layout, classic pcap or pcapng, in any pieces.
 
-ghost use Rattle.std.specs.Prelude.{◌≡◌, ◌+◌, ◌≤◌, ◌^◌, ℕ, List, length, None, IfOk, IfSome};
+ghost use Rattle.std.specs.Prelude.{◌≡◌, ◌+◌, ◌≤◌, ◌^◌, ℕ, List, length, take, None, Some, IfOk, IfSome};
 ghost use Rattle.std.specs.Option.{option_map};
 ghost use Rattle.std.specs.Result.{result_err};
 ghost use Rattle.pcap_frames.specs.Capture.{Record};
 ghost use Rattle.pcap_frames.specs.Layout.{IsRecordTime};
 ghost use Rattle.pcap_frames.specs.Reading.{shown};
-ghost use Rattle.capture_io.specs.Reader.{EndsHere, Feeds, HasRead, Releases, format_in, held, nothing_read, taken};
+ghost use Rattle.capture_io.specs.Reader.{EndsHere, Feeds, HasRead, IsNext, Releases, format_in, held, nothing_read, taken, with_part};
 
 use avtp_base::{Field, NoMemory, Refusal};
 use byteorder::{ByteOrder, LittleEndian};
@@ -30,7 +30,7 @@ const SECTION_HEADER: u32 = 0x0A0D_0D0A;
 /// How many bytes tell the layout.
 const FRONT: usize = 4;
 
-/// Reads a capture in either layout, with the calls of [`Reader`]. The first four bytes are held back until they are all
+/// Reads a capture in either layout, with the calls of [`Reader`]; only records of a classic capture are lent. The first four bytes are held back until they are all
 /// there, and tell the layout.
 #[derive(Drop)]
 pub struct CaptureReader {
@@ -128,6 +128,38 @@ impl CaptureReader {
             Format::Classic => self.classic.release(),
             Format::Pcapng => self.ng.release(),
         };
+    }
+
+    /// The size of the next record, where it lies whole at the front of the piece and nothing of it was taken yet.
+    ///
+    /// None comes only where no such record lies there, or the capture is not a classic one. Then the piece is to be fed.
+    pub fn whole_ahead(&self, piece: &[u8]) -> Option<usize>
+        ensures within { IfSome result (λ size. size ≤ length piece.now) }
+        ensures next { IfSome result (λ size. IsNext self.now (take size piece.now)) }
+        ensures none { result ≡ None → (size : ℕ) → IsNext self.now (take size piece.now) → ⊥ }
+    {
+        match self.format? {
+            Format::Classic => self.classic.whole_ahead(piece),
+            Format::Pcapng => None,
+        }
+    }
+
+    /// The next record, where it lies: these are its bytes, header and all.
+    pub fn lend<'a>(&self, bytes: &'a [u8]) -> RecordView<'a>
+        requires { IsNext self.now bytes.now }
+        ensures exact { held (with_part self.now bytes.now) ≡ Some (shown result) }
+        ensures time { IsRecordTime result.arrival }
+    {
+        self.classic.lend(bytes)
+    }
+
+    /// Goes past the next record, as if its bytes had been fed and the record released.
+    pub fn pass(&mut self, bytes: &[u8])
+        requires next { IsNext self.old bytes.now }
+        requires bounded { taken self.old + length bytes.now ≤ 2 ^ 62 }
+        ensures { Releases (with_part self.old bytes.now) self.new }
+    {
+        self.classic.pass(bytes);
     }
 
     /// Whether the bytes so far are a whole capture; otherwise it answers their first refusal. It changes nothing: bytes may

@@ -4,6 +4,7 @@
 mod capture_reader;
 mod contents;
 mod end;
+mod feed;
 mod file_writer;
 mod law;
 mod pieces;

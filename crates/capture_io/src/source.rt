@@ -1,15 +1,13 @@
 //! A capture that is read record by record.
 
-ghost use Rattle.std.specs.Prelude.{◌≡◌, ◌≤◌, ◌<◌, ◌^◌, [], Some, None, length, IsSome};
-ghost use Rattle.avtp_base.specs.States.{ShelfState};
+ghost use Rattle.std.specs.Prelude.{◌≡◌, ◌≤◌, ◌^◌, Some, IsSome};
 ghost use Rattle.pcap_frames.specs.Layout.{IsRecordTime};
 ghost use Rattle.pcap_frames.specs.Reading.{shown};
 ghost use Rattle.capture_io.specs.Reads.{ClosesSlot};
-ghost use Rattle.capture_io.specs.Source.{GivesNext, IsReady, OpensSource, ReadsOn, held_in, slot_of};
+ghost use Rattle.capture_io.specs.Source.{GivesNext, GivesUp, IsLending, OpensSource, held_in, lending, slot_of};
 
-use crate::capture_reader::CaptureReader;
 use crate::end::End;
-use crate::pieces::Pieces;
+use crate::feed::Feed;
 use crate::read_slots::ReadSlots;
 use avtp_base::{OpenFault, Shelf};
 use pcap_frames::RecordView;
@@ -18,23 +16,23 @@ use std::marker::Model;
 
 /// A capture that is read from a shelf, which gives its records one after the other. It takes at most 65,536 bytes in
 /// a call of the shelf, and its memory, which is reserved when it is opened, does not grow with the capture.
+///
+/// A record that lies whole in the piece that was read is lent from there; only one that is cut is copied.
 #[derive(Drop)]
 pub struct Source {
-    pieces: Pieces,
-    reader: CaptureReader,
-    ended: Option<End>,
+    feed: Feed,
+    /// The size of the record that is held, where it is lent: it lies at the front of the bytes that wait.
+    lent: Option<usize>,
 }
 
 impl Model for Source {
-    ghost use Rattle.std.specs.Prelude.{◌≤◌, ◌+◌, ◌^◌, length};
-    ghost use Rattle.capture_io.specs.Reader.{taken};
-    ghost use Rattle.capture_io.specs.Source.{Sourcing};
+    ghost use Rattle.capture_io.specs.Source.{IsLending, Sourcing, lending};
 
     ghost Value = { Sourcing };
 
-    ghost view = { λ s. record { pieces = s.pieces; reader = s.reader; ended = s.ended } };
+    ghost view = { λ s. lending s.lent s.feed };
 
-    ghost invariant = { λ s. taken s.reader + length s.pieces.waiting + s.pieces.left ≤ 2 ^ 62 };
+    ghost invariant = { λ s. IsLending s.lent s.feed };
 }
 
 impl Source {
@@ -51,16 +49,8 @@ impl Source {
         requires { limit ≤ 2 ^ 62 }
         ensures { OpensSource (F.state shelf.old) (F.state shelf.new) limit name.now result }
     {
-        let pieces = Pieces::open(alloc, limit, shelf, name)?;
-        let Ok(reader) = CaptureReader::new(alloc) else {
-            pieces.close(shelf);
-            return Err(OpenFault::Memory);
-        };
-        Ok(Source {
-            pieces,
-            reader,
-            ended: None,
-        })
+        let feed = Feed::open(alloc, limit, shelf, name)?;
+        Ok(Source { feed, lent: None })
     }
 
     /// Drops the record that is held, and reads on to the next. At `None` one is held now; else it answers how the reading
@@ -69,66 +59,12 @@ impl Source {
         requires { IsSome ((F.state shelf.old).slots (slot_of self.old)) }
         ensures { GivesNext (F.state shelf.old) (F.state shelf.new) self.old self.new result }
     {
-        if self.ended.is_some() {
-            return self.ended;
+        give_up(&mut self.feed, self.lent);
+        self.lent = self.feed.whole_ahead();
+        if self.lent.is_some() {
+            return None;
         }
-        self.reader.release();
-        self.ended = self.read_on(shelf);
-        self.ended
-    }
-
-    /// Reads on until a record is held, or the reading ends.
-    fn read_on<F: ReadSlots>(&mut self, shelf: &mut F) -> Option<End>
-        requires { IsReady (F.state shelf.old).slots self.old }
-        ensures on { ReadsOn (F.state shelf.old) (F.state shelf.new) self.old self.new result }
-        ensures held { result ≡ None → IsSome (held_in self.new) }
-    {
-        loop {
-            if let Some(end) = self.step(shelf) {
-                return Some(end);
-            }
-            if self.reader.held().is_some() {
-                return None;
-            }
-        }
-    }
-
-    /// Feeds the reader what waits, or where nothing waits reads the next piece.
-    fn step<F: ReadSlots>(&mut self, shelf: &mut F) -> Option<End>
-        requires { IsReady (F.state shelf.old).slots self.old }
-        ensures { ReadsOn (F.state shelf.old) (F.state shelf.new) self.old self.new result }
-    {
-        if self.pieces.waiting().is_empty() {
-            return self.read_piece(shelf);
-        }
-        self.feed_piece()
-    }
-
-    /// Reads the next piece, where nothing waits.
-    fn read_piece<F: ReadSlots>(&mut self, shelf: &mut F) -> Option<End>
-        requires ready { IsReady (F.state shelf.old).slots self.old }
-        requires none_waits { self.old.pieces.waiting ≡ [] }
-        ensures { ReadsOn (F.state shelf.old) (F.state shelf.new) self.old self.new result }
-    {
-        let stop = self.pieces.read(shelf)?;
-        Some(stop.end(self.reader.finish().err()))
-    }
-
-    /// Feeds the reader what waits, up to the end of one record, or answers the refusal that ends the reading.
-    fn feed_piece(&mut self) -> Option<End>
-        requires { 0 < length self.old.pieces.waiting }
-        ensures { (shelf : ShelfState) → IsReady shelf.slots self.old → ReadsOn shelf shelf self.old self.new result }
-    {
-        match self.reader.feed(self.pieces.waiting()) {
-            Ok(taken) => {
-                self.pieces.take(taken);
-                None
-            }
-            Err(refusal) => {
-                self.pieces.take_all();
-                Some(End::Refused(refusal))
-            }
-        }
+        self.feed.next(shelf)
     }
 
     /// The record that is held.
@@ -137,9 +73,9 @@ impl Source {
         ensures exact { held_in self.now ≡ Some (shown result) }
         ensures time { IsRecordTime result.arrival }
     {
-        match self.reader.held() {
-            Some(record) => record,
-            None => unreachable!(),
+        match self.lent {
+            Some(size) => self.feed.lend(size),
+            None => self.feed.record(),
         }
     }
 
@@ -148,6 +84,17 @@ impl Source {
         requires { IsSome ((F.state shelf.old).slots (slot_of self)) }
         ensures { ClosesSlot (F.state shelf.old) (F.state shelf.new) (slot_of self) }
     {
-        self.pieces.close(shelf);
+        self.feed.close(shelf);
+    }
+}
+
+/// Gives up the record that is lent, or else the one that is held, if there is one.
+fn give_up(feed: &mut Feed, lent: Option<usize>)
+    requires { IsLending lent feed.old }
+    ensures { GivesUp (lending lent feed.old) feed.new }
+{
+    match lent {
+        Some(size) => feed.pass(size),
+        None => feed.release(),
     }
 }

@@ -10,3 +10,4 @@ pub mod Steps
 pub mod Whole
 pub mod Written
 pub mod Firsts
+pub mod Lent

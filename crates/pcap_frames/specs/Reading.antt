@@ -1,5 +1,5 @@
 -- What a reader stands for.
-use Rattle.std.specs.Prelude.{◌≡◌, ℕ, ◌+◌, ◌<◌, ◌≤◌, false, cond, ◌⊎◌, List, [], ◌∷◌, ◌++◌, length, take, Result, IfOk, IfErr, OnOk, OnErr, Option, Some, None, is_none}
+use Rattle.std.specs.Prelude.{◌≡◌, ℕ, ◌+◌, ◌<◌, ◌≤◌, false, cond, ◌⊎◌, List, [], ◌∷◌, ◌++◌, length, take, Result, IfOk, IfErr, IsSome, OnOk, OnErr, Option, Some, None, is_none, option_to_list}
 use Rattle.avtp_base.specs.declared.refusal.Refusal.{Refusal}
 use Rattle.pcap_frames.specs.declared.style.Order.{Order}
 use Rattle.pcap_frames.specs.declared.style.RecordView.{RecordView}
@@ -98,3 +98,24 @@ ending_by None (Some style) start (b ∷ part) = record_refusal style.order star
 -- the first refusal, where the capture ends with the bytes that were taken
 abbrev pub ending : Reading → Option Refusal
 ending r = ending_by r.refusal r.style r.start r.part
+
+-- ---- a record that is lent
+
+-- the reader with these bytes taken of what is being read
+abbrev pub with_part : Reading → List ℕ → Reading
+with_part r bytes = record r { part = bytes }
+
+-- These bytes are the next record, whole, and nothing of it was taken yet: a reader that takes them holds it.
+pub record IsNext (r : Reading) (bytes : List ℕ) : Type 0 where
+  pub untaken : r.part ≡ []
+  pub reading : IsReading r.refusal r.style r.start bytes
+  pub whole : IsSome (held (with_part r bytes))
+
+-- What lending does with the bytes of a record: whatever the reader had read before, it has read these bytes too now, and
+-- given up the record that they are; and it holds none.
+pub record Passes (old : Reading) (bytes : List ℕ) (new : Reading) : Type 0 where
+  pub read : (before : List ℕ) (records : List Record) → HasRead old before records → HasRead new (before ++ bytes) (records ++ option_to_list (held (with_part old bytes)))
+  pub counted : taken new ≡ taken old + length bytes
+  pub free : held new ≡ None
+  pub style : new.style ≡ old.style
+  pub refusal : new.refusal ≡ old.refusal

@@ -1,7 +1,7 @@
 //! The fields of a capture: where they stand, how their numbers are spelled, and which values are refused
 //! (draft-ietf-opsawg-pcap, "PCAP Capture File Format", sections 4 and 5).
 
-ghost use Rattle.std.specs.Prelude.{◌≡◌, ◌+◌, ◌<◌, ◌≤◌, ◌^◌, length, pos, true, false, Some, IfSome};
+ghost use Rattle.std.specs.Prelude.{◌≡◌, ◌+◌, ◌<◌, ◌≤◌, ◌^◌, ℕ, length, pos, true, false, None, Some, IfSome, IsSome};
 ghost use Rattle.pcap_frames.specs.Capture.{record_of};
 ghost use Rattle.pcap_frames.specs.Reading.{shown};
 ghost use Rattle.pcap_frames.specs.Layout.{number_at, style_at as style_of_bytes, file_header, first_refused, certain as certain_of, file_refusal as refusal_of_file, record_refusal as refusal_of_record, instant, IsRecordTime};
@@ -163,10 +163,12 @@ pub fn record_refusal(order: Order, start: u64, bytes: &[u8]) -> Option<Refusal>
 }
 
 /// The size of the record that the bytes begin with, where it lies whole in them and nothing in it is refused.
+#[tactic(auto, unfolding(crate::specs::Layout::record_refusal))]
 pub fn whole_size(order: Order, bytes: &[u8]) -> Option<usize>
     ensures size { IfSome result (λ size. size ≡ 16 + number_at order 8 4 bytes.now) }
     ensures limit { IfSome result (λ size. size ≤ 262160) }
     ensures whole { IfSome result (λ size. size ≤ length bytes.now) }
+    ensures none { result ≡ None → (start : ℕ) → IsSome (refusal_of_record order start bytes.now) }
 {
     if bytes.len() < RECORD_HEADER {
         return None;

@@ -1,10 +1,10 @@
 //! Records from the bytes of a capture, in pieces of any length.
 
 ghost use Rattle.std.specs.Option.{option_map, option_to_list};
-ghost use Rattle.pcap_frames.specs.Layout.{certain, number_at, IsRecordTime};
+ghost use Rattle.pcap_frames.specs.Layout.{certain, IsRecordTime};
 ghost use Rattle.pcap_frames.specs.Capture.{Record, Holds, first_refusal, style_of, whole_records};
 ghost use Rattle.std.specs.Result.{result_err};
-ghost use Rattle.pcap_frames.specs.Reading.{Feeds, GoesOn, HasRead, ending, held, nothing_read, shown, taken};
+ghost use Rattle.pcap_frames.specs.Reading.{Feeds, GoesOn, HasRead, IsNext, Passes, ending, held, nothing_read, shown, taken, with_part};
 ghost use Rattle.std.specs.Prelude.{ℕ, List, Err, IfSome, IsSome, ◌⊎◌, ◌↔◌, is_some, ◌≡◌, ◌+◌, ◌-◌, ◌<◌, ◌≤◌, ◌^◌, ◌++◌, length, take, min, None, Some, IfOk, IfErr, OnOk, OnErr, [], vec_capacity};
 
 use crate::layout::{self, FILE_HEADER, RECORD_HEADER, RECORD_LIMIT};
@@ -16,6 +16,9 @@ use std::marker::Model;
 /// Reads a capture in the classic pcap layout (draft-ietf-opsawg-pcap). It takes the capture's bytes in pieces of any
 /// length, and holds one record at a time: feed a piece until all of it is taken, and look at the held record and
 /// release it after each call.
+///
+/// A record that lies whole in a piece need not be copied: where `whole_ahead` finds one, `lend` shows it where it lies,
+/// and `pass` goes past it, in the place of `feed`, `held` and `release`.
 #[derive(Debug, Drop)]
 pub struct Reader {
     style: Option<Style>,
@@ -145,26 +148,13 @@ impl Reader {
         ensures end { IfOk result (λ n. n < length piece.now → IsSome (held self.new)) }
         ensures fed { Feeds self.old piece.now result self.new }
     {
-        if let Some(size) = self.whole_ahead(style, piece) {
+        if let Some(size) = self.whole_ahead(piece) {
             let taken = gather(&mut self.part, size, piece);
             self.whole = true;
             return Ok(taken);
         }
         let taken = self.feed_parts(style, piece)?;
         Ok(taken)
-    }
-
-    /// The size of a record that lies whole in the piece, where none has begun.
-    fn whole_ahead(&self, style: Style, piece: &[u8]) -> Option<usize>
-        ensures begins { IfSome result (λ size. self.now.part ≡ []) }
-        ensures size { IfSome result (λ size. size ≡ 16 + number_at style.order 8 4 piece.now) }
-        ensures limit { IfSome result (λ size. size ≤ 262160) }
-        ensures whole { IfSome result (λ size. size ≤ length piece.now) }
-    {
-        if !self.part.is_empty() {
-            return None;
-        }
-        layout::whole_size(style.order, piece)
     }
 
     /// Takes bytes up to the end of a record, of which some came or not all are in the piece.
@@ -266,6 +256,47 @@ impl Reader {
         self.part.clear();
         self.whole = false;
         true
+    }
+
+    /// The size of the next record, where it lies whole at the front of the piece and nothing of it was taken yet.
+    ///
+    /// None comes only where no such record lies there: the file header is still awaited, some bytes of the record were
+    /// taken, a field is refused, or the record goes on after the piece. Then the piece is to be fed.
+    pub fn whole_ahead(&self, piece: &[u8]) -> Option<usize>
+        ensures within { IfSome result (λ size. size ≤ length piece.now) }
+        ensures limit { IfSome result (λ size. size ≤ 262160) }
+        ensures next { IfSome result (λ size. IsNext self.now (take size piece.now)) }
+        ensures none { result ≡ None → (size : ℕ) → IsNext self.now (take size piece.now) → ⊥ }
+    {
+        if self.refusal.is_some() || !self.part.is_empty() {
+            return None;
+        }
+        let style = self.style?;
+        layout::whole_size(style.order, piece)
+    }
+
+    /// The next record, where it lies: these are its bytes, header and all.
+    pub fn lend<'a>(&self, bytes: &'a [u8]) -> RecordView<'a>
+        requires { IsNext self.now bytes.now }
+        ensures exact { held (with_part self.now bytes.now) ≡ Some (shown result) }
+        ensures time { IsRecordTime result.arrival }
+    {
+        let Some(style) = self.style else {
+            unreachable!()
+        };
+        layout::view(style, bytes)
+    }
+
+    /// Goes past the next record, as if its bytes had been fed and the record released.
+    ///
+    /// At most 2^62 bytes may be taken in all, these among them.
+    pub fn pass(&mut self, bytes: &[u8])
+        requires next { IsNext self.old bytes.now }
+        requires bounded { taken self.old + length bytes.now ≤ 2 ^ 62 }
+        ensures exact { self.new ≡ record self.old { start = self.old.start + length bytes.now } }
+        ensures passed { Passes self.old bytes.now self.new }
+    {
+        self.start += bytes.len() as u64;
     }
 
     /// Whether the bytes so far are a whole capture: a file header and whole records.

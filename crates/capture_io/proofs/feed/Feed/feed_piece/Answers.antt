@@ -2,7 +2,7 @@ use Rattle.std.proofs.Common.{refl, rules, sym, subst}
 use Rattle.capture_io.specs.Source.{Sourcing, HasFed, remains_of}
 use Rattle.capture_io.proofs.Giving.{ended_so, refused_end}
 use Rattle.capture_io.proofs.Leaving.{reads_still}
-use Rattle.capture_io.proofs.source.Source.feed_piece.Goals as goal
+use Rattle.capture_io.proofs.feed.Feed.feed_piece.Goals as goal
 
 pub returns-in-Err : goal.returns-in-Err
 returns-in-Err c shelf ready =

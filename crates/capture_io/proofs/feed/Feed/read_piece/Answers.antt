@@ -4,7 +4,7 @@ use Rattle.capture_io.specs.declared.end.End.{End}
 use Rattle.capture_io.specs.Ends.{CountsFault, end_at}
 use Rattle.capture_io.specs.Source.{EndsAfter, Sourcing, HasFed, held_in, remains_of}
 use Rattle.capture_io.proofs.Giving.{ended_so, stop_counted, stop_rose, stopped}
-use Rattle.capture_io.proofs.source.Source.read_piece.Goals as goal
+use Rattle.capture_io.proofs.feed.Feed.read_piece.Goals as goal
 
 pub returns : goal.returns
 returns g c =

@@ -2,7 +2,7 @@ use Rattle.std.proofs.Common.{◌≡◌, ◌≤◌, ℕ, List, None}
 use Rattle.pcap_frames.specs.Capture.{Record}
 use Rattle.capture_io.specs.Reads.{ReadsSlot}
 use Rattle.capture_io.specs.Source.{HasFed, held_in, remains_of, slot_of, to_do}
-use Rattle.capture_io.proofs.source.Source.read_on.Given as goal
+use Rattle.capture_io.proofs.feed.Feed.read_on.Given as goal
 
 abbrev pub invariant-loop-end : goal.invariant-loop-end
 invariant-loop-end g l =

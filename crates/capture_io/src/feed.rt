@@ -1,0 +1,190 @@
+//! A capture whose pieces are fed to its reader.
+
+ghost use Rattle.std.specs.Prelude.{◌≡◌, ◌≤◌, ◌<◌, ◌^◌, ℕ, [], Some, None, length, IfSome, IsSome};
+ghost use Rattle.avtp_base.specs.States.{ShelfState};
+ghost use Rattle.pcap_frames.specs.Layout.{IsRecordTime};
+ghost use Rattle.pcap_frames.specs.Reading.{shown};
+ghost use Rattle.capture_io.specs.Reads.{ClosesSlot};
+ghost use Rattle.capture_io.specs.Source.{GivesNext, GivesUp, IsReady, LiesAhead, OpensSource, ReadsOn, held_in, holding, slot_of};
+
+use crate::capture_reader::CaptureReader;
+use crate::end::End;
+use crate::pieces::Pieces;
+use crate::read_slots::ReadSlots;
+use avtp_base::{OpenFault, Shelf};
+use pcap_frames::RecordView;
+use std::alloc::Global;
+use std::marker::Model;
+
+/// A capture that is read from a shelf, and fed to a reader in pieces. The bytes of a record are taken by the reader, which
+/// holds it then, or the record is looked at where it lies in the piece.
+#[derive(Drop)]
+pub struct Feed {
+    pieces: Pieces,
+    reader: CaptureReader,
+    ended: Option<End>,
+}
+
+impl Model for Feed {
+    ghost use Rattle.std.specs.Prelude.{◌≤◌, ◌+◌, ◌^◌, length};
+    ghost use Rattle.capture_io.specs.Reader.{taken};
+    ghost use Rattle.capture_io.specs.Source.{Sourcing};
+
+    ghost Value = { Sourcing };
+
+    ghost view = { λ s. record { pieces = s.pieces; reader = s.reader; ended = s.ended } };
+
+    ghost invariant = { λ s. taken s.reader + length s.pieces.waiting + s.pieces.left ≤ 2 ^ 62 };
+}
+
+impl Feed {
+    /// Opens a capture of which at most `limit` bytes may be read; `limit` is at most 2^62. No record is held yet.
+    ///
+    /// `Missing` comes only where the shelf tells its files and none has the name, `Failed` only where the reading count
+    /// rose, and `Memory` where no memory was found; after each of them the file is not open.
+    pub fn open<F: Shelf>(
+        alloc: Global,
+        limit: u64,
+        shelf: &mut F,
+        name: &str,
+    ) -> Result<Self, OpenFault>
+        requires { limit ≤ 2 ^ 62 }
+        ensures { OpensSource (F.state shelf.old) (F.state shelf.new) limit name.now result }
+    {
+        let pieces = Pieces::open(alloc, limit, shelf, name)?;
+        let Ok(reader) = CaptureReader::new(alloc) else {
+            pieces.close(shelf);
+            return Err(OpenFault::Memory);
+        };
+        Ok(Feed {
+            pieces,
+            reader,
+            ended: None,
+        })
+    }
+
+    /// Drops the record that is held, and reads on to the next. At `None` one is held now; else it answers how the reading
+    /// ended. Once it has ended, each further call answers the same and reads nothing.
+    pub fn next<F: ReadSlots>(&mut self, shelf: &mut F) -> Option<End>
+        requires { IsSome ((F.state shelf.old).slots (slot_of self.old)) }
+        ensures { GivesNext (F.state shelf.old) (F.state shelf.new) self.old self.new result }
+    {
+        if self.ended.is_some() {
+            return self.ended;
+        }
+        self.reader.release();
+        self.ended = self.read_on(shelf);
+        self.ended
+    }
+
+    /// Reads on until a record is held, or the reading ends.
+    fn read_on<F: ReadSlots>(&mut self, shelf: &mut F) -> Option<End>
+        requires { IsReady (F.state shelf.old).slots self.old }
+        ensures on { ReadsOn (F.state shelf.old) (F.state shelf.new) self.old self.new result }
+        ensures held { result ≡ None → IsSome (held_in self.new) }
+    {
+        loop {
+            if let Some(end) = self.step(shelf) {
+                return Some(end);
+            }
+            if self.reader.held().is_some() {
+                return None;
+            }
+        }
+    }
+
+    /// Feeds the reader what waits, or where nothing waits reads the next piece.
+    fn step<F: ReadSlots>(&mut self, shelf: &mut F) -> Option<End>
+        requires { IsReady (F.state shelf.old).slots self.old }
+        ensures { ReadsOn (F.state shelf.old) (F.state shelf.new) self.old self.new result }
+    {
+        if self.pieces.waiting().is_empty() {
+            return self.read_piece(shelf);
+        }
+        self.feed_piece()
+    }
+
+    /// Reads the next piece, where nothing waits.
+    fn read_piece<F: ReadSlots>(&mut self, shelf: &mut F) -> Option<End>
+        requires ready { IsReady (F.state shelf.old).slots self.old }
+        requires none_waits { self.old.pieces.waiting ≡ [] }
+        ensures { ReadsOn (F.state shelf.old) (F.state shelf.new) self.old self.new result }
+    {
+        let stop = self.pieces.read(shelf)?;
+        Some(stop.end(self.reader.finish().err()))
+    }
+
+    /// Feeds the reader what waits, up to the end of one record, or answers the refusal that ends the reading.
+    fn feed_piece(&mut self) -> Option<End>
+        requires { 0 < length self.old.pieces.waiting }
+        ensures { (shelf : ShelfState) → IsReady shelf.slots self.old → ReadsOn shelf shelf self.old self.new result }
+    {
+        match self.reader.feed(self.pieces.waiting()) {
+            Ok(taken) => {
+                self.pieces.take(taken);
+                None
+            }
+            Err(refusal) => {
+                self.pieces.take_all();
+                Some(End::Refused(refusal))
+            }
+        }
+    }
+
+    /// The size of the next record, where it lies whole at the front of the bytes that wait and nothing of it was taken yet.
+    /// None comes only where no such record lies there, or the reading has ended.
+    pub fn whole_ahead(&self) -> Option<usize>
+        ensures ahead { IfSome result (λ size. LiesAhead self.now size) }
+        ensures none { result ≡ None → (size : ℕ) → LiesAhead self.now size → ⊥ }
+    {
+        if self.ended.is_some() {
+            return None;
+        }
+        self.reader.whole_ahead(self.pieces.waiting())
+    }
+
+    /// The next record, where it lies in so many bytes that wait.
+    pub fn lend(&self, size: usize) -> RecordView<'_>
+        requires { LiesAhead self.now size }
+        ensures exact { held_in (holding self.now size) ≡ Some (shown result) }
+        ensures time { IsRecordTime result.arrival }
+    {
+        self.reader.lend(&self.pieces.waiting()[..size])
+    }
+
+    /// Goes past the next record, which lies in so many bytes that wait.
+    pub fn pass(&mut self, size: usize)
+        requires { LiesAhead self.old size }
+        ensures { GivesUp (holding self.old size) self.new }
+    {
+        self.reader.pass(&self.pieces.waiting()[..size]);
+        self.pieces.take(size);
+    }
+
+    /// Drops the record that is held, if there is one.
+    pub fn release(&mut self)
+        ensures { GivesUp self.old self.new }
+    {
+        self.reader.release();
+    }
+
+    /// The record that is held.
+    pub fn record(&self) -> RecordView<'_>
+        requires { IsSome (held_in self.now) }
+        ensures exact { held_in self.now ≡ Some (shown result) }
+        ensures time { IsRecordTime result.arrival }
+    {
+        match self.reader.held() {
+            Some(record) => record,
+            None => unreachable!(),
+        }
+    }
+
+    /// Closes the file, wherever the reading stands.
+    pub fn close<F: Shelf>(self, shelf: &mut F)
+        requires { IsSome ((F.state shelf.old).slots (slot_of self)) }
+        ensures { ClosesSlot (F.state shelf.old) (F.state shelf.new) (slot_of self) }
+    {
+        self.pieces.close(shelf);
+    }
+}

@@ -1,0 +1,89 @@
+-- A record that is lent.
+use Rattle.std.proofs.Common.{◌≡◌, ℕ, ◌+◌, ◌≤◌, false, is_some, List, [], ◌++◌, length, take, drop, Option, Some, None, IsSome, refl, sym, ap, subst, ◌∙◌, arith}
+use Rattle.std.specs.Prelude.{IfSome}
+use Rattle.std.proofs.lemmas.List.{take-append-drop}
+use Rattle.avtp_base.specs.declared.refusal.Refusal.{Refusal}
+use Rattle.pcap_frames.specs.declared.style.Style.{Style}
+use Rattle.pcap_frames.specs.Layout.{number_at, record_refusal}
+use Rattle.pcap_frames.specs.Capture.{Record}
+use Rattle.pcap_frames.specs.Reading.{GoesOn, HasRead, IsNext, IsReading, Passes, Reading, held_by, with_part}
+use Rattle.pcap_frames.proofs.Append.{record_stays}
+use Rattle.pcap_frames.proofs.Ends.{free_held, gives_up}
+use Rattle.pcap_frames.proofs.Fields.{record_begins, record_whole, still_in_record}
+use Rattle.pcap_frames.proofs.Flag.{flag_begins, whole_front, whole_part}
+use Rattle.pcap_frames.proofs.Held.{held_is, is_held_by}
+use Rattle.pcap_frames.proofs.Steps.{reading, record_goes_on}
+
+-- a reader that holds a record is not refused
+pub holds_accepted : (refusal : Option Refusal) (style : Option Style) (start : ℕ) (part : List ℕ) → IsSome (held_by refusal style start part) → refusal ≡ None
+holds_accepted (Some r) style start part some = absurd cc
+holds_accepted None style start part some = refl
+
+-- and knows the style
+pub holds_styled : (refusal : Option Refusal) (style : Option Style) (start : ℕ) (part : List ℕ) → IsSome (held_by refusal style start part) → (s : Style) × (style ≡ Some s)
+holds_styled (Some r) style start part some = absurd cc
+holds_styled None None start part some = absurd cc
+holds_styled None (Some s) start part some = (s, refl)
+
+-- the next record lies whole in the piece
+pub is_next : (refusal : Option Refusal) (style : Option Style) (s : Style) (start : ℕ) (part piece : List ℕ) (size : ℕ) → refusal ≡ None → style ≡ Some s → part ≡ []
+    → size ≡ 16 + number_at s.order 8 4 piece → size ≤ 262160 → size ≤ length piece → IsNext (reading refusal style start part) (take size piece)
+is_next refusal style s start part piece size accepted styled untaken is limit fits = record {
+  untaken = untaken;
+  reading = still_in_record refusal style s start (take size piece) accepted styled (whole_part s.order start piece size is limit fits);
+  whole = is_held_by refusal style s start (take size piece) accepted styled (whole_front s.order start piece size is limit fits);
+}
+
+pub ahead_next : (refusal : Option Refusal) (style : Option Style) (s : Style) (start : ℕ) (part piece : List ℕ) (o : Option ℕ) → refusal ≡ None → style ≡ Some s → part ≡ []
+    → IfSome o (λ size. size ≡ 16 + number_at s.order 8 4 piece) → IfSome o (λ size. size ≤ 262160) → IfSome o (λ size. size ≤ length piece) → IfSome o (λ size. IsNext (reading refusal style start part) (take size piece))
+ahead_next refusal style s start part piece None accepted styled untaken is limit fits = tt
+ahead_next refusal style s start part piece (Some size) accepted styled untaken is limit fits = is_next refusal style s start part piece size accepted styled untaken is limit fits
+
+-- it has a header
+pub next_long : (r : Reading) (bytes : List ℕ) → IsNext r bytes → 16 ≤ length bytes
+next_long r bytes next =
+    let styled = holds_styled r.refusal r.style r.start bytes next.whole in
+    let whole = record_whole styled.0.order r.start bytes (held_is r.refusal r.style styled.0 r.start bytes (holds_accepted r.refusal r.style r.start bytes next.whole) styled.1 next.whole) in
+    omega arith
+
+pub not_some : (o : Option Refusal) → is_some o ≡ false → o ≡ None
+not_some None e = refl
+not_some (Some r) e = absurd cc
+
+some_none : (x : Option Refusal) → IsSome x → x ≡ None → ⊥
+some_none None some none = absurd cc
+some_none (Some r) some none = absurd cc
+
+-- nothing is refused in a piece at whose front a record lies whole
+pub next_accepted : (refusal : Option Refusal) (style : Option Style) (s : Style) (start : ℕ) (piece : List ℕ) (size : ℕ) → style ≡ Some s → IsSome (held_by refusal style start (take size piece)) → record_refusal s.order start piece ≡ None
+next_accepted refusal style s start piece size styled some =
+    let none = held_is refusal style s start (take size piece) (holds_accepted refusal style start (take size piece) some) styled some in
+    subst (λ (b : List ℕ). record_refusal s.order start b ≡ None) (take-append-drop size piece) (record_stays s.order start (take size piece) (drop size piece) None none refl)
+
+pub none_next : (r : Reading) (s : Style) (piece : List ℕ) (size : ℕ) → r.style ≡ Some s → IsSome (record_refusal s.order r.start piece) → IsNext r (take size piece) → ⊥
+none_next r s piece size styled some next = some_none (record_refusal s.order r.start piece) some (next_accepted r.refusal r.style s r.start piece size styled next.whole)
+
+-- a reader that takes the next record
+pub next_goes_on : (r : Reading) (bytes : List ℕ) → IsNext r bytes → GoesOn r bytes (with_part r bytes)
+next_goes_on r bytes next before records h =
+    let accepted = holds_accepted r.refusal r.style r.start bytes next.whole in
+    let styled = holds_styled r.refusal r.style r.start bytes next.whole in
+    let all : r.part ++ bytes ≡ bytes = ap (λ (p : List ℕ). p ++ bytes) next.untaken in
+    subst (λ (p : List ℕ). HasRead (with_part r p) (before ++ bytes) records) all
+    (record_goes_on r.refusal r.style styled.0 r.start r.part bytes before records accepted styled.1 (subst (IsReading r.refusal r.style r.start) (sym all) next.reading) h)
+
+-- a reader that goes past the next record
+pub passes : (r : Reading) (bytes : List ℕ) → IsNext r bytes → Passes r bytes (record r { start = r.start + length bytes })
+passes r bytes next = record {
+  read = λ before records h. gives_up r.refusal r.style r.start bytes r.part (before ++ bytes) records next.whole next.untaken (next_goes_on r bytes next before records h);
+  counted = omega (arith, ap length next.untaken);
+  free = free_held r.refusal r.style (r.start + length bytes) r.part next.untaken;
+  style = refl;
+  refusal = refl;
+}
+
+-- what a reader keeps true of itself, past a record
+pub passed : (refusal : Option Refusal) (style : Option Style) (start next : ℕ) (part bytes : List ℕ) → IsNext (reading refusal style start part) bytes → IsReading refusal style next part
+passed refusal style start next part bytes is =
+    let styled = holds_styled refusal style start bytes is.whole in
+    still_in_record refusal style styled.0 next part (holds_accepted refusal style start bytes is.whole) styled.1 (record_begins styled.0.order next part is.untaken)

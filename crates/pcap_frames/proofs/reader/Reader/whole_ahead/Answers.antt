@@ -1,0 +1,17 @@
+use Rattle.std.proofs.Common.{◌≡◌, ◌∙◌, [], rules, sym, subst, take, ℕ}
+use Rattle.std.specs.Prelude.{IfSome}
+use Rattle.pcap_frames.specs.Reading.{IsNext, Reading}
+use Rattle.pcap_frames.proofs.Lent.{ahead_next, none_next, not_some}
+use Rattle.pcap_frames.proofs.reader.Reader.whole_ahead.Goals as goal
+
+pub returns-clause-next : goal.returns-clause-next
+returns-clause-next c =
+    let accepted = not_some _ (sym c.is_some.ensures ∙ c.if-is_some.false) in
+    let untaken : c.self.inside.part.items ≡ [] = search rules in
+    subst (λ (r : Reading). IfSome c.whole_size.result (λ (size : ℕ). IsNext r (take size c.args.piece.now))) c.self.view_is
+    (ahead_next _ _ c.in_ok-style.style _ _ _ _ accepted (search rules) untaken c.whole_size.ensures.size c.whole_size.ensures.limit c.whole_size.ensures.whole)
+
+pub returns-clause-none : goal.returns-clause-none
+returns-clause-none c = λ none size ahead.
+    let next = rw (← c.self.view_is) at ahead in
+    none_next _ c.in_ok-style.style _ size (search rules) (c.whole_size.ensures.none none _) next
