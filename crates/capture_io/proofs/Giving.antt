@@ -73,7 +73,7 @@ given_first limit bytes remains source records given =
     (first.0, ap records_in (sym all) ∙ (first.1 ∙ ap (λ (rs : List Record). rs ++ first.0) (sym given.given)))
 
 -- the held record was given up, of a source whose slot is the same
-released : (shelf : ShelfState) (old new : Sourcing) → new.pieces ≡ old.pieces → Releases old.reader new.reader → (limit : ℕ) (bytes : List ℕ) (records : List Record) → HasGivenOf limit bytes shelf old records → HasFedOf limit bytes shelf new records
+pub released : (shelf : ShelfState) (old new : Sourcing) → new.pieces ≡ old.pieces → Releases old.reader new.reader → (limit : ℕ) (bytes : List ℕ) (records : List Record) → HasGivenOf limit bytes shelf old records → HasFedOf limit bytes shelf new records
 released shelf old new same releases limit bytes records given =
     subst (λ (p : Piecing). HasFed limit bytes (left_in shelf.slots p.slot) new records) (sym same)
     (record {
@@ -133,7 +133,7 @@ gives_again shelf s (Some how) live is some = record {
   reads = reads_nothing shelf (slot_of s) live;
 }
 
-if_some : {A : Type 0} {P Q : A → Type 0} (o : Option A) → ((x : A) → P x → Q x) → IfSome o P → IfSome o Q
+pub if_some : {A : Type 0} {P Q : A → Type 0} (o : Option A) → ((x : A) → P x → Q x) → IfSome o P → IfSome o Q
 if_some None more p = tt
 if_some (Some x) more p = more x p
 

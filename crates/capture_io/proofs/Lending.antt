@@ -1,0 +1,151 @@
+-- A record that is lent.
+use Rattle.std.proofs.Common.{◌≡◌, ◌↔◌, ◌⊎◌, ℕ, ◌+◌, ◌-◌, ◌*◌, ◌≤◌, ◌<◌, List, [], ◌∷◌, ◌++◌, length, take, drop, Option, Some, None, Ok, Err, IsSome, refl, sym, ap, subst, ◌∙◌, arith, inl, inr, append_assoc, length-append, take-append-drop}
+use Rattle.std.specs.Prelude.{true, false, is_some, IfSome, option_to_list}
+use Rattle.std.proofs.lemmas.List.{append-nil, length-drop, length-take-le}
+use Rattle.avtp_base.specs.States.{ShelfState}
+use Rattle.pcap_frames.specs.Capture.{Record}
+use Rattle.pcap_frames.specs.Reading as classic
+use Rattle.pcap_frames.proofs.Ends.{free_held, gives_up}
+use Rattle.pcap_frames.proofs.Lent.{holds_accepted, next_goes_on, next_long}
+use Rattle.pcapng_frames.specs.Reading as reading
+use Rattle.capture_io.specs.declared.capture_reader.Format.{Format}
+use Rattle.capture_io.specs.declared.capture_reader.Format.TheVariants.{Classic}
+use Rattle.capture_io.specs.declared.end.End.{End}
+use Rattle.capture_io.specs.Ends.{CountsFault}
+use Rattle.capture_io.specs.Pieces.{HasTaken, Piecing}
+use Rattle.capture_io.specs.Reader.{CaptureReading, Feeds, IsNext, Releases, held, held_by, with_part}
+use Rattle.capture_io.specs.Reads.{ReadsSlot}
+use Rattle.capture_io.specs.Source.{Sourcing, GivesNext, GivesUp, HasFed, HasFedOf, HasGiven, HasGivenOf, LiesAhead, ReadsOn, held_in, holding, lending, remains_of, slot_of, to_do}
+use Rattle.capture_io.proofs.Giving.{gives_next, if_some, released}
+use Rattle.capture_io.proofs.Leaving.{reads_nothing}
+use Rattle.capture_io.proofs.Reader.{classic_feeds, classic_releases, feeds_as}
+
+-- ---- the reader
+
+-- bytes were taken, and some had to be
+some_taken : (n : ℕ) (piece : List ℕ) (h : Option Record) → 0 < n → n ≤ length piece → h ≡ None → (n ≡ 0) ↔ ((length piece ≡ 0) ⊎ IsSome h)
+some_taken n piece h some within free = (
+  λ none. absurd (omega (arith, none, some)),
+  λ either. elim either [
+    | inl empty ↦ absurd (omega (arith, empty, some, within))
+    | inr is ↦ absurd (no_record h free is)
+  ],
+) where
+  no_record : (x : Option Record) → x ≡ None → IsSome x → ⊥
+  no_record None none is = absurd cc
+  no_record (Some r) none is = absurd cc
+
+-- a reader of a classic capture that takes the next record
+classic_takes : (front : List ℕ) (c : classic.Reading) (n : reading.Reading) (piece : List ℕ) (size : ℕ) → size ≤ length piece → classic.IsNext c (take size piece)
+    → Feeds (record { format = Some Classic; front = front; classic = c; ng = n }) piece (Ok size) (record { format = Some Classic; front = front; classic = classic.with_part c (take size piece); ng = n })
+classic_takes front c n piece size within next =
+    let long : length (take size piece) ≡ size = length-take-le size piece within in
+    let none : length c.part ≡ 0 = ap length next.untaken in
+    let some = next_long c (take size piece) next in
+    let accepted = holds_accepted c.refusal c.style c.start (take size piece) next.whole in
+    let counted : classic.taken (classic.with_part c (take size piece)) ≡ classic.taken c + size = omega (arith, long, none) in
+    classic_feeds front c (classic.with_part c (take size piece)) n piece (Ok size) within
+    (some_taken size piece (classic.held c) (omega (arith, some, long)) within (free_held c.refusal c.style c.start c.part next.untaken))
+    (next_goes_on c (take size piece) next) tt tt accepted tt counted (omega (arith, counted, within))
+
+-- a reader that takes the next record
+next_feeds : (r : CaptureReading) (piece : List ℕ) (size : ℕ) → size ≤ length piece → IsNext r (take size piece) → Feeds r piece (Ok size) (with_part r (take size piece))
+next_feeds r piece size within next =
+    feeds_as r.format r.format (Some Classic) (Some Classic) r.front r.front r.classic (classic.with_part r.classic (take size piece)) r.ng r.ng r piece (Ok size) next.format next.format refl
+    (classic_takes r.front r.classic r.ng piece size within next.next)
+
+-- it holds the record then
+next_held : (r : CaptureReading) (bytes : List ℕ) → IsNext r bytes → held (with_part r bytes) ≡ classic.held (classic.with_part r.classic bytes)
+next_held r bytes next = ap (λ (f : Option Format). held_by f (with_part r bytes)) next.format
+
+-- a reader of a classic capture that goes past the next record
+classic_passes : (front : List ℕ) (c c' : classic.Reading) (n : reading.Reading) (bytes : List ℕ) → classic.IsNext c bytes → c' ≡ record c { start = c.start + length bytes }
+    → Releases (record { format = Some Classic; front = front; classic = classic.with_part c bytes; ng = n }) (record { format = Some Classic; front = front; classic = c'; ng = n })
+classic_passes front c c' n bytes next is =
+    let none : length c.part ≡ 0 = ap length next.untaken in
+    classic_releases front (classic.with_part c bytes) c' n
+    (λ before records h. subst (λ (r : classic.Reading). classic.HasRead r before (records ++ option_to_list (classic.held (classic.with_part c bytes)))) (sym is)
+    (gives_up c.refusal c.style c.start bytes c.part before records next.whole next.untaken h))
+    (ap classic.held is ∙ free_held c.refusal c.style (c.start + length bytes) c.part next.untaken)
+    (ap classic.taken is ∙ omega (arith, none))
+    (ap (λ (r : classic.Reading). r.refusal) is)
+
+-- a reader that goes past the next record
+pub next_passes : (r : CaptureReading) (c' : classic.Reading) (bytes : List ℕ) → IsNext r bytes → c' ≡ record r.classic { start = r.classic.start + length bytes } → Releases (with_part r bytes) (record r { classic = c' })
+next_passes r c' bytes next is =
+    subst (λ (f : Option Format). Releases (record { format = f; front = r.front; classic = classic.with_part r.classic bytes; ng = r.ng }) (record { format = f; front = r.front; classic = c'; ng = r.ng })) (sym next.format)
+    (classic_passes r.front r.classic c' r.ng bytes next.next is)
+
+-- ---- the source
+
+-- the bytes of the next record were taken
+fed_more : (limit : ℕ) (bytes : List ℕ) (remains : Option (List ℕ)) (source : Sourcing) (size : ℕ) (records : List Record) → LiesAhead source size → HasFed limit bytes remains source records → HasFed limit bytes remains (holding source size) records
+fed_more limit bytes remains source size records ahead fed =
+    let waiting = source.pieces.waiting in
+    let feeds = next_feeds source.reader waiting size ahead.within ahead.next in
+    let long : length (take size waiting) ≡ size = length-take-le size waiting ahead.within in
+    let all : (fed.prefix ++ take size waiting) ++ drop size waiting ≡ fed.prefix ++ waiting = append_assoc fed.prefix (take size waiting) (drop size waiting) ∙ ap (λ (w : List ℕ). fed.prefix ++ w) (take-append-drop size waiting) in
+    record {
+      prefix = fed.prefix ++ take size waiting;
+      taken = record {
+        rest = fed.taken.rest;
+        split = fed.taken.split ∙ ap (λ (w : List ℕ). w ++ fed.taken.rest) (sym all);
+        ahead = fed.taken.ahead;
+        count = omega (arith, fed.taken.count, ahead.within, long, length-append fed.prefix (take size waiting), length-drop size waiting);
+      };
+      accepted = feeds.accepted;
+      read = feeds.read fed.prefix records fed.read;
+    }
+
+-- the source reads on to the record that is lent
+reads_ahead : (shelf : ShelfState) (source : Sourcing) (size : ℕ) → IsSome (shelf.slots (slot_of source)) → LiesAhead source size → ReadsOn shelf shelf source (holding source size) None
+reads_ahead shelf source size live ahead =
+    let waiting = source.pieces.waiting in
+    let some = next_long source.reader.classic (take size waiting) ahead.next.next in
+    let long : length (take size waiting) ≡ size = length-take-le size waiting ahead.within in
+    record {
+      more = λ none limit bytes records fed. fed_more limit bytes (remains_of shelf source) source size records ahead fed;
+      ends = tt;
+      less = λ none. omega (arith, some, long, ahead.within, length-drop size waiting);
+      counted = refl;
+      reads = reads_nothing shelf (slot_of source) live;
+    }
+
+-- the held record was given up, and the next is lent
+lends_next : (shelf : ShelfState) (old mid : Sourcing) (size : ℕ) → IsSome (shelf.slots (slot_of old)) → GivesUp old mid → LiesAhead mid size → GivesNext shelf shelf old (holding mid size) None
+lends_next shelf old mid size live gone ahead =
+    let here = subst (λ (p : Piecing). IsSome (shelf.slots p.slot)) (sym gone.pieces) live in
+    let some : IsSome (held_in (holding mid size)) = subst (λ (h : Option Record). IsSome h) (sym (next_held mid.reader (take size mid.pieces.waiting) ahead.next)) ahead.next.next.whole in
+    subst (λ (e : Option End). GivesNext shelf shelf old (record (holding mid size) { ended = e }) None) (sym ahead.going)
+    (gives_next shelf shelf old mid (holding mid size) None (sym gone.ended ∙ ahead.going) gone.pieces gone.reader (reads_ahead shelf mid size here ahead) (λ none. some))
+
+-- the held record was given up
+still_given : (shelf : ShelfState) (old mid : Sourcing) → GivesUp old mid → (limit : ℕ) (bytes : List ℕ) (records : List Record) → HasGivenOf limit bytes shelf old records → HasGivenOf limit bytes shelf mid records
+still_given shelf old mid gone limit bytes records given = record {
+  going = gone.ended ∙ given.going;
+  before = records;
+  fed = released shelf old mid gone.pieces gone.reader limit bytes records given;
+  given = sym (ap (λ (h : Option Record). records ++ option_to_list h) gone.reader.free ∙ append-nil records);
+}
+
+-- and then the next was read
+gives_after : (before after : ShelfState) (old mid next : Sourcing) (result : Option End) → GivesUp old mid → GivesNext before after mid next result → GivesNext before after old next result
+gives_after before after old mid next result gone gives = record {
+  given = λ none limit bytes records given. gives.given none limit bytes records (still_given before old mid gone limit bytes records given);
+  ends = if_some result (λ how ends limit bytes records given. ends limit bytes records (still_given before old mid gone limit bytes records given)) gives.ends;
+  held = gives.held;
+  less = λ none. subst (λ (p : Piecing). to_do next < 2 * p.left + length p.waiting) gone.pieces (gives.less none);
+  ended = gives.ended;
+  lasting = subst (λ (x : Option End). IfSome x (λ (h : End). result ≡ Some h)) gone.ended gives.lasting;
+  counted = subst (λ (x : Option End). CountsFault x result before.reading_faults after.reading_faults) gone.ended gives.counted;
+  reads = subst (λ (p : Piecing). ReadsSlot before after p.slot (slot_of next)) gone.pieces gives.reads;
+}
+
+-- the next record is lent, or read
+pub lent_by : (shelf : ShelfState) (old mid : Sourcing) (o : Option ℕ) → IsSome (shelf.slots (slot_of old)) → GivesUp old mid → IfSome o (λ size. LiesAhead mid size) → is_some o ≡ true → GivesNext shelf shelf old (lending o mid) None
+lent_by shelf old mid None live gone ahead some = absurd cc
+lent_by shelf old mid (Some size) live gone ahead some = lends_next shelf old mid size live gone ahead
+
+pub read_by : (before after : ShelfState) (old mid next : Sourcing) (o : Option ℕ) (result : Option End) → GivesUp old mid → is_some o ≡ false → GivesNext before after mid next result → GivesNext before after old (lending o next) result
+read_by before after old mid next None result gone none gives = gives_after before after old mid next result gone gives
+read_by before after old mid next (Some size) result gone none gives = absurd cc
