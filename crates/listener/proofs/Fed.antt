@@ -3,12 +3,14 @@ use Rattle.std.proofs.Common.{◌≡◌, ◌↔◌, ◌⊎◌, inl, inr, ℕ, ze
 use Rattle.std.specs.Prelude.{IfNone, IfSome, Result, Ok, Err, is_some, slice_get}
 use Rattle.std.specs.Option.{option_to_list}
 use Rattle.std.proofs.Math.Seq.{take-length}
+use Rattle.std.proofs.lemmas.List.{length-take-le}
 use mathlib.Core.List.{IsPrefix}
 use Rattle.avtp_base.specs.declared.refusal.Refusal.{Refusal}
 use Rattle.pcap_frames.specs.Capture.{Holds, Record, first_refusal, whole_records}
-use Rattle.pcap_frames.specs.Reading.{GoesOn, HasRead, Reading, held, held_by, nothing_read}
+use Rattle.pcap_frames.specs.Reading.{GoesOn, HasRead, IsNext, Reading, held, held_by, nothing_read}
 use Rattle.pcap_frames.proofs.Firsts.{records_first}
 use Rattle.pcap_frames.proofs.Held.{records_are}
+use Rattle.pcap_frames.proofs.Lent.{next_long}
 use Rattle.pcap_frames.proofs.One.{holds_one}
 use Rattle.pcap_frames.proofs.Whole.{holds_whole}
 use Rattle.sample_schedule.specs.declared.shown.Shown.{Shown}
@@ -95,16 +97,38 @@ refused_first bytes records refusal holds = (holds_one bytes (whole_records byte
 
 -- ---- a piece
 
--- a listener with nothing due, whose reader goes on
-pub heard_on : (bytes more : List ℕ) (given : ℕ) (fed : Feeding) (new : Reading) → StandsFor bytes given fed → fed.out_of_memory ≡ false → fed.next ≡ None → GoesOn fed.reader more new
-    → HasHeard (bytes ++ more) given new fed.listener
-heard_on bytes more given fed new st memory quiet goes =
+-- a listener with nothing due
+pub heard_here : (bytes : List ℕ) (given : ℕ) (fed : Feeding) → StandsFor bytes given fed → fed.out_of_memory ≡ false → fed.next ≡ None → HasHeard bytes given fed.reader fed.listener
+heard_here bytes given fed st memory quiet =
     let count : given + length (option_to_list fed.next) ≡ given = omega (arith, ap (λ (o : Option Shown). length (option_to_list o)) quiet) in
     record {
       records = whole_records bytes;
-      read = goes bytes (whole_records bytes) (st.read memory);
+      read = st.read memory;
       stands = subst (λ (n : ℕ). RecordsStandFor (whole_records bytes) n fed.listener) count st.stands;
     }
+
+-- whose reader goes on
+pub heard_on : (bytes more : List ℕ) (given : ℕ) (fed : Feeding) (new : Reading) → StandsFor bytes given fed → fed.out_of_memory ≡ false → fed.next ≡ None → GoesOn fed.reader more new
+    → HasHeard (bytes ++ more) given new fed.listener
+heard_on bytes more given fed new st memory quiet goes =
+    let heard = heard_here bytes given fed st memory quiet in
+    record { records = heard.records; read = goes bytes heard.records heard.read; stands = heard.stands }
+
+-- a record that is lent has a byte
+pub lent_some : (reader : Reading) (piece : List ℕ) (size : ℕ) → size ≤ length piece → IsNext reader (take size piece) → 0 < size
+lent_some reader piece size within next = omega (arith, next_long reader (take size piece) next, length-take-le size piece within)
+
+pub lent_nothing : (size : ℕ) (piece : List ℕ) (next : Option Shown) → 0 < size → size ≤ length piece → next ≡ None → (size ≡ 0) ↔ ((length piece ≡ 0) ⊎ IsSome next)
+lent_nothing size piece next some within quiet = (
+  λ none. absurd (omega (arith, none, some)),
+  λ either. elim either [
+    | inl empty ↦ absurd (omega (arith, empty, some, within))
+    | inr due ↦ absurd (none_due next quiet due)
+  ],
+) where
+  none_due : (o : Option Shown) → o ≡ None → IsSome o → ⊥
+  none_due None none due = absurd cc
+  none_due (Some x) none due = absurd cc
 
 -- the record that was read was given to its listener, and what that shows next is due
 pub stands_fed : (bytes : List ℕ) (given : ℕ) (reader : Reading) (mid new : ListenState) (x : Option Shown) (b : Bool) → HasHeard bytes given reader mid → held reader ≡ None

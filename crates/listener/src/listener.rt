@@ -6,7 +6,7 @@ ghost use Rattle.std.specs.Result.{result_err};
 ghost use Rattle.avtp_base.specs.declared.refusal.Refusal.{Refusal as RefusalValue};
 ghost use Rattle.pcap_frames.specs.Capture.{first_refusal, whole_records};
 ghost use Rattle.pcap_frames.specs.Layout.{certain};
-ghost use Rattle.pcap_frames.specs.Reading.{held as held_by, taken};
+ghost use Rattle.pcap_frames.specs.Reading.{IsNext, Passes, held as held_by, taken};
 ghost use Rattle.sample_schedule.specs.Limits.{IsPlan};
 ghost use Rattle.listener.specs.Feeding.{HasHeard, IsQuiet, IsReady, Keeps, StandsFor, bytes_after, is_ended, is_memory, out, work};
 ghost use Rattle.listener.specs.Heard.{counts_of, schedule_plan};
@@ -37,7 +37,7 @@ pub enum ListenFault {
 /// A listener that takes a capture's bytes in pieces of any length, and shows of its records what a `RecordListener` does.
 ///
 /// After each call all that is due is taken by `next_out` before more is fed. Memory is reserved when the listener is made;
-/// later each packet's samples are copied once, into the batch that is shown.
+/// later each packet's samples are copied once, into the batch that is shown, and only a record that is cut is copied before.
 #[derive(Drop)]
 pub struct Listener {
     reader: Reader,
@@ -106,18 +106,35 @@ impl Listener {
         if self.next.is_some() {
             return Ok(0);
         }
-        match self.reader.feed(piece) {
-            Ok(taken) => match take_held(alloc, &mut self.reader, &mut self.listener) {
+        match self.reader.whole_ahead(piece) {
+            Some(size) => match take_lent(
+                alloc,
+                &mut self.reader,
+                &mut self.listener,
+                &piece[..size],
+            ) {
                 Ok(()) => {
                     self.next = self.listener.next_out();
-                    Ok(taken)
+                    Ok(size)
                 }
                 Err(NoMemory) => {
                     self.out_of_memory = true;
                     Err(ListenFault::Memory)
                 }
             },
-            Err(refusal) => Err(ListenFault::Refused(refusal)),
+            None => match self.reader.feed(piece) {
+                Ok(taken) => match take_held(alloc, &mut self.reader, &mut self.listener) {
+                    Ok(()) => {
+                        self.next = self.listener.next_out();
+                        Ok(taken)
+                    }
+                    Err(NoMemory) => {
+                        self.out_of_memory = true;
+                        Err(ListenFault::Memory)
+                    }
+                },
+                Err(refusal) => Err(ListenFault::Refused(refusal)),
+            },
         }
     }
 
@@ -170,6 +187,29 @@ impl Listener {
             None => counts,
         }
     }
+}
+
+/// Gives the next record to the listener, where it lies: these are its bytes. Where no memory is found the reader is as it was.
+fn take_lent(
+    alloc: Global,
+    reader: &mut Reader,
+    listener: &mut RecordListener,
+    piece: &[u8],
+) -> Result<(), NoMemory>
+    requires open { is_closed listener.old ≡ false }
+    requires idle { IsIdle listener.old }
+    requires few { listener.old.counts.frames < 2 ^ 62 }
+    requires next { IsNext reader.old piece.now }
+    requires bounded { taken reader.old + length piece.now ≤ 2 ^ 62 }
+    ensures heard { OnOk result ((bytes : List ℕ) (given : ℕ) → HasHeard bytes given reader.old listener.old → HasHeard (bytes ++ piece.now) given reader.new listener.new) }
+    ensures passed { OnOk result (Passes reader.old piece.now reader.new) }
+    ensures frames { listener.new.counts.frames ≤ listener.old.counts.frames + 1 }
+    ensures plan { (listener.new.plan ≡ listener.old.plan) × (is_closed listener.new ≡ false) }
+    ensures same { OnErr result ((listener.new ≡ listener.old) × (reader.new ≡ reader.old)) }
+{
+    listener.take_record(alloc, &reader.lend(piece))?;
+    reader.pass(piece);
+    Ok(())
 }
 
 /// Gives the record that the reader holds to the listener, if there is one. Where no memory is found the reader still holds it.
