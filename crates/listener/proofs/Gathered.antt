@@ -28,7 +28,7 @@ use Rattle.sample_schedule.specs.declared.shown.Reason.TheVariants.{Broken as Br
 use Rattle.sample_schedule.specs.Limits.{IsItem}
 use Rattle.time_unfold.specs.Time.{IsArrival, unfolded}
 use Rattle.packet_journal.specs.Deliveries.{Delivery}
-use Rattle.listener.specs.Gathering.{Cuts, Gathered, HasUnits, IsSound, IsTimelyEvent, Pushes, Takes, item_entry, left, lost_item, own_item}
+use Rattle.listener.specs.Gathering.{Cuts, CutsFirst, Gathered, Gives, HasUnits, IsSound, IsTimelyEvent, Pushes, Takes, item_entry, left, lost_item, own_item}
 use Rattle.avtp_base.specs.declared.refusal.Refusal.{Refusal}
 use Rattle.avtp_base.proofs.RowLemmas.{unequal}
 use Rattle.sample_schedule.specs.declared.entry.Entry.TheVariants.{Item as OfItem}
@@ -189,10 +189,22 @@ gives_by ds d new s none why streamed own =
 pub has_more : (ds : List Delivery) (d : Delivery) (new : Gathered) → StandsFor new.assembly (events_to ds d) → (d.subtype == crf_subtype) ≡ false → HasUnits (ds ++ d ∷ []) new
 has_more ds d new s streamed = record { assembly = subst (λ (es : List Event). StandsFor new.assembly es) (sym (events_more ds d streamed)) s }
 
--- what a delivery leaves
-pub record Gives (ds : List Delivery) (d : Delivery) (new : Gathered) : Type 0 where
-  pub has : HasUnits (ds ++ d ∷ []) new
-  pub gives : map item_entry (left new) ≡ map made_entry (given_by ds d)
+-- the same assembly was given the same deliveries
+pub has_as : {ds : List Delivery} {old new : Gathered} → new.assembly ≡ old.assembly → HasUnits ds old → HasUnits ds new
+has_as {ds} {old} {new} same has = record { assembly = subst (λ (a : Assembly). StandsFor a (events ds)) (sym same) has.assembly }
+
+-- the units after a cut, before the first item is taken
+abbrev pub when_cut : Item → Assembly → Gathered
+when_cut item assembly = record { assembly = assembly; why = Broken; taken = 0; own = Some item }
+
+pub cuts_of : (item : Item) (old : Gathered) (assembly : Assembly) → ((es : List Event) → StandsFor old.assembly es → StandsFor assembly (es ++ cut ∷ [])) → Cuts item old (when_cut item assembly)
+cuts_of item old assembly stands = record { stands = stands; why = refl; taken = refl; own = refl }
+
+-- where no fragment was given up, the own item is the only one
+pub first_alone : (marks : List Mark) (item : Item) → length marks ≡ 0
+    → map (lost_item (lost_for Broken)) (drop 0 marks) ++ option_to_list (Some item) ≡ item ∷ (map (lost_item (lost_for Broken)) (drop 0 marks) ++ [])
+first_alone [] item none = refl
+first_alone (mark ∷ marks) item none = absurd cc
 
 -- of a delivery that no unit goes on over
 pub cut_gives_all : (ds : List Delivery) (d : Delivery) (item : Item) (old new : Gathered) → (d.subtype == crf_subtype) ≡ false → event_of d ≡ cut → item_entry item ∷ [] ≡ map made_entry (own_by ds d)

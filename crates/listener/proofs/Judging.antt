@@ -89,9 +89,16 @@ judges_given entries given judge old new more none gives j = record {
   all = ap (λ (l : List Entry). j.judged ++ l) gives ∙ ap (λ (l : List Entry). l ++ more) (all_judged entries given judge old none j);
 }
 
--- the same items wait
-pub judges_left : (entries : List Entry) (given : ℕ) (judge : JudgeState) (old new : Gathered) → left old ≡ left new → Judges entries given judge old → Judges entries given judge new
-judges_left entries given judge old new same j = record { judged = j.judged; stands = j.stands; all = ap (λ (l : List Item). j.judged ++ map item_entry l) (sym same) ∙ j.all }
+-- the first item that a delivery gives is judged, and the others wait
+pub judges_first : (entries : List Entry) (given : ℕ) (old new : JudgeState) (before after : Gathered) (item : Item) (more : List Entry) → left before ≡ [] → item_entry item ∷ map item_entry (left after) ≡ more
+    → ((es : List Entry) (n : ℕ) → JudgeStandsFor clock_spot es n old → JudgeStandsFor clock_spot (es ++ OfItem item ∷ []) n new) → Judges entries given old before → Judges (entries ++ more) given new after
+judges_first entries given old new before after item more none gives goes j = record {
+  judged = j.judged ++ OfItem item ∷ [];
+  stands = goes j.judged given j.stands;
+  all =
+      append_assoc j.judged (OfItem item ∷ []) (map item_entry (left after))
+      ∙ (ap (λ (l : List Entry). j.judged ++ l) gives ∙ ap (λ (l : List Entry). l ++ more) (all_judged entries given old before none j));
+}
 
 -- an entry is judged at once
 pub judges_entry : (entries : List Entry) (given : ℕ) (old new : JudgeState) (units : Gathered) (entry : Entry) → left units ≡ []

@@ -17,7 +17,7 @@ use Rattle.sample_schedule.specs.declared.shown.Reason.{Reason}
 use Rattle.sample_schedule.specs.Limits.{IsItem}
 use Rattle.time_unfold.specs.Time.{IsArrival, unfolded}
 use Rattle.packet_journal.specs.Deliveries.{Delivery}
-use Rattle.listener.specs.Items.{lost_for}
+use Rattle.listener.specs.Items.{given_by, lost_for, made_entry}
 use Rattle.listener.specs.Units.{events, fragment_in, mark_of}
 
 -- The assembly of units; why the last fragments were given up, and how many of them were taken; and the last delivery's own item.
@@ -50,6 +50,18 @@ pub record Cuts (item : Item) (old new : Gathered) : Type 0 where
   pub why : new.why ≡ Broken
   pub taken : new.taken ≡ 0
   pub own : new.own ≡ Some item
+
+-- The same, and its first item was answered; the others wait.
+pub record CutsFirst (item : Item) (old new : Gathered) (answer : Option Item) : Type 0 where
+  pub between : Gathered
+  pub cuts : Cuts item old between
+  pub first : left between ≡ option_to_list answer ++ left new
+  pub stands : (ds : List Delivery) → HasUnits ds between → HasUnits ds new
+
+-- what a delivery leaves
+pub record Gives (ds : List Delivery) (d : Delivery) (new : Gathered) : Type 0 where
+  pub has : HasUnits (ds ++ d ∷ []) new
+  pub gives : map item_entry (left new) ≡ map made_entry (given_by ds d)
 
 -- the item of a packet that makes these bytes a unit, or waits, or is lost
 abbrev pub own_item : Delivery → ℤ → List ℕ → Piece → Option Item

@@ -183,8 +183,7 @@ fn take_delivery(
     if delivery.subtype == subtype::CRF {
         judge.step_clock(delivery.arrival, &clock_points(delivery.packet));
     } else {
-        units.take_delivery(alloc, delivery)?;
-        if let Some(first) = units.next() {
+        if let Some(first) = units.take_delivery(alloc, delivery)? {
             judge.step(first);
         }
     }

@@ -3,13 +3,13 @@
 ghost use Rattle.std.specs.Prelude.{◌≡◌, ◌≢◌, ◌+◌, ◌++◌, ◌∷◌, [], ◌≤◌, None, vec_len, vec_capacity, List, length, map, IfOk, IfNone, IfSome, IsTrue, IsSome, OnErr, OnOk};
 ghost use Rattle.std.specs.Option.{option_to_list};
 ghost use Rattle.cvf_format.specs.Assembly.{longest_body};
-ghost use Rattle.cvf_format.specs.Cvf.{cvf_of, cvf_shape};
+ghost use Rattle.cvf_format.specs.Cvf.{cvf_of, cvf_shape, cvf_subtype};
 ghost use Rattle.cvf_format.specs.Stretches.{completes};
 ghost use Rattle.crf_format.specs.Crf.{crf_subtype};
 ghost use Rattle.packet_journal.specs.Deliveries.{Delivery};
 ghost use Rattle.sample_schedule.specs.Limits.{IsItem};
 ghost use Rattle.time_unfold.specs.Time.{IsArrival, Unfolds, unfolded};
-ghost use Rattle.listener.specs.Gathering.{Cuts, HasUnits, Pushes, Takes, item_entry, left, lost_item as lost_item_of, own_item as own_item_of};
+ghost use Rattle.listener.specs.Gathering.{Cuts, CutsFirst, Gives, HasUnits, Pushes, Takes, item_entry, left, lost_item as lost_item_of, own_item as own_item_of};
 ghost use Rattle.listener.specs.Items.{given_by, left_at_end, lost_for as lost_reason, made_entry};
 ghost use Rattle.listener.specs.Units.{flaw_in, flaw_of, fragment_in, mark_of as mark_of_delivery};
 ghost use Rattle.listener.specs.Views.{delivery_shape};
@@ -188,6 +188,24 @@ impl Units {
         self.own = Some(item);
     }
 
+    /// The same, and answers the first item that is given; the others wait.
+    #[inline(always)]
+    fn cut_first(&mut self, item: Item) -> Option<Item>
+        requires { IsItem item }
+        ensures first { CutsFirst item self.old self.new result }
+        ensures item { IfSome result IsItem }
+    {
+        self.lost = self.assembler.cut();
+        self.why = Lost::Broken;
+        self.taken = 0;
+        if self.lost == 0 {
+            self.own = None;
+            return Some(item);
+        }
+        self.own = Some(item);
+        self.next()
+    }
+
     /// A packet begins a unit, or goes on with one, or is lost. `NoMemory` comes where no memory is found for the unit that
     /// it makes whole.
     fn push(
@@ -213,7 +231,8 @@ impl Units {
         Ok(())
     }
 
-    /// Takes the next delivery of the stream, where all items that those before it gave were taken.
+    /// Takes the next delivery of the stream, where all items that those before it gave were taken. Answers the first item that
+    /// it gives, where it gives one; the others wait.
     ///
     /// `NoMemory` comes where no memory is found for a packet's samples or for a unit; nothing changes then.
     #[inline(always)]
@@ -221,18 +240,29 @@ impl Units {
         &mut self,
         alloc: Global,
         delivery: &DeliveryView<'_>,
-    ) -> Result<(), NoMemory>
+    ) -> Result<Option<Item>, NoMemory>
         requires stream { delivery.now.subtype ≢ crf_subtype }
         requires arrival { IsArrival delivery.now.arrival }
         ensures stands { OnOk result ((ds : List Delivery) → HasUnits ds self.old → HasUnits (ds ++ delivery_shape delivery.now ∷ []) self.new) }
-        ensures gives { OnOk result ((ds : List Delivery) → HasUnits ds self.old → map item_entry (left self.new) ≡ map made_entry (given_by ds (delivery_shape delivery.now))) }
+        ensures gives { IfOk result (λ first. (ds : List Delivery) → HasUnits ds self.old → map item_entry (option_to_list first ++ left self.new) ≡ map made_entry (given_by ds (delivery_shape delivery.now))) }
+        ensures item { IfOk result (λ first. IfSome first IsItem) }
         ensures same { OnErr result (self.new ≡ self.old) }
     {
         if delivery.subtype != subtype::CVF {
             let item = item_of(alloc, delivery)?;
-            self.cut(item);
-            return Ok(());
+            return Ok(self.cut_first(item));
         }
+        self.take_video(alloc, delivery)?;
+        Ok(self.next())
+    }
+
+    /// Takes the next delivery of the stream, which is one of H.264.
+    fn take_video(&mut self, alloc: Global, delivery: &DeliveryView<'_>) -> Result<(), NoMemory>
+        requires video { delivery.now.subtype ≡ cvf_subtype }
+        requires arrival { IsArrival delivery.now.arrival }
+        ensures gives { OnOk result ((ds : List Delivery) → HasUnits ds self.old → Gives ds (delivery_shape delivery.now) self.new) }
+        ensures same { OnErr result (self.new ≡ self.old) }
+    {
         match read_cvf(delivery.packet) {
             Ok(view) => self.take_packet(alloc, delivery, &view)?,
             Err(refusal) => self.cut(malformed(delivery, refusal)),
