@@ -25,57 +25,59 @@ pub struct Front {
 }
 
 impl Front {
-    ghost use Rattle.std.specs.Prelude.{◌≡◌, ◌+◌, ◌++◌, ◌<◌, ◌≤◌, ◌^◌, [], None, length, MatchOption, IsSome, IsNone, IsTrue, IsFalse, option_map};
-    ghost use Rattle.rtrb.specs.Ring.{sent, known_free, SameProducer};
-    ghost use Rattle.presenter_ring.specs.Fronts.{hand_of, ended_of, HasFed, IsStuck};
+    ghost use Rattle.std.specs.Prelude.{◌≡◌, ◌+◌, ◌<◌, ◌≤◌, ◌^◌, None, length, IfNone, IsSome, IsTrue, IsFalse};
+    ghost use Rattle.rtrb.specs.Ring.{sent};
+    ghost use Rattle.presenter_ring.specs.Fronts.{ended_of, HasFed, IsStuck, Pushes, Takes};
 
-    /// Pulls an item into the hand, where it is empty and the receiver has not ended.
-    fn fill_hand<R: Receiver>(&mut self, receiver: &mut R)
+    /// The item in hand, or where there is none the next one of the receiver, which may end instead.
+    #[inline(always)]
+    fn next_item<R: Receiver>(&mut self, receiver: &mut R) -> Option<Shown>
         requires live { ended_of self.old ≡ None → R.ended receiver.old ≡ None }
         requires room { self.old.given + R.left receiver.old ≤ 2 ^ 62 }
-        ensures fed { HasFed R.gave R.left R.ended receiver.old receiver.new self.old self.new }
-        ensures producer { self.new.producer ≡ self.old.producer }
-        ensures filled { IsNone self.new.hand → IsSome (ended_of self.new) }
+        ensures takes { Takes R.gave R.left R.ended receiver.old receiver.new self.old self.new result }
+        ensures none { IfNone result (IsSome (ended_of self.new)) }
     {
-        if self.hand.is_some() || self.ended.is_some() {
-            return;
+        if let Some(shown) = self.hand.take() {
+            return Some(shown);
+        }
+        if self.ended.is_some() {
+            return None;
         }
         match item_or_ending(receiver.next()) {
             Ok(shown) => {
                 self.given += 1;
-                self.hand = Some(shown);
+                Some(shown)
             }
-            Err(ending) => self.ended = Some(ending),
+            Err(ending) => {
+                self.ended = Some(ending);
+                None
+            }
         }
     }
 
-    /// Pushes the item in hand, and says whether there was one that found a free slot.
-    fn push_hand<G: Gate>(&mut self, gate: &G) -> bool
-        requires room { self.old.given ≤ 2 ^ 62 }
-        ensures pushed { IsTrue result → (sent self.new.producer ≡ sent self.old.producer ++ hand_of self.old) × (hand_of self.new ≡ []) × (length (hand_of self.old) ≡ 1) }
-        ensures kept { IsFalse result → (sent self.new.producer ≡ sent self.old.producer) × (self.new.hand ≡ self.old.hand) }
-        ensures full { IsFalse result → IsSome self.old.hand → known_free self.old.producer ≡ 0 }
-        ensures ring { SameProducer self.old.producer self.new.producer }
-        ensures given { self.new.given ≡ self.old.given }
-        ensures ended { self.new.ended ≡ self.old.ended }
+    /// Pushes an item, or keeps it in hand where no slot is free. Says whether one was.
+    #[inline(always)]
+    fn push<G: Gate>(&mut self, shown: Shown, gate: &G) -> bool
+        requires empty { self.old.hand ≡ None }
+        requires counted { self.old.pushes + 1 ≤ self.old.given }
+        requires few { self.old.given ≤ 2 ^ 62 }
+        ensures { Pushes shown self.old self.new result }
     {
-        match self.hand.take() {
-            None => false,
-            Some(shown) => match self.producer.push(shown) {
-                Ok(()) => {
-                    self.pushes += 1;
-                    gate.step(Side::Push, self.pushes);
-                    true
-                }
-                Err(PushError::Full(shown)) => {
-                    self.hand = Some(shown);
-                    false
-                }
-            },
+        match self.producer.push(shown) {
+            Ok(()) => {
+                self.pushes += 1;
+                gate.step(Side::Push, self.pushes);
+                true
+            }
+            Err(PushError::Full(shown)) => {
+                self.hand = Some(shown);
+                false
+            }
         }
     }
 
     /// Pushes one item, which is pulled where none is in hand, and says whether there was one that found a free slot.
+    #[inline(always)]
     fn push_next<R: Receiver, G: Gate>(&mut self, receiver: &mut R, gate: &G) -> bool
         requires live { ended_of self.old ≡ None → R.ended receiver.old ≡ None }
         requires room { self.old.given + R.left receiver.old ≤ 2 ^ 62 }
@@ -84,8 +86,10 @@ impl Front {
         ensures kept { IsFalse result → length (sent self.new.producer) ≡ length (sent self.old.producer) }
         ensures stuck { IsFalse result → IsStuck self.old self.new }
     {
-        self.fill_hand(receiver);
-        self.push_hand(gate)
+        match self.next_item(receiver) {
+            Some(shown) => self.push(shown, gate),
+            None => false,
+        }
     }
 
     /// The receiver's turn of a round: pulls and pushes while a free slot is found, at most so many items.
