@@ -1,5 +1,5 @@
 -- A record that is lent.
-use Rattle.std.proofs.Common.{◌≡◌, ◌↔◌, ◌⊎◌, ℕ, ◌+◌, ◌-◌, ◌*◌, ◌≤◌, ◌<◌, List, [], ◌∷◌, ◌++◌, length, take, drop, Option, Some, None, Ok, Err, IsSome, refl, sym, ap, subst, ◌∙◌, arith, inl, inr, append_assoc, length-append, take-append-drop}
+use Rattle.std.proofs.Common.{◌≡◌, ◌↔◌, ◌⊎◌, ℕ, ◌+◌, ◌*◌, ◌≤◌, ◌<◌, List, ◌++◌, length, take, drop, Option, Some, None, Ok, IsSome, refl, sym, ap, subst, ◌∙◌, arith, inl, inr, append_assoc, length-append, take-append-drop}
 use Rattle.std.specs.Prelude.{true, false, is_some, IfSome, option_to_list}
 use Rattle.std.proofs.lemmas.List.{append-nil, length-drop, length-take-le}
 use Rattle.avtp_base.specs.States.{ShelfState}
@@ -12,10 +12,10 @@ use Rattle.capture_io.specs.declared.capture_reader.Format.{Format}
 use Rattle.capture_io.specs.declared.capture_reader.Format.TheVariants.{Classic}
 use Rattle.capture_io.specs.declared.end.End.{End}
 use Rattle.capture_io.specs.Ends.{CountsFault}
-use Rattle.capture_io.specs.Pieces.{HasTaken, Piecing}
+use Rattle.capture_io.specs.Pieces.{Piecing}
 use Rattle.capture_io.specs.Reader.{CaptureReading, Feeds, IsNext, Releases, held, held_by, with_part}
 use Rattle.capture_io.specs.Reads.{ReadsSlot}
-use Rattle.capture_io.specs.Source.{Sourcing, GivesNext, GivesUp, HasFed, HasFedOf, HasGiven, HasGivenOf, LiesAhead, ReadsOn, held_in, holding, lending, remains_of, slot_of, to_do}
+use Rattle.capture_io.specs.Source.{Sourcing, GivesNext, GivesUp, HasFed, HasGivenOf, LiesAhead, ReadsOn, held_in, holding, lending, remains_of, slot_of, to_do}
 use Rattle.capture_io.proofs.Giving.{gives_next, if_some, released}
 use Rattle.capture_io.proofs.Leaving.{reads_nothing}
 use Rattle.capture_io.proofs.Reader.{classic_feeds, classic_releases, feeds_as}

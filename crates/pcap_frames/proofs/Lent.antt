@@ -1,16 +1,15 @@
 -- A record that is lent.
-use Rattle.std.proofs.Common.{◌≡◌, ℕ, ◌+◌, ◌≤◌, false, is_some, List, [], ◌++◌, length, take, drop, Option, Some, None, IsSome, refl, sym, ap, subst, ◌∙◌, arith}
+use Rattle.std.proofs.Common.{◌≡◌, ℕ, ◌+◌, ◌≤◌, false, is_some, List, [], ◌++◌, length, take, drop, Option, Some, None, IsSome, refl, sym, ap, subst, arith}
 use Rattle.std.specs.Prelude.{IfSome}
 use Rattle.std.proofs.lemmas.List.{take-append-drop}
 use Rattle.avtp_base.specs.declared.refusal.Refusal.{Refusal}
 use Rattle.pcap_frames.specs.declared.style.Style.{Style}
 use Rattle.pcap_frames.specs.Layout.{number_at, record_refusal}
-use Rattle.pcap_frames.specs.Capture.{Record}
 use Rattle.pcap_frames.specs.Reading.{GoesOn, HasRead, IsNext, IsReading, Passes, Reading, held_by, with_part}
 use Rattle.pcap_frames.proofs.Append.{record_stays}
 use Rattle.pcap_frames.proofs.Ends.{free_held, gives_up}
 use Rattle.pcap_frames.proofs.Fields.{record_begins, record_whole, still_in_record}
-use Rattle.pcap_frames.proofs.Flag.{flag_begins, whole_front, whole_part}
+use Rattle.pcap_frames.proofs.Flag.{whole_front, whole_part}
 use Rattle.pcap_frames.proofs.Held.{held_is, is_held_by}
 use Rattle.pcap_frames.proofs.Steps.{reading, record_goes_on}
 

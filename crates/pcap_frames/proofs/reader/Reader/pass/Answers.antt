@@ -1,4 +1,4 @@
-use Rattle.std.proofs.Common.{◌≡◌, false, arith, sym, ap, ◌∙◌, length}
+use Rattle.std.proofs.Common.{◌≡◌, false, arith, ap, ◌∙◌}
 use Rattle.std.specs.Prelude.{is_some}
 use Rattle.pcap_frames.proofs.Ends.{free_held}
 use Rattle.pcap_frames.proofs.Flag.{flag_begins}
