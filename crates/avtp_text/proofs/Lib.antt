@@ -8,4 +8,5 @@ pub mod Samples
 pub mod Overwriting
 pub mod Tables
 pub mod Gaps
+pub mod AafEnds
 pub mod Carried

@@ -5,6 +5,7 @@ pub mod Pairs
 pub mod SampleLines
 pub mod Notices
 pub mod Show
+pub mod AafLines
 pub mod Check
 pub mod Listen
 pub mod Talk

@@ -1,10 +1,15 @@
 //! The one buffer through which all text goes.
 
 ghost use Rattle.std.specs.Prelude.{◌≡◌, ◌+◌, ◌≤◌, ◌<◌, [], ◌++◌, length, take, OnOk, IfOk};
+ghost use Rattle.aaf_format.specs.Aaf.{aaf_shape};
 ghost use Rattle.avtp_base.specs.Told.{Appends, Keeps};
 ghost use Rattle.avtp_base.specs.Faults.{IsCounted, Rose};
+ghost use Rattle.avtp_text.specs.Show.{aaf_content, frame_line};
 ghost use Rattle.avtp_text.specs.Written.{written, Grows, Prints};
 
+use crate::aaf_line::AafLine;
+use crate::line::LONGEST;
+use aaf_format::AafView;
 use avtp_base::{Buffer, Failed, NoMemory, Output};
 use std::alloc::Global;
 use std::marker::Model;
@@ -21,6 +26,7 @@ pub const ROOM: usize = Buffer::ROOM;
 #[derive(Drop)]
 pub struct Text {
     buffer: Buffer,
+    aaf: AafLine,
 }
 
 impl Model for Text {
@@ -56,7 +62,10 @@ impl Text {
         ensures { IfOk result (λ text. text ≡ []) }
     {
         let buffer = Buffer::new(alloc)?;
-        Ok(Text { buffer })
+        Ok(Text {
+            buffer,
+            aaf: AafLine::new(),
+        })
     }
 
     /// Writes all that waits to the sink. Where the sink fails, what it has not taken still waits.
@@ -100,6 +109,16 @@ impl Text {
         ensures { self.new ≡ self.old ++ piece.now }
     {
         self.buffer.push(piece);
+    }
+
+    /// Adds the line of an AAF packet. There must be room for a line.
+    #[inline(always)]
+    pub(crate) fn push_aaf(&mut self, number: u64, arrival: i64, view: &AafView<'_>)
+        requires { length self.old + LONGEST ≤ ROOM }
+        ensures { self.new ≡ self.old ++ frame_line number arrival (aaf_content (aaf_shape view.now)) }
+    {
+        self.aaf.write(number, arrival, view);
+        self.buffer.push(self.aaf.as_slice());
     }
 
     /// Adds a piece of text of at most [`ROOM`] bytes, whole, or nothing where the sink fails.

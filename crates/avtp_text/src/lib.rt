@@ -1,6 +1,7 @@
 //! What `avtp` prints: the exact lines, and the one bounded buffer through which they go.
 #![tactic(auto)]
 
+mod aaf_line;
 mod buffer;
 mod check;
 mod instants;

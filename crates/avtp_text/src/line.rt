@@ -1,6 +1,6 @@
 //! One line of text while it is put together.
 
-ghost use Rattle.std.specs.Prelude.{◌≡◌, ◌+◌, ◌*◌, ◌<◌, ◌≤◌, [], ◌++◌, length, decimal};
+ghost use Rattle.std.specs.Prelude.{◌≡◌, ◌+◌, ◌-◌, ◌*◌, ◌<◌, ◌≤◌, [], ◌++◌, length, drop, decimal};
 ghost use Rattle.std.specs.Fmt.{signed_decimal};
 ghost use Rattle.hex.specs.Hex.{encode_lower};
 ghost use Rattle.avtp_text.specs.Pieces.{newline, id_text, flag_text, refusal_text};
@@ -64,6 +64,15 @@ impl Line {
     {
         self.scratch[LONGEST - 1] = b'\n';
         self.start = LONGEST - 1;
+    }
+
+    /// Leaves so many bytes, the line's last ones.
+    #[inline(always)]
+    pub fn keep_last(&mut self, len: usize)
+        requires { len ≤ length self.old }
+        ensures { self.new ≡ drop (length self.old - len) self.old }
+    {
+        self.start += self.len() - len;
     }
 
     /// How many bytes the line has.
@@ -171,11 +180,7 @@ impl Line {
         ensures text { self.new ≡ label.now ++ id_text id ++ self.old }
         ensures len { length self.new ≡ length label.now + 16 + length self.old }
     {
-        let mut digits = [0; 16];
-        let Ok(()) = hex::encode_to_slice(id.to_be_bytes(), &mut digits) else {
-            unreachable!()
-        };
-        self.prepend_bytes(&digits);
+        self.prepend_hex(&id.to_be_bytes());
         self.prepend(label);
     }
 

@@ -12,7 +12,7 @@ ghost use Rattle.avtp_text.specs.Written.{Prints};
 
 use crate::buffer::Text;
 use crate::line::{LONGEST, Line};
-use aaf_format::{AafFormat, AafView, rate_of};
+use aaf_format::{AafFormat, AafView};
 use avtp_base::{Failed, Output, Refusal};
 use avtp_header::StreamHeader;
 use crf_format::{CrfView, point};
@@ -23,7 +23,7 @@ use pcap_frames::FrameView;
 /// Puts before the line which record it is about.
 #[tactic(auto, unfolding(crate::specs::Show::frame_start))]
 #[inline(always)]
-fn prepend_frame(line: &mut Line, number: u64, arrival: i64)
+pub fn prepend_frame(line: &mut Line, number: u64, arrival: i64)
     requires { 52 + length line.old ≤ LONGEST }
     ensures { line.new ≡ frame_start number arrival ++ line.old }
 {
@@ -32,7 +32,8 @@ fn prepend_frame(line: &mut Line, number: u64, arrival: i64)
     line.prepend_u64("frame ", number);
 }
 
-fn format_name(format: AafFormat) -> &'static str
+/// The name of a format of samples.
+pub fn format_name(format: AafFormat) -> &'static str
     ensures name { result.now ≡ format_text format }
     ensures short { length result.now ≤ 7 }
 {
@@ -58,27 +59,6 @@ fn prepend_header(line: &mut Line, header: &StreamHeader)
     line.prepend_u32(" ts ", header.timestamp);
     line.prepend_u32(" seq ", header.seq as u32);
     line.prepend_id("id ", header.stream_id);
-}
-
-/// Puts before the line what an AAF packet holds.
-#[tactic(auto, unfolding(crate::specs::Show::aaf_content))]
-#[inline(always)]
-fn prepend_aaf(line: &mut Line, view: &AafView<'_>)
-    requires { 193 + length line.old ≤ LONGEST }
-    ensures text { line.new ≡ aaf_content (aaf_shape view.now) ++ line.old }
-    ensures len { length line.new ≤ 193 + length line.old }
-{
-    line.prepend_u32(" bytes ", view.header.data_length as u32);
-    line.prepend_u32(" count ", view.count);
-    line.prepend_u32(" depth ", view.depth as u32);
-    line.prepend_u32(" channels ", view.channels as u32);
-    line.prepend_u32(" rate ", rate_of(view.nsr).unwrap_or(0));
-    line.prepend(format_name(view.format));
-    line.prepend(" format ");
-    line.prepend_u32(" evt ", view.evt as u32);
-    line.prepend_flag(" sp ", view.sparse);
-    prepend_header(line, &view.header);
-    line.prepend("aaf ");
 }
 
 /// Puts before the line what an IEC 61883-6 packet holds.
@@ -228,10 +208,9 @@ impl Text {
     ) -> Result<(), Failed>
         ensures { Prints (S.state out.old) (S.state out.new) self.old self.new result (frame_line number arrival (aaf_content (aaf_shape view.now))) }
     {
-        let mut line = Line::new();
-        prepend_aaf(&mut line, view);
-        prepend_frame(&mut line, number, arrival);
-        self.print(out, line.as_slice())
+        self.make_room(out, LONGEST)?;
+        self.push_aaf(number, arrival, view);
+        Ok(())
     }
 
     /// Says what an IEC 61883-6 packet holds.

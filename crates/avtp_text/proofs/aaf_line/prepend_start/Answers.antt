@@ -1,0 +1,7 @@
+use Rattle.std.proofs.Common.{append_assoc}
+use Rattle.avtp_text.specs.AafLines.{aaf_start}
+use Rattle.avtp_text.proofs.aaf_line.prepend_start.Goals as goal
+
+pub returns-clause-text : goal.returns-clause-text
+unfolding aaf_start
+returns-clause-text c = rw (c.prepend.ensures.text, c.prepend_id.ensures.text, c.prepend_u32-2.ensures.text, c.prepend_u32.ensures.text) (simp append_assoc)

@@ -1,0 +1,164 @@
+//! The line of an AAF packet, whose end stays for that of the next one.
+
+ghost use Rattle.std.specs.Prelude.{◌≡◌, ◌+◌, ◌-◌, ◌≤◌, ◌++◌, length, drop};
+ghost use Rattle.aaf_format.specs.Aaf.{aaf_shape};
+ghost use Rattle.avtp_text.specs.AafLines.{IsEnd, aaf_start, end_of};
+ghost use Rattle.avtp_text.specs.Pieces.{newline};
+ghost use Rattle.avtp_text.specs.Show.{aaf_content, frame_line};
+
+use crate::line::{LONGEST, Line};
+use crate::show::{format_name, prepend_frame};
+use aaf_format::{AafFormat, AafView, rate_of};
+
+/// No end of a line has more bytes.
+const LONGEST_END: usize = 138;
+
+/// What the line of an AAF packet shows behind its timestamp. It seldom differs from packet to packet.
+#[derive(Clone, Copy, PartialEq, Eq)]
+struct AafEnd {
+    tv: bool,
+    tu: bool,
+    mr: bool,
+    sparse: bool,
+    evt: u8,
+    format: AafFormat,
+    nsr: u8,
+    channels: u16,
+    depth: u8,
+    count: u32,
+    data_length: u16,
+}
+
+impl AafEnd {
+    #[inline(always)]
+    fn of(view: &AafView<'_>) -> Self
+        ensures { result ≡ end_of (aaf_shape view.now) }
+    {
+        AafEnd {
+            tv: view.header.tv,
+            tu: view.header.tu,
+            mr: view.header.mr,
+            sparse: view.sparse,
+            evt: view.evt,
+            format: view.format,
+            nsr: view.nsr,
+            channels: view.channels,
+            depth: view.depth,
+            count: view.count,
+            data_length: view.header.data_length,
+        }
+    }
+}
+
+/// Puts before the newline the end of a line.
+fn prepend_end(line: &mut Line, end: &AafEnd)
+    requires { line.old ≡ newline }
+    ensures text { IsEnd end.now line.new }
+    ensures len { length line.new ≤ LONGEST_END }
+{
+    line.prepend_u32(" bytes ", end.data_length as u32);
+    line.prepend_u32(" count ", end.count);
+    line.prepend_u32(" depth ", end.depth as u32);
+    line.prepend_u32(" channels ", end.channels as u32);
+    line.prepend_u32(" rate ", rate_of(end.nsr).unwrap_or(0));
+    line.prepend(format_name(end.format));
+    line.prepend(" format ");
+    line.prepend_u32(" evt ", end.evt as u32);
+    line.prepend_flag(" sp ", end.sparse);
+    line.prepend_flag(" mr ", end.mr);
+    line.prepend_flag(" tu ", end.tu);
+    line.prepend_flag(" tv ", end.tv);
+}
+
+/// Puts before the end of a line what differs from packet to packet.
+#[inline(always)]
+fn prepend_start(line: &mut Line, view: &AafView<'_>)
+    requires { 52 + length line.old ≤ LONGEST }
+    ensures text { line.new ≡ aaf_start (aaf_shape view.now) ++ line.old }
+    ensures len { length line.new ≤ 52 + length line.old }
+{
+    line.prepend_u32(" ts ", view.header.timestamp);
+    line.prepend_u32(" seq ", view.header.seq as u32);
+    line.prepend_id("id ", view.header.stream_id);
+    line.prepend("aaf ");
+}
+
+/// The line of an AAF packet. Where that of the next one has the same end, only what stands before it is written.
+#[derive(Drop)]
+pub struct AafLine {
+    line: Line,
+    end: AafEnd,
+    /// How many bytes the end has.
+    len: usize,
+    ghost short: { len ≤ 138 },
+    ghost within: { len ≤ length line },
+    ghost kept: { IsEnd end (drop (length line - len) line) },
+}
+
+impl AafLine {
+    /// A line of no packet yet, with an end.
+    pub fn new() -> Self {
+        let end = AafEnd {
+            tv: false,
+            tu: false,
+            mr: false,
+            sparse: false,
+            evt: 0,
+            format: AafFormat::Int16,
+            nsr: 0,
+            channels: 0,
+            depth: 0,
+            count: 0,
+            data_length: 0,
+        };
+        let mut line = Line::new();
+        prepend_end(&mut line, &end);
+        let len = line.len();
+        AafLine { line, end, len }
+    }
+
+    /// The line's bytes.
+    #[inline(always)]
+    pub fn as_slice(&self) -> &[u8]
+        ensures text { result.now ≡ self.now.line }
+        ensures short { length result.now ≤ LONGEST }
+    {
+        self.line.as_slice()
+    }
+
+    #[inline(never)]
+    fn write_end(&mut self, end: AafEnd)
+        ensures text { IsEnd end self.new.line }
+        ensures whole { self.new.len ≡ length self.new.line }
+        ensures end { self.new.end ≡ end }
+    {
+        self.line.restart();
+        prepend_end(&mut self.line, &end);
+        self.len = self.line.len();
+        self.end = end;
+    }
+
+    /// Leaves nothing of the line but this end.
+    #[inline(always)]
+    fn leave_end(&mut self, end: AafEnd)
+        ensures text { IsEnd end self.new.line }
+        ensures whole { self.new.len ≡ length self.new.line }
+        ensures end { self.new.end ≡ end }
+    {
+        if self.end == end {
+            self.line.keep_last(self.len);
+        } else {
+            self.write_end(end);
+        }
+    }
+
+    /// Makes it the line of a packet.
+    #[inline(always)]
+    pub fn write(&mut self, number: u64, arrival: i64, view: &AafView<'_>)
+        ensures { self.new.line ≡ frame_line number arrival (aaf_content (aaf_shape view.now)) }
+    {
+        self.leave_end(AafEnd::of(view));
+        prepend_start(&mut self.line, view);
+        prepend_frame(&mut self.line, number, arrival);
+    }
+}
