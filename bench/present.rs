@@ -35,26 +35,40 @@ pub struct Samples<'a> {
     pub bytes: &'a [u8],
 }
 
-pub struct Presenter {
+pub struct Presenter<W: Write = io::Stdout> {
     /// How the line before began.
     due: Due,
     /// What stands in each line of a batch between the instant and the number of the sample.
     place: Short,
-    text: Text,
+    text: Text<W>,
 }
 
 impl Presenter {
     /// A presenter of the capture at this path, which it prints.
     pub fn begin(path: &str) -> io::Result<Self> {
         writeln!(io::stdout(), "capture {path}")?;
-        Ok(Presenter {
+        Ok(Presenter::over(io::stdout()))
+    }
+}
+
+impl<W: Write> Presenter<W> {
+    /// A presenter whose text goes to this writer.
+    pub fn over(out: W) -> Self {
+        Presenter {
             due: Due {
                 text: Short::new(),
                 from: None,
             },
             place: Short::new(),
-            text: Text::new(),
-        })
+            text: Text::over(out),
+        }
+    }
+
+    /// Writes all that waits, and answers the writer.
+    #[allow(dead_code)] // Only the text of samples by itself asks for it.
+    pub fn flushed(&mut self) -> io::Result<&W> {
+        self.text.flush()?;
+        Ok(&self.text.out)
     }
 
     #[inline(always)]

@@ -259,7 +259,7 @@ fn show_frame<'a>(mut line: Line<'a>, frame: &[u8]) -> Line<'a> {
 
 fn main() -> io::Result<ExitCode> {
     let path = env::args().nth(1).ok_or(io::ErrorKind::InvalidInput)?;
-    let mut text = Text::new();
+    let mut text = Text::over(io::stdout());
     let end = read_records(File::open(path)?, |number, arrival, frame| {
         let mut line = text.line(Line::ROOM)?;
         line.number(b"frame ", number);

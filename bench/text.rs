@@ -1,21 +1,21 @@
-//! Text on its way to standard output. What waits is written line by line without a check of its bounds.
+//! Text on its way to standard output or to another writer. What waits is written line by line without a check of its bounds.
 
 use crate::pcap::Refusal;
 use std::io::{self, Write};
 
-/// Text that waits for standard output.
-pub struct Text {
+/// Text that waits for a writer, which is standard output where nothing else is said.
+pub struct Text<W: Write = io::Stdout> {
     waiting: Vec<u8>,
-    out: io::Stdout,
+    pub out: W,
 }
 
-impl Text {
+impl<W: Write> Text<W> {
     const ROOM: usize = 65_536;
 
-    pub fn new() -> Self {
+    pub fn over(out: W) -> Self {
         Text {
             waiting: Vec::with_capacity(Self::ROOM),
-            out: io::stdout(),
+            out,
         }
     }
 

@@ -1,5 +1,5 @@
-//! Runs a mode of `measured` and its yardstick in turn. Both say how many packets they presented and in how many nanoseconds,
-//! so that making the packets is not measured.
+//! Runs a mode of `measured` and its yardstick in turn. Both say how many packets they presented, or how many bytes they
+//! printed, and in how many nanoseconds, so that making the packets is not measured.
 
 use crate::machine::machine;
 use std::io::{self, Error};
@@ -15,7 +15,7 @@ pub struct Timed<'a> {
 }
 
 impl Timed<'_> {
-    /// Runs once, and tells how many packets are presented, and in how many nanoseconds.
+    /// Runs once, and tells how many packets are presented or bytes printed, and in how many nanoseconds.
     fn run(&self, words: &[&str]) -> io::Result<(u64, u64)> {
         let output = Command::new(self.program).args(self.mode).args(words).output()?;
         let text = String::from_utf8_lossy(&output.stdout);
@@ -27,7 +27,7 @@ impl Timed<'_> {
     }
 }
 
-/// The best time of each of two programs, in nanoseconds, and how many packets both present.
+/// The best time of each of two programs, in nanoseconds, and how many packets both present, or how many bytes both print.
 pub fn best_of_both(programs: [Timed; 2], words: &[&str]) -> io::Result<([f64; 2], u64)> {
     let mut best = [u64::MAX; 2];
     let mut presented = [0; 2];

@@ -43,7 +43,7 @@ pub fn hear<C: Clock>(clock: &C, alloc: Global, streams: u32, packets: u32) -> O
     let presented = hear_all(alloc, &mut listener, &capture).ok()?;
     let nanoseconds = u64::try_from(start.elapsed(clock).ok()?.as_nanos()).ok()?;
     Some(Timed {
-        presented,
+        count: presented,
         nanoseconds,
     })
 }

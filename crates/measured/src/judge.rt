@@ -37,7 +37,7 @@ pub fn judge<C: Clock>(
     let presented = judge_all(&mut judge, entries);
     let nanoseconds = u64::try_from(start.elapsed(clock).ok()?.as_nanos()).ok()?;
     Some(Timed {
-        presented,
+        count: presented,
         nanoseconds,
     })
 }
@@ -60,7 +60,7 @@ fn judge_all(judge: &mut Judge, entries: Vec<Entry>) -> u64
     presented
 }
 
-fn take(judge: &mut Judge, entry: Entry)
+pub fn take(judge: &mut Judge, entry: Entry)
     requires open { judge.old.closed ≡ false }
     requires idle { IsIdle judge.old }
     requires taken { taken judge.old < 2 ^ 62 }

@@ -4,6 +4,8 @@
 //! ITEMS` judges so many packets, which come in an order of their instants (rising, falling, random, middle or equal), with a
 //! look-ahead and with a clock or none. `measured listener STREAMS PACKETS` feeds a listener with a capture of so many packets
 //! of so many streams, of which it listens to one. These print how many packets are presented, and in how many nanoseconds.
+//! `measured samples BATCHES TIMES` prints the samples of so many batches several times, to a sink that keeps nothing, and tells
+//! how many bytes of text that is, and in how many nanoseconds.
 #![tactic(auto)]
 
 mod capture;
@@ -11,6 +13,7 @@ mod hearing;
 mod judge;
 mod lines;
 mod rounds;
+mod samples;
 mod stream;
 mod timed;
 
@@ -18,6 +21,7 @@ use crate::hearing::hear;
 use crate::judge::judge;
 use crate::lines::lines;
 use crate::rounds::rounds;
+use crate::samples::samples;
 use crate::stream::{Order, Stream};
 use crate::timed::Timed;
 use std::alloc::Global;
@@ -49,6 +53,7 @@ fn measured<T: Threads + Sync + Clock>(rt: &T, alloc: Global, words: &[String]) 
     match words.get(0)?.as_str() {
         "judge" => judged(rt, alloc, words)?.text(alloc),
         "listener" => heard(rt, alloc, words)?.text(alloc),
+        "samples" => printed(rt, alloc, words)?.text(alloc),
         _ => {
             let count = counted(rt, alloc, words)?;
             format!(in alloc; "{count}").ok()
@@ -88,6 +93,12 @@ fn heard<C: Clock>(clock: &C, alloc: Global, words: &[String]) -> Option<Timed> 
         return None;
     }
     hear(clock, alloc, streams, packets)
+}
+
+fn printed<C: Clock>(clock: &C, alloc: Global, words: &[String]) -> Option<Timed> {
+    let batches: u32 = words.get(1)?.parse().ok()?;
+    let times: u32 = words.get(2)?.parse().ok()?;
+    samples(clock, alloc, batches, times)
 }
 
 fn order_of(word: &str) -> Option<Order> {

@@ -1,17 +1,17 @@
-//! What is measured of packets that are presented.
+//! What is measured, and how long it took.
 
 use std::alloc::Global;
 
-/// How many packets were presented, and in how many nanoseconds.
+/// How many packets were presented, or how many bytes were printed, and in how many nanoseconds.
 #[derive(Clone, Copy)]
 pub struct Timed {
-    pub presented: u64,
+    pub count: u64,
     pub nanoseconds: u64,
 }
 
 impl Timed {
     /// Both numbers, with a space between them.
     pub fn text(&self, alloc: Global) -> Option<String> {
-        format!(in alloc; "{} {}", self.presented, self.nanoseconds).ok()
+        format!(in alloc; "{} {}", self.count, self.nanoseconds).ok()
     }
 }
