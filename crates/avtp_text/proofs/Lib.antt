@@ -4,6 +4,7 @@ pub mod Digits
 pub mod Names
 pub mod Printing
 pub mod Hex
+pub mod Eight
 pub mod Samples
 pub mod Overwriting
 pub mod Tables

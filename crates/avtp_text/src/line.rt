@@ -7,7 +7,7 @@ ghost use Rattle.avtp_text.specs.Pieces.{newline, id_text, flag_text, refusal_te
 ghost use Rattle.avtp_text.specs.Overwrites.{Overwrites};
 ghost use Rattle.avtp_text.specs.Pairs.{eight_digits};
 
-use crate::pairs::{write_eight_digits, write_hex};
+use crate::pairs::{write_bytes, write_eight_digits, write_hex};
 use avtp_base::Refusal;
 use std::marker::Model;
 
@@ -99,7 +99,7 @@ impl Line {
         ensures len { length self.new ≡ length piece.now + length self.old }
     {
         let start = self.start - piece.len();
-        self.scratch[start..self.start].copy_from_slice(piece);
+        write_bytes(piece, &mut self.scratch[start..self.start]);
         self.start = start;
     }
 

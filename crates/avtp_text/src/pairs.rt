@@ -52,13 +52,50 @@ fn write_hexadecimal_pair(byte: u8, out: &mut [u8], at: usize)
     out[at + 1] = low;
 }
 
-/// Writes the hexadecimal digits of bytes, in lower case.
+/// Writes the hexadecimal digits of four bytes.
 #[inline(always)]
-pub fn write_hex(bytes: &[u8], out: &mut [u8])
+fn write_hex_of_four(bytes: &[u8], out: &mut [u8])
+    requires four { length bytes.now ≡ 4 }
+    requires room { length out.old ≡ 8 }
+    ensures { out.new ≡ encode_lower bytes.now }
+{
+    write_hexadecimal_pair(bytes[0], out, 0);
+    write_hexadecimal_pair(bytes[1], out, 2);
+    write_hexadecimal_pair(bytes[2], out, 4);
+    write_hexadecimal_pair(bytes[3], out, 6);
+}
+
+#[inline(always)]
+fn write_hex_of_each(bytes: &[u8], out: &mut [u8])
     requires { length out.old ≡ 2 * length bytes.now }
     ensures { out.new ≡ encode_lower bytes.now }
 {
     for i in 0..bytes.len() {
         write_hexadecimal_pair(bytes[i], out, 2 * i);
+    }
+}
+
+/// Writes the hexadecimal digits of bytes, in lower case. Most samples are of two channels of two bytes, which take no loop.
+#[inline(always)]
+pub fn write_hex(bytes: &[u8], out: &mut [u8])
+    requires { length out.old ≡ 2 * length bytes.now }
+    ensures { out.new ≡ encode_lower bytes.now }
+{
+    if bytes.len() == 4 {
+        write_hex_of_four(bytes, out);
+    } else {
+        write_hex_of_each(bytes, out);
+    }
+}
+
+/// Writes a piece of text. Where its length is known to the compiler, these are moves of words, while a copy would first be
+/// tested for an overlap.
+#[inline(always)]
+pub fn write_bytes(piece: &[u8], out: &mut [u8])
+    requires { length out.old ≡ length piece.now }
+    ensures { out.new ≡ piece.now }
+{
+    for i in 0..piece.len() {
+        out[i] = piece[i];
     }
 }

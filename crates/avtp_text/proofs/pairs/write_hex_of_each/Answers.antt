@@ -2,7 +2,7 @@ use Rattle.std.proofs.Common.{◌≡◌, ◌+◌, ◌*◌, ◌++◌, sym, ap, �
 use Rattle.hex.specs.Hex.{encode_with}
 use Rattle.avtp_text.proofs.Hex.{one_byte_more, pair_of, two_more}
 use Rattle.std.proofs.Common.{refl, slice_index}
-use Rattle.avtp_text.proofs.pairs.write_hex.Goals as goal
+use Rattle.avtp_text.proofs.pairs.write_hex_of_each.Goals as goal
 
 pub loop-i-init : goal.loop-i-init
 unfolding encode_with
