@@ -3,10 +3,11 @@
 ghost use Rattle.std.specs.Prelude.{◌≡◌, ◌+◌, ◌-◌, ◌≤◌, ◌++◌, length, drop};
 ghost use Rattle.aaf_format.specs.Aaf.{aaf_shape};
 ghost use Rattle.avtp_text.specs.AafLines.{IsEnd, aaf_start, end_of};
-ghost use Rattle.avtp_text.specs.Pieces.{newline};
+ghost use Rattle.avtp_text.specs.Pieces.{id_text, newline};
 ghost use Rattle.avtp_text.specs.Show.{aaf_content, frame_line};
 
 use crate::line::{LONGEST, Line};
+use crate::pairs::write_hex;
 use crate::show::{format_name, prepend_frame};
 use aaf_format::{AafFormat, AafView, rate_of};
 
@@ -70,26 +71,59 @@ fn prepend_end(line: &mut Line, end: &AafEnd)
     line.prepend_flag(" tv ", end.tv);
 }
 
+/// A stream id and its text.
+#[derive(Drop)]
+struct IdText {
+    id: u64,
+    digits: [u8; 16],
+    ghost named: { digits ≡ id_text id },
+}
+
+impl IdText {
+    #[tactic(auto, unfolding(crate::specs::Pieces::id_text))]
+    fn new(id: u64) -> Self
+        ensures { result.id ≡ id }
+    {
+        let mut digits = [0; 16];
+        write_hex(&id.to_be_bytes(), &mut digits);
+        IdText { id, digits }
+    }
+
+    /// Makes it that of this id.
+    #[inline(always)]
+    fn set(&mut self, id: u64)
+        ensures { self.new.id ≡ id }
+    {
+        if self.id != id {
+            *self = IdText::new(id);
+        }
+    }
+}
+
 /// Puts before the end of a line what differs from packet to packet.
 #[inline(always)]
-fn prepend_start(line: &mut Line, view: &AafView<'_>)
-    requires { 52 + length line.old ≤ LONGEST }
+fn prepend_start(line: &mut Line, id: &IdText, view: &AafView<'_>)
+    requires id { id.now.id ≡ view.now.header.stream_id }
+    requires room { 52 + length line.old ≤ LONGEST }
     ensures text { line.new ≡ aaf_start (aaf_shape view.now) ++ line.old }
     ensures len { length line.new ≤ 52 + length line.old }
 {
     line.prepend_u32(" ts ", view.header.timestamp);
     line.prepend_u32(" seq ", view.header.seq as u32);
-    line.prepend_id("id ", view.header.stream_id);
+    line.prepend_bytes(&id.digits);
+    line.prepend("id ");
     line.prepend("aaf ");
 }
 
-/// The line of an AAF packet. Where that of the next one has the same end, only what stands before it is written.
+/// The line of an AAF packet. Where that of the next one has the same end, only what stands before it is written, and where it
+/// is of the same stream, the text of the stream's id is copied.
 #[derive(Drop)]
 pub struct AafLine {
     line: Line,
     end: AafEnd,
     /// How many bytes the end has.
     len: usize,
+    id: IdText,
     ghost short: { len ≤ 138 },
     ghost within: { len ≤ length line },
     ghost kept: { IsEnd end (drop (length line - len) line) },
@@ -114,7 +148,12 @@ impl AafLine {
         let mut line = Line::new();
         prepend_end(&mut line, &end);
         let len = line.len();
-        AafLine { line, end, len }
+        AafLine {
+            line,
+            end,
+            len,
+            id: IdText::new(0),
+        }
     }
 
     /// The line's bytes.
@@ -158,7 +197,8 @@ impl AafLine {
         ensures { self.new.line ≡ frame_line number arrival (aaf_content (aaf_shape view.now)) }
     {
         self.leave_end(AafEnd::of(view));
-        prepend_start(&mut self.line, view);
+        self.id.set(view.header.stream_id);
+        prepend_start(&mut self.line, &self.id, view);
         prepend_frame(&mut self.line, number, arrival);
     }
 }

@@ -92,8 +92,9 @@ impl Line {
         &self.scratch[self.start..]
     }
 
+    /// Puts bytes of text before the line.
     #[inline(always)]
-    fn prepend_bytes(&mut self, piece: &[u8])
+    pub fn prepend_bytes(&mut self, piece: &[u8])
         requires { length piece.now + length self.old ≤ LONGEST }
         ensures text { self.new ≡ piece.now ++ self.old }
         ensures len { length self.new ≡ length piece.now + length self.old }
