@@ -129,11 +129,6 @@ pub record TalksContents (plan : TalkPlan) (contents : Contents) (name : List �
   pub counts : FaultStops contents.stop result
   pub sink : KeepsSink out out' result
 
--- A front of the room, of so many bytes, is what was spelled.
-pub record Puts (spelling room : List ℕ) (count : ℕ) : Type 0 where
-  pub text : take count room ≡ spelling
-  pub size : count ≤ 1534
-
 -- A run ends since the input makes no stream: for want of memory with that status and nothing printed, and else with the line
 -- that says why.
 pub record EndsRefused (why : TalkFault) (out out' : SinkState) (waits waits' : List ℕ) (result : Result Status Failed) : Type 0 where

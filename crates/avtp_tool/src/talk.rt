@@ -8,12 +8,12 @@ ghost use Rattle.talker.specs.Talking.{most_input};
 ghost use Rattle.avtp_words.specs.Grammar.{talk as talk_request, talking_of};
 ghost use Rattle.avtp_text.specs.Talk.{talk_input_line, talk_line};
 ghost use Rattle.avtp_text.specs.Notices.{limit_line};
-ghost use Rattle.capture_io.specs.Writing.{IsMadeIn};
+ghost use Rattle.capture_io.specs.Writing.{AddsBytes, IsMadeIn};
 ghost use Rattle.avtp_tool.specs.Made.{MakesFile, WritesPart, unmade_as};
 ghost use Rattle.avtp_tool.specs.Outcome.{EndsWith, Only};
 ghost use Rattle.avtp_tool.specs.Run.{Runs};
 ghost use Rattle.avtp_tool.specs.Yield.{HandsNothing};
-ghost use Rattle.avtp_tool.specs.Talk.{EndsRefused, Puts, sent_line, talk_clock, talk_kind, talk_plan, TalkedOutcome, Talks, TalksContents};
+ghost use Rattle.avtp_tool.specs.Talk.{EndsRefused, sent_line, talk_clock, talk_kind, talk_plan, TalkedOutcome, Talks, TalksContents};
 
 use crate::command::{print_fault, print_unopened};
 use crate::status::Status;
@@ -21,15 +21,15 @@ use avtp_base::{Buffer, Failed, OpenFault, Shelf, Sink};
 use avtp_text::Text;
 use avtp_words::{Crf, Kind, Talk};
 use capture_io::{Contents, FileWriter, Stop, read_contents};
-use pcap_frames::{Order, Style, Unit, write_header, write_record};
+use pcap_frames::{Order, Style, Unit, record_header, write_header};
 use std::alloc::Global;
 use talker::{CrfPlan, Sent, TalkFault, TalkKind, TalkPlan, Talker};
 
 /// The most bytes of an input: 256 MiB.
 const LIMIT: u64 = 268_435_456;
 
-/// The most bytes of a record: its header, and a frame of Ethernet.
-const RECORD: usize = 16 + 1_518;
+/// The length of the header of a capture's file.
+const FILE_HEADER: usize = 24;
 
 /// Captures are little-endian, and count nanoseconds.
 const STYLE: Style = Style {
@@ -222,44 +222,39 @@ fn write_capture<F: Shelf>(
     requires begun { talker.old.given ≡ 0 }
     ensures { WritesPart (F.state shelf.old) (F.state shelf.new) writer.old writer.new (capture talker.old.plan talker.old.input) result }
 {
-    let mut room = [0; RECORD];
-    let size = put_header(&mut room);
-    writer.add(shelf, &room[..size])?;
+    writer.add(shelf, &file_header())?;
     while let Some(sent) = talker.next() {
-        let size = put_record(&mut room, &sent);
-        writer.add(shelf, &room[..size])?;
+        add_record(writer, shelf, &sent)?;
     }
     Ok(())
 }
 
-/// Puts a capture's header at the front of the room, and answers its length.
-fn put_header(room: &mut [u8]) -> usize
-    requires { RECORD ≤ length room.old }
-    ensures { Puts (header_spelling capture_style) room.new result }
+/// The header of the capture's file.
+fn file_header() -> [u8; FILE_HEADER]
+    ensures { result ≡ header_spelling capture_style }
 {
-    let Ok(size) = write_header(room, STYLE) else {
+    let mut header = [0; FILE_HEADER];
+    let Ok(_) = write_header(&mut header, STYLE) else {
         unreachable!()
     };
-    size
+    header
 }
 
-/// Puts a frame's record at the front of the room, and answers its length.
-fn put_record(room: &mut [u8], sent: &Sent<'_>) -> usize
+/// Adds the record of a frame.
+#[inline(always)]
+fn add_record<F: Shelf>(
+    writer: &mut FileWriter,
+    shelf: &mut F,
+    sent: &Sent<'_>,
+) -> Result<(), Failed>
+    requires made { IsMadeIn (F.state shelf.old).slots writer.old.slot }
     requires fits { HasSpelling capture_style (record_of (sent_frame sent.now)) }
     requires size { length sent.now.bytes.now ≤ 1518 }
-    requires room { RECORD ≤ length room.old }
-    ensures { Puts (record_spelling capture_style (record_of (sent_frame sent.now))) room.new result }
+    ensures { AddsBytes (F.state shelf.old) (F.state shelf.new) writer.old writer.new (record_spelling capture_style (record_of (sent_frame sent.now))) result }
 {
-    let Ok(size) = write_record(
-        room,
-        STYLE,
-        sent.arrival,
-        sent.bytes.len() as u32,
-        sent.bytes,
-    ) else {
-        unreachable!()
-    };
-    size
+    let len = sent.bytes.len() as u32;
+    let header = record_header(STYLE, sent.arrival, len, len);
+    writer.add_headed(shelf, &header, sent.bytes)
 }
 
 /// Says how many packets were sent.

@@ -1,6 +1,6 @@
 //! A file that is written through a buffer.
 
-ghost use Rattle.std.specs.Prelude.{◌≡◌, ◌≤◌, [], Ok, length};
+ghost use Rattle.std.specs.Prelude.{◌≡◌, ◌+◌, ◌≤◌, ◌++◌, [], Ok, length};
 ghost use Rattle.capture_io.specs.Writing.{AddsBytes, ClosesFile, CreatesFile, FinishesFile, IsMadeIn, WritesOut};
 
 use avtp_base::{Buffer, Failed, OpenFault, Shelf, Slot};
@@ -43,14 +43,31 @@ impl FileWriter {
         requires size { length bytes.now ≤ 65536 }
         ensures { AddsBytes (F.state shelf.old) (F.state shelf.new) self.old self.new bytes.now result }
     {
-        if self.buffer.room() < bytes.len() {
+        self.add_headed(shelf, &[], bytes)
+    }
+
+    /// Adds a header and what follows it, together at most [`Buffer::ROOM`] bytes, or nothing where the shelf fails.
+    #[inline(always)]
+    pub fn add_headed<F: Shelf>(
+        &mut self,
+        shelf: &mut F,
+        header: &[u8],
+        bytes: &[u8],
+    ) -> Result<(), Failed>
+        requires made { IsMadeIn (F.state shelf.old).slots self.old.slot }
+        requires size { length header.now + length bytes.now ≤ 65536 }
+        ensures { AddsBytes (F.state shelf.old) (F.state shelf.new) self.old self.new (header.now ++ bytes.now) result }
+    {
+        if self.buffer.room() < header.len() + bytes.len() {
             self.flush(shelf)?;
         }
+        self.buffer.push(header);
         self.buffer.push(bytes);
         Ok(())
     }
 
     /// Writes all that waits.
+    #[inline(never)]
     fn flush<F: Shelf>(&mut self, shelf: &mut F) -> Result<(), Failed>
         requires { IsMadeIn (F.state shelf.old).slots self.old.slot }
         ensures { WritesOut (F.state shelf.old) (F.state shelf.new) self.old self.new result }

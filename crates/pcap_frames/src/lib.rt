@@ -18,4 +18,4 @@ pub use law::{capture_again, one_capture};
 pub use pieces::{Contents, KeptRecord, read_pieces};
 pub use reader::Reader;
 pub use style::{Order, RecordView, Style, Unit};
-pub use writer::{write_header, write_record};
+pub use writer::{record_header, write_header, write_record};

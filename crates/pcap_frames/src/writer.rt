@@ -1,12 +1,13 @@
 //! Captures in their canonical spelling.
 
-ghost use Rattle.std.specs.Prelude.{◌≡◌, ◌+◌, ◌≤◌, ◌<◌, ◌≤ℤ◌, ◌<ℤ◌, ◌*◌, ◌/◌, ◌%◌, ◌^◌, ◌++◌, ◌↔◌, ℕ, pos, nat_abs, length, take, drop, IsOk, IfOk, IfErr, OnOk, OnErr};
+ghost use Rattle.std.specs.Prelude.{◌≡◌, ◌+◌, ◌≤◌, ◌<◌, ◌≤ℤ◌, ◌<ℤ◌, ◌*◌, ◌/◌, ◌%◌, ◌^◌, ◌++◌, ◌↔◌, List, ℕ, pos, nat_abs, length, take, drop, IsOk, IfOk, IfErr, OnOk, OnErr};
 ghost use Rattle.pcap_frames.specs.Layout.{number_bytes, scale};
 ghost use Rattle.pcap_frames.specs.Capture.{header_spelling, record_spelling};
 
 use crate::layout::{FILE_HEADER, MAGIC_MICRO, MAGIC_NANO, RECORD_HEADER, RECORD_LIMIT};
 use crate::style::{Order, Style, Unit};
 use avtp_base::Room;
+use avtp_base::octets::write_front;
 use byteorder::{BigEndian, ByteOrder, LittleEndian};
 
 /// Writes the file header of a capture of Ethernet frames (draft-ietf-opsawg-pcap, section 4): version 2.4, zone and accuracy 0, a snapshot length of
@@ -65,27 +66,35 @@ pub fn write_record(
     ensures room { IfErr result (λ room. room ≡ record { need = 16 + length bytes.now; found = length out.old }) }
     ensures untouched { OnErr result (out.new ≡ out.old) }
 {
-    let need = RECORD_HEADER + bytes.len();
-    let found = out.len();
-    if found < need {
-        return Err(Room { need, found });
-    }
+    let header = record_header(style, arrival, bytes.len() as u32, orig_len);
+    write_front(out, &header, bytes)
+}
+
+/// The header of a record (draft-ietf-opsawg-pcap, section 5), with a fraction below one second: the record is these 16 bytes and
+/// then its own, which are `incl_len`.
+///
+/// `arrival` is in nanoseconds, 32 bits of seconds at most, and a multiple of 1000 in a capture that counts microseconds.
+/// `orig_len` is the frame's length on the wire.
+#[inline(always)]
+pub fn record_header(style: Style, arrival: i64, incl_len: u32, orig_len: u32) -> [u8; 16]
+    requires begun { pos 0 ≤ℤ arrival }
+    requires ended { arrival <ℤ pos (2 ^ 32 * 1000000000) }
+    requires whole { nat_abs arrival % scale style.unit ≡ 0 }
+    ensures { (bytes : List ℕ) → length bytes ≡ incl_len → result ++ bytes ≡ record_spelling style (record { arrival = arrival; orig_len = orig_len; bytes = bytes }) }
+{
     let nanoseconds = arrival as u64;
     let scale = match style.unit {
         Unit::Micro => 1000,
         Unit::Nano => 1,
     };
-    put_u32(style.order, out, 0, (nanoseconds / 1_000_000_000) as u32);
-    put_u32(
-        style.order,
-        out,
-        4,
-        (nanoseconds % 1_000_000_000 / scale) as u32,
-    );
-    put_u32(style.order, out, 8, bytes.len() as u32);
-    put_u32(style.order, out, 12, orig_len);
-    put_bytes(out, RECORD_HEADER, bytes);
-    Ok(need)
+    let seconds = (nanoseconds / 1_000_000_000) as u32;
+    let fraction = (nanoseconds % 1_000_000_000 / scale) as u32;
+    let mut header = [0; RECORD_HEADER];
+    put_u32(style.order, &mut header, 0, seconds);
+    put_u32(style.order, &mut header, 4, fraction);
+    put_u32(style.order, &mut header, 8, incl_len);
+    put_u32(style.order, &mut header, 12, orig_len);
+    header
 }
 
 /// Writes a number of 16 bits at an offset.
@@ -112,14 +121,4 @@ fn put_u32(order: Order, out: &mut [u8], offset: usize, number: u32)
         Order::Little => LittleEndian::write_u32(&mut out[offset..offset + 4], number),
         Order::Big => BigEndian::write_u32(&mut out[offset..offset + 4], number),
     }
-}
-
-/// Writes bytes at an offset.
-#[tactic(auto, using(std::proofs::lemmas::Slice::overwrites))]
-fn put_bytes(out: &mut [u8], offset: usize, bytes: &[u8])
-    requires { offset + length bytes.now ≤ length out.old }
-    ensures spelled { take (offset + length bytes.now) out.new ≡ take offset out.old ++ bytes.now }
-    ensures rest { (n : ℕ) → offset + length bytes.now ≤ n → drop n out.new ≡ drop n out.old }
-{
-    out[offset..offset + bytes.len()].copy_from_slice(bytes);
 }

@@ -26,29 +26,28 @@ loop-sent-smaller g c =
 pub loop-sent-preserved : goal.loop-sent-preserved
 loop-sent-preserved g c =
     let before = c.loop-sent.invariant in
-    let added = c.in_ok-add-2.ensures in
+    let added = c.in_ok-add_record.ensures in
     let on = c.next.follows.holds-at-none in
     let plan = c.args.talker.now.plan in
     let input : List ℕ = c.args.talker.now.input in
     let frame = next_frame c.next.result c.loop-sent.talker plan input c.in-Some.sent before.plan before.input c.next.ensures.frame c.in-Some.is in
     let more = sent_more plan input c.loop-sent.talker.given c.next.follows.lender-at-none.given _ frame (ap (λ (t : _). t.given) on ∙ (rw (before.plan, before.input) refl)) in
     record {
-      room = c.put_record-size.auto.room ∙ before.room;
       plan = ap (λ (t : _). t.plan) on ∙ before.plan;
       input = ap (λ (t : _). t.input) on ∙ before.input;
       put = λ begun name making.
-          subst (IsWriting begun _ c.add-in-Some.new.self name) (rw c.put_record-size.ensures.text more) (added.added begun name _ (before.put begun name making));
+          subst (IsWriting begun _ c.add_record.new.writer name) more (added.added begun name _ (before.put begun name making));
       writes = writes_then before.writes added.writes;
     }
 
-pub returns-in_err-add-2 : goal.returns-in_err-add-2
-returns-in_err-add-2 g c =
+pub returns-in_err-add_record : goal.returns-in_err-add_record
+returns-in_err-add_record g c =
     let before = c.loop-sent.invariant in
     let plan = c.args.talker.now.plan in
     let input : List ℕ = c.args.talker.now.input in
     record {
       written = λ begun name making.
-          wrote_part _ _ _ c.from_residual-in_err-add-2.result c.from_residual-in_err-add-2.ensures.0 (sent_rest plan input c.loop-sent.talker.given) (c.in_err-add-2.ensures.kept begun name _ (before.put begun name making));
+          wrote_part _ _ _ c.from_residual-in_err-add_record.result c.from_residual-in_err-add_record.ensures.0 (sent_rest plan input c.loop-sent.talker.given) (c.in_err-add_record.ensures.kept begun name _ (before.put begun name making));
       writes = (search rules);
     }
 

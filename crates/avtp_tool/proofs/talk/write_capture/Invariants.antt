@@ -8,7 +8,6 @@ use Rattle.avtp_tool.proofs.talk.write_capture.Given as goal
 
 abbrev pub invariant-loop-sent : goal.invariant-loop-sent
 invariant-loop-sent g l = record {
-  room : length l.room ≡ 1534;
   plan : l.talker.plan ≡ l.fn.talker.plan;
   input : l.talker.input ≡ l.fn.talker.input;
   put : (begun : ShelfState) (name : List ℕ) →
