@@ -3,7 +3,9 @@ use Rattle.std.proofs.Common.{sym, ◌≡◌, inl, inr, pos, ℕ, zero, suc, ◌
 use Rattle.std.specs.Prelude.{IsSome, slice_get}
 use Rattle.std.proofs.lemmas.Bool.{cases_lt}
 use Rattle.pcap_frames.specs.Capture.{HasSpelling}
+use Rattle.avtp_base.specs.Layout.{spelling}
 use Rattle.aaf_format.specs.declared.aaf.AafFormat.{AafFormat}
+use Rattle.aaf_format.specs.Aaf.{aaf_layout}
 use Rattle.iec61883_format.specs.Iec.{syt_interval}
 use Rattle.stream_journal.specs.Journal.{head_of}
 use Rattle.talker.specs.declared.audio.AudioStream.{AudioStream}
@@ -20,6 +22,7 @@ use Rattle.crf_format.specs.Crf.{Crf}
 use Rattle.talker.specs.Faults.{arrives_too_late}
 use Rattle.talker.specs.Frames.{SentFrame, capture_style, clock_bytes, clock_frame_of, frame_of, frames, left_of, numbered_clock, numbered_frames, packet_bytes, record_of, stream_frames}
 use Rattle.talker.specs.Journal.{Stream, clock_arrival_by, clock_packet_by, journal, samples_in, stamps_last, stream_by, stream_of, video_stream}
+use Rattle.talker.specs.Packets.{aaf_packet}
 use Rattle.talker.specs.Plan.{IsAudioKind, IsAudioPlan, IsPlan, IsPlanOf, IsVideoPlan, fdf_of, rate_code}
 use Rattle.talker.specs.Talking.{IsAudio, IsClockFirst, IsClockIn, IsClockOf, IsFormat, IsSource, Talking, audio_in, audio_of, clocks_of, gone_on, headers_by, headers_of, input_in, most_input, packets_of, plan_in, samples_size, stream_in as stream_in_source}
 use Rattle.talker.specs.Units.{sent_units}
@@ -39,14 +42,14 @@ use Rattle.talker.proofs.VideoRules.{sent_are}
 -- ---- a plan, with its format
 
 format_by : (format : Format) (plan : TalkPlan) → IsAudioPlan plan → IsFormat format plan → IsFormatOf plan (audio_in format plan) (headers_by format)
-format_by (OfPcm f) plan p is = pcm_format f plan p is
+format_by (OfPcm f) plan p is = pcm_format f plan p is.format
 format_by (OfAm824 f) plan p is = am824_format f plan p is
 
 pub format_of : (s : AudioStream) → IsAudio s → IsFormatOf s.plan (audio_of s) (headers_of s)
 format_of s is = format_by s.format s.plan is.plan is.format
 
 audio_is : (format : Format) (plan : TalkPlan) → IsFormat format plan → audio_by plan.kind plan ≡ Some (audio_in format plan)
-audio_is (OfPcm f) plan is = rw is.kind refl
+audio_is (OfPcm f) plan is = rw is.format.kind refl
 audio_is (OfAm824 f) plan is = rw is.kind refl
 
 pub audio_found : (s : AudioStream) → IsAudio s → audio_by s.plan.kind s.plan ≡ Some (audio_of s)
@@ -64,8 +67,8 @@ pub record HasFormat (plan : TalkPlan) : Type 0 where
 pcm_by : (plan : TalkPlan) (format : AafFormat) (sparse : Bool) (code : Option ℕ) → IsAudioPlan plan → plan.kind ≡ Aaf format sparse → rate_code plan.rate ≡ code → IsSome code → HasFormat plan
 pcm_by plan format sparse None p kind e some = absurd cc
 pcm_by plan format sparse (Some code) p kind e some = record {
-  stream = record { plan = plan; format = OfPcm (record { format = format; sparse = sparse; code = code }) };
-  audio = record { plan = p; format = record { kind = kind; code = e } };
+  stream = record { plan = plan; format = OfPcm (record { format = format; sparse = sparse; code = code; header = spelling aaf_layout (aaf_packet format sparse plan 0 []) }) };
+  audio = record { plan = p; format = record { format = record { kind = kind; code = e }; header = refl } };
   plan_is = refl;
 }
 

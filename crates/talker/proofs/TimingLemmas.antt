@@ -74,6 +74,11 @@ in_time plan n i p events within =
     let start : nat_abs plan.start ≤ 4000000000000000000 = omega (arith, ints) in
     omega (arith, in_its.parts, p.count)
 
+-- no packet is sent before instant 0: its lead is within its first instant
+pub lead_within : (plan : TalkPlan) (n : ℕ) → arrival_of plan n + plan.lead ≡ first_instant plan n
+unfolding nominal_instant
+lead_within plan n = omega arith
+
 -- ---- the next packet
 
 -- x, y and z, w are times of parts of n and of n + count events

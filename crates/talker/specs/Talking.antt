@@ -1,6 +1,8 @@
 -- What a talker stands for.
-use Rattle.std.specs.Prelude.{◌≡◌, ◌⊎◌, ℕ, ◌+◌, ◌*◌, ◌<◌, ◌≤◌, min, List, length, map, Option, Some, None}
+use Rattle.std.specs.Prelude.{◌≡◌, ◌⊎◌, ℕ, ◌+◌, ◌*◌, ◌<◌, ◌≤◌, min, List, [], length, map, Option, Some, None}
 use Rattle.std.specs.List.{range_with_len}
+use Rattle.avtp_base.specs.Layout.{spelling}
+use Rattle.aaf_format.specs.Aaf.{aaf_layout}
 use Rattle.cvf_format.specs.AnnexB.{nal_units}
 use Rattle.cvf_format.specs.Cvf.{Cvf}
 use Rattle.iec61883_format.specs.Iec.{syt_interval}
@@ -22,6 +24,7 @@ use Rattle.talker.specs.Audio.{Audio, am824, pcm}
 use Rattle.talker.specs.Fragments.{Place, all_packets, packets_before, packets_for, place_of}
 use Rattle.talker.specs.Frames.{frames}
 use Rattle.talker.specs.Journal.{Stream, packets_of as audio_packets, stream_of}
+use Rattle.talker.specs.Packets.{aaf_packet}
 use Rattle.talker.specs.Plan.{IsAudioPlan, IsVideoPlan, fdf_of, rate_code}
 use Rattle.talker.specs.Units.{units_fault}
 use Rattle.talker.specs.Video.{cvf_packet}
@@ -43,6 +46,11 @@ pub record IsPcm (pcm : PcmFormat) (plan : TalkPlan) : Type 0 where
   pub kind : plan.kind ≡ Aaf pcm.format pcm.sparse
   pub code : rate_code plan.rate ≡ Some pcm.code
 
+-- of PCM also the header of packet 0, over which those of all packets are written
+pub record IsPcmStream (pcm : PcmFormat) (plan : TalkPlan) : Type 0 where
+  pub format : IsPcm pcm plan
+  pub header : pcm.header ≡ spelling aaf_layout (aaf_packet pcm.format pcm.sparse plan 0 [])
+
 -- or AM824, with that code and the interval
 pub record IsAm824 (am824 : Am824Format) (plan : TalkPlan) : Type 0 where
   pub kind : plan.kind ≡ Am824
@@ -50,7 +58,7 @@ pub record IsAm824 (am824 : Am824Format) (plan : TalkPlan) : Type 0 where
   pub interval : syt_interval am824.fdf ≡ Some am824.interval
 
 abbrev pub IsFormat : Format → TalkPlan → Type 0
-IsFormat (OfPcm p) plan = IsPcm p plan
+IsFormat (OfPcm p) plan = IsPcmStream p plan
 IsFormat (OfAm824 a) plan = IsAm824 a plan
 
 -- a plan that is talked, with its format

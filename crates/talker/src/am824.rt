@@ -130,6 +130,7 @@ impl Am824Format {
     }
 
     /// Writes packet `n`, with its data blocks.
+    #[inline(never)]
     pub fn write(&self, plan: &TalkPlan, out: &mut [u8], n: u64, blocks: &[u8])
         requires plan { IsAudioPlan plan.now }
         requires format { IsAm824 self.now plan.now }

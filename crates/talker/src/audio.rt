@@ -140,44 +140,50 @@ impl AudioStream {
         }
     }
 
-    /// Writes packet `n`, with these samples.
-    fn write_packet(&self, out: &mut [u8], n: u64, samples: &[u8])
+    /// Writes packet `n`, which is sent at this arrival, with these samples.
+    #[inline(always)]
+    fn write_packet(&self, out: &mut [u8], n: u64, arrival: i64, samples: &[u8])
         requires stream { IsAudio self.now }
         requires frames { n * self.now.plan.count ≤ 2 ^ 28 }
+        requires arrival { arrival ≡ pos (arrival_of self.now.plan n) }
         requires whole { length samples.now ≡ samples_size self.now }
         requires room { length out.old + 18 ≡ headers_of self.now + samples_size self.now }
         ensures { out.new ≡ spelling_of ((audio_of self.now).packet n samples.now) }
     {
         match self.format {
-            Format::Pcm(pcm) => pcm.write(&self.plan, out, n, samples),
+            Format::Pcm(pcm) => pcm.write(&self.plan, out, n, arrival, samples),
             Format::Am824(am824) => am824.write(&self.plan, out, n, samples),
         }
     }
 
-    /// Writes the frame of packet `n`, with these samples.
+    /// Writes the frame of packet `n`, which is sent at this arrival, with these samples.
     #[tactic(auto, unfolding(crate::specs::Frames::packet_bytes))]
-    fn write_samples(&self, out: &mut [u8], n: u64, samples: &[u8])
+    #[inline(always)]
+    fn write_samples(&self, out: &mut [u8], n: u64, arrival: i64, samples: &[u8])
         requires stream { IsAudio self.now }
         requires frames { n * self.now.plan.count ≤ 2 ^ 28 }
+        requires arrival { arrival ≡ pos (arrival_of self.now.plan n) }
         requires whole { length samples.now ≡ samples_size self.now }
         requires room { length out.old ≡ headers_of self.now + samples_size self.now }
         ensures { out.new ≡ packet_bytes ((audio_of self.now).packet n samples.now) }
     {
         write_ethernet(&mut out[..HEADER]);
-        self.write_packet(&mut out[HEADER..], n, samples);
+        self.write_packet(&mut out[HEADER..], n, arrival, samples);
     }
 
-    /// Writes the frame of the packet whose samples end the input, filled up with silence.
-    fn write_last(&self, out: &mut [u8], n: u64, rest: &[u8])
+    /// Writes the frame of the packet whose samples end the input, which is sent at this arrival, filled up with silence.
+    #[inline(never)]
+    fn write_last(&self, out: &mut [u8], n: u64, arrival: i64, rest: &[u8])
         requires stream { IsAudio self.now }
         requires frames { n * self.now.plan.count ≤ 2 ^ 28 }
+        requires arrival { arrival ≡ pos (arrival_of self.now.plan n) }
         requires part { length rest.now ≤ samples_size self.now }
         requires room { length out.old ≡ headers_of self.now + samples_size self.now }
         ensures { out.new ≡ packet_bytes ((audio_of self.now).packet n (filled_up (audio_of self.now).silence rest.now)) }
     {
         let mut filled = self.silence();
         filled[..rest.len()].copy_from_slice(rest);
-        self.write_samples(out, n, &filled[..self.samples_size()]);
+        self.write_samples(out, n, arrival, &filled[..self.samples_size()]);
     }
 
     /// The input from the samples of packet `n` on.
@@ -191,21 +197,23 @@ impl AudioStream {
         &input[n as usize * self.samples_size()..]
     }
 
-    /// Writes the frame of packet `n` of the input.
+    /// Writes the frame of packet `n` of the input, which is sent at this arrival.
     #[tactic(auto, using(crate::proofs::SampleLemmas::last_samples, crate::proofs::TalkLemmas::whole_of))]
-    pub fn write(&self, out: &mut [u8], input: &[u8], n: u64)
+    #[inline(always)]
+    pub fn write(&self, out: &mut [u8], input: &[u8], n: u64, arrival: i64)
         requires stream { IsAudio self.now }
         requires limit { length input.now ≤ most_input }
         requires number { n < packets_of self.now input.now }
+        requires arrival { arrival ≡ pos (arrival_of self.now.plan n) }
         requires room { length out.old ≡ headers_of self.now + samples_size self.now }
         ensures { out.new ≡ packet_bytes ((audio_of self.now).packet n (samples_in (audio_of self.now) self.now.plan input.now n)) }
     {
         let size = self.samples_size();
         let rest = self.samples_from(input, n);
         if rest.len() < size {
-            self.write_last(out, n, rest);
+            self.write_last(out, n, arrival, rest);
         } else {
-            self.write_samples(out, n, &rest[..size]);
+            self.write_samples(out, n, arrival, &rest[..size]);
         }
     }
 }

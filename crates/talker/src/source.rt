@@ -118,6 +118,7 @@ impl<'a> Source<'a> {
     }
 
     /// When packet `n` is sent, in nanoseconds of gPTP.
+    #[inline(always)]
     pub fn arrival(&self, n: u64) -> i64
         requires source { IsSource self.now }
         requires known { n < (stream_in self.now).journal.times.packets }
@@ -129,18 +130,20 @@ impl<'a> Source<'a> {
         }
     }
 
-    /// Writes the frame of packet `n` in front, and answers its length.
-    pub fn write(&self, out: &mut [u8], n: u64) -> usize
+    /// Writes the frame of packet `n`, which is sent at this arrival, in front, and answers its length.
+    #[inline(always)]
+    pub fn write(&self, out: &mut [u8], n: u64, arrival: i64) -> usize
         requires source { IsSource self.now }
         requires known { n < (stream_in self.now).journal.times.packets }
+        requires arrival { arrival ≡ pos ((stream_in self.now).arrival n) }
         requires room { length out.old ≡ room_of self.now }
         ensures bytes { take result out.new ≡ packet_bytes ((stream_in self.now).journal.packet n) }
         ensures bound { result ≤ room_of self.now }
     {
         match self {
             Source::Audio { stream, input } => {
-                stream.write(out, input, n);
-                stream.frame_limit()
+                stream.write(out, input, n, arrival);
+                out.len()
             }
             Source::Video(stream) => stream.write(out, n),
         }

@@ -110,6 +110,7 @@ impl<'a> Talker<'a> {
     }
 
     /// The frame of packet `n` of the stream, counted from 0; `n` is below `packets()`. It takes no memory.
+    #[inline(always)]
     pub fn packet(&mut self, n: u64) -> Sent<'_>
         requires { n < length (stream_frames self.old.plan self.old.input) }
         ensures frame { slice_get (stream_frames self.old.plan self.old.input) n ≡ Some (sent_frame result) }
@@ -117,9 +118,10 @@ impl<'a> Talker<'a> {
         ensures size { length result.bytes.now ≤ 1518 }
         ensures* after { sem 𝓛 (EndsAs self.entry (λ last. last ≡ self.old)) }
     {
-        let size = self.source.write(self.frame.as_mut_slice(), n);
+        let arrival = self.source.arrival(n);
+        let size = self.source.write(self.frame.as_mut_slice(), n, arrival);
         Sent {
-            arrival: self.source.arrival(n),
+            arrival,
             number: n,
             clock: false,
             bytes: &self.frame.as_slice()[..size],
@@ -127,6 +129,7 @@ impl<'a> Talker<'a> {
     }
 
     /// The frame of packet `m` of the clock. It takes no memory.
+    #[inline(never)]
     fn clock_packet(&mut self, m: u64) -> Sent<'_>
         requires { m < length (clock_frames self.old.plan self.old.input) }
         ensures frame { slice_get (clock_frames self.old.plan self.old.input) m ≡ Some (sent_frame result) }
@@ -148,6 +151,7 @@ impl<'a> Talker<'a> {
 
     /// The next of all frames, in the order in which they are sent: by arrival, those of the clock first. It takes no memory.
     /// `None` comes exactly where all frames were given.
+    #[inline(always)]
     pub fn next(&mut self) -> Option<Sent<'_>>
         ensures frame { option_map sent_frame result ≡ slice_get (frames self.old.plan self.old.input) self.old.given }
         ensures fits { IfSome result (λ sent. HasSpelling capture_style (record_of (sent_frame sent))) }

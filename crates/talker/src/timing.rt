@@ -58,7 +58,8 @@ impl TalkPlan {
         self.run(n) * u64::from(self.jump)
     }
 
-    /// How long so many sample frames take, in nanoseconds.
+    /// How long so many sample frames take, in nanoseconds. At multiples of 48 kHz one takes some thirds of a nanosecond: a
+    /// division by 3 is a multiplication, where one by a number that is not known beforehand takes ten times as long.
     #[tactic(auto, using(crate::proofs::RateLemmas::rate_from, crate::proofs::TimingLemmas::short_offset))]
     fn offset(&self, frames: u64) -> u64
         requires plan { IsAudioPlan self.now }
@@ -66,7 +67,12 @@ impl TalkPlan {
         ensures value { result ≡ nominal_offset_of self.now.rate frames }
         ensures bound { result ≤ frames * 125000 }
     {
-        frames * NANOSECONDS / u64::from(self.rate)
+        match self.rate {
+            48_000 => frames * 20_833 + frames / 3,
+            96_000 => frames * 10_416 + frames * 2 / 3,
+            192_000 => frames * 5_208 + frames / 3,
+            rate => frames * NANOSECONDS / u64::from(rate),
+        }
     }
 
     /// The instant of event 0 of the run of packet `n`, in nanoseconds of gPTP.
@@ -77,11 +83,12 @@ impl TalkPlan {
         ensures value { result ≡ run_start_of self.now (run_of self.now n) }
         ensures bound { result ≤ 2 ^ 63 }
     {
+        let start = self.start as u64 + u64::from(self.lead);
+        if self.restart.is_none() {
+            return start;
+        }
         let first = self.first_packet(n);
-        self.start as u64
-            + u64::from(self.lead)
-            + self.jumps(n)
-            + self.offset(first * u64::from(self.count))
+        start + self.jumps(n) + self.offset(first * u64::from(self.count))
     }
 
     /// The event of sample frame `i` of packet `n` in the packet's run.
@@ -150,6 +157,21 @@ impl TalkPlan {
         match self.crf {
             None => self.instant(n, i),
             Some(crf) => self.clocked_instant(&crf, n, i),
+        }
+    }
+
+    /// The instant with which the first sample frame of packet `n` is stamped, which is sent at this arrival, in nanoseconds of
+    /// gPTP.
+    #[tactic(auto, using(crate::proofs::TimingLemmas::lead_within))]
+    pub(crate) fn first_stamped_instant(&self, n: u64, arrival: i64) -> u64
+        requires plan { IsAudioPlan self.now }
+        requires frames { n * self.now.count ≤ 2 ^ 28 }
+        requires arrival { arrival ≡ pos (arrival_of self.now n) }
+        ensures { result ≡ stamped_instant_of self.now n 0 }
+    {
+        match self.crf {
+            None => arrival as u64 + u64::from(self.lead),
+            Some(crf) => self.clocked_instant(&crf, n, 0),
         }
     }
 

@@ -185,6 +185,7 @@ impl<'a> VideoStream<'a> {
     }
 
     /// When packet `n` is sent, in nanoseconds of gPTP.
+    #[inline(never)]
     pub fn arrival(&self, n: u64) -> i64
         requires video { IsVideo self.now }
         requires known { n < self.now.packets }
@@ -254,6 +255,7 @@ impl<'a> VideoStream<'a> {
 
     /// Writes the frame of packet `n` in front, and answers its length.
     #[tactic(auto, unfolding(crate::specs::Frames::packet_bytes))]
+    #[inline(never)]
     pub fn write(&self, out: &mut [u8], n: u64) -> usize
         requires video { IsVideo self.now }
         requires known { n < self.now.packets }

@@ -16,8 +16,8 @@ write-size-requires-clause-known c =
     let known = rw (← c.self.view_is) at c.requires in
     omega arith
 
-pub arrival-requires-clause-known : goal.arrival-requires-clause-known
-arrival-requires-clause-known c =
+pub arrival-arrival-requires-clause-known : goal.arrival-arrival-requires-clause-known
+arrival-arrival-requires-clause-known c =
     let count = count_of (stream_in c.self.inside.source) in
     let known = rw (← c.self.view_is) at c.requires in
     omega arith
@@ -30,11 +30,11 @@ returns c =
     let known = rw (← c.self.view_is) at c.requires in
     let below : c.args.n < packets_in s = omega arith in
     let sent = sent_as (plan_in source) s c.args.n (source_is source c.self.invariant.source) below in
-    let at : to_z w64 (of_z w64 c.arrival.result) ≡ pos (s.arrival c.args.n) = omega (arith, ints, sent.early) in
+    let at : to_z w64 (of_z w64 c.arrival-arrival.result) ≡ pos (s.arrival c.args.n) = omega (arith, ints, sent.early) in
     let kept : c.as_slice.result.now ≡ c.write-size.new.out = grind (arith, common_steps) in
     let size : ℕ = c.write-size.result in
     let made : take size c.as_slice.result.now ≡ packet_bytes (s.journal.packet c.args.n) = rw kept c.write-size.ensures.bytes in
-    let same : record { arrival = to_z w64 (of_z w64 c.arrival.result); number = c.args.n; clock = false; bytes = take size c.as_slice.result.now } ≡ frame_of s c.args.n = rw (at, made) refl in (
+    let same : record { arrival = to_z w64 (of_z w64 c.arrival-arrival.result); number = c.args.n; clock = false; bytes = take size c.as_slice.result.now } ≡ frame_of s c.args.n = rw (at, made) refl in (
       (refl, (λ _. tt), c.self.view_is),
       record {
         frame = rw (← c.self.view_is, same) sent.frame;
