@@ -65,6 +65,7 @@ impl Feed {
 
     /// Drops the record that is held, and reads on to the next. At `None` one is held now; else it answers how the reading
     /// ended. Once it has ended, each further call answers the same and reads nothing.
+    #[inline(never)]
     pub fn next<F: ReadSlots>(&mut self, shelf: &mut F) -> Option<End>
         requires { IsSome ((F.state shelf.old).slots (slot_of self.old)) }
         ensures { GivesNext (F.state shelf.old) (F.state shelf.new) self.old self.new result }
