@@ -100,18 +100,20 @@ impl Line {
         ensures len { length self.new ≡ length piece.now + length self.old }
     {
         let start = self.start - piece.len();
-        write_bytes(piece, &mut self.scratch[start..self.start]);
+        self.scratch[start..self.start].copy_from_slice(piece);
         self.start = start;
     }
 
-    /// Puts a text before the line.
+    /// Puts a text before the line. It is written fastest where the compiler knows it, as a label.
     #[inline(always)]
     pub fn prepend(&mut self, piece: &str)
         requires { length piece.now + length self.old ≤ LONGEST }
         ensures text { self.new ≡ piece.now ++ self.old }
         ensures len { length self.new ≡ length piece.now + length self.old }
     {
-        self.prepend_bytes(piece.as_bytes());
+        let start = self.start - piece.len();
+        write_bytes(piece.as_bytes(), &mut self.scratch[start..self.start]);
+        self.start = start;
     }
 
     #[inline(always)]
@@ -208,7 +210,7 @@ impl Line {
             self.prepend(" short");
         }
         self.prepend_u64(" at ", refusal.at);
-        self.prepend(refusal.field.name());
+        self.prepend_bytes(refusal.field.name().as_bytes());
     }
     /// Where in its memory so many bytes of the line begin that stand before its last `behind` ones.
     #[inline(always)]
