@@ -61,25 +61,3 @@ pub fn read_aaf(pdu: &[u8]) -> Result<(&'static str, u32, u32), Refusal> {
     }
     Ok((format, channels * width, rate))
 }
-
-/// The same of a packet of any subtype that streams have. The captures that are measured have none but packets of AAF, whose
-/// subtype may be damaged.
-#[inline(always)]
-pub fn read_packet(pdu: &[u8]) -> Result<(&'static str, u32, u32), Refusal> {
-    match pdu[0] {
-        2 => read_aaf(pdu),
-        subtype => Err(refusal_of_another(subtype, pdu)),
-    }
-}
-
-/// Why a packet of AAF is refused whose subtype became another: it has another tag than those of IEC 61883, and another format
-/// than those of H.264.
-#[cold]
-fn refusal_of_another(subtype: u8, pdu: &[u8]) -> Refusal {
-    let (field, at) = if subtype == 0 {
-        ("tag", 22)
-    } else {
-        ("cvf_format", 16)
-    };
-    check_header(pdu).err().unwrap_or(Refusal(field, at, false))
-}

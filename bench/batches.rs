@@ -1,8 +1,9 @@
 //! What of the packets of a stream is presented, at which instants, and why the rest is not, as tightly as an unverified program
 //! may: the batches that wait for their instants are kept in their order.
 
-use crate::aaf::{HEADER, read_packet};
+use crate::aaf::HEADER;
 use crate::pcap::u16_at;
+use crate::stream::read_packet;
 use std::collections::VecDeque;
 
 /// The most batches that wait, and the most bytes that they have together.

@@ -1,8 +1,9 @@
 //! The items of a stream's packets, by the design of `listener`, without contracts: for its yardstick and that of `listen`.
 
-use crate::aaf::{HEADER, read_packet};
+use crate::aaf::HEADER;
 use crate::pcap::u16_at;
 use crate::schedule::{Bad, HeadRule, Item, Packet, Reason};
+use crate::stream::read_packet;
 
 /// The item of a packet, with its samples copied.
 #[inline(always)]

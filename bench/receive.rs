@@ -7,7 +7,7 @@ use crate::pcap::{Records, Refusal};
 use crate::present::{Counts, Presenter, Samples, Step};
 use crate::stream::packet_of_stream;
 use std::fs::File;
-use std::io;
+use std::io::{self, Write};
 
 /// An item as a listener shows it.
 pub enum Shown {
@@ -37,7 +37,7 @@ const STEPS: [Step; RATES.len()] = {
 
 impl Shown {
     #[inline(always)]
-    pub fn present_to(&self, presenter: &mut Presenter) -> io::Result<()> {
+    pub fn present_to<W: Write>(&self, presenter: &mut Presenter<W>) -> io::Result<()> {
         match self {
             Shown::Present(batch) => presenter.samples(&Samples {
                 frame: batch.frame,

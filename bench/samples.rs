@@ -58,7 +58,7 @@ fn main() -> io::Result<()> {
     let start = Instant::now();
     for _ in 0..times {
         for shown in &batches {
-            presenter.present(shown)?;
+            shown.present_to(&mut presenter)?;
         }
     }
     let Counter(bytes) = presenter.flushed()?;
