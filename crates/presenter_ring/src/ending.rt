@@ -1,11 +1,10 @@
 //! How a receiver ends.
 
-ghost use Rattle.std.specs.Prelude.{◌≡◌, [], ◌∷◌, None, Some, IfOk, IfErr};
-ghost use Rattle.presenter_ring.specs.Pulls.{items_of, ending_of, pull_of};
+ghost use Rattle.std.specs.Prelude.{◌≡◌, option_map};
+ghost use Rattle.presenter_ring.specs.Pulls.{ending_of, pull_of};
 
 use crate::receiver::Pull;
 use avtp_base::Refusal;
-use sample_schedule::Shown;
 
 /// Why a receiver gives no more items.
 #[derive(Clone, Copy, Debug)]
@@ -17,18 +16,17 @@ pub enum Ending {
     Memory,
 }
 
-/// The item of an answer, or why there is none.
-pub fn item_or_ending(pull: Pull) -> Result<Shown, Ending>
-    ensures item { IfOk result (λ shown. (items_of pull ≡ shown ∷ []) × (ending_of pull ≡ None)) }
-    ensures ending { IfErr result (λ ending. (items_of pull ≡ []) × (ending_of pull ≡ Some (pull_of ending))) }
+/// Why a receiver gives no more items, where its answer is no item.
+pub fn end_of(pull: Pull) -> Option<Ending>
+    ensures { option_map pull_of result ≡ ending_of pull }
 {
     match pull {
-        Pull::Item(shown) => Ok(shown),
-        Pull::Done => Err(Ending::Done),
-        Pull::Refused(refusal) => Err(Ending::Refused(refusal)),
-        Pull::ReadFault => Err(Ending::ReadFault),
-        Pull::Limit => Err(Ending::Limit),
-        Pull::Memory => Err(Ending::Memory),
+        Pull::Item(_) => None,
+        Pull::Done => Some(Ending::Done),
+        Pull::Refused(refusal) => Some(Ending::Refused(refusal)),
+        Pull::ReadFault => Some(Ending::ReadFault),
+        Pull::Limit => Some(Ending::Limit),
+        Pull::Memory => Some(Ending::Memory),
     }
 }
 

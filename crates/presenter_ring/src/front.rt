@@ -4,9 +4,9 @@ ghost use Rattle.std.specs.Prelude.{◌≡◌, ◌+◌, ◌≤◌, length};
 ghost use Rattle.std.specs.Option.{option_to_list};
 ghost use Rattle.rtrb.specs.Ring.{sent};
 
-use crate::ending::{Ending, item_or_ending};
+use crate::ending::{Ending, end_of};
 use crate::gate::{Gate, Side};
-use crate::receiver::Receiver;
+use crate::receiver::{Pull, Receiver};
 use rtrb::{Producer, PushError};
 use sample_schedule::Shown;
 
@@ -37,19 +37,19 @@ impl Front {
         ensures takes { Takes R.gave R.left R.ended receiver.old receiver.new self.old self.new result }
         ensures none { IfNone result (IsSome (ended_of self.new)) }
     {
-        if let Some(shown) = self.hand.take() {
-            return Some(shown);
+        if self.hand.is_some() {
+            return self.hand.take();
         }
         if self.ended.is_some() {
             return None;
         }
-        match item_or_ending(receiver.next()) {
-            Ok(shown) => {
+        match receiver.next() {
+            Pull::Item(shown) => {
                 self.given += 1;
                 Some(shown)
             }
-            Err(ending) => {
-                self.ended = Some(ending);
+            last => {
+                self.ended = end_of(last);
                 None
             }
         }
