@@ -90,11 +90,11 @@ fn main() -> io::Result<()> {
     let mut ratios = vec![
         (
             nothing_peer.seconds / nothing.seconds,
-            "of the yardstick's throughput, to nothing; at least 0.8 is aimed at",
+            "of the yardstick's throughput, to nothing; at least 0.95 is aimed at",
         ),
         (
             file_peer.seconds / file.seconds,
-            "of the yardstick's throughput, to a file; at least 0.8 is aimed at",
+            "of the yardstick's throughput, to a file; at least 0.95 is aimed at",
         ),
     ];
     if !tshark.is_empty() {
