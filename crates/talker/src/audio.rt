@@ -16,8 +16,6 @@ use crate::am824::{Am824Format, BLOCKS_HEADER, block_size, silent_quadlets};
 use crate::fault::TalkFault;
 use crate::pcm::{PCM_HEADER, PcmFormat};
 use crate::plan::{TalkKind, TalkPlan};
-use avtp_header::ETHERTYPE;
-use pcap_frames::{FrameView, Tag, write_frame};
 
 /// The format of an audio stream.
 #[derive(Clone, Copy, Debug)]
@@ -218,24 +216,16 @@ impl AudioStream {
     }
 }
 
+/// The Ethernet header of every frame: to 91:e0:f0:00:fe:00, from 02:00:00:00:00:01, tagged with priority 3 and VLAN 2, and
+/// with the EtherType of AVTP.
+const ETHERNET: [u8; HEADER] =
+    *b"\x91\xe0\xf0\x00\xfe\x00\x02\x00\x00\x00\x00\x01\x81\x00\x60\x02\x22\xf0";
+
 /// Writes the Ethernet header of every frame.
+#[inline(always)]
 pub(crate) fn write_ethernet(out: &mut [u8])
     requires { length out.old ≡ 18 }
     ensures { out.new ≡ spelling (frame_layout true) (ethernet []) }
 {
-    let header = FrameView {
-        dst: 0x91e0_f000_fe00,
-        src: 0x0200_0000_0001,
-        tag: Some(Tag {
-            pcp: 3,
-            dei: false,
-            vid: 2,
-        }),
-        ethertype: ETHERTYPE,
-        start: HEADER,
-        payload: &[],
-    };
-    let Ok(_) = write_frame(out, &header) else {
-        unreachable!()
-    };
+    out.copy_from_slice(&ETHERNET);
 }
