@@ -18,3 +18,4 @@ pub mod Layout
 pub mod Room
 pub mod QuietShelf
 pub mod QuietSink
+pub mod Waiting

@@ -1,6 +1,6 @@
 //! Bytes that wait to be written.
 
-ghost use Rattle.std.specs.Prelude.{◌≡◌, ◌+◌, ◌≤◌, ◌++◌, [], length, drop, IfOk};
+ghost use Rattle.std.specs.Prelude.{◌≡◌, ◌+◌, ◌≤◌, ◌++◌, [], length, take, drop, IfOk};
 
 use crate::failed::NoMemory;
 use std::alloc::Global;
@@ -24,6 +24,9 @@ impl Model for Buffer {
 }
 
 impl Buffer {
+    ghost use Rattle.std.specs.Borrow.{sem};
+    ghost use Rattle.avtp_base.specs.Waiting.{LendsWaiting};
+
     /// The most bytes that wait.
     pub const ROOM: usize = 65_536;
 
@@ -54,11 +57,35 @@ impl Buffer {
         };
     }
 
+    /// Adds the first `len` of these bytes at the end. There must be room for all of them, since all are moved: where the
+    /// compiler knows how many they are, that is done in place and without a call.
+    #[inline(always)]
+    pub fn push_first(&mut self, bytes: &[u8], len: usize)
+        requires some { len ≤ length bytes.now }
+        requires room { length self.old + length bytes.now ≤ Self.ROOM }
+        ensures { self.new ≡ self.old ++ take len bytes.now }
+    {
+        let end = self.bytes.len() + len;
+        let Ok(()) = self.bytes.extend_from_slice(bytes) else {
+            unreachable!()
+        };
+        self.bytes.truncate(end);
+    }
+
     /// The bytes that wait.
     pub fn waiting(&self) -> &[u8]
         ensures { result.now ≡ self.now }
     {
         self.bytes.as_slice()
+    }
+
+    /// The bytes that wait, which may be written over.
+    #[inline(always)]
+    pub fn waiting_mut(&mut self) -> &mut [u8]
+        ensures* writes_back { sem 𝓛 (LendsWaiting self.entry result) }
+        ensures value { result.now ≡ self.old }
+    {
+        self.bytes.as_mut_slice()
     }
 
     /// Drops so many bytes from the front, which were written.

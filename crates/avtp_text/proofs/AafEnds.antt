@@ -1,5 +1,5 @@
 -- The end of the line of an AAF packet.
-use Rattle.std.proofs.Common.{◌≡◌, ℕ, ◌-◌, Bool, true, false, ◌&&◌, List, ◌++◌, length, drop, codes, decimal, unwrap_or, refl, sym, subst, arith, append_assoc, length-append}
+use Rattle.std.proofs.Common.{◌≡◌, ℕ, ◌-◌, List, ◌++◌, length, drop, codes, decimal, unwrap_or, subst, arith, append_assoc, length-append}
 use Rattle.std.proofs.Math.Seq.{drop-append_seam}
 use Rattle.aaf_format.specs.Aaf.{Aaf, rate_of}
 use Rattle.avtp_text.specs.AafLines.{IsEnd, aaf_start, end_of}

@@ -9,6 +9,9 @@ digits_of_u64 n h = length-decimal-le 20 n (omega arith) (omega arith) h
 pub digits_of_u32 : (n : ℕ) → n < 2 ^ 32 → length (decimal n) ≤ 10
 digits_of_u32 n h = length-decimal-le 10 n (omega arith) (omega arith) (omega arith)
 
+pub one_digit : (n : ℕ) → n < 10 → length (decimal n) ≡ 1
+one_digit n h = length_one n h
+
 pub length_three : (n : ℕ) → 100 ≤ n → n < 1000 → length (decimal n) ≡ 3
 length_three n lo hi = let one = length_one (n / 100) (omega arith) in omega (arith, one, length_pair n lo (omega arith))
 

@@ -9,6 +9,7 @@ ghost use Rattle.avtp_text.specs.Written.{written, Grows, Prints};
 
 use crate::aaf_line::AafLine;
 use crate::line::LONGEST;
+use crate::sample_line::SampleLine;
 use aaf_format::AafView;
 use avtp_base::{Buffer, Failed, NoMemory, Output};
 use std::alloc::Global;
@@ -25,8 +26,9 @@ pub const ROOM: usize = Buffer::ROOM;
 /// a failure the same call may be made again.
 #[derive(Drop)]
 pub struct Text {
-    buffer: Buffer,
+    pub(crate) buffer: Buffer,
     aaf: AafLine,
+    pub(crate) sample: SampleLine,
 }
 
 impl Model for Text {
@@ -56,6 +58,44 @@ fn write_out<S: Output>(out: &mut S, bytes: &[u8]) -> usize
     taken
 }
 
+/// Writes all that waits to the sink. Where the sink fails, what it has not taken still waits.
+#[tactic(auto, using(crate::proofs::Moved::written_moved, crate::proofs::Growth::grows_by))]
+#[inline(never)]
+fn flush<S: Output>(buffer: &mut Buffer, out: &mut S) -> Result<(), Failed>
+    ensures written { Keeps (written (S.state out.old).held buffer.old) (written (S.state out.new).held buffer.new) }
+    ensures none_waits { OnOk result (buffer.new ≡ []) }
+    ensures grows { Grows (S.state out.old).held (S.state out.new).held }
+    ensures counted { IsCounted (S.state out.old).faults (S.state out.new).faults result }
+{
+    let waiting = buffer.waiting().len();
+    let taken = write_out(out, buffer.waiting());
+    buffer.drop_front(taken);
+    if taken < waiting {
+        return Err(Failed);
+    }
+    Ok(())
+}
+
+/// Makes room for a piece of so many bytes.
+#[tactic(auto, using(crate::proofs::Growth::grows_none))]
+#[inline(always)]
+pub(crate) fn make_room<S: Output>(
+    buffer: &mut Buffer,
+    out: &mut S,
+    len: usize,
+) -> Result<(), Failed>
+    requires { len ≤ ROOM }
+    ensures written { Keeps (written (S.state out.old).held buffer.old) (written (S.state out.new).held buffer.new) }
+    ensures room { OnOk result (length buffer.new + len ≤ ROOM) }
+    ensures grows { Grows (S.state out.old).held (S.state out.new).held }
+    ensures counted { IsCounted (S.state out.old).faults (S.state out.new).faults result }
+{
+    if buffer.room() < len {
+        return flush(buffer, out);
+    }
+    Ok(())
+}
+
 impl Text {
     /// No text yet. Reserves all the memory that text will take.
     pub fn new(alloc: Global) -> Result<Self, NoMemory>
@@ -65,29 +105,21 @@ impl Text {
         Ok(Text {
             buffer,
             aaf: AafLine::new(),
+            sample: SampleLine::new(),
         })
     }
 
     /// Writes all that waits to the sink. Where the sink fails, what it has not taken still waits.
-    #[tactic(auto, using(crate::proofs::Moved::written_moved, crate::proofs::Growth::grows_by))]
-    #[inline(never)]
     pub fn flush<S: Output>(&mut self, out: &mut S) -> Result<(), Failed>
         ensures written { Keeps (written (S.state out.old).held self.old) (written (S.state out.new).held self.new) }
         ensures none_waits { OnOk result (self.new ≡ []) }
         ensures grows { Grows (S.state out.old).held (S.state out.new).held }
         ensures counted { IsCounted (S.state out.old).faults (S.state out.new).faults result }
     {
-        let waiting = self.buffer.waiting().len();
-        let taken = write_out(out, self.buffer.waiting());
-        self.buffer.drop_front(taken);
-        if taken < waiting {
-            return Err(Failed);
-        }
-        Ok(())
+        flush(&mut self.buffer, out)
     }
 
     /// Makes room for a piece of so many bytes.
-    #[tactic(auto, using(crate::proofs::Growth::grows_none))]
     #[inline(always)]
     pub(crate) fn make_room<S: Output>(&mut self, out: &mut S, len: usize) -> Result<(), Failed>
         requires { len ≤ ROOM }
@@ -96,10 +128,7 @@ impl Text {
         ensures grows { Grows (S.state out.old).held (S.state out.new).held }
         ensures counted { IsCounted (S.state out.old).faults (S.state out.new).faults result }
     {
-        if self.buffer.room() < len {
-            return self.flush(out);
-        }
-        Ok(())
+        make_room(&mut self.buffer, out, len)
     }
 
     /// Adds a piece of text. There must be room for it.

@@ -8,6 +8,7 @@ mod instants;
 mod line;
 mod listen;
 mod notices;
+mod overwrite;
 mod pairs;
 mod sample_line;
 mod show;

@@ -4,10 +4,8 @@ ghost use Rattle.std.specs.Prelude.{◌≡◌, ◌+◌, ◌-◌, ◌*◌, ◌<�
 ghost use Rattle.std.specs.Fmt.{signed_decimal};
 ghost use Rattle.hex.specs.Hex.{encode_lower};
 ghost use Rattle.avtp_text.specs.Pieces.{newline, id_text, flag_text, refusal_text};
-ghost use Rattle.avtp_text.specs.Overwrites.{Overwrites};
-ghost use Rattle.avtp_text.specs.Pairs.{eight_digits};
 
-use crate::pairs::{write_bytes, write_eight_digits, write_hex};
+use crate::pairs::{write_bytes, write_hex};
 use avtp_base::Refusal;
 use std::marker::Model;
 
@@ -211,44 +209,5 @@ impl Line {
         }
         self.prepend_u64(" at ", refusal.at);
         self.prepend_bytes(refusal.field.name().as_bytes());
-    }
-    /// Where in its memory so many bytes of the line begin that stand before its last `behind` ones.
-    #[inline(always)]
-    fn place_of(&self, len: usize, behind: usize) -> usize
-        requires { len + behind ≤ length self.now }
-        ensures { result + len + behind ≡ LONGEST }
-    {
-        self.start + (self.len() - behind - len)
-    }
-
-    /// Writes the last eight digits of a number over eight bytes of the line, before its last `behind` ones.
-    #[inline(always)]
-    pub fn overwrite_eight_digits(&mut self, number: u32, behind: usize)
-        requires number { number < 100000000 }
-        requires room { 8 + behind ≤ length self.old }
-        ensures { Overwrites self.old self.new (eight_digits number) behind }
-    {
-        let place = self.place_of(8, behind);
-        write_eight_digits(number, &mut self.scratch[place..place + 8]);
-    }
-
-    /// Writes a number's digits over as many bytes of the line, before its last `behind` ones.
-    #[inline(always)]
-    pub fn overwrite_decimal(&mut self, number: u64, behind: usize)
-        requires { length (decimal number) + behind ≤ length self.old }
-        ensures { Overwrites self.old self.new (decimal number) behind }
-    {
-        itoa::write_digits(number, &mut self.scratch, LONGEST - behind);
-    }
-
-    /// Writes the hexadecimal digits of bytes over as many bytes of the line, before its last `behind` ones.
-    #[inline(always)]
-    pub fn overwrite_hex(&mut self, bytes: &[u8], behind: usize)
-        requires { 2 * length bytes.now + behind ≤ length self.old }
-        ensures { Overwrites self.old self.new (encode_lower bytes.now) behind }
-    {
-        let len = 2 * bytes.len();
-        let place = self.place_of(len, behind);
-        write_hex(bytes, &mut self.scratch[place..place + len]);
     }
 }

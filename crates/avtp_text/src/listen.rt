@@ -3,16 +3,17 @@
 ghost use Rattle.std.specs.Prelude.{◌≡◌, ◌+◌, ◌*◌, ◌/◌, ◌<◌, ◌≤◌, ◌++◌, length};
 ghost use Rattle.hex.specs.Hex.{encode_lower};
 ghost use Rattle.avtp_text.specs.Listen.{batch_lines, capture_line, end_listen_line, flag_line, list_lines, reason_text, sample_bytes, sample_line, due_text, place_text, shown_lines};
+ghost use Rattle.time_unfold.specs.Time.{IsInstant};
 ghost use Rattle.avtp_text.specs.Instants.{IsInstantOf};
 ghost use Rattle.avtp_text.specs.Pieces.{newline};
-ghost use Rattle.avtp_text.specs.SampleLines.{KnowsGaps};
+ghost use Rattle.avtp_text.specs.SampleLines.{packet_of};
 ghost use Rattle.avtp_text.specs.Written.{Prints, PrintsPart};
 
-use crate::buffer::{ROOM, Text};
+use crate::buffer::{ROOM, Text, make_room};
 use crate::instants::Instant;
 use crate::line::{LONGEST, Line};
 use crate::sample_line::{SHORT, SampleLine, prepend_place};
-use avtp_base::{Failed, Output};
+use avtp_base::{Buffer, Failed, Output};
 use listener::Counts;
 use sample_schedule::{Batch, Reason, Shown};
 
@@ -53,6 +54,78 @@ fn prepend_reason(line: &mut Line, reason: Reason)
         Reason::Broken => line.prepend("broken"),
         Reason::Long => line.prepend("long"),
     }
+}
+
+/// Adds the line of a sample to a buffer.
+#[inline(always)]
+fn print_sample<S: Output>(
+    buffer: &mut Buffer,
+    line: &mut SampleLine,
+    out: &mut S,
+    instant: i64,
+    j: u32,
+    bytes: &[u8],
+) -> Result<(), Failed>
+    requires short { length bytes.now ≤ SHORT }
+    requires size { length bytes.now ≡ line.old.size }
+    ensures prints { Prints (S.state out.old) (S.state out.new) buffer.old buffer.new result (due_text instant line.old.frame ++ place_text line.old.seq j ++ encode_lower bytes.now ++ newline) }
+    ensures packet { line.new ≡ line.old }
+{
+    make_room(buffer, out, LONGEST)?;
+    line.add_to(buffer, instant, j, bytes);
+    Ok(())
+}
+
+/// Adds a sample of a batch to a buffer, by the line of the batch's packet.
+#[inline(always)]
+fn short_sample<S: Output>(
+    buffer: &mut Buffer,
+    line: &mut SampleLine,
+    out: &mut S,
+    batch: &Batch,
+    instant: Instant,
+    bytes: &[u8],
+) -> Result<(), Failed>
+    requires short { length bytes.now ≤ SHORT }
+    requires inside { instant.j < batch.now.count }
+    requires bytes { bytes.now ≡ sample_bytes batch.now instant.j }
+    requires instant { IsInstantOf instant batch.now }
+    requires timely { IsInstant instant.nanoseconds }
+    requires packet { line.old ≡ packet_of batch.now (length bytes.now) }
+    ensures prints { PrintsPart (S.state out.old) (S.state out.new) buffer.old buffer.new result (sample_line batch.now instant.j) }
+    ensures packet { line.new ≡ line.old }
+{
+    print_sample(buffer, line, out, instant.nanoseconds, instant.j, bytes)
+}
+
+/// Adds the samples of a batch to a buffer, each of which has so few bytes that its line fits a [`Line`].
+fn short_samples<S: Output>(
+    buffer: &mut Buffer,
+    line: &mut SampleLine,
+    out: &mut S,
+    batch: &Batch,
+    size: usize,
+) -> Result<(), Failed>
+    requires short { size ≤ SHORT }
+    requires size { size ≡ length batch.now.bytes / batch.now.count }
+    ensures { PrintsPart (S.state out.old) (S.state out.new) buffer.old buffer.new result (batch_lines batch.now) }
+{
+    let bytes = batch.bytes.as_slice();
+    line.turn_to(batch.frame, batch.seq, size);
+    let mut instant = Instant::first(batch);
+    for j in 0..batch.count {
+        let start = j as usize * size;
+        short_sample(
+            buffer,
+            line,
+            out,
+            batch,
+            instant,
+            &bytes[start..start + size],
+        )?;
+        instant.next(batch);
+    }
+    Ok(())
 }
 
 impl Text {
@@ -122,56 +195,6 @@ impl Text {
         self.print(out, line.as_slice())
     }
 
-    /// Prints a sample of a batch in one piece. Any line that stands there already is that of another sample of the batch.
-    #[inline(always)]
-    fn short_sample<S: Output>(
-        &mut self,
-        out: &mut S,
-        line: &mut SampleLine,
-        batch: &Batch,
-        instant: Instant,
-        bytes: &[u8],
-    ) -> Result<(), Failed>
-        requires short { length bytes.now ≤ SHORT }
-        requires inside { instant.j < batch.now.count }
-        requires bytes { bytes.now ≡ sample_bytes batch.now instant.j }
-        requires instant { IsInstantOf instant batch.now }
-        requires gaps { KnowsGaps line.old batch.now.frame batch.now.seq (length bytes.now) }
-        ensures prints { PrintsPart (S.state out.old) (S.state out.new) self.old self.new result (sample_line batch.now instant.j) }
-        ensures gaps { KnowsGaps line.new batch.now.frame batch.now.seq (length bytes.now) }
-    {
-        line.write(
-            instant.nanoseconds,
-            batch.frame,
-            batch.seq,
-            instant.j,
-            bytes,
-        );
-        self.print(out, line.as_slice())
-    }
-
-    /// Prints the samples of a batch, each of which has so few bytes that its line fits a [`Line`].
-    fn short_samples<S: Output>(
-        &mut self,
-        out: &mut S,
-        batch: &Batch,
-        size: usize,
-    ) -> Result<(), Failed>
-        requires short { size ≤ SHORT }
-        requires size { size ≡ length batch.now.bytes / batch.now.count }
-        ensures { PrintsPart (S.state out.old) (S.state out.new) self.old self.new result (batch_lines batch.now) }
-    {
-        let bytes = batch.bytes.as_slice();
-        let mut line = SampleLine::new();
-        let mut instant = Instant::first(batch);
-        for j in 0..batch.count {
-            let start = j as usize * size;
-            self.short_sample(out, &mut line, batch, instant, &bytes[start..start + size])?;
-            instant.next(batch);
-        }
-        Ok(())
-    }
-
     /// Prints sample `j` of a batch, whose bytes these are.
     fn sample<S: Output>(
         &mut self,
@@ -231,7 +254,7 @@ impl Text {
     {
         let size = batch.bytes.as_slice().len() / batch.count as usize;
         if size <= SHORT {
-            self.short_samples(out, batch, size)
+            short_samples(&mut self.buffer, &mut self.sample, out, batch, size)
         } else {
             self.long_samples(out, batch, size)
         }

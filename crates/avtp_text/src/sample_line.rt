@@ -1,18 +1,24 @@
-//! The line of a sample, which becomes that of the next one.
+//! The line of a sample, of which those of the next ones are made.
 
-ghost use Rattle.std.specs.Prelude.{◌≡◌, ◌+◌, ◌^◌, ◌<◌, ◌≤◌, ℕ, ◌++◌, length, decimal, IfSome};
+ghost use Rattle.std.specs.Prelude.{◌≡◌, ◌+◌, ◌^◌, ◌<◌, ◌≤◌, ℕ, ◌++◌, length, decimal, IfSome, IsTrue};
 ghost use Rattle.hex.specs.Hex.{encode_lower};
 ghost use Rattle.avtp_text.specs.Listen.{due_text, place_text};
 ghost use Rattle.avtp_text.specs.Pieces.{newline};
-ghost use Rattle.avtp_text.specs.SampleLines.{Fits, KnowsGaps, StartsAt};
+ghost use Rattle.avtp_text.specs.SampleLines.{Fits, KnowsGaps, SamplePacket, StartsAt, behind_frame, behind_instant, behind_seq, seen_as};
 
 use crate::line::{LONGEST, Line};
+use crate::overwrite::{overwrite_decimal, overwrite_eight_digits, overwrite_hex};
+use avtp_base::Buffer;
+use std::marker::Model;
 
 /// The most bytes of a sample with which its line fits a [`Line`]: 64.
 pub const SHORT: usize = 64;
 
 /// So many instants have the same digits but for the last eight.
-const INSTANTS: u64 = 100_000_000;
+const INSTANTS: i64 = 100_000_000;
+
+/// So many bytes of a line are kept.
+const KEPT: usize = 128;
 
 /// Puts before the line which sample of which packet it is.
 #[tactic(auto, unfolding(crate::specs::Listen::place_text))]
@@ -27,19 +33,6 @@ pub fn prepend_place(line: &mut Line, seq: u8, j: u32)
     line.prepend_u32(" seq ", seq as u32);
 }
 
-/// The line of a sample. Where that of another sample of the packet differs from it only in the instant's last eight
-/// digits, the sample's number and its bytes, these alone are written, over those that stand there.
-#[derive(Drop)]
-pub struct SampleLine {
-    line: Line,
-    /// The first instant whose digits are the line's but for the last eight, or `u64::MAX` where there are not so many.
-    from: u64,
-    /// The numbers of samples that have as many digits as the line's.
-    numbers: Numbers,
-    /// How many bytes stand behind the instant.
-    behind: usize,
-}
-
 /// The numbers from `least` to below `limit`.
 #[derive(Clone, Copy)]
 struct Numbers {
@@ -48,6 +41,8 @@ struct Numbers {
 }
 
 impl Numbers {
+    const NONE: Self = Numbers { least: 0, limit: 0 };
+
     /// Numbers that have as many digits as this one.
     #[tactic(auto, using(crate::proofs::Digits::as_long_one, crate::proofs::Digits::as_long_two, crate::proofs::Digits::as_long_three))]
     fn as_long_as(number: u32) -> Self
@@ -63,87 +58,197 @@ impl Numbers {
     }
 }
 
-/// The first instant that has the digits of this one but for its last eight, or `u64::MAX` where it has not so many.
-fn start_of(instant: i64) -> u64
-    ensures { result < 2 ^ 63 → StartsAt instant result }
+/// The first instant that has the digits of this one but for its last eight, where it has so many.
+fn start_of(instant: i64) -> Option<i64>
+    ensures { IfSome result (StartsAt instant) }
 {
-    if instant < INSTANTS as i64 {
-        return u64::MAX;
+    if instant < INSTANTS {
+        return None;
     }
-    instant as u64 / INSTANTS * INSTANTS
+    let high = instant as u64 / INSTANTS as u64;
+    Some((high * INSTANTS as u64) as i64)
+}
+
+/// How many bytes of a line stand behind the instant, behind the digits of the frame, and behind those of the sequence number.
+#[derive(Clone, Copy)]
+struct Behind {
+    instant: usize,
+    frame: usize,
+    seq: usize,
+}
+
+/// The whole line of a sample.
+#[tactic(auto, unfolding(crate::specs::SampleLines::behind_instant))]
+fn whole_line(instant: i64, frame: u64, seq: u8, j: u32, bytes: &[u8]) -> (Line, Behind)
+    requires { length bytes.now ≤ SHORT }
+    ensures text { result.0 ≡ due_text instant frame ++ place_text seq j ++ encode_lower bytes.now ++ newline }
+    ensures instant { result.1.instant ≡ length (behind_instant frame seq (decimal j) (encode_lower bytes.now)) }
+    ensures frame { result.1.frame ≡ length (behind_frame seq (decimal j) (encode_lower bytes.now)) }
+    ensures seq { result.1.seq ≡ length (behind_seq (decimal j) (encode_lower bytes.now)) }
+{
+    let mut line = Line::new();
+    line.prepend_hex(bytes);
+    line.prepend(" ");
+    line.prepend_u32(" sample ", j);
+    let behind_seq = line.len();
+    line.prepend_u32(" seq ", seq as u32);
+    let behind_frame = line.len();
+    line.prepend_u64(" frame ", frame);
+    let behind_instant = line.len();
+    line.prepend_i64("at ", instant);
+    let behind = Behind {
+        instant: behind_instant,
+        frame: behind_frame,
+        seq: behind_seq,
+    };
+    (line, behind)
+}
+
+/// The last eight digits of an instant, where these, the sample's number and its bytes may be written over those of a line.
+#[inline(always)]
+fn low_of(from: i64, numbers: Numbers, instant: i64, j: u32) -> Option<u32>
+    ensures { IfSome result (λ low. Fits from numbers instant j low) }
+{
+    if instant < from {
+        return None;
+    }
+    let low = instant.wrapping_sub(from);
+    if low < 0 || low >= INSTANTS {
+        return None;
+    }
+    if j < numbers.least || j >= numbers.limit {
+        return None;
+    }
+    Some(low as u32)
+}
+
+/// A line that is kept for others, where it is short enough.
+#[derive(Clone, Copy)]
+struct KeptLine {
+    /// The line's bytes, and any behind them: all of these are copied, which takes no call.
+    bytes: [u8; KEPT],
+    len: usize,
+    behind: Behind,
+    /// The first instant whose digits are the line's but for the last eight.
+    from: i64,
+    /// The numbers of samples that have as many digits as the line's, or none where no line is kept.
+    numbers: Numbers,
+}
+
+impl KeptLine {
+    /// Writes the numbers of another packet over the line's, and tells whether they have as many digits.
+    #[tactic(auto, using(crate::proofs::Digits::digits_of_u64))]
+    fn turn_to(&mut self, frame: u64, seq: u8) -> bool
+        ensures { IsTrue result → (packet : SamplePacket) → KnowsGaps self.old packet → KnowsGaps self.new (seen_as frame seq packet.size) }
+    {
+        let (len, behind) = (self.len, self.behind);
+        if len > KEPT || len < 20 || behind.frame > len - 20 || behind.seq > len - 20 {
+            return false;
+        }
+        let text = &mut self.bytes[..len];
+        let frame_len = overwrite_decimal(text, frame, behind.frame);
+        let seq_len = overwrite_decimal(text, seq as u64, behind.seq);
+        frame_len + behind.frame + 7 == behind.instant && seq_len + behind.seq + 5 == behind.frame
+    }
+}
+
+/// The line of a sample, which contracts see as the packet whose samples it is for. Where that of another sample differs from it
+/// only in the instant's last eight digits, the sample's number and its bytes, these alone are written, over those of a copy.
+#[derive(Drop)]
+pub struct SampleLine {
+    line: KeptLine,
+    /// The packet.
+    frame: u64,
+    seq: u8,
+    /// How many bytes a sample has.
+    size: usize,
+}
+
+impl Model for SampleLine {
+    ghost use Rattle.avtp_text.specs.SampleLines.{KnowsGaps, SamplePacket, seen_as};
+
+    ghost Value = { SamplePacket };
+
+    ghost view = { λ s. seen_as s.frame s.seq s.size };
+
+    ghost invariant = { λ s. KnowsGaps s.line (seen_as s.frame s.seq s.size) };
 }
 
 impl SampleLine {
     /// No line yet.
-    #[inline(always)]
-    pub fn new() -> Self
-        ensures { 2 ^ 63 ≤ result.from }
-    {
+    pub fn new() -> Self {
+        let line = KeptLine {
+            bytes: [0; KEPT],
+            len: 0,
+            behind: Behind {
+                instant: 0,
+                frame: 0,
+                seq: 0,
+            },
+            from: 0,
+            numbers: Numbers::NONE,
+        };
         SampleLine {
-            line: Line::blank(),
-            from: u64::MAX,
-            numbers: Numbers { least: 0, limit: 0 },
-            behind: 0,
+            line,
+            frame: 0,
+            seq: 0,
+            size: 0,
         }
     }
 
-    /// The line's bytes.
-    #[inline(always)]
-    pub fn as_slice(&self) -> &[u8]
-        ensures text { result.now ≡ self.now.line }
-        ensures short { length result.now ≤ LONGEST }
+    /// Goes on to another packet. The line stays, where only digits have to be written over.
+    pub fn turn_to(&mut self, frame: u64, seq: u8, size: usize)
+        ensures { self.new ≡ seen_as frame seq size }
     {
-        self.line.as_slice()
+        if !self.line.turn_to(frame, seq) || size != self.size {
+            self.line.numbers = Numbers::NONE;
+        }
+        self.frame = frame;
+        self.seq = seq;
+        self.size = size;
     }
 
-    /// The last eight digits of the instant, where these, the sample's number and its bytes may be written over the line's.
-    #[inline(always)]
-    fn low_of(&self, instant: i64, j: u32) -> Option<u32>
-        ensures { IfSome result (λ low. Fits self.now instant j low) }
-    {
-        if instant < 0 {
-            return None;
-        }
-        let instant = instant as u64;
-        if instant < self.from || instant - self.from >= INSTANTS {
-            return None;
-        }
-        if j < self.numbers.least || j >= self.numbers.limit {
-            return None;
-        }
-        Some((instant - self.from) as u32)
-    }
-
-    /// Writes the whole line of a sample.
-    fn write_anew(&mut self, instant: i64, frame: u64, seq: u8, j: u32, bytes: &[u8])
-        requires { length bytes.now ≤ SHORT }
-        ensures text { self.new.line ≡ due_text instant frame ++ place_text seq j ++ encode_lower bytes.now ++ newline }
-        ensures gaps { KnowsGaps self.new frame seq (length bytes.now) }
-    {
-        self.line.restart();
-        self.line.prepend_hex(bytes);
-        prepend_place(&mut self.line, seq, j);
-        self.line.prepend_u64(" frame ", frame);
-        self.behind = self.line.len();
-        self.line.prepend_i64("at ", instant);
-        self.from = start_of(instant);
-        self.numbers = Numbers::as_long_as(j);
-    }
-
-    /// Makes it the line of a sample. Any line that stands there already is that of a sample of the same packet.
-    #[inline(always)]
-    pub fn write(&mut self, instant: i64, frame: u64, seq: u8, j: u32, bytes: &[u8])
+    /// Adds the line of a sample to a buffer, which has room for a line, and keeps it where it is short enough.
+    #[inline(never)]
+    fn add_anew(&mut self, buffer: &mut Buffer, instant: i64, j: u32, bytes: &[u8])
         requires short { length bytes.now ≤ SHORT }
-        requires gaps { KnowsGaps self.old frame seq (length bytes.now) }
-        ensures text { self.new.line ≡ due_text instant frame ++ place_text seq j ++ encode_lower bytes.now ++ newline }
-        ensures gaps { KnowsGaps self.new frame seq (length bytes.now) }
+        requires size { length bytes.now ≡ self.old.size }
+        requires room { length buffer.old + LONGEST ≤ 65536 }
+        ensures text { buffer.new ≡ buffer.old ++ (due_text instant self.old.frame ++ place_text self.old.seq j ++ encode_lower bytes.now ++ newline) }
+        ensures packet { self.new ≡ self.old }
     {
-        let Some(low) = self.low_of(instant, j) else {
-            self.write_anew(instant, frame, seq, j, bytes);
+        let (line, behind) = whole_line(instant, self.frame, self.seq, j, bytes);
+        buffer.push(line.as_slice());
+        self.line.numbers = Numbers::NONE;
+        let Some(from) = start_of(instant) else {
             return;
         };
-        self.line.overwrite_eight_digits(low, self.behind);
-        self.line.overwrite_decimal(j as u64, 2 * bytes.len() + 2);
-        self.line.overwrite_hex(bytes, 1);
+        if line.len() <= KEPT {
+            self.line.bytes[..line.len()].copy_from_slice(line.as_slice());
+            self.line.len = line.len();
+            self.line.behind = behind;
+            self.line.from = from;
+            self.line.numbers = Numbers::as_long_as(j);
+        }
+    }
+
+    /// Adds the line of a sample to a buffer, which has room for a line.
+    #[inline(always)]
+    pub fn add_to(&mut self, buffer: &mut Buffer, instant: i64, j: u32, bytes: &[u8])
+        requires short { length bytes.now ≤ SHORT }
+        requires size { length bytes.now ≡ self.old.size }
+        requires room { length buffer.old + LONGEST ≤ 65536 }
+        ensures text { buffer.new ≡ buffer.old ++ (due_text instant self.old.frame ++ place_text self.old.seq j ++ encode_lower bytes.now ++ newline) }
+        ensures packet { self.new ≡ self.old }
+    {
+        let Some(low) = low_of(self.line.from, self.line.numbers, instant, j) else {
+            self.add_anew(buffer, instant, j, bytes);
+            return;
+        };
+        buffer.push_first(&self.line.bytes, self.line.len);
+        let text = buffer.waiting_mut();
+        overwrite_eight_digits(text, low, self.line.behind.instant);
+        overwrite_decimal(text, j as u64, 2 * bytes.len() + 2);
+        overwrite_hex(text, bytes, 1);
     }
 }

@@ -1,4 +1,4 @@
-use Rattle.std.proofs.Common.{◌≡◌, ℕ, List, [], ◌∷◌, length, slice_index, refl, sym, ap, ◌∙◌, arith}
+use Rattle.std.proofs.Common.{◌≡◌, ℕ, List, [], ◌∷◌, length, slice_index, refl, ap, ◌∙◌, arith}
 use Rattle.hex.specs.Hex.{encode_with, encode_lower}
 use Rattle.avtp_text.proofs.Eight.{written}
 use Rattle.avtp_text.proofs.pairs.write_hex_of_four.Goals as goal

@@ -1,4 +1,4 @@
-use Rattle.std.proofs.Common.{◌≡◌, ◌-◌, ◌++◌, length, drop, ◌∙◌, append_assoc, to_z-of_z}
+use Rattle.std.proofs.Common.{◌≡◌, ◌++◌, ◌∙◌, append_assoc, to_z-of_z}
 use Rattle.aaf_format.specs.Aaf.{aaf_shape}
 use Rattle.avtp_text.specs.AafLines.{aaf_start, end_of}
 use Rattle.avtp_text.specs.Show.{frame_start}

@@ -1,4 +1,4 @@
-use Rattle.std.proofs.Common.{◌≡◌, ◌+◌, ◌-◌, drop, sym, ◌∙◌}
+use Rattle.std.proofs.Common.{sym}
 use Rattle.std.proofs.lemmas.List.{drop-drop}
 use Rattle.avtp_text.proofs.line.Line.keep_last.Goals as goal
 

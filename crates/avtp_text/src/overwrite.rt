@@ -1,0 +1,46 @@
+//! Pieces that are written over a text, so many bytes before its end.
+
+ghost use Rattle.std.specs.Prelude.{◌≡◌, ◌+◌, ◌*◌, ◌<◌, ◌≤◌, length, decimal};
+ghost use Rattle.hex.specs.Hex.{encode_lower};
+ghost use Rattle.avtp_text.specs.Overwrites.{Overwrites};
+ghost use Rattle.avtp_text.specs.Pairs.{eight_digits};
+
+use crate::pairs::{write_bytes, write_eight_digits, write_hex};
+
+/// Writes the last eight digits of a number over eight bytes of a text, before its last `behind` ones.
+#[inline(always)]
+pub fn overwrite_eight_digits(text: &mut [u8], number: u32, behind: usize)
+    requires number { number < 100000000 }
+    requires room { 8 + behind ≤ length text.old }
+    ensures { Overwrites text.old text.new (eight_digits number) behind }
+{
+    let end = text.len() - behind;
+    write_eight_digits(number, &mut text[end - 8..end]);
+}
+
+/// Writes a number's digits over as many bytes of a text, before its last `behind` ones, and answers how many they are. Most numbers
+/// of samples have one.
+#[tactic(auto, using(crate::proofs::Digits::one_digit))]
+#[inline(always)]
+pub fn overwrite_decimal(text: &mut [u8], number: u64, behind: usize) -> usize
+    requires { length (decimal number) + behind ≤ length text.old }
+    ensures len { result ≡ length (decimal number) }
+    ensures overwrites { Overwrites text.old text.new (decimal number) behind }
+{
+    let end = text.len() - behind;
+    if number < 10 {
+        write_bytes(&[b'0' + number as u8], &mut text[end - 1..end]);
+        return 1;
+    }
+    end - itoa::write_digits(number, text, end)
+}
+
+/// Writes the hexadecimal digits of bytes over as many bytes of a text, before its last `behind` ones.
+#[inline(always)]
+pub fn overwrite_hex(text: &mut [u8], bytes: &[u8], behind: usize)
+    requires { 2 * length bytes.now + behind ≤ length text.old }
+    ensures { Overwrites text.old text.new (encode_lower bytes.now) behind }
+{
+    let end = text.len() - behind;
+    write_hex(bytes, &mut text[end - 2 * bytes.len()..end]);
+}
