@@ -114,7 +114,7 @@ impl Listener {
                 &piece[..size],
             ) {
                 Ok(()) => {
-                    self.next = self.listener.next_out();
+                    self.listener.put_next(&mut self.next);
                     Ok(size)
                 }
                 Err(NoMemory) => {
@@ -125,7 +125,7 @@ impl Listener {
             None => match self.reader.feed(piece) {
                 Ok(taken) => match take_held(alloc, &mut self.reader, &mut self.listener) {
                     Ok(()) => {
-                        self.next = self.listener.next_out();
+                        self.listener.put_next(&mut self.next);
                         Ok(taken)
                     }
                     Err(NoMemory) => {
@@ -147,6 +147,9 @@ impl Listener {
         ensures keeps { Keeps self.old self.new }
         ensures less { work self.new + length (option_to_list result) ≤ work self.old }
     {
+        if self.next.is_none() {
+            return None;
+        }
         let shown = self.next.take()?;
         self.next = self.listener.next_out();
         Some(shown)

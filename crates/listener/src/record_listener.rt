@@ -1,6 +1,6 @@
 //! What a listener shows, from one record of a capture at a time.
 
-ghost use Rattle.std.specs.Prelude.{◌≡◌, ◌+◌, ◌^◌, ◌<◌, ◌≤◌, ◌++◌, ◌∷◌, [], ℕ, true, false, List, length, map, slice_get, IfNone, IfOk, OnErr, OnOk};
+ghost use Rattle.std.specs.Prelude.{◌≡◌, ◌+◌, ◌^◌, ◌<◌, ◌≤◌, ◌++◌, ◌∷◌, [], ℕ, true, false, List, length, map, slice_get, None, IfNone, IfOk, OnErr, OnOk};
 ghost use Rattle.std.specs.Option.{option_to_list};
 ghost use Rattle.pcap_frames.specs.Capture.{Record};
 ghost use Rattle.pcap_frames.specs.Reading.{shown};
@@ -136,6 +136,24 @@ impl RecordListener {
             None => self.idle = !self.ended,
         }
         next
+    }
+
+    /// Puts the next item that is shown where none is. Mostly there is none, and nothing is moved.
+    #[inline(always)]
+    pub(crate) fn put_next(&mut self, next: &mut Option<Shown>)
+        requires { next.old ≡ None }
+        ensures given { (records : List Record) (given : ℕ) → StandsFor records given self.old → next.new ≡ slice_get (out self.old records) given }
+        ensures stands { (records : List Record) (given : ℕ) → StandsFor records given self.old → StandsFor records (given + length (option_to_list next.new)) self.new }
+        ensures idle { IfNone next.new (IsIdle self.new) }
+        ensures keeps { Keeps self.old self.new }
+        ensures less { work self.new + length (option_to_list next.new) ≤ work self.old }
+    {
+        if self.idle {
+            return;
+        }
+        if let Some(shown) = self.next_out() {
+            *next = Some(shown);
+        }
     }
 
     /// Says that no record follows. Nothing is due of the records so far. Takes no memory.

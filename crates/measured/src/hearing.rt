@@ -90,6 +90,7 @@ fn feed(
 }
 
 /// Counts the batches that are presented of all that is due.
+#[inline(always)]
 fn drain(listener: &mut Listener, presented: &mut u64)
     ensures quiet { IsQuiet listener.new }
     ensures keeps { Keeps listener.old listener.new }

@@ -1,4 +1,4 @@
-use Rattle.std.proofs.Common.{ℕ, ◌≡◌, ◌++◌, Some, None, length, take, sym, subst, ap, ◌∙◌, arith}
+use Rattle.std.proofs.Common.{◌≡◌, ◌++◌, Some, None, length, take, sym, subst, ap, ◌∙◌, arith}
 use Rattle.std.proofs.lemmas.List.{length-take-le}
 use Rattle.avtp_base.specs.declared.refusal.Refusal.{Refusal}
 use Rattle.pcap_frames.specs.Capture.{whole_records}
@@ -31,10 +31,10 @@ invariant_of-self c =
     record {
       bytes = bytes;
       given = sound.given;
-      stands = stands_fed bytes sound.given c.take_lent.new.reader c.take_lent.new.listener c.next_out.new.self c.next_out.result c.self.inside.out_of_memory heard c.in-Ok.ensures.passed.free
-          c.next_out.ensures.given c.next_out.ensures.stands c.next_out.ensures.keeps.plan c.next_out.ensures.keeps.closed;
-      counted = λ unrefused. omega (arith, counted, some, long, c.next_out.ensures.keeps.frames, c.in-Ok.ensures.frames, c.in-Ok.ensures.passed.counted);
-      idle = λ none. if_none c.next_out.result c.next_out.ensures.idle none;
+      stands = stands_fed bytes sound.given c.take_lent.new.reader c.take_lent.new.listener c.put_next.new.self c.put_next.new.next c.self.inside.out_of_memory heard c.in-Ok.ensures.passed.free
+          c.put_next.ensures.given c.put_next.ensures.stands c.put_next.ensures.keeps.plan c.put_next.ensures.keeps.closed;
+      counted = λ unrefused. omega (arith, counted, some, long, c.put_next.ensures.keeps.frames, c.in-Ok.ensures.frames, c.in-Ok.ensures.passed.counted);
+      idle = λ none. if_none c.put_next.new.next c.put_next.ensures.idle none;
       spent = λ memory. absurd (let no = c.if-self.false in cc);
     }
 
@@ -50,8 +50,8 @@ returns-in-Ok-clause-stands c bytes given stands =
     let st = subst (StandsFor bytes given) (sym c.self.view_is) stands in
     let quiet = not_some c.self.inside.next (sym c.is_some.ensures ∙ c.if-is_some.false) in
     let heard = c.in-Ok.ensures.heard bytes given (heard_here bytes given _ st c.if-self.false quiet) in
-    stands_fed (bytes ++ take c.in-Some.size c.args.piece.now) given c.take_lent.new.reader c.take_lent.new.listener c.next_out.new.self c.next_out.result c.self.inside.out_of_memory heard c.in-Ok.ensures.passed.free
-    c.next_out.ensures.given c.next_out.ensures.stands c.next_out.ensures.keeps.plan c.next_out.ensures.keeps.closed
+    stands_fed (bytes ++ take c.in-Some.size c.args.piece.now) given c.take_lent.new.reader c.take_lent.new.listener c.put_next.new.self c.put_next.new.next c.self.inside.out_of_memory heard c.in-Ok.ensures.passed.free
+    c.put_next.ensures.given c.put_next.ensures.stands c.put_next.ensures.keeps.plan c.put_next.ensures.keeps.closed
 
 pub returns-in-Ok-clause-uncertain : goal.returns-in-Ok-clause-uncertain
 returns-in-Ok-clause-uncertain c quiet bytes given stands =
@@ -82,8 +82,8 @@ returns-in-Ok-take_held-clause-stands c bytes given stands =
     let st = subst (StandsFor bytes given) (sym c.self.view_is) stands in
     let quiet = not_some c.self.inside.next (sym c.is_some.ensures ∙ c.if-is_some.false) in
     let heard = c.in-Ok-take_held.ensures.heard (bytes ++ take c.in-Ok-feed.taken c.args.piece.now) given (heard_on bytes (take c.in-Ok-feed.taken c.args.piece.now) given _ c.feed.new.self st c.if-self.false quiet c.in-Ok-feed.ensures.read) in
-    stands_fed (bytes ++ take c.in-Ok-feed.taken c.args.piece.now) given c.take_held.new.reader c.take_held.new.listener c.next_out-in-Ok-take_held.new.self c.next_out-in-Ok-take_held.result c.self.inside.out_of_memory heard c.in-Ok-take_held.ensures.free
-    c.next_out-in-Ok-take_held.ensures.given c.next_out-in-Ok-take_held.ensures.stands c.next_out-in-Ok-take_held.ensures.keeps.plan c.next_out-in-Ok-take_held.ensures.keeps.closed
+    stands_fed (bytes ++ take c.in-Ok-feed.taken c.args.piece.now) given c.take_held.new.reader c.take_held.new.listener c.put_next-in-Ok-take_held.new.self c.put_next-in-Ok-take_held.new.next c.self.inside.out_of_memory heard c.in-Ok-take_held.ensures.free
+    c.put_next-in-Ok-take_held.ensures.given c.put_next-in-Ok-take_held.ensures.stands c.put_next-in-Ok-take_held.ensures.keeps.plan c.put_next-in-Ok-take_held.ensures.keeps.closed
 
 pub invariant_of-self-in-Ok-take_held : goal.invariant_of-self-in-Ok-take_held
 invariant_of-self-in-Ok-take_held c =
@@ -96,10 +96,10 @@ invariant_of-self-in-Ok-take_held c =
     record {
       bytes = bytes;
       given = sound.given;
-      stands = stands_fed bytes sound.given c.take_held.new.reader c.take_held.new.listener c.next_out-in-Ok-take_held.new.self c.next_out-in-Ok-take_held.result c.self.inside.out_of_memory heard c.in-Ok-take_held.ensures.free
-          c.next_out-in-Ok-take_held.ensures.given c.next_out-in-Ok-take_held.ensures.stands c.next_out-in-Ok-take_held.ensures.keeps.plan c.next_out-in-Ok-take_held.ensures.keeps.closed;
-      counted = λ unrefused. omega (arith, counted, few, c.next_out-in-Ok-take_held.ensures.keeps.frames, c.in-Ok-take_held.ensures.frames, c.in-Ok-take_held.ensures.read.0, c.in-Ok-feed.ensures.taken);
-      idle = λ none. if_none c.next_out-in-Ok-take_held.result c.next_out-in-Ok-take_held.ensures.idle none;
+      stands = stands_fed bytes sound.given c.take_held.new.reader c.take_held.new.listener c.put_next-in-Ok-take_held.new.self c.put_next-in-Ok-take_held.new.next c.self.inside.out_of_memory heard c.in-Ok-take_held.ensures.free
+          c.put_next-in-Ok-take_held.ensures.given c.put_next-in-Ok-take_held.ensures.stands c.put_next-in-Ok-take_held.ensures.keeps.plan c.put_next-in-Ok-take_held.ensures.keeps.closed;
+      counted = λ unrefused. omega (arith, counted, few, c.put_next-in-Ok-take_held.ensures.keeps.frames, c.in-Ok-take_held.ensures.frames, c.in-Ok-take_held.ensures.read.0, c.in-Ok-feed.ensures.taken);
+      idle = λ none. if_none c.put_next-in-Ok-take_held.new.next c.put_next-in-Ok-take_held.ensures.idle none;
       spent = λ memory. absurd (let no = c.if-self.false in cc);
     }
 
