@@ -112,6 +112,7 @@ fn low_of(from: i64, numbers: Numbers, instant: i64, j: u32) -> Option<u32>
     if instant < from {
         return None;
     }
+    // A difference that is too large for 64 bits is negative here.
     let low = instant.wrapping_sub(from);
     if low < 0 || low >= INSTANTS {
         return None;
