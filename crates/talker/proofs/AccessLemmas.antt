@@ -1,13 +1,12 @@
 -- Which packets carry which units, and which access units these are of.
-use Rattle.std.proofs.Common.{◌≡◌, ◌≢◌, ◌⊎◌, inl, inr, ℕ, zero, suc, ◌+◌, ◌-◌, ◌*◌, ◌<◌, ◌≤◌, Bool, true, false, List, length, refl, sym, ap, subst, ◌∙◌, arith}
-use Rattle.std.specs.Prelude.{◌==◌, nat_lt, if◌then◌else◌}
+use Rattle.std.proofs.Common.{◌≡◌, ◌⊎◌, inl, inr, ℕ, zero, suc, ◌+◌, ◌-◌, ◌<◌, ◌≤◌, Bool, true, false, List, length, refl, ap, arith}
+use Rattle.std.specs.Prelude.{nat_lt, if◌then◌else◌}
 use Rattle.std.proofs.lemmas.Bool.{cases_lt}
 use Rattle.std.proofs.lemmas.Bool.Decides.{nat_tests}
-use Rattle.avtp_base.specs.Octets.{flag}
 use Rattle.avtp_base.proofs.BitLemmas.{flag-below}
 use Rattle.cvf_format.specs.Packets.{packets_of}
 use Rattle.talker.specs.AccessUnits.{access_unit, begins, begun_before}
-use Rattle.talker.specs.Fragments.{Place, access_unit_of, all_packets, next_place, packets_at, packets_before, place_of}
+use Rattle.talker.specs.Fragments.{Place, access_unit_of, all_packets, packets_at, packets_before, place_of}
 
 -- ---- how many packets carry a unit
 

@@ -1,12 +1,11 @@
 -- Why the units of a byte stream are not sent.
-use Rattle.std.proofs.Common.{◌≡◌, ◌≢◌, ℕ, ◌+◌, ◌-◌, ◌<◌, ◌≤◌, Bool, true, false, not, List, [], ◌∷◌, length, get_or, Option, Some, None, is_some, refl, ap, ◌∙◌, sym, arith}
+use Rattle.std.proofs.Common.{◌≡◌, ◌≢◌, ℕ, ◌+◌, ◌-◌, ◌<◌, Bool, true, false, not, List, [], ◌∷◌, length, Option, Some, None, is_some, refl, ◌∙◌, sym, arith}
 use Rattle.std.specs.Prelude.{if◌then◌else◌, is_none}
 use Rattle.std.proofs.lemmas.Bool.Decides.{nat_tests}
-use Rattle.memchr.specs.Find.{FindsNeedle, OccursAt}
+use Rattle.memchr.specs.Find.{FindsNeedle}
 use Rattle.memchr.proofs.lemmas.MatchLemmas.{OccursAt-true, occurs_at-true}
 use Rattle.cvf_format.specs.AnnexB.{is_start_code, nal_units, start_code}
 use Rattle.cvf_format.specs.Cvf.{is_single_type}
-use Rattle.talker.specs.declared.fault.TalkFault.{TalkFault}
 use Rattle.talker.specs.declared.fault.TalkFault.TheVariants.{NalType, Packets, StartCode}
 use Rattle.talker.specs.AccessUnits.{type_in, unit_at}
 use Rattle.talker.specs.Fragments.{access_unit_of, all_packets}

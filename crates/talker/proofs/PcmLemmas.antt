@@ -1,15 +1,14 @@
 -- PCM is a format of audio.
-use Rattle.std.proofs.Common.{◌-◌, ◌≡◌, ℕ, ◌+◌, ◌*◌, ◌^◌, ◌<◌, ◌≤◌, Bool, true, false, ◌%◌, List, [], ◌∷◌, ◌++◌, length, take, drop, replicate, Some, None, refl, sym, arith}
-use Rattle.std.specs.Prelude.{◌==◌, if◌then◌else◌, is_some, option_map, unwrap_or}
+use Rattle.std.proofs.Common.{◌-◌, ◌≡◌, ℕ, ◌+◌, ◌*◌, ◌^◌, ◌<◌, ◌≤◌, Bool, true, false, ◌%◌, List, [], ◌++◌, length, take, replicate, Some, None, refl, sym, arith}
+use Rattle.std.specs.Prelude.{◌==◌, if◌then◌else◌, is_some, unwrap_or}
 use Rattle.std.proofs.Math.Nat.{mul-pos}
 use Rattle.std.proofs.lemmas.List.{append-nil, length-replicate, take-replicate}
 use Rattle.avtp_base.specs.Layout.{Fits, spelling}
 use Rattle.avtp_base.specs.Octets.{flag}
 use Rattle.avtp_base.proofs.BitLemmas.{flag-below}
-use Rattle.byteorder.specs.Endian.{big_bytes}
 use Rattle.aaf_format.specs.declared.aaf.AafFormat.{AafFormat}
 use Rattle.aaf_format.specs.declared.aaf.AafFormat.TheVariants.{Float32, Int32, Int24, Int16}
-use Rattle.aaf_format.specs.Aaf.{Aaf as Packet, IsWritableAaf, SpellsAaf, aaf_layout, aaf_spelling, aaf_subtype, frame_size, width_of}
+use Rattle.aaf_format.specs.Aaf.{Aaf as Packet, IsWritableAaf, SpellsAaf, aaf_layout, aaf_spelling, frame_size, width_of}
 use Rattle.aaf_format.proofs.AafLemmas.{aaf_again, fits_whole}
 use Rattle.time_unfold.specs.declared.head_rule.Distance.{Distance}
 use Rattle.stream_journal.specs.Journal.{Journal, rule_of}
@@ -22,10 +21,10 @@ use Rattle.talker.specs.declared.plan.TalkKind.TheVariants.{Aaf}
 use Rattle.talker.specs.declared.plan.TalkPlan.{TalkPlan}
 use Rattle.talker.specs.Audio.{pcm}
 use Rattle.talker.specs.Journal.{audio_times}
-use Rattle.talker.specs.Packets.{aaf_packet, kind_of, stamp_of}
+use Rattle.talker.specs.Packets.{aaf_packet, kind_of, stamp_of, written_over}
 use Rattle.talker.specs.Plan.{ExpectsBy, IsNearLead, IsAudioPlan, rate_code}
 use Rattle.talker.specs.Talking.{IsPcm}
-use Rattle.talker.specs.Timing.{mr_of, timestamp_of}
+use Rattle.talker.specs.Timing.{mr_of}
 use Rattle.talker.proofs.AudioLemmas.{IsFormatOf}
 use Rattle.talker.proofs.DueLemmas.{IsCountedBack, IsFound, IsKindOf}
 use Rattle.talker.proofs.HeaderLemmas.{header_fits, header_is}
@@ -51,16 +50,14 @@ zeros f plan p is = take-replicate (plan.count * frame_size plan.channels f.form
 -- ---- headers
 
 -- the header of packet n, by that of packet 0
-pub over_first : (format : AafFormat) (sparse : Bool) (plan : TalkPlan) (n : ℕ) (samples first front timestamp : List ℕ) → first ≡ spelling aaf_layout (aaf_packet format sparse plan 0 [])
-    → front ≡ aaf_subtype ∷ ((128 + 8 * flag (mr_of plan n) + flag (is_some (stamp_of (kind_of sparse) plan n))) ∷ ((n % 256) ∷ (0 ∷ [])))
-    → timestamp ≡ big_bytes 4 (unwrap_or (option_map timestamp_of (stamp_of (kind_of sparse) plan n)) 0)
-    → front ++ (take 8 (drop 4 first) ++ (timestamp ++ (take 8 (drop 16 first) ++ samples))) ≡ aaf_spelling (aaf_packet format sparse plan n samples)
-over_first format sparse plan n samples first front timestamp first_is front_is timestamp_is =
+pub over_first : (format : AafFormat) (sparse : Bool) (plan : TalkPlan) (n : ℕ) (samples first : List ℕ) → first ≡ spelling aaf_layout (aaf_packet format sparse plan 0 [])
+    → written_over first (aaf_packet format sparse plan n samples).header ++ samples ≡ aaf_spelling (aaf_packet format sparse plan n samples)
+over_first format sparse plan n samples first first_is =
     let mr = flag-below (mr_of plan n) in
     let tv = flag-below (is_some (stamp_of (kind_of sparse) plan n)) in
     let second : (((8 * 2 + flag (mr_of plan n)) * 4 + 0) * 2 + flag (is_some (stamp_of (kind_of sparse) plan n))) % 256 ≡ 128 + 8 * flag (mr_of plan n) + flag (is_some (stamp_of (kind_of sparse) plan n)) = omega arith in
     let third : n % 256 % 256 ≡ n % 256 = omega arith in
-    rw (first_is, front_is, timestamp_is, second, third) refl
+    rw (first_is, second, third) refl
 
 -- ---- its times
 

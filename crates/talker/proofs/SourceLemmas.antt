@@ -1,8 +1,7 @@
 -- What makes the packets of a stream.
-use Rattle.std.proofs.Common.{◌≡◌, ℕ, ◌*◌, ◌^◌, ◌<◌, ◌≤◌, Bool, true, false, not, List, [], ◌∷◌, ◌++◌, length, Option, Some, None, refl, sym, ap, subst, ◌∙◌, arith}
+use Rattle.std.proofs.Common.{◌≡◌, ℕ, ◌*◌, ◌^◌, ◌<◌, ◌≤◌, Bool, true, false, not, List, [], ◌∷◌, ◌++◌, length, refl, sym, ap, subst, ◌∙◌, arith}
 use Rattle.cvf_format.specs.AnnexB.{nal_units}
 use Rattle.talker.specs.declared.audio.AudioStream.{AudioStream}
-use Rattle.talker.specs.declared.fault.TalkFault.{TalkFault}
 use Rattle.talker.specs.declared.fault.TalkFault.TheVariants.{Arrival, NalType, Packets, StartCode}
 use Rattle.talker.specs.declared.plan.TalkKind.{TalkKind}
 use Rattle.talker.specs.declared.plan.TalkKind.TheVariants.{H264}
@@ -11,11 +10,11 @@ use Rattle.talker.specs.declared.video.VideoStream.{VideoStream}
 use Rattle.talker.specs.Audio.{audio_by}
 use Rattle.talker.specs.Clock.{AreFew}
 use Rattle.talker.specs.Faults.{arrives_too_late, fault_of, faults_by}
-use Rattle.talker.specs.Journal.{Stream, stream_of, video_stream}
+use Rattle.talker.specs.Journal.{stream_of, video_stream}
 use Rattle.talker.specs.Plan.{IsPlan, IsPlanOf, IsVideoPlan}
-use Rattle.talker.specs.Rows.{Row, first_of, row}
+use Rattle.talker.specs.Rows.{first_of, row}
 use Rattle.talker.specs.Talking.{IsAudio, IsVideo, audio_of, headers_of, most_input, packets_of}
-use Rattle.talker.specs.Units.{has_long_access_unit, has_other_type, has_start_code, unit_faults, units_fault}
+use Rattle.talker.specs.Units.{has_long_access_unit, has_other_type, has_start_code, units_fault}
 use Rattle.talker.proofs.AudioLemmas.{timely}
 use Rattle.talker.proofs.StreamLemmas.{packets_in}
 use Rattle.talker.proofs.TalkLemmas.{format_of, none_late, plan_keeps, stream_is, video_is}

@@ -5,8 +5,8 @@ use Rattle.std.proofs.lemmas.Bool.{cases_lt}
 use Rattle.pcap_frames.specs.Capture.{HasSpelling}
 use Rattle.avtp_base.specs.Layout.{spelling}
 use Rattle.aaf_format.specs.declared.aaf.AafFormat.{AafFormat}
-use Rattle.aaf_format.specs.Aaf.{aaf_layout}
-use Rattle.iec61883_format.specs.Iec.{syt_interval}
+use Rattle.aaf_format.specs.Aaf.{aaf_layout, frame_size}
+use Rattle.iec61883_format.specs.Iec.{block_size, syt_interval}
 use Rattle.stream_journal.specs.Journal.{head_of}
 use Rattle.talker.specs.declared.audio.AudioStream.{AudioStream}
 use Rattle.talker.specs.declared.audio.Format.{Format}
@@ -23,7 +23,7 @@ use Rattle.talker.specs.Faults.{arrives_too_late}
 use Rattle.talker.specs.Frames.{SentFrame, capture_style, clock_bytes, clock_frame_of, frame_of, frames, left_of, numbered_clock, numbered_frames, packet_bytes, record_of, stream_frames}
 use Rattle.talker.specs.Journal.{Stream, clock_arrival_by, clock_packet_by, journal, samples_in, stamps_last, stream_by, stream_of, video_stream}
 use Rattle.talker.specs.Packets.{aaf_packet}
-use Rattle.talker.specs.Plan.{IsAudioKind, IsAudioPlan, IsPlan, IsPlanOf, IsVideoPlan, fdf_of, rate_code}
+use Rattle.talker.specs.Plan.{FitsBlocks, FitsPacket, IsAudioKind, IsAudioPlan, IsPlan, IsPlanOf, IsVideoPlan, fdf_of, rate_code}
 use Rattle.talker.specs.Talking.{IsAudio, IsClockFirst, IsClockIn, IsClockOf, IsFormat, IsSource, Talking, audio_in, audio_of, clocks_of, gone_on, headers_by, headers_of, input_in, most_input, packets_of, plan_in, samples_size, stream_in as stream_in_source}
 use Rattle.talker.specs.Units.{sent_units}
 use Rattle.talker.specs.Timing.{run_of}
@@ -67,16 +67,16 @@ pub record HasFormat (plan : TalkPlan) : Type 0 where
 pcm_by : (plan : TalkPlan) (format : AafFormat) (sparse : Bool) (code : Option ℕ) → IsAudioPlan plan → plan.kind ≡ Aaf format sparse → rate_code plan.rate ≡ code → IsSome code → HasFormat plan
 pcm_by plan format sparse None p kind e some = absurd cc
 pcm_by plan format sparse (Some code) p kind e some = record {
-  stream = record { plan = plan; format = OfPcm (record { format = format; sparse = sparse; code = code; header = spelling aaf_layout (aaf_packet format sparse plan 0 []) }) };
-  audio = record { plan = p; format = record { format = record { kind = kind; code = e }; header = refl } };
+  stream = record { plan = plan; format = OfPcm (record { format = format; sparse = sparse; code = code; header = spelling aaf_layout (aaf_packet format sparse plan 0 []) }); size = plan.count * frame_size plan.channels format };
+  audio = record { plan = p; format = record { format = record { kind = kind; code = e }; header = refl }; size = refl; fits = subst (λ (k : TalkKind). FitsPacket k plan) kind p.fits };
   plan_is = refl;
 }
 
 interval_by : (plan : TalkPlan) (fdf : ℕ) (interval : Option ℕ) → IsAudioPlan plan → plan.kind ≡ Am824 → fdf_of plan.rate ≡ Some fdf → syt_interval fdf ≡ interval → IsSome interval → HasFormat plan
 interval_by plan fdf None p kind e f some = absurd cc
 interval_by plan fdf (Some interval) p kind e f some = record {
-  stream = record { plan = plan; format = OfAm824 (record { fdf = fdf; interval = interval }) };
-  audio = record { plan = p; format = record { kind = kind; code = e; interval = f } };
+  stream = record { plan = plan; format = OfAm824 (record { fdf = fdf; interval = interval }); size = plan.count * block_size plan.channels };
+  audio = record { plan = p; format = record { kind = kind; code = e; interval = f }; size = refl; fits = (let fits : FitsBlocks plan = subst (λ (k : TalkKind). FitsPacket k plan) kind p.fits in omega (arith, fits.size)) };
   plan_is = refl;
 }
 

@@ -1,31 +1,28 @@
 -- The stream of a plan of H.264 keeps what streams keep.
-use Rattle.std.proofs.Common.{◌≡◌, ◌≢◌, inl, inr, ℕ, zero, suc, ◌+◌, ◌-◌, ◌*◌, ◌/◌, ◌%◌, ◌^◌, ◌<◌, ◌≤◌, Bool, true, false, List, [], ◌∷◌, length, Option, Some, None, is_some, pos, refl, sym, ap, subst, ◌∙◌, option_map, arith}
+use Rattle.std.proofs.Common.{◌≡◌, inl, inr, ℕ, suc, ◌+◌, ◌-◌, ◌%◌, ◌^◌, ◌<◌, ◌≤◌, Bool, true, false, List, [], ◌∷◌, length, Option, Some, None, pos, refl, sym, subst, ◌∙◌, option_map, arith}
 use Rattle.std.specs.Prelude.{IfSome, unwrap_or}
-use Rattle.avtp_base.specs.Octets.{flag}
 use Rattle.avtp_base.specs.Layout.{Fits, Layout}
 use Rattle.avtp_base.proofs.BitLemmas.{bits-below, flag-below}
 use Rattle.avtp_header.specs.Header.{filled_layout}
 use Rattle.cvf_format.specs.declared.cvf.NalPart.{NalPart}
 use Rattle.cvf_format.specs.declared.cvf.NalPart.TheVariants.{Single, First, Middle, Last}
 use Rattle.cvf_format.specs.Cvf.{Cvf, cvf_layout, cvf_subtype, ends, header_size, headers_of, layout_of, starts}
-use Rattle.stream_journal.specs.Conforming.{Conforms, HoldsEight, IsClock}
-use Rattle.stream_journal.specs.Delivered.{AreNear, IsDelivered, IsInHalfCircle}
-use Rattle.stream_journal.specs.Clocks.{no_clock}
+use Rattle.stream_journal.specs.Conforming.{Conforms, IsClock}
+use Rattle.stream_journal.specs.Delivered.{AreNear, IsDelivered}
 use Rattle.stream_journal.proofs.Worked.{no_clock-is}
-use Rattle.packet_journal.specs.Packets.{H264Data, IsConforming, IsCvfPacket, IsHeader, PacketView, part_of}
+use Rattle.packet_journal.specs.Packets.{H264Data, IsConforming, IsCvfPacket, part_of}
 use Rattle.talker.specs.declared.plan.CrfPlan.{CrfPlan}
 use Rattle.talker.specs.declared.plan.TalkKind.{TalkKind}
 use Rattle.talker.specs.declared.plan.TalkKind.TheVariants.{H264}
 use Rattle.talker.specs.declared.plan.TalkPlan.{TalkPlan}
-use Rattle.talker.specs.AccessUnits.{nal_in, unit_at}
+use Rattle.talker.specs.AccessUnits.{unit_at}
 use Rattle.talker.specs.Clock.{clock_by}
 use Rattle.talker.specs.Fragments.{access_unit_of, all_packets, body_at, part_at, place_of}
-use Rattle.talker.specs.Frames.{StaysNearBy, packet_bytes}
-use Rattle.talker.specs.Journal.{Stream, clock_arrival_by, clock_packet_by, video_journal, video_stream}
-use Rattle.talker.specs.Packets.{header_of}
+use Rattle.talker.specs.Frames.{StaysNearBy}
+use Rattle.talker.specs.Journal.{clock_arrival_by, video_journal, video_stream}
 use Rattle.talker.specs.Plan.{IsAudioKind, IsVideoPlan}
 use Rattle.talker.specs.Timing.{mr_of, timestamp_of}
-use Rattle.talker.specs.Video.{access_instant, cvf_packet, video_arrival, video_due, video_stamp, video_times}
+use Rattle.talker.specs.Video.{cvf_packet, video_arrival, video_due, video_stamp, video_times}
 use Rattle.talker.proofs.AccessLemmas.{access_step, unit_known}
 use Rattle.talker.proofs.HeaderLemmas.{header_fits}
 use Rattle.talker.proofs.SizeLemmas.{bytes_size}

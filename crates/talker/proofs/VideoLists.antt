@@ -1,5 +1,5 @@
 -- The units that an H.264 stream lists.
-use Rattle.std.proofs.Common.{◌≡◌, ℕ, zero, suc, ◌+◌, ◌-◌, ◌<◌, ◌≤◌, Bool, true, false, List, [], ◌∷◌, length, get_or, inl, inr, Option, Some, None, refl, sym, ap, subst, ◌∙◌, arith}
+use Rattle.std.proofs.Common.{◌≡◌, ℕ, suc, ◌-◌, ◌<◌, ◌≤◌, Bool, true, false, List, [], ◌∷◌, length, get_or, inl, inr, Option, Some, None, ap, ◌∙◌, arith}
 use Rattle.std.specs.Prelude.{nat_le, filter, if◌then◌else◌}
 use Rattle.std.specs.List.{cons_option, filter_map, range_with_len}
 use Rattle.std.specs.List.Sorted.{IsPartitionPoint, IsPartitionedBy}
@@ -9,9 +9,8 @@ use Rattle.std.proofs.lemmas.List.FromFn.{get_or-map-range_with_len, length-map-
 use Rattle.cvf_format.specs.AnnexB.{is_start_code, nal_units, places, unit_behind, units_from}
 use Rattle.talker.specs.declared.units.NalUnit.{NalUnit}
 use Rattle.talker.specs.declared.video.VideoStream.{VideoStream}
-use Rattle.talker.specs.AccessUnits.{access_unit, unit_at}
-use Rattle.talker.specs.Fragments.{all_packets, packets_before, place_of}
-use Rattle.talker.specs.Talking.{IsCarried, IsVideo, first_units, most_input, place_in, unit_in}
+use Rattle.talker.specs.Fragments.{place_of}
+use Rattle.talker.specs.Talking.{IsCarried, IsVideo, most_input, place_in, unit_in}
 use Rattle.talker.proofs.AccessLemmas.{access_few, before_rises, placed, unit_known}
 
 -- unit i of the list

@@ -1,12 +1,12 @@
 -- The packets that carry a unit.
-use Rattle.std.proofs.Common.{◌≡◌, ◌≢◌, ℕ, zero, suc, ◌+◌, ◌-◌, ◌*◌, ◌<◌, ◌≤◌, Bool, true, false, not, List, ◌++◌, length, take, drop, None, refl, sym, ap, ◌∙◌, arith}
-use Rattle.std.specs.Prelude.{◌==◌, ◌||◌, ◌^◌, ◌%◌, if◌then◌else◌, Option}
+use Rattle.std.proofs.Common.{◌≡◌, ◌≢◌, ℕ, suc, ◌+◌, ◌-◌, ◌*◌, ◌<◌, ◌≤◌, Bool, true, false, not, List, length, drop, refl, ap, ◌∙◌, arith}
+use Rattle.std.specs.Prelude.{◌==◌, ◌^◌, ◌%◌, if◌then◌else◌, Option}
 use Rattle.std.proofs.lemmas.Bool.Decides.{nat_tests}
 use Rattle.std.proofs.lemmas.List.{length-take}
 use Rattle.cvf_format.specs.AnnexB.{nal_units}
 use Rattle.cvf_format.specs.declared.cvf.NalPart.{NalPart}
 use Rattle.cvf_format.specs.declared.cvf.NalPart.TheVariants.{Single, First, Middle, Last}
-use Rattle.cvf_format.specs.Cvf.{Cvf, IsWritableCvf, cvf_shape, cvf_spelling, header_size, is_single_type, type_of}
+use Rattle.cvf_format.specs.Cvf.{IsWritableCvf, cvf_spelling, header_size, is_single_type, type_of}
 use Rattle.avtp_header.specs.declared.header.StreamHeader.{StreamHeader}
 use Rattle.avtp_base.specs.Octets.{bits}
 use Rattle.talker.specs.declared.plan.TalkPlan.{TalkPlan}
@@ -16,8 +16,7 @@ use Rattle.talker.specs.AccessUnits.{nal_in, unit_at}
 use Rattle.talker.specs.Fragments.{Place, access_unit_of, all_packets, body_at, body_by, ends_access_unit, packets_for, part_at, part_by, place_of, rest_in}
 use Rattle.talker.specs.Packets.{header_of}
 use Rattle.talker.specs.Talking.{IsVideo, place_in, unit_in, video_packet}
-use Rattle.talker.specs.Units.{units_fault}
-use Rattle.talker.specs.Video.{access_instant, cvf_by, cvf_packet, stamp_by, video_due}
+use Rattle.talker.specs.Video.{access_instant, cvf_packet, stamp_by, video_due}
 use Rattle.talker.proofs.FaultLemmas.{types_are}
 use Rattle.talker.proofs.SizeLemmas.{cvf_length}
 use Rattle.talker.proofs.AccessLemmas.{placed, size_of, unit_known}

@@ -1,6 +1,6 @@
 -- The packets of an H.264 stream keep the rules of streams.
-use Rattle.std.proofs.Common.{◌≡◌, ◌≢◌, ◌⊎◌, inl, inr, ◌↔◌, ℕ, zero, suc, ◌+◌, ◌-◌, ◌*◌, ◌/◌, ◌%◌, ◌^◌, ◌<◌, ◌≤◌, Bool, true, false, not, List, [], length, nat_abs, Option, Some, None, is_some, pos, refl, sym, ap, subst, ◌∙◌, arith}
-use Rattle.std.specs.Prelude.{◌==◌, ◌&&◌, if◌then◌else◌, IfSome}
+use Rattle.std.proofs.Common.{◌≡◌, ◌≢◌, ◌⊎◌, inl, inr, ◌↔◌, ℕ, suc, ◌+◌, ◌*◌, ◌^◌, ◌<◌, ◌≤◌, Bool, true, false, not, List, length, nat_abs, Option, Some, None, is_some, refl, ap, arith}
+use Rattle.std.specs.Prelude.{◌==◌, if◌then◌else◌}
 use Rattle.std.proofs.Math.Nat.{mul-le-mul_left, mul-le-mul_right}
 use Rattle.std.proofs.lemmas.Bool.{cases_lt}
 use Rattle.std.proofs.lemmas.Bool.Decides.{nat_tests}
@@ -9,19 +9,19 @@ use Rattle.cvf_format.specs.declared.cvf.NalPart.{NalPart}
 use Rattle.cvf_format.specs.declared.cvf.NalPart.TheVariants.{Single, First, Middle, Last}
 use Rattle.cvf_format.specs.Cvf.{is_single_type}
 use Rattle.cvf_format.specs.AnnexB.{nal_units}
-use Rattle.stream_journal.specs.Journal.{Part, Single as SinglePart, First as FirstPart, Middle as MiddlePart, Last as LastPart}
+use Rattle.stream_journal.specs.Journal.{Part, First as FirstPart, Middle as MiddlePart, Last as LastPart}
 use Rattle.stream_journal.specs.Conforming.{Begins, Ends, IsVideo as IsVideoJournal, StampsUnits}
 use Rattle.packet_journal.specs.Packets.{part_of}
 use Rattle.talker.specs.declared.fault.TalkFault.{TalkFault}
 use Rattle.talker.specs.declared.plan.TalkPlan.{TalkPlan}
 use Rattle.talker.specs.AccessUnits.{access_unit, type_in, unit_at}
-use Rattle.talker.specs.Fragments.{access_unit_of, all_packets, packets_at, packets_before, part_at, part_by, place_of}
+use Rattle.talker.specs.Fragments.{access_unit_of, all_packets, packets_at, part_at, part_by, place_of}
 use Rattle.talker.specs.Plan.{IsVideoPlan}
 use Rattle.talker.specs.Timing.{nominal_offset}
 use Rattle.talker.specs.Units.{sent_units, units_by, units_fault}
-use Rattle.talker.specs.Video.{access_instant, stamp_by, video_due, video_stamp, video_times}
+use Rattle.talker.specs.Video.{access_instant, stamp_by, video_due, video_times}
 use Rattle.talker.proofs.AccessLemmas.{access_few, access_rises, next_packet, placed, unit_known, unit_rises}
-use Rattle.talker.proofs.FaultLemmas.{accepted_is, far_apart, types_are}
+use Rattle.talker.proofs.FaultLemmas.{far_apart, types_are}
 use Rattle.talker.proofs.TimingLemmas.{is_offset}
 use Rattle.talker.proofs.VideoLists.{units_few}
 

@@ -1,5 +1,5 @@
 -- What a talker keeps true of itself.
-use Rattle.std.specs.Prelude.{◌≡◌, ◌+◌, ◌≤◌, drop, length, Some}
+use Rattle.std.specs.Prelude.{◌≡◌, ◌+◌, ◌≤◌, drop, length}
 use Rattle.talker.specs.declared.talker.Talker.TheInside.{Inside}
 use Rattle.talker.specs.Frames.{frames, left_of}
 use Rattle.talker.specs.Talking.{IsClockOf, IsSource, clock_room, input_in, plan_in, room_of, stream_in}

@@ -1,6 +1,8 @@
 -- The packets of a plan, each with its samples.
-use Rattle.std.specs.Prelude.{ℕ, ◌+◌, ◌*◌, ◌%◌, Bool, true, false, List, Option, Some, None, is_some, option_map, unwrap_or, if◌then◌else◌}
+use Rattle.std.specs.Prelude.{ℕ, ◌+◌, ◌*◌, ◌%◌, Bool, true, false, List, [], ◌∷◌, ◌++◌, take, drop, Option, Some, None, is_some, option_map, unwrap_or, if◌then◌else◌}
+use Rattle.avtp_base.specs.Octets.{flag}
 use Rattle.avtp_header.specs.declared.header.StreamHeader.{StreamHeader}
+use Rattle.byteorder.specs.Endian.{big_bytes}
 use Rattle.aaf_format.specs.declared.aaf.AafFormat.{AafFormat}
 use Rattle.aaf_format.specs.Aaf.{Aaf as Packet, aaf_subtype, frame_size, width_of}
 use Rattle.iec61883_format.specs.Iec.{Iec, block_size, iec_subtype}
@@ -32,6 +34,15 @@ header_of subtype stamp plan n length = record {
   timestamp = unwrap_or (option_map timestamp_of stamp) 0;
   data_length = length;
 }
+
+-- the first four bytes of a packet with such a header: its subtype, the bits that say what of it is valid, and its number
+abbrev pub front_of : StreamHeader → List ℕ
+front_of header = header.subtype ∷ ((128 * flag header.sv + 8 * flag header.mr + flag header.tv) ∷ (header.seq ∷ (flag header.tu ∷ [])))
+
+-- the first bytes of a packet with such a header, over those of another that differs from it in the first four and in the
+-- timestamp alone
+abbrev pub written_over : List ℕ → StreamHeader → List ℕ
+written_over first header = front_of header ++ (take 8 (drop 4 first) ++ (big_bytes 4 header.timestamp ++ take 8 (drop 16 first)))
 
 -- ---- PCM (IEEE 1722-2016, 7)
 

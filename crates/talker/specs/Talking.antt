@@ -61,10 +61,23 @@ abbrev pub IsFormat : Format → TalkPlan → Type 0
 IsFormat (OfPcm p) plan = IsPcmStream p plan
 IsFormat (OfAm824 a) plan = IsAm824 a plan
 
--- a plan that is talked, with its format
+abbrev pub audio_in : Format → TalkPlan → Audio
+audio_in (OfPcm p) plan = pcm p.format p.sparse plan
+audio_in (OfAm824 a) plan = am824 plan
+
+abbrev pub audio_of : AudioStream → Audio
+audio_of stream = audio_in stream.format stream.plan
+
+-- the bytes of the samples of a packet
+abbrev pub samples_size : AudioStream → ℕ
+samples_size stream = stream.plan.count * (audio_of stream).frame
+
+-- a plan that is talked, with its format, and with the size of a packet's samples
 pub record IsAudio (stream : AudioStream) : Type 0 where
   pub plan : IsAudioPlan stream.plan
   pub format : IsFormat stream.format stream.plan
+  pub size : stream.size ≡ samples_size stream
+  pub fits : stream.size ≤ 1476
 
 -- the clock of a plan that is talked, beside a stream of so many packets, whose sample frames can be counted
 pub record IsClockStream (c : ClockStream) : Type 0 where
@@ -96,13 +109,6 @@ abbrev pub IsClockFirst : Option ClockStream → Stream → ℕ → ℕ → Type
 IsClockFirst None s m n = ⊥
 IsClockFirst (Some c) s m n = (m < clock_packets c.crf c.plan c.stream) × ((s.journal.times.packets ≤ n) ⊎ (clock_arrival c.crf c.plan m ≤ s.arrival n))
 
-abbrev pub audio_in : Format → TalkPlan → Audio
-audio_in (OfPcm p) plan = pcm p.format p.sparse plan
-audio_in (OfAm824 a) plan = am824 plan
-
-abbrev pub audio_of : AudioStream → Audio
-audio_of stream = audio_in stream.format stream.plan
-
 -- the bytes of a frame's headers: Ethernet's with its tag, and those of the format
 abbrev pub headers_by : Format → ℕ
 headers_by (OfPcm p) = 42
@@ -114,10 +120,6 @@ headers_of stream = headers_by stream.format
 -- the most bytes that a plan is talked of
 abbrev pub most_input : ℕ
 most_input = 268435456
-
--- the bytes of the samples of a packet
-abbrev pub samples_size : AudioStream → ℕ
-samples_size stream = stream.plan.count * (audio_of stream).frame
 
 abbrev pub packets_of : AudioStream → List ℕ → ℕ
 packets_of stream input = audio_packets (audio_of stream) stream.plan input

@@ -29,6 +29,8 @@ pub(crate) enum Format {
 pub(crate) struct AudioStream {
     pub plan: TalkPlan,
     pub format: Format,
+    /// The bytes of a packet's samples.
+    pub size: usize,
 }
 
 /// The length of the Ethernet header, with its tag.
@@ -43,12 +45,22 @@ impl AudioStream {
         ensures plan { result.plan ≡ plan }
         ensures whole { IsAudio result }
     {
-        let format = match plan.kind {
-            TalkKind::Aaf { format, sparse } => Format::Pcm(PcmFormat::of(&plan, format, sparse)),
-            TalkKind::Am824 => Format::Am824(Am824Format::of(&plan)),
+        match plan.kind {
+            TalkKind::Aaf { format, sparse } => {
+                let pcm = PcmFormat::of(&plan, format, sparse);
+                AudioStream {
+                    plan,
+                    format: Format::Pcm(pcm),
+                    size: plan.count as usize * pcm.frame_size(plan.channels),
+                }
+            }
+            TalkKind::Am824 => AudioStream {
+                plan,
+                format: Format::Am824(Am824Format::of(&plan)),
+                size: plan.count as usize * block_size(plan.channels),
+            },
             TalkKind::H264 { .. } => unreachable!(),
-        };
-        AudioStream { plan, format }
+        }
     }
 
     /// The bytes of a sample frame.
@@ -56,21 +68,11 @@ impl AudioStream {
         requires { IsAudio self.now }
         ensures value { result ≡ (audio_of self.now).frame }
         ensures some { 0 < result }
-        ensures bound { self.now.plan.count * result ≤ 1476 }
     {
         match self.format {
             Format::Pcm(pcm) => pcm.frame_size(self.plan.channels),
             Format::Am824(_) => block_size(self.plan.channels),
         }
-    }
-
-    /// The bytes of a packet's samples.
-    fn samples_size(&self) -> usize
-        requires { IsAudio self.now }
-        ensures value { result ≡ samples_size self.now }
-        ensures bound { result ≤ 1476 }
-    {
-        self.plan.count as usize * self.frame_size()
     }
 
     /// The bytes of a frame's headers.
@@ -114,7 +116,7 @@ impl AudioStream {
         ensures value { result ≡ headers_of self.now + samples_size self.now }
         ensures bound { result ≤ 1526 }
     {
-        self.headers() + self.samples_size()
+        self.headers() + self.size
     }
 
     /// When packet `n` is sent, in nanoseconds of gPTP.
@@ -181,7 +183,7 @@ impl AudioStream {
     {
         let mut filled = self.silence();
         filled[..rest.len()].copy_from_slice(rest);
-        self.write_samples(out, n, arrival, &filled[..self.samples_size()]);
+        self.write_samples(out, n, arrival, &filled[..self.size]);
     }
 
     /// The input from the samples of packet `n` on.
@@ -192,7 +194,7 @@ impl AudioStream {
         requires number { n < packets_of self.now input.now }
         ensures { result.now ≡ drop (n * samples_size self.now) input.now }
     {
-        &input[n as usize * self.samples_size()..]
+        &input[n as usize * self.size..]
     }
 
     /// Writes the frame of packet `n` of the input, which is sent at this arrival.
@@ -206,12 +208,11 @@ impl AudioStream {
         requires room { length out.old ≡ headers_of self.now + samples_size self.now }
         ensures { out.new ≡ packet_bytes ((audio_of self.now).packet n (samples_in (audio_of self.now) self.now.plan input.now n)) }
     {
-        let size = self.samples_size();
         let rest = self.samples_from(input, n);
-        if rest.len() < size {
+        if rest.len() < self.size {
             self.write_last(out, n, arrival, rest);
         } else {
-            self.write_samples(out, n, arrival, &rest[..size]);
+            self.write_samples(out, n, arrival, &rest[..self.size]);
         }
     }
 }

@@ -1,10 +1,9 @@
 //! The packets of a PCM stream (IEEE 1722-2016, 7).
 
-ghost use Rattle.std.specs.Prelude.{◌≡◌, ◌+◌, ◌*◌, ◌≤◌, ◌<◌, ◌^◌, ◌++◌, ◌∷◌, [], length, pos, take, Option, Some, None};
+ghost use Rattle.std.specs.Prelude.{◌≡◌, ◌+◌, ◌*◌, ◌≤◌, ◌<◌, ◌^◌, ◌++◌, [], length, pos, take, Option, Some, None};
 ghost use Rattle.avtp_base.specs.Layout.{spelling};
-ghost use Rattle.avtp_base.specs.Octets.{flag};
 ghost use Rattle.aaf_format.specs.Aaf.{aaf_layout, aaf_shape, aaf_spelling, frame_size as frame_size_of};
-ghost use Rattle.talker.specs.Packets.{aaf_packet, kind_of, stamp_of};
+ghost use Rattle.talker.specs.Packets.{aaf_packet, front_of, kind_of, stamp_of, written_over};
 ghost use Rattle.talker.specs.Plan.{IsAudioPlan, rate_code as rate_code_of};
 ghost use Rattle.talker.specs.Talking.{IsPcm, IsPcmStream};
 ghost use Rattle.talker.specs.Timing.{arrival_of};
@@ -50,7 +49,7 @@ fn rate_code(rate: u32) -> Option<u8>
 
 /// The first four bytes of a packet's header: its subtype, the bits that say what of it is valid, and its sequence number.
 fn front_bytes(header: &StreamHeader) -> [u8; 4]
-    ensures { result ≡ header.now.subtype ∷ ((128 * flag header.now.sv + 8 * flag header.now.mr + flag header.now.tv) ∷ (header.now.seq ∷ (flag header.now.tu ∷ []))) }
+    ensures { result ≡ front_of header.now }
 {
     [
         header.subtype,
@@ -173,10 +172,28 @@ impl PcmFormat {
     {
         let stamp = self.stamp(plan, n, arrival);
         let header = plan.header(subtype::AAF, stamp, n, samples.len() as u16);
-        put_bytes(out, 0, &front_bytes(&header));
+        self.write_over(out, &header, samples);
+    }
+
+    /// Writes a packet with such a header, over that of packet 0, and with its samples.
+    #[inline(always)]
+    fn write_over(&self, out: &mut [u8], header: &StreamHeader, samples: &[u8])
+        requires { (length out.old ≡ 24 + length samples.now) × (length self.now.header ≡ 24) }
+        ensures { out.new ≡ written_over self.now.header header.now ++ samples.now }
+    {
+        self.write_header(&mut out[..PCM_HEADER], header);
+        put_bytes(out, PCM_HEADER, samples);
+    }
+
+    /// Writes the header of a packet, over that of packet 0.
+    #[inline(always)]
+    fn write_header(&self, out: &mut [u8], header: &StreamHeader)
+        requires { (length out.old ≡ 24) × (length self.now.header ≡ 24) }
+        ensures { out.new ≡ written_over self.now.header header.now }
+    {
+        put_bytes(out, 0, &front_bytes(header));
         put_bytes(out, 4, &self.header[4..12]);
         put_bytes(out, 12, &header.timestamp.to_be_bytes());
         put_bytes(out, 16, &self.header[16..]);
-        put_bytes(out, PCM_HEADER, samples);
     }
 }

@@ -1,7 +1,5 @@
-use Rattle.std.proofs.Common.{◌≡◌, ℕ, ◌<◌, true, not, length, sym, ap, ◌∙◌, arith}
+use Rattle.std.proofs.Common.{not, sym, ap, ◌∙◌, arith}
 use Rattle.cvf_format.specs.AnnexB.{nal_units}
-use Rattle.cvf_format.specs.Cvf.{is_single_type}
-use Rattle.talker.specs.AccessUnits.{type_in, unit_at}
 use Rattle.talker.specs.Listing.{is_long_in}
 use Rattle.talker.proofs.FaultLemmas.{no_other, other_type}
 use Rattle.talker.proofs.units.units_fault.Goals as goal

@@ -9,4 +9,4 @@ returns c =
     let s = c.args.self.now in
     c.write_samples.ensures
     ∙ ap (λ (xs : List ℕ). packet_bytes ((audio_of s).packet c.args.n xs))
-    (rw (c.copy_from_slice.ensures.after, c.samples_size.ensures.value, laid_over (samples_size s) c.args.rest.now c.silence-filled.result c.requires.part, c.silence-filled.ensures) refl)
+    (rw (c.copy_from_slice.ensures.after, c.requires.stream.size, laid_over (samples_size s) c.args.rest.now c.silence-filled.result c.requires.part, c.silence-filled.ensures) refl)

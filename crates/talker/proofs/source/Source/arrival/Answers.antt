@@ -5,7 +5,7 @@ use mir.Syntax.{w64}
 use Rattle.talker.specs.declared.source.Source.{Source}
 use Rattle.talker.specs.Journal.{Stream, stream_of}
 use Rattle.talker.specs.Talking.{IsSource, stream_in}
-use Rattle.talker.proofs.SourceLemmas.{audio_few, audio_packets, video_early, video_packets, video_stream_is}
+use Rattle.talker.proofs.SourceLemmas.{audio_few, video_early, video_packets, video_stream_is}
 use Rattle.talker.proofs.source.Source.arrival.Goals as goal
 
 pub arrival-requires-clause-frames : goal.arrival-requires-clause-frames

@@ -1,6 +1,4 @@
-use Rattle.std.proofs.Common.{◌≡◌, inl, Option, Some, None, refl, subst, sym, ◌∙◌}
-use Rattle.std.specs.Prelude.{Err, IfSome}
-use Rattle.talker.specs.declared.fault.TalkFault.{TalkFault}
+use Rattle.std.proofs.Common.{inl, refl, sym, ◌∙◌}
 use Rattle.talker.proofs.SourceLemmas.{video_fault}
 use Rattle.talker.proofs.source.Source.of_video.Goals as goal
 

@@ -6,7 +6,7 @@ use mir.Syntax.{w64}
 use Rattle.pcap_frames.specs.Capture.{HasSpelling}
 use Rattle.talker.specs.declared.clock.ClockStream.{ClockStream}
 use Rattle.talker.specs.declared.source.Source.{Source}
-use Rattle.talker.specs.Clock.{clock_arrival, clock_packet, clock_packets}
+use Rattle.talker.specs.Clock.{clock_arrival, clock_packet}
 use Rattle.talker.specs.Frames.{SentFrame, capture_style, clock_bytes, clock_frame_of, record_of}
 use Rattle.talker.specs.Talking.{IsClockIn, IsClockOf, IsSource, plan_in, stream_in}
 use Rattle.talker.proofs.StreamLemmas.{clocks_in, count_clock, packets_in}

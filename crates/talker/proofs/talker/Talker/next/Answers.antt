@@ -2,7 +2,7 @@ use Rattle.std.proofs.Common.{◌≡◌, ◌≢◌, ◌+◌, ◌<◌, ◌≤◌,
 use Rattle.std.proofs.lemmas.Option.{slice_get_past}
 use Rattle.talker.specs.Frames.{left_of}
 use Rattle.talker.specs.Talking.{IsClockFirst, input_in, plan_in, stream_in}
-use Rattle.talker.proofs.StreamLemmas.{at_number, clock_at_number, clocks_in, count_all, count_clock, count_of, frames_of, packets_in}
+use Rattle.talker.proofs.StreamLemmas.{at_number, clock_at_number, count_all, count_clock, count_of, frames_of, packets_in}
 use Rattle.talker.proofs.TalkLemmas.{clock_step, ended, later, moved, packet_step, sooner, source_is, stopped, went_on}
 use Rattle.talker.proofs.talker.Talker.next.Goals as goal
 

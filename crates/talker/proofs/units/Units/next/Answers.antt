@@ -1,7 +1,7 @@
-use Rattle.std.proofs.Common.{◌≡◌, ◌+◌, ℕ, sym, subst, ap, refl, arith}
+use Rattle.std.proofs.Common.{ℕ, sym, subst}
 use Rattle.talker.specs.declared.units.Units.{Units}
-use Rattle.talker.specs.Listing.{IsWalk, walked}
-use Rattle.talker.proofs.ListingLemmas.{next_is, next_listed, walk_ended, walk_on}
+use Rattle.talker.specs.Listing.{IsWalk}
+use Rattle.talker.proofs.ListingLemmas.{walk_on}
 use Rattle.talker.proofs.units.Units.next.Goals as goal
 
 pub returns-clause-walk : goal.returns-clause-walk

@@ -1,4 +1,4 @@
-use Rattle.std.proofs.Common.{◌≡◌, length, subst, sym, ap, arith}
+use Rattle.std.proofs.Common.{length, subst, sym, ap, arith}
 use Rattle.cvf_format.specs.Cvf.{Cvf, IsWritableCvf, cvf_spelling}
 use Rattle.cvf_format.specs.AnnexB.{nal_units}
 use Rattle.talker.proofs.VideoParts.{packet_short, writable_in}
