@@ -120,37 +120,12 @@ fn talk_contents<F: Shelf, S: Sink>(
     ensures { TalksContents plan contents.now output.now (F.state shelf.old) (F.state shelf.new) (S.state out.old) (S.state out.new) text.old text.new result }
 {
     match contents.stop {
-        Stop::End => talk_input(
-            alloc,
-            plan,
-            contents.bytes.as_slice(),
-            output,
-            shelf,
-            text,
-            out,
-        ),
         Stop::Fault => print_fault(text, out),
         Stop::Limit => print_limit(text, out),
-    }
-}
-
-/// Makes the capture of an input, where it makes a stream.
-fn talk_input<F: Shelf, S: Sink>(
-    alloc: Global,
-    plan: TalkPlan,
-    input: &[u8],
-    output: &str,
-    shelf: &mut F,
-    text: &mut Text,
-    out: &mut S,
-) -> Result<Status, Failed>
-    requires plan { IsPlan plan }
-    requires limit { length input.now ≤ most_input }
-    ensures { Talks (TalkedOutcome plan input.now ⊥) output.now (capture plan input.now) (F.state shelf.old) (F.state shelf.new) (S.state out.old) (S.state out.new) text.old text.new result }
-{
-    match Talker::begin(alloc, plan, input) {
-        Ok(mut talker) => send(alloc, &mut talker, output, shelf, text, out),
-        Err(fault) => print_talk_fault(text, out, fault),
+        Stop::End => match Talker::begin(alloc, plan, contents.bytes.as_slice()) {
+            Ok(mut talker) => send(alloc, &mut talker, output, shelf, text, out),
+            Err(fault) => print_talk_fault(text, out, fault),
+        },
     }
 }
 
@@ -222,7 +197,7 @@ fn write_capture<F: Shelf>(
     requires begun { talker.old.given ≡ 0 }
     ensures { WritesPart (F.state shelf.old) (F.state shelf.new) writer.old writer.new (capture talker.old.plan talker.old.input) result }
 {
-    writer.add(shelf, &file_header())?;
+    writer.add(shelf, &file_header(), &[])?;
     while let Some(sent) = talker.next() {
         add_record(writer, shelf, &sent)?;
     }
@@ -254,7 +229,7 @@ fn add_record<F: Shelf>(
 {
     let len = sent.bytes.len() as u32;
     let header = record_header(STYLE, sent.arrival, len, len);
-    writer.add_headed(shelf, &header, sent.bytes)
+    writer.add(shelf, &header, sent.bytes)
 }
 
 /// Says how many packets were sent.

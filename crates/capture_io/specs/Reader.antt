@@ -1,7 +1,9 @@
 -- What a reader of captures in either layout stands for.
-use Rattle.std.specs.Prelude.{◌≡◌, ℕ, ◌+◌, ◌<◌, ◌≤◌, ⊤, true, false, if◌then◌else◌, List, [], ◌++◌, length, take, Result, IfOk, IfErr, OnOk, Option, None, Some, option_to_list}
+use Rattle.std.specs.Prelude.{◌≡◌, ℕ, ◌+◌, ◌<◌, ◌≤◌, ⊤, true, false, if◌then◌else◌, List, [], ◌++◌, length, take, Result, IfOk, IfErr, IfSome, OnOk, Option, None, Some, option_map, option_to_list}
 use Rattle.avtp_base.specs.declared.refusal.Refusal.{Refusal}
 use Rattle.pcap_frames.specs.Capture.{Record}
+use Rattle.pcap_frames.specs.declared.style.RecordView.{RecordView}
+use Rattle.pcap_frames.specs.Layout.{IsRecordTime}
 use Rattle.pcap_frames.specs.Reading as classic
 use Rattle.pcapng_frames.specs.Reading as ng
 use Rattle.capture_io.specs.declared.capture_reader.Format.{Format}
@@ -107,3 +109,19 @@ with_part r bytes = record r { classic = classic.with_part r.classic bytes }
 pub record IsNext (r : CaptureReading) (bytes : List ℕ) : Type 0 where
   pub format : r.format ≡ Some Classic
   pub next : classic.IsNext r.classic bytes
+
+-- Where the next record lies whole at the front of the piece, this is its size.
+pub record FindsNext (r : CaptureReading) (piece : List ℕ) (result : Option ℕ) : Type 0 where
+  pub within : IfSome result (λ size. size ≤ length piece)
+  pub next : IfSome result (λ size. IsNext r (take size piece))
+  pub none : result ≡ None → (size : ℕ) → IsNext r (take size piece) → ⊥
+
+-- A view of the record that is held. Its time is one that a capture can say.
+pub record IsView (held : Option Record) (view : RecordView) : Type 0 where
+  pub exact : held ≡ Some (classic.shown view)
+  pub time : IsRecordTime view.arrival
+
+-- the same, where a record is held
+pub record IsViewOf (held : Option Record) (view : Option RecordView) : Type 0 where
+  pub exact : option_map classic.shown view ≡ held
+  pub time : IfSome view (λ v. IsRecordTime v.arrival)

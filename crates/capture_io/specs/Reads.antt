@@ -1,5 +1,5 @@
 -- What reading leaves of a shelf: its files, its open files and its counts, and which names it asks for.
-use Rattle.std.specs.Prelude.{◌≡◌, ℕ, ◌≤◌, List, [], ◌∷◌, ◌++◌, length, None, IfOk, IsErrOf, IsSome, OnErr, Result, option_map}
+use Rattle.std.specs.Prelude.{◌≡◌, ℕ, ◌≤◌, List, [], ◌∷◌, length, None, IfOk, IsErrOf, IsSome, OnErr, Result, option_map}
 use Rattle.std.specs.Io.KnownBytes.{ReadConsumes}
 use Rattle.avtp_base.specs.declared.failed.Failed.{Failed}
 use Rattle.avtp_base.specs.declared.failed.OpenFault.{OpenFault}

@@ -79,6 +79,11 @@ pub record ReadsOn (before after : ShelfState) (old new : Sourcing) (result : Op
   pub counted : CountsFault None result before.reading_faults after.reading_faults
   pub reads : ReadsSlot before after (slot_of old) (slot_of new)
 
+-- It read on until a record is held, or the reading ended.
+pub record ReadsRecord (before after : ShelfState) (old new : Sourcing) (result : Option End) : Type 0 where
+  pub on : ReadsOn before after old new result
+  pub held : result ≡ None → IsSome (held_in new)
+
 -- the file is open, and no record is held
 abbrev pub IsReady : Slots → Sourcing → Type 0
 IsReady slots source = IsSome (slots (slot_of source)) × (held_in source ≡ None)
@@ -107,6 +112,11 @@ pub record LiesAhead (source : Sourcing) (size : ℕ) : Type 0 where
   pub going : source.ended ≡ None
   pub within : size ≤ length source.pieces.waiting
   pub next : IsNext source.reader (take size source.pieces.waiting)
+
+-- Where the next record lies whole at the front of the bytes that wait, this is its size.
+pub record FindsAhead (source : Sourcing) (result : Option ℕ) : Type 0 where
+  pub ahead : IfSome result (λ size. LiesAhead source size)
+  pub none : result ≡ None → (size : ℕ) → LiesAhead source size → ⊥
 
 -- a source that lends the record in so many of the bytes that wait, or none, stands for this one
 abbrev pub lending : Option ℕ → Sourcing → Sourcing

@@ -1,12 +1,9 @@
 //! Captures in either layout, classic pcap or pcapng, in any pieces.
 
-ghost use Rattle.std.specs.Prelude.{◌≡◌, ◌+◌, ◌≤◌, ◌^◌, ℕ, List, length, take, None, Some, IfOk, IfSome};
-ghost use Rattle.std.specs.Option.{option_map};
+ghost use Rattle.std.specs.Prelude.{◌≡◌, ◌+◌, ◌≤◌, ◌^◌, ℕ, List, length, None, IfOk};
 ghost use Rattle.std.specs.Result.{result_err};
 ghost use Rattle.pcap_frames.specs.Capture.{Record};
-ghost use Rattle.pcap_frames.specs.Layout.{IsRecordTime};
-ghost use Rattle.pcap_frames.specs.Reading.{shown};
-ghost use Rattle.capture_io.specs.Reader.{EndsHere, Feeds, HasRead, IsNext, Releases, format_in, held, nothing_read, taken, with_part};
+ghost use Rattle.capture_io.specs.Reader.{EndsHere, Feeds, FindsNext, HasRead, IsNext, IsView, IsViewOf, Releases, format_in, held, nothing_read, taken, with_part};
 
 use avtp_base::{Field, NoMemory, Refusal};
 use byteorder::{ByteOrder, LittleEndian};
@@ -30,8 +27,8 @@ const SECTION_HEADER: u32 = 0x0A0D_0D0A;
 /// How many bytes tell the layout.
 const FRONT: usize = 4;
 
-/// Reads a capture in either layout, with the calls of [`Reader`]; only records of a classic capture are lent. The first four bytes are held back until they are all
-/// there, and tell the layout.
+/// Reads a capture in either layout, with the calls of [`Reader`]; only records of a classic capture are lent. The first four
+/// bytes are held back until they are all there, and tell the layout.
 #[derive(Drop)]
 pub struct CaptureReader {
     format: Option<Format>,
@@ -108,8 +105,7 @@ impl CaptureReader {
 
     /// The record that was taken last, where it is whole and was not released.
     pub fn held(&self) -> Option<RecordView<'_>>
-        ensures exact { option_map shown result ≡ held self.now }
-        ensures time { IfSome result (λ r. IsRecordTime r.arrival) }
+        ensures { IsViewOf (held self.now) result }
     {
         match self.format? {
             Format::Classic => self.classic.held(),
@@ -134,9 +130,7 @@ impl CaptureReader {
     ///
     /// None comes only where no such record lies there, or the capture is not a classic one. Then the piece is to be fed.
     pub fn whole_ahead(&self, piece: &[u8]) -> Option<usize>
-        ensures within { IfSome result (λ size. size ≤ length piece.now) }
-        ensures next { IfSome result (λ size. IsNext self.now (take size piece.now)) }
-        ensures none { result ≡ None → (size : ℕ) → IsNext self.now (take size piece.now) → ⊥ }
+        ensures { FindsNext self.now piece.now result }
     {
         match self.format? {
             Format::Classic => self.classic.whole_ahead(piece),
@@ -147,8 +141,7 @@ impl CaptureReader {
     /// The next record, where it lies: these are its bytes, header and all.
     pub fn lend<'a>(&self, bytes: &'a [u8]) -> RecordView<'a>
         requires { IsNext self.now bytes.now }
-        ensures exact { held (with_part self.now bytes.now) ≡ Some (shown result) }
-        ensures time { IsRecordTime result.arrival }
+        ensures { IsView (held (with_part self.now bytes.now)) result }
     {
         self.classic.lend(bytes)
     }

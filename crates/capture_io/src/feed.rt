@@ -1,28 +1,24 @@
 //! A capture whose pieces are fed to its reader.
 
-ghost use Rattle.std.specs.Prelude.{◌≡◌, ◌≤◌, ◌<◌, ◌^◌, ℕ, [], Some, None, length, IfSome, IsSome};
+ghost use Rattle.std.specs.Prelude.{◌≡◌, ◌<◌, [], length, IsSome};
 ghost use Rattle.avtp_base.specs.States.{ShelfState};
-ghost use Rattle.pcap_frames.specs.Layout.{IsRecordTime};
-ghost use Rattle.pcap_frames.specs.Reading.{shown};
-ghost use Rattle.capture_io.specs.Reads.{ClosesSlot};
-ghost use Rattle.capture_io.specs.Source.{GivesNext, GivesUp, IsReady, LiesAhead, OpensSource, ReadsOn, held_in, holding, slot_of};
+ghost use Rattle.capture_io.specs.Reader.{IsView};
+ghost use Rattle.capture_io.specs.Source.{FindsAhead, GivesNext, GivesUp, IsReady, LiesAhead, ReadsOn, ReadsRecord, held_in, holding, slot_of};
 
 use crate::capture_reader::CaptureReader;
 use crate::end::End;
 use crate::pieces::Pieces;
 use crate::read_slots::ReadSlots;
-use avtp_base::{OpenFault, Shelf};
 use pcap_frames::RecordView;
-use std::alloc::Global;
 use std::marker::Model;
 
 /// A capture that is read from a shelf, and fed to a reader in pieces. The bytes of a record are taken by the reader, which
 /// holds it then, or the record is looked at where it lies in the piece.
 #[derive(Drop)]
 pub struct Feed {
-    pieces: Pieces,
-    reader: CaptureReader,
-    ended: Option<End>,
+    pub pieces: Pieces,
+    pub reader: CaptureReader,
+    pub ended: Option<End>,
 }
 
 impl Model for Feed {
@@ -38,31 +34,6 @@ impl Model for Feed {
 }
 
 impl Feed {
-    /// Opens a capture of which at most `limit` bytes may be read; `limit` is at most 2^62. No record is held yet.
-    ///
-    /// `Missing` comes only where the shelf tells its files and none has the name, `Failed` only where the reading count
-    /// rose, and `Memory` where no memory was found; after each of them the file is not open.
-    pub fn open<F: Shelf>(
-        alloc: Global,
-        limit: u64,
-        shelf: &mut F,
-        name: &str,
-    ) -> Result<Self, OpenFault>
-        requires { limit ≤ 2 ^ 62 }
-        ensures { OpensSource (F.state shelf.old) (F.state shelf.new) limit name.now result }
-    {
-        let pieces = Pieces::open(alloc, limit, shelf, name)?;
-        let Ok(reader) = CaptureReader::new(alloc) else {
-            pieces.close(shelf);
-            return Err(OpenFault::Memory);
-        };
-        Ok(Feed {
-            pieces,
-            reader,
-            ended: None,
-        })
-    }
-
     /// Drops the record that is held, and reads on to the next. At `None` one is held now; else it answers how the reading
     /// ended. Once it has ended, each further call answers the same and reads nothing.
     #[inline(never)]
@@ -81,8 +52,7 @@ impl Feed {
     /// Reads on until a record is held, or the reading ends.
     fn read_on<F: ReadSlots>(&mut self, shelf: &mut F) -> Option<End>
         requires { IsReady (F.state shelf.old).slots self.old }
-        ensures on { ReadsOn (F.state shelf.old) (F.state shelf.new) self.old self.new result }
-        ensures held { result ≡ None → IsSome (held_in self.new) }
+        ensures { ReadsRecord (F.state shelf.old) (F.state shelf.new) self.old self.new result }
     {
         loop {
             if let Some(end) = self.step(shelf) {
@@ -135,8 +105,7 @@ impl Feed {
     /// The size of the next record, where it lies whole at the front of the bytes that wait and nothing of it was taken yet.
     /// None comes only where no such record lies there, or the reading has ended.
     pub fn whole_ahead(&self) -> Option<usize>
-        ensures ahead { IfSome result (λ size. LiesAhead self.now size) }
-        ensures none { result ≡ None → (size : ℕ) → LiesAhead self.now size → ⊥ }
+        ensures { FindsAhead self.now result }
     {
         if self.ended.is_some() {
             return None;
@@ -147,8 +116,7 @@ impl Feed {
     /// The next record, where it lies in so many bytes that wait.
     pub fn lend(&self, size: usize) -> RecordView<'_>
         requires { LiesAhead self.now size }
-        ensures exact { held_in (holding self.now size) ≡ Some (shown result) }
-        ensures time { IsRecordTime result.arrival }
+        ensures { IsView (held_in (holding self.now size)) result }
     {
         self.reader.lend(&self.pieces.waiting()[..size])
     }
@@ -160,32 +128,5 @@ impl Feed {
     {
         self.reader.pass(&self.pieces.waiting()[..size]);
         self.pieces.take(size);
-    }
-
-    /// Drops the record that is held, if there is one.
-    pub fn release(&mut self)
-        ensures { GivesUp self.old self.new }
-    {
-        self.reader.release();
-    }
-
-    /// The record that is held.
-    pub fn record(&self) -> RecordView<'_>
-        requires { IsSome (held_in self.now) }
-        ensures exact { held_in self.now ≡ Some (shown result) }
-        ensures time { IsRecordTime result.arrival }
-    {
-        match self.reader.held() {
-            Some(record) => record,
-            None => unreachable!(),
-        }
-    }
-
-    /// Closes the file, wherever the reading stands.
-    pub fn close<F: Shelf>(self, shelf: &mut F)
-        requires { IsSome ((F.state shelf.old).slots (slot_of self)) }
-        ensures { ClosesSlot (F.state shelf.old) (F.state shelf.new) (slot_of self) }
-    {
-        self.pieces.close(shelf);
     }
 }

@@ -37,18 +37,9 @@ impl FileWriter {
         Ok(FileWriter { slot, buffer })
     }
 
-    /// Adds at most [`Buffer::ROOM`] bytes, or nothing where the shelf fails.
-    pub fn add<F: Shelf>(&mut self, shelf: &mut F, bytes: &[u8]) -> Result<(), Failed>
-        requires made { IsMadeIn (F.state shelf.old).slots self.old.slot }
-        requires size { length bytes.now ≤ 65536 }
-        ensures { AddsBytes (F.state shelf.old) (F.state shelf.new) self.old self.new bytes.now result }
-    {
-        self.add_headed(shelf, &[], bytes)
-    }
-
     /// Adds a header and what follows it, together at most [`Buffer::ROOM`] bytes, or nothing where the shelf fails.
     #[inline(always)]
-    pub fn add_headed<F: Shelf>(
+    pub fn add<F: Shelf>(
         &mut self,
         shelf: &mut F,
         header: &[u8],

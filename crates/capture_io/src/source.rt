@@ -1,13 +1,14 @@
 //! A capture that is read record by record.
 
-ghost use Rattle.std.specs.Prelude.{◌≡◌, ◌≤◌, ◌^◌, Some, IsSome};
-ghost use Rattle.pcap_frames.specs.Layout.{IsRecordTime};
-ghost use Rattle.pcap_frames.specs.Reading.{shown};
+ghost use Rattle.std.specs.Prelude.{◌≤◌, ◌^◌, IsSome};
+ghost use Rattle.capture_io.specs.Reader.{IsView};
 ghost use Rattle.capture_io.specs.Reads.{ClosesSlot};
 ghost use Rattle.capture_io.specs.Source.{GivesNext, GivesUp, IsLending, OpensSource, held_in, lending, slot_of};
 
+use crate::capture_reader::CaptureReader;
 use crate::end::End;
 use crate::feed::Feed;
+use crate::pieces::Pieces;
 use crate::read_slots::ReadSlots;
 use avtp_base::{OpenFault, Shelf};
 use pcap_frames::RecordView;
@@ -49,7 +50,16 @@ impl Source {
         requires { limit ≤ 2 ^ 62 }
         ensures { OpensSource (F.state shelf.old) (F.state shelf.new) limit name.now result }
     {
-        let feed = Feed::open(alloc, limit, shelf, name)?;
+        let pieces = Pieces::open(alloc, limit, shelf, name)?;
+        let Ok(reader) = CaptureReader::new(alloc) else {
+            pieces.close(shelf);
+            return Err(OpenFault::Memory);
+        };
+        let feed = Feed {
+            pieces,
+            reader,
+            ended: None,
+        };
         Ok(Source { feed, lent: None })
     }
 
@@ -71,12 +81,14 @@ impl Source {
     /// The record that is held.
     pub fn record(&self) -> RecordView<'_>
         requires { IsSome (held_in self.now) }
-        ensures exact { held_in self.now ≡ Some (shown result) }
-        ensures time { IsRecordTime result.arrival }
+        ensures { IsView (held_in self.now) result }
     {
-        match self.lent {
-            Some(size) => self.feed.lend(size),
-            None => self.feed.record(),
+        if let Some(size) = self.lent {
+            return self.feed.lend(size);
+        }
+        match self.feed.reader.held() {
+            Some(record) => record,
+            None => unreachable!(),
         }
     }
 
@@ -85,7 +97,7 @@ impl Source {
         requires { IsSome ((F.state shelf.old).slots (slot_of self)) }
         ensures { ClosesSlot (F.state shelf.old) (F.state shelf.new) (slot_of self) }
     {
-        self.feed.close(shelf);
+        self.feed.pieces.close(shelf);
     }
 }
 
@@ -96,6 +108,6 @@ fn give_up(feed: &mut Feed, lent: Option<usize>)
 {
     match lent {
         Some(size) => feed.pass(size),
-        None => feed.release(),
+        None => feed.reader.release(),
     }
 }

@@ -1,4 +1,4 @@
-ghost use Rattle.std.specs.Prelude.{◌≤◌, length};
+ghost use Rattle.std.specs.Prelude.{◌≤◌, ◌<◌, length};
 
 use crate::{End, FileWriter, Source, Stop, read_contents};
 use avtp_base::{Buffer, Field, MemoryShelf, OpenFault, Refusal, Shelf};
@@ -103,16 +103,16 @@ fn contents(rt: HostRuntime) -> Result<(), Fail> {
 
 /// Makes the file "a" of two such pieces, and tells whether all was written.
 fn write_twice<F: Shelf>(alloc: Global, shelf: &mut F, piece: &[u8]) -> Result<bool, Fail>
-    requires { length piece.now ≤ 65536 }
+    requires { (0 < length piece.now) × (length piece.now ≤ 65536) }
 {
     let Ok(mut writer) = FileWriter::create(Buffer::new(alloc)?, shelf, "a") else {
         return Err(Fail::from("a can be made"));
     };
-    if writer.add(shelf, piece).is_err() {
+    if writer.add(shelf, piece, &[]).is_err() {
         writer.abandon(shelf);
         return Ok(false);
     }
-    if writer.add(shelf, piece).is_err() {
+    if writer.add(shelf, &piece[..1], &piece[1..]).is_err() {
         writer.abandon(shelf);
         return Ok(false);
     }

@@ -9,5 +9,5 @@ pub returns : goal.returns
 returns g c =
     let sent = c.args.sent.now in
     let at : to_z w64 (of_z w64 sent.arrival) ≡ sent.arrival = omega (arith, ints, c.requires.fits.begun, c.requires.fits.ended) in
-    subst (λ (bytes : List ℕ). AddsBytes (g.F.Shelf.state c.args.shelf.now) (g.F.Shelf.state c.add_headed.new.shelf) c.args.writer.now c.add_headed.new.self bytes c.add_headed.result)
-    (rw at at (c.record_header-header.ensures sent.bytes.now refl)) c.add_headed.ensures
+    subst (λ (bytes : List ℕ). AddsBytes (g.F.Shelf.state c.args.shelf.now) (g.F.Shelf.state c.add.new.shelf) c.args.writer.now c.add.new.self bytes c.add.result)
+    (rw at at (c.record_header-header.ensures sent.bytes.now refl)) c.add.ensures

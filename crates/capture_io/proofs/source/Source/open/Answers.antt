@@ -1,6 +1,6 @@
 use Rattle.std.proofs.Common.{refl, rules}
 use Rattle.capture_io.proofs.Giving.{nothing_given}
-use Rattle.capture_io.proofs.feed.Feed.open.Goals as goal
+use Rattle.capture_io.proofs.source.Source.open.Goals as goal
 
 pub returns : goal.returns
 returns g c = record {
