@@ -107,6 +107,13 @@ tells_caused plan bytes a b weaker tells = tells_weaker (λ ended text o. talked
 pub whole_is : (limit : ℕ) (bytes : List ℕ) (halt : Stop) (prefix slice : List ℕ) → halt ≡ stop.End → slice ≡ prefix → IsContents limit bytes halt prefix → slice ≡ bytes
 whole_is limit bytes halt prefix slice is same has = same ∙ sym (subst (λ (h : Stop). IsContents limit bytes h prefix) is has).0
 
+-- so what is told of it is told of all its bytes
+pub tells_read : {before now : Option (List ℕ)} {result : Result Status Failed} {prefix : List ℕ} (plan : TalkPlan) (bytes input : List ℕ) (halt : Stop)
+    → halt ≡ stop.End → input ≡ prefix → IsContents most_input bytes halt prefix → TellsText (TalkedOutcome plan input ⊥) before now result → TellsText (TalkedOutcome plan bytes (halt ≡ stop.Fault)) before now result
+tells_read {before} {now} {result} {prefix} plan bytes input halt is same has tells =
+    subst (λ (b : List ℕ). TellsText (TalkedOutcome plan b (halt ≡ stop.Fault)) before now result) (whole_is most_input bytes halt prefix input is same has)
+    (tells_caused plan input ⊥ (halt ≡ stop.Fault) (λ none. absurd none) tells)
+
 -- it is longer than may be read
 pub too_long : (limit : ℕ) (bytes : List ℕ) (halt : Stop) (prefix : List ℕ) → halt ≡ stop.Limit → IsContents limit bytes halt prefix → limit < length bytes
 too_long limit bytes halt prefix is has = (subst (λ (h : Stop). IsContents limit bytes h prefix) is has).0

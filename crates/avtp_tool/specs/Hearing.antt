@@ -13,6 +13,7 @@ use Rattle.sample_schedule.specs.declared.shown.Shown.{Shown}
 use Rattle.listener.specs.Listening.{ListenState, StandsFor, is_closed, out}
 use Rattle.presenter_ring.specs.declared.receiver.Pull.{Pull}
 use Rattle.presenter_ring.specs.declared.receiver.Pull.TheVariants as pull
+use Rattle.presenter_ring.specs.Pulls.{ending_of, items_of}
 use Rattle.avtp_tool.specs.declared.hearing.Heard.{Heard}
 use Rattle.avtp_tool.specs.declared.hearing.Heard.TheVariants as heard
 use Rattle.avtp_tool.specs.declared.hearing.Stage.{Stage}
@@ -157,3 +158,8 @@ pub record GoesOn (shelf shelf' : ShelfState) (old_source source : Sourcing) (ol
       → Shows begun shelf first old_source fresh old_listener old_stage earlier → Shows begun shelf' first source fresh listener stage (earlier ++ items)
   pub live : IsSome (shelf'.slots (slot_of source))
   pub left : left_of stage source listener + length items ≤ left_of old_stage old_source old_listener
+
+-- It went on to this answer: the next item, or that with which it ended.
+pub record GivesPull (shelf shelf' : ShelfState) (old_source source : Sourcing) (old_listener listener : ListenState) (old_stage stage : Stage) (answer : Pull) : Type 0 where
+  pub on : GoesOn shelf shelf' old_source source old_listener listener old_stage stage (items_of answer)
+  pub ended : pull_at stage ≡ ending_of answer

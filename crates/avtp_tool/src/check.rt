@@ -3,7 +3,6 @@
 ghost use Rattle.std.specs.Prelude.{◌≡◌, ◌^◌, ◌≤◌, [], map};
 ghost use Rattle.sequence_track.specs.Tracking.{StandsFor};
 ghost use Rattle.avtp_text.specs.Check.{finding_texts, packet_line};
-ghost use Rattle.avtp_text.specs.Written.{Prints};
 ghost use Rattle.avtp_tool.specs.Check.{check_report, check_status, ChecksOne, ChecksRecords, PrintsFound, total_line, unmarked_findings};
 ghost use Rattle.avtp_tool.specs.Outcome.{EndsWith};
 ghost use Rattle.avtp_tool.specs.Reading.{DoesFile, IsOpen, ReadsRecords};
@@ -148,24 +147,13 @@ fn print_total<S: Sink>(
 ) -> Result<Status, Failed>
     ensures { EndsWith (check_status total.findings total.end) (S.state out.old) (S.state out.new) text.old text.new result (total_line limit total.frames total.streams total.findings total.end) }
 {
-    print_total_line(text, out, limit, total)?;
-    Ok(status_of(total))
-}
-
-fn print_total_line<S: Sink>(
-    text: &mut Text,
-    out: &mut S,
-    limit: u64,
-    total: Total,
-) -> Result<(), Failed>
-    ensures { Prints (S.state out.old) (S.state out.new) text.old text.new result (total_line limit total.frames total.streams total.findings total.end) }
-{
     match total.end {
-        End::Whole => text.end_check(out, total.frames, u64::from(total.streams), total.findings),
-        End::Refused(refusal) => text.capture_refused(out, refusal),
-        End::ReadFault => text.read_fault(out),
-        End::Limit => text.limit(out, limit),
+        End::Whole => text.end_check(out, total.frames, u64::from(total.streams), total.findings)?,
+        End::Refused(refusal) => text.capture_refused(out, refusal)?,
+        End::ReadFault => text.read_fault(out)?,
+        End::Limit => text.limit(out, limit)?,
     }
+    Ok(status_of(total))
 }
 
 /// How a run ends with a capture of these numbers.

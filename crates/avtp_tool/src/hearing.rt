@@ -1,13 +1,10 @@
 //! A capture that is heard: what is shown of it comes item by item, as its records are read.
 
-ghost use Rattle.std.specs.Prelude.{◌≡◌, ◌<◌, [], IsSome, MatchResult, None, Some, false};
-ghost use Rattle.capture_io.specs.Reads.{ClosesSlot};
-ghost use Rattle.capture_io.specs.Source.{slot_of};
+ghost use Rattle.std.specs.Prelude.{◌≡◌, ◌<◌, [], MatchResult, None, false};
 ghost use Rattle.listener.specs.Listening.{IsIdle, is_closed};
-ghost use Rattle.presenter_ring.specs.Pulls.{items_of, ending_of};
-ghost use Rattle.avtp_tool.specs.Hearing.{ClosesAt, GoesOn, IsFresh, IsGoing, IsAtReading, IsSoundAt, heard_at, pull_at, pull_with, reads_left};
+ghost use Rattle.avtp_tool.specs.Hearing.{ClosesAt, GivesPull, GoesOn, IsGoing, IsAtReading, IsSoundAt, heard_at, pull_at, pull_with, reads_left};
 
-use avtp_base::{NoMemory, Shelf};
+use avtp_base::NoMemory;
 use capture_io::{End, ReadSlots, Source};
 use listener::{Counts, RecordListener};
 use presenter_ring::Pull;
@@ -69,38 +66,10 @@ pub struct Hearing {
 }
 
 impl Hearing {
-    /// The hearing of a capture that was opened now, by a listener that was given no record.
-    pub fn begin(source: Source, listener: RecordListener, alloc: Global) -> Self
-        requires { IsFresh source listener }
-        ensures { (result.source ≡ source) × (result.listener ≡ listener) × (result.stage ≡ Stage.Reading) }
-    {
-        Hearing {
-            source,
-            listener,
-            alloc,
-            stage: Stage::Reading,
-        }
-    }
-
-    /// Closes the capture's file, wherever the hearing stands.
-    pub fn close<F: Shelf>(self, shelf: &mut F)
-        requires { IsSome ((F.state shelf.old).slots (slot_of self.source)) }
-        ensures { ClosesSlot (F.state shelf.old) (F.state shelf.new) (slot_of self.source) }
-    {
-        let Hearing {
-            source,
-            listener: _,
-            alloc: _,
-            stage: _,
-        } = self;
-        source.close(shelf);
-    }
-
     /// The next item that is shown, or where there is none how the hearing ended.
     pub fn next<F: ReadSlots>(&mut self, shelf: &mut F) -> Pull
         requires { IsGoing (F.state shelf.old).slots self.old.source self.old.stage }
-        ensures on { GoesOn (F.state shelf.old) (F.state shelf.new) self.old.source self.new.source self.old.listener self.new.listener self.old.stage self.new.stage (items_of result) }
-        ensures ended { pull_at self.new.stage ≡ ending_of result }
+        ensures { GivesPull (F.state shelf.old) (F.state shelf.new) self.old.source self.new.source self.old.listener self.new.listener self.old.stage self.new.stage result }
     {
         loop {
             if let Some(shown) = self.listener.next_out() {

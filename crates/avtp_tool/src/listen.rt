@@ -2,7 +2,6 @@
 
 ghost use Rattle.std.specs.Prelude.{◌≡◌, ◌≤◌, [], Ok, None};
 ghost use Rattle.avtp_words.specs.Grammar.{listening_of};
-ghost use Rattle.avtp_text.specs.Written.{Prints};
 ghost use Rattle.avtp_tool.specs.Yield.{HandsOn};
 ghost use Rattle.listener.specs.Listening.{StandsFor};
 ghost use Rattle.presenter_ring.specs.Pipes.{ended_with, given_to, waiting_in};
@@ -14,7 +13,7 @@ ghost use Rattle.avtp_tool.specs.Run.{IsListening};
 ghost use Rattle.avtp_tool.specs.Status.{status_of};
 
 use crate::command::print_unopened;
-use crate::hearing::{Heard, Hearing};
+use crate::hearing::{Heard, Hearing, Stage};
 use crate::presenting::Presenting;
 use crate::receiving::Receiving;
 use crate::rounds::present_all;
@@ -68,7 +67,12 @@ pub fn listen<T: Threads + Sync, F: Shelf, S: Sink, G: Gate, D: Devices + Send>(
         source.close(shelf);
         return Ok(Status::Memory);
     };
-    let mut hearing = Hearing::begin(source, listener, alloc);
+    let mut hearing = Hearing {
+        source,
+        listener,
+        alloc,
+        stage: Stage::Reading,
+    };
     let ring = asked.ring;
     let heard = hear_records(
         rt,
@@ -82,7 +86,8 @@ pub fn listen<T: Threads + Sync, F: Shelf, S: Sink, G: Gate, D: Devices + Send>(
         gate,
         rack,
     );
-    hearing.close(shelf);
+    let Hearing { source, .. } = hearing;
+    source.close(shelf);
     match heard? {
         Heard::Ended { end, counts } => print_last(text, out, asked.limit, &counts, end),
         Heard::NoMemory => Ok(Status::Memory),
@@ -171,23 +176,11 @@ fn print_last<S: Sink>(
 ) -> Result<Status, Failed>
     ensures { EndsWith (status_of end) (S.state out.old) (S.state out.new) text.old text.new result (last_line limit counts.now end) }
 {
-    print_last_line(text, out, limit, counts, end)?;
-    Ok(Status::of(end))
-}
-
-fn print_last_line<S: Sink>(
-    text: &mut Text,
-    out: &mut S,
-    limit: u64,
-    counts: &Counts,
-    end: End,
-) -> Result<(), Failed>
-    ensures { Prints (S.state out.old) (S.state out.new) text.old text.new result (last_line limit counts.now end) }
-{
     match end {
-        End::Whole => text.end_listen(out, counts),
-        End::Refused(refusal) => text.capture_refused(out, refusal),
-        End::ReadFault => text.read_fault(out),
-        End::Limit => text.limit(out, limit),
+        End::Whole => text.end_listen(out, counts)?,
+        End::Refused(refusal) => text.capture_refused(out, refusal)?,
+        End::ReadFault => text.read_fault(out)?,
+        End::Limit => text.limit(out, limit)?,
     }
+    Ok(Status::of(end))
 }

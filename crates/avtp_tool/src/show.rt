@@ -1,7 +1,6 @@
 //! The command `show`: what each record of a capture holds.
 
 ghost use Rattle.std.specs.Prelude.{◌^◌, ◌≤◌};
-ghost use Rattle.avtp_text.specs.Written.{Prints};
 ghost use Rattle.avtp_tool.specs.Outcome.{EndsWith};
 ghost use Rattle.avtp_tool.specs.Reading.{DoesFile, IsOpen, ReadsRecords};
 ghost use Rattle.avtp_tool.specs.Show.{end_line, PrintsRecords, show_report};
@@ -76,22 +75,11 @@ fn print_end<S: Sink>(
 ) -> Result<Status, Failed>
     ensures { EndsWith (status_of printed.end) (S.state out.old) (S.state out.new) text.old text.new result (end_line limit printed.frames printed.end) }
 {
-    print_end_line(text, out, limit, printed)?;
-    Ok(Status::of(printed.end))
-}
-
-fn print_end_line<S: Sink>(
-    text: &mut Text,
-    out: &mut S,
-    limit: u64,
-    printed: Printed,
-) -> Result<(), Failed>
-    ensures { Prints (S.state out.old) (S.state out.new) text.old text.new result (end_line limit printed.frames printed.end) }
-{
     match printed.end {
-        End::Whole => text.end_frames(out, printed.frames),
-        End::Refused(refusal) => text.capture_refused(out, refusal),
-        End::ReadFault => text.read_fault(out),
-        End::Limit => text.limit(out, limit),
+        End::Whole => text.end_frames(out, printed.frames)?,
+        End::Refused(refusal) => text.capture_refused(out, refusal)?,
+        End::ReadFault => text.read_fault(out)?,
+        End::Limit => text.limit(out, limit)?,
     }
+    Ok(Status::of(printed.end))
 }

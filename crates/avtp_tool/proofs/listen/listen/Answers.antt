@@ -1,9 +1,8 @@
-use Rattle.std.proofs.Common.{Ok, Err, inl, refl, sym, ap, subst, ◌∙◌}
+use Rattle.std.proofs.Common.{Ok, Err, inl, refl, sym, subst, ◌∙◌}
 use Rattle.avtp_base.proofs.Told.{Keeps-refl}
 use Rattle.avtp_words.specs.Grammar.{listening_of}
 use Rattle.avtp_tool.proofs.Yields.{hands_nothing, part_none}
 use Rattle.capture_io.proofs.Leaving.{reads_nothing}
-use Rattle.listener.specs.Listening.{ListenState}
 use Rattle.avtp_tool.specs.declared.hearing.Heard.TheVariants.{Ended, NoMemory}
 use Rattle.avtp_tool.specs.declared.status.Status.TheVariants as status
 use Rattle.avtp_tool.specs.Listen.{listen_report}
@@ -28,25 +27,23 @@ pub returns-in-Ended : goal.returns-in-Ended
 returns-in-Ended g c =
     let asked = listening_of c.args.asked.now in
     let name = c.args.file.now in
-    let begun = c.begin-hearing.ensures in
-    let read = rw begun.0 at c.hear_records-heard.ensures in
+    let read = c.hear_records-heard.ensures in
     let how = c.in-Ended.end in
     let counts = c.in-Ended.counts in
     let result = c.print_last.result in
     let last = c.print_last.ensures in
-    let plan = ap (λ (l : ListenState). l.plan) begun.1 ∙ c.in-Ok-begin.ensures.plan ∙ c.plan.ensures in
+    let plan = c.in-Ok-begin.ensures.plan ∙ c.plan.ensures in
     let ended = ended_as c.hear_records-heard.result c.in_ok-end.field-0 (Ended how counts) c.in_ok-end.was c.in-Ended.is in
     does_read (listen_report asked name) c.in-Ok.ensures read.reads c.close-2.ensures how result (counts_heard how counts c.hear_records-heard.result _ _ ended read.counted)
     (λ bytes given. told_heard asked name bytes _ how counts _ c.hear_records-heard.result ended (read.heard asked bytes plan given) last)
     (λ falls faults. counts_ended how result falls faults last.status) (own_ended result how last.status) (sink_then (rw ended at read.sink) last.sink)
 
-pub returns-in-NoMemory : goal.returns-in-NoMemory
-returns-in-NoMemory g c =
+pub returns : goal.returns
+returns g c =
     let asked = listening_of c.args.asked.now in
     let name = c.args.file.now in
-    let begun = c.begin-hearing.ensures in
-    let read = rw begun.0 at c.hear_records-heard.ensures in
-    let plan = ap (λ (l : ListenState). l.plan) begun.1 ∙ c.in-Ok-begin.ensures.plan ∙ c.plan.ensures in
+    let read = c.hear_records-heard.ensures in
+    let plan = c.in-Ok-begin.ensures.plan ∙ c.plan.ensures in
     let ended = ended_as c.hear_records-heard.result c.in_ok-end.field-0 NoMemory c.in_ok-end.was c.in-NoMemory.is in
     does_cut (listen_report asked name) c.in-Ok.ensures read.reads c.close-2.ensures (Ok status.Memory) (λ bytes given. cut_heard asked name bytes _ c.hear_records-heard.result ended (read.heard asked bytes plan given)) (inl refl)
     (λ falls. counts_memory _ falls refl) refl (sink_ok status.Memory (rw ended at read.sink))
@@ -54,8 +51,7 @@ returns-in-NoMemory g c =
 pub returns-in_err-end : goal.returns-in_err-end
 returns-in_err-end g c =
     let asked = listening_of c.args.asked.now in
-    let begun = c.begin-hearing.ensures in
-    let read = rw begun.0 at c.in_err-end.ensures in
-    let plan = ap (λ (l : ListenState). l.plan) begun.1 ∙ c.in-Ok-begin.ensures.plan ∙ c.plan.ensures in
+    let read = c.in_err-end.ensures in
+    let plan = c.in-Ok-begin.ensures.plan ∙ c.plan.ensures in
     on_err (DoesFile _ _ _ _ _ _ _ _ _ _) c.from_residual.result c.from_residual.ensures.0 (λ e.
     does_cut (listen_report asked c.args.file.now) c.in-Ok.ensures read.reads c.close-2.ensures (Err e) (λ bytes given. read.heard asked bytes plan given) tt (λ falls. counts_failed e falls) tt (sink_err read.sink))

@@ -1,19 +1,28 @@
-use Rattle.std.proofs.Common.{refl, rules}
+use Rattle.std.proofs.Common.{◌≡◌, ◌≤◌, List, ℕ, length, refl, rules}
 use Rattle.talker.specs.Talking.{most_input}
 use Rattle.avtp_tool.specs.declared.status.Status.TheVariants as status
 use Rattle.avtp_tool.proofs.Making.{makes_none, writes_none}
 use Rattle.avtp_tool.proofs.Outcomes.{ends_not, tells_line, undone_by}
-use Rattle.avtp_tool.proofs.Talked.{stops_end, stops_fault, stops_limit, too_long}
+use Rattle.avtp_tool.proofs.Talked.{refused_not, refused_undone, stops_end, stops_fault, stops_limit, tells_read, tells_refused, too_long}
 use Rattle.avtp_tool.proofs.talk.talk_contents.Goals as goal
 
-pub returns-in-End : goal.returns-in-End
-returns-in-End g c = record {
-  tells = (search rules);
-  makes = (search rules);
-  writes = (search rules);
-  counts = stops_end c.args.plan _ c.args.contents.now.stop c.talk_input.result c.in-End.is c.talk_input.ensures.tells;
-  sink = (search rules);
-}
+pub returns-in-Err : goal.returns-in-Err
+returns-in-Err g c =
+    let plan = c.args.plan in
+    let contents = c.args.contents.now in
+    let input : List ℕ = c.as_slice.result.now in
+    let same : input ≡ contents.bytes.items = c.as_slice.ensures.value in
+    let fits : length input ≤ most_input = rw same c.requires.bounded in
+    let why = c.in-Err.fault in
+    let ended = c.print_talk_fault.ensures in
+    let refused = tells_refused plan input ⊥ why fits c.in-Err.ensures.only ended in
+    record {
+      tells = λ bytes has. tells_read plan bytes input contents.stop c.in-End.is same has refused;
+      makes = λ bytes has. makes_none _ c.print_talk_fault.result (refused_not why status.Done (λ e. cc) (λ e. cc) ended);
+      writes = writes_none c.args.output.now c.print_talk_fault.result (refused_undone _ why ended) (refused_not why status.WriteFault (λ e. cc) (λ e. cc) ended);
+      counts = stops_end plan input contents.stop c.print_talk_fault.result c.in-End.is refused;
+      sink = (search rules);
+    }
 
 pub returns-in-Fault : goal.returns-in-Fault
 returns-in-Fault g c = record {

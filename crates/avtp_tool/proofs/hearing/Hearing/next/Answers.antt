@@ -1,4 +1,4 @@
-use Rattle.std.proofs.Common.{Some, None, false, true, sym, ap, ◌∙◌, arith}
+use Rattle.std.proofs.Common.{Some, None, false, true, sym, ap, ◌∙◌, arith, rules}
 use Rattle.std.specs.Prelude.{is_err}
 use Rattle.avtp_tool.specs.Hearing.{pull_at}
 use Rattle.avtp_tool.proofs.HearingTo.{fine_match, goes_out, goes_over, goes_still, goes_then, pull_none, sound_on, sound_over, wrong_match}
@@ -16,17 +16,23 @@ invariant_of-self-in_default-stage g c = record { sound = sound_on _ c.loop-show
 pub invariant_of-self-in-Showing : goal.invariant_of-self-in-Showing
 invariant_of-self-in-Showing g c = record { sound = sound_over c.in-Showing.end c.in-Showing.is (sound_on _ c.loop-shown.self.sound c.next_out.ensures.keeps c.next_out.ensures.stands) }
 
-pub returns-in-Some-clause-on : goal.returns-in-Some-clause-on
-returns-in-Some-clause-on g c =
+pub returns-in-Some : goal.returns-in-Some
+returns-in-Some g c =
     let before = c.loop-shown.invariant in
     let out = c.in-Some.ensures in
-    goes_then before.on (goes_out (Some c.in-Some.shown) before.on.live before.going c.loop-shown.self.sound out.keeps out.given out.stands)
+    record {
+      on = goes_then before.on (goes_out (Some c.in-Some.shown) before.on.live before.going c.loop-shown.self.sound out.keeps out.given out.stands);
+      ended = (search rules);
+    }
 
-pub returns-in-Showing-clause-on : goal.returns-in-Showing-clause-on
-returns-in-Showing-clause-on g c =
+pub returns-in-Showing : goal.returns-in-Showing
+returns-in-Showing g c =
     let before = c.loop-shown.invariant in
     let out = c.in_default.ensures in
-    rw (c.pull_of.ensures, pull_none c.in-Showing.end) (goes_then before.on (goes_over c.in-Showing.end c.in-Showing.is before.on.live c.loop-shown.self.sound out.keeps out.given out.stands))
+    record {
+      on = rw (c.pull_of.ensures, pull_none c.in-Showing.end) (goes_then before.on (goes_over c.in-Showing.end c.in-Showing.is before.on.live c.loop-shown.self.sound out.keeps out.given out.stands));
+      ended = (search rules);
+    }
 
 pub returns-then-is_err : goal.returns-then-is_err
 returns-then-is_err g c =
