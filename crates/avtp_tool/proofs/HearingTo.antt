@@ -27,7 +27,7 @@ use Rattle.presenter_ring.specs.declared.receiver.Pull.{Pull}
 use Rattle.presenter_ring.specs.Pulls.{ending_of, items_of}
 use Rattle.avtp_tool.specs.declared.hearing.Stage.{Stage}
 use Rattle.avtp_tool.specs.declared.hearing.Stage.TheVariants.{Reading, Showing, Ended, NoMemory}
-use Rattle.avtp_tool.specs.Hearing.{GoesOn, IsFresh, IsSoundAt, WasGiven, IsShown, IsStable, Shows, closed_at, ended_at, has_stopped, is_all, left_of, pull_at, pull_with, reads_left, unread}
+use Rattle.avtp_tool.specs.Hearing.{GoesOn, IsSoundAt, WasGiven, IsShown, IsStable, Shows, closed_at, ended_at, has_stopped, is_all, left_of, pull_at, pull_with, reads_left, unread}
 use Rattle.avtp_tool.specs.Reading.{ReadsCapture}
 use Rattle.avtp_tool.proofs.Leaving.{ended_so, quiet_next, some_same}
 
@@ -303,9 +303,10 @@ module _ {s t u : ShelfState} {begun old_source source : Sourcing} {first old ne
 pub sound_few : {stage : Stage} {source : Sourcing} {listener : ListenState} → IsSoundAt stage source listener → listener.counts.frames < 2 ^ 62
 sound_few sound = omega (arith, sound.bounded)
 
-pub sound_fresh : (source : Sourcing) (listener : ListenState) → IsFresh source listener → IsSoundAt Reading source listener
-sound_fresh source listener fresh =
-    record { bounded = fresh.bounded; going = rw fresh.going refl; closed = fresh.unclosed; stable = λ none. none (record { records = []; given = 0; stands = fresh.stands }) }
+-- of a capture that was opened now, and a listener that was given no record
+pub sound_fresh : (source : Sourcing) (listener : ListenState) → source.ended ≡ None → is_closed listener ≡ false → StandsFor [] 0 listener → listener.counts.frames + to_do source ≤ 2 ^ 41 → IsSoundAt Reading source listener
+sound_fresh source listener going unclosed stands bounded =
+    record { bounded = bounded; going = rw going refl; closed = unclosed; stable = λ none. none (record { records = []; given = 0; stands = stands }) }
 
 -- an item more was shown, or none
 pub sound_on : {stage : Stage} {source : Sourcing} {old new : ListenState} (count : ℕ) → IsSoundAt stage source old → Keeps old new → ((records : List Record) (given : ℕ) → StandsFor records given old → StandsFor records (given + count) new) → IsSoundAt stage source new

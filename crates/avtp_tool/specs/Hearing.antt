@@ -86,13 +86,6 @@ pub record ClosesAt (how : End) (old new : ListenState) : Type 0 where
   pub frames : new.counts.frames ≡ old.counts.frames
   pub closed : is_closed new ≡ is_all how
 
--- a capture that was opened now, and a listener that was given no record
-pub record IsFresh (source : Sourcing) (listener : ListenState) : Type 0 where
-  pub going : source.ended ≡ None
-  pub unclosed : is_closed listener ≡ false
-  pub stands : StandsFor [] 0 listener
-  pub bounded : listener.counts.frames + to_do source ≤ 2 ^ 41
-
 -- ---- how much is left
 
 -- how much is still to be read: it falls with each record
