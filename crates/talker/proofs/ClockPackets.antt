@@ -14,7 +14,7 @@ use Rattle.packet_journal.specs.Packets.{IsClockPacket}
 use Rattle.talker.specs.declared.plan.CrfPlan.{CrfPlan}
 use Rattle.talker.specs.declared.plan.TalkPlan.{TalkPlan}
 use Rattle.talker.specs.Beats.{point_at}
-use Rattle.talker.specs.Clock.{AreFew, beat_of, clock_by, clock_mr, clock_packet, clock_packets, clock_point, clock_times, first_point, points_for, points_in, points_size}
+use Rattle.talker.specs.Clock.{AreFew, beat_of, clock_by, clock_frame_size, clock_mr, clock_packet, clock_packets, clock_point, clock_times, first_point, points_for, points_in, points_size}
 use Rattle.talker.specs.Journal.{clock_arrival_by, clock_id, clock_packet_by}
 use Rattle.talker.specs.Frames.{clock_bytes}
 use Rattle.talker.specs.Plan.{IsAudioPlan, spacing_of}
@@ -94,6 +94,10 @@ stamp_of_point xs i h small =
 
 size_fits : (crf : CrfPlan) (plan : TalkPlan) (packets m : ℕ) → length (clock_packet crf plan packets m).payload ≡ 8 * points_size crf plan packets m
 size_fits crf plan packets m = length-stamps (points_in crf plan packets m) ∙ ap (λ (n : ℕ). 8 * n) (size_is crf plan packets m)
+
+-- the length of its frame
+pub clock_size : (crf : CrfPlan) (plan : TalkPlan) (packets m : ℕ) → length (clock_bytes (clock_packet crf plan packets m)) ≡ clock_frame_size crf plan packets m
+clock_size crf plan packets m = omega (arith, crf_size (clock_packet crf plan packets m), size_fits crf plan packets m)
 
 fits_by : (crf : Option CrfPlan) (plan : TalkPlan) (packets m : ℕ) → IsAudioPlan plan → plan.crf ≡ crf → m < (clock_by crf plan packets).packets → length (clock_bytes (clock_packet_by crf plan packets m)) ≤ 1518
 fits_by None plan packets m p e h = absurd (omega arith)

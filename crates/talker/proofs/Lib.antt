@@ -17,6 +17,7 @@ pub mod HeaderLemmas
 pub mod PcmLemmas
 pub mod Am824Lemmas
 pub mod TalkLemmas
+pub mod TurnLemmas
 pub mod LawLemmas
 pub mod SoakLemmas
 mod Sorting

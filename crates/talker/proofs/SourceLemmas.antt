@@ -1,21 +1,26 @@
 -- What makes the packets of a stream.
-use Rattle.std.proofs.Common.{◌≡◌, ℕ, ◌*◌, ◌^◌, ◌<◌, ◌≤◌, Bool, true, false, not, List, [], ◌∷◌, ◌++◌, length, refl, sym, ap, subst, ◌∙◌, arith}
+use Rattle.std.proofs.Common.{◌≡◌, inl, inr, ℕ, ◌+◌, ◌*◌, ◌^◌, ◌<◌, ◌≤◌, Bool, true, false, not, List, [], ◌∷◌, ◌++◌, length, refl, sym, ap, subst, ◌∙◌, arith}
+use Rattle.std.proofs.lemmas.Bool.{cases_lt}
 use Rattle.cvf_format.specs.AnnexB.{nal_units}
 use Rattle.talker.specs.declared.audio.AudioStream.{AudioStream}
 use Rattle.talker.specs.declared.fault.TalkFault.TheVariants.{Arrival, NalType, Packets, StartCode}
 use Rattle.talker.specs.declared.plan.TalkKind.{TalkKind}
 use Rattle.talker.specs.declared.plan.TalkKind.TheVariants.{H264}
 use Rattle.talker.specs.declared.plan.TalkPlan.{TalkPlan}
+use Rattle.talker.specs.declared.source.Source.{Source}
+use Rattle.talker.specs.declared.source.Source.TheVariants.{Audio as OfAudio, Video as OfVideo}
 use Rattle.talker.specs.declared.video.VideoStream.{VideoStream}
 use Rattle.talker.specs.Audio.{audio_by}
 use Rattle.talker.specs.Clock.{AreFew}
 use Rattle.talker.specs.Faults.{arrives_too_late, fault_of, faults_by}
-use Rattle.talker.specs.Journal.{stream_of, video_stream}
+use Rattle.talker.specs.Frames.{packet_bytes}
+use Rattle.talker.specs.Journal.{Stream, samples_in, stream_of, video_stream}
 use Rattle.talker.specs.Plan.{IsPlan, IsPlanOf, IsVideoPlan}
 use Rattle.talker.specs.Rows.{first_of, row}
-use Rattle.talker.specs.Talking.{IsAudio, IsVideo, audio_of, headers_of, most_input, packets_of}
+use Rattle.talker.specs.Talking.{IsAudio, IsSource, IsVideo, audio_of, headers_of, most_input, packets_of, samples_size, stream_in}
 use Rattle.talker.specs.Units.{has_long_access_unit, has_other_type, has_start_code, units_fault}
 use Rattle.talker.proofs.AudioLemmas.{timely}
+use Rattle.talker.proofs.SampleLemmas.{samples_whole}
 use Rattle.talker.proofs.StreamLemmas.{packets_in}
 use Rattle.talker.proofs.TalkLemmas.{format_of, none_late, plan_keeps, stream_is, video_is}
 use Rattle.talker.proofs.VideoRules.{all_sent}
@@ -29,6 +34,13 @@ audio_packets s input is = ap packets_in (stream_is s input is)
 pub audio_few : (s : AudioStream) (input : List ℕ) (packets : ℕ) → IsAudio s → length input ≤ most_input → packets ≡ packets_in (stream_of s.plan input) → AreFew s.plan packets
 audio_few s input packets is limit e n h =
     timely s.plan (audio_of s) (headers_of s) input n is.plan (format_of s is) limit (omega (arith, audio_packets s input is))
+
+-- the length of its frames
+pub audio_size : (s : AudioStream) (input : List ℕ) (n : ℕ) → IsAudio s → length (packet_bytes ((stream_of s.plan input).journal.packet n)) ≡ headers_of s + samples_size s
+audio_size s input n is =
+    let a = audio_of s in
+    ap (λ (stream : Stream). length (packet_bytes (stream.journal.packet n))) (stream_is s input is)
+    ∙ (format_of s is).bytes n (samples_in a s.plan input n) (samples_whole a.silence a.frame s.plan.count n input (format_of s is).silence)
 
 -- ---- H.264
 
@@ -58,3 +70,14 @@ pub video_early : (v : VideoStream) (n : ℕ) → IsVideo v → n < v.packets �
 video_early v n is h =
     let plan_is : IsPlan v.plan = subst (λ (k : TalkKind). IsPlanOf k v.plan) (sym is.kind) is.plan in
     (plan_keeps v.plan v.input.now plan_is is.limit).sent n (omega (arith, video_packets v is))
+
+-- ---- both
+
+-- their packets can be counted
+pub few_packets : (source : Source) → IsSource source → packets_in (stream_in source) ≤ 2 ^ 29
+few_packets (OfAudio s input) is =
+    elim (cases_lt (2 ^ 29) (packets_in (stream_of s.plan input.now))) [
+      | inl more ↦ absurd (let few = audio_few s input.now (packets_in (stream_of s.plan input.now)) is.0 is.1 refl (2 ^ 29) more in omega (arith, few, is.0.plan.some_count))
+      | inr few ↦ few
+    ]
+few_packets (OfVideo v) is = omega (arith, is.few, video_packets v is)

@@ -143,7 +143,7 @@ never_late plan s is =
 
 -- ---- some of its frames
 
-at_place : {X : Type 0} (P : X → Type 0) (xs : List X) (k : ℕ) → AllByRecursion P xs → IfSome (slice_get xs k) P
+pub at_place : {X : Type 0} (P : X → Type 0) (xs : List X) (k : ℕ) → AllByRecursion P xs → IfSome (slice_get xs k) P
 at_place P [] k all = tt
 at_place P (x ∷ xs) zero all = all.0
 at_place P (x ∷ xs) (suc k) all = at_place P xs k all.1

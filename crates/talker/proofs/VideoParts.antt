@@ -9,16 +9,18 @@ use Rattle.cvf_format.specs.declared.cvf.NalPart.TheVariants.{Single, First, Mid
 use Rattle.cvf_format.specs.Cvf.{IsWritableCvf, cvf_spelling, header_size, is_single_type, type_of}
 use Rattle.avtp_header.specs.declared.header.StreamHeader.{StreamHeader}
 use Rattle.avtp_base.specs.Octets.{bits}
+use Rattle.packet_journal.specs.Packets.{H264Data}
 use Rattle.talker.specs.declared.plan.TalkPlan.{TalkPlan}
 use Rattle.talker.specs.declared.units.NalUnit.{NalUnit}
 use Rattle.talker.specs.declared.video.VideoStream.{VideoStream}
 use Rattle.talker.specs.AccessUnits.{nal_in, unit_at}
 use Rattle.talker.specs.Fragments.{Place, access_unit_of, all_packets, body_at, body_by, ends_access_unit, packets_for, part_at, part_by, place_of, rest_in}
+use Rattle.talker.specs.Frames.{packet_bytes}
 use Rattle.talker.specs.Packets.{header_of}
 use Rattle.talker.specs.Talking.{IsVideo, place_in, unit_in, video_packet}
 use Rattle.talker.specs.Video.{access_instant, cvf_packet, stamp_by, video_due}
 use Rattle.talker.proofs.FaultLemmas.{types_are}
-use Rattle.talker.proofs.SizeLemmas.{cvf_length}
+use Rattle.talker.proofs.SizeLemmas.{bytes_size, cvf_length}
 use Rattle.talker.proofs.AccessLemmas.{placed, size_of, unit_known}
 
 -- ---- the part of a unit
@@ -128,3 +130,14 @@ packet_short last_stamp plan bytes units n =
     let size = cvf_length (cvf_packet last_stamp plan bytes units n) in
     let short = short_at bytes units (place_of units n) in
     omega arith
+
+-- how long a packet's frame is, from what the code counts
+pub frame_length : (v : VideoStream) (n : ℕ) (unit : NalUnit) (part : NalPart) (body : List ℕ) (counted : ℕ)
+    → unit ≡ unit_in v.input.now (place_in v n).unit → part ≡ part_by (packets_for (unit.from, unit.to)) (n - unit.first)
+    → body ≡ body_by (part_by (packets_for (unit.from, unit.to)) (n - unit.first)) (n - unit.first) (rest_in v.input.now (unit.from, unit.to))
+    → counted ≡ header_size part - 24 → 42 + counted + length body ≡ length (packet_bytes (H264Data (video_packet v n)))
+frame_length v n unit part body counted same p b c =
+    let header = ap header_size (p ∙ part_is v n unit same) in
+    let carried = ap (λ (xs : List ℕ). length xs) (b ∙ body_is v n unit same) in
+    let counts = counted_is part (length body) in
+    omega (arith, header, carried, counts, c, cvf_length (video_packet v n), bytes_size (H264Data (video_packet v n)))

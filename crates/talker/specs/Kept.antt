@@ -2,9 +2,9 @@
 use Rattle.std.specs.Prelude.{◌≡◌, ◌+◌, ◌≤◌, drop, length}
 use Rattle.talker.specs.declared.talker.Talker.TheInside.{Inside}
 use Rattle.talker.specs.Frames.{frames, left_of}
-use Rattle.talker.specs.Talking.{IsClockOf, IsSource, clock_room, input_in, plan_in, room_of, stream_in}
+use Rattle.talker.specs.Talking.{IsClockOf, IsSource, input_in, plan_in, stream_in}
 
--- It has a plan that is talked, with its clock, and memory for a frame of each; what `next` has still to give are the frames
+-- It has a plan that is talked, with its clock, and memory for the longest frame; what it has still to give are the frames
 -- of the packets that it did not give.
 pub record IsTalker (t : Inside) : Type 0 where
   pub source : IsSource t.source
@@ -14,5 +14,4 @@ pub record IsTalker (t : Inside) : Type 0 where
   pub given_packets : t.given_packets ≤ t.packets
   pub given_clocks : t.given_clocks ≤ t.clocks
   pub left : drop (t.given_clocks + t.given_packets) (frames (plan_in t.source) (input_in t.source)) ≡ left_of (stream_in t.source) t.given_clocks t.given_packets
-  pub room : length t.frame.items ≡ room_of t.source
-  pub clock_memory : length t.clock_frame.items ≡ clock_room t.clock
+  pub room : length t.frame.items ≡ 1518

@@ -9,6 +9,7 @@ pub mod Journal
 pub mod Frames
 pub mod Faults
 pub mod Talking
+pub mod Turns
 pub mod Kept
 pub mod Lending
 pub mod Examples

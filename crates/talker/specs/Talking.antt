@@ -95,11 +95,6 @@ abbrev pub IsClockOf : Option ClockStream → TalkPlan → ℕ → Type 0
 IsClockOf None plan packets = plan.crf ≡ None
 IsClockOf (Some c) plan packets = IsClockIn c plan packets
 
--- the bytes that the frames of a clock need
-abbrev pub clock_room : Option ClockStream → ℕ
-clock_room None = 0
-clock_room (Some c) = 1478
-
 abbrev pub clocks_of : Option ClockStream → ℕ
 clocks_of None = 0
 clocks_of (Some c) = clock_packets c.crf c.plan c.stream
@@ -196,8 +191,3 @@ pub record IsSourceOf (plan : TalkPlan) (input : List ℕ) (source : Source) : T
   pub source_is : IsSource source
   pub plan_is : plan_in source ≡ plan
   pub input_is : input_in source ≡ input
-
--- the bytes that its frames need
-abbrev pub room_of : Source → ℕ
-room_of (OfAudio stream input) = headers_of stream + samples_size stream
-room_of (OfVideo stream) = 1446

@@ -110,7 +110,7 @@ impl AudioStream {
         }
     }
 
-    /// The bytes of a frame.
+    /// The length of each frame.
     pub fn frame_limit(&self) -> usize
         requires { IsAudio self.now }
         ensures value { result ≡ headers_of self.now + samples_size self.now }

@@ -31,9 +31,6 @@ const TIMESTAMP: usize = 8;
 /// The most points of a packet.
 const POINTS_LIMIT: usize = 180;
 
-/// The longest frame of a clock.
-pub(crate) const CLOCK_FRAME_LIMIT: usize = HEADER + CRF_HEADER + TIMESTAMP * POINTS_LIMIT;
-
 /// The type of a clock whose events are audio samples.
 const AUDIO_SAMPLE: u8 = 1;
 
@@ -132,11 +129,10 @@ impl ClockStream {
     }
 
     /// The length of the frame of packet `m`.
-    fn frame_size(&self, m: u64) -> usize
+    pub fn frame_size(&self, m: u64) -> usize
         requires clock { IsClockStream self.now }
         requires known { m < clock_packets self.now.crf self.now.plan self.now.stream }
-        ensures value { result ≡ clock_frame_size self.now.crf self.now.plan self.now.stream m }
-        ensures bound { result ≤ 1478 }
+        ensures { result ≡ clock_frame_size self.now.crf self.now.plan self.now.stream m }
     {
         HEADER + CRF_HEADER + TIMESTAMP * self.size(m)
     }
@@ -208,7 +204,7 @@ impl ClockStream {
 
     /// Writes the frame of packet `m`.
     #[tactic(auto, unfolding(crate::specs::Frames::clock_bytes))]
-    fn write(&self, out: &mut [u8], m: u64)
+    pub fn write(&self, out: &mut [u8], m: u64)
         requires clock { IsClockStream self.now }
         requires known { m < clock_packets self.now.crf self.now.plan self.now.stream }
         requires room { length out.old ≡ clock_frame_size self.now.crf self.now.plan self.now.stream m }
@@ -216,18 +212,5 @@ impl ClockStream {
     {
         write_ethernet(&mut out[..HEADER]);
         self.write_packet(&mut out[HEADER..], m);
-    }
-
-    /// Writes the frame of packet `m` in front, and answers its length.
-    pub fn write_front(&self, out: &mut [u8], m: u64) -> usize
-        requires clock { IsClockStream self.now }
-        requires known { m < clock_packets self.now.crf self.now.plan self.now.stream }
-        requires room { length out.old ≡ 1478 }
-        ensures bytes { take result out.new ≡ clock_bytes (clock_packet self.now.crf self.now.plan self.now.stream m) }
-        ensures bound { result ≤ 1478 }
-    {
-        let size = self.frame_size(m);
-        self.write(&mut out[..size], m);
-        size
     }
 }

@@ -16,6 +16,7 @@ mod soak;
 mod source;
 mod talker;
 mod timing;
+mod turn;
 mod units;
 mod video;
 
@@ -25,6 +26,7 @@ pub use plan::{CrfPlan, TalkKind, TalkPlan};
 pub use sent::Sent;
 pub use soak::{SOAK_PLAN, soak_deliveries};
 pub use talker::Talker;
+pub use turn::Turn;
 
 #[cfg(test)]
 mod tests;

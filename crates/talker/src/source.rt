@@ -1,19 +1,21 @@
 //! What makes the packets of a stream.
 
-ghost use Rattle.std.specs.Prelude.{◌≡◌, ◌⊎◌, ◌<◌, ◌≤◌, length, pos, take, Err, Some, None, IfOk, IfErr, IfSome, OnOk};
+ghost use Rattle.std.specs.Prelude.{◌≡◌, ◌⊎◌, ◌<◌, ◌≤◌, length, pos, false, Err, Some, None, IfOk, IfErr, IfSome, OnOk};
 ghost use Rattle.talker.specs.declared.fault.TalkFault.TheVariants.{Memory};
 ghost use Rattle.talker.specs.declared.plan.TalkKind.TheVariants.{H264};
 ghost use Rattle.talker.specs.Faults.{fault_of};
 ghost use Rattle.talker.specs.Frames.{packet_bytes};
 ghost use Rattle.talker.specs.Plan.{IsAudioPlan, IsPlan, IsVideoPlan};
-ghost use Rattle.talker.specs.Talking.{IsClockOf, IsSource, IsSourceOf, most_input, plan_in, room_of, stream_in};
+ghost use Rattle.talker.specs.Talking.{IsClockOf, IsSource, IsSourceOf, most_input, plan_in, stream_in};
+ghost use Rattle.talker.specs.Turns.{SendsPacket};
 
 use crate::audio::AudioStream;
 use crate::clock::ClockStream;
 use crate::fault::TalkFault;
 use crate::plan::{TalkKind, TalkPlan};
+use crate::turn::Turn;
 use crate::units::units_fault;
-use crate::video::{VIDEO_FRAME_LIMIT, VideoStream};
+use crate::video::VideoStream;
 use std::alloc::Global;
 
 /// What makes the packets of a stream, of its input.
@@ -101,22 +103,6 @@ impl<'a> Source<'a> {
         }
     }
 
-    /// Memory for one frame.
-    pub fn room(&self, alloc: Global) -> Result<Vec<u8>, TalkFault>
-        requires { IsSource self.now }
-        ensures room { IfOk result (λ frame. length frame.items ≡ room_of self.now) }
-        ensures only { IfErr result (λ fault. fault ≡ Memory) }
-    {
-        let size = match self {
-            Source::Audio { stream, .. } => stream.frame_limit(),
-            Source::Video(_) => VIDEO_FRAME_LIMIT,
-        };
-        match vec![in alloc; 0; size] {
-            Ok(frame) => Ok(frame),
-            Err(_) => Err(TalkFault::Memory),
-        }
-    }
-
     /// When packet `n` is sent, in nanoseconds of gPTP.
     #[inline(always)]
     pub fn arrival(&self, n: u64) -> i64
@@ -130,21 +116,47 @@ impl<'a> Source<'a> {
         }
     }
 
-    /// Writes the frame of packet `n`, which is sent at this arrival, in front, and answers its length.
+    /// The length of the frame of packet `n`.
     #[inline(always)]
-    pub fn write(&self, out: &mut [u8], n: u64, arrival: i64) -> usize
+    pub fn size(&self, n: u64) -> usize
+        requires source { IsSource self.now }
+        requires known { n < (stream_in self.now).journal.times.packets }
+        ensures { result ≡ length (packet_bytes ((stream_in self.now).journal.packet n)) }
+    {
+        match self {
+            Source::Audio { stream, .. } => stream.frame_limit(),
+            Source::Video(stream) => stream.frame_size(n),
+        }
+    }
+
+    /// The turn of packet `n`.
+    #[inline(always)]
+    pub fn turn(&self, n: u64) -> Turn
+        requires source { IsSource self.now }
+        requires known { n < (stream_in self.now).journal.times.packets }
+        ensures sends { SendsPacket (stream_in self.now) result }
+        ensures number { result.number ≡ n }
+        ensures stream { result.clock ≡ false }
+    {
+        Turn {
+            arrival: self.arrival(n),
+            number: n,
+            clock: false,
+            size: self.size(n),
+        }
+    }
+
+    /// Writes the frame of packet `n`, which is sent at this arrival.
+    #[inline(always)]
+    pub fn write(&self, out: &mut [u8], n: u64, arrival: i64)
         requires source { IsSource self.now }
         requires known { n < (stream_in self.now).journal.times.packets }
         requires arrival { arrival ≡ pos ((stream_in self.now).arrival n) }
-        requires room { length out.old ≡ room_of self.now }
-        ensures bytes { take result out.new ≡ packet_bytes ((stream_in self.now).journal.packet n) }
-        ensures bound { result ≤ room_of self.now }
+        requires room { length out.old ≡ length (packet_bytes ((stream_in self.now).journal.packet n)) }
+        ensures { out.new ≡ packet_bytes ((stream_in self.now).journal.packet n) }
     {
         match self {
-            Source::Audio { stream, input } => {
-                stream.write(out, input, n, arrival);
-                out.len()
-            }
+            Source::Audio { stream, input } => stream.write(out, input, n, arrival),
             Source::Video(stream) => stream.write(out, n),
         }
     }

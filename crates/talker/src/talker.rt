@@ -1,38 +1,43 @@
 //! The frames of a plan, one after another.
 
-ghost use Rattle.std.specs.Prelude.{◌≡◌, ◌<◌, ◌≤◌, ◌⊎◌, ◌↔◌, IsTrue, length, slice_get, Ok, Err, Some, None, IfOk, IfErr, IfSome, OnOk};
+ghost use Rattle.std.specs.Prelude.{◌≡◌, ◌<◌, ◌≤◌, ◌⊎◌, ◌↔◌, IsTrue, length, slice_get, Ok, Err, Some, None, IfOk, IfErr, take, IfSome, IfNone, OnOk, true};
 ghost use Rattle.std.specs.Option.{option_map};
 ghost use Rattle.pcap_frames.specs.Capture.{HasSpelling};
 ghost use Rattle.talker.specs.declared.fault.TalkFault.TheVariants.{Memory};
 ghost use Rattle.talker.specs.Faults.{fault_of};
 ghost use Rattle.talker.specs.Frames.{capture_style, clock_frames, frames, record_of, sent_frame, stream_frames};
+ghost use Rattle.talker.specs.Journal.{stream_of};
 ghost use Rattle.talker.specs.Plan.{IsPlan};
-ghost use Rattle.talker.specs.Talking.{IsClockFirst, IsClockOf, IsClockStream, IsSource, clock_room, clocks_of, gone_on, most_input, plan_in, stream_in};
+ghost use Rattle.talker.specs.Talking.{IsClockFirst, IsClockOf, IsClockStream, IsSource, clocks_of, gone_on, most_input, plan_in, stream_in};
+ghost use Rattle.talker.specs.Turns.{IsTurn, SendsPacket, frame_in, turn_frame};
 
-use crate::clock::{CLOCK_FRAME_LIMIT, ClockStream};
+use crate::clock::ClockStream;
 use crate::fault::TalkFault;
 use crate::plan::TalkPlan;
 use crate::sent::Sent;
 use crate::source::Source;
+use crate::turn::Turn;
 use std::alloc::Global;
 use std::marker::Model;
 
-/// Makes the frames of a plan from its input, each on its own or one after another. The memory of one frame of the stream and
-/// of one of the clock, and of the list of an H.264 stream's units, is taken at the beginning, and no more later: a frame is
-/// lent until the next is made.
+/// Makes the frames of a plan from its input, each on its own or one after another. The memory of one frame, and of the list of
+/// an H.264 stream's units, is taken at the beginning, and no more later: a frame is lent until the next is made, or is written
+/// into a slice of the caller.
 #[derive(Debug, Drop)]
 pub struct Talker<'a> {
     source: Source<'a>,
     clock: Option<ClockStream>,
     packets: u64,
     clocks: u64,
-    /// How many packets of the stream `next` gave, and how many of the clock.
+    /// How many packets of the stream were given in turn, and how many of the clock.
     given_packets: u64,
     given_clocks: u64,
-    /// The frame of the stream that was made last, and that of the clock.
+    /// The frame that was lent last.
     frame: Vec<u8>,
-    clock_frame: Vec<u8>,
 }
+
+/// The longest frame that Ethernet carries with a tag, without its check sequence.
+const FRAME_LIMIT: usize = 1518;
 
 impl<'a> Model for Talker<'a> {
     ghost use Rattle.std.specs.Prelude.{◌+◌};
@@ -81,8 +86,7 @@ impl<'a> Talker<'a> {
         let source = Source::of(alloc, plan, input)?;
         let packets = source.packets();
         let clock = source.clock(packets);
-        let frame = source.room(alloc)?;
-        let clock_frame = clock_memory(alloc, &clock)?;
+        let frame = frame_memory(alloc)?;
         Ok(Talker {
             source,
             clock,
@@ -91,7 +95,6 @@ impl<'a> Talker<'a> {
             given_packets: 0,
             given_clocks: 0,
             frame,
-            clock_frame,
         })
     }
 
@@ -118,34 +121,84 @@ impl<'a> Talker<'a> {
         ensures size { length result.bytes.now ≤ 1518 }
         ensures* after { sem 𝓛 (EndsAs self.entry (λ last. last ≡ self.old)) }
     {
-        let arrival = self.source.arrival(n);
-        let size = self.source.write(self.frame.as_mut_slice(), n, arrival);
-        Sent {
-            arrival,
-            number: n,
-            clock: false,
-            bytes: &self.frame.as_slice()[..size],
-        }
+        let turn = self.source.turn(n);
+        self.lend(turn)
     }
 
-    /// The frame of packet `m` of the clock. It takes no memory.
-    #[inline(never)]
-    fn clock_packet(&mut self, m: u64) -> Sent<'_>
-        requires { m < length (clock_frames self.old.plan self.old.input) }
-        ensures frame { slice_get (clock_frames self.old.plan self.old.input) m ≡ Some (sent_frame result) }
+    /// The frame of a turn, in the talker's own memory.
+    #[inline(always)]
+    fn lend(&mut self, turn: Turn) -> Sent<'_>
+        requires { SendsPacket (stream_of self.old.plan self.old.input) turn }
+        ensures frame { sent_frame result ≡ turn_frame (stream_of self.old.plan self.old.input) turn }
         ensures fits { HasSpelling capture_style (record_of (sent_frame result)) }
         ensures size { length result.bytes.now ≤ 1518 }
         ensures* after { sem 𝓛 (EndsAs self.entry (λ last. last ≡ self.old)) }
     {
+        write_front(&self.source, &self.clock, turn, self.frame.as_mut_slice());
+        Sent {
+            arrival: turn.arrival,
+            number: turn.number,
+            clock: turn.clock,
+            bytes: &self.frame.as_slice()[..turn.size],
+        }
+    }
+
+    /// The turn of packet `m` of the clock.
+    #[inline(never)]
+    fn clock_turn(&self, m: u64) -> Turn
+        requires { m < length (clock_frames self.now.plan self.now.input) }
+        ensures sends { SendsPacket (stream_of self.now.plan self.now.input) result }
+        ensures number { result.number ≡ m }
+        ensures clock { result.clock ≡ true }
+    {
         let Some(clock) = self.clock else {
             unreachable!()
         };
-        let size = clock.write_front(self.clock_frame.as_mut_slice(), m);
-        Sent {
+        Turn {
             arrival: clock.arrival(m),
             number: m,
             clock: true,
-            bytes: &self.clock_frame.as_slice()[..size],
+            size: clock.frame_size(m),
+        }
+    }
+
+    /// What is sent next, of all frames, in the order in which they are sent: by arrival, those of the clock first. `None`
+    /// comes exactly where all frames were given.
+    #[inline(always)]
+    pub fn turn(&self) -> Option<Turn>
+        ensures turn { IfSome result (IsTurn self.now) }
+        ensures end { IfNone result (self.now.given ≡ length (frames self.now.plan self.now.input)) }
+    {
+        let (m, n) = (self.given_clocks, self.given_packets);
+        if clock_is_first(&self.clock, &self.source, m, n, self.packets) {
+            return Some(self.clock_turn(m));
+        }
+        if n == self.packets {
+            return None;
+        }
+        Some(self.source.turn(n))
+    }
+
+    /// Writes the frame that is sent next. It takes no memory.
+    #[inline(always)]
+    pub fn write(&self, turn: Turn, out: &mut [u8])
+        requires turn { IsTurn self.now turn }
+        requires room { length out.old ≡ turn.size }
+        ensures { slice_get (frames self.now.plan self.now.input) self.now.given ≡ Some (frame_in turn out.new) }
+    {
+        write_frame(&self.source, &self.clock, turn, out);
+    }
+
+    /// Goes on to the frame after that which is sent next.
+    #[inline(always)]
+    pub fn go_on(&mut self, turn: Turn)
+        requires { IsTurn self.old turn }
+        ensures { self.new ≡ gone_on self.old }
+    {
+        if turn.clock {
+            self.given_clocks += 1;
+        } else {
+            self.given_packets += 1;
         }
     }
 
@@ -158,16 +211,9 @@ impl<'a> Talker<'a> {
         ensures size { IfSome result (λ sent. length sent.bytes.now ≤ 1518) }
         ensures* after { sem 𝓛 (EndsAs self.entry (λ last. last ≡ gone_on self.old)) }
     {
-        let (m, n) = (self.given_clocks, self.given_packets);
-        if clock_is_first(&self.clock, &self.source, m, n, self.packets) {
-            self.given_clocks += 1;
-            return Some(self.clock_packet(m));
-        }
-        if n == self.packets {
-            return None;
-        }
-        self.given_packets += 1;
-        Some(self.packet(n))
+        let turn = self.turn()?;
+        self.go_on(turn);
+        Some(self.lend(turn))
     }
 }
 
@@ -182,19 +228,44 @@ fn clock_packets(clock: &Option<ClockStream>) -> u64
     }
 }
 
-/// Memory for one frame of a clock, where there is one.
-fn clock_memory(alloc: Global, clock: &Option<ClockStream>) -> Result<Vec<u8>, TalkFault>
-    ensures room { IfOk result (λ frame. length frame.items ≡ clock_room clock.now) }
+/// Memory for the longest frame.
+fn frame_memory(alloc: Global) -> Result<Vec<u8>, TalkFault>
+    ensures room { IfOk result (λ frame. length frame.items ≡ 1518) }
     ensures only { IfErr result (λ fault. fault ≡ Memory) }
 {
-    let size = match clock {
-        None => 0,
-        Some(_) => CLOCK_FRAME_LIMIT,
-    };
-    match vec![in alloc; 0; size] {
+    match vec![in alloc; 0; FRAME_LIMIT] {
         Ok(frame) => Ok(frame),
         Err(_) => Err(TalkFault::Memory),
     }
+}
+
+/// Writes the frame of a turn.
+#[inline(always)]
+fn write_frame(source: &Source<'_>, clock: &Option<ClockStream>, turn: Turn, out: &mut [u8])
+    requires source { IsSource source.now }
+    requires clock { IsClockOf clock.now (plan_in source.now) (stream_in source.now).journal.times.packets }
+    requires sends { SendsPacket (stream_in source.now) turn }
+    requires room { length out.old ≡ turn.size }
+    ensures { out.new ≡ (turn_frame (stream_in source.now) turn).bytes }
+{
+    if turn.clock {
+        let Some(clock) = clock else { unreachable!() };
+        clock.write(out, turn.number);
+    } else {
+        source.write(out, turn.number, turn.arrival);
+    }
+}
+
+/// Writes the frame of a turn in front.
+#[inline(always)]
+fn write_front(source: &Source<'_>, clock: &Option<ClockStream>, turn: Turn, out: &mut [u8])
+    requires source { IsSource source.now }
+    requires clock { IsClockOf clock.now (plan_in source.now) (stream_in source.now).journal.times.packets }
+    requires sends { SendsPacket (stream_in source.now) turn }
+    requires room { length out.old ≡ 1518 }
+    ensures { take turn.size out.new ≡ (turn_frame (stream_in source.now) turn).bytes }
+{
+    write_frame(source, clock, turn, &mut out[..turn.size]);
 }
 
 /// Packet `m` of the clock, where there is one, is sent before packet `n` of a stream of so many, or at the same time.

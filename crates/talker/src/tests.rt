@@ -741,3 +741,58 @@ fn stamps_on_the_clock(rt: HostRuntime) -> Result<(), Fail> {
     assert_eq!(rt; (talker.packets(), talker.clocks()), (50, 3));
     Ok(())
 }
+
+/// H.264, with units that are stamped on their last fragment alone.
+const UNITS: TalkPlan = TalkPlan {
+    kind: TalkKind::H264 { last_stamp: true },
+    rate: 30,
+    ..PLAN
+};
+
+/// A talker writes each of so many frames as another gives it, and no others.
+fn check_written(
+    rt: &impl Abort,
+    mut written: Talker<'_>,
+    mut given: Talker<'_>,
+    frames: u32,
+) -> Result<(), Fail> {
+    let mut memory = [0; 1518];
+    for _ in 0..frames {
+        let turn = written.turn().ok_or("no turn")?;
+        let out = &mut memory[..turn.size];
+        written.write(turn, out);
+        written.go_on(turn);
+        let sent = given.next().ok_or("no frame")?;
+        let wanted = Sent {
+            arrival: turn.arrival,
+            number: turn.number,
+            clock: turn.clock,
+            bytes: out,
+        };
+        assert!(rt; same(sent, wanted), "frame {}", turn.number);
+    }
+    assert!(rt; written.turn().is_none());
+    assert!(rt; given.next().is_none());
+    Ok(())
+}
+
+/// Eight packets beside four of a clock, and two units of H.264 in three packets of different lengths.
+#[test]
+fn writes_each_frame(rt: HostRuntime) -> Result<(), Fail> {
+    let clocked = TalkPlan {
+        crf: Some(CrfPlan {
+            interval: 12,
+            ..CLOCK
+        }),
+        ..PLAN
+    };
+    let written = Talker::begin(rt.alloc(), clocked, &SILENCE[..192])?;
+    let given = Talker::begin(rt.alloc(), clocked, &SILENCE[..192])?;
+    check_written(&rt, written, given, 12)?;
+    let mut input = [0xff; 3004];
+    input[..5].copy_from_slice(&[0, 0, 0, 1, 0x65]);
+    input[2000..2004].copy_from_slice(&[0, 0, 1, 0x06]);
+    let written = Talker::begin(rt.alloc(), UNITS, &input)?;
+    let given = Talker::begin(rt.alloc(), UNITS, &input)?;
+    check_written(&rt, written, given, 3)
+}

@@ -105,6 +105,7 @@ impl TalkPlan {
 
     /// The instant of sample frame `i` of packet `n`, in nanoseconds of gPTP.
     #[tactic(auto, using(crate::proofs::TimingLemmas::in_time), unfolding(crate::specs::Timing::nominal_instant))]
+    #[inline(always)]
     pub(crate) fn instant(&self, n: u64, i: u32) -> u64
         requires plan { IsAudioPlan self.now }
         requires frames { n * self.now.count ≤ 2 ^ 28 }

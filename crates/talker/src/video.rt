@@ -37,8 +37,8 @@ pub(crate) struct VideoStream<'a> {
 /// The bytes of a NAL unit behind its first that each of its fragments carries, but the last.
 const FULL_BODY: usize = 1398;
 
-/// The longest frame: its Ethernet header, the header of a packet of a whole unit, and the longest such unit.
-pub(crate) const VIDEO_FRAME_LIMIT: usize = HEADER + 28 + 1400;
+/// The bytes of a packet that its stated length does not count.
+const UNCOUNTED: usize = 24;
 
 /// The part of a unit that fragment `k` of so many is.
 #[tactic(auto, unfolding(crate::specs::Fragments::part_by))]
@@ -239,32 +239,40 @@ impl<'a> VideoStream<'a> {
         }
     }
 
-    /// Writes packet `n` in front, and answers its length.
-    fn write_packet(&self, out: &mut [u8], n: u64) -> usize
+    /// The length of the frame of packet `n`.
+    pub fn frame_size(&self, n: u64) -> usize
         requires video { IsVideo self.now }
         requires known { n < self.now.packets }
-        requires room { length out.old ≡ 1428 }
-        ensures bytes { take result out.new ≡ cvf_spelling (video_packet self.now n) }
-        ensures bound { result ≤ 1428 }
+        ensures { result ≡ length (packet_bytes (H264Data (video_packet self.now n))) }
     {
-        let Ok(size) = write_cvf(out, &self.packet(n)) else {
-            unreachable!()
-        };
-        size
+        let unit = self.unit_of(n);
+        let body = unit.body(self.input, n);
+        HEADER + UNCOUNTED + counted_header(unit.part(n)) + body.len()
     }
 
-    /// Writes the frame of packet `n` in front, and answers its length.
-    #[tactic(auto, unfolding(crate::specs::Frames::packet_bytes))]
-    #[inline(never)]
-    pub fn write(&self, out: &mut [u8], n: u64) -> usize
+    /// Writes packet `n`.
+    fn write_packet(&self, out: &mut [u8], n: u64)
         requires video { IsVideo self.now }
         requires known { n < self.now.packets }
-        requires room { length out.old ≡ 1446 }
-        ensures bytes { take result out.new ≡ packet_bytes (H264Data (video_packet self.now n)) }
-        ensures bound { result ≤ 1446 }
+        requires room { length out.old ≡ length (cvf_spelling (video_packet self.now n)) }
+        ensures { out.new ≡ cvf_spelling (video_packet self.now n) }
+    {
+        let Ok(_) = write_cvf(out, &self.packet(n)) else {
+            unreachable!()
+        };
+    }
+
+    /// Writes the frame of packet `n`.
+    #[tactic(auto, using(crate::proofs::SizeLemmas::bytes_size), unfolding(crate::specs::Frames::packet_bytes))]
+    #[inline(never)]
+    pub fn write(&self, out: &mut [u8], n: u64)
+        requires video { IsVideo self.now }
+        requires known { n < self.now.packets }
+        requires room { length out.old ≡ length (packet_bytes (H264Data (video_packet self.now n))) }
+        ensures { out.new ≡ packet_bytes (H264Data (video_packet self.now n)) }
     {
         write_ethernet(&mut out[..HEADER]);
-        HEADER + self.write_packet(&mut out[HEADER..], n)
+        self.write_packet(&mut out[HEADER..], n);
     }
 }
 

@@ -1,0 +1,14 @@
+use Rattle.std.proofs.Common.{◌+◌}
+use Rattle.talker.specs.Talking.{Talking, input_in, plan_in}
+use Rattle.talker.proofs.TurnLemmas.{sending, sent_next}
+use Rattle.talker.proofs.talker.Talker.write.Goals as goal
+
+pub write_frame-requires-clause-sends : goal.write_frame-requires-clause-sends
+write_frame-requires-clause-sends c =
+    let t : Talking = record { plan = plan_in c.self.inside.source; input = input_in c.self.inside.source; given = c.self.inside.given_clocks + c.self.inside.given_packets } in
+    (sending t c.args.turn (rw (← c.self.view_is) at c.requires.turn)).sends
+
+pub returns : goal.returns
+returns c =
+    let t : Talking = record { plan = plan_in c.self.inside.source; input = input_in c.self.inside.source; given = c.self.inside.given_clocks + c.self.inside.given_packets } in
+    rw (← c.self.view_is) (sent_next t c.args.turn c.write_frame.new.out (rw (← c.self.view_is) at c.requires.turn) c.write_frame.ensures)

@@ -1,0 +1,19 @@
+use Rattle.std.proofs.Common.{arith}
+use Rattle.std.proofs.lemmas.List.{length-take}
+use Rattle.talker.proofs.TurnLemmas.{turn_within}
+use Rattle.talker.proofs.talker.write_front.Goals as goal
+
+pub slice_bounds-write_frame-end-2 : goal.slice_bounds-write_frame-end-2
+slice_bounds-write_frame-end-2 c =
+    let within = turn_within c.args.source.now c.args.turn c.requires.source c.requires.sends in
+    omega (arith, within, length-take c.args.turn.size c.args.out.now)
+
+pub write_frame-requires-clause-room : goal.write_frame-requires-clause-room
+write_frame-requires-clause-room c =
+    let within = turn_within c.args.source.now c.args.turn c.requires.source c.requires.sends in
+    omega (arith, within, length-take c.args.turn.size c.args.out.now)
+
+pub slice_bounds-write_frame-end : goal.slice_bounds-write_frame-end
+slice_bounds-write_frame-end c =
+    let within = turn_within c.args.source.now c.args.turn c.requires.source c.requires.sends in
+    omega (arith, within, c.requires.room)

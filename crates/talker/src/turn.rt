@@ -1,0 +1,14 @@
+//! What is sent next.
+
+/// What a talker sends next: all of a frame but its bytes.
+#[derive(Clone, Copy, Debug)]
+pub struct Turn {
+    /// When it is sent, in nanoseconds of gPTP.
+    pub arrival: i64,
+    /// The number of its packet in the stream, or in the clock, from 0.
+    pub number: u64,
+    /// It is a packet of the media clock.
+    pub clock: bool,
+    /// The bytes of its frame.
+    pub size: usize,
+}
