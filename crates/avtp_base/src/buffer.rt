@@ -3,6 +3,7 @@
 ghost use Rattle.std.specs.Prelude.{◌≡◌, ◌+◌, ◌≤◌, ◌++◌, [], length, take, drop, IfOk};
 
 use crate::failed::NoMemory;
+use crate::spelled::Spelled;
 use std::alloc::Global;
 use std::marker::Model;
 
@@ -10,17 +11,20 @@ use std::marker::Model;
 /// once.
 #[derive(Drop)]
 pub struct Buffer {
+    /// The bytes that wait, and behind them what is written over.
     bytes: Vec<u8>,
+    /// How many wait.
+    len: usize,
 }
 
 impl Model for Buffer {
-    ghost use Rattle.std.specs.Prelude.{List, ℕ, ◌≤◌, vec_len, vec_capacity};
+    ghost use Rattle.std.specs.Prelude.{List, ℕ, ◌≡◌, ◌≤◌, take, vec_len};
 
     ghost Value = { List ℕ };
 
-    ghost view = { λ buffer. buffer.bytes.items };
+    ghost view = { λ buffer. take buffer.len buffer.bytes.items };
 
-    ghost invariant = { λ buffer. (vec_len buffer.bytes ≤ 65536) × (65536 ≤ vec_capacity buffer.bytes) };
+    ghost invariant = { λ buffer. (vec_len buffer.bytes ≡ 65536) × (buffer.len ≤ 65536) };
 }
 
 impl Buffer {
@@ -34,8 +38,8 @@ impl Buffer {
     pub fn new(alloc: Global) -> Result<Self, NoMemory>
         ensures { IfOk result (λ buffer. buffer ≡ []) }
     {
-        match Vec::with_capacity(alloc, Self::ROOM) {
-            Ok(bytes) => Ok(Buffer { bytes }),
+        match vec![in alloc; 0; Self::ROOM] {
+            Ok(bytes) => Ok(Buffer { bytes, len: 0 }),
             Err(_) => Err(NoMemory),
         }
     }
@@ -44,17 +48,18 @@ impl Buffer {
     pub fn room(&self) -> usize
         ensures { length self.now + result ≡ Self.ROOM }
     {
-        Self::ROOM - self.bytes.len()
+        Self::ROOM - self.len
     }
 
     /// Adds bytes at the end. There must be room for them.
+    #[inline(always)]
     pub fn push(&mut self, bytes: &[u8])
         requires { length self.old + length bytes.now ≤ Self.ROOM }
         ensures { self.new ≡ self.old ++ bytes.now }
     {
-        let Ok(()) = self.bytes.extend_from_slice(bytes) else {
-            unreachable!()
-        };
+        let end = self.len + bytes.len();
+        self.bytes[self.len..end].copy_from_slice(bytes);
+        self.len = end;
     }
 
     /// Adds the first `len` of these bytes at the end. There must be room for all of them, since all are moved: where the
@@ -65,18 +70,27 @@ impl Buffer {
         requires room { length self.old + length bytes.now ≤ Self.ROOM }
         ensures { self.new ≡ self.old ++ take len bytes.now }
     {
-        let end = self.bytes.len() + len;
-        let Ok(()) = self.bytes.extend_from_slice(bytes) else {
-            unreachable!()
-        };
-        self.bytes.truncate(end);
+        let end = self.len + len;
+        self.push(bytes);
+        self.len = end;
+    }
+
+    /// Adds the bytes of what is written in place at the end. There must be room for them.
+    #[inline(always)]
+    pub fn add<W: Spelled>(&mut self, added: &W)
+        requires { length self.old + length (W.spelling added.now) ≤ Self.ROOM }
+        ensures { self.new ≡ self.old ++ W.spelling added.now }
+    {
+        let end = self.len + added.size();
+        added.write(&mut self.bytes[self.len..end]);
+        self.len = end;
     }
 
     /// The bytes that wait.
     pub fn waiting(&self) -> &[u8]
         ensures { result.now ≡ self.now }
     {
-        self.bytes.as_slice()
+        &self.bytes[..self.len]
     }
 
     /// The bytes that wait, which may be written over.
@@ -85,7 +99,7 @@ impl Buffer {
         ensures* writes_back { sem 𝓛 (LendsWaiting self.entry result) }
         ensures value { result.now ≡ self.old }
     {
-        self.bytes.as_mut_slice()
+        self.bytes.slice_mut(0..self.len)
     }
 
     /// Drops so many bytes from the front, which were written.
@@ -93,8 +107,16 @@ impl Buffer {
         requires { count ≤ length self.old }
         ensures { self.new ≡ drop count self.old }
     {
-        let left = self.bytes.len() - count;
-        self.bytes.rotate_left(count);
-        self.bytes.truncate(left);
+        let left = self.len - count;
+        move_to_front(&mut self.bytes[0..self.len], count);
+        self.len = left;
     }
+}
+
+/// Moves all bytes behind the first `count` to the front.
+fn move_to_front(bytes: &mut [u8], count: usize)
+    requires { count ≤ length bytes.old }
+    ensures { bytes.new ≡ drop count bytes.old ++ take count bytes.old }
+{
+    bytes.rotate_left(count);
 }

@@ -25,6 +25,7 @@ pub mod rows;
 mod shelf;
 mod sink;
 mod slots;
+mod spelled;
 mod std_sink;
 
 pub use buffer::Buffer;
@@ -41,6 +42,7 @@ pub use quiet_sink::QuietSink;
 pub use refusal::{Refusal, Room};
 pub use shelf::{Shelf, Slot};
 pub use sink::Sink;
+pub use spelled::Spelled;
 pub use std_sink::StdSink;
 
 #[cfg(test)]

@@ -3,7 +3,6 @@ use Rattle.std.proofs.Common.{◌≡◌, ◌≤◌, ℕ, List, [], ◌∷◌, Op
 use Rattle.avtp_base.specs.declared.failed.Failed.{Failed}
 use Rattle.avtp_base.specs.declared.failed.OpenFault.{OpenFault}
 use Rattle.avtp_base.specs.Faults.{Rose}
-use Rattle.avtp_base.specs.Files.{Files}
 use Rattle.avtp_base.specs.States.{ShelfState, SinkState}
 use Rattle.pcap_frames.specs.Capture.{Record}
 use Rattle.capture_io.specs.declared.end.End.{End}
@@ -14,7 +13,6 @@ use Rattle.avtp_text.specs.Notices.{read_fault_line}
 use Rattle.avtp_text.specs.Written.{written}
 use Rattle.sample_schedule.specs.declared.shown.Shown.{Shown}
 use Rattle.avtp_tool.specs.declared.status.Status.{Status}
-use Rattle.avtp_tool.specs.declared.status.Status.TheVariants as status
 use Rattle.avtp_tool.specs.Outcome.{CountsReading, EndsUnopened, KeepsSink, Only, TellsYield}
 use Rattle.avtp_tool.specs.Reading.{DoesFile, file_status, file_yield, IsReadingStatus, Report}
 use Rattle.avtp_tool.proofs.Leaving.{read_through}

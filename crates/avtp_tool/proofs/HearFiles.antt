@@ -1,11 +1,11 @@
 -- The run of `listen` over all its files, and what it says of the devices at its end.
-use Rattle.std.proofs.Common.{◌≡◌, ◌≢◌, ℕ, ◌<◌, ◌≤◌, Bool, true, false, List, [], ◌++◌, length, take, Option, None, Result, Ok, Err, refl, sym, ap, subst, ◌∙◌, arith}
-use Rattle.std.specs.Prelude.{IfOk, is_err, IsErr, IsSome, nat_lt}
+use Rattle.std.proofs.Common.{◌≡◌, ◌≢◌, ℕ, ◌<◌, ◌≤◌, Bool, true, false, List, [], ◌++◌, Option, Result, Ok, Err, refl, sym, ap, subst, ◌∙◌, arith}
+use Rattle.std.specs.Prelude.{IfOk, is_err, IsErr, nat_lt}
 use Rattle.std.proofs.lemmas.Bool.{le-ltb, lt-ltb}
 use Rattle.std.proofs.lemmas.List.{append-nil}
 use Rattle.avtp_base.specs.declared.failed.Failed.{Failed}
 use Rattle.avtp_base.specs.Faults.{Rose}
-use Rattle.avtp_base.specs.Files.{Files, Slots}
+use Rattle.avtp_base.specs.Files.{Files}
 use Rattle.avtp_base.specs.Told.{Appends}
 use Rattle.avtp_base.specs.States.{Asks, ShelfState, SinkState}
 use Rattle.avtp_text.specs.Notices.{device_fault_line}
@@ -18,7 +18,7 @@ use Rattle.avtp_tool.specs.Listen.{listen_plan}
 use Rattle.avtp_tool.specs.Outcome.{AsksFor, EndsWith, TellsRun}
 use Rattle.avtp_tool.specs.Reading.{DoesFiles, PlanOutcome, ReadPlan}
 use Rattle.avtp_tool.specs.Run.{device_notice, device_status, IsThrough, ListenOutcome, Runs, TellsDevices}
-use Rattle.avtp_tool.specs.Yield.{Gives, GivesPart, HandsNothing, says, with_more, Yield}
+use Rattle.avtp_tool.specs.Yield.{Gives, GivesPart, HandsNothing, says, with_more}
 use Rattle.avtp_tool.proofs.Leaving.{never_ends, only_read}
 use Rattle.avtp_tool.proofs.Outcomes.{counts_failed, ends_not, sink_failed, sink_then}
 use Rattle.avtp_tool.proofs.PlanRuns.{through_as}

@@ -1,6 +1,6 @@
 -- What was printed of a capture that was heard.
-use Rattle.std.proofs.Common.{◌≡◌, ℕ, Bool, true, false, List, [], ◌∷◌, ◌++◌, length, take, Option, Some, None, Result, Ok, Err, refl, sym, ap, subst, ◌∙◌, append_assoc, append-nil}
-use Rattle.std.specs.Prelude.{IfOk, IsErr, IsSome}
+use Rattle.std.proofs.Common.{◌≡◌, ℕ, List, [], ◌∷◌, ◌++◌, length, take, Option, Some, None, Result, Ok, refl, sym, ap, subst, ◌∙◌, append_assoc, append-nil}
+use Rattle.std.specs.Prelude.{IfOk, IsSome}
 use mathlib.Core.List.{IsPrefix}
 use Rattle.std.proofs.lemmas.Grind.{flat_map-append}
 use Rattle.avtp_base.specs.declared.failed.Failed.{Failed}
@@ -11,7 +11,7 @@ use Rattle.capture_io.specs.Formats.{records_in}
 use Rattle.sample_schedule.specs.declared.shown.Shown.{Shown}
 use Rattle.listener.specs.declared.heard.Counts.{Counts}
 use Rattle.listener.specs.declared.plan.ListenPlan.{ListenPlan}
-use Rattle.listener.specs.Heard.{counts_of, due_of, shown_of}
+use Rattle.listener.specs.Heard.{counts_of, due_of}
 use Rattle.listener.specs.Listening.{ListenState, is_closed, out}
 use Rattle.listener.proofs.Due.{due_first, due_stays}
 use Rattle.avtp_words.specs.Grammar.{Listening}
@@ -29,7 +29,6 @@ use Rattle.avtp_tool.specs.declared.hearing.Heard.TheVariants as far
 use Rattle.avtp_tool.specs.declared.hearing.Stage.{Stage}
 use Rattle.avtp_tool.specs.declared.hearing.Stage.TheVariants.{Reading, Showing, Ended, NoMemory}
 use Rattle.avtp_tool.specs.declared.status.Status.{Status}
-use Rattle.avtp_tool.specs.declared.status.Status.TheVariants as status
 use Rattle.avtp_tool.specs.Hearing.{IsShown, closed_at, heard_at, is_all, pull_at, read_end}
 use Rattle.avtp_tool.specs.Listen.{HasHeard, HearsRecords, heard_end, last_line, listen_report, plan_of, shown_by, shown_text}
 use Rattle.avtp_tool.specs.Outcome.{EndsWith}
@@ -37,7 +36,7 @@ use Rattle.avtp_tool.specs.Reading.{file_yield}
 use Rattle.avtp_tool.specs.Status.{status_of}
 use Rattle.avtp_tool.proofs.DoesFile.{IsReadAndTold}
 use Rattle.avtp_tool.proofs.HearingTo.{prefix_then}
-use Rattle.avtp_tool.proofs.Outcomes.{IsCut, tells_end}
+use Rattle.avtp_tool.proofs.Outcomes.{tells_end}
 
 -- ---- what is shown
 

@@ -6,14 +6,14 @@ use Rattle.std.proofs.lemmas.Bool.{cases_lt}
 use Rattle.std.proofs.lemmas.List.Sums.{sum_by-cons}
 use Rattle.std.specs.Option.{option_to_list}
 use Rattle.avtp_base.specs.Faults.{Rose}
-use Rattle.avtp_base.specs.Files.{Files, Open, Slots, left_in}
+use Rattle.avtp_base.specs.Files.{Open, left_in}
 use Rattle.avtp_base.specs.States.{ShelfState}
 use Rattle.pcap_frames.specs.Capture.{Record}
 use Rattle.capture_io.specs.declared.end.End.{End}
 use Rattle.capture_io.specs.declared.end.End.TheVariants as end
 use Rattle.capture_io.specs.Ends.{CountsFault}
 use Rattle.capture_io.specs.Formats.{records_in}
-use Rattle.capture_io.specs.Source.{EndsAfter, GivesNext, HasGiven, Sourcing, held_in, slot_of, to_do}
+use Rattle.capture_io.specs.Source.{GivesNext, HasGiven, Sourcing, held_in, slot_of, to_do}
 use Rattle.capture_io.proofs.Ending.{after_weaker}
 use Rattle.capture_io.proofs.Giving.{given_first}
 use Rattle.capture_io.proofs.Leaving.{reads_nothing, reads_then}
@@ -27,8 +27,7 @@ use Rattle.presenter_ring.specs.declared.receiver.Pull.{Pull}
 use Rattle.presenter_ring.specs.Pulls.{ending_of, items_of}
 use Rattle.avtp_tool.specs.declared.hearing.Stage.{Stage}
 use Rattle.avtp_tool.specs.declared.hearing.Stage.TheVariants.{Reading, Showing, Ended, NoMemory}
-use Rattle.avtp_tool.specs.Hearing.{GoesOn, IsSoundAt, WasGiven, IsShown, IsStable, Shows, closed_at, ended_at, has_stopped, is_all, left_of, pull_at, pull_with, reads_left, unread}
-use Rattle.avtp_tool.specs.Reading.{ReadsCapture}
+use Rattle.avtp_tool.specs.Hearing.{GoesOn, IsSoundAt, WasGiven, IsStable, Shows, closed_at, ended_at, has_stopped, is_all, left_of, pull_at, pull_with, unread}
 use Rattle.avtp_tool.proofs.Leaving.{ended_so, quiet_next, some_same}
 
 -- ---- lists

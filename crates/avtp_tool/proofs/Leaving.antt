@@ -1,13 +1,12 @@
 -- What reading leaves, of calls that follow each other.
-use Rattle.std.proofs.Common.{◌≡◌, ◌+◌, ◌^◌, ◌≤◌, ℕ, true, false, List, [], ◌∷◌, Option, Some, None, Result, Ok, Err, sym, ap, subst, refl, arith, inl, inr, ◌∙◌}
-use Rattle.std.specs.Prelude.{◌⊎◌, IfOk, IsErr, IsSome}
+use Rattle.std.proofs.Common.{◌≡◌, ◌+◌, ◌^◌, ◌≤◌, ℕ, true, false, List, [], ◌∷◌, Option, Some, None, Result, Ok, Err, sym, ap, subst, refl, arith, ◌∙◌}
+use Rattle.std.specs.Prelude.{IfOk, IsErr, IsSome}
 use Rattle.avtp_base.specs.declared.failed.Failed.{Failed}
 use Rattle.avtp_tool.specs.declared.status.Status.{Status}
 use Rattle.avtp_tool.specs.declared.status.Status.TheVariants as status
 use Rattle.avtp_tool.specs.Made.{CountsWriting}
 use Rattle.avtp_tool.specs.Reading.{IsOpen, IsReadingStatus, is_of_reading, ReadsCapture}
 use Rattle.avtp_tool.specs.Status.{status_of}
-use Rattle.avtp_base.specs.Files.{Files, Slots}
 use Rattle.avtp_base.specs.States.{ShelfState}
 use Rattle.capture_io.specs.declared.end.End.{End}
 use Rattle.capture_io.specs.declared.end.End.TheVariants as end

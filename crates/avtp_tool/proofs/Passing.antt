@@ -1,5 +1,5 @@
 -- What both sides of a ring did, round by round.
-use Rattle.std.proofs.Common.{◌≡◌, ℕ, ◌+◌, ◌≤◌, ◌^◌, true, false, List, [], ◌∷◌, ◌++◌, length, Option, Some, None, Result, Ok, Err, refl, sym, ap, subst, ◌∙◌, arith, append-nil, append_assoc, length-append}
+use Rattle.std.proofs.Common.{◌≡◌, ℕ, true, false, List, [], ◌∷◌, ◌++◌, Option, Some, None, Result, Ok, Err, refl, sym, ap, subst, ◌∙◌, arith, append-nil, append_assoc, length-append}
 use Rattle.std.specs.Prelude.{IsErr, IsSome, is_err, OnOk, OnErr}
 use mathlib.Core.List.{IsPrefix}
 use Rattle.std.proofs.lemmas.Grind.{flat_map-append}
@@ -17,7 +17,7 @@ use Rattle.avtp_base.specs.States.{SinkState}
 use Rattle.sample_schedule.specs.declared.shown.Shown.{Shown}
 use Rattle.presenter_ring.specs.declared.pipe.Pipe.{Pipe}
 use Rattle.presenter_ring.specs.declared.receiver.Pull.{Pull}
-use Rattle.presenter_ring.specs.Pipes.{ended_with, given_to, waiting_in, EndsWith, HasMoved, IsDrained}
+use Rattle.presenter_ring.specs.Pipes.{ended_with, waiting_in, EndsWith, HasMoved, IsDrained}
 use Rattle.avtp_tool.specs.Presenting.{failures, GivesItems, HasPassed}
 
 -- how a receiver ended, which is how its pipe did

@@ -5,7 +5,7 @@ use Rattle.std.proofs.lemmas.Bool.{cases_Bool}
 use Rattle.std.proofs.lemmas.List.{append-nil}
 use Rattle.avtp_base.specs.declared.failed.Failed.{Failed}
 use Rattle.avtp_base.specs.Faults.{Rose}
-use Rattle.avtp_base.specs.Files.{Files, Slots, KeepsFiles}
+use Rattle.avtp_base.specs.Files.{Files, KeepsFiles}
 use Rattle.avtp_base.specs.States.{Asks, ShelfState, SinkState}
 use Rattle.sample_schedule.specs.declared.shown.Shown.{Shown}
 use Rattle.capture_io.specs.Reads.{OnlyReads}

@@ -7,7 +7,7 @@ use Rattle.std.proofs.lemmas.List.Elements.{Contains-append_left, Contains-appen
 use Rattle.avtp_base.proofs.Told.{Appends-nil}
 use Rattle.avtp_base.specs.declared.failed.Failed.{Failed}
 use Rattle.avtp_base.specs.Faults.{Rose}
-use Rattle.avtp_base.specs.Files.{Files, Slots, IsMissing, KeepsFiles}
+use Rattle.avtp_base.specs.Files.{Files, IsMissing, KeepsFiles}
 use Rattle.avtp_base.specs.States.{ShelfState, SinkState, WasAsked}
 use Rattle.sample_schedule.specs.declared.shown.Shown.{Shown}
 use Rattle.avtp_text.specs.Written.{written}

@@ -1,25 +1,32 @@
 -- The frames of a talker, one after another.
-use Rattle.std.proofs.Common.{◌≡◌, ℕ, zero, suc, ◌+◌, ◌-◌, ◌<◌, ◌≤◌, min, List, [], ◌∷◌, ◌++◌, length, take, drop, Option, Some, None, refl, sym, ap, ◌∙◌, arith, append_assoc, take-append-drop}
-use Rattle.std.specs.Prelude.{slice_get, flat_map, option_map}
-use Rattle.talker.specs.declared.sent.Sent.{Sent}
+use Rattle.std.proofs.Common.{◌≡◌, ℕ, suc, ◌+◌, ◌-◌, ◌<◌, min, List, [], ◌∷◌, ◌++◌, length, take, drop, Some, refl, sym, ap, ◌∙◌, arith, append_assoc, take-append-drop}
+use Rattle.std.specs.Prelude.{slice_get, flat_map}
+use Rattle.talker.specs.declared.turn.Turn.{Turn}
 use Rattle.talker.specs.Talking.{Talking}
+use Rattle.talker.specs.Turns.{IsTurn, frame_in}
+use Rattle.talker.proofs.TurnLemmas.{frame_next}
+use Rattle.avtp_tool.specs.Talk.{next_record, spelled_frame}
 use Rattle.std.proofs.Math.Seq.{take-suc}
 use Rattle.std.proofs.lemmas.Grind.{flat_map-append}
 use Rattle.std.proofs.lemmas.List.{flat_map_more, take_all}
 use Rattle.std.proofs.lemmas.List.Folds.{flat_map-map}
 use Rattle.std.proofs.lemmas.Option.{get_or_from_slice_get, slice_get_within}
 use Rattle.pcap_frames.specs.Capture.{header_spelling, record_spelling}
+use Rattle.pcap_frames.specs.Layout as layout
 use Rattle.talker.specs.declared.plan.TalkPlan.{TalkPlan}
-use Rattle.talker.specs.Frames.{SentFrame, capture, capture_style, frames, record_of, sent_frame}
-
-past_end : {A : Type 0} (xs : List A) (n : ℕ) → slice_get xs n ≡ None → length xs ≤ n
-past_end [] n none = omega arith
-past_end (x ∷ xs) zero none = absurd cc
-past_end (x ∷ xs) (suc n) none = let shorter = past_end xs n none in omega arith
+use Rattle.talker.specs.Frames.{SentFrame, capture, capture_style, frames, record_of}
 
 -- the bytes of a frame's record
 abbrev pub record_bytes : SentFrame → List ℕ
 record_bytes f = record_spelling capture_style (record_of f)
+
+pub header_length : length (header_spelling capture_style) ≡ 24
+unfolding layout.number_bytes
+header_length = refl
+
+record_length : (f : SentFrame) → length (record_bytes f) ≡ 16 + length f.bytes
+unfolding layout.number_bytes
+record_length f = omega arith
 
 -- the bytes of a capture of the first frames
 abbrev pub sent_bytes : TalkPlan → List ℕ → ℕ → List ℕ
@@ -44,24 +51,27 @@ sent_rest plan input given =
     ∙ ap (λ (b : List ℕ). header_spelling capture_style ++ b) (sym (flat_map-append record_bytes (take given fs) (drop given fs)) ∙ (ap (flat_map record_bytes) (take-append-drop given fs) ∙ sym (flat_map-map (record_spelling capture_style) record_of fs)))
 
 -- there is no frame more
-pub sent_all : (plan : TalkPlan) (input : List ℕ) (given : ℕ) → slice_get (frames plan input) given ≡ None → sent_bytes plan input given ≡ capture plan input
-sent_all plan input given none =
+pub sent_all : (plan : TalkPlan) (input : List ℕ) (given : ℕ) → given ≡ length (frames plan input) → sent_bytes plan input given ≡ capture plan input
+sent_all plan input given all =
     let fs : List SentFrame = frames plan input in
-    let past : length fs ≤ given = past_end fs given none in
-    ap (λ (gs : List SentFrame). header_spelling capture_style ++ flat_map record_bytes gs) (take_all given fs past) ∙ ap (λ (b : List ℕ). header_spelling capture_style ++ b) (sym (flat_map-map (record_spelling capture_style) record_of fs))
+    ap (λ (gs : List SentFrame). header_spelling capture_style ++ flat_map record_bytes gs) (take_all given fs (omega (arith, all))) ∙ ap (λ (b : List ℕ). header_spelling capture_style ++ b) (sym (flat_map-map (record_spelling capture_style) record_of fs))
 
--- the frame that a talker gave, of the same plan and input
-pub next_frame : (r : Option Sent) (t : Talking) (plan : TalkPlan) (input : List ℕ) (sent : Sent) → t.plan ≡ plan → t.input ≡ input → option_map sent_frame r ≡ slice_get (frames t.plan t.input) t.given → r ≡ Some sent
-    → slice_get (frames plan input) t.given ≡ Some (sent_frame sent)
-next_frame r t plan input sent of_plan of_input frame is =
-    ap (λ (p : TalkPlan). slice_get (frames p input) t.given) (sym of_plan) ∙ (ap (λ (i : List ℕ). slice_get (frames t.plan i) t.given) (sym of_input) ∙ (sym frame ∙ ap (option_map sent_frame) is))
+-- ---- the frame that a talker sends next
 
--- there was none
-pub last_frame : (r : Option Sent) (t : Talking) (plan : TalkPlan) (input : List ℕ) → t.plan ≡ plan → t.input ≡ input → option_map sent_frame r ≡ slice_get (frames t.plan t.input) t.given → ((sent : Sent) → r ≡ Some sent → ⊥)
-    → slice_get (frames plan input) t.given ≡ None
-last_frame None t plan input of_plan of_input frame none =
-    ap (λ (p : TalkPlan). slice_get (frames p input) t.given) (sym of_plan) ∙ (ap (λ (i : List ℕ). slice_get (frames t.plan i) t.given) (sym of_input) ∙ sym frame)
-last_frame (Some sent) t plan input of_plan of_input frame none = absurd (none sent refl)
+-- of the same plan and input
+pub next_frame : (t : Talking) (plan : TalkPlan) (input : List ℕ) (turn : Turn) → t.plan ≡ plan → t.input ≡ input → (is : IsTurn t turn)
+    → slice_get (frames plan input) t.given ≡ Some (frame_in turn (frame_next t turn is).bytes)
+next_frame t plan input turn of_plan of_input is =
+    ap (λ (p : TalkPlan). slice_get (frames p input) t.given) (sym of_plan) ∙ (ap (λ (i : List ℕ). slice_get (frames t.plan i) t.given) (sym of_input) ∙ (frame_next t turn is).next)
+
+-- its record
+pub next_is : (t : Talking) (turn : Turn) (is : IsTurn t turn) → next_record t ≡ record_bytes (frame_in turn (frame_next t turn is).bytes)
+next_is t turn is = ap spelled_frame (frame_next t turn is).next
+
+pub next_size : (t : Talking) (turn : Turn) → IsTurn t turn → length (next_record t) ≡ 16 + turn.size
+next_size t turn is =
+    let has = frame_next t turn is in
+    ap length (next_is t turn is) ∙ record_length (frame_in turn has.bytes) ∙ ap (λ (k : ℕ). 16 + k) has.size
 
 -- fewer are left
 pub sent_fewer : (plan : TalkPlan) (input : List ℕ) (given next : ℕ) (f : SentFrame) → slice_get (frames plan input) given ≡ Some f → next ≡ min (given + 1) (length (frames plan input))

@@ -1,5 +1,5 @@
 -- The lines of a capture's records, and what `show` prints of them.
-use Rattle.std.proofs.Common.{◌≡◌, ℕ, ◌+◌, List, [], ◌∷◌, ◌++◌, length, take, Option, Some, Result, Ok, Err, refl, sym, ap, subst, ◌∙◌, arith, length-append}
+use Rattle.std.proofs.Common.{◌≡◌, ℕ, ◌+◌, List, [], ◌∷◌, ◌++◌, length, take, Option, Some, Result, refl, sym, ap, subst, ◌∙◌, arith, length-append}
 use Rattle.avtp_base.specs.Told.{Appends}
 use Rattle.avtp_base.proofs.Told.{Appends-nil, Appends-trans}
 use Rattle.pcap_frames.specs.Capture.{Record}

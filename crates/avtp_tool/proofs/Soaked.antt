@@ -1,9 +1,9 @@
 -- The run of `soak`, which reads and writes no file.
-use Rattle.std.proofs.Common.{false, ◌≡◌, ◌≢◌, ◌⊎◌, inl, inr, ℕ, List, [], ◌++◌, Option, Some, None, Result, Ok, Err, refl, sym, ap, subst, ◌∙◌, arith}
+use Rattle.std.proofs.Common.{false, ◌≡◌, ◌≢◌, ◌⊎◌, inl, inr, ℕ, List, [], Option, Some, None, Result, Ok, Err, refl, sym, ap, subst, arith}
 use Rattle.std.specs.Prelude.{IfOk}
 use Rattle.std.proofs.lemmas.List.{append-nil}
 use Rattle.avtp_base.specs.declared.failed.Failed.{Failed}
-use Rattle.avtp_base.specs.Files.{Files, KeepsFiles, Slots}
+use Rattle.avtp_base.specs.Files.{Files, KeepsFiles}
 use Rattle.avtp_base.specs.Told.{Appends, Keeps}
 use Rattle.avtp_base.specs.States.{Asks, ShelfState, SinkState, WasAsked}
 use Rattle.avtp_text.specs.Written.{written}
@@ -11,7 +11,7 @@ use Rattle.avtp_text.proofs.Printing.{prefix_none}
 use Rattle.avtp_words.specs.Grammar.{Request, soak}
 use Rattle.avtp_tool.specs.declared.status.Status.{Status}
 use Rattle.avtp_tool.specs.declared.status.Status.TheVariants as status
-use Rattle.avtp_tool.specs.Outcome.{EndsWith, KeepsSink, Only}
+use Rattle.avtp_tool.specs.Outcome.{EndsWith, KeepsSink}
 use Rattle.avtp_tool.specs.Run.{Runs}
 use Rattle.avtp_tool.specs.Soak.{Says, soak_report}
 use Rattle.avtp_tool.specs.Yield.{Gives, HandsNothing, says as only_text}

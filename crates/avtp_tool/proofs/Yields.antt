@@ -1,8 +1,7 @@
 -- What runs yield, one after the other.
 use Rattle.std.proofs.Common.{◌≡◌, ℕ, List, [], ◌++◌, Option, refl, sym, ap, subst, ◌∙◌, append_assoc}
 use Rattle.std.proofs.lemmas.List.{append-nil}
-use mathlib.Core.List.{IsPrefix}
-use Rattle.avtp_base.specs.Told.{Appends, Keeps}
+use Rattle.avtp_base.specs.Told.{Keeps}
 use Rattle.avtp_base.proofs.Told.{Appends-trans}
 use Rattle.avtp_text.specs.Written.{AppendsPrefix}
 use Rattle.avtp_text.proofs.Printing.{prefix_after, prefix_before, prefix_none, prefix_whole}

@@ -2,7 +2,7 @@
 use Rattle.std.specs.Prelude.{◌≡◌, ℕ, ◌+◌, ◌-◌, ◌^◌, ◌≤◌, Bool, true, false, List, [], ◌++◌, length, take, Option, None, Some, IsSome, is_some, ⊤}
 use mathlib.Core.List.{IsPrefix}
 use Rattle.avtp_base.specs.Faults.{Rose}
-use Rattle.avtp_base.specs.Files.{Files, Open, Slots, left_in}
+use Rattle.avtp_base.specs.Files.{Open, Slots, left_in}
 use Rattle.avtp_base.specs.States.{ShelfState}
 use Rattle.pcap_frames.specs.Capture.{Record}
 use Rattle.capture_io.specs.declared.end.End.{End}

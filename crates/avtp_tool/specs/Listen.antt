@@ -3,7 +3,7 @@ use Rattle.std.specs.Prelude.{◌≡◌, ℕ, ℤ, List, [], ◌++◌, Option, N
 use Rattle.avtp_base.specs.declared.failed.Failed.{Failed}
 use Rattle.avtp_base.specs.declared.refusal.Refusal.{Refusal}
 use Rattle.avtp_base.specs.Faults.{Rose}
-use Rattle.avtp_base.specs.Files.{Files, Slots}
+use Rattle.avtp_base.specs.Files.{Files}
 use Rattle.avtp_base.specs.States.{ShelfState, SinkState}
 use Rattle.avtp_base.specs.Told.{Appends}
 use Rattle.pcap_frames.specs.Capture.{Record}

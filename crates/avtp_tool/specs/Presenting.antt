@@ -1,5 +1,5 @@
 -- What the two sides of a ring did until all was presented, or the presenter failed.
-use Rattle.std.specs.Prelude.{◌≡◌, ℕ, ◌+◌, ◌^◌, ◌≤◌, ◌<◌, ◌++◌, length, List, [], Option, Some, None, IsSome, Result, Ok, Err, OnOk, OnErr}
+use Rattle.std.specs.Prelude.{◌≡◌, ℕ, ◌+◌, ◌^◌, ◌≤◌, ◌<◌, ◌++◌, length, List, [], Option, None, IsSome, Result, Ok, Err, OnOk, OnErr}
 use mathlib.Core.List.{IsPrefix}
 use Rattle.avtp_base.specs.declared.failed.Failed.{Failed}
 use Rattle.avtp_base.specs.Faults.{Rose}

@@ -2,7 +2,7 @@
 use Rattle.std.specs.Prelude.{◌≡◌, ◌≢◌, ◌⊎◌, ℕ, ◌^◌, ◌≤◌, List, [], ◌∷◌, ◌++◌, if◌then◌else◌, option_to_list, Option, Some, None, IsSome, Result, Ok, Err, Bool, true, false}
 use Rattle.avtp_base.specs.declared.failed.Failed.{Failed}
 use Rattle.avtp_base.specs.Faults.{Rose}
-use Rattle.avtp_base.specs.Files.{Files, Slots, KeepsFiles}
+use Rattle.avtp_base.specs.Files.{Files, KeepsFiles}
 use Rattle.avtp_base.specs.States.{ShelfState, SinkState}
 use Rattle.talker.specs.Frames.{capture}
 use Rattle.talker.specs.Plan.{IsPlan}
@@ -17,7 +17,7 @@ use Rattle.avtp_tool.specs.declared.status.Status.TheVariants as status
 use Rattle.avtp_tool.specs.Check.{check_plan}
 use Rattle.avtp_tool.specs.Listen.{listen_plan, plan_of}
 use Rattle.avtp_tool.specs.Made.{CountsWriting, KeepsFilesBut, KeepsSlotsFor, Makes}
-use Rattle.avtp_tool.specs.Outcome.{AsksFor, CountsReading, is_done, IsDone, KeepsSink, Only, TellsRun}
+use Rattle.avtp_tool.specs.Outcome.{AsksFor, CountsReading, is_done, KeepsSink, Only, TellsRun}
 use Rattle.avtp_tool.specs.Reading.{PlanOutcome, plan_read, plan_status, plan_yield}
 use Rattle.avtp_tool.specs.Show.{show_plan}
 use Rattle.avtp_tool.specs.Soak.{soak_report}

@@ -1,5 +1,5 @@
 -- What `soak` prints and how it ends.
-use Rattle.std.specs.Prelude.{◌≡◌, ◌⊎◌, ℕ, List, Option, Result, IfOk}
+use Rattle.std.specs.Prelude.{◌≡◌, ◌⊎◌, ℕ, List, Result, IfOk}
 use Rattle.avtp_base.specs.declared.failed.Failed.{Failed}
 use Rattle.avtp_text.specs.Soak.{soak_line}
 use Rattle.avtp_text.specs.Written.{written}

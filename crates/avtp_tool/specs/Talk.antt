@@ -1,13 +1,13 @@
 -- What `talk` prints and how it ends.
-use Rattle.std.specs.Prelude.{◌≡◌, ◌≢◌, ℕ, ◌≤◌, ◌<◌, nat_le, List, [], ◌∷◌, length, take, Option, Some, None, option_map, Result, Ok, IfOk, if◌then◌else◌}
+use Rattle.std.specs.Prelude.{◌≡◌, ◌≢◌, ℕ, ◌≤◌, ◌<◌, nat_le, List, [], ◌∷◌, length, Option, Some, None, option_map, Result, Ok, IfOk, if◌then◌else◌, slice_get}
 use Rattle.avtp_base.specs.declared.failed.Failed.{Failed}
-use Rattle.avtp_base.specs.Files.{Files, Slots}
 use Rattle.avtp_base.specs.States.{Asks, ShelfState, SinkState}
 use Rattle.capture_io.specs.declared.contents.Contents.{Contents}
 use Rattle.capture_io.specs.Contents.{IsContents}
 use Rattle.capture_io.specs.declared.end.Stop.{Stop}
 use Rattle.capture_io.specs.declared.end.Stop.TheVariants as stop
 use Rattle.capture_io.specs.Writing.{KeepsSlotsBut}
+use Rattle.pcap_frames.specs.Capture.{record_spelling}
 use Rattle.talker.specs.declared.fault.TalkFault.{TalkFault}
 use Rattle.talker.specs.declared.plan.CrfPlan.{CrfPlan}
 use Rattle.talker.specs.declared.plan.TalkKind.{TalkKind}
@@ -17,8 +17,8 @@ use Rattle.avtp_words.specs.declared.talk.Kind.{Kind}
 use Rattle.avtp_words.specs.declared.talk.Kind.TheVariants as words
 use Rattle.talker.specs.declared.plan.TalkPlan.{TalkPlan}
 use Rattle.talker.specs.Faults.{fault_of}
-use Rattle.talker.specs.Frames.{capture, clock_frames, stream_frames}
-use Rattle.talker.specs.Talking.{most_input}
+use Rattle.talker.specs.Frames.{SentFrame, capture, capture_style, clock_frames, frames, record_of, stream_frames}
+use Rattle.talker.specs.Talking.{Talking as Sending, most_input}
 use Rattle.avtp_words.specs.Grammar.{Talking}
 use Rattle.avtp_text.specs.Notices.{limit_line, read_fault_line}
 use Rattle.avtp_text.specs.Talk.{talk_input_line, talk_line}
@@ -71,6 +71,17 @@ TalkedOutcome plan bytes fault ended text = ⊥
 abbrev pub TalkOutcome : TalkPlan → Option (List ℕ) → Type 0 → Status → List ℕ → Type 0
 TalkOutcome plan None fault ended text = (ended ≡ status.ReadFault) × (text ≡ read_fault_line)
 TalkOutcome plan (Some bytes) fault ended text = TalkedOutcome plan bytes fault ended text
+
+-- ---- the records of its capture
+
+-- the record of a frame, where there is one
+abbrev pub spelled_frame : Option SentFrame → List ℕ
+spelled_frame None = []
+spelled_frame (Some f) = record_spelling capture_style (record_of f)
+
+-- that of the frame which a talker sends next
+abbrev pub next_record : Sending → List ℕ
+next_record t = spelled_frame (slice_get (frames t.plan t.input) t.given)
 
 -- ---- where no fault of reading comes
 

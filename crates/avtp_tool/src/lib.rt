@@ -1,6 +1,7 @@
 //! What the command `avtp` does with its words: the captures' bytes become text and a status.
 #![tactic(auto)]
 
+mod capture_out;
 mod check;
 mod checked;
 mod command;

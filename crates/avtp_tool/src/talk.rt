@@ -1,41 +1,31 @@
 //! The command `talk`: a capture of a stream, made from raw samples or from a byte stream of H.264.
 
 ghost use Rattle.std.specs.Prelude.{◌≡◌, ◌≤◌, ◌<◌, false, Option, option_map, Ok, Some, length};
-ghost use Rattle.pcap_frames.specs.Capture.{header_spelling, record_spelling, HasSpelling};
-ghost use Rattle.talker.specs.Frames.{capture, capture_style, record_of, sent_frame};
+ghost use Rattle.talker.specs.Frames.{capture};
 ghost use Rattle.talker.specs.Plan.{IsPlan};
 ghost use Rattle.talker.specs.Talking.{most_input};
 ghost use Rattle.avtp_words.specs.Grammar.{talk as talk_request, talking_of};
 ghost use Rattle.avtp_text.specs.Talk.{talk_input_line, talk_line};
 ghost use Rattle.avtp_text.specs.Notices.{limit_line};
-ghost use Rattle.capture_io.specs.Writing.{AddsBytes, IsMadeIn};
+ghost use Rattle.capture_io.specs.Writing.{IsMadeIn};
 ghost use Rattle.avtp_tool.specs.Made.{MakesFile, WritesPart, unmade_as};
 ghost use Rattle.avtp_tool.specs.Outcome.{EndsWith, Only};
 ghost use Rattle.avtp_tool.specs.Run.{Runs};
 ghost use Rattle.avtp_tool.specs.Yield.{HandsNothing};
 ghost use Rattle.avtp_tool.specs.Talk.{EndsRefused, sent_line, talk_clock, talk_kind, talk_plan, TalkedOutcome, Talks, TalksContents};
 
+use crate::capture_out::{FileHeader, NextRecord};
 use crate::command::{print_fault, print_unopened};
 use crate::status::Status;
 use avtp_base::{Buffer, Failed, OpenFault, Shelf, Sink};
 use avtp_text::Text;
 use avtp_words::{Crf, Kind, Talk};
 use capture_io::{Contents, FileWriter, Stop, read_contents};
-use pcap_frames::{Order, Style, Unit, record_header, write_header};
 use std::alloc::Global;
-use talker::{CrfPlan, Sent, TalkFault, TalkKind, TalkPlan, Talker};
+use talker::{CrfPlan, TalkFault, TalkKind, TalkPlan, Talker};
 
 /// The most bytes of an input: 256 MiB.
 const LIMIT: u64 = 268_435_456;
-
-/// The length of the header of a capture's file.
-const FILE_HEADER: usize = 24;
-
-/// Captures are little-endian, and count nanoseconds.
-const STYLE: Style = Style {
-    order: Order::Little,
-    unit: Unit::Nano,
-};
 
 /// What the packets are made of.
 fn kind(asked: Kind) -> TalkKind
@@ -197,39 +187,12 @@ fn write_capture<F: Shelf>(
     requires begun { talker.old.given ≡ 0 }
     ensures { WritesPart (F.state shelf.old) (F.state shelf.new) writer.old writer.new (capture talker.old.plan talker.old.input) result }
 {
-    writer.add(shelf, &file_header(), &[])?;
-    while let Some(sent) = talker.next() {
-        add_record(writer, shelf, &sent)?;
+    writer.add(shelf, &FileHeader)?;
+    while let Some(turn) = talker.turn() {
+        writer.add(shelf, &NextRecord { talker, turn })?;
+        talker.go_on(turn);
     }
     Ok(())
-}
-
-/// The header of the capture's file.
-fn file_header() -> [u8; FILE_HEADER]
-    ensures { result ≡ header_spelling capture_style }
-{
-    let mut header = [0; FILE_HEADER];
-    let Ok(_) = write_header(&mut header, STYLE) else {
-        unreachable!()
-    };
-    header
-}
-
-/// Adds the record of a frame.
-#[inline(always)]
-fn add_record<F: Shelf>(
-    writer: &mut FileWriter,
-    shelf: &mut F,
-    sent: &Sent<'_>,
-) -> Result<(), Failed>
-    requires made { IsMadeIn (F.state shelf.old).slots writer.old.slot }
-    requires fits { HasSpelling capture_style (record_of (sent_frame sent.now)) }
-    requires size { length sent.now.bytes.now ≤ 1518 }
-    ensures { AddsBytes (F.state shelf.old) (F.state shelf.new) writer.old writer.new (record_spelling capture_style (record_of (sent_frame sent.now))) result }
-{
-    let len = sent.bytes.len() as u32;
-    let header = record_header(STYLE, sent.arrival, len, len);
-    writer.add(shelf, &header, sent.bytes)
 }
 
 /// Says how many packets were sent.

@@ -1,9 +1,9 @@
 //! A file that is written through a buffer.
 
-ghost use Rattle.std.specs.Prelude.{◌≡◌, ◌+◌, ◌≤◌, ◌++◌, [], Ok, length};
+ghost use Rattle.std.specs.Prelude.{◌≡◌, ◌≤◌, [], Ok, length};
 ghost use Rattle.capture_io.specs.Writing.{AddsBytes, ClosesFile, CreatesFile, FinishesFile, IsMadeIn, WritesOut};
 
-use avtp_base::{Buffer, Failed, OpenFault, Shelf, Slot};
+use avtp_base::{Buffer, Failed, OpenFault, Shelf, Slot, Spelled};
 use std::marker::Model;
 
 /// A file of a shelf that is made and written through a buffer.
@@ -37,23 +37,18 @@ impl FileWriter {
         Ok(FileWriter { slot, buffer })
     }
 
-    /// Adds a header and what follows it, together at most [`Buffer::ROOM`] bytes, or nothing where the shelf fails.
+    /// Adds what is spelled in at most [`Buffer::ROOM`] bytes, which are written in their place, or nothing where the shelf
+    /// fails.
     #[inline(always)]
-    pub fn add<F: Shelf>(
-        &mut self,
-        shelf: &mut F,
-        header: &[u8],
-        bytes: &[u8],
-    ) -> Result<(), Failed>
+    pub fn add<F: Shelf, W: Spelled>(&mut self, shelf: &mut F, added: &W) -> Result<(), Failed>
         requires made { IsMadeIn (F.state shelf.old).slots self.old.slot }
-        requires size { length header.now + length bytes.now ≤ 65536 }
-        ensures { AddsBytes (F.state shelf.old) (F.state shelf.new) self.old self.new (header.now ++ bytes.now) result }
+        requires size { length (W.spelling added.now) ≤ 65536 }
+        ensures { AddsBytes (F.state shelf.old) (F.state shelf.new) self.old self.new (W.spelling added.now) result }
     {
-        if self.buffer.room() < header.len() + bytes.len() {
+        if self.buffer.room() < added.size() {
             self.flush(shelf)?;
         }
-        self.buffer.push(header);
-        self.buffer.push(bytes);
+        self.buffer.add(added);
         Ok(())
     }
 

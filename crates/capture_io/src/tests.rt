@@ -1,7 +1,7 @@
-ghost use Rattle.std.specs.Prelude.{◌≤◌, ◌<◌, length};
+ghost use Rattle.std.specs.Prelude.{◌≤◌, length};
 
 use crate::{End, FileWriter, Source, Stop, read_contents};
-use avtp_base::{Buffer, Field, MemoryShelf, OpenFault, Refusal, Shelf};
+use avtp_base::{Buffer, Field, MemoryShelf, OpenFault, Refusal, Shelf, Spelled};
 use std::alloc::{AllocError, Global};
 use std::test::Fail;
 
@@ -101,18 +101,33 @@ fn contents(rt: HostRuntime) -> Result<(), Fail> {
     Ok(())
 }
 
+/// Bytes as they are.
+struct Piece<'a>(&'a [u8]);
+
+impl Spelled for Piece<'_> {
+    ghost spelling = { λ piece. piece.0.now };
+
+    fn size(&self) -> usize {
+        self.0.len()
+    }
+
+    fn write(&self, out: &mut [u8]) {
+        out.copy_from_slice(self.0);
+    }
+}
+
 /// Makes the file "a" of two such pieces, and tells whether all was written.
 fn write_twice<F: Shelf>(alloc: Global, shelf: &mut F, piece: &[u8]) -> Result<bool, Fail>
-    requires { (0 < length piece.now) × (length piece.now ≤ 65536) }
+    requires { length piece.now ≤ 65536 }
 {
     let Ok(mut writer) = FileWriter::create(Buffer::new(alloc)?, shelf, "a") else {
         return Err(Fail::from("a can be made"));
     };
-    if writer.add(shelf, piece, &[]).is_err() {
+    if writer.add(shelf, &Piece(piece)).is_err() {
         writer.abandon(shelf);
         return Ok(false);
     }
-    if writer.add(shelf, &piece[..1], &piece[1..]).is_err() {
+    if writer.add(shelf, &Piece(piece)).is_err() {
         writer.abandon(shelf);
         return Ok(false);
     }

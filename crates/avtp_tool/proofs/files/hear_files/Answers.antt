@@ -1,4 +1,4 @@
-use Rattle.std.proofs.Common.{Ok, refl, sym, ap, ◌∙◌}
+use Rattle.std.proofs.Common.{Ok, refl, ap, ◌∙◌}
 use Rattle.avtp_words.specs.Grammar.{listening_of}
 use Rattle.avtp_tool.specs.declared.status.Status.{Status}
 use Rattle.avtp_tool.proofs.HearFiles.{err_plain, failed_as, fault_runs, less_is, more_is, plain_runs}

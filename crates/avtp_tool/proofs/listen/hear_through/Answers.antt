@@ -1,6 +1,4 @@
-use Rattle.std.proofs.Common.{◌≡◌, ◌+◌, ◌≤◌, ℕ, [], Ok, None, refl, sym, ap, subst, ◌∙◌, arith}
-use Rattle.std.specs.Prelude.{IsSome}
-use Rattle.capture_io.specs.Source.{slot_of}
+use Rattle.std.proofs.Common.{[], None, refl}
 use Rattle.avtp_tool.proofs.Leaving.{live_now}
 use Rattle.avtp_tool.proofs.HearingTo.{ended_live, left_most, reading_pull, shows_none}
 use Rattle.avtp_tool.proofs.Passing.{gives_given, gives_none, over_on, same_result}

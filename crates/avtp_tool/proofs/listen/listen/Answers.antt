@@ -1,4 +1,4 @@
-use Rattle.std.proofs.Common.{Ok, Err, inl, refl, sym, subst, ◌∙◌}
+use Rattle.std.proofs.Common.{Ok, Err, inl, refl, ◌∙◌}
 use Rattle.avtp_base.proofs.Told.{Keeps-refl}
 use Rattle.avtp_words.specs.Grammar.{listening_of}
 use Rattle.avtp_tool.proofs.Yields.{hands_nothing, part_none}

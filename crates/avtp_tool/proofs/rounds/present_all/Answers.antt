@@ -1,6 +1,5 @@
 use Rattle.std.proofs.Common.{◌≡◌, ℕ, refl, sym, subst, ◌∙◌, arith}
 use Rattle.avtp_base.specs.Faults.{Rose}
-use Rattle.presenter_ring.specs.declared.pipe.Round.{Round}
 use Rattle.presenter_ring.specs.declared.pipe.Round.TheVariants as round
 use Rattle.presenter_ring.proofs.PipeLemmas.{HasMoved-none, HasMoved-then}
 use Rattle.avtp_tool.proofs.Passing.{ends_on, passed_all, passed_some}

@@ -1,4 +1,4 @@
-use Rattle.std.proofs.Common.{◌≡◌, ◌+◌, ◌≤◌, ◌^◌, ℕ}
+use Rattle.std.proofs.Common.{◌≡◌, ◌+◌, ◌≤◌, ◌^◌}
 use Rattle.presenter_ring.specs.Pipes.{ended_with, given_to, work, HasMoved}
 use Rattle.avtp_tool.proofs.rounds.present_all.Given as goal
 

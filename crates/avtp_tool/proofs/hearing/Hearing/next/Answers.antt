@@ -1,5 +1,4 @@
-use Rattle.std.proofs.Common.{Some, None, false, true, sym, ap, ◌∙◌, arith, rules}
-use Rattle.std.specs.Prelude.{is_err}
+use Rattle.std.proofs.Common.{Some, None, sym, ap, ◌∙◌, arith, rules}
 use Rattle.avtp_tool.specs.Hearing.{pull_at}
 use Rattle.avtp_tool.proofs.HearingTo.{fine_match, goes_out, goes_over, goes_still, goes_then, pull_none, sound_on, sound_over, wrong_match}
 use Rattle.avtp_tool.proofs.hearing.Hearing.next.Goals as goal

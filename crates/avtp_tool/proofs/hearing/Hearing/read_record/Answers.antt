@@ -1,5 +1,4 @@
-use Rattle.std.proofs.Common.{◌≡◌, ◌+◌, ◌<◌, [], ◌∷◌, false, true, refl, sym, ap, ◌∙◌, arith}
-use Rattle.std.specs.Prelude.{is_err}
+use Rattle.std.proofs.Common.{[], ◌∷◌, refl, sym, ap, ◌∙◌, arith}
 use Rattle.pcap_frames.specs.Reading.{shown}
 use Rattle.avtp_tool.specs.declared.hearing.Stage.TheVariants.{Showing}
 use Rattle.avtp_tool.specs.Hearing.{closed_at}
