@@ -102,6 +102,7 @@ fn contents(rt: HostRuntime) -> Result<(), Fail> {
 }
 
 /// Bytes as they are.
+#[derive(Drop)]
 struct Piece<'a>(&'a [u8]);
 
 impl Spelled for Piece<'_> {
