@@ -624,6 +624,15 @@ fn makes_clocks(rt: HostRuntime) -> Result<(), Fail> {
     Ok(())
 }
 
+/// The plan with a packet of the clock beside each second packet of the stream.
+const BESIDE: TalkPlan = TalkPlan {
+    crf: Some(CrfPlan {
+        interval: 12,
+        ..CLOCK
+    }),
+    ..PLAN
+};
+
 /// Which frame comes next, and when: of the clock or not, its number, how many nanoseconds behind the stream's start, and
 /// the restart bit and first timestamp of its packet, which is counted from that start too.
 const ORDER: [(bool, u64, i64, bool, u32); 12] = [
@@ -644,14 +653,7 @@ const ORDER: [(bool, u64, i64, bool, u32); 12] = [
 /// At equal arrivals a frame of the clock comes before one of the stream.
 #[test]
 fn sends_the_clock_first(rt: HostRuntime) -> Result<(), Fail> {
-    let plan = TalkPlan {
-        crf: Some(CrfPlan {
-            interval: 12,
-            ..CLOCK
-        }),
-        ..PLAN
-    };
-    let mut talker = Talker::begin(rt.alloc(), plan, &SILENCE[..192])?;
+    let mut talker = Talker::begin(rt.alloc(), BESIDE, &SILENCE[..192])?;
     for (clock, number, arrival, mr, timestamp) in ORDER {
         let sent = talker.next().ok_or("no frame")?;
         assert_eq!(rt;
@@ -779,15 +781,8 @@ fn check_written(
 /// Eight packets beside four of a clock, and two units of H.264 in three packets of different lengths.
 #[test]
 fn writes_each_frame(rt: HostRuntime) -> Result<(), Fail> {
-    let clocked = TalkPlan {
-        crf: Some(CrfPlan {
-            interval: 12,
-            ..CLOCK
-        }),
-        ..PLAN
-    };
-    let written = Talker::begin(rt.alloc(), clocked, &SILENCE[..192])?;
-    let given = Talker::begin(rt.alloc(), clocked, &SILENCE[..192])?;
+    let written = Talker::begin(rt.alloc(), BESIDE, &SILENCE[..192])?;
+    let given = Talker::begin(rt.alloc(), BESIDE, &SILENCE[..192])?;
     check_written(&rt, written, given, 12)?;
     let mut input = [0xff; 3004];
     input[..5].copy_from_slice(&[0, 0, 0, 1, 0x65]);
