@@ -58,8 +58,10 @@ impl Spelled for NextRecord<'_, '_> {
     fn write(&self, out: &mut [u8]) {
         let size = self.turn.size as u32;
         let header = record_header(STYLE, self.turn.arrival, size, size);
-        let (front, frame) = out.split_at_mut(RECORD_HEADER);
-        front.copy_from_slice(&header);
+        let Some((front, frame)) = out.split_first_chunk_mut() else {
+            unreachable!()
+        };
+        *front = header;
         self.talker.write(self.turn, frame);
     }
 }

@@ -183,7 +183,7 @@ read_by : (plan : TalkPlan) (format : AafFormat) (sparse : Bool) (n : ℕ) (samp
     → SpellsAaf (aaf_spelling (aaf_packet format sparse plan n samples)) (aaf_packet format sparse plan n samples)
 read_by plan format sparse n samples None p kind e some id size = absurd cc
 read_by plan format sparse n samples (Some code) p kind e some id size =
-    packet_again (record { format = format; sparse = sparse; code = code; header = [] }) plan n samples p (record { kind = kind; code = e }) id size
+    packet_again (record { format = format; sparse = sparse; steady = false; code = code; headers = [] }) plan n samples p (record { kind = kind; code = e }) id size
 
 pub packet_read : (plan : TalkPlan) (format : AafFormat) (sparse : Bool) (n : ℕ) (samples : List ℕ) → IsAudioPlan plan → plan.kind ≡ Aaf format sparse → plan.id < 2 ^ 64
     → length samples ≡ plan.count * frame_size plan.channels format

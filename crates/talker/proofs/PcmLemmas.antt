@@ -1,15 +1,20 @@
 -- PCM is a format of audio.
-use Rattle.std.proofs.Common.{◌-◌, ◌≡◌, ℕ, ◌+◌, ◌*◌, ◌^◌, ◌<◌, ◌≤◌, Bool, true, false, ◌%◌, List, [], ◌++◌, length, take, replicate, Some, None, refl, sym, arith}
+use Rattle.std.proofs.Common.{◌∷◌, ◌-◌, ◌≡◌, ℕ, ◌+◌, ◌*◌, ◌^◌, ◌<◌, ◌≤◌, Bool, true, false, ◌%◌, List, [], ◌++◌, length, take, drop, append_assoc, replicate, Some, None, refl, sym, ap, ◌∙◌, arith}
 use Rattle.std.specs.Prelude.{◌==◌, if◌then◌else◌, is_some, unwrap_or}
 use Rattle.std.proofs.Math.Nat.{mul-pos}
-use Rattle.std.proofs.lemmas.List.{append-nil, length-replicate, take-replicate}
+use Rattle.std.proofs.Math.ListN.{drop_of_length-le}
+use Rattle.std.proofs.Math.Seq.{drop-append-add, drop-append_seam, take-append-add, take-append_seam}
+use Rattle.std.proofs.lemmas.List.{append-nil, length-append, length-drop, length-replicate, length-take-le, take-append-drop, take-append-le, take-replicate, take-take, take_all}
+use Rattle.std.proofs.lemmas.Slice.{drop-append-drop}
 use Rattle.avtp_base.specs.Layout.{Fits, spelling}
 use Rattle.avtp_base.specs.Octets.{flag}
 use Rattle.avtp_base.proofs.BitLemmas.{flag-below}
+use Rattle.avtp_header.specs.declared.header.StreamHeader.{StreamHeader}
 use Rattle.aaf_format.specs.declared.aaf.AafFormat.{AafFormat}
 use Rattle.aaf_format.specs.declared.aaf.AafFormat.TheVariants.{Float32, Int32, Int24, Int16}
 use Rattle.aaf_format.specs.Aaf.{Aaf as Packet, IsWritableAaf, SpellsAaf, aaf_layout, aaf_spelling, frame_size, width_of}
 use Rattle.aaf_format.proofs.AafLemmas.{aaf_again, fits_whole}
+use Rattle.pcap_frames.specs.Frame.{frame_layout}
 use Rattle.time_unfold.specs.declared.head_rule.Distance.{Distance}
 use Rattle.stream_journal.specs.Journal.{Journal, rule_of}
 use Rattle.stream_journal.specs.Conforming.{is_stamped}
@@ -20,16 +25,18 @@ use Rattle.talker.specs.declared.plan.TalkKind.{TalkKind}
 use Rattle.talker.specs.declared.plan.TalkKind.TheVariants.{Aaf}
 use Rattle.talker.specs.declared.plan.TalkPlan.{TalkPlan}
 use Rattle.talker.specs.Audio.{pcm}
+use Rattle.talker.specs.Frames.{aaf_bytes, ethernet, packet_bytes}
 use Rattle.talker.specs.Journal.{audio_times}
-use Rattle.talker.specs.Packets.{aaf_packet, kind_of, stamp_of, written_over}
+use Rattle.talker.specs.Clock.{stamped_instant}
+use Rattle.talker.specs.Packets.{aaf_packet, front_of, kind_of, patched, stamp_of}
 use Rattle.talker.specs.Plan.{ExpectsBy, IsNearLead, IsAudioPlan, rate_code}
-use Rattle.talker.specs.Talking.{IsPcm}
+use Rattle.talker.specs.Talking.{HasHeaders, IsPcm, IsSteady}
 use Rattle.talker.specs.Timing.{mr_of}
 use Rattle.talker.proofs.AudioLemmas.{IsFormatOf}
 use Rattle.talker.proofs.DueLemmas.{IsCountedBack, IsFound, IsKindOf}
 use Rattle.talker.proofs.HeaderLemmas.{header_fits, header_is}
 use Rattle.talker.proofs.RateLemmas.{known_rate}
-use Rattle.talker.proofs.SizeLemmas.{aaf_size}
+use Rattle.talker.proofs.SizeLemmas.{aaf_size, length-spelling}
 
 width-some : (f : AafFormat) → 0 < width_of f
 width-some Float32 = omega arith
@@ -49,15 +56,95 @@ zeros f plan p is = take-replicate (plan.count * frame_size plan.channels f.form
 
 -- ---- headers
 
--- the header of packet n, by that of packet 0
-pub over_first : (format : AafFormat) (sparse : Bool) (plan : TalkPlan) (n : ℕ) (samples first : List ℕ) → first ≡ spelling aaf_layout (aaf_packet format sparse plan 0 [])
-    → written_over first (aaf_packet format sparse plan n samples).header ++ samples ≡ aaf_spelling (aaf_packet format sparse plan n samples)
-over_first format sparse plan n samples first first_is =
+-- the header of packet n, over that of packet 0
+over_header : (format : AafFormat) (sparse : Bool) (plan : TalkPlan) (n : ℕ) (samples first : List ℕ) (h : StreamHeader) → first ≡ spelling aaf_layout (aaf_packet format sparse plan 0 [])
+    → h ≡ (aaf_packet format sparse plan n samples).header
+    → patched first 0 (front_of h) h.timestamp ++ samples ≡ aaf_spelling (aaf_packet format sparse plan n samples)
+over_header format sparse plan n samples first h first_is h_is =
     let mr = flag-below (mr_of plan n) in
     let tv = flag-below (is_some (stamp_of (kind_of sparse) plan n)) in
     let second : (((8 * 2 + flag (mr_of plan n)) * 4 + 0) * 2 + flag (is_some (stamp_of (kind_of sparse) plan n))) % 256 ≡ 128 + 8 * flag (mr_of plan n) + flag (is_some (stamp_of (kind_of sparse) plan n)) = omega arith in
     let third : n % 256 % 256 ≡ n % 256 = omega arith in
-    rw (first_is, second, third) refl
+    rw (h_is, first_is, second, third) refl
+
+-- and its frame, over both headers of that of packet 0
+pub over_first : (format : AafFormat) (sparse : Bool) (plan : TalkPlan) (n : ℕ) (samples headers : List ℕ) (h : StreamHeader) → HasHeaders headers (aaf_packet format sparse plan 0 [])
+    → h ≡ (aaf_packet format sparse plan n samples).header
+    → take 18 headers ++ (patched (drop 18 headers) 0 (front_of h) h.timestamp ++ samples) ≡ aaf_bytes format sparse plan n samples
+unfolding packet_bytes
+over_first format sparse plan n samples headers h has h_is =
+    rw (has.frame, over_header format sparse plan n samples (drop 18 headers) h has.packet h_is) refl
+
+-- of a steady stream by the sequence number and the timestamp alone
+steady_header : (format : AafFormat) (plan : TalkPlan) (n : ℕ) (samples first : List ℕ) (instant : ℕ) → plan.restart ≡ None → first ≡ spelling aaf_layout (aaf_packet format false plan 0 []) → instant ≡ stamped_instant plan n 0
+    → patched first 2 (n % 256 ∷ []) (instant % 2 ^ 32) ++ samples ≡ aaf_spelling (aaf_packet format false plan n samples)
+steady_header format plan n samples first instant once first_is stamp =
+    let third : n % 256 % 256 ≡ n % 256 = omega arith in
+    rw (first_is, stamp, once, third) refl
+
+pub over_steady : (format : AafFormat) (sparse : Bool) (plan : TalkPlan) (n : ℕ) (samples headers : List ℕ) (instant : ℕ) → IsSteady sparse plan → HasHeaders headers (aaf_packet format sparse plan 0 [])
+    → instant ≡ stamped_instant plan n 0
+    → take 18 headers ++ (patched (drop 18 headers) 2 (n % 256 ∷ []) (instant % 2 ^ 32) ++ samples) ≡ aaf_bytes format sparse plan n samples
+unfolding packet_bytes
+over_steady format true plan n samples headers instant steady has stamp =
+    let not : true ≡ false = steady.dense in
+    absurd cc
+over_steady format false plan n samples headers instant steady has stamp =
+    rw (has.frame, steady_header format plan n samples (drop 18 headers) instant steady.once has.packet stamp) refl
+
+-- both headers of a packet's frame
+abbrev pub both_headers : Packet → List ℕ
+both_headers v = spelling (frame_layout true) (ethernet []) ++ spelling aaf_layout v
+
+parted : (xs ys : List ℕ) (n : ℕ) → length xs ≡ n → (take n (xs ++ ys) ≡ xs) × (drop n (xs ++ ys) ≡ ys)
+parted xs ys n long = (rw long at (take-append_seam xs ys), rw long at (drop-append_seam xs ys))
+
+pub has_both : (v : Packet) → HasHeaders (both_headers v) v
+has_both v =
+    let parts = parted (spelling (frame_layout true) (ethernet [])) (spelling aaf_layout v) 18 (length-spelling (frame_layout true) (ethernet [])) in
+    record { frame = parts.0; packet = parts.1 }
+
+-- what was written over a whole header, a part of it from p to q and then at 12
+patched_is : (h a t : List ℕ) (p q : ℕ) → length h ≡ 24 → p + length a ≡ q → q ≤ 12
+    → take 12 (take p h ++ (a ++ drop q h)) ++ (t ++ drop 16 (take p h ++ (a ++ drop q h))) ≡ take p h ++ (a ++ (take (12 - q) (drop q h) ++ (t ++ take 8 (drop 16 h))))
+patched_is h a t p q lh la few =
+    let b = take p h ++ a in
+    let rest = drop q h in
+    let lb : length b ≡ q = omega (arith, length-append (take p h) a, length-take-le p h (omega (arith, lh, la, few)), la) in
+    let whole : take p h ++ (a ++ rest) ≡ b ++ rest = sym (append_assoc (take p h) a rest) in
+    let twelve : length b + (12 - q) ≡ 12 = omega (arith, lb, few) in
+    let front : take 12 (b ++ rest) ≡ b ++ take (12 - q) rest = rw twelve at (take-append-add b rest (12 - q)) in
+    let end : drop 16 (b ++ rest) ≡ take 8 (drop 16 h) = drop-append-drop q h b 16 (omega (arith, few)) lb ∙ sym (take_all 8 (drop 16 h) (omega (arith, length-drop 16 h, lh))) in
+    rw (whole, front, end) simp append_assoc
+
+-- and so over both headers of a frame, of which Ethernet's stays
+pub patched_behind : (o o1 o2 o3 all a t : List ℕ) (p n : ℕ) → length o ≡ 42 → length all ≡ 42 → length a ≡ n → p + n ≤ 12
+    → o1 ≡ take 0 o ++ (all ++ drop (0 + 42) o) → o2 ≡ take (18 + p) o1 ++ (a ++ drop (18 + p + n) o1) → o3 ≡ take (18 + 12) o2 ++ (t ++ drop (18 + 12 + 4) o2)
+    → o3 ≡ take 18 all ++ (take p (drop 18 all) ++ (a ++ (take (12 - (p + length a)) (drop (p + length a) (drop 18 all)) ++ (t ++ take 8 (drop 16 (drop 18 all))))))
+patched_behind o o1 o2 o3 all a t p n lo lall la few h1 h2 h3 =
+    let e = take 18 all in
+    let h = drop 18 all in
+    let x = take p h ++ (a ++ drop (p + n) h) in
+    let le : length e ≡ 18 = length-take-le 18 all (omega (arith, lall)) in
+    let first : o1 ≡ e ++ h = h1 ∙ rw (drop_of_length-le o {i = 42} (omega (arith, lo))) (append-nil all) ∙ sym (take-append-drop 18 all) in
+    let before : take (18 + p) (e ++ h) ≡ e ++ take p h = rw le at (take-append-add e h p) in
+    let after : drop (18 + (p + n)) (e ++ h) ≡ drop (p + n) h = rw le at (drop-append-add e h (p + n)) in
+    let both : 18 + p + n ≡ 18 + (p + n) = omega arith in
+    let second : o2 ≡ e ++ x = h2 ∙ rw (first, before, both, after) (append_assoc e (take p h) (a ++ drop (p + n) h)) in
+    let front : take 30 (e ++ x) ≡ e ++ take 12 x = rw le at (take-append-add e x 12) in
+    let end : drop 34 (e ++ x) ≡ drop 16 x = rw le at (drop-append-add e x 16) in
+    h3 ∙ rw (second, front, end, la) (append_assoc e (take 12 x) (t ++ drop 16 x) ∙ ap (λ (y : List ℕ). e ++ y) (patched_is h a t p (p + n) (omega (arith, length-drop 18 all, lall)) (omega (arith, la)) few))
+
+-- what was written in two parts, which may overlap
+pub in_parts : (o o1 o2 samples first last : List ℕ) (k : ℕ) → length o ≡ length samples → k ≤ 16 → k + 16 ≡ length samples → first ≡ take 16 samples → last ≡ drop k samples
+    → o1 ≡ take 0 o ++ (first ++ drop (0 + 16) o) → o2 ≡ take k o1 ++ (last ++ drop (k + 16) o1)
+    → o2 ≡ samples
+in_parts o o1 o2 samples first last k lo few size first_is last_is h1 h2 =
+    let long : length (take 16 samples) ≡ 16 = length-take-le 16 samples (omega (arith, size)) in
+    let o1_is : o1 ≡ take 16 samples ++ drop 16 o = rw first_is at h1 in
+    let front : take k (take 16 samples ++ drop 16 o) ≡ take k samples = take-append-le k (take 16 samples) (drop 16 o) (omega (arith, long, few)) ∙ take-take k 16 samples few in
+    let behind : drop (k + 16) (take 16 samples ++ drop 16 o) ≡ [] = drop_of_length-le (take 16 samples ++ drop 16 o) {i = k + 16} (omega (arith, length-append (take 16 samples) (drop 16 o), long, length-drop 16 o, lo, size)) in
+    h2 ∙ rw (o1_is, front, behind, last_is, append-nil (drop k samples)) (take-append-drop k samples)
 
 -- ---- its times
 

@@ -18,7 +18,7 @@ abbrev layout_size : {V : Type 0} → Layout V → ℕ
 layout_size [] = 0
 layout_size (p ∷ parts) = size_of p + layout_size parts
 
-length-spelling : {V : Type 0} (layout : Layout V) (v : V) → length (spelling layout v) ≡ layout_size layout
+pub length-spelling : {V : Type 0} (layout : Layout V) (v : V) → length (spelling layout v) ≡ layout_size layout
 length-spelling [] v = refl
 length-spelling (p ∷ parts) v =
     let here : List ℕ = bytes_high_first (size_of p) (packed p.bits v) in

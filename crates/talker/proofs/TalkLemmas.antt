@@ -3,9 +3,8 @@ use Rattle.std.proofs.Common.{sym, ◌≡◌, inl, inr, pos, ℕ, zero, suc, ◌
 use Rattle.std.specs.Prelude.{IsSome, slice_get}
 use Rattle.std.proofs.lemmas.Bool.{cases_lt}
 use Rattle.pcap_frames.specs.Capture.{HasSpelling}
-use Rattle.avtp_base.specs.Layout.{spelling}
 use Rattle.aaf_format.specs.declared.aaf.AafFormat.{AafFormat}
-use Rattle.aaf_format.specs.Aaf.{aaf_layout, frame_size}
+use Rattle.aaf_format.specs.Aaf.{frame_size}
 use Rattle.iec61883_format.specs.Iec.{block_size, syt_interval}
 use Rattle.stream_journal.specs.Journal.{head_of}
 use Rattle.talker.specs.declared.audio.AudioStream.{AudioStream}
@@ -32,7 +31,7 @@ use Rattle.talker.specs.declared.source.Source.TheVariants.{Audio as OfAudio, Vi
 use Rattle.talker.proofs.Am824Lemmas.{am824_format, some_interval}
 use Rattle.talker.proofs.AudioLemmas.{IsFormatOf, audio_stream, stream_in}
 use Rattle.talker.proofs.DueLemmas.{has_head}
-use Rattle.talker.proofs.PcmLemmas.{pcm_format}
+use Rattle.talker.proofs.PcmLemmas.{both_headers, has_both, pcm_format}
 use Rattle.talker.proofs.RateLemmas.{known_fdf}
 use Rattle.talker.proofs.SampleLemmas.{whole_samples}
 use Rattle.talker.proofs.StreamLemmas.{IsStream, at_number, clock_at_number, clock_first, clock_has_spelling, clocks_in, frames_of, has_spelling, in_turn, never_late, packet_first, packets_in, rises}
@@ -67,8 +66,8 @@ pub record HasFormat (plan : TalkPlan) : Type 0 where
 pcm_by : (plan : TalkPlan) (format : AafFormat) (sparse : Bool) (code : Option ℕ) → IsAudioPlan plan → plan.kind ≡ Aaf format sparse → rate_code plan.rate ≡ code → IsSome code → HasFormat plan
 pcm_by plan format sparse None p kind e some = absurd cc
 pcm_by plan format sparse (Some code) p kind e some = record {
-  stream = record { plan = plan; format = OfPcm (record { format = format; sparse = sparse; code = code; header = spelling aaf_layout (aaf_packet format sparse plan 0 []) }); size = plan.count * frame_size plan.channels format };
-  audio = record { plan = p; format = record { format = record { kind = kind; code = e }; header = refl }; size = refl; fits = subst (λ (k : TalkKind). FitsPacket k plan) kind p.fits };
+  stream = record { plan = plan; format = OfPcm (record { format = format; sparse = sparse; steady = false; code = code; headers = both_headers (aaf_packet format sparse plan 0 []) }); size = plan.count * frame_size plan.channels format };
+  audio = record { plan = p; format = record { format = record { kind = kind; code = e }; headers = has_both (aaf_packet format sparse plan 0 []); steady = λ t. absurd cc }; size = refl; fits = subst (λ (k : TalkKind). FitsPacket k plan) kind p.fits };
   plan_is = refl;
 }
 

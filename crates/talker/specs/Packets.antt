@@ -1,5 +1,5 @@
 -- The packets of a plan, each with its samples.
-use Rattle.std.specs.Prelude.{ℕ, ◌+◌, ◌*◌, ◌%◌, Bool, true, false, List, [], ◌∷◌, ◌++◌, take, drop, Option, Some, None, is_some, option_map, unwrap_or, if◌then◌else◌}
+use Rattle.std.specs.Prelude.{◌-◌, length, ℕ, ◌+◌, ◌*◌, ◌%◌, Bool, true, false, List, [], ◌∷◌, ◌++◌, take, drop, Option, Some, None, is_some, option_map, unwrap_or, if◌then◌else◌}
 use Rattle.avtp_base.specs.Octets.{flag}
 use Rattle.avtp_header.specs.declared.header.StreamHeader.{StreamHeader}
 use Rattle.byteorder.specs.Endian.{big_bytes}
@@ -39,10 +39,11 @@ header_of subtype stamp plan n length = record {
 abbrev pub front_of : StreamHeader → List ℕ
 front_of header = header.subtype ∷ ((128 * flag header.sv + 8 * flag header.mr + flag header.tv) ∷ (header.seq ∷ (flag header.tu ∷ [])))
 
--- the first bytes of a packet with such a header, over those of another that differs from it in the first four and in the
--- timestamp alone
-abbrev pub written_over : List ℕ → StreamHeader → List ℕ
-written_over first header = front_of header ++ (take 8 (drop 4 first) ++ (big_bytes 4 header.timestamp ++ take 8 (drop 16 first)))
+-- the 24 bytes of a header, over those of another that differs from it in this part, from this byte of the first twelve on, and
+-- in the timestamp alone
+abbrev pub patched : List ℕ → ℕ → List ℕ → ℕ → List ℕ
+patched header at part timestamp =
+    take at header ++ (part ++ (take (12 - (at + length part)) (drop (at + length part) header) ++ (big_bytes 4 timestamp ++ take 8 (drop 16 header))))
 
 -- ---- PCM (IEEE 1722-2016, 7)
 

@@ -1,11 +1,12 @@
 -- What a talker stands for.
-use Rattle.std.specs.Prelude.{◌≡◌, ◌⊎◌, ℕ, ◌+◌, ◌*◌, ◌<◌, ◌≤◌, min, List, [], length, map, Option, Some, None}
+use Rattle.std.specs.Prelude.{Bool, false, ◌≡◌, ◌⊎◌, ℕ, ◌+◌, ◌*◌, ◌<◌, ◌≤◌, min, List, [], length, map, take, drop, true, Option, Some, None}
 use Rattle.std.specs.List.{range_with_len}
 use Rattle.avtp_base.specs.Layout.{spelling}
-use Rattle.aaf_format.specs.Aaf.{aaf_layout}
+use Rattle.aaf_format.specs.Aaf.{Aaf as Packet, aaf_layout}
 use Rattle.cvf_format.specs.AnnexB.{nal_units}
 use Rattle.cvf_format.specs.Cvf.{Cvf}
 use Rattle.iec61883_format.specs.Iec.{syt_interval}
+use Rattle.pcap_frames.specs.Frame.{frame_layout}
 use Rattle.talker.specs.declared.am824.Am824Format.{Am824Format}
 use Rattle.talker.specs.declared.audio.AudioStream.{AudioStream}
 use Rattle.talker.specs.declared.audio.Format.{Format}
@@ -22,7 +23,7 @@ use Rattle.talker.specs.AccessUnits.{access_unit, unit_at}
 use Rattle.talker.specs.Clock.{AreFew, clock_arrival, clock_packets}
 use Rattle.talker.specs.Audio.{Audio, am824, pcm}
 use Rattle.talker.specs.Fragments.{Place, all_packets, packets_before, packets_for, place_of}
-use Rattle.talker.specs.Frames.{frames}
+use Rattle.talker.specs.Frames.{ethernet, frames}
 use Rattle.talker.specs.Journal.{Stream, packets_of as audio_packets, stream_of}
 use Rattle.talker.specs.Packets.{aaf_packet}
 use Rattle.talker.specs.Plan.{IsAudioPlan, IsVideoPlan, fdf_of, rate_code}
@@ -46,10 +47,21 @@ pub record IsPcm (pcm : PcmFormat) (plan : TalkPlan) : Type 0 where
   pub kind : plan.kind ≡ Aaf pcm.format pcm.sparse
   pub code : rate_code plan.rate ≡ Some pcm.code
 
--- of PCM also the header of packet 0, over which those of all packets are written
+-- these bytes are both headers of the frame of a packet of PCM
+pub record HasHeaders (headers : List ℕ) (v : Packet) : Type 0 where
+  pub frame : take 18 headers ≡ spelling (frame_layout true) (ethernet [])
+  pub packet : drop 18 headers ≡ spelling aaf_layout v
+
+-- each packet of such a stream is stamped, and the media clock never restarts
+pub record IsSteady (sparse : Bool) (plan : TalkPlan) : Type 0 where
+  pub dense : sparse ≡ false
+  pub once : plan.restart ≡ None
+
+-- of PCM also the headers of packet 0's frame, over which those of all frames are written
 pub record IsPcmStream (pcm : PcmFormat) (plan : TalkPlan) : Type 0 where
   pub format : IsPcm pcm plan
-  pub header : pcm.header ≡ spelling aaf_layout (aaf_packet pcm.format pcm.sparse plan 0 [])
+  pub headers : HasHeaders pcm.headers (aaf_packet pcm.format pcm.sparse plan 0 [])
+  pub steady : pcm.steady ≡ true → IsSteady pcm.sparse plan
 
 -- or AM824, with that code and the interval
 pub record IsAm824 (am824 : Am824Format) (plan : TalkPlan) : Type 0 where

@@ -1,13 +1,15 @@
 //! The packets of an AM824 stream (IEC 61883-6, in AVTP by IEEE 1722-2016, 5).
 
 ghost use Rattle.std.specs.Prelude.{◌≡◌, ◌+◌, ◌*◌, ◌≤◌, ◌<◌, ◌^◌, length, Option, Some, None};
-ghost use Rattle.iec61883_format.specs.Iec.{block_size as block_size_of, iec_shape, iec_spelling};
+ghost use Rattle.iec61883_format.specs.Iec.{block_size as block_size_of, iec_shape};
+ghost use Rattle.packet_journal.specs.Packets.{Am824Data};
 ghost use Rattle.talker.specs.Audio.{silent_quadlets as silent_quadlets_of};
+ghost use Rattle.talker.specs.Frames.{packet_bytes};
 ghost use Rattle.talker.specs.Packets.{am824_kind, dbc_of, iec_packet, stamp_of};
 ghost use Rattle.talker.specs.Plan.{IsAudioPlan, fdf_of as fdf_of_rate};
 ghost use Rattle.talker.specs.Talking.{IsAm824};
 
-use crate::audio::SAMPLES_LIMIT;
+use crate::audio::{HEADER, SAMPLES_LIMIT, write_ethernet};
 use crate::plan::{TalkKind, TalkPlan};
 use avtp_header::subtype;
 use byteorder::{BigEndian, ByteOrder};
@@ -129,17 +131,19 @@ impl Am824Format {
         }
     }
 
-    /// Writes packet `n`, with its data blocks.
+    /// Writes the frame of packet `n`, with its data blocks.
+    #[tactic(auto, unfolding(crate::specs::Frames::packet_bytes))]
     #[inline(never)]
     pub fn write(&self, plan: &TalkPlan, out: &mut [u8], n: u64, blocks: &[u8])
         requires plan { IsAudioPlan plan.now }
         requires format { IsAm824 self.now plan.now }
         requires frames { n * plan.now.count ≤ 2 ^ 28 }
         requires whole { length blocks.now ≡ plan.now.count * block_size_of plan.now.channels }
-        requires room { length out.old ≡ 32 + length blocks.now }
-        ensures { out.new ≡ iec_spelling (iec_packet plan.now n blocks.now) }
+        requires room { length out.old ≡ 50 + length blocks.now }
+        ensures { out.new ≡ packet_bytes (Am824Data (iec_packet plan.now n blocks.now)) }
     {
-        let Ok(_) = write_iec(out, &self.packet(plan, n, blocks)) else {
+        write_ethernet(&mut out[..HEADER]);
+        let Ok(_) = write_iec(&mut out[HEADER..], &self.packet(plan, n, blocks)) else {
             unreachable!()
         };
     }

@@ -2,7 +2,6 @@
 
 ghost use Rattle.std.specs.Prelude.{◌≡◌, ◌+◌, ◌*◌, ◌≤◌, ◌<◌, ◌^◌, ℕ, List, drop, length, pos, take, [], true, IfOk, IfErr};
 ghost use Rattle.avtp_base.specs.Layout.{spelling};
-ghost use Rattle.packet_journal.specs.Packets.{spelling_of};
 ghost use Rattle.pcap_frames.specs.Frame.{frame_layout};
 ghost use Rattle.talker.specs.Faults.{fault_of};
 ghost use Rattle.talker.specs.Frames.{ethernet, packet_bytes};
@@ -120,6 +119,7 @@ impl AudioStream {
     }
 
     /// When packet `n` is sent, in nanoseconds of gPTP.
+    #[inline(always)]
     pub fn arrival(&self, n: u64) -> i64
         requires stream { IsAudio self.now }
         requires frames { n * self.now.plan.count ≤ 2 ^ 28 }
@@ -140,24 +140,7 @@ impl AudioStream {
         }
     }
 
-    /// Writes packet `n`, which is sent at this arrival, with these samples.
-    #[inline(always)]
-    fn write_packet(&self, out: &mut [u8], n: u64, arrival: i64, samples: &[u8])
-        requires stream { IsAudio self.now }
-        requires frames { n * self.now.plan.count ≤ 2 ^ 28 }
-        requires arrival { arrival ≡ pos (arrival_of self.now.plan n) }
-        requires whole { length samples.now ≡ samples_size self.now }
-        requires room { length out.old + 18 ≡ headers_of self.now + samples_size self.now }
-        ensures { out.new ≡ spelling_of ((audio_of self.now).packet n samples.now) }
-    {
-        match self.format {
-            Format::Pcm(pcm) => pcm.write(&self.plan, out, n, arrival, samples),
-            Format::Am824(am824) => am824.write(&self.plan, out, n, samples),
-        }
-    }
-
     /// Writes the frame of packet `n`, which is sent at this arrival, with these samples.
-    #[tactic(auto, unfolding(crate::specs::Frames::packet_bytes))]
     #[inline(always)]
     fn write_samples(&self, out: &mut [u8], n: u64, arrival: i64, samples: &[u8])
         requires stream { IsAudio self.now }
@@ -167,11 +150,14 @@ impl AudioStream {
         requires room { length out.old ≡ headers_of self.now + samples_size self.now }
         ensures { out.new ≡ packet_bytes ((audio_of self.now).packet n samples.now) }
     {
-        write_ethernet(&mut out[..HEADER]);
-        self.write_packet(&mut out[HEADER..], n, arrival, samples);
+        match &self.format {
+            Format::Pcm(pcm) => pcm.write(&self.plan, out, n, arrival, samples),
+            Format::Am824(am824) => am824.write(&self.plan, out, n, samples),
+        }
     }
 
     /// Writes the frame of the packet whose samples end the input, which is sent at this arrival, filled up with silence.
+    #[cold]
     #[inline(never)]
     fn write_last(&self, out: &mut [u8], n: u64, arrival: i64, rest: &[u8])
         requires stream { IsAudio self.now }

@@ -109,6 +109,8 @@ impl ClockStream {
     }
 
     /// When packet `m` is sent, in nanoseconds of gPTP.
+    #[cold]
+    #[inline(never)]
     pub fn arrival(&self, m: u64) -> i64
         requires clock { IsClockStream self.now }
         requires known { m < clock_packets self.now.crf self.now.plan self.now.stream }
@@ -129,6 +131,8 @@ impl ClockStream {
     }
 
     /// The length of the frame of packet `m`.
+    #[cold]
+    #[inline(never)]
     pub fn frame_size(&self, m: u64) -> usize
         requires clock { IsClockStream self.now }
         requires known { m < clock_packets self.now.crf self.now.plan self.now.stream }
@@ -204,6 +208,8 @@ impl ClockStream {
 
     /// Writes the frame of packet `m`.
     #[tactic(auto, unfolding(crate::specs::Frames::clock_bytes))]
+    #[cold]
+    #[inline(never)]
     pub fn write(&self, out: &mut [u8], m: u64)
         requires clock { IsClockStream self.now }
         requires known { m < clock_packets self.now.crf self.now.plan self.now.stream }

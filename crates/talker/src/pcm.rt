@@ -1,14 +1,14 @@
 //! The packets of a PCM stream (IEEE 1722-2016, 7).
 
-ghost use Rattle.std.specs.Prelude.{◌≡◌, ◌+◌, ◌*◌, ◌≤◌, ◌<◌, ◌^◌, ◌++◌, [], length, pos, take, Option, Some, None};
-ghost use Rattle.avtp_base.specs.Layout.{spelling};
-ghost use Rattle.aaf_format.specs.Aaf.{aaf_layout, aaf_shape, aaf_spelling, frame_size as frame_size_of};
-ghost use Rattle.talker.specs.Packets.{aaf_packet, front_of, kind_of, stamp_of, written_over};
+ghost use Rattle.std.specs.Prelude.{◌≡◌, ◌+◌, ◌*◌, ◌≤◌, ◌<◌, ◌^◌, ◌++◌, [], length, pos, take, drop, Option, Some, None};
+ghost use Rattle.aaf_format.specs.Aaf.{aaf_shape, frame_size as frame_size_of};
+ghost use Rattle.talker.specs.Frames.{aaf_bytes};
+ghost use Rattle.talker.specs.Packets.{aaf_packet, front_of, kind_of, stamp_of, patched};
 ghost use Rattle.talker.specs.Plan.{IsAudioPlan, rate_code as rate_code_of};
-ghost use Rattle.talker.specs.Talking.{IsPcm, IsPcmStream};
+ghost use Rattle.talker.specs.Talking.{HasHeaders, IsPcm, IsPcmStream};
 ghost use Rattle.talker.specs.Timing.{arrival_of};
 
-use crate::audio::SAMPLES_LIMIT;
+use crate::audio::{HEADER, SAMPLES_LIMIT, write_ethernet};
 use crate::plan::{TalkKind, TalkPlan};
 use aaf_format::{AafFormat, AafView, width_of, write_aaf};
 use avtp_header::{StreamHeader, subtype};
@@ -19,14 +19,20 @@ pub(crate) struct PcmFormat {
     pub format: AafFormat,
     /// One packet in eight is stamped, and not each.
     pub sparse: bool,
+    /// Each packet is stamped, and the media clock never restarts.
+    pub steady: bool,
     /// The code of the sample rate.
     pub code: u8,
-    /// The header of packet 0. Those of all packets differ from it only in their first four bytes and in their timestamps.
-    pub header: [u8; PCM_HEADER],
+    /// The headers of packet 0's frame, Ethernet's and the packet's. Those of all frames differ from them only in the packet's
+    /// first four bytes and in its timestamp, and in a steady stream only in its sequence number and its timestamp.
+    pub headers: [u8; HEADERS],
 }
 
 /// The length of the header of a packet (IEEE 1722-2016, 7).
 pub(crate) const PCM_HEADER: usize = 24;
+
+/// The length of both headers of a frame.
+const HEADERS: usize = HEADER + PCM_HEADER;
 
 /// The code of a sample rate in Hz, where AAF has one.
 fn rate_code(rate: u32) -> Option<u8>
@@ -59,14 +65,36 @@ fn front_bytes(header: &StreamHeader) -> [u8; 4]
     ]
 }
 
-/// Writes bytes at an offset.
+/// Writes bytes at an offset. The compiler knows how many they are, so that they are moved without a call.
 #[inline(always)]
-#[tactic(auto, using(std::proofs::lemmas::Slice::overwrites))]
-fn put_bytes(out: &mut [u8], offset: usize, bytes: &[u8])
-    requires { offset + length bytes.now ≤ length out.old }
-    ensures { take (offset + length bytes.now) out.new ≡ take offset out.old ++ bytes.now }
+fn put_bytes<const N: usize>(out: &mut [u8], offset: usize, bytes: &[u8; N])
+    requires { offset + N ≤ length out.old }
+    ensures { out.new ≡ take offset out.old ++ (bytes.now ++ drop (offset + N) out.old) }
 {
-    out[offset..offset + bytes.len()].copy_from_slice(bytes);
+    let (_, behind) = out.split_at_mut(offset);
+    let Some(place) = behind.first_chunk_mut() else {
+        unreachable!()
+    };
+    *place = *bytes;
+}
+
+/// The bytes of each of two parts in which samples are moved.
+const PART: usize = 16;
+
+/// Copies samples to as many bytes. The 16 to 32 bytes of many a packet are two parts, which may overlap and are moved without a
+/// call.
+#[inline(always)]
+fn copy_samples(out: &mut [u8], samples: &[u8])
+    requires { length out.old ≡ length samples.now }
+    ensures { out.new ≡ samples.now }
+{
+    match (samples.first_chunk::<PART>(), samples.last_chunk::<PART>()) {
+        (Some(first), Some(last)) if samples.len() <= 2 * PART => {
+            put_bytes(out, 0, first);
+            put_bytes(out, samples.len() - PART, last);
+        }
+        _ => out.copy_from_slice(samples),
+    }
 }
 
 impl PcmFormat {
@@ -82,20 +110,21 @@ impl PcmFormat {
         let pcm = PcmFormat {
             format,
             sparse,
+            steady: !sparse && plan.restart.is_none(),
             code,
-            header: [0; PCM_HEADER],
+            headers: [0; HEADERS],
         };
         PcmFormat {
-            header: pcm.first_header(plan),
+            headers: pcm.first_headers(plan),
             ..pcm
         }
     }
 
-    /// The header of packet 0.
-    fn first_header(&self, plan: &TalkPlan) -> [u8; PCM_HEADER]
+    /// The headers of packet 0's frame.
+    fn first_headers(&self, plan: &TalkPlan) -> [u8; HEADERS]
         requires plan { IsAudioPlan plan.now }
         requires format { IsPcm self.now plan.now }
-        ensures { result ≡ spelling aaf_layout (aaf_packet self.now.format self.now.sparse plan.now 0 []) }
+        ensures { HasHeaders result (aaf_packet self.now.format self.now.sparse plan.now 0 []) }
     {
         let samples = [0; SAMPLES_LIMIT];
         let size = plan.count as usize * self.frame_size(plan.channels);
@@ -104,9 +133,11 @@ impl PcmFormat {
         let Ok(_) = write_aaf(&mut packet, &view) else {
             unreachable!()
         };
-        let mut header = [0; PCM_HEADER];
+        let mut headers = [0; HEADERS];
+        let (ethernet, header) = headers.split_at_mut(HEADER);
+        write_ethernet(ethernet);
         header.copy_from_slice(&packet[..PCM_HEADER]);
-        header
+        headers
     }
 
     /// The bytes of a sample frame.
@@ -159,7 +190,7 @@ impl PcmFormat {
         }
     }
 
-    /// Writes packet `n`, which is sent at this arrival, with its samples.
+    /// Writes the frame of packet `n`, which is sent at this arrival, with its samples.
     #[inline(always)]
     pub fn write(&self, plan: &TalkPlan, out: &mut [u8], n: u64, arrival: i64, samples: &[u8])
         requires plan { IsAudioPlan plan.now }
@@ -167,33 +198,59 @@ impl PcmFormat {
         requires frames { n * plan.now.count ≤ 2 ^ 28 }
         requires arrival { arrival ≡ pos (arrival_of plan.now n) }
         requires whole { length samples.now ≡ plan.now.count * frame_size_of plan.now.channels self.now.format }
-        requires room { length out.old ≡ 24 + length samples.now }
-        ensures { out.new ≡ aaf_spelling (aaf_packet self.now.format self.now.sparse plan.now n samples.now) }
+        requires room { length out.old ≡ 42 + length samples.now }
+        ensures { out.new ≡ aaf_bytes self.now.format self.now.sparse plan.now n samples.now }
+    {
+        if self.steady {
+            let instant = plan.first_stamped_instant(n, arrival);
+            self.write_over(
+                out,
+                2,
+                &[(n % 256) as u8],
+                (instant % (1 << 32)) as u32,
+                samples,
+            );
+        } else {
+            self.write_marked(plan, out, n, arrival, samples);
+        }
+    }
+
+    /// Writes the frame of packet `n` so, of a stream that is steady or not.
+    #[cold]
+    #[inline(never)]
+    fn write_marked(&self, plan: &TalkPlan, out: &mut [u8], n: u64, arrival: i64, samples: &[u8])
+        requires plan { IsAudioPlan plan.now }
+        requires format { IsPcmStream self.now plan.now }
+        requires frames { n * plan.now.count ≤ 2 ^ 28 }
+        requires arrival { arrival ≡ pos (arrival_of plan.now n) }
+        requires whole { length samples.now ≡ plan.now.count * frame_size_of plan.now.channels self.now.format }
+        requires room { length out.old ≡ 42 + length samples.now }
+        ensures { out.new ≡ aaf_bytes self.now.format self.now.sparse plan.now n samples.now }
     {
         let stamp = self.stamp(plan, n, arrival);
         let header = plan.header(subtype::AAF, stamp, n, samples.len() as u16);
-        self.write_over(out, &header, samples);
+        self.write_over(out, 0, &front_bytes(&header), header.timestamp, samples);
     }
 
-    /// Writes a packet with such a header, over that of packet 0, and with its samples.
+    /// Writes a frame over the headers of packet 0's: a part of the packet's header, from this byte of it on, its timestamp, and
+    /// its samples.
     #[inline(always)]
-    fn write_over(&self, out: &mut [u8], header: &StreamHeader, samples: &[u8])
-        requires { (length out.old ≡ 24 + length samples.now) × (length self.now.header ≡ 24) }
-        ensures { out.new ≡ written_over self.now.header header.now ++ samples.now }
+    fn write_over<const N: usize>(
+        &self,
+        out: &mut [u8],
+        at: usize,
+        part: &[u8; N],
+        timestamp: u32,
+        samples: &[u8],
+    )
+        requires room { (length out.old ≡ 42 + length samples.now) × (length self.now.headers ≡ 42) }
+        requires within { at + N ≤ 12 }
+        ensures { out.new ≡ take 18 self.now.headers ++ (patched (drop 18 self.now.headers) at part.now timestamp ++ samples.now) }
     {
-        self.write_header(&mut out[..PCM_HEADER], header);
-        put_bytes(out, PCM_HEADER, samples);
-    }
-
-    /// Writes the header of a packet, over that of packet 0.
-    #[inline(always)]
-    fn write_header(&self, out: &mut [u8], header: &StreamHeader)
-        requires { (length out.old ≡ 24) × (length self.now.header ≡ 24) }
-        ensures { out.new ≡ written_over self.now.header header.now }
-    {
-        put_bytes(out, 0, &front_bytes(header));
-        put_bytes(out, 4, &self.header[4..12]);
-        put_bytes(out, 12, &header.timestamp.to_be_bytes());
-        put_bytes(out, 16, &self.header[16..]);
+        let (headers, behind) = out.split_at_mut(out.len() - samples.len());
+        put_bytes(headers, 0, &self.headers);
+        put_bytes(headers, HEADER + at, part);
+        put_bytes(headers, HEADER + 12, &timestamp.to_be_bytes());
+        copy_samples(behind, samples);
     }
 }

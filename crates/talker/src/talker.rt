@@ -144,7 +144,7 @@ impl<'a> Talker<'a> {
     }
 
     /// The turn of packet `m` of the clock.
-    #[inline(never)]
+    #[inline(always)]
     fn clock_turn(&self, m: u64) -> Turn
         requires { m < length (clock_frames self.now.plan self.now.input) }
         ensures sends { SendsPacket (stream_of self.now.plan self.now.input) result }

@@ -130,6 +130,8 @@ impl TalkPlan {
 
     /// The instant with which sample frame `i` of packet `n` is stamped on the plan's clock, in nanoseconds of gPTP: so far
     /// behind the last point of the clock as the period before it tells.
+    #[cold]
+    #[inline(never)]
     fn clocked_instant(&self, crf: &CrfPlan, n: u64, i: u32) -> u64
         requires plan { IsAudioPlan self.now }
         requires clock { self.now.crf ≡ Some crf.now }
@@ -177,6 +179,7 @@ impl TalkPlan {
     }
 
     /// When packet `n` is sent, in nanoseconds of gPTP.
+    #[inline(always)]
     pub(crate) fn arrival(&self, n: u64) -> i64
         requires plan { IsAudioPlan self.now }
         requires frames { n * self.now.count ≤ 2 ^ 28 }

@@ -185,6 +185,7 @@ impl<'a> VideoStream<'a> {
     }
 
     /// When packet `n` is sent, in nanoseconds of gPTP.
+    #[cold]
     #[inline(never)]
     pub fn arrival(&self, n: u64) -> i64
         requires video { IsVideo self.now }
@@ -240,6 +241,8 @@ impl<'a> VideoStream<'a> {
     }
 
     /// The length of the frame of packet `n`.
+    #[cold]
+    #[inline(never)]
     pub fn frame_size(&self, n: u64) -> usize
         requires video { IsVideo self.now }
         requires known { n < self.now.packets }
@@ -264,6 +267,7 @@ impl<'a> VideoStream<'a> {
 
     /// Writes the frame of packet `n`.
     #[tactic(auto, using(crate::proofs::SizeLemmas::bytes_size), unfolding(crate::specs::Frames::packet_bytes))]
+    #[cold]
     #[inline(never)]
     pub fn write(&self, out: &mut [u8], n: u64)
         requires video { IsVideo self.now }

@@ -1,4 +1,4 @@
-use Rattle.std.proofs.Common.{◌≡◌, ◌++◌, List, ℕ, length, sym, ap, ◌∙◌, arith}
+use Rattle.std.proofs.Common.{◌≡◌, List, ℕ, length, sym, ap, ◌∙◌, arith}
 use Rattle.std.proofs.lemmas.Int.{ints}
 use mir.Val.{of_z, to_z}
 use mir.Syntax.{w64}
@@ -13,10 +13,9 @@ returns c =
     let r = c.args.self.now in
     let turn = r.turn in
     let frame : List ℕ = c.write.new.out in
-    let size : length frame ≡ turn.size = omega (arith, c.write.auto.out, c.split_at_mut-front.ensures.back_len, c.requires, next_size r.talker.now turn r.next) in
+    let size : length frame ≡ turn.size = omega (arith, c.write.auto.out, c.in-Some.ensures.cases.2, c.requires, next_size r.talker.now turn r.next) in
     let at : to_z w64 (of_z w64 turn.arrival) ≡ turn.arrival = omega (arith, ints, r.next.begun, r.next.ended) in
     let spelled = rw at at (c.record_header-header.ensures frame size) in
-    ap (λ (x : List ℕ). x ++ frame) c.copy_from_slice.ensures.after
-    ∙ (spelled
+    spelled
     ∙ (ap (λ (k : ℕ). record_spelling capture_style (record { arrival = turn.arrival; orig_len = k; bytes = frame })) (sym size)
-    ∙ sym (ap spelled_frame c.write.ensures)))
+    ∙ sym (ap spelled_frame c.write.ensures))

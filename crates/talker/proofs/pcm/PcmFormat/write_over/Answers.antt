@@ -1,13 +1,12 @@
-use Rattle.std.proofs.Common.{◌≡◌, ◌++◌, List, ℕ, length, take, drop, sym, arith, ◌∙◌, ap}
-use Rattle.std.proofs.lemmas.List.{length-take-le, take-append-le, take_all}
+use Rattle.std.proofs.Common.{List, ℕ, take, drop, append_assoc, arith}
+use Rattle.talker.specs.Packets.{patched}
+use Rattle.talker.proofs.PcmLemmas.{patched_behind}
 use Rattle.talker.proofs.pcm.PcmFormat.write_over.Goals as goal
 
 pub returns : goal.returns
-returns c =
-    let samples : List ℕ = c.args.samples.now in
-    let header : List ℕ = c.write_header.new.out in
-    let before = length-take-le 24 c.args.out.now (omega (arith, c.requires.0)) in
-    let long : length header ≡ 24 = omega (arith, c.write_header.auto.out, before) in
-    let front : take 24 (header ++ drop 24 c.args.out.now) ≡ header = take-append-le 24 header _ (omega (arith, long)) ∙ take_all 24 header (omega (arith, long)) in
-    sym (take_all _ c.put_bytes.new.out (omega (arith, c.put_bytes.auto.out, c.write_header.auto.out, c.requires.0, before)))
-    ∙ c.put_bytes.ensures ∙ ap (λ (h : List ℕ). h ++ samples) (front ∙ c.write_header.ensures)
+returns g c =
+    let all : List ℕ = c.args.self.now.headers in
+    let part : List ℕ = c.args.part.now in
+    let front = patched_behind c.split_at_mut-headers.result.0.now c.put_bytes.new.out c.put_bytes-2.new.out c.put_bytes-3.new.out all part c.to_be_bytes.result c.args.at g.row.N
+    (omega (arith, c.split_at_mut-headers.ensures.front_len, c.requires.room.0)) c.requires.room.1 c.told-part c.requires.within c.put_bytes.ensures c.put_bytes-2.ensures c.put_bytes-3.ensures in
+    rw (front, c.to_be_bytes.ensures, c.copy_samples.ensures) (append_assoc (take 18 all) (patched (drop 18 all) c.args.at part c.args.timestamp) c.args.samples.now)
