@@ -44,7 +44,7 @@ some_channels : (n : ℕ) → eqb n 0 ≡ false → 0 < n
 some_channels zero e = absurd cc
 some_channels (suc n) e = omega arith
 
-width-some : (f : AafFormat) → 0 < width_of f
+pub width-some : (f : AafFormat) → 0 < width_of f
 width-some Float32 = omega arith
 width-some Int32 = omega arith
 width-some Int24 = omega arith

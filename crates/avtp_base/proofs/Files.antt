@@ -2,7 +2,7 @@
 use Rattle.std.proofs.Common.{◌≡◌, ℕ, List, ◌++◌, Option, Some, None, inl, inr, refl, sym, ap, subst, ◌∙◌}
 use Rattle.std.specs.Prelude.{IsSome, option_map, option_and_then}
 use Rattle.std.proofs.lemmas.Bool.Decides.{eqb_tells}
-use Rattle.avtp_base.specs.Files.{Files, Open, Slots, file_of, name_in, AppendsTo, IsMade, KeepsFiles, KeepsOthers, KeepsOtherFiles, KeepsSlots, PutsFile}
+use Rattle.avtp_base.specs.Files.{Files, Open, Slots, file_of, name_in, AppendsTo, KeepsFiles, KeepsOthers, KeepsOtherFiles, KeepsSlots, PutsFile}
 
 -- ---- files
 
@@ -63,12 +63,6 @@ PutsFile-appends (Some a) (Some b) (Some c) name held bytes of named p q =
 
 -- ---- slots
 
-pub KeepsSlots-refl : (slots : Slots) → KeepsSlots slots slots
-KeepsSlots-refl slots = λ k. refl
-
-pub KeepsSlots-trans : (a b c : Slots) → KeepsSlots a b → KeepsSlots b c → KeepsSlots a c
-KeepsSlots-trans a b c p q = λ k. q k ∙ p k
-
 pub KeepsOthers-trans : (a b c : Slots) (k : ℕ) → KeepsOthers a b k → KeepsOthers b c k → KeepsOthers a c k
 KeepsOthers-trans a b c k p q = λ j differs. q j differs ∙ p j differs
 
@@ -87,19 +81,9 @@ named_as None (Some b) same = absurd cc
 named_as (Some a) None same = absurd cc
 named_as (Some a) (Some b) same = let e : file_of b ≡ file_of a = cc in ap (λ (p : _). p.1) e
 
-pub still_live : (a b : Option Open) → option_map file_of b ≡ option_map file_of a → IsSome a → IsSome b
-still_live None b same live = absurd cc
-still_live (Some a) None same live = absurd cc
-still_live (Some a) (Some b) same live = refl
-
 -- one file was written twice
 pub KeepsOtherFiles-trans : (a b c : Slots) (k : ℕ) → KeepsOtherFiles a b (name_in a k) → KeepsOtherFiles b c (name_in b k) → KeepsOtherFiles a c (name_in a k)
 KeepsOtherFiles-trans a b c k p q = record {
   same = λ j. q.same j ∙ p.same j;
   left = λ j differs. q.left j (λ e. differs (sym (named_as (a j) (b j) (p.same j)) ∙ (e ∙ named_as (a k) (b k) (p.same k)))) ∙ p.left j differs;
 }
-
--- a file that was made has its name, where files are told
-pub made_named : (files : Option Files) (slot : Option Open) (name : List ℕ) → IsMade files slot name → IsSome files → option_and_then (λ (o : Open). o.name) slot ≡ Some name
-made_named files None name is told = absurd is
-made_named files (Some o) name is told = is.1 told

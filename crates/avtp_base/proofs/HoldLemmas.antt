@@ -1,14 +1,10 @@
 -- What a reader sees in a header, and what a writer puts there, are one where no reserved bit is set.
 use Rattle.std.proofs.Common.{◌≡◌, ℕ, ◌+◌, Bool, true, false, cond, eqb, List, [], ◌∷◌, ◌++◌, Option, Some, None, sym, ◌∙◌, refl}
 use Rattle.std.specs.Prelude.{is_some, ◌&&◌}
-use Rattle.std.proofs.lemmas.Bool.{eqb-true}
+use Rattle.std.proofs.lemmas.Bool.{eqb-true, and_parts}
 use Rattle.avtp_base.specs.Octets.{Range, any_set, bits, range}
 use Rattle.avtp_base.specs.Layout.{Bits, Layout, Shows, Spells, SpellsBits, free_ranges, reserved_ranges, value_of}
 use Rattle.avtp_base.proofs.LayoutLemmas.{Holds, HoldsBits, unset-first}
-
-both : (a b : Bool) → (a && b) ≡ true → (a ≡ true) × (b ≡ true)
-both true b e = (refl, e)
-both false b e = absurd cc
 
 unset-split : (xs ys : List Range) (bytes : List ℕ) → any_set (xs ++ ys) bytes ≡ false → (any_set xs bytes ≡ false) × (any_set ys bytes ≡ false)
 unset-split [] ys bytes e = (refl, e)
@@ -41,7 +37,7 @@ held_bits : {V : Type 0} (bs : List (Bits V)) (v : V) (at first : ℕ) (bytes : 
     → SpellsBits at first bs v bytes → any_set (free_ranges at first bs) bytes ≡ false → HoldsBits at first bs v bytes
 held_bits [] v at first bytes told spells unset = tt
 held_bits (b ∷ bs) v at first bytes told spells unset =
-    let parts = both (cond b.free true (is_some b.shown)) (bits_told bs) told in
+    let parts = and_parts (cond b.free true (is_some b.shown)) (bits_told bs) told in
     let here = held_bit b.free b.shown v at first b.width (free_ranges at (first + b.width) bs) bytes parts.0 spells.0 unset in
     (here.0, held_bits bs v at (first + b.width) bytes parts.1 spells.1 here.1)
 
@@ -50,7 +46,7 @@ pub spelled_holds : {V : Type 0} (layout : Layout V) (v : V) (bytes : List ℕ) 
     → Spells layout v bytes → any_set (reserved_ranges layout) bytes ≡ false → Holds layout v bytes
 spelled_holds [] v bytes told spells unset = tt
 spelled_holds (p ∷ parts) v bytes told spells unset =
-    let both_told = both (bits_told p.bits) (is_told parts) told in
+    let both_told = and_parts (bits_told p.bits) (is_told parts) told in
     let split = unset-split (free_ranges p.at 0 p.bits) (reserved_ranges parts) bytes unset in
     (held_bits p.bits v p.at 0 bytes both_told.0 spells.0 split.0, spelled_holds parts v bytes both_told.1 spells.1 split.1)
 
@@ -73,12 +69,12 @@ shown_bit false (Some value) v n plain holds = holds
 shown_bits : {V : Type 0} (bs : List (Bits V)) (v : V) (at first : ℕ) (bytes : List ℕ) → bits_plain bs v ≡ true → HoldsBits at first bs v bytes → SpellsBits at first bs v bytes
 shown_bits [] v at first bytes plain holds = tt
 shown_bits (b ∷ bs) v at first bytes plain holds =
-    let parts = both (cond b.free (eqb (value_of b.shown v) 0) true) (bits_plain bs v) plain in
+    let parts = and_parts (cond b.free (eqb (value_of b.shown v) 0) true) (bits_plain bs v) plain in
     (shown_bit b.free b.shown v (bits at first b.width bytes) parts.0 holds.0, shown_bits bs v at (first + b.width) bytes parts.1 holds.1)
 
 -- bytes that hold what a writer puts there spell a view in which reserved bits are 0
 pub held_spells : {V : Type 0} (layout : Layout V) (v : V) (bytes : List ℕ) → is_plain layout v ≡ true → Holds layout v bytes → Spells layout v bytes
 held_spells [] v bytes plain holds = tt
 held_spells (p ∷ parts) v bytes plain holds =
-    let parts_plain = both (bits_plain p.bits v) (is_plain parts v) plain in
+    let parts_plain = and_parts (bits_plain p.bits v) (is_plain parts v) plain in
     (shown_bits p.bits v p.at 0 bytes parts_plain.0 holds.0, held_spells parts v bytes parts_plain.1 holds.1)

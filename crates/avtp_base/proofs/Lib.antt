@@ -1,5 +1,6 @@
 pub mod Naming
 pub mod BitLemmas
+pub mod Results
 pub mod RowLemmas
 pub mod LayoutLemmas
 pub mod OnlySpelling

@@ -6,14 +6,9 @@ use Rattle.std.specs.Option.{option_or}
 use Rattle.std.specs.Global.{Vec, Global}
 use Rattle.std.proofs.lemmas.List.Folds.{find_at, find-set, find_past, find-append}
 use Rattle.std.proofs.lemmas.Bool.{ltb-true, ltb-false}
-use Rattle.std.proofs.lemmas.Option.{slice_get-get_or, slice_get_cases}
+use Rattle.std.proofs.lemmas.Option.{slice_get-get_or, slice_get_cases, cond_some}
 use Rattle.std.proofs.lemmas.Slice.Eq.{bytes_eq-Decides}
 use Rattle.avtp_base.specs.NamedFiles.{has_name, bytes_under, capacity_under, SetsFile, KeepsNamed, KeepsCapacity}
-
--- a choice that gave a value was true
-chosen : {X : Type 0} (b : Bool) (x y : X) → cond b (Some x) None ≡ Some y → (b ≡ true) × (x ≡ y)
-chosen true x y e = (refl, cc)
-chosen false x y e = absurd cc
 
 find_passes : {X : Type 0} (p : X → Bool) (xs : List X) (x : X) → find p xs ≡ Some x → p x ≡ true
 find_passes p [] x e = absurd cc
@@ -32,7 +27,7 @@ pub record IsFound {X : Type 0} (p : X → Bool) (xs : List X) (i : ℕ) (x : X)
 
 is_found : {X : Type 0} (p : X → Bool) (xs : List X) (i : ℕ) (x : X) → position p xs ≡ Some i → x ≡ get_or xs i x → IsFound p xs i x
 is_found p xs i x e there =
-    let two = chosen (ltb (position_or_len p xs) (length xs)) (position_or_len p xs) i e in
+    let two = cond_some (ltb (position_or_len p xs) (length xs)) (position_or_len p xs) i e in
     let first : i ≡ position_or_len p xs = sym two.1 in
     let inside : i < length xs = subst (λ k. k < length xs) two.1 (ltb-true _ _ two.0) in
     let at : find p xs ≡ slice_get xs i = find_at p xs ∙ ap (λ k. slice_get xs k) two.1 in

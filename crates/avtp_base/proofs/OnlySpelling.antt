@@ -116,7 +116,7 @@ are_bytes-spelling (p ∷ parts) v rest bytes =
     subst (λ (xs : List ℕ). AreBytes xs) (sym (append_assoc here others rest))
     (are_bytes-append (size_of p) (packed p.bits v) (others ++ rest) (are_bytes-spelling parts v rest bytes))
 
-length-spelling : {V : Type 0} (layout : Layout V) (v : V) → length (spelling layout v) ≡ layout_size layout
+pub length-spelling : {V : Type 0} (layout : Layout V) (v : V) → length (spelling layout v) ≡ layout_size layout
 length-spelling [] v = refl
 length-spelling (p ∷ parts) v =
     let here : List ℕ = big_bytes (size_of p) (packed p.bits v) in

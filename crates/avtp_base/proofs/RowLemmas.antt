@@ -1,7 +1,7 @@
 -- What it means that no row of a table holds.
 use Rattle.std.proofs.Common.{◌≡◌, ◌≢◌, ℕ, Bool, true, false, cond, not, eqb, List, [], ◌∷◌, length, take, drop, Option, Some, None, Result, Ok, Err, refl, sym, ap, eq-eqb, inl, inr, subst, ◌∙◌}
 use Rattle.std.specs.Prelude.{IfOk, IsOkAnd}
-use Rattle.std.proofs.lemmas.Bool.{eqb-true}
+use Rattle.std.proofs.lemmas.Bool.{eqb-true, not-false}
 use Rattle.std.proofs.lemmas.Bool.Decides.{eqb_tells}
 use Rattle.std.proofs.lemmas.List.{take_at}
 use Rattle.avtp_base.specs.declared.refusal.Room.{Room}
@@ -30,10 +30,6 @@ rows_passed (r ∷ rows) e =
 pub passed_rows : (rows : List Row) → NoneHolds rows → first_row rows ≡ None
 passed_rows [] none = refl
 passed_rows (r ∷ rows) none = rw (none.0) (passed_rows rows none.1)
-
-not-false : (b : Bool) → not b ≡ false → b ≡ true
-not-false true e = refl
-not-false false e = absurd cc
 
 pub not_other : (n m : ℕ) → not (eqb n m) ≡ false → n ≡ m
 not_other n m e = eqb-true n m (not-false (eqb n m) e)

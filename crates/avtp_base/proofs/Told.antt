@@ -6,13 +6,6 @@ pub Keeps-refl : (a : Option (List ℕ)) → Keeps a a
 Keeps-refl None = tt
 Keeps-refl (Some x) = refl
 
-pub Keeps-trans : (a b c : Option (List ℕ)) → Keeps a b → Keeps b c → Keeps a c
-Keeps-trans None None c p q = q
-Keeps-trans None (Some y) c p q = absurd p
-Keeps-trans (Some x) b None p q = tt
-Keeps-trans (Some x) None (Some z) p q = absurd q
-Keeps-trans (Some x) (Some y) (Some z) p q = q ∙ p
-
 pub Appends-nil : (a : Option (List ℕ)) → Appends a a []
 Appends-nil None = tt
 Appends-nil (Some x) = sym (append-nil x)
@@ -49,34 +42,9 @@ Keeps-none a b p = Keeps-appends a b b [] p (Appends-nil b)
 
 -- ---- a buffer after a writer's bytes
 
-pub append_known-kept : (a b : Option (List ℕ)) (bs : List ℕ) → Keeps a b → Keeps (append_known a bs) (append_known b bs)
-append_known-kept None None bs p = tt
-append_known-kept None (Some y) bs p = absurd p
-append_known-kept (Some x) None bs p = tt
-append_known-kept (Some x) (Some y) bs p = ap (λ l. l ++ bs) p
-
 -- the writer took a prefix of the buffer
 pub append_known-moved : (a b : Option (List ℕ)) (front rest all : List ℕ) → Appends a b front → all ≡ front ++ rest → Keeps (append_known a all) (append_known b rest)
 append_known-moved None None front rest all p e = tt
 append_known-moved None (Some y) front rest all p e = absurd p
 append_known-moved (Some x) None front rest all p e = tt
 append_known-moved (Some x) (Some y) front rest all p e = ap (λ l. l ++ rest) p ∙ append_assoc x front rest ∙ ap (λ l. x ++ l) (sym e)
-
--- the buffer grew by bs
-pub append_known-grown : (a b : Option (List ℕ)) (old new bs : List ℕ) → Keeps a (append_known b old) → new ≡ old ++ bs → Appends a (append_known b new) bs
-append_known-grown None None old new bs p e = tt
-append_known-grown None (Some y) old new bs p e = absurd p
-append_known-grown (Some x) None old new bs p e = tt
-append_known-grown (Some x) (Some y) old new bs p e = ap (λ l. y ++ l) e ∙ sym (append_assoc y old bs) ∙ ap (λ l. l ++ bs) p
-
--- the buffer was empty, the writer took bs, and the buffer then took cs
-pub append_known-passed : (a b c : Option (List ℕ)) (old new bs cs : List ℕ) → Keeps a (append_known b old) → old ≡ [] → Appends b c bs → new ≡ old ++ cs
-    → Appends a (append_known c new) (bs ++ cs)
-append_known-passed None None None old new bs cs p none q e = tt
-append_known-passed None None (Some z) old new bs cs p none q e = absurd q
-append_known-passed None (Some y) c old new bs cs p none q e = absurd p
-append_known-passed (Some x) b None old new bs cs p none q e = tt
-append_known-passed (Some x) None (Some z) old new bs cs p none q e = absurd q
-append_known-passed (Some x) (Some y) (Some z) old new bs cs p none q e =
-    let same = sym (append-nil y) ∙ ap (λ l. y ++ l) (sym none) ∙ p in
-    ap (λ l. z ++ l) (e ∙ ap (λ l. l ++ cs) none) ∙ ap (λ l. l ++ cs) (q ∙ ap (λ l. l ++ bs) same) ∙ append_assoc x bs cs

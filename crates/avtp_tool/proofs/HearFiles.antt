@@ -1,7 +1,7 @@
 -- The run of `listen` over all its files, and what it says of the devices at its end.
 use Rattle.std.proofs.Common.{◌≡◌, ◌≢◌, ℕ, ◌<◌, ◌≤◌, Bool, true, false, List, [], ◌++◌, Option, Result, Ok, Err, refl, sym, ap, subst, ◌∙◌, arith}
 use Rattle.std.specs.Prelude.{IfOk, is_err, IsErr, nat_lt}
-use Rattle.std.proofs.lemmas.Bool.{le-ltb, lt-ltb}
+use Rattle.std.proofs.lemmas.Bool.{le-ltb, lt-ltb, false_from_ne_true}
 use Rattle.std.proofs.lemmas.List.{append-nil}
 use Rattle.avtp_base.specs.declared.failed.Failed.{Failed}
 use Rattle.avtp_base.specs.Faults.{Rose}
@@ -104,10 +104,7 @@ module _ {s t : ShelfState} {handed : List Shown → Type 0} {before : Option (L
 
 -- no run but one that was done tells of a device
 tells_plain : (asked : Listening) (failed : Bool) (result : Result Status Failed) → IsPlain failed result → (result ≡ Ok status.DeviceFault → ⊥) → TellsDevices (listen asked) failed result
-tells_plain asked failed result plain never = record { fault = λ e. absurd (never e); quiet = λ listens done. unfailed failed (plain done) } where
-  unfailed : (b : Bool) → (b ≡ true → ⊥) → b ≡ false
-  unfailed true never = absurd (never refl)
-  unfailed false never = refl
+tells_plain asked failed result plain never = record { fault = λ e. absurd (never e); quiet = λ listens done. false_from_ne_true failed (plain done) }
 
 module _ {s t : ShelfState} {h h' : SinkState} {l l' : List ℕ} {handed : List Shown → Type 0} (asked : Listening) (failed : Bool) where
   pub plain_runs : (read result : Result Status Failed) → read ≡ result → IsPlain failed result → DoesFiles (listen_plan asked) handed s t h h' l l' read → Runs (listen asked) handed failed s t h h' l l' result

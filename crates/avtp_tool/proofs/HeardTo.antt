@@ -35,8 +35,8 @@ use Rattle.avtp_tool.specs.Outcome.{EndsWith}
 use Rattle.avtp_tool.specs.Reading.{file_yield}
 use Rattle.avtp_tool.specs.Status.{status_of}
 use Rattle.avtp_tool.proofs.DoesFile.{IsReadAndTold}
-use Rattle.avtp_tool.proofs.HearingTo.{prefix_then}
 use Rattle.avtp_tool.proofs.Outcomes.{tells_end}
+use Rattle.listener.proofs.Fed.{prefix_twice}
 
 -- ---- what is shown
 
@@ -57,7 +57,7 @@ out_at end.Limit listener records closed = rw closed refl
 due_within : (plan : ListenPlan) (items : List Shown) (records all : List Record) (how : End) → IsPrefix records all → IsPrefix items (due_of plan records) → IsPrefix items (shown_by plan all how)
 due_within plan items records all how first given =
     let longer = subst (λ (rs : List Record). IsPrefix (due_of plan records) (due_of plan rs)) first.1 (due_stays plan records first.0) in
-    prefix_then items (due_of plan records) (shown_by plan all how) given (prefix_then (due_of plan records) (due_of plan all) (shown_by plan all how) longer (shown_first plan all how))
+    prefix_twice items (due_of plan records) (shown_by plan all how) given (prefix_twice (due_of plan records) (due_of plan all) (shown_by plan all how) longer (shown_first plan all how))
 
 -- what is shown of the records before the place where the reading ended is the first of what is shown of the file
 ended_within : (plan : ListenPlan) (limit : ℕ) (bytes : List ℕ) (fault : Type 0) (items : List Shown) (records : List Record) (how : End) → IsPrefix records (records_in (take limit bytes)) → EndsAfter limit bytes fault how records
@@ -99,7 +99,7 @@ pub items_cut : {handed : List Shown → Type 0} {before now : Option (List ℕ)
 items_cut {before = before} {now} asked name bytes stage fault remains source listener items front plan closed shown prefix part hands =
     let first = subst (λ (p : ListenPlan). IsPrefix items (shown_by p (records_in (take asked.limit bytes)) (end_of asked.limit bytes))) plan (within stage asked.limit bytes fault remains source listener items closed shown) in
     let all = shown_by (plan_of asked) (records_in (take asked.limit bytes)) (end_of asked.limit bytes) in
-    record { text = text_cut name items all _ first prefix; front = front; first = prefix_then front items all part first; items = hands }
+    record { text = text_cut name items all _ first prefix; front = front; first = prefix_twice front items all part first; items = hands }
 
 take_all : {X : Type 0} (xs : List X) → take (length xs) xs ≡ xs
 take_all {X} [] = refl

@@ -1,9 +1,8 @@
 -- What a hearing showed so far, step by step.
-use Rattle.std.proofs.Common.{◌≡◌, ℕ, ◌+◌, ◌≤◌, ◌<◌, ◌^◌, Bool, true, false, inl, inr, List, [], ◌∷◌, ◌++◌, length, take, Option, Some, None, Result, Ok, Err, refl, sym, ap, subst, ◌∙◌, arith, append_assoc, append-nil, length-append, length-take}
-use Rattle.std.specs.Prelude.{cond, count_by, is_err, is_some, IsSome, MatchResult, OnErr, OnOk, slice_get}
+use Rattle.std.proofs.Common.{◌≡◌, ℕ, ◌+◌, ◌≤◌, ◌^◌, true, false, inl, inr, List, [], ◌∷◌, ◌++◌, length, take, Option, Some, None, Result, Ok, Err, refl, sym, ap, subst, ◌∙◌, arith, append_assoc, append-nil, length-append, length-take}
+use Rattle.std.specs.Prelude.{is_err, is_some, IsSome, OnErr, OnOk, slice_get}
 use mathlib.Core.List.{IsPrefix}
 use Rattle.std.proofs.lemmas.Bool.{cases_lt}
-use Rattle.std.proofs.lemmas.List.Sums.{sum_by-cons}
 use Rattle.std.specs.Option.{option_to_list}
 use Rattle.avtp_base.specs.Faults.{Rose}
 use Rattle.avtp_base.specs.Files.{Open, left_in}
@@ -18,61 +17,27 @@ use Rattle.capture_io.proofs.Ending.{after_weaker}
 use Rattle.capture_io.proofs.Giving.{given_first}
 use Rattle.capture_io.proofs.Leaving.{reads_nothing, reads_then}
 use Rattle.sample_schedule.specs.declared.shown.Shown.{Shown}
-use Rattle.sample_schedule.specs.declared.shown.Shown.TheVariants.{Flag, Present}
-use Rattle.listener.specs.Heard.{due_of, is_flag, is_present, shown_of}
 use Rattle.listener.specs.Listening.{Keeps, ListenState, StandsFor, is_closed, out}
-use Rattle.listener.proofs.Due.{due_stays}
 use Rattle.listener.proofs.Few.{few}
 use Rattle.presenter_ring.specs.declared.receiver.Pull.{Pull}
-use Rattle.presenter_ring.specs.Pulls.{ending_of, items_of}
+use Rattle.presenter_ring.specs.Pulls.{items_of}
 use Rattle.avtp_tool.specs.declared.hearing.Stage.{Stage}
 use Rattle.avtp_tool.specs.declared.hearing.Stage.TheVariants.{Reading, Showing, Ended, NoMemory}
 use Rattle.avtp_tool.specs.Hearing.{GoesOn, IsSoundAt, WasGiven, IsStable, Shows, closed_at, ended_at, has_stopped, is_all, left_of, pull_at, pull_with, unread}
 use Rattle.avtp_tool.proofs.Leaving.{ended_so, quiet_next, some_same}
+use Rattle.listener.proofs.Listened.{out_further, out_at_end, out_same}
+use Rattle.listener.proofs.Places.{presented-or-flagged}
+use Rattle.sample_schedule.proofs.GivenLemmas.{prefix-more, prefix-all}
+use Rattle.listener.proofs.Fed.{prefix_twice}
 
 -- ---- lists
 
-pub prefix_refl : {X : Type 0} (xs : List X) → IsPrefix xs xs
-prefix_refl xs = ([], append-nil xs)
-
-pub prefix_then : {X : Type 0} (xs ys zs : List X) → IsPrefix xs ys → IsPrefix ys zs → IsPrefix xs zs
-prefix_then {X} xs ys zs first second = (first.0 ++ second.0, sym (append_assoc xs first.0 second.0) ∙ ap (λ (l : List X). l ++ second.0) first.1 ∙ second.1)
-
--- with the item that comes next
-prefix_next : {X : Type 0} (xs ys : List X) (x : X) → IsPrefix xs ys → Some x ≡ slice_get ys (length xs) → IsPrefix (xs ++ x ∷ []) ys
-prefix_next {X} [] [] x first at = absurd cc
-prefix_next {X} [] (y ∷ ys) x first at = let same : x ≡ y = cc in (ys, ap (λ (z : X). z ∷ ys) same)
-prefix_next {X} (z ∷ xs) [] x first at = absurd (let e = first.1 in cc)
-prefix_next {X} (z ∷ xs) (y ∷ ys) x first at =
-    let e : z ∷ (xs ++ first.0) ≡ y ∷ ys = first.1 in
-    let rest = prefix_next xs ys x (first.0, cc) at in
-    let head : z ≡ y = cc in
-    (rest.0, ap (λ (l : List X). z ∷ l) rest.1 ∙ ap (λ (h : X). h ∷ ys) head)
-
-prefix_out : {X : Type 0} (xs ys : List X) (next : Option X) → IsPrefix xs ys → next ≡ slice_get ys (length xs) → IsPrefix (xs ++ option_to_list next) ys
-prefix_out {X} xs ys None first at = subst (λ (l : List X). IsPrefix l ys) (sym (append-nil xs)) first
-prefix_out {X} xs ys (Some x) first at = prefix_next xs ys x first at
-
--- nothing comes next
-prefix_all : {X : Type 0} (xs ys : List X) → IsPrefix xs ys → None ≡ slice_get ys (length xs) → xs ≡ ys
-prefix_all {X} [] [] first at = refl
-prefix_all {X} [] (y ∷ ys) first at = absurd cc
-prefix_all {X} (z ∷ xs) [] first at = absurd (let e = first.1 in cc)
-prefix_all {X} (z ∷ xs) (y ∷ ys) first at =
-    let e : z ∷ (xs ++ first.0) ≡ y ∷ ys = first.1 in
-    let rest = prefix_all xs ys (first.0, cc) at in
-    let head : z ≡ y = cc in
-    ap (λ (l : List X). z ∷ l) rest ∙ ap (λ (h : X). h ∷ ys) head
+-- with the item that comes next, or none
+prefix_out : (xs ys : List Shown) (next : Option Shown) → IsPrefix xs ys → next ≡ slice_get ys (length xs) → IsPrefix (xs ++ option_to_list next) ys
+prefix_out xs ys None first at = subst (λ (l : List Shown). IsPrefix l ys) (sym (append-nil xs)) first
+prefix_out xs ys (Some x) first at = prefix-more xs ys x first (sym at)
 
 -- ---- counts
-
-count-next : {X : Type 0} (p : X → Bool) (x : X) (xs : List X) → count_by p (x ∷ xs) ≡ cond (p x) 1 0 + count_by p xs
-count-next {X} p x xs = sum_by-cons (λ (y : X). cond (p y) 1 0) x xs
-
-presented-or-flagged : (list : List Shown) → count_by is_present list + count_by is_flag list ≡ length list
-presented-or-flagged [] = refl
-presented-or-flagged (Present batch ∷ list) = omega (arith, count-next is_present (Present batch) list, count-next is_flag (Present batch) list, presented-or-flagged list)
-presented-or-flagged (Flag frame seq reason ∷ list) = omega (arith, count-next is_present (Flag frame seq reason) list, count-next is_flag (Flag frame seq reason) list, presented-or-flagged list)
 
 take_length : {X : Type 0} (n : ℕ) (xs : List X) → n ≤ length xs → length (take n xs) ≡ n
 take_length n xs within = omega (arith, length-take n xs)
@@ -122,12 +87,6 @@ left_same old new stage source source' same = rw same (omega arith)
 
 -- ---- stages
 
-pub reading_by : (s : Stage) → pull_at s ≡ None → ((how : End) → s ≡ Showing how → ⊥) → s ≡ Reading
-reading_by Reading going other = refl
-reading_by (Showing how) going other = absurd (other how refl)
-reading_by (Ended how) going other = absurd cc
-reading_by NoMemory going other = absurd cc
-
 pub not_stopped : (source : Sourcing) (e : Option End) → source.ended ≡ e → is_some e ≡ false → source.ended ≡ None
 not_stopped source None is none = is
 not_stopped source (Some how) is none = absurd cc
@@ -140,12 +99,6 @@ reads_on_at {s} {source} is sound =
 pub going_on : (s : Stage) (how : End) → pull_at s ≡ None → s ≡ Ended how → ⊥
 going_on s how going is = let e : pull_at (Ended how) ≡ None = ap pull_at (sym is) ∙ going in cc
 
-pub pull_ends : (how : End) → ending_of (pull_with how) ≡ Some (pull_with how)
-pull_ends end.Whole = refl
-pull_ends (end.Refused refusal) = refl
-pull_ends end.ReadFault = refl
-pull_ends end.Limit = refl
-
 pub live_by : (file : Option Open) (s : Stage) → ended_at file s ≡ None → IsSome file × (pull_at s ≡ None)
 live_by None s e = absurd cc
 live_by (Some file) s e = (refl, e)
@@ -155,9 +108,6 @@ ended_live None s o live is = absurd cc
 ended_live (Some file) s o live is = is
 
 -- ---- one step
-
-out_same : (old now : ListenState) (records : List Record) → Keeps old now → out now records ≡ out old records
-out_same old now records keeps = rw (keeps.closed, keeps.plan) refl
 
 module _ {s t : ShelfState} {begun source : Sourcing} {first old new : ListenState} {stage : Stage} {items : List Shown} where
   -- an item more was shown, or none
@@ -176,7 +126,7 @@ module _ {s t : ShelfState} {begun source : Sourcing} {first old new : ListenSta
           first = was.first;
           read = was.read;
           stands = subst (λ (n : ℕ). StandsFor was.records n new) (sym (length-append items more)) (stands was.records (length items) was.stands);
-          given = subst (IsPrefix (items ++ more)) (sym (out_same old new was.records keeps)) (prefix_out items (out old was.records) result was.given (at was.records (length items) was.stands));
+          given = subst (IsPrefix (items ++ more)) (sym (out_same old new was.records keeps.plan keeps.closed)) (prefix_out items (out old was.records) result was.given (at was.records (length items) was.stands));
           whole = λ how is. absurd (going_on stage how going is);
         };
   }
@@ -193,42 +143,31 @@ module _ {s t : ShelfState} {begun source : Sourcing} {first old new : ListenSta
         plan = keeps.plan ∙ shows.plan;
         shown = λ limit bytes given none unclosed.
             let was = shows.shown limit bytes given none unclosed in
-            let same = out_same old new was.records keeps in
+            let same = out_same old new was.records keeps.plan keeps.closed in
             record {
               records = was.records;
               first = was.first;
               read = was.read;
               stands = subst (λ (n : ℕ). StandsFor was.records n new) (omega arith) (stands was.records (length items) was.stands);
               given = subst (IsPrefix items) (sym same) was.given;
-              whole = λ how ended. prefix_all items (out old was.records) was.given (at was.records (length items) was.stands) ∙ sym same;
+              whole = λ how ended. prefix-all items (out old was.records) was.given (sym (at was.records (length items) was.stands)) ∙ sym same;
             };
       }
 
 -- ---- one record
 
-due_here : (listener : ListenState) (records : List Record) → is_closed listener ≡ false → out listener records ≡ due_of listener.plan records
-due_here listener records going = rw going refl
-
--- what is shown of the first records is a prefix
+-- what was shown is shown first once a record more was taken, and at the end
 due_grows : (old new : ListenState) (records more : List Record) (items : List Shown) → is_closed old ≡ false → is_closed new ≡ false → new.plan ≡ old.plan → IsPrefix items (out old records) → IsPrefix items (out new (records ++ more))
-due_grows old new records more items going on plan first =
-    let longer = due_stays old.plan records more in
-    let before = subst (IsPrefix items) (due_here old records going) first in
-    let after = prefix_then items (due_of old.plan records) (due_of old.plan (records ++ more)) before longer in
-    subst (IsPrefix items) (ap (λ p. due_of p (records ++ more)) (sym plan) ∙ sym (due_here new (records ++ more) on)) after
+due_grows old new records more items going on plan first = prefix_twice items (out old records) (out new (records ++ more)) first (out_further old new records more going on plan)
 
--- what was due is a prefix of what is shown once no record follows
 all_grows : (old new : ListenState) (records : List Record) (items : List Shown) → is_closed old ≡ false → is_closed new ≡ true → new.plan ≡ old.plan → IsPrefix items (out old records) → IsPrefix items (out new records)
-all_grows old new records items going closed plan first =
-    let before = subst (IsPrefix items) (due_here old records going) first in
-    let after = prefix_then items (due_of old.plan records) (shown_of old.plan records) before (Rattle.listener.proofs.Due.due_first old.plan records) in
-    subst (IsPrefix items) (ap (λ p. shown_of p records) (sym plan) ∙ sym (let e : out new records ≡ shown_of new.plan records = rw closed refl in e)) after
+all_grows old new records items going closed plan first = prefix_twice items (out old records) (out new records) first (out_at_end old new records going closed plan)
 
 end_grows : (how : End) (old new : ListenState) (records : List Record) (items : List Shown) → is_closed old ≡ false → is_closed new ≡ is_all how → new.plan ≡ old.plan → IsPrefix items (out old records) → IsPrefix items (out new records)
 end_grows end.Whole old new records items going closed plan first = all_grows old new records items going closed plan first
 end_grows (end.Refused refusal) old new records items going closed plan first = all_grows old new records items going closed plan first
-end_grows end.ReadFault old new records items going closed plan first = subst (IsPrefix items) (due_here old records going ∙ ap (λ p. due_of p records) (sym plan) ∙ sym (due_here new records closed)) first
-end_grows end.Limit old new records items going closed plan first = subst (IsPrefix items) (due_here old records going ∙ ap (λ p. due_of p records) (sym plan) ∙ sym (due_here new records closed)) first
+end_grows end.ReadFault old new records items going closed plan first = subst (IsPrefix items) (sym (out_same old new records plan (closed ∙ sym going))) first
+end_grows end.Limit old new records items going closed plan first = subst (IsPrefix items) (sym (out_same old new records plan (closed ∙ sym going))) first
 
 module _ {s t u : ShelfState} {begun old_source source : Sourcing} {first old new : ListenState} {items : List Shown} where
   -- the reading went on, and the record was taken
@@ -298,14 +237,6 @@ module _ {s t u : ShelfState} {begun old_source source : Sourcing} {first old ne
       }
 
 -- ---- what holds of every hearing
-
-pub sound_few : {stage : Stage} {source : Sourcing} {listener : ListenState} → IsSoundAt stage source listener → listener.counts.frames < 2 ^ 62
-sound_few sound = omega (arith, sound.bounded)
-
--- of a capture that was opened now, and a listener that was given no record
-pub sound_fresh : (source : Sourcing) (listener : ListenState) → source.ended ≡ None → is_closed listener ≡ false → StandsFor [] 0 listener → listener.counts.frames + to_do source ≤ 2 ^ 41 → IsSoundAt Reading source listener
-sound_fresh source listener going unclosed stands bounded =
-    record { bounded = bounded; going = rw going refl; closed = unclosed; stable = λ none. none (record { records = []; given = 0; stands = stands }) }
 
 -- an item more was shown, or none
 pub sound_on : {stage : Stage} {source : Sourcing} {old new : ListenState} (count : ℕ) → IsSoundAt stage source old → Keeps old new → ((records : List Record) (given : ℕ) → StandsFor records given old → StandsFor records (given + count) new) → IsSoundAt stage source new
@@ -391,14 +322,6 @@ open_at sound reading = sound.closed ∙ ap closed_at reading
 
 pub unread_at : (stage : Stage) (source : Sourcing) → stage ≡ Reading → unread stage source ≡ to_do source
 unread_at stage source reading = ap (λ (s : Stage). unread s source) reading
-
-pub wrong_match : {T E : Type 0} (result : Result T E) (A B : Type 0) → is_err result ≡ true → MatchResult result (λ _. A) (λ _. B) → B
-wrong_match (Ok x) A B failed on = absurd cc
-wrong_match (Err e) A B failed on = on
-
-pub fine_match : {T E : Type 0} (result : Result T E) (A B : Type 0) → is_err result ≡ false → MatchResult result (λ _. A) (λ _. B) → A
-fine_match (Ok x) A B fine on = on
-fine_match (Err e) A B fine on = absurd cc
 
 pub pull_none : (how : End) → items_of (pull_with how) ≡ []
 pull_none end.Whole = refl

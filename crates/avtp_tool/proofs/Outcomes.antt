@@ -56,15 +56,6 @@ sink_part prints = record { grows = prints.grows; counted = prints.counted }
 pub sink_ok : {T U : Type 0} {h h' : SinkState} {x : T} (y : U) → KeepsSink h h' (Ok x) → KeepsSink h h' (Ok y)
 sink_ok y first = record { grows = first.grows; counted = record { never_falls = first.counted.never_falls; ok = first.counted.ok; failed = tt } }
 
--- ---- the last line
-
-pub ends_printed : {h h' : SinkState} {w w' : List ℕ} {ok : Unit} {line : List ℕ} (ended : Status) → Prints h h' w w' (Ok ok) line → EndsWith ended h h' w w' (Ok ended) line
-ends_printed ended prints = record { status = refl; written = prints.written; sink = sink_ok ended (sink_printed prints) }
-
-pub ends_failed : {h h' : SinkState} {w w' : List ℕ} {e : Failed} {line : List ℕ} {result : Result Status Failed} (ended : Status) → IsErr result → Prints h h' w w' (Err e) line → EndsWith ended h h' w w' result line
-ends_failed {result = Ok s} ended err prints = absurd cc
-ends_failed {result = Err e'} ended err prints = record { status = tt; written = prints.written; sink = sink_failed err (sink_printed prints) }
-
 -- ---- what a run tells
 
 -- it was cut short before its first byte, or where memory was missing

@@ -1,23 +1,22 @@
 -- The run of `soak`, which reads and writes no file.
-use Rattle.std.proofs.Common.{false, ◌≡◌, ◌≢◌, ◌⊎◌, inl, inr, ℕ, List, [], Option, Some, None, Result, Ok, Err, refl, sym, ap, subst, arith}
+use Rattle.std.proofs.Common.{false, ◌≡◌, ◌≢◌, ◌⊎◌, inl, inr, ℕ, List, [], Option, Result, Ok, Err, refl, sym, ap, subst, arith}
 use Rattle.std.specs.Prelude.{IfOk}
 use Rattle.std.proofs.lemmas.List.{append-nil}
 use Rattle.avtp_base.specs.declared.failed.Failed.{Failed}
-use Rattle.avtp_base.specs.Files.{Files, KeepsFiles}
-use Rattle.avtp_base.specs.Told.{Appends, Keeps}
+use Rattle.avtp_base.specs.Told.{Appends}
 use Rattle.avtp_base.specs.States.{Asks, ShelfState, SinkState, WasAsked}
 use Rattle.avtp_text.specs.Written.{written}
-use Rattle.avtp_text.proofs.Printing.{prefix_none}
 use Rattle.avtp_words.specs.Grammar.{Request, soak}
 use Rattle.avtp_tool.specs.declared.status.Status.{Status}
 use Rattle.avtp_tool.specs.declared.status.Status.TheVariants as status
-use Rattle.avtp_tool.specs.Outcome.{EndsWith, KeepsSink}
+use Rattle.avtp_tool.specs.Outcome.{EndsWith}
 use Rattle.avtp_tool.specs.Run.{Runs}
 use Rattle.avtp_tool.specs.Soak.{Says, soak_report}
 use Rattle.avtp_tool.specs.Yield.{Gives, HandsNothing, says as only_text}
 use Rattle.avtp_tool.proofs.PlanRuns.{no_devices}
 use Rattle.avtp_tool.proofs.Yields.{part_text}
 use Rattle.avtp_tool.proofs.Ended.{ends_prefix}
+use Rattle.avtp_base.proofs.Files.{KeepsFiles-refl}
 
 -- ---- the line
 
@@ -33,19 +32,7 @@ says_line {line = line} (Err e) ends = record {
   sink = ends.sink;
 }
 
--- no memory was found, and nothing printed
-pub says_nothing : {h h' : SinkState} {w w' : List ℕ} (line : List ℕ) → Keeps (written h.held w) (written h'.held w') → KeepsSink {T = Status} h h' (Ok status.Memory) → Says line h h' w w' (Ok status.Memory)
-says_nothing {h} {h'} {w} {w'} line keeps sink = record {
-  tells = record { ended = status.Done; yields = line; outcome = (refl, refl); whole = λ memory write. absurd (memory refl); part = prefix_none (written h.held w) (written h'.held w') line keeps };
-  own = inr refl;
-  sink = sink;
-}
-
 -- ---- the run
-
-same_files : (f : Option Files) → KeepsFiles f f
-same_files None = tt
-same_files (Some all) = λ name. refl
 
 other_status : (result : Result Status Failed) (other : Status) → IfOk result (λ s. (s ≡ status.Done) ⊎ (s ≡ status.Memory)) → other ≢ status.Done → other ≢ status.Memory → result ≡ Ok other → ⊥
 other_status (Ok s) other (inl done) first second is = absurd (first cc)
@@ -75,8 +62,8 @@ soak_runs {s} {h} {h'} {l} {l'} {result} packets other same told = subst (λ (q 
     whole = with_names s (written h.held l) (written h'.held l') told.tells.yields told.tells.ended result told.tells.whole;
     part = part_text refl (only_text told.tells.yields) told.tells.part;
   };
-  makes = λ all told. same_files s.files;
-  files = same_files s.files;
+  makes = λ all told. KeepsFiles-refl s.files;
+  files = KeepsFiles-refl s.files;
   slots = λ k. refl;
   counts = record { never_falls = omega arith; fault = λ e. absurd (other_status result status.ReadFault told.own (λ d. cc) (λ d. cc) e); quiet = quiet s.reading_faults result };
   writing = record { never_falls = omega arith; failed = λ e. absurd (other_status result status.WriteFault told.own (λ d. cc) (λ d. cc) e); other = λ e. refl; unwritten = λ e. refl };

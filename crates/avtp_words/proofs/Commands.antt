@@ -1,12 +1,11 @@
 -- The command lines of each command, and their offences.
-use Rattle.std.proofs.Common.{Contains, ◌↔◌, ◌≤◌, IsTrue, Bool, ◌≡◌, ◌≢◌, ℕ, zero, suc, ◌+◌, ◌<◌, ◌^◌, ◌⊎◌, inl, inr, true, false, List, [], ◌∷◌, ◌++◌, flat_map, length, take, drop, Option, Some, None, slice_get, get_or, IfSome, arith, sym, subst, ap, ◌∙◌, refl, append_assoc, length-append, codes, string_bytes, String, pos, All}
+use Rattle.std.proofs.Common.{Contains, ◌↔◌, ◌≤◌, IsTrue, Bool, ◌≡◌, ◌≢◌, ℕ, zero, suc, ◌+◌, ◌<◌, ◌^◌, ◌⊎◌, inl, inr, true, false, List, [], ◌∷◌, ◌++◌, flat_map, length, take, drop, Option, Some, None, slice_get, get_or, IfSome, arith, sym, subst, ap, ◌∙◌, refl, append_assoc, length-append, codes, string_bytes, String, pos}
 use Rattle.std.specs.Prelude.{Result, Ok, Err, IfOk, IfErr, IsOkAnd, IsErrAnd}
 use Rattle.std.specs.Str.{bytes_eq}
 use Rattle.std.specs.declared.alloc.Global.{Global}
 use Rattle.std.proofs.lemmas.Bool.{cases_Bool}
 use Rattle.std.proofs.lemmas.List.{append-nil}
 use Rattle.std.proofs.Math.Seq.{drop-append-add}
-use Rattle.avtp_words.specs.declared.operand.Operand.TheVariants as operand
 use Rattle.std.proofs.lemmas.List.Elements.{All-nil}
 use Rattle.aaf_format.specs.declared.aaf.AafFormat.TheVariants.{Int16}
 use Rattle.avtp_words.specs.declared.option.Takes.{Takes}
@@ -22,7 +21,7 @@ use Rattle.avtp_words.specs.Given.{IsGiven, IsGivenId, IsGivenIdIf, IsGivenIf, I
 use Rattle.avtp_words.specs.Number.{IsNumber}
 use Rattle.avtp_words.specs.Operands.{AreOperands}
 use Rattle.avtp_words.specs.Reading.{ClockIsWithin, IsRest, IsRestTo, StopsAfter, are_sound, value_after, IsRead, IsReadClock, IsReadId, IsReadIdIf, IsReadIf, IsReadSigned, IsReadFormat, IsReadKind, IsReadFile, IsReadRaw, IsReadSilence, ReadsFile, AreHeard, AreRead}
-use Rattle.avtp_words.specs.Word.{texts, BeginsWithDash, IsName, IsId}
+use Rattle.avtp_words.specs.Word.{texts, BeginsWithDash, IsId}
 use Rattle.avtp_words.specs.Limits as limits
 use Rattle.avtp_words.specs.Limits.{NumberOption, default_rate, number, signed, with_default}
 use Rattle.avtp_words.specs.Options.{Row, row_named, Setting, words_of, IsValue, IsSetting, stands_alone, value_in}
@@ -230,16 +229,6 @@ listen_line words place settings t id files at_id at_files =
     let ids : t.id ≡ id = (let e = sym t.at_id ∙ at_id in cc) in
     let names : t.files ≡ files = sym t.at_files ∙ at_files in
     subst (λ (n : List (List ℕ)). IsOf listen_form (codes "listen" ∷ words) settings (id ∷ n)) names (subst (λ (n : List ℕ). IsOf listen_form (codes "listen" ∷ words) settings (n ∷ t.files)) ids t.line)
-
--- a line of `listen` has a file, and each is a name
-pub some_file : (words : List (List ℕ)) (asked : Listening) → SaysListen words asked → 0 < length asked.files
-some_file words asked s = go asked.files s.line.operands where
-  go : (files : List (List ℕ)) → AreOperands listen_form.operands (s.id ∷ files) → 0 < length files
-  go [] are = absurd are.1
-  go (file ∷ files) are = omega arith
-
-pub files_named : (words : List (List ℕ)) (asked : Listening) → SaysListen words asked → All IsName asked.files
-files_named words asked s = names (operand.Names ∷ []) asked.files s.line.operands.1
 
 -- what stands among the first words stands among all
 among_first : (ws more : List (List ℕ)) (k : ℕ) (word : List ℕ) → slice_get ws k ≡ Some word → slice_get (ws ++ more) k ≡ Some word

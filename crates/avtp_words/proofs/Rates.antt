@@ -5,11 +5,10 @@ use Rattle.std.specs.Option.{option_eq}
 use Rattle.std.proofs.lemmas.Bool.Decides.{nat_tests}
 use Rattle.std.proofs.lemmas.List.Folds.{Any-from_list_any, list_any-from_Any}
 use Rattle.std.proofs.lemmas.List.FromFn.{get_or-range_with_len}
-use Rattle.std.proofs.lemmas.Bool.{leb-true, le-leb}
+use Rattle.std.proofs.lemmas.Bool.{leb-true, le-leb, and_parts}
 use Rattle.aaf_format.specs.Aaf.{rate_of}
 use Rattle.iec61883_format.specs.Iec.{rate_of_fdf, syt_interval}
 use Rattle.avtp_words.specs.Reading.{is_long_enough, suits}
-use Rattle.avtp_words.proofs.Settings.{both}
 
 -- the codes that name a rate are 1 to 10
 known : (code rate : ℕ) → rate_of code ≡ Some rate → (1 ≤ code) × (code ≤ 10)
@@ -49,7 +48,7 @@ is_enough (Some interval) count h = le-leb interval (8 * count) h
 pub suited : (rate count : ℕ) → list_any (λ fdf. suits rate count fdf) (range_with_len 0 7) ≡ true → (fdf : ℕ) × (rate_of_fdf fdf ≡ Some rate) × IsSomeAnd (syt_interval fdf) (λ interval. interval ≤ 8 * count)
 suited rate count e =
     let (k, fdf, within, at, is) = Any-from_list_any (λ fdf. suits rate count fdf) (range_with_len 0 7) e in
-    let each = both _ _ is in
+    let each = and_parts _ _ is in
     (fdf, same (rate_of_fdf fdf) rate each.0, enough (syt_interval fdf) count each.1)
 
 pub suiting : (rate count fdf : ℕ) → rate_of_fdf fdf ≡ Some rate → IsSomeAnd (syt_interval fdf) (λ interval. interval ≤ 8 * count) → list_any (λ fdf. suits rate count fdf) (range_with_len 0 7) ≡ true

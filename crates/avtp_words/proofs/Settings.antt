@@ -1,7 +1,7 @@
 -- Options as they are given, and how the words fall into them in one way only.
-use Rattle.std.proofs.Common.{◌≡◌, ◌≢◌, ℕ, zero, suc, ◌<◌, ◌^◌, inl, inr, ◌&&◌, Bool, true, false, List, [], ◌∷◌, ◌++◌, flat_map, length, get_or, Option, Some, None, IsSomeAnd, arith, add-zero, sym, subst, ap, ◌∙◌, refl, append_assoc, length-append, All, AllPairs, Contains, IsTrue, option_to_list}
+use Rattle.std.proofs.Common.{◌≡◌, ◌≢◌, ℕ, zero, suc, ◌<◌, ◌^◌, inl, inr, true, false, List, [], ◌∷◌, ◌++◌, flat_map, length, get_or, Option, Some, None, IsSomeAnd, arith, add-zero, sym, subst, ap, ◌∙◌, refl, append_assoc, length-append, All, AllPairs, Contains, IsTrue, option_to_list}
 use Rattle.std.specs.Str.{bytes_eq}
-use Rattle.std.proofs.lemmas.Bool.{cases_Bool, ltb-true}
+use Rattle.std.proofs.lemmas.Bool.{cases_Bool, ltb-true, and_parts}
 use Rattle.std.proofs.lemmas.List.{get_or_append_left, get_or-append-add}
 use Rattle.std.proofs.lemmas.List.Elements.{All-nil, All-cons, All-head, All-tail, All-push, Contains-append_right, Contains-append_cases}
 use Rattle.std.proofs.lemmas.List.Quantifiers.{all_pairs_push}
@@ -27,17 +27,13 @@ same-true xs ys e = (bytes_eq-Decides xs ys).0 e
 pub same-false : (xs ys : List ℕ) → bytes_eq xs ys ≡ false → xs ≡ ys → ⊥
 same-false xs ys e same = let yes = (bytes_eq-Decides xs ys).1 same in cc
 
-pub both : (a b : Bool) → (a && b) ≡ true → (a ≡ true) × (b ≡ true)
-both true b e = (refl, e)
-both false b e = absurd (cc)
-
 plain : false ≡ true → ⊥
 plain e = absurd cc
 
 -- no value begins with two dashes
 pub value-dashes : (takes : Takes) (word : List ℕ) → is_sound takes ≡ true → IsValue takes word → begins_with_dashes word ≡ true → ⊥
 value-dashes (Number low high) word sound (n, is) dashes =
-    let bound : high < 2 ^ 64 = ltb-true high (2 ^ 64) (both _ _ sound).1 in
+    let bound : high < 2 ^ 64 = ltb-true high (2 ^ 64) (and_parts _ _ sound).1 in
     no_dash word n (omega (arith, is.most)) is.spelled (one_dash word dashes)
 value-dashes (Signed most) word sound (z, is) dashes =
     let bound : most < 2 ^ 63 = ltb-true most (2 ^ 63) sound in
@@ -73,16 +69,16 @@ pub found-sound : (rows : List Row) (name : List ℕ) (row : Row) → are_sound 
 found-sound [] name row sound found = cc
 found-sound (r ∷ rows) name row sound found =
     elim (cases_Bool (bytes_eq r.name name)) [
-      | inl here ↦ (let same : r ≡ row = (let e : Some r ≡ Some row = rw here at found in cc) in subst (λ (x : Row). is_sound x.takes ≡ true) same (both _ _ (both _ _ sound).0).1)
-      | inr other ↦ found-sound rows name row (both _ _ sound).1 (rw other at found)
+      | inl here ↦ (let same : r ≡ row = (let e : Some r ≡ Some row = rw here at found in cc) in subst (λ (x : Row). is_sound x.takes ≡ true) same (and_parts _ _ (and_parts _ _ sound).0).1)
+      | inr other ↦ found-sound rows name row (and_parts _ _ sound).1 (rw other at found)
     ]
 
 pub found-dashes : (rows : List Row) (name : List ℕ) (row : Row) → are_sound rows ≡ true → row_named rows name ≡ Some row → begins_with_dashes name ≡ true
 found-dashes [] name row sound found = cc
 found-dashes (r ∷ rows) name row sound found =
     elim (cases_Bool (bytes_eq r.name name)) [
-      | inl here ↦ subst (λ (n : List ℕ). begins_with_dashes n ≡ true) (same-true r.name name here) (both _ _ (both _ _ sound).0).0
-      | inr other ↦ found-dashes rows name row (both _ _ sound).1 (rw other at found)
+      | inl here ↦ subst (λ (n : List ℕ). begins_with_dashes n ≡ true) (same-true r.name name here) (and_parts _ _ (and_parts _ _ sound).0).0
+      | inr other ↦ found-dashes rows name row (and_parts _ _ sound).1 (rw other at found)
     ]
 
 -- the name of an option begins with two dashes, and its value does not

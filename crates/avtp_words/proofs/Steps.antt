@@ -3,7 +3,7 @@ use Rattle.std.proofs.Common.{◌≡◌, ◌≢◌, ℕ, zero, suc, ◌+◌, ◌
 use Rattle.std.specs.List.{find, list_any}
 use Rattle.std.specs.Str.{bytes_eq}
 use Rattle.std.specs.declared.alloc.Global.{Global}
-use Rattle.std.proofs.lemmas.Bool.{cases_Bool, leb-true}
+use Rattle.std.proofs.lemmas.Bool.{cases_Bool, leb-true, and_parts}
 use Rattle.std.proofs.lemmas.List.{append-nil, take-map, length-map}
 use Rattle.std.proofs.lemmas.Grind.{flat_map-append}
 use Rattle.std.proofs.lemmas.List.Elements.{All-contains, Contains-append_right, Contains-append_cases}
@@ -18,7 +18,7 @@ use Rattle.avtp_words.specs.Reading.{row_of, rows_of, is_sound, are_sound, IsTai
 use Rattle.avtp_words.specs.Word.{texts, BeginsWithDash}
 use Rattle.avtp_words.specs.Options.{Row, row_named, Setting, words_of, IsValue, IsTaken, stands_alone, IsSetting, AreSettings}
 use Rattle.avtp_words.specs.Grammar.{Stops}
-use Rattle.avtp_words.proofs.Settings.{same-true, same-false, both, found-sound, setting-dashes, apart, push, next, fresh, taken}
+use Rattle.avtp_words.proofs.Settings.{same-true, same-false, found-sound, setting-dashes, apart, push, next, fresh, taken}
 
 -- the word after others
 pub at : (before rest : List (List ℕ)) (word : List ℕ) → slice_get (before ++ rest) (length before) ≡ Some word → (more : List (List ℕ)) × (rest ≡ word ∷ more)
@@ -119,7 +119,7 @@ stops_here rows words place o word e dash none =
 -- what such an option takes
 sample : (takes : Takes) → is_sound takes ≡ true → (value : Option (List ℕ)) × IsTaken takes value
 unfolding decode_pairs
-sample (Number low high) sound = (Some (decimal low), (low, record { least = omega arith; most = leb-true low high (both _ _ sound).0; spelled = refl }))
+sample (Number low high) sound = (Some (decimal low), (low, record { least = omega arith; most = leb-true low high (and_parts _ _ sound).0; spelled = refl }))
 sample (Signed most) sound = (Some (decimal 0), (pos 0, record { size = omega arith; spelled = refl }))
 sample Id sound = (Some (codes "0000000000000000"), (0, record { fits = omega arith; digits = refl }))
 sample Kind sound = (Some (codes "aaf"), inl refl)

@@ -1,5 +1,5 @@
 -- The records of a capture, one after the other.
-use Rattle.std.proofs.Common.{◌≡◌, ℕ, ◌-◌, ◌*◌, ◌+◌, ◌<◌, ◌≤◌, true, false, List, [], ◌∷◌, ◌++◌, length, take, Option, Some, None, refl, sym, ap, subst, ◌∙◌, arith, append_assoc, length-append}
+use Rattle.std.proofs.Common.{◌≡◌, ℕ, ◌-◌, ◌*◌, ◌+◌, ◌<◌, ◌≤◌, true, List, [], ◌∷◌, ◌++◌, length, take, Option, Some, None, refl, sym, ap, subst, ◌∙◌, arith, append_assoc, length-append}
 use Rattle.std.specs.Prelude.{IfSome, IsSome, is_some, option_to_list}
 use Rattle.std.proofs.lemmas.List.{append-nil}
 use Rattle.avtp_base.specs.declared.refusal.Refusal.{Refusal}
@@ -114,10 +114,6 @@ pub stop_rose : (before after : ℕ) (halt : Stop) → CountsStop (Some halt) be
 stop_rose before after halt counted is = subst (λ (h : Stop). CountsStop (Some h) before after) is counted
 
 -- ---- the next record
-
-pub not_some : (e : Option End) → is_some e ≡ false → e ≡ None
-not_some None none = refl
-not_some (Some how) none = absurd cc
 
 -- a reading that had ended answers the same again
 pub gives_again : (shelf : ShelfState) (s : Sourcing) (e : Option End) → IsSome (shelf.slots (slot_of s)) → s.ended ≡ e → is_some e ≡ true → GivesNext shelf shelf s s e

@@ -1,5 +1,5 @@
 -- A file that is written piece by piece.
-use Rattle.std.proofs.Common.{◌≡◌, ℕ, arith, List, [], ◌++◌, take, drop, Option, refl, sym, ap, subst, ◌∙◌, append_assoc, append-nil, take-append-drop}
+use Rattle.std.proofs.Common.{◌≡◌, ℕ, List, [], ◌++◌, take, drop, Option, sym, ap, subst, ◌∙◌, append_assoc, append-nil, take-append-drop}
 use Rattle.std.specs.Prelude.{Result, Ok, Err, OnOk}
 use Rattle.avtp_base.specs.declared.failed.Failed.{Failed}
 use Rattle.avtp_base.specs.Faults.{IsCounted}
@@ -9,16 +9,6 @@ use Rattle.avtp_base.proofs.Files.{KeepsOtherFiles-trans, PutsFile-appends, Puts
 use Rattle.capture_io.specs.Writing.{IsMadeIn, IsWriting, PutsPrefix, WritesSlot, Writing}
 
 -- ---- what is left of a slot
-
-pub writes_nothing : (s : ShelfState) (w : Writing) (ok : Unit) → IsMadeIn s.slots w.slot → WritesSlot s s w w (Ok ok)
-writes_nothing s w ok made = record {
-  slot = refl;
-  made = made;
-  slots = record { same = λ j. refl; left = λ j differs. refl };
-  reading = refl;
-  counted = record { never_falls = omega arith; ok = refl; failed = tt };
-  asked = λ names stands. stands;
-}
 
 pub writes_then : {s t u : ShelfState} {v v' v'' : Writing} {ok : Unit} {result : Result Unit Failed} → WritesSlot s t v v' (Ok ok) → WritesSlot t u v' v'' result → WritesSlot s u v v'' result
 writes_then {s} {t} {u} {v = v} {result = result} first second = record {

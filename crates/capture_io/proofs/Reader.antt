@@ -7,7 +7,7 @@ use Rattle.avtp_base.specs.declared.refusal.Refusal.{Refusal}
 use Rattle.pcap_frames.specs.declared.style.Style.{Style}
 use Rattle.avtp_base.specs.declared.field.Field.TheVariants.{Magic}
 use Rattle.pcap_frames.specs.Layout.{certain, file_refusal, style_at}
-use Rattle.pcap_frames.specs.Capture.{Record, Holds, style_of}
+use Rattle.pcap_frames.specs.Capture.{Record, Holds}
 use Rattle.pcap_frames.specs.Capture as captures
 use Rattle.pcap_frames.specs.Reading as classic
 use Rattle.pcap_frames.proofs.Ends.{gives_up}
@@ -377,24 +377,6 @@ classic_releases front c c' n given free counted stays = record {
   free = free;
   counted = counted;
   refusal = stays;
-}
-
-pub pcapng_releases : (front : List ℕ) (c : classic.Reading) (n n' : reading.Reading) → ((bytes : List ℕ) (records : List Record) → reading.HasRead n bytes records → reading.HasRead n' bytes (records ++ option_to_list (reading.held n)))
-    → reading.held n' ≡ None → reading.taken n' ≡ reading.taken n → n'.refusal ≡ n.refusal
-    → Releases (record { format = Some Pcapng; front = front; classic = c; ng = n }) (record { format = Some Pcapng; front = front; classic = c; ng = n' })
-pcapng_releases front c n n' given free counted stays = record {
-  given_up = λ bytes records h. record { stands = (given bytes records h.stands.0, h.stands.1, h.stands.2); uncertain = λ none. h.uncertain (sym stays ∙ none) };
-  free = free;
-  counted = counted;
-  refusal = stays;
-}
-
-pub none_released : (front : List ℕ) (c : classic.Reading) (n : reading.Reading) → Releases (record { format = None; front = front; classic = c; ng = n }) (record { format = None; front = front; classic = c; ng = n })
-none_released front c n = record {
-  given_up = λ bytes records h. subst (HasRead (record { format = None; front = front; classic = c; ng = n }) bytes) (sym (append-nil records)) h;
-  free = refl;
-  counted = refl;
-  refusal = refl;
 }
 
 -- ---- the end

@@ -17,13 +17,13 @@ use Rattle.clock_track.specs.Search.{IsCovering}
 pub product : (a b : ℕ) → 1 ≤ a → 1 ≤ b → 1 ≤ a * b
 product a b p q = let h : a * 1 ≤ a * b = mul-le-mul_left a q in omega arith
 
-less : (w a b : ℕ) → w * a < w * b → a < b
+pub less : (w a b : ℕ) → w * a < w * b → a < b
 less w a b h = elim (cases_lt a b) [
   | inl below ↦ below
   | inr above ↦ let times : w * b ≤ w * a = mul-le-mul_left w above in absurd (omega arith)
 ]
 
-at_most : (w a b : ℕ) → 1 ≤ w → w * a ≤ w * b → a ≤ b
+pub at_most : (w a b : ℕ) → 1 ≤ w → w * a ≤ w * b → a ≤ b
 at_most w a b some h = elim (cases_lt b a) [
   | inl below ↦ let times : w * (b + 1) ≤ w * a = mul-le-mul_left w (omega arith) in absurd (omega arith)
   | inr above ↦ above

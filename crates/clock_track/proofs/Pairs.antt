@@ -7,14 +7,6 @@ use Rattle.std.proofs.lemmas.Int.{ints}
 use Rattle.clock_track.specs.declared.pair.Pair.{Pair}
 use Rattle.clock_track.specs.Pairs.{Covers, IsJoined, at_least_0, covers, is_joined, nominal, period, reach, step_den, step_num}
 
-pub at_least_0-is : (z : ℤ) → pos 0 ≤ℤ z → pos (at_least_0 z) ≡ z
-at_least_0-is (pos n) h = refl
-at_least_0-is (negsuc n) h = absurd (omega (arith, ints))
-
-pub at_least_0-none : (z : ℤ) → z ≤ℤ pos 0 → at_least_0 z ≡ 0
-at_least_0-none (pos n) h = omega (arith, ints)
-at_least_0-none (negsuc n) h = refl
-
 by_difference : (a b : ℕ) (z : ℤ) → z ≡ pos b -ℤ pos a → at_least_0 z ≡ b - a
 by_difference a b (pos n) e = omega (arith, ints)
 by_difference a b (negsuc n) e = omega (arith, ints)

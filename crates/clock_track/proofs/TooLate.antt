@@ -1,9 +1,8 @@
 -- No pair covers an instant whose later point is too late, whatever the earlier.
-use Rattle.std.proofs.Common.{◌≡◌, ℕ, ◌^◌, ◌≤◌, ◌-◌, Bool, true, false, ℤ, List, [], ◌∷◌, Option, Some, None, refl, arith}
+use Rattle.std.proofs.Common.{◌≡◌, ℕ, ◌^◌, ◌-◌, Bool, true, false, ℤ, List, [], ◌∷◌, Option, Some, None, refl, arith}
 use Rattle.std.specs.Prelude.{nat_lt, if◌then◌else◌}
 use Rattle.std.specs.List.{cons_option, filter_map}
 use Rattle.std.specs.Option.{option_or}
-use Rattle.std.proofs.lemmas.Bool.Decides.{nat_tests}
 use Rattle.std.proofs.lemmas.Int.{ints}
 use Rattle.time_unfold.specs.Stamps.{find_last}
 use Rattle.clock_track.specs.declared.clock_row.ClockRow.{ClockRow}
@@ -36,18 +35,6 @@ joined_none shift row first second rate instant after = cases (nat_lt first (2 ^
     cases true false d e = refl
     cases false b d e = refl
 
-far_none : (shift : ℤ) (row : ClockRow) (first second rate : ℕ) (instant : ℤ) → 2 ^ 62 ≤ second → kept (test rate instant) (joined_by shift row first second) ≡ None
-far_none shift row first second rate instant far = cases (nat_lt first (2 ^ 62)) (nat_lt second (2 ^ 62)) (is_joined (pair_of shift row first second)) refl
-  where
-    cases : (a b d : Bool) → nat_lt second (2 ^ 62) ≡ b
-        → kept (test rate instant) (if a then if b then if d then Some (pair_of shift row first second) else None else None else None) ≡ None
-    cases true true d e = absurd (not_below e)
-      where
-        not_below : nat_lt second (2 ^ 62) ≡ true → ⊥
-        not_below e = grind (arith, nat_tests)
-    cases true false d e = refl
-    cases false b d e = refl
-
 across_by : (shift : ℤ) (row before : ClockRow) (rate : ℕ) (instant : ℤ) → ((first : ℕ) → kept (test rate instant) (joined_by shift row first (timestamp row 0)) ≡ None)
     → kept (test rate instant) (across shift row before) ≡ None
 across_by shift row before rate instant none = cases (seems_next row before) (nat_lt 0 (timestamps before)) (nat_lt 0 (timestamps row))
@@ -57,23 +44,6 @@ across_by shift row before rate instant none = cases (seems_next row before) (na
     cases true true false = refl
     cases true false d = refl
     cases false b d = refl
-
--- a packet of no timestamps
-pub empty-none : (shift : ℤ) (row before : ClockRow) (rate : ℕ) (instant : ℤ) → timestamps row ≡ 0 → kept (test rate instant) (across shift row before) ≡ None
-empty-none shift row before rate instant none = cases (seems_next row before) (nat_lt 0 (timestamps before)) (nat_lt 0 (timestamps row)) refl
-  where
-    cases : (a b d : Bool) → nat_lt 0 (timestamps row) ≡ d → kept (test rate instant) (if a then if b then if d then joined_by shift row (timestamp before (timestamps before - 1)) (timestamp row 0) else None else None else None) ≡ None
-    cases true true true e = absurd (some e)
-      where
-        some : nat_lt 0 (timestamps row) ≡ true → ⊥
-        some e = grind (arith, nat_tests)
-    cases true true false e = refl
-    cases true false d e = refl
-    cases false b d e = refl
-
--- one whose first is no point
-pub far-none : (shift : ℤ) (row before : ClockRow) (rate : ℕ) (instant : ℤ) → 2 ^ 62 ≤ timestamp row 0 → kept (test rate instant) (across shift row before) ≡ None
-far-none shift row before rate instant far = across_by shift row before rate instant (λ first. far_none shift row first (timestamp row 0) rate instant far)
 
 -- one whose first is too late
 pub late-none : (shift : ℤ) (row before : ClockRow) (rate : ℕ) (instant : ℤ) → IsAfter (pair_of shift row (timestamp row 0) (timestamp row 0)) rate instant → kept (test rate instant) (across shift row before) ≡ None

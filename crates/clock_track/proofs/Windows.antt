@@ -2,7 +2,7 @@
 use Rattle.std.proofs.Common.{◌≡◌, ◌⊎◌, inl, inr, ℕ, ◌+◌, ◌-◌, ◌≤◌, Bool, true, false, List, [], ◌∷◌, ◌++◌, All, length, take, drop, refl, sym, ap, ◌∙◌, arith}
 use Rattle.std.specs.Prelude.{if◌then◌else◌}
 use Rattle.std.proofs.Math.Seq.{drop-append_seam}
-use Rattle.std.proofs.lemmas.List.{append-nil, drop-append-le, drop-drop, length-append, length-drop, take-append-drop, take_all}
+use Rattle.std.proofs.lemmas.List.{drop-append-le, drop-drop, length-append, length-drop, take-append-drop, take_all}
 use Rattle.std.proofs.lemmas.List.Elements.{All-drop, All-head, All-tail, filter-append, filter_passes}
 use Rattle.clock_track.specs.declared.clock_row.ClockRow.{ClockRow}
 use Rattle.clock_track.specs.Rows.{used, window}
@@ -66,16 +66,6 @@ window-more held rows row e u =
     ∙ ap (λ (l : List ClockRow). l ++ row ∷ []) (last-of-last (used rows))
     ∙ sym (last-more (used rows) row)
     ∙ ap (λ (l : List ClockRow). drop (length l - 64) l) (sym (used-one rows row u))
-
--- and after one that gives none
-pub window-same : (rows : List ClockRow) (row : ClockRow) → row.usable ≡ false → window rows ≡ window (rows ++ row ∷ [])
-window-same rows row u =
-    let none : used (rows ++ row ∷ []) ≡ used rows = filter-append (λ row. row.usable) rows (row ∷ []) ∙ ap (λ (l : List ClockRow). used rows ++ l) (single row.usable refl) ∙ append-nil (used rows) in
-    ap (λ (l : List ClockRow). drop (length l - 64) l) (sym none)
-  where
-    single : (b : Bool) → row.usable ≡ b → used (row ∷ []) ≡ []
-    single true e = absurd cc
-    single false e = rw e refl
 
 all-used : (xs : List ClockRow) → All (λ row. row.usable ≡ true) xs → used xs ≡ xs
 all-used [] all = refl

@@ -1,7 +1,7 @@
 -- The one packet that bytes spell.
-use Rattle.std.proofs.Common.{◌≡◌, ℕ, zero, suc, ◌+◌, ◌%◌, ◌<◌, ◌≤◌, Bool, true, false, not, ltb, eqb, List, [], ◌++◌, length, take, drop, None, refl, sym, ap, ◌∙◌, inl, inr, append_assoc, arith}
+use Rattle.std.proofs.Common.{◌≡◌, ℕ, zero, suc, ◌+◌, ◌%◌, ◌<◌, ◌≤◌, Bool, false, not, ltb, eqb, List, [], ◌++◌, length, take, drop, None, refl, sym, ap, ◌∙◌, inl, inr, append_assoc, arith}
 use Rattle.std.specs.Prelude.{◌||◌}
-use Rattle.std.proofs.lemmas.Bool.{cases_lt, le-ltb, lt-ltb}
+use Rattle.std.proofs.lemmas.Bool.{cases_lt, le-ltb, lt-ltb, or_parts}
 use Rattle.std.proofs.lemmas.List.{length-append, length-drop, length-take, take_all, take_at}
 use Rattle.avtp_base.specs.Octets.{AreBytes, bits, flag}
 use Rattle.avtp_base.specs.Rows.{first_row, or_else}
@@ -20,10 +20,6 @@ not_below n least e = elim (cases_lt n least) [
   | inl below ↦ let t = lt-ltb n least below in absurd cc
   | inr above ↦ above
 ]
-
-or_false : (a b : Bool) → (a || b) ≡ false → (a ≡ false) × (b ≡ false)
-or_false true b e = absurd cc
-or_false false b e = (refl, e)
 
 some_number : (n : ℕ) → eqb n 0 ≡ false → 0 < n
 some_number zero e = absurd cc
@@ -47,8 +43,8 @@ accepted_so bytes e =
     let shared = rows_passed (shared_rows bytes) rows.0 in
     let clock = rows_passed (clock_rows bytes) rows.1 in
     let stated : ℕ = bits 16 0 16 bytes in
-    let far = or_false (eqb stated 0 || not (eqb (stated % 8) 0)) (ltb (length bytes) (20 + stated)) clock.1.1.0 in
-    let points = or_false (eqb stated 0) (not (eqb (stated % 8) 0)) far.0 in
+    let far = or_parts (eqb stated 0 || not (eqb (stated % 8) 0)) (ltb (length bytes) (20 + stated)) clock.1.1.0 in
+    let points = or_parts (eqb stated 0) (not (eqb (stated % 8) 0)) far.0 in
     record {
       subtype = not_other (bits 0 0 8 bytes) crf_subtype shared.0;
       version = not_other (bits 1 1 3 bytes) 0 shared.1.0;

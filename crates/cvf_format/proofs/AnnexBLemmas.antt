@@ -1,10 +1,10 @@
 -- Where start codes and the ends of units stand.
-use Rattle.std.proofs.Common.{◌≡◌, ℕ, zero, suc, ◌+◌, ◌-◌, ◌<◌, ◌≤◌, Bool, true, false, ◌⊎◌, inl, inr, List, [], ◌∷◌, length, take, drop, get_or, leb, Option, None, Some, refl, sym, ap, subst, ◌∙◌, arith}
-use Rattle.std.specs.Prelude.{◌||◌, filter, find, unwrap_or}
+use Rattle.std.proofs.Common.{◌≡◌, ℕ, zero, suc, ◌+◌, ◌-◌, ◌<◌, ◌≤◌, true, false, inl, inr, List, [], ◌∷◌, length, take, drop, get_or, leb, Option, None, Some, refl, sym, ap, subst, ◌∙◌, arith}
+use Rattle.std.specs.Prelude.{filter, find, unwrap_or}
 use Rattle.std.specs.List.{cons_option, filter_map, last_or, range_with_len}
 use Rattle.std.specs.Option.{option_map}
 use Rattle.std.proofs.lemmas.List.{get_or-drop, length-drop, take_rest}
-use Rattle.std.proofs.lemmas.Bool.{cases_lt}
+use Rattle.std.proofs.lemmas.Bool.{cases_lt, or_left, or_right, or_parts, false_from_ne_true, or_from}
 use Rattle.std.proofs.lemmas.Bool.Decides.{leb_tells}
 use Rattle.memchr.specs.Find.{FindsNeedle, IsFirst, Nowhere, NoneBefore, OccursAt, occurs_at}
 use Rattle.memchr.proofs.lemmas.MatchLemmas.{OccursAt-true, occurs_at-true}
@@ -56,30 +56,7 @@ found_there hay needle from within r s e found =
 
 -- ---- three bytes
 
-not_true : (b : Bool) → (b ≡ true → ⊥) → b ≡ false
-not_true true never = absurd (never refl)
-not_true false never = refl
-
-pub or_left : (a b : Bool) → a ≡ true → (a || b) ≡ true
-or_left true b e = refl
-or_left false b e = absurd cc
-
-pub or_right : (a b : Bool) → b ≡ true → (a || b) ≡ true
-or_right true b e = refl
-or_right false b e = e
-
-or_neither : (a b : Bool) → a ≡ false → b ≡ false → (a || b) ≡ false
-or_neither a b p q = rw (p, q) refl
-
-or_parts : (a b : Bool) → (a || b) ≡ false → (a ≡ false) × (b ≡ false)
-or_parts true b e = absurd cc
-or_parts false b e = (refl, e)
-
-pub or_cases : (a b : Bool) → (a || b) ≡ true → (a ≡ true) ⊎ (b ≡ true)
-or_cases true b e = inl refl
-or_cases false b e = inr e
-
-three_read : (bytes : List ℕ) (at a b c : ℕ) → get_or bytes at 0 ≡ a → get_or bytes (at + 1) 0 ≡ b → get_or bytes (at + 2) 0 ≡ c
+pub three_read : (bytes : List ℕ) (at a b c : ℕ) → get_or bytes at 0 ≡ a → get_or bytes (at + 1) 0 ≡ b → get_or bytes (at + 2) 0 ≡ c
     → (j : ℕ) → j < 3 → get_or bytes (at + j) 0 ≡ get_or (a ∷ b ∷ c ∷ []) j 0
 three_read bytes at a b c p q r zero lt = let e : at + 0 ≡ at = omega arith in rw e p
 three_read bytes at a b c p q r (suc zero) lt = q
@@ -125,9 +102,9 @@ third_ends bytes at two more few = ends_by (get_or bytes (at + 2) 0) refl few
 
 third_passes : (bytes : List ℕ) (at : ℕ) → OccursAt bytes (0 ∷ 0 ∷ []) at → (at + 2 < length bytes → 1 < get_or bytes (at + 2) 0) → is_end bytes at ≡ false
 third_passes bytes at two many =
-    or_neither (occurs_at bytes start_code at) (occurs_at bytes three_zeros at)
-    (not_true (occurs_at bytes start_code at) (λ t. not_there 1 (omega arith) (OccursAt-true bytes start_code at t)))
-    (not_true (occurs_at bytes three_zeros at) (λ t. not_there 0 (omega arith) (OccursAt-true bytes three_zeros at t)))
+    or_from (occurs_at bytes start_code at) (occurs_at bytes three_zeros at)
+    (false_from_ne_true (occurs_at bytes start_code at) (λ t. not_there 1 (omega arith) (OccursAt-true bytes start_code at t)))
+    (false_from_ne_true (occurs_at bytes three_zeros at) (λ t. not_there 0 (omega arith) (OccursAt-true bytes three_zeros at t)))
   where
     not_there : (c : ℕ) → c ≤ 1 → OccursAt bytes (0 ∷ 0 ∷ c ∷ []) at → ⊥
     not_there c few o = let third : get_or bytes (at + 2) 0 ≡ c = o.reads 2 (omega arith) in let fits : at + 2 < length bytes = omega (arith, o.fits) in let more = many fits in absurd (omega arith)
@@ -135,9 +112,9 @@ third_passes bytes at two many =
 -- where no two zeros stand, no unit ends
 passes_without : (bytes : List ℕ) (at : ℕ) → ¬ OccursAt bytes (0 ∷ 0 ∷ []) at → is_end bytes at ≡ false
 passes_without bytes at none =
-    or_neither (occurs_at bytes start_code at) (occurs_at bytes three_zeros at)
-    (not_true (occurs_at bytes start_code at) (λ t. none (two_of_three bytes at 1 (OccursAt-true bytes start_code at t))))
-    (not_true (occurs_at bytes three_zeros at) (λ t. none (two_of_three bytes at 0 (OccursAt-true bytes three_zeros at t))))
+    or_from (occurs_at bytes start_code at) (occurs_at bytes three_zeros at)
+    (false_from_ne_true (occurs_at bytes start_code at) (λ t. none (two_of_three bytes at 1 (OccursAt-true bytes start_code at t))))
+    (false_from_ne_true (occurs_at bytes three_zeros at) (λ t. none (two_of_three bytes at 0 (OccursAt-true bytes three_zeros at t))))
 
 pub none_ends : (bytes : List ℕ) (low high : ℕ) → Nowhere (OccursAt bytes (0 ∷ 0 ∷ [])) low high → NonePasses (is_end bytes) low high
 none_ends bytes low high none k from below = passes_without bytes k (none k from below)
@@ -199,7 +176,7 @@ units_there bytes code within there =
     ∙ ap (λ (xs : List ℕ). filter_map (unit_behind bytes) xs) (filter_there (is_start_code bytes) (length bytes - (code + 1)) code there)
 
 not_code : (bytes : List ℕ) (k at j : ℕ) → OccursAt bytes start_code at → k + j ≡ at + 2 → j < 2 → is_start_code bytes k ≡ false
-not_code bytes k at j code e few = not_true (is_start_code bytes k) (λ t.
+not_code bytes k at j code e few = false_from_ne_true (is_start_code bytes k) (λ t.
     let here : OccursAt bytes start_code k = OccursAt-true bytes start_code k t in
     let one : get_or bytes (at + 2) 0 ≡ 1 = code.reads 2 (omega arith) in
     zero_there j few here e one)
@@ -219,7 +196,7 @@ code_apart bytes code there k from below =
     ]
 
 none_codes : (bytes : List ℕ) (low high : ℕ) → Nowhere (OccursAt bytes start_code) low high → NonePasses (is_start_code bytes) low high
-none_codes bytes low high none k from below = not_true (is_start_code bytes k) (λ t. none k from below (OccursAt-true bytes start_code k t))
+none_codes bytes low high none k from below = false_from_ne_true (is_start_code bytes k) (λ t. none k from below (OccursAt-true bytes start_code k t))
 
 pub codes_none : (bytes : List ℕ) (at : ℕ) → at ≤ length bytes → Nowhere (OccursAt bytes start_code) at (length bytes + 1) → units_from bytes at ≡ []
 codes_none bytes at within none = units_none bytes at within (none_codes bytes at (length bytes) (λ k low high. none k low (omega arith)))

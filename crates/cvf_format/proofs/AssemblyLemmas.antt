@@ -4,6 +4,7 @@ use Rattle.std.specs.Prelude.{◌&&◌, not, nat_le, nat_lt, if◌then◌else◌
 use Rattle.std.proofs.lemmas.List.{map-append, length-map}
 use Rattle.std.proofs.lemmas.Bool.Decides.{leb_tells}
 use Rattle.std.proofs.Math.Dec.{eqb-suc-zero}
+use Rattle.std.proofs.Math.Bool.{and-false}
 use Rattle.cvf_format.specs.declared.cvf.NalPart.{NalPart}
 use Rattle.cvf_format.specs.declared.cvf.NalPart.TheVariants.{Single, First, Middle, Last}
 use Rattle.cvf_format.specs.declared.piece.Mark.{Mark}
@@ -69,7 +70,7 @@ within_lengths r e = (le-of _ _ (and_left _ _ e), le-of _ _ (and_right _ _ e))
     le-of : (a b : ℕ) → nat_le a b ≡ true → a ≤ b
     le-of a b e = elim (leb_tells a b) [ inl few ↦ few.1 | inr many ↦ absurd cc ]
 
-within_so : (r : List Fragment) → length (unit_of r) ≤ longest_unit → length r ≤ most_fragments → is_within r ≡ true
+pub within_so : (r : List Fragment) → length (unit_of r) ≤ longest_unit → length r ≤ most_fragments → is_within r ≡ true
 unfolding is_within
 within_so r a b = rw (le-true _ _ a, le-true _ _ b) refl
   where
@@ -102,10 +103,6 @@ record Overlong (r : List Fragment) : Type 0 where
   why : reason_of r ≡ Broken
   piece : piece_of r ≡ variant.Lost Broken
 
-pub and_false : (a : Bool) → (a && false) ≡ false
-and_false true = refl
-and_false false = refl
-
 overlong_none : Overlong []
 overlong_none = record { waits = waits_none; apart = joined_none; unit = whole_none; why = refl; piece = refl }
 
@@ -115,7 +112,7 @@ overlong g gs f e =
     let front : before_last (g ∷ (gs ++ f ∷ [])) ≡ g ∷ gs = before_more (g ∷ gs) f in
     record {
       waits = rw long refl;
-      apart = rw long (and_false (nat_lt 1 (length (g ∷ (gs ++ f ∷ [])))));
+      apart = rw long (and-false (nat_lt 1 (length (g ∷ (gs ++ f ∷ [])))));
       unit = rw long refl;
       why = rw (long, front, e) refl;
       piece = rw (long, front, e) refl;
@@ -134,7 +131,7 @@ just_long g gs f e long =
     let front : before_last (g ∷ (gs ++ f ∷ [])) ≡ g ∷ gs = before_more (g ∷ gs) f in
     record {
       waits = rw long refl;
-      apart = rw long (and_false (nat_lt 1 (length (g ∷ (gs ++ f ∷ [])))));
+      apart = rw long (and-false (nat_lt 1 (length (g ∷ (gs ++ f ∷ [])))));
       unit = rw long refl;
       why = rw (long, front, e) refl;
       piece = rw (long, front, e) refl;
@@ -188,7 +185,7 @@ begins_not_goes Middle e = absurd cc
 begins_not_goes Last e = absurd cc
 
 not_continued : (g : Fragment) (gs : List Fragment) (f : Fragment) → goes_on f.part ≡ false → continues g gs f ≡ false
-not_continued g gs f e = rw (e, and_false (not (completes (last_of g gs).part))) refl
+not_continued g gs f e = rw (e, and-false (not (completes (last_of g gs).part))) refl
 
 step_begins : (r : List Fragment) (f : Fragment) → begins f.part ≡ true → step r f ≡ f ∷ []
 step_begins [] f e = rw e refl

@@ -71,14 +71,6 @@ fragment_so v bytes ((reference, (kind, _)), ((start, (end, (_, (type, _)))), _)
 
 -- ---- what the rows say
 
-both_false : (a b : Bool) → (a || b) ≡ false → (a ≡ false) × (b ≡ false)
-both_false true b e = absurd cc
-both_false false b e = (refl, e)
-
-either_true : (a b : Bool) → (a || b) ≡ true → a ≡ false → b ≡ true
-either_true true b e f = absurd cc
-either_true false b e f = e
-
 -- what is known of bytes that no row refuses
 record Accepted (bytes : List ℕ) : Type 0 where
   header : header_refusal bytes ≡ None
@@ -333,7 +325,7 @@ cvf_laid First = fragment_laid
 cvf_laid Middle = fragment_laid
 cvf_laid Last = fragment_laid
 
-length_of_headers : (part : NalPart) (v : Cvf) → length (spelling (layout_of part) v) ≡ header_size part
+pub length_of_headers : (part : NalPart) (v : Cvf) → length (spelling (layout_of part) v) ≡ header_size part
 length_of_headers Single v = refl
 length_of_headers First v = refl
 length_of_headers Middle v = refl

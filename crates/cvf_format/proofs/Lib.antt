@@ -1,9 +1,9 @@
-mod AnnexBLemmas
+pub mod AnnexBLemmas
 pub mod AssemblyLemmas
 pub mod CvfLemmas
 mod NalLemmas
 mod NextUnit
-mod PlaceLemmas
+pub mod PlaceLemmas
 pub mod RuleLemmas
 pub mod SettledLemmas
 pub mod StretchLemmas

@@ -7,6 +7,7 @@ use Rattle.avtp_base.proofs.BitLemmas.{bits-below}
 use Rattle.cvf_format.specs.declared.cvf.NalPart.{NalPart}
 use Rattle.cvf_format.specs.declared.cvf.NalPart.TheVariants.{First, Middle, Last}
 use Rattle.cvf_format.specs.Cvf.{cvf_layout, fragment_headers, sets_reserved}
+use Rattle.avtp_base.proofs.LayoutLemmas.{unset-first}
 
 pub joined : (at : ℕ) (xs : List ℕ) → bit_or (bits 28 0 3 xs * 32 % 256) (bits at 3 5 xs) ≡ bits 28 0 3 xs * 32 + bits at 3 5 xs
 joined at xs =
@@ -15,15 +16,11 @@ joined at xs =
     let whole : bits 28 0 3 xs * 32 % 256 ≡ bits 28 0 3 xs * 2 ^ 5 = omega arith in
     rw whole (or_shifted (bits 28 0 3 xs) 5 (bits at 3 5 xs) b)
 
-unset_first : (zero_there rest : Bool) → cond zero_there rest true ≡ false → (zero_there ≡ true) × (rest ≡ false)
-unset_first true rest e = (refl, e)
-unset_first false rest e = absurd cc
-
 -- where none of the first ranges has a bit that is set, the others decide
 unset_before : (xs ys : List Range) (bytes : List ℕ) → any_set xs bytes ≡ false → any_set (xs ++ ys) bytes ≡ any_set ys bytes
 unset_before [] ys bytes unset = refl
 unset_before (x ∷ xs) ys bytes unset =
-    let parts = unset_first (eqb (bits x.at x.first x.width bytes) 0) (any_set xs bytes) unset in
+    let parts = unset-first (eqb (bits x.at x.first x.width bytes) 0) (any_set xs bytes) unset in
     rw (parts.0) (unset_before xs ys bytes parts.1)
 
 not_unset : (unset : Bool) → cond unset false true ≡ not unset

@@ -1,12 +1,13 @@
 -- The test of a stretch tells what the rules say.
 use Rattle.std.proofs.Common.{◌≡◌, ◌+◌, ◌%◌, ◌≤◌, Bool, true, false, ◌⊎◌, inl, inr, ℤ, pos, List, [], ◌∷◌, ◌++◌, length, Option, None, Some, refl, sym, ap, subst, ◌∙◌, arith, append_assoc, eq-eqb, eqb-true}
-use Rattle.std.specs.Prelude.{◌&&◌, not, if◌then◌else◌, map}
+use Rattle.std.specs.Prelude.{◌&&◌, if◌then◌else◌, map}
 use Rattle.std.specs.List.{All, list_any, list_all}
 use Rattle.std.specs.Option.{IfSome}
 use Rattle.std.specs.Ordering.{int_eq}
 use Rattle.std.proofs.lemmas.List.Elements.{All-cons, All-head, All-tail}
 use Rattle.std.proofs.lemmas.List.{map-append}
 use Rattle.std.proofs.lemmas.Bool.Decides.{Decides-int_eq}
+use Rattle.std.proofs.lemmas.Bool.{not-true}
 use Rattle.cvf_format.specs.Stretches.{Fragment, Event, packet, cut, is_cut, after_cuts, begins, completes, follows, are_linked, stamps, all_equal, is_stretch, stretch_of, last_stretch, sequence_numbers, is_within, is_complete, waiting, held, whole_of, most_fragments, longest_unit}
 use Rattle.cvf_format.specs.StretchRules.{GoesOn, IsStretch, EndsWith}
 use Rattle.cvf_format.proofs.StretchLemmas.{and_left, and_right}
@@ -15,16 +16,12 @@ use Rattle.cvf_format.proofs.SettledLemmas.{one_stretch}
 
 -- ---- a packet and the next
 
-not_true : (a : Bool) → not a ≡ true → a ≡ false
-not_true true e = absurd cc
-not_true false e = refl
-
 goes_on_so : (x y : Fragment) → follows x y ≡ true → GoesOn x y
 goes_on_so x y e =
     let three = and_left _ _ e in
     let two = and_left _ _ three in
     record {
-      incomplete = not_true (completes x.part) (and_left _ _ two);
+      incomplete = not-true (completes x.part) (and_left _ _ two);
       part = and_right _ _ two;
       nal = eqb-true y.nal x.nal (and_right _ _ three);
       seq = eqb-true y.mark.seq ((x.mark.seq + 1) % sequence_numbers) (and_right _ _ e);
@@ -92,7 +89,7 @@ all_have t (f ∷ fs) e = by (all_have t fs) f.instant refl
         let same : t ≡ u = (Decides-int_eq t u).0 (and_left _ _ all) in
         All-cons (HasInstant t) f fs (head_has t f (Some u) is (sym same)) (more (and_right _ _ all))
 
-all_are : (t : ℤ) (fs : List Fragment) → All (HasInstant t) fs → list_all (int_eq t) (stamps fs) ≡ true
+pub all_are : (t : ℤ) (fs : List Fragment) → All (HasInstant t) fs → list_all (int_eq t) (stamps fs) ≡ true
 all_are t [] a = refl
 all_are t (f ∷ fs) a = by (all_are t fs (All-tail (HasInstant t) f fs a)) f.instant refl
   where
@@ -103,7 +100,7 @@ all_are t (f ∷ fs) a = by (all_are t fs (All-tail (HasInstant t) f fs a)) f.in
         let equal : int_eq t u ≡ true = (Decides-int_eq t u).1 (sym same) in
         ap (list_all (int_eq t)) (stamps_first f fs (Some u) is) ∙ rw (equal, more) refl
 
-equal_so : (t : ℤ) (ts : List ℤ) → list_all (int_eq t) ts ≡ true → all_equal ts ≡ true
+pub equal_so : (t : ℤ) (ts : List ℤ) → list_all (int_eq t) ts ≡ true → all_equal ts ≡ true
 equal_so t [] e = refl
 equal_so t (u ∷ us) e =
     let same : t ≡ u = (Decides-int_eq t u).0 (and_left (int_eq t u) (list_all (int_eq t) us) e) in

@@ -1,11 +1,12 @@
 -- Each packet is settled once, and the stretch at the end of a list is the only one.
 use Rattle.std.proofs.Common.{◌≡◌, Bool, true, false, List, [], ◌∷◌, ◌++◌, length, refl, sym, ap, ◌∙◌, append_assoc}
 use Rattle.std.specs.Prelude.{not, nat_lt, map}
+use Rattle.std.proofs.Math.Bool.{and-false}
 use Rattle.cvf_format.specs.Stretches.{Fragment, Event, packet, cut, after_cuts, begins, goes_on, completes, follows, are_linked, is_stretch, stretch_of, last_stretch, is_within, is_complete, before_last, waiting, held, piece_of, is_joined}
 use Rattle.cvf_format.specs.Assembly.{last_of}
 use Rattle.cvf_format.specs.Settled.{packets, settled, settled_as, settled_by}
 use Rattle.cvf_format.proofs.StretchLemmas.{append_none, after_packet, and_left, continues, alone, step, last_packet, last_cut, before_more, complete_last}
-use Rattle.cvf_format.proofs.AssemblyLemmas.{and_false, begins_not_goes, joined_none, lost_of, some_more, stays_long, waits_none}
+use Rattle.cvf_format.proofs.AssemblyLemmas.{begins_not_goes, joined_none, lost_of, some_more, stays_long, waits_none}
 
 -- ---- one event
 
@@ -53,7 +54,7 @@ adds_more g gs f goes = by (is_within (g ∷ (gs ++ f ∷ []))) (is_complete (g 
     by : (w c : Bool) → is_within (g ∷ (gs ++ f ∷ [])) ≡ w → is_complete (g ∷ (gs ++ f ∷ [])) ≡ c → AddsUp (g ∷ gs) f (g ∷ (gs ++ f ∷ []))
     by false c p q =
         adds_lost (g ∷ gs) f (g ∷ (gs ++ f ∷ []))
-        (rw p (and_false (nat_lt 1 (length (g ∷ (gs ++ f ∷ [])))))) (lost_itself g (gs ++ f ∷ []) f p) (rw p refl)
+        (rw p (and-false (nat_lt 1 (length (g ∷ (gs ++ f ∷ [])))))) (lost_itself g (gs ++ f ∷ []) f p) (rw p refl)
     by true true p q = rw (was_waiting g gs f goes p, some_more g gs f, p, q) (sym (append_none (g ∷ (gs ++ f ∷ []))))
     by true false p q = rw (was_waiting g gs f goes p, some_more g gs f, p, q) refl
 
@@ -111,8 +112,8 @@ ends_more events (f ∷ rest) =
 
 -- nothing goes on with a packet that begins a unit
 not_linked : (x : Fragment) (xs : List Fragment) (f : Fragment) (rest : List Fragment) → goes_on f.part ≡ false → are_linked x (xs ++ f ∷ rest) ≡ false
-not_linked x [] f rest e = rw (e, and_false (not (completes x.part))) refl
-not_linked x (y ∷ ys) f rest e = rw (not_linked y ys f rest e) (and_false (follows x y))
+not_linked x [] f rest e = rw (e, and-false (not (completes x.part))) refl
+not_linked x (y ∷ ys) f rest e = rw (not_linked y ys f rest e) (and-false (follows x y))
 
 stretch_begins : (f : Fragment) (rest : List Fragment) → is_stretch (f ∷ rest) ≡ true → begins f.part ≡ true
 unfolding is_stretch
@@ -120,7 +121,7 @@ stretch_begins f rest e = and_left _ _ (and_left _ _ e)
 
 not_begun : (x : Fragment) (xs : List Fragment) (f : Fragment) (rest : List Fragment) → begins f.part ≡ true → is_stretch (x ∷ (xs ++ f ∷ rest)) ≡ false
 unfolding is_stretch
-not_begun x xs f rest e = rw (not_linked x xs f rest (begins_not_goes f.part e), and_false (begins x.part)) refl
+not_begun x xs f rest e = rw (not_linked x xs f rest (begins_not_goes f.part e), and-false (begins x.part)) refl
 
 found_at_the_end : (xs : List Fragment) (f : Fragment) (rest : List Fragment) → is_stretch (f ∷ rest) ≡ true → stretch_of (xs ++ f ∷ rest) ≡ f ∷ rest
 found_at_the_end [] f rest e = rw e refl

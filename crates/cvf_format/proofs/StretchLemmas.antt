@@ -6,16 +6,13 @@ use Rattle.std.specs.Ordering.{int_eq}
 use Rattle.std.proofs.lemmas.List.Elements.{filter_map-append}
 use Rattle.std.proofs.lemmas.Grind.{flat_map-append}
 use Rattle.std.proofs.Math.Seq.{take-append_seam}
+use Rattle.std.proofs.Math.Bool.{and-true}
 use Rattle.cvf_format.specs.declared.cvf.NalPart.{NalPart}
 use Rattle.cvf_format.specs.declared.cvf.NalPart.TheVariants.{Single, First, Middle, Last}
 use Rattle.cvf_format.specs.Stretches.{Fragment, Event, packet, cut, is_cut, after_cuts, begins, goes_on, completes, follows, are_linked, stamps, all_equal, is_stretch, stretch_of, last_stretch, unit_of, is_complete, before_last}
 use Rattle.cvf_format.specs.Assembly.{agree, first_stamp, last_of}
 
 -- ---- Booleans
-
-pub and_true : (a : Bool) → (a && true) ≡ a
-and_true true = refl
-and_true false = refl
 
 and_assoc : (a b c : Bool) → (a && (b && c)) ≡ ((a && b) && c)
 and_assoc true b c = refl
@@ -65,11 +62,11 @@ after_cut (packet g ∷ events) = rw (any_cut events) (after_cut events)
 -- ---- one more fragment
 
 linked_more : (f : Fragment) (rest : List Fragment) (g : Fragment) → are_linked f (rest ++ g ∷ []) ≡ (are_linked f rest && follows (last_of f rest) g)
-linked_more f [] g = and_true (follows f g)
+linked_more f [] g = and-true (follows f g)
 linked_more f (h ∷ rest) g = rw (linked_more h rest g) (and_assoc (follows f h) (are_linked h rest) (follows (last_of h rest) g))
 
 all_more : (t : ℤ) (ts : List ℤ) (u : ℤ) → list_all (int_eq t) (ts ++ u ∷ []) ≡ (list_all (int_eq t) ts && int_eq t u)
-all_more t [] u = and_true (int_eq t u)
+all_more t [] u = and-true (int_eq t u)
 all_more t (v ∷ ts) u = rw (all_more t ts u) (and_assoc (int_eq t v) (list_all (int_eq t) ts) (int_eq t u))
 
 equal_more : (ts : List ℤ) (u : ℤ) → all_equal (ts ++ u ∷ []) ≡ (all_equal ts && agree (first_stamp ts) (Some u))
@@ -88,7 +85,7 @@ pub stamps_more : (fs : List Fragment) (g : Fragment) → stamps (fs ++ g ∷ []
 stamps_more fs g = filter_map-append (λ (f : Fragment). f.instant) fs (g ∷ [])
 
 equal_stamps : (ts : List ℤ) (g : Fragment) (t : Option ℤ) → g.instant ≡ t → all_equal (ts ++ stamps (g ∷ [])) ≡ (all_equal ts && agree (first_stamp ts) g.instant)
-equal_stamps ts g None e = rw (e, append_none ts, agree_none (first_stamp ts), and_true (all_equal ts)) refl
+equal_stamps ts g None e = rw (e, append_none ts, agree_none (first_stamp ts), and-true (all_equal ts)) refl
 equal_stamps ts g (Some t) e = rw e (equal_more ts t)
 
 -- the fragment goes on with the stretch
@@ -109,7 +106,7 @@ one_equal g (Some t) e = rw e refl
 
 stretch_one : (g : Fragment) → is_stretch (g ∷ []) ≡ begins g.part
 unfolding is_stretch
-stretch_one g = rw (one_equal g g.instant refl) (and_true (begins g.part && true) ∙ and_true (begins g.part))
+stretch_one g = rw (one_equal g g.instant refl) (and-true (begins g.part && true) ∙ and-true (begins g.part))
 
 goes_not_begins : (p : NalPart) → goes_on p ≡ true → begins p ≡ false
 goes_not_begins Single e = absurd cc

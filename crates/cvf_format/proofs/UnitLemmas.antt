@@ -3,7 +3,7 @@ use Rattle.std.proofs.Common.{◌≡◌, ◌≢◌, ℕ, zero, suc, ◌+◌, ◌
 use Rattle.std.specs.Prelude.{filter, Contains, AllPairs, All}
 use Rattle.std.specs.List.{cons_option, filter_map, last_or, range_with_len}
 use Rattle.std.specs.Option.{option_map}
-use Rattle.std.proofs.lemmas.Bool.{cases_lt}
+use Rattle.std.proofs.lemmas.Bool.{cases_lt, or_left, or_right, or_cases}
 use Rattle.std.proofs.lemmas.List.Elements.{All-contains_itself, All-weaker}
 use Rattle.std.proofs.lemmas.List.Kept.{AllPairs-cons}
 use Rattle.memchr.specs.Find.{OccursAt, occurs_at}
@@ -11,7 +11,7 @@ use Rattle.memchr.proofs.lemmas.MatchLemmas.{OccursAt-true, occurs_at-true}
 use Rattle.avtp_base.proofs.RowLemmas.{not_other}
 use Rattle.cvf_format.specs.AnnexB.{AreUnits, IsEnd, IsUnit, end_behind, is_end, is_other_byte, is_start_code, nal_units, places, start_code, three_zeros, unit_behind, units_from}
 use Rattle.cvf_format.proofs.PlaceLemmas.{last_place, last_place_known, other_byte}
-use Rattle.cvf_format.proofs.AnnexBLemmas.{code_apart, end_first, or_cases, or_left, or_right, unit_is}
+use Rattle.cvf_format.proofs.AnnexBLemmas.{code_apart, end_first, unit_is}
 
 -- ---- members of a list
 

@@ -1,9 +1,9 @@
 -- The NAL units of units after start codes.
 use Rattle.std.proofs.Common.{◌≡◌, ◌≢◌, ℕ, zero, suc, ◌+◌, ◌-◌, ◌<◌, ◌≤◌, Bool, true, false, cond, eqb, inl, inr, List, [], ◌∷◌, ◌++◌, length, map, drop, get_or, Option, None, Some, refl, sym, ap, ap₂, subst, ◌∙◌, arith, length-append, length-drop}
-use Rattle.std.specs.Prelude.{◌||◌, filter, find, flat_map, unwrap_or, All}
+use Rattle.std.specs.Prelude.{filter, find, flat_map, unwrap_or, All}
 use Rattle.std.specs.List.{cons_option, filter_map, last_or, range_with_len, slice_range}
 use Rattle.std.specs.Option.{option_map}
-use Rattle.std.proofs.lemmas.Bool.{cases_lt, ne_eqb}
+use Rattle.std.proofs.lemmas.Bool.{cases_lt, ne_eqb, or_right}
 use Rattle.std.proofs.lemmas.List.{drop-drop, get_or-drop, get_or_append_left}
 use Rattle.std.proofs.lemmas.List.Elements.{All-head, All-tail}
 use Rattle.std.proofs.Math.Seq.{take-append_seam}
@@ -12,27 +12,10 @@ use Rattle.memchr.proofs.lemmas.MatchLemmas.{OccursAt-true, occurs_at-true}
 use Rattle.sample_schedule.specs.Batches.{Presented}
 use Rattle.cvf_format.specs.AnnexB.{end_behind, is_end, is_other_byte, is_start_code, start_code, three_zeros, unit_behind, units_from}
 use Rattle.device_rack.specs.Laws.{IsCarried}
+use Rattle.cvf_format.proofs.PlaceLemmas.{filter_skip, find_skip, NonePasses}
+use Rattle.cvf_format.proofs.AnnexBLemmas.{three_read}
 
 -- ---- places that pass no test are passed over
-
-abbrev NonePasses : (ℕ → Bool) → ℕ → ℕ → Type 0
-NonePasses test low high = (k : ℕ) → low ≤ k → k < high → test k ≡ false
-
-filter_skip : (test : ℕ → Bool) (m n a b : ℕ) → a + m ≡ b → NonePasses test a b → filter test (range_with_len a (m + n)) ≡ filter test (range_with_len b n)
-filter_skip test zero n a b e none = let here : a ≡ b = omega arith in let all : 0 + n ≡ n = omega arith in rw (here, all) refl
-filter_skip test (suc m) n a b e none =
-    let count : suc m + n ≡ suc (m + n) = omega arith in
-    let first : test a ≡ false = none a (omega arith) (omega arith) in
-    ap (λ (k : ℕ). filter test (range_with_len a k)) count
-    ∙ rw first (filter_skip test m n (a + 1) b (omega arith) (λ k low high. none k (omega arith) high))
-
-find_skip : (test : ℕ → Bool) (m n a b : ℕ) → a + m ≡ b → NonePasses test a b → find test (range_with_len a (m + n)) ≡ find test (range_with_len b n)
-find_skip test zero n a b e none = let here : a ≡ b = omega arith in let all : 0 + n ≡ n = omega arith in rw (here, all) refl
-find_skip test (suc m) n a b e none =
-    let count : suc m + n ≡ suc (m + n) = omega arith in
-    let first : test a ≡ false = none a (omega arith) (omega arith) in
-    ap (λ (k : ℕ). find test (range_with_len a k)) count
-    ∙ rw first (find_skip test m n (a + 1) b (omega arith) (λ k low high. none k (omega arith) high))
 
 -- the last place that passes is the last one
 last_passes : (test : ℕ → Bool) (m a : ℕ) (o : Option ℕ) → test (a + m) ≡ true → last_or o (filter test (range_with_len a (suc m))) ≡ Some (a + m)
@@ -55,17 +38,6 @@ not_there bytes needle k never = by (occurs_at bytes needle k) refl
     by : (b : Bool) → occurs_at bytes needle k ≡ b → occurs_at bytes needle k ≡ false
     by true t = absurd (never (OccursAt-true bytes needle k t))
     by false f = f
-
-or_right : (a b : Bool) → b ≡ true → (a || b) ≡ true
-or_right true b e = refl
-or_right false b e = e
-
-three_read : (bytes : List ℕ) (at a b c : ℕ) → get_or bytes at 0 ≡ a → get_or bytes (at + 1) 0 ≡ b → get_or bytes (at + 2) 0 ≡ c
-    → (j : ℕ) → j < 3 → get_or bytes (at + j) 0 ≡ get_or (a ∷ b ∷ c ∷ []) j 0
-three_read bytes at a b c p q r zero lt = let e : at + 0 ≡ at = omega arith in rw e p
-three_read bytes at a b c p q r (suc zero) lt = q
-three_read bytes at a b c p q r (suc (suc zero)) lt = r
-three_read bytes at a b c p q r (suc (suc (suc j))) lt = absurd (omega arith)
 
 -- Where the bytes of a unit stand, neither a start code nor three zeros begin, as its last byte is not zero.
 module _ (bytes unit rest : List ℕ) (at : ℕ) (carried : IsCarried unit) (stands : drop at bytes ≡ unit ++ rest) where

@@ -169,10 +169,6 @@ module _ {Kind : Type 0} {Value : Kind → Type 0} (took : DynBox Kind Global Va
       by false was true is first rest = absurd (true≢false (sym is ∙ ap (λ (place : Place Kind Value). place.live) first ∙ was))
       by false was false is first rest = rest ∙ first
 
-  pub hands_none : (places : List (Place Kind Value)) → HandsAll took faults failing [] places places
-  unfolding HandsAll
-  hands_none places = refl
-
   pub hands_one : (shown : Shown) (before after : List (Place Kind Value)) → AllZip (IsHanded took faults failing shown) before after → HandsAll took faults failing (shown ∷ []) before after
   unfolding HandsAll
   hands_one shown before after handed = (after, handed, refl)

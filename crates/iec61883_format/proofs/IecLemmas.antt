@@ -1,15 +1,15 @@
 -- The one packet that bytes spell.
 use Rattle.std.proofs.Common.{◌≡◌, ℕ, zero, suc, ◌+◌, ◌-◌, ◌*◌, ◌/◌, ◌%◌, ◌^◌, ◌<◌, ◌≤◌, Bool, true, false, not, ltb, eqb, List, [], ◌∷◌, ◌++◌, length, take, drop, None, refl, sym, ap, ◌∙◌, inl, inr, append_assoc, arith}
-use Rattle.std.specs.Prelude.{◌&&◌, ◌||◌}
+use Rattle.std.specs.Prelude.{◌&&◌}
 use Rattle.std.proofs.Math.Nat.{mul-div_cancel, mul-mod_left}
-use Rattle.std.proofs.lemmas.Bool.{cases_lt, le-ltb, lt-ltb}
+use Rattle.std.proofs.lemmas.Bool.{cases_lt, le-ltb, lt-ltb, or_parts}
 use Rattle.std.proofs.lemmas.Bool.Decides.{eqb_tells}
 use Rattle.std.proofs.lemmas.List.{length-append, length-drop, length-take, take_all, take_at}
 use Rattle.std.proofs.lemmas.Nat.{div-add-mod'}
-use Rattle.avtp_base.specs.Octets.{AreBytes, bits, flag}
+use Rattle.avtp_base.specs.Octets.{AreBytes, bits}
 use Rattle.avtp_base.specs.Rows.{first_row, or_else}
 use Rattle.avtp_base.specs.Layout.{Spells, Fits, spelling, first_short}
-use Rattle.avtp_base.proofs.BitLemmas.{bit_shown, bits-below, flag-below}
+use Rattle.avtp_base.proofs.BitLemmas.{bit_shown, bits-below}
 use Rattle.avtp_base.proofs.RowLemmas.{or_else-none, rows_passed, passed_rows, not_other, or_else-accepted, same_not_other, unequal}
 use Rattle.avtp_base.proofs.HoldLemmas.{held_spells, is_plain, spelled_holds}
 use Rattle.avtp_base.proofs.OnlySpelling.{only_spelling}
@@ -94,10 +94,6 @@ record Accepted (bytes : List ℕ) : Type 0 where
   fdf : IsFdf (bits 29 0 8 bytes)
   multiple : stated_data bytes % stated_block bytes ≡ 0
 
-or_false : (a b : Bool) → (a || b) ≡ false → (a ≡ false) × (b ≡ false)
-or_false true b e = absurd cc
-or_false false b e = (refl, e)
-
 not_below : (n least : ℕ) → ltb n least ≡ false → least ≤ n
 not_below n least e = elim (cases_lt n least) [
   | inl below ↦ let t = lt-ltb n least below in absurd cc
@@ -123,7 +119,7 @@ accepted_so bytes e =
     let shared = rows_passed (subtype_row iec_subtype bytes ∷ version_row bytes ∷ []) start.1 in
     let carrier = rows_passed (carrier_rows bytes) carried.0 in
     let stated : ℕ = bits 20 0 16 bytes in
-    let reaches = or_false (ltb stated 8) (ltb (length bytes) (24 + stated)) carrier.1.0 in
+    let reaches = or_parts (ltb stated 8) (ltb (length bytes) (24 + stated)) carrier.1.0 in
     let first = rows_passed (first_quadlet_rows bytes) quadlets.0 in
     let second = rows_passed (second_quadlet_rows bytes) rest.0 in
     let blocks = rows_passed (block_rows bytes) rest.1 in
@@ -412,10 +408,6 @@ iec_again v rest whole fits =
 
 -- ---- the bytes of the format's own bits
 
-fdf-below : (fdf : ℕ) → IsFdf fdf → fdf < 256
-fdf-below fdf (inl rate) = omega arith
-fdf-below fdf (inr none) = omega arith
-
 pub cip_fits : (c : Cip) → c.sid < 2 ^ 6 → c.dbs ≤ 256 → c.dbc < 256 → c.fdf < 256 → c.syt < 65536 → Fits (cip_layout (λ (c : Cip). c)) c
 cip_fits c sid dbs dbc fdf syt = (
   (omega arith, (sid, tt)),
@@ -443,19 +435,6 @@ fits_whole v gv info flags whole e (subtype, ((sv, (version, (mr, (_, tv)))), (s
     (seq, (tu, (id, (timestamp, ((rw (← e) gateway, tt), (stated, ((omega arith, (whole.channel, tt)), ((whole.tcode, (whole.sy, tt)), c)))))))),
   ),
 )
-
-pub same_spelling : (v : Iec) (gv flags : ℕ) → IsWritableIec v → gv ≡ v.header.format_bits % 2
-    → flags ≡ cip_tag * 2 ^ 14 + v.channel * 2 ^ 8 + v.tcode * 2 ^ 4 + v.sy
-    → spelling (filled_layout gv v.gateway_info flags) v.header ++ spelling (cip_layout (λ (c : Cip). c)) v.cip ≡ spelling iec_layout v
-same_spelling v gv flags whole gv_is flags_is =
-    let sv = flag-below v.header.sv in
-    let mr = flag-below v.header.mr in
-    let tv = flag-below v.header.tv in
-    let a : ((((flag v.header.sv * 8 + 0) * 2 + flag v.header.mr) * 4 + gv) * 2 + flag v.header.tv) % 256
-    ≡ (((((flag v.header.sv * 8 + 0) * 2 + flag v.header.mr) * 2 + 0) * 2 + v.header.format_bits % 2) * 2 + flag v.header.tv) % 256 = omega arith in
-    let b : flags / 256 % 256 ≡ (1 * 64 + v.channel) % 256 = omega (arith, whole.channel, whole.tcode, whole.sy) in
-    let c : flags % 256 ≡ (v.tcode * 16 + v.sy) % 256 = omega (arith, whole.channel, whole.tcode, whole.sy) in
-    rw (a, b, c) refl
 
 -- ---- bytes without a reserved bit and without trail are the spelling
 

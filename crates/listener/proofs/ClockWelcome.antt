@@ -1,5 +1,5 @@
 -- With a clock, a packet that two points of the clock before it cover is one that must be presented.
-use Rattle.std.proofs.Common.{◌≡◌, ℕ, suc, ◌+◌, ◌-◌, ◌%◌, ◌^◌, ◌<◌, ◌≤◌, Bool, true, false, ℤ, pos, ◌+ℤ◌, ◌≤ℤ◌, List, [], ◌∷◌, ◌++◌, length, take, Option, Some, None, is_some, refl, sym, ap, ◌∙◌, subst, eq-eqb, arith}
+use Rattle.std.proofs.Common.{◌≡◌, ℕ, suc, ◌+◌, ◌-◌, ◌%◌, ◌^◌, ◌<◌, ◌≤◌, Bool, true, ℤ, pos, ◌+ℤ◌, ◌≤ℤ◌, List, [], ◌∷◌, ◌++◌, length, take, Option, Some, None, is_some, refl, sym, ap, ◌∙◌, subst, eq-eqb, arith}
 use Rattle.std.specs.Prelude.{◌==◌, nat_lt, if◌then◌else◌, IfSome, option_and_then, option_map, slice_get}
 use Rattle.std.specs.Int.{int_max}
 use Rattle.std.specs.List.{filter_map, range_with_len}
@@ -41,20 +41,16 @@ use Rattle.listener.proofs.TrueItems.{Shows, all_shown, clock_entry, copied_row,
 use Rattle.listener.proofs.TrueList.{IsTrueEntry, entries_true, followed, one_copy, others, prefix_true}
 use Rattle.listener.proofs.TrueTimely.{entry_there, item_there}
 use Rattle.listener.proofs.Welcome.{arrives, first_time, has_room, own_head}
+use Rattle.stream_journal.proofs.TrueHeads.{flag_of}
 
 -- ---- two packets of the clock beside each other
-
-same_bits : (a b : Bool) → a ≡ b → same_flag a b ≡ true
-same_bits true b e = sym e
-same_bits false true e = absurd cc
-same_bits false false e = refl
 
 seem_next : (c : ClockJournal) (m : ℕ) (r0 r1 : ClockRow) → IsRowOf c (pos 0) m r0 → IsRowOf c (pos 0) (suc m) r1 → c.mr m ≡ c.mr (suc m) → seems_next r1 r0 ≡ true
 seem_next c m r0 r1 is next run =
     let first = is.seq in
     let second = next.seq in
     let a : (r1.seq == (r0.seq + 1) % 256) ≡ true = eq-eqb r1.seq ((r0.seq + 1) % 256) (omega arith) in
-    let b : same_flag r1.mr r0.mr ≡ true = same_bits r1.mr r0.mr (next.mr ∙ (sym run ∙ sym is.mr)) in
+    let b : same_flag r1.mr r0.mr ≡ true = flag_of r1.mr r0.mr (next.mr ∙ (sym run ∙ sym is.mr)) in
     let d : (r1.base_frequency == r0.base_frequency) ≡ true = eq-eqb _ _ (next.base ∙ sym is.base) in
     let e : (r1.pull == r0.pull) ≡ true = eq-eqb _ _ (next.pull ∙ sym is.pull) in
     let f : (r1.interval == r0.interval) ≡ true = eq-eqb _ _ (next.interval ∙ sym is.interval) in

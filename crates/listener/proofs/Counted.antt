@@ -1,9 +1,8 @@
 -- Each packet of the stream is shown once and those of the clock never, so the counts add up.
-use Rattle.std.proofs.Common.{◌≡◌, ℕ, zero, suc, ◌+◌, ◌-◌, ◌<◌, ◌≤◌, Bool, true, false, cond, List, [], ◌∷◌, All, length, Option, Some, None, refl, sym, ap, ◌∙◌, arith, take_all, inl, inr}
-use Rattle.std.specs.Prelude.{⊤, ◌==◌, ◌&&◌, ◌||◌, if◌then◌else◌, count_by, nat_lt, slice_get, take, map, filter}
+use Rattle.std.proofs.Common.{◌≡◌, ℕ, zero, suc, ◌+◌, ◌-◌, ◌≤◌, Bool, true, false, List, [], ◌∷◌, All, length, Option, Some, None, refl, sym, ap, ◌∙◌, arith, take_all, inl, inr}
+use Rattle.std.specs.Prelude.{⊤, ◌==◌, ◌||◌, if◌then◌else◌, count_by, slice_get, take, map, filter}
 use Rattle.std.specs.List.{enumerate_from, list_any}
-use Rattle.std.proofs.lemmas.Bool.{cases_lt}
-use Rattle.std.proofs.lemmas.Bool.Decides.{nat_tests}
+use Rattle.std.proofs.lemmas.Bool.{cases_lt, and_parts}
 use Rattle.std.proofs.lemmas.List.{length-map}
 use Rattle.std.proofs.lemmas.List.Elements.{All-cons, All-head, All-nil, All-tail}
 use Rattle.std.proofs.lemmas.List.Sums.{sum_by-cons}
@@ -15,9 +14,7 @@ use Rattle.pcap_frames.specs.Capture.{Record}
 use Rattle.sample_schedule.specs.declared.entry.Entry.{Entry}
 use Rattle.sample_schedule.specs.declared.entry.Entry.TheVariants.{Item as OfItem, Clock as OfClock}
 use Rattle.sample_schedule.specs.declared.plan.SchedulePlan.{SchedulePlan}
-use Rattle.sample_schedule.specs.declared.shown.Shown.{Shown}
-use Rattle.sample_schedule.specs.declared.shown.Shown.TheVariants.{Present, Flag}
-use Rattle.sample_schedule.specs.Laws.{place_of, times_due}
+use Rattle.sample_schedule.specs.Laws.{times_due}
 use Rattle.sample_schedule.specs.Schedule.{Given, given, shown, shown_of}
 use Rattle.sample_schedule.specs.Verdicts.{Clock}
 use Rattle.sample_schedule.proofs.LawLemmas.{each-once}
@@ -28,33 +25,7 @@ use Rattle.cvf_format.specs.Stretches.{last_stretch}
 use Rattle.listener.specs.Items.{MadeItem, events_to, items_of, made_entry, made_of_one, sources, unit_by}
 use Rattle.listener.specs.Laws.{fragments_in}
 use Rattle.listener.proofs.Made.{IsStreamed, OfEach, all_made, count-append, is_streamed, items_all, last_streamed, tally, tally-cons}
-
-abbrev counted : Bool → ℕ
-counted b = cond b 1 0
-
-abbrev at : ℕ → Given → Bool
-at i g = place_of g == i
-
-abbrev below : ℕ → Given → Bool
-below n g = nat_lt (place_of g) n
-
-count-next : {X : Type 0} (p : X → Bool) (x : X) (xs : List X) → count_by p (x ∷ xs) ≡ counted (p x) + count_by p xs
-count-next {X} p x xs = sum_by-cons (λ (y : X). counted (p y)) x xs
-
-split : (k n : ℕ) → counted (nat_lt k (suc n)) ≡ counted (nat_lt k n) + counted (k == n)
-split k n = grind (arith, nat_tests)
-
-below-next : (n : ℕ) (gs : List Given) → count_by (below (suc n)) gs ≡ count_by (below n) gs + count_by (at n) gs
-below-next n [] = refl
-below-next n (g ∷ gs) =
-    omega (arith, count-next (below (suc n)) g gs, count-next (below n) g gs, count-next (at n) g gs, split (place_of g) n, below-next n gs)
-
-not-below : (k : ℕ) → counted (nat_lt k 0) ≡ 0
-not-below k = grind (arith, nat_tests)
-
-none-below : (gs : List Given) → count_by (below 0) gs ≡ 0
-none-below [] = refl
-none-below (g ∷ gs) = omega (arith, count-next (below 0) g gs, not-below (place_of g), none-below gs)
+use Rattle.listener.proofs.Places.{counted, at, below, count-next, below-next, none-below, all-below, presented-or-flagged}
 
 -- an item of the stream, and no packet of the clock
 abbrev is_item : Entry → Bool
@@ -76,35 +47,10 @@ each-below : (n : ℕ) (es : List Entry) (gs : List Given) → ((i : ℕ) → co
 each-below zero es gs each = none-below gs
 each-below (suc n) es gs each = omega (arith, below-next n gs, each-below n es gs each, each n, items-next es n)
 
-same : (k : ℕ) → counted (k == k) ≡ 1
-same k = grind (arith, nat_tests)
-
-passes : (k n : ℕ) → k < n → counted (nat_lt k n) ≡ 1
-passes k n lt = grind (arith, nat_tests)
-
--- where no other place is shown, these are all
-all-below : (n : ℕ) (gs : List Given) → ((i : ℕ) → n ≤ i → count_by (at i) gs ≡ 0) → count_by (below n) gs ≡ length gs
-all-below n [] none = refl
-all-below n (g ∷ gs) none =
-    let here : place_of g < n = elim (cases_lt (place_of g) n) [
-      | inl within ↦ within
-      | inr past ↦ absurd (omega (arith, none (place_of g) past, count-next (at (place_of g)) g gs, same (place_of g)))
-    ] in
-    let rest = all-below n gs (λ i past. omega (arith, none i past, count-next (at i) g gs)) in
-    omega (arith, count-next (below n) g gs, passes (place_of g) n here, rest)
-
 due-past : (es : List Entry) (i : ℕ) → length es ≤ i → times_due (slice_get es i) ≡ 0
 due-past [] i past = refl
 due-past (e ∷ es) zero past = absurd (omega arith)
 due-past (e ∷ es) (suc i) past = due-past es i (omega arith)
-
--- what is shown is presented or flagged
-presented-or-flagged : (list : List Shown) → count_by is_present list + count_by is_flag list ≡ length list
-presented-or-flagged [] = refl
-presented-or-flagged (Present batch ∷ list) =
-    omega (arith, count-next is_present (Present batch) list, count-next is_flag (Present batch) list, presented-or-flagged list)
-presented-or-flagged (Flag frame seq reason ∷ list) =
-    omega (arith, count-next is_present (Flag frame seq reason) list, count-next is_flag (Flag frame seq reason) list, presented-or-flagged list)
 
 shown-once : (clock : Clock) (plan : SchedulePlan) (es : List Entry) → length (given clock plan es) ≡ count_by is_item es
 shown-once clock plan es =
@@ -129,16 +75,11 @@ kept stream clock xs = filter (λ numbered. is_delivered stream clock numbered.1
 abbrev subtype_in : Record → ℕ
 subtype_in r = (peeked_of (packet_in r.bytes)).subtype
 
-both : (a b : Bool) → (a && b) ≡ true → (a ≡ true) × (b ≡ true)
-both true true e = (refl, refl)
-both true false e = absurd cc
-both false b e = absurd cc
-
 of_kind : (kinds : List ℕ) (id : ℕ) (r : Record) → belongs kinds id r.bytes ≡ true → list_any (λ kind. subtype_in r == kind) kinds ≡ true
 of_kind kinds id r e =
-    let wanted = both (is_avtp r.bytes) _ e in
-    let id_is = both _ _ wanted.1 in
-    (both _ _ id_is.0).0
+    let wanted = and_parts (is_avtp r.bytes) _ e in
+    let id_is = and_parts _ _ wanted.1 in
+    (and_parts _ _ id_is.0).0
 
 not_crf : (subtype : ℕ) → list_any (λ kind. subtype == kind) stream_kinds ≡ true → (subtype == crf_subtype) ≡ false
 not_crf subtype e = elim (cases_lt subtype 4) [

@@ -1,6 +1,6 @@
 -- What a piece of a capture, and what is given of it, leave of a listener that is fed.
 use Rattle.std.proofs.Common.{◌≡◌, ◌↔◌, ◌⊎◌, inl, inr, ℕ, zero, suc, ◌+◌, ◌-◌, ◌<◌, ◌≤◌, Bool, true, false, List, [], ◌∷◌, ◌++◌, length, take, Option, Some, None, IsSome, refl, sym, ap, ◌∙◌, subst, arith, append-nil, append_assoc, length-append}
-use Rattle.std.specs.Prelude.{IfNone, IfSome, Result, Ok, Err, is_some, slice_get}
+use Rattle.std.specs.Prelude.{IfNone, IfSome, Result, Ok, Err, slice_get}
 use Rattle.std.specs.Option.{option_to_list}
 use Rattle.std.proofs.Math.Seq.{take-length}
 use Rattle.std.proofs.lemmas.List.{length-take-le}
@@ -19,16 +19,13 @@ use Rattle.listener.specs.declared.heard.Counts.{Counts}
 use Rattle.listener.specs.declared.heard.Heard.{Heard}
 use Rattle.listener.specs.declared.plan.ListenPlan.{ListenPlan}
 use Rattle.listener.specs.Feeding.{Feeding, HasGiven, HasHeard, Keeps, StandsFor, is_ended, out}
-use Rattle.listener.specs.Heard.{counts_of, due_of, heard_of, shown_of}
+use Rattle.listener.specs.Heard.{counts_of, heard_of, shown_of}
 use Rattle.listener.specs.Listening.{ListenState, StandsFor as RecordsStandFor, is_closed, out as out_of, with_shown, without_shown}
-use Rattle.listener.proofs.Due.{due_first, due_none, due_stays}
-use Rattle.listener.proofs.Listened.{counted_shown, out_ended, out_open, out_same, take_next}
+use Rattle.listener.proofs.Due.{due_none}
+use Rattle.listener.proofs.Listened.{counted_shown, out_ended, out_open, out_same, take_next, out_further, out_at_end}
+use Rattle.sample_schedule.proofs.GivenLemmas.{prefix-more, prefix-all}
 
 -- ---- answers
-
-pub not_some : {X : Type 0} (o : Option X) → is_some o ≡ false → o ≡ None
-not_some None e = refl
-not_some (Some x) e = absurd cc
 
 pub if_none : {X P : Type 0} (o : Option X) → IfNone o P → o ≡ None → P
 if_none None p e = p
@@ -186,27 +183,6 @@ stands_unfed reader listener read empty stands opened =
 
 -- ---- a list of all that was given
 
-get_after : (xs t : List Shown) → slice_get (xs ++ t) (length xs) ≡ slice_get t 0
-get_after [] t = refl
-get_after (x ∷ xs) t = get_after xs t
-
-prefix_more : (xs zs : List Shown) (x : Shown) → IsPrefix xs zs → slice_get zs (length xs) ≡ Some x → IsPrefix (xs ++ x ∷ []) zs
-prefix_more xs zs x p e = of p.0 p.1
-  where
-    of : (t : List Shown) → xs ++ t ≡ zs → IsPrefix (xs ++ x ∷ []) zs
-    of [] same = absurd (let h : None ≡ Some x = sym (get_after xs []) ∙ ap (λ (l : List Shown). slice_get l (length xs)) same ∙ e in cc)
-    of (y ∷ t) same =
-        let h : Some y ≡ Some x = sym (get_after xs (y ∷ t)) ∙ ap (λ (l : List Shown). slice_get l (length xs)) same ∙ e in
-        let f : y ≡ x = cc in
-        (t, append_assoc xs (x ∷ []) t ∙ ap (λ (z : Shown). xs ++ z ∷ t) (sym f) ∙ same)
-
-prefix_all : (xs zs : List Shown) → IsPrefix xs zs → slice_get zs (length xs) ≡ None → xs ≡ zs
-prefix_all xs zs p e = of p.0 p.1
-  where
-    of : (t : List Shown) → xs ++ t ≡ zs → xs ≡ zs
-    of [] same = sym (append-nil xs) ∙ same
-    of (y ∷ t) same = absurd (let h : Some y ≡ None = sym (get_after xs (y ∷ t)) ∙ ap (λ (l : List Shown). slice_get l (length xs)) same ∙ e in cc)
-
 out_kept : (bytes : List ℕ) (old new : Feeding) → Keeps old new → out new bytes ≡ out old bytes
 out_kept bytes old new keeps = out_same old.listener new.listener (whole_records bytes) keeps.plan keeps.ended
 
@@ -224,7 +200,7 @@ given_more bytes list x old new has is stands keeps =
     let count : length list + 1 ≡ length (list ++ x ∷ []) = sym (length-append list (x ∷ [])) in
     record {
       stands = subst (λ (n : ℕ). StandsFor bytes n new) count stands;
-      first = subst (IsPrefix (list ++ x ∷ [])) (sym (out_kept bytes old new keeps)) (prefix_more list (out old bytes) x has.first (sym is));
+      first = subst (IsPrefix (list ++ x ∷ [])) (sym (out_kept bytes old new keeps)) (prefix-more list (out old bytes) x has.first (sym is));
     }
 
 pub given_still : (bytes : List ℕ) (list : List Shown) (old new : Feeding) → HasGiven bytes list old → StandsFor bytes (length list + 0) new → Keeps old new → HasGiven bytes list new
@@ -236,19 +212,16 @@ given_still bytes list old new has stands keeps =
     }
 
 pub given_all : (bytes : List ℕ) (list : List Shown) (old new : Feeding) → HasGiven bytes list old → None ≡ slice_get (out old bytes) (length list) → Keeps old new → list ≡ out new bytes
-given_all bytes list old new has is keeps = prefix_all list (out old bytes) has.first (sym is) ∙ sym (out_kept bytes old new keeps)
+given_all bytes list old new has is keeps = prefix-all list (out old bytes) has.first (sym is) ∙ sym (out_kept bytes old new keeps)
 
 -- what is shown of bytes begins what is shown of more
 out_on : (bytes more : List ℕ) (old new : Feeding) → HasRead old.reader bytes (whole_records bytes) → is_ended old ≡ false → is_ended new ≡ false → new.listener.plan ≡ old.listener.plan
     → IsPrefix (out old bytes) (out new (bytes ++ more))
 out_on bytes more old new read opened still plan =
     let firsts = records_first old.reader bytes more (whole_records bytes) read in
-    let before = out_open old.listener (whole_records bytes) opened in
-    let after : out new (bytes ++ more) ≡ due_of old.listener.plan (whole_records bytes ++ firsts.0) =
-    out_open new.listener (whole_records (bytes ++ more)) still ∙ (ap (λ (p : ListenPlan). due_of p (whole_records (bytes ++ more))) plan ∙ ap (due_of old.listener.plan) firsts.1) in
-    subst (λ (l : List Shown). IsPrefix l (out new (bytes ++ more))) (sym before) (subst (IsPrefix (due_of old.listener.plan (whole_records bytes))) (sym after) (due_stays old.listener.plan (whole_records bytes) firsts.0))
+    subst (λ (l : List Record). IsPrefix (out old bytes) (out_of new.listener l)) (sym firsts.1) (out_further old.listener new.listener (whole_records bytes) firsts.0 opened still plan)
 
-prefix_twice : (xs ys zs : List Shown) → IsPrefix xs ys → IsPrefix ys zs → IsPrefix xs zs
+pub prefix_twice : (xs ys zs : List Shown) → IsPrefix xs ys → IsPrefix ys zs → IsPrefix xs zs
 prefix_twice xs ys zs first second = (first.0 ++ second.0, sym (append_assoc xs first.0 second.0) ∙ (ap (λ (l : List Shown). l ++ second.0) first.1 ∙ second.1))
 
 -- more bytes were fed
@@ -263,11 +236,7 @@ given_on bytes more list old new has memory opened still plan stands = record {
 pub given_ended : (bytes : List ℕ) (list : List Shown) (old new : Feeding) → HasGiven bytes list old → is_ended old ≡ false → is_ended new ≡ true → new.listener.plan ≡ old.listener.plan
     → StandsFor bytes (length list) new → HasGiven bytes list new
 given_ended bytes list old new has opened ended plan stands =
-    let records = whole_records bytes in
-    let before = out_open old.listener records opened in
-    let after : out new bytes ≡ shown_of old.listener.plan records = out_ended new.listener records ended ∙ ap (λ (p : ListenPlan). shown_of p records) plan in
-    let first : IsPrefix (out old bytes) (out new bytes) =
-    subst (λ (l : List Shown). IsPrefix l (out new bytes)) (sym before) (subst (IsPrefix (due_of old.listener.plan records)) (sym after) (due_first old.listener.plan records)) in
+    let first = out_at_end old.listener new.listener (whole_records bytes) opened ended plan in
     record { stands = stands; first = prefix_twice list (out old bytes) (out new bytes) has.first first }
 
 -- nothing was given at the beginning

@@ -2,7 +2,7 @@
 use Rattle.std.proofs.Common.{◌≡◌, ℕ, ◌+◌, suc, Bool, true, false, List, [], ◌∷◌, ◌++◌, length, map, Option, Some, None, refl, ap, ◌∙◌, arith, length-append, append-nil, if◌then◌else◌, ℤ, w64, to_z, of_z, to_z-of_z, FitsSigned}
 use Rattle.std.proofs.lemmas.Int.{ints}
 use Rattle.time_unfold.specs.Time.{IsArrival}
-use Rattle.std.specs.Prelude.{IfOk, ◌==◌, ◌&&◌, ◌||◌, cond, not, filter, Result, Ok, Err, OnOk}
+use Rattle.std.specs.Prelude.{◌==◌, ◌&&◌, ◌||◌, cond, not, filter}
 use Rattle.std.specs.List.{enumerate_from, list_any}
 use Rattle.std.proofs.lemmas.Bool.Decides.{nat_tests}
 use Rattle.std.proofs.lemmas.List.{map-append}
@@ -10,9 +10,7 @@ use Rattle.std.proofs.lemmas.List.Elements.{filter-append}
 use Rattle.avtp_header.specs.Header.{peeked_of}
 use Rattle.avtp_header.specs.Numbers.{crf_subtype}
 use Rattle.pcap_frames.specs.Capture.{Record}
-use Rattle.sample_schedule.specs.declared.entry.Entry.TheVariants.{Item as OfItem, Clock as OfClock}
 use Rattle.packet_journal.specs.Deliveries.{Delivery, belongs, belongs_to_clock, clock_kinds, deliveries, delivery, is_avtp, is_delivered, packet_in, stream_kinds}
-use Rattle.listener.specs.Items.{clock_row, entry_of, item_of}
 
 numbered : {X : Type 0} (n : ℕ) (xs ys : List X) → enumerate_from n (xs ++ ys) ≡ enumerate_from n xs ++ enumerate_from (n + length xs) ys
 numbered {X} n [] ys = let e : n ≡ n + 0 = omega arith in ap {B = List (ℕ × X)} (λ k. enumerate_from k ys) e
@@ -96,12 +94,6 @@ of_none stream clock bytes e = by (belongs stream_kinds stream bytes) (belongs_t
 
 -- ---- an entry by its subtype
 
-pub entry_is_clock : (d : Delivery) → d.subtype ≡ crf_subtype → entry_of d ≡ OfClock d.arrival (clock_row d)
-entry_is_clock d e = rw e refl
-
-pub entry_is_item : (d : Delivery) → ¬ (d.subtype ≡ crf_subtype) → entry_of d ≡ OfItem (item_of d)
-entry_is_item d other = let test : (d.subtype == crf_subtype) ≡ false = grind (arith, nat_tests) in rw test refl
-
 -- an arrival is kept in 64 bits
 pub arrival_kept : (t : ℤ) → IsArrival t → to_z w64 (of_z w64 t) ≡ t
 arrival_kept t a = to_z-of_z (fits_signed_from_nat t a)
@@ -119,11 +111,3 @@ chosen false x y e = absurd (cc)
 pub not_chosen : {X : Type 0} (b : Bool) (y : X) → None ≡ (if b then Some y else None) → b ≡ false
 not_chosen true y e = absurd (cc)
 not_chosen false y e = refl
-
-pub if_ok : {X E : Type 0} (r : Result X E) (P Q : X → Type 0) → IfOk r P → ((x : X) → P x → Q x) → IfOk r Q
-if_ok (Ok x) P Q p make = make x p
-if_ok (Err e) P Q p make = tt
-
-pub on_ok : {X E P Q : Type 0} (r : Result X E) → (P → Q) → OnOk r P → OnOk r Q
-on_ok (Ok x) f p = f p
-on_ok (Err e) f p = p

@@ -1,9 +1,8 @@
 -- What the units of a stream give after one more delivery.
-use Rattle.std.proofs.Common.{◌≡◌, ◌⊎◌, ℕ, zero, suc, ◌+◌, ◌-◌, ◌≤◌, Bool, true, false, List, [], ◌∷◌, ◌++◌, All, length, map, drop, take, Option, Some, None, refl, sym, ap, ◌∙◌, subst, inl, inr, arith, append-nil, length-append}
+use Rattle.std.proofs.Common.{◌≡◌, ◌⊎◌, ℕ, zero, suc, ◌+◌, ◌-◌, Bool, true, false, List, [], ◌∷◌, ◌++◌, All, length, map, drop, take, Option, Some, None, refl, sym, ap, ◌∙◌, subst, inl, inr, arith, append-nil, length-append}
 use Rattle.std.specs.Prelude.{◌==◌, ◌&&◌, not, if◌then◌else◌, IfSome, slice_get}
 use Rattle.std.specs.List.{list_any}
 use Rattle.std.specs.Option.{option_to_list}
-use Rattle.std.proofs.Math.ListN.{drop_of_length-le}
 use Rattle.std.proofs.Math.Seq.{drop-append_seam}
 use Rattle.std.proofs.lemmas.Bool.{eqb-true}
 use Rattle.std.proofs.lemmas.List.{length-map, map-append}
@@ -264,19 +263,6 @@ next_left u v m there same =
     drop_next (y ∷ xs) zero x e = let same : y ≡ x = cc in rw same refl
     drop_next (y ∷ xs) (suc n) x e = let k : suc n + 1 ≡ suc (n + 1) = omega arith in rw k (drop_next xs n x e)
 
-pub own_left : (u v : Gathered) → length u.assembly.lost ≤ u.taken → v ≡ record u { own = None } → left u ≡ option_to_list u.own ++ left v
-own_left u v past same =
-    let none : drop u.taken u.assembly.lost ≡ [] = drop_of_length-le u.assembly.lost past in
-    ap (λ (l : List Mark). map (lost_item (lost_for u.why)) l ++ option_to_list u.own) none
-    ∙ (sym (append-nil (option_to_list u.own))
-    ∙ (ap (λ (l : List Mark). option_to_list u.own ++ (map (lost_item (lost_for u.why)) l ++ [])) (sym none)
-    ∙ ap (λ (w : Gathered). option_to_list u.own ++ left w) (sym same)))
-
-pub none_left : (u v : Gathered) → length u.assembly.lost ≤ u.taken → v ≡ record u { own = None } → left v ≡ []
-none_left u v past same =
-    let none : drop u.taken u.assembly.lost ≡ [] = drop_of_length-le u.assembly.lost past in
-    ap left same ∙ ap (λ (l : List Mark). map (lost_item (lost_for u.why)) l ++ []) none
-
 -- ---- the beginning
 
 nothing_lost : lost_marks [] ≡ []
@@ -344,6 +330,3 @@ lost_timely u m s there = at u.assembly.lost u.taken m (timely_lost u.assembly s
     at [] n x all e = absurd cc
     at (y ∷ xs) zero x all e = let same : y ≡ x = cc in subst IsTimelyMark same (All-head IsTimelyMark y xs all)
     at (y ∷ xs) (suc n) x all e = at xs n x (All-tail IsTimelyMark y xs all) e
-
-pub has_still : (ds : List Delivery) (u v : Gathered) → v.assembly ≡ u.assembly → HasUnits ds u → HasUnits ds v
-has_still ds u v same has = record { assembly = subst (λ (a : Assembly). StandsFor a (events ds)) (sym same) has.assembly }

@@ -47,10 +47,6 @@ found_in ended judge units entries given x j over is = by judge.closed ended ref
     by false true f g h = of_prefix (due clock_spot judge.plan j.judged) (shown clock_spot judge.plan entries) given x first h
     by false false f g h = of_prefix (due clock_spot judge.plan j.judged) (due clock_spot judge.plan entries) given x grown h
 
-pub no_item : (next : Option Shown) → is_some next ≡ false → next ≡ None
-no_item None none = refl
-no_item (Some x) none = absurd cc
-
 pub found_out : (ended : Bool) (judge : JudgeState) (units : Gathered) (entries : List Entry) (given : ℕ) (next : Option Shown) → is_some next ≡ true → (j : Judges entries given judge units) → (judge.closed ≡ true → (ended ≡ true) × (left units ≡ []))
     → next ≡ slice_get (judge_out clock_spot judge j.judged) given → next ≡ slice_get (shown_by ended judge.plan entries) given
 found_out ended judge units entries given None some j over is = absurd cc

@@ -2,6 +2,7 @@ pub mod Made
 pub mod Gathered
 pub mod Further
 pub mod Bounds
+pub mod Places
 pub mod Few
 pub mod Judging
 pub mod Listened

@@ -15,8 +15,6 @@ use Rattle.sample_schedule.specs.declared.shown.Shown.{Shown}
 use Rattle.sample_schedule.specs.declared.shown.Shown.TheVariants.{Present, Flag}
 use Rattle.sample_schedule.specs.declared.item.Item.{Item}
 use Rattle.sample_schedule.specs.Judge.{JudgeState, StandsFor as JudgeStandsFor, taken}
-use Rattle.sample_schedule.specs.Schedule.{due}
-use Rattle.sample_schedule.proofs.Growing.{due-grows}
 use Rattle.sample_schedule.proofs.JudgeLemmas.{all-taken, nothing-due}
 use Rattle.packet_journal.specs.Deliveries.{Delivery, deliveries, delivery, is_delivered, packet_in}
 use Rattle.listener.specs.declared.heard.Counts.{Counts}
@@ -25,11 +23,12 @@ use Rattle.listener.specs.Heard.{counts_of, deliveries_of, entries_in, entries_s
 use Rattle.listener.specs.Gathering.{Gathered, HasUnits, item_entry, left}
 use Rattle.listener.specs.Items.{entries_so_far, given_by, items_so_far, left_at_end, made_entry}
 use Rattle.listener.specs.Listening.{Judges, ListenState, Rests, StandsFor, entries_by, is_closed, out, shown_by, with_record, with_shown}
-use Rattle.listener.proofs.Due.{due_first, entries_at_end}
+use Rattle.listener.proofs.Due.{due_first, entries_at_end, due_stays}
 use Rattle.listener.proofs.Few.{deliveries-few, entries-few, few, so-far-few}
 use Rattle.listener.proofs.Judging.{none_in}
 use Rattle.listener.proofs.Further.{more_by, none_more, of_none, of_stream, one_more}
 use Rattle.listener.proofs.Made.{so_far_next}
+use Rattle.listener.proofs.Places.{presented-or-flagged}
 
 -- ---- lists
 
@@ -52,13 +51,6 @@ count_one p x = let more = sum_by-cons (λ (y : Shown). cond (p y) 1 0) x [] in 
 
 pub count_next : (p : Shown → Bool) (xs : List Shown) (x : Shown) → count_by p (xs ++ x ∷ []) ≡ count_by p xs + cond (p x) 1 0
 count_next p xs x = sum_by-append (λ (y : Shown). cond (p y) 1 0) xs (x ∷ []) ∙ ap (λ n. count_by p xs + n) (count_one p x)
-
-presented_or_flagged : (list : List Shown) → count_by is_present list + count_by is_flag list ≡ length list
-presented_or_flagged [] = refl
-presented_or_flagged (Present batch ∷ list) =
-    omega (arith, sum_by-cons (λ (y : Shown). cond (is_present y) 1 0) (Present batch) list, sum_by-cons (λ (y : Shown). cond (is_flag y) 1 0) (Present batch) list, presented_or_flagged list)
-presented_or_flagged (Flag frame seq reason ∷ list) =
-    omega (arith, sum_by-cons (λ (y : Shown). cond (is_present y) 1 0) (Flag frame seq reason) list, sum_by-cons (λ (y : Shown). cond (is_flag y) 1 0) (Flag frame seq reason) list, presented_or_flagged list)
 
 -- ---- counts
 
@@ -101,6 +93,18 @@ out_same old new records plan closed =
     ap (λ (p : ListenPlan). if is_closed new then shown_of p records else due_of p records) plan
     ∙ ap (λ (b : Bool). if b then shown_of old.plan records else due_of old.plan records) closed
 
+-- what an open listener shows of records, it shows first where more records follow, and where none does
+pub out_further : (old new : ListenState) (records more : List Record) → is_closed old ≡ false → is_closed new ≡ false → new.plan ≡ old.plan → IsPrefix (out old records) (out new (records ++ more))
+out_further old new records more opened still plan =
+    let all = records ++ more in
+    let after : out new all ≡ due_of old.plan all = out_open new all still ∙ ap (λ (p : ListenPlan). due_of p all) plan in
+    subst (λ (l : List Shown). IsPrefix l (out new all)) (sym (out_open old records opened)) (subst (IsPrefix (due_of old.plan records)) (sym after) (due_stays old.plan records more))
+
+pub out_at_end : (old new : ListenState) (records : List Record) → is_closed old ≡ false → is_closed new ≡ true → new.plan ≡ old.plan → IsPrefix (out old records) (out new records)
+out_at_end old new records opened closed plan =
+    let after : out new records ≡ shown_of old.plan records = out_ended new records closed ∙ ap (λ (p : ListenPlan). shown_of p records) plan in
+    subst (λ (l : List Shown). IsPrefix l (out new records)) (sym (out_open old records opened)) (subst (IsPrefix (due_of old.plan records)) (sym after) (due_first old.plan records))
+
 -- what is shown of the entries is what it shows
 pub out_judged : (l : ListenState) (records : List Record) → l.judge.plan ≡ schedule_plan l.plan → shown_by (is_closed l) l.judge.plan (entries_by (is_closed l) l.plan records) ≡ out l records
 out_judged l records plan = ap (λ (p : SchedulePlan). shown_by (is_closed l) p (entries_by (is_closed l) l.plan records)) plan ∙ by (is_closed l)
@@ -137,11 +141,7 @@ further : (records : List Record) (r : Record) (given : ℕ) (old new : ListenSt
     → StandsFor (records ++ r ∷ []) given new
 further records r given old new more b st plan opened still schedule lasting units es judges is counts =
     let all = records ++ r ∷ [] in
-    let before = out_open old records opened in
-    let after : out new all ≡ due_of old.plan all = out_open new all still ∙ ap (λ (p : ListenPlan). due_of p all) plan in
-    let grows : IsPrefix (due_of old.plan records) (due_of old.plan all) =
-    subst (λ (l : List Entry). IsPrefix (due_of old.plan records) (due clock_spot (schedule_plan old.plan) l)) (sym es) (due-grows clock_spot (schedule_plan old.plan) (entries_so_far_in old.plan records) more) in
-    let first : IsPrefix (out old records) (out new all) = subst (λ (l : List Shown). IsPrefix l (out new all)) (sym before) (subst (IsPrefix (due_of old.plan records)) (sym after) grows) in
+    let first = out_further old new records (r ∷ []) opened still plan in
     let same = take_first given (out old records) (out new all) first st.within in
     record {
       plan = schedule ∙ (st.plan ∙ ap schedule_plan (sym plan));
@@ -238,23 +238,6 @@ stands_next records given old new None x same st is goes judges counts = absurd 
 stands_next records given old new (Some y) x same st is goes judges counts =
     let e : y ≡ x = cc in stands_shown records given old new y st is goes judges (counts ∙ ap (with_shown old.counts) (sym e))
 
--- nothing is left to show
-pub stands_still : (records : List Record) (given : ℕ) (old new : ListenState) → StandsFor records given old
-    → Goes old new → Judges (entries_by (is_closed old) old.plan records) given new.judge new.units
-    → new.counts ≡ old.counts → StandsFor records given new
-stands_still records given old new st goes judges counts =
-    let same = out_same old new records goes.plan goes.closed in
-    record {
-      plan = goes.schedule ∙ (st.plan ∙ ap schedule_plan (sym goes.plan));
-      units = λ still_open. subst (λ (p : ListenPlan). HasUnits (deliveries_of p records) new.units) (sym goes.plan) (goes.units (deliveries_of old.plan records) (st.units (sym goes.closed ∙ still_open)));
-      judges = judges_as _ _ given new.judge new.units (sym (entries_same old new records goes.plan goes.closed)) judges;
-      ends = λ closed. (goes.closed ∙ (goes.ends closed).0, (goes.ends closed).1);
-      within = omega (arith, st.within, ap length same);
-      counts = counts ∙ (st.counts
-          ∙ (ap (λ (l : List Shown). counts_of old.plan records (take given l)) (sym same)
-          ∙ ap (λ (p : ListenPlan). counts_of p records (take given (out new records))) (sym goes.plan)));
-    }
-
 -- ---- the end
 
 -- the judge stands, and behind its entries are those that only the end gives up
@@ -273,10 +256,7 @@ pub stands_closed : (records : List Record) (given : ℕ) (old new : ListenState
     → ((ds : List Delivery) → HasUnits ds old.units → map item_entry (left new.units) ≡ map made_entry (left_at_end ds))
     → new.counts ≡ old.counts → StandsFor records given new
 stands_closed records given old new st opened closed plan judge none gives counts =
-    let before = out_open old records opened in
-    let after : out new records ≡ shown_of old.plan records = out_ended new records closed ∙ ap (λ (p : ListenPlan). shown_of p records) plan in
-    let first : IsPrefix (out old records) (out new records) =
-    subst (λ (l : List Shown). IsPrefix l (out new records)) (sym before) (subst (IsPrefix (due_of old.plan records)) (sym after) (due_first old.plan records)) in
+    let first = out_at_end old new records opened closed plan in
     let same = take_first given (out old records) (out new records) first st.within in
     let judges = judges_as _ _ given old.judge old.units (entries_open old records opened) st.judges in
     let ended = ended_judges old.plan records given old.judge old.units new.units none (gives (deliveries_of old.plan records) (st.units opened)) judges in
@@ -325,7 +305,7 @@ shown_few records given l x st is =
       arith,
       within,
       long,
-      presented_or_flagged (take given (out l records)),
+      presented-or-flagged (take given (out l records)),
       ap (λ (c : Counts). c.presented) st.counts,
       ap (λ (c : Counts). c.flagged) st.counts,
       ap (λ (c : Counts). c.frames) st.counts,

@@ -128,7 +128,7 @@ head_true j plan n frame arrival bytes prefix is came all =
 
 -- ---- the batch
 
-at_nominal : (kind : Kind) (j : Journal) (n k : ℕ) (instant : ℤ) → IsAudioKind kind → IsAtNominal j n k instant → IsAtBy kind false j n k instant
+pub at_nominal : (kind : Kind) (j : Journal) (n k : ℕ) (instant : ℤ) → IsAudioKind kind → IsAtNominal j n k instant → IsAtBy kind false j n k instant
 at_nominal DenseAaf j n k instant heard at = at
 at_nominal SparseAaf j n k instant heard at = at
 at_nominal (Am824 interval dbc) j n k instant heard at = at

@@ -1,8 +1,8 @@
 -- A unit that is whole over copies is one unit of the journal.
 use Rattle.std.proofs.Common.{◌≡◌, ◌⊎◌, ℕ, zero, suc, ◌+◌, ◌-◌, ◌%◌, ◌^◌, ◌<◌, ◌≤◌, Bool, true, false, ℤ, pos, List, [], ◌∷◌, ◌++◌, All, length, map, drop, Option, Some, None, is_some, refl, sym, ap, ◌∙◌, subst, inl, inr, arith, append_assoc, length-append}
-use Rattle.std.specs.Prelude.{◌==◌, not, if◌then◌else◌, ⊤, ◌+ℤ◌, option_map, IfSome}
+use Rattle.std.specs.Prelude.{◌==◌, if◌then◌else◌, ⊤, ◌+ℤ◌, option_map, IfSome}
 use Rattle.std.specs.List.{flat_map, range_with_len}
-use Rattle.std.proofs.lemmas.Bool.{cases_lt}
+use Rattle.std.proofs.lemmas.Bool.{cases_lt, not_from_false}
 use Rattle.std.proofs.lemmas.Int.{ints}
 use Rattle.std.proofs.lemmas.List.{length-map, map-append}
 use Rattle.std.proofs.lemmas.List.Elements.{All-append, All-cons, All-drop, All-filter, All-head, All-nil, All-tail, filter-append}
@@ -523,13 +523,10 @@ whole_made shift p part lead before d rest is kind chain shows streamed whole =
     let seen = run_shows before d (length run - 1) (all_before Shows before (d ∷ rest) shows) (all_here Shows before rest d shows) in
     made_by_run p lead before d (run_by shift p part lead ((unit_by before d).earlier ++ d ∷ []) run is kind here seen (run_events before d run r) r.ends.stretches)
 
-streamed_so : (b : Bool) → b ≡ false → not b ≡ true
-streamed_so b e = rw e refl
-
 pub unit_made : (shift : ℤ) (p : PacketJournal) (part : ℕ → Part) (lead : ℕ) (ds : List Delivery) (made : MadeItem) → IsConforming shift p → p.times.kind ≡ H264 part → AreChained p lead (in_stream ds) → All Shows ds → IsWholeOf ds made → IsMade p lead made
 unit_made shift p part lead ds made is kind chain shows w =
     subst (IsMade p lead) w.same
-    (whole_made shift p part lead w.before w.delivery w.rest is kind (subst (λ (l : List Delivery). AreChained p lead (in_stream l)) w.is chain) (subst (λ (l : List Delivery). All Shows l) w.is shows) (streamed_so _ w.streamed) w.whole)
+    (whole_made shift p part lead w.before w.delivery w.rest is kind (subst (λ (l : List Delivery). AreChained p lead (in_stream l)) w.is chain) (subst (λ (l : List Delivery). All Shows l) w.is shows) (not_from_false _ w.streamed) w.whole)
 
 -- ---- it is one unit of the journal
 

@@ -1,10 +1,9 @@
 -- A unit of H.264 at the begin of a capture must be presented, where its packets came in order.
 use Rattle.std.proofs.Common.{◌≡◌, ◌⊎◌, ℕ, zero, suc, ◌+◌, ◌%◌, ◌<◌, ◌≤◌, ◌^◌, Bool, true, false, ℤ, pos, ◌≤ℤ◌, List, [], ◌∷◌, ◌++◌, All, drop, length, map, Option, Some, None, refl, sym, ap, ◌∙◌, subst, inl, inr, arith, append-nil, append_assoc, eq-eqb, length-append}
-use Rattle.std.specs.Prelude.{◌-◌, ◌==◌, ◌&&◌, nat_le, nat_lt, if◌then◌else◌, slice_get, IfSome, option_map}
-use Rattle.std.specs.List.{flat_map, list_all}
-use Rattle.std.specs.Ordering.{int_eq}
+use Rattle.std.specs.Prelude.{◌-◌, ◌==◌, nat_lt, if◌then◌else◌, slice_get, IfSome, option_map}
+use Rattle.std.specs.List.{flat_map}
 use Rattle.std.proofs.lemmas.Bool.{cases_lt}
-use Rattle.std.proofs.lemmas.Bool.Decides.{Decides-int_eq, nat_tests}
+use Rattle.std.proofs.lemmas.Bool.Decides.{nat_tests}
 use Rattle.std.proofs.lemmas.Grind.{flat_map-append}
 use Rattle.std.proofs.lemmas.Int.{ints}
 use Rattle.std.proofs.lemmas.List.{length-map, map-append}
@@ -17,7 +16,7 @@ use Rattle.cvf_format.specs.declared.cvf.NalPart.TheVariants.{Single as SingleNa
 use Rattle.cvf_format.specs.declared.piece.Piece.{Piece}
 use Rattle.cvf_format.specs.declared.piece.Piece.TheVariants.{Whole, Held}
 use Rattle.cvf_format.specs.Cvf.{Cvf, cvf_of, cvf_refusal, cvf_subtype, plain_cvf}
-use Rattle.cvf_format.specs.Stretches.{Event, Fragment, all_equal, are_linked, before_last, begins, completes, given_up, goes_on, held, is_complete, is_joined, is_stretch, is_within, last_stretch, longest_unit, most_fragments, packet, piece, piece_of, reason, sequence_numbers, stamps, unit_of}
+use Rattle.cvf_format.specs.Stretches.{Event, Fragment, are_linked, before_last, begins, completes, given_up, goes_on, held, is_complete, is_joined, is_stretch, is_within, last_stretch, longest_unit, most_fragments, packet, piece, piece_of, reason, sequence_numbers, stamps, unit_of}
 use Rattle.cvf_format.proofs.SettledLemmas.{one_stretch}
 use Rattle.cvf_format.proofs.StretchLemmas.{complete_more, complete_one}
 use Rattle.pcap_frames.specs.Capture.{Record}
@@ -39,6 +38,8 @@ use Rattle.listener.proofs.Shown.{entry_at}
 use Rattle.listener.proofs.TrueItems.{Shows, all_shown}
 use Rattle.listener.proofs.TrueUnits.{AreFragmentsFrom, IsVideoCopy, copies_all, end_stamped, fragments_from, unit_is, video, video_copy}
 use Rattle.listener.proofs.Welcome.{both_early, first_time, has_room, nothing}
+use Rattle.cvf_format.proofs.RuleLemmas.{all_are, equal_so}
+use Rattle.cvf_format.proofs.AssemblyLemmas.{within_so}
 
 -- ---- one copy
 
@@ -210,26 +211,6 @@ same_instants p part from n k (f ∷ fs) is unit known low high all =
     (subst (λ (o : Option ℤ). IfSome o (λ stamp. stamp ≡ pos (p.times.due n))) (sym all.0.instant) (stamp_one p.times part k (p.times.due n) (p.times.stamp k) is all.0.known refl due))
     (same_instants p part from n (suc k) fs is unit known (omega (arith, low)) (omega (arith, high)) all.1)
 
--- instants of which all are one
-all_are : (t : ℤ) (fs : List Fragment) → All (HasInstant t) fs → list_all (int_eq t) (stamps fs) ≡ true
-all_are t [] all = refl
-all_are t (f ∷ fs) all = by f.instant refl (All-head (HasInstant t) f fs all) (all_are t fs (All-tail (HasInstant t) f fs all))
-  where
-    by : (o : Option ℤ) → f.instant ≡ o → HasInstant t f → list_all (int_eq t) (stamps fs) ≡ true → list_all (int_eq t) (stamps (f ∷ fs)) ≡ true
-    by None e here rest = rw e rest
-    by (Some u) e here rest =
-        let same : u ≡ t = subst (λ (o : Option ℤ). IfSome o (λ stamp. stamp ≡ t)) e here in
-        let test : int_eq t u ≡ true = (Decides-int_eq t u).1 (sym same) in
-        rw (e, test) rest
-
-equal_so : (t : ℤ) (ts : List ℤ) → list_all (int_eq t) ts ≡ true → all_equal ts ≡ true
-equal_so t [] e = refl
-equal_so t (u ∷ us) e = by (int_eq t u) refl e
-  where
-    by : (b : Bool) → int_eq t u ≡ b → (b && list_all (int_eq t) us) ≡ true → list_all (int_eq u) us ≡ true
-    by true f more = subst (λ (x : ℤ). list_all (int_eq x) us ≡ true) ((Decides-int_eq t u).0 f) more
-    by false f more = absurd cc
-
 stretch : (p : PacketJournal) (part : ℕ → Part) (from n : ℕ) (f : Fragment) (fs : List Fragment) → IsVideo p.times part → AreUnit part from n → SameByte p from n → n < p.times.packets → from + length fs ≤ n → AreFragmentsFrom p part from (f ∷ fs) → is_stretch (f ∷ fs) ≡ true
 unfolding is_stretch
 stretch p part from n f fs is unit byte known high all =
@@ -239,13 +220,6 @@ stretch p part from n f fs is unit byte known high all =
     rw (first, links, equal) refl
 
 -- ---- the limits
-
-within_so : (fs : List Fragment) → length (unit_of fs) ≤ longest_unit → length fs ≤ most_fragments → is_within fs ≡ true
-unfolding is_within
-within_so fs size few =
-    let a : nat_le (length (unit_of fs)) longest_unit ≡ true = grind (arith, nat_tests) in
-    let b : nat_le (length fs) most_fragments ≡ true = grind (arith, nat_tests) in
-    rw (a, b) refl
 
 -- the begin of a unit is no longer than all of it
 shorter : (f : Fragment) (fs gs : List Fragment) → length (unit_of (f ∷ fs)) ≤ length (unit_of (f ∷ (fs ++ gs)))

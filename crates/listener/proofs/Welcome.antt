@@ -8,7 +8,7 @@ use Rattle.std.proofs.lemmas.Int.{ints}
 use Rattle.std.proofs.lemmas.List.Elements.{All-nil}
 use Rattle.clock_track.specs.Rows.{clock_spot}
 use Rattle.pcap_frames.specs.Capture.{Record}
-use Rattle.stream_journal.specs.Journal.{IsAt, IsAtBy, IsAtNominal, Journal, Kind, DenseAaf, SparseAaf, Am824, H264, head_of}
+use Rattle.stream_journal.specs.Journal.{IsAt, Journal, head_of}
 use Rattle.stream_journal.specs.Conforming.{IsAudio}
 use Rattle.stream_journal.specs.Delivered.{IsAudioKind}
 use Rattle.sample_schedule.specs.declared.accepted.Accepted.{Accepted}
@@ -36,7 +36,7 @@ use Rattle.iec61883_format.specs.Iec.{iec_of, iec_refusal}
 use Rattle.listener.specs.Items.{MadeItem, aaf_item, blocks_of, clock_row, entry_of, iec_item, item_of, made_of_one, refused_or, samples_of}
 use Rattle.listener.specs.Laws.{HearsTalker, IsFurther, IsOfPacket, IsTimely, IsWelcome, by_clock, is_known, spot_in, time_of}
 use Rattle.listener.proofs.ItemKinds.{at_place}
-use Rattle.listener.proofs.TrueHeard.{audio_content, usable}
+use Rattle.listener.proofs.TrueHeard.{audio_content, usable, at_nominal}
 use Rattle.listener.proofs.TrueItems.{Shows, all_shown, copy_entry, sent}
 use Rattle.listener.proofs.TrueList.{audio, one_copy, others}
 use Rattle.listener.proofs.TrueOnce.{nominal_due}
@@ -69,12 +69,6 @@ nominal_known : (clock : Bool) (plan : SchedulePlan) (prefix : List Entry) (rate
     → is_some (option_and_then (λ (head : Head). if clock then option_map (moved head.first) (clock_spot (filter_map row_of prefix) plan.shift head.instant rate) else Some (nominal_spot rate head)) r) ≡ true
 nominal_known clock plan prefix rate None off some = absurd cc
 nominal_known clock plan prefix rate (Some head) off some = rw off refl
-
-at_nominal : (kind : Kind) (j : Journal) (n k : ℕ) (instant : ℤ) → IsAudioKind kind → IsAtNominal j n k instant → IsAtBy kind false j n k instant
-at_nominal DenseAaf j n k instant heard at = at
-at_nominal SparseAaf j n k instant heard at = at
-at_nominal (Am824 interval dbc) j n k instant heard at = at
-at_nominal (H264 part) j n k instant heard at = absurd heard
 
 -- the head of a stamped packet in the journal
 some_head : (j : Journal) (n instant : ℕ) → j.stamp n ≡ Some instant → is_some (head_of j n) ≡ true

@@ -11,7 +11,7 @@ use Rattle.stream_journal.specs.Examples.{each_eighth}
 use Rattle.packet_journal.specs.Packets.{IsConforming, IsIecPacket}
 use Rattle.packet_journal.specs.Examples.{block_packets, silent_blocks}
 
-low : (r : Option ℕ) → IfSome r (λ (i : ℕ). unwrap_or r 0 % 2 ^ 32 ≡ i % 2 ^ 32)
+pub low : (r : Option ℕ) → IfSome r (λ (i : ℕ). unwrap_or r 0 % 2 ^ 32 ≡ i % 2 ^ 32)
 low None = tt
 low (Some i) = refl
 

@@ -1,23 +1,18 @@
 -- Silent packets of a sparse talker, by the rules.
-use Rattle.std.proofs.Common.{◌≡◌, ℕ, ◌%◌, ◌^◌, ◌<◌, Bool, true, false, pos, ◌+ℤ◌, get_or, Option, Some, None, is_some, refl, lit<, arith}
-use Rattle.std.specs.Prelude.{IfSome, unwrap_or}
+use Rattle.std.proofs.Common.{◌≡◌, ℕ, ◌^◌, ◌<◌, Bool, true, false, pos, ◌+ℤ◌, get_or, is_some, refl, lit<, arith}
 use Rattle.avtp_base.specs.Octets.{bits, flag}
 use Rattle.avtp_base.specs.Layout.{Fits}
 use Rattle.aaf_format.specs.Aaf.{aaf_layout}
 use Rattle.crf_format.specs.Crf.{crf_layout, point_at}
 use Rattle.stream_journal.specs.Conforming.{Conforms}
 use Rattle.stream_journal.specs.Examples.{clocked, restarted}
-use Rattle.stream_journal.proofs.Restarted.{Each, conforms, each_below}
+use Rattle.stream_journal.proofs.Restarted.{Each, each_below}
 use Rattle.packet_journal.specs.Packets.{IsAafPacket, IsClockPacket, IsConforming}
-use Rattle.packet_journal.specs.Examples.{clock_data, clocked_packets, restarted_packets, silent, silent_sparse}
+use Rattle.packet_journal.specs.Examples.{clock_data, clocked_packets, silent, silent_sparse}
 
 small : (b : Bool) → flag b < 2 ^ 1
 small true = omega arith
 small false = omega arith
-
-low : (r : Option ℕ) → IfSome r (λ (i : ℕ). unwrap_or r 0 % 2 ^ 32 ≡ i % 2 ^ 32)
-low None = tt
-low (Some i) = refl
 
 fits : (n : ℕ) → Fits aaf_layout (silent_sparse n)
 fits n = (
@@ -57,23 +52,6 @@ fits n = (
     ),
   ),
 )
-
-packet : (n : ℕ) → IsAafPacket restarted true 0x0200000000010001 n (silent_sparse n)
-packet n = record {
-  writable = record { subtype = refl; nsr = omega arith; some_channels = omega arith; channels = omega arith; depth = omega arith; evt = omega arith; data_length = refl; count = refl };
-  fits = fits n;
-  header = record { valid_id = refl; id = refl; seq = refl; mr = refl; stamped = refl; timestamp = low (restarted.stamp n); certain = refl };
-  sparse = refl;
-  rate = refl;
-  count = refl;
-}
-
-pub packets_conform : IsConforming (pos 0) restarted_packets
-packets_conform = record {
-  times = conforms;
-  packets = λ n h. packet n;
-  clock_packets = λ m h. absurd (omega arith);
-}
 
 -- ---- with a clock
 

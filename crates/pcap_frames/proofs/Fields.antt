@@ -6,10 +6,8 @@ use Rattle.std.proofs.lemmas.Bool.Decides.{nat_tests}
 use Rattle.avtp_base.specs.declared.refusal.Refusal.{Refusal}
 use Rattle.pcap_frames.specs.declared.style.Order.{Order}
 use Rattle.pcap_frames.specs.declared.style.Style.{Style}
-use Rattle.pcap_frames.specs.Reading.{IsHeaderPart, IsPart, IsReading, held_by, whole_record, shown}
-use Rattle.pcap_frames.specs.Capture.{Record, IsFileHeader}
-use Rattle.pcap_frames.specs.declared.style.RecordView.{RecordView}
-use Rattle.std.specs.Option.{option_map}
+use Rattle.pcap_frames.specs.Reading.{IsHeaderPart, IsPart, IsReading, held_by, whole_record}
+use Rattle.pcap_frames.specs.Capture.{IsFileHeader}
 use Rattle.pcap_frames.specs.Layout.{number_at, style_at, certain, file_refusal, record_refusal}
 
 -- a record in which nothing is refused is whole
@@ -61,11 +59,6 @@ pub released : (refusal : Option Refusal) (style : Option Style) (start next_sta
 released (Some refusal) style start next_start part next h e = absurd (cc)
 released None None start next_start part next h e = absurd (cc)
 released None (Some style) start next_start part next h e = record_begins style.order next_start next e
-
--- whether a record is held does not hang on where it lies
-pub is_held : (view : Option RecordView) (r : Option Record) → option_map shown view ≡ r → is_some view ≡ is_some r
-is_held None r e = rw (← e) refl
-is_held (Some view) r e = rw (← e) refl
 
 -- a file header in which nothing is refused tells a style
 pub file_style : (bytes : List ℕ) → file_refusal bytes ≡ None → is_some (style_at bytes) ≡ true

@@ -26,14 +26,6 @@ flag_is None (Some style) s start part whole none is e =
     let same : style ≡ s = cc in
     rw same (e ∙ shown_by (record_refusal s.order start part) (record_of s part))
 
--- a record in which nothing is refused is held
-pub flag_whole : (refusal : Option Refusal) (style : Option Style) (s : Style) (start : ℕ) (part : List ℕ) → refusal ≡ None → style ≡ Some s → record_refusal s.order start part ≡ None → true ≡ is_some (held_by refusal style start part)
-flag_whole refusal style s start part none is e = flag_is refusal style s start part true none is (rw e refl)
-
--- a refused reader holds none
-pub flag_refused : (refusal : Option Refusal) (style : Option Style) (start : ℕ) (part : List ℕ) (r : Refusal) (whole : Bool) → refusal ≡ Some r → whole ≡ false → whole ≡ is_some (held_by refusal style start part)
-flag_refused refusal style start part r whole is e = rw (is, e) refl
-
 certain_some : (x : Option Refusal) (why : Refusal) → certain x ≡ Some why → is_none x ≡ false
 certain_some None why e = absurd (cc)
 certain_some (Some r) why e = refl

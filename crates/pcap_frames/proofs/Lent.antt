@@ -1,5 +1,5 @@
 -- A record that is lent.
-use Rattle.std.proofs.Common.{◌≡◌, ℕ, ◌+◌, ◌≤◌, false, is_some, List, [], ◌++◌, length, take, drop, Option, Some, None, IsSome, refl, sym, ap, subst, arith}
+use Rattle.std.proofs.Common.{◌≡◌, ℕ, ◌+◌, ◌≤◌, List, [], ◌++◌, length, take, drop, Option, Some, None, IsSome, refl, sym, ap, subst, arith}
 use Rattle.std.specs.Prelude.{IfSome}
 use Rattle.std.proofs.lemmas.List.{take-append-drop}
 use Rattle.avtp_base.specs.declared.refusal.Refusal.{Refusal}
@@ -44,10 +44,6 @@ next_long r bytes next =
     let styled = holds_styled r.refusal r.style r.start bytes next.whole in
     let whole = record_whole styled.0.order r.start bytes (held_is r.refusal r.style styled.0 r.start bytes (holds_accepted r.refusal r.style r.start bytes next.whole) styled.1 next.whole) in
     omega arith
-
-pub not_some : (o : Option Refusal) → is_some o ≡ false → o ≡ None
-not_some None e = refl
-not_some (Some r) e = absurd cc
 
 some_none : (x : Option Refusal) → IsSome x → x ≡ None → ⊥
 some_none None some none = absurd cc

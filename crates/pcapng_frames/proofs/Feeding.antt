@@ -414,10 +414,6 @@ is_whole (Some r) whole p skip part none held h = absurd (cc)
 is_whole None false p skip part none held h = absurd (cc)
 is_whole None true p skip part none held h = h
 
-pub none_of : (x : Option Refusal) → is_some x ≡ false → x ≡ None
-none_of None e = refl
-none_of (Some r) e = absurd (cc)
-
 pub passed_whole : (s : Stage) (skip left total : ℕ) → s ≡ stage.Trailer → passed_by s skip left total ≡ total - 4 - skip
 passed_whole s skip left total is = rw is refl
 

@@ -5,12 +5,7 @@ use Rattle.avtp_base.specs.declared.refusal.Refusal.{Refusal}
 use Rattle.pcap_frames.specs.declared.style.Order.{Order}
 use Rattle.pcap_frames.proofs.Append.{number_stays}
 use Rattle.pcapng_frames.specs.declared.interface.Interface.{Interface}
-use Rattle.pcapng_frames.specs.Fields.{first_refused, section_rows, interface_rows, packet_rows, packet_arrival, timestamp, other_rows}
-
-pub section_stays : (order : Order) (start : ℕ) (bytes more : List ℕ) (x : Option Refusal) → first_refused start (length bytes) (section_rows order bytes) ≡ x → (x ≡ None → 14 ≤ length bytes)
-    → first_refused start (length (bytes ++ more)) (section_rows order (bytes ++ more)) ≡ x
-section_stays order start bytes more x e h =
-    grind (arith, nat_tests, number_stays order 4 4 bytes more, number_stays order 12 2 bytes more, length-append bytes more)
+use Rattle.pcapng_frames.specs.Fields.{first_refused, interface_rows, packet_rows, packet_arrival, timestamp, other_rows}
 
 pub interface_stays : (order : Order) (count start : ℕ) (bytes more : List ℕ) (x : Option Refusal) → first_refused start (length bytes) (interface_rows order count bytes) ≡ x → (x ≡ None → 10 ≤ length bytes)
     → first_refused start (length (bytes ++ more)) (interface_rows order count (bytes ++ more)) ≡ x

@@ -1,12 +1,12 @@
 -- Sorted keys, and the blocks in which they stand.
-use Rattle.std.proofs.Common.{take-take, eq-eqb, ◌≡◌, ◌≢◌, ℕ, zero, suc, ◌+◌, ◌-◌, ◌*◌, ◌<◌, ◌≤◌, ◌||◌, Bool, true, false, cond, ℤ, ◌≤ℤ◌, ◌<ℤ◌, List, [], ◌∷◌, ◌++◌, length, take, drop, get_or, refl, ap, sym, ◌∙◌, subst, arith}
-use Rattle.std.specs.Prelude.{◌==◌, insert, int_le, int_lt, slice_set}
+use Rattle.std.proofs.Common.{◌≡◌, ◌≢◌, ℕ, zero, suc, ◌+◌, ◌-◌, ◌*◌, ◌<◌, ◌≤◌, ◌||◌, Bool, true, false, cond, ℤ, ◌≤ℤ◌, ◌<ℤ◌, List, [], ◌∷◌, ◌++◌, length, take, drop, get_or, refl, ap, sym, ◌∙◌, subst, arith}
+use Rattle.std.specs.Prelude.{insert, int_le, int_lt, slice_set}
 use Rattle.std.specs.List.{AllByRecursion, AllWithin, list_any}
 use Rattle.std.specs.List.Sorted.{IsPartitionPoint, IsPartitionedBy}
 use Rattle.std.proofs.lemmas.Int.{ints, by_lt_z}
 use Rattle.std.proofs.lemmas.List.{append_assoc, append-nil, drop_all, length-append, take-append-drop}
-use Rattle.std.proofs.lemmas.Bool.Decides.{nat_tests}
 use Rattle.std.proofs.lemmas.List.Folds.{list_any-append}
+use Rattle.std.proofs.Math.Bool.{or-false}
 use Rattle.sample_schedule.specs.declared.sorted_keys.Key.{Key}
 use Rattle.sample_schedule.specs.Keys.{AreBlocks, AreBlocksBut, IsBlockFor, IsPlace, IsStarted, KeysAreInOrder, all_keys, is_key, put_key, starts_before, starts_by}
 use Rattle.sample_schedule.proofs.OrderLemmas.{le_false, le_true, lt_true, lt_false}
@@ -155,14 +155,6 @@ none-earlier t u seq [] h p = refl
 none-earlier t u seq (x ∷ xs) h p =
     let q = p.0 in rw (le_true x.instant t (omega (arith, ints)), le_false t x.instant (omega (arith, ints))) (none-earlier t u seq xs h p.1)
 
-or-false : (b : Bool) → (b || false) ≡ b
-or-false true = refl
-or-false false = refl
-
-or-true : (b : Bool) → (b || true) ≡ true
-or-true true = refl
-or-true false = refl
-
 -- they stand before the place of their instant
 pub keys-before : (t : ℤ) (seq : ℕ) (ks : List Key) (n : ℕ) → IsPlace t ks n → list_any (is_key t seq) (take n ks) ≡ list_any (is_key t seq) ks
 keys-before t seq ks n place =
@@ -189,35 +181,8 @@ take-behind xs (suc n) x is =
     let within = is.within in
     rw at (take-one xs n x (omega arith) (rw at at is.read))
 
-any-one : (p : Key → Bool) (k : Key) → list_any p (k ∷ []) ≡ p k
-any-one p k = or-false (p k)
-
-any-behind : (p : Key → Bool) (ks : List Key) (n : ℕ) (k : Key) → IsBehind ks n k → list_any p (take n ks) ≡ (list_any p (take (n - 1) ks) || p k)
-any-behind p ks n k is =
-    ap (λ (l : List Key). list_any p l) (take-behind ks n k is) ∙ list_any-append p (take (n - 1) ks) (k ∷ [])
-    ∙ ap (λ (b : Bool). list_any p (take (n - 1) ks) || b) (any-one p k)
-
-same-seq : (t : ℤ) (seq : ℕ) (k : Key) → k.instant ≡ t → is_key t seq k ≡ (k.seq == seq)
-same-seq t seq k e = rw (le_true k.instant t (omega (arith, ints)), le_true t k.instant (omega (arith, ints))) refl
-
-pub key-found : (t : ℤ) (seq : ℕ) (ks : List Key) (n : ℕ) (k : Key) → IsBehind ks n k → k.instant ≡ t → k.seq ≡ seq → list_any (is_key t seq) (take n ks) ≡ true
-key-found t seq ks n k is e same =
-    any-behind (is_key t seq) ks n k is
-    ∙ ap (λ (b : Bool). list_any (is_key t seq) (take (n - 1) ks) || b) (same-seq t seq k e ∙ eq-eqb k.seq seq same)
-    ∙ or-true (list_any (is_key t seq) (take (n - 1) ks))
-
-pub key-passed : (t : ℤ) (seq : ℕ) (ks : List Key) (n : ℕ) (k : Key) → IsBehind ks n k → k.instant ≡ t → k.seq ≢ seq → list_any (is_key t seq) (take (n - 1) ks) ≡ list_any (is_key t seq) (take n ks)
-key-passed t seq ks n k is e other =
-    let not : (k.seq == seq) ≡ false = grind (arith, nat_tests) in
-    sym (any-behind (is_key t seq) ks n k is
-    ∙ ap (λ (b : Bool). list_any (is_key t seq) (take (n - 1) ks) || b) (same-seq t seq k e ∙ not)
-    ∙ or-false (list_any (is_key t seq) (take (n - 1) ks)))
-
 pub behind-holds : (P : Key → Type 0) (ks : List Key) (n : ℕ) (k : Key) → IsBehind ks n k → AllByRecursion P (take n ks) → P k
 behind-holds P ks n k is p = let q = subst (λ (l : List Key). AllByRecursion P l) (take-behind ks n k is) p in (all-right P (take (n - 1) ks) (k ∷ []) q).0
-
-pub all-fewer : (P : Key → Type 0) (ks : List Key) (n : ℕ) → AllByRecursion P (take n ks) → AllByRecursion P (take (n - 1) ks)
-all-fewer P ks n p = subst (λ (l : List Key). AllByRecursion P l) (take-take (n - 1) n ks (omega arith)) (all-take P (take n ks) (n - 1) p)
 
 pub no-key-earlier : (t : ℤ) (seq : ℕ) (ks : List Key) (n : ℕ) (k : Key) → IsBehind ks n k → KeysAreInOrder ks → k.instant <ℤ t → list_any (is_key t seq) (take n ks) ≡ false
 no-key-earlier t seq ks n k is o h = none-earlier t k.instant seq (take n ks) h (up-to-read k.instant ks n k is.within is.read o (omega (arith, ints)))
@@ -531,9 +496,6 @@ any-block p bs n b is =
     ap (λ (l : List (List Key)). list_any p (all_keys l)) (take-behind bs n b is)
     ∙ ap (λ (l : List Key). list_any p l) (all-append (take (n - 1) bs) (b ∷ []) ∙ ap (λ (l : List Key). all_keys (take (n - 1) bs) ++ l) (append-nil b))
     ∙ list_any-append p (all_keys (take (n - 1) bs)) b
-
-pub block-found-in : (p : Key → Bool) (bs : List (List Key)) (n : ℕ) (b : List Key) → IsBehind bs n b → list_any p b ≡ true → list_any p (all_keys (take n bs)) ≡ true
-block-found-in p bs n b is h = any-block p bs n b is ∙ ap (λ (x : Bool). list_any p (all_keys (take (n - 1) bs)) || x) h ∙ or-true (list_any p (all_keys (take (n - 1) bs)))
 
 pub block-passed : (p : Key → Bool) (bs : List (List Key)) (n : ℕ) (b : List Key) → IsBehind bs n b → list_any p b ≡ false → list_any p (all_keys (take (n - 1) bs)) ≡ list_any p (all_keys (take n bs))
 block-passed p bs n b is h = sym (any-block p bs n b is ∙ ap (λ (x : Bool). list_any p (all_keys (take (n - 1) bs)) || x) h ∙ or-false (list_any p (all_keys (take (n - 1) bs))))

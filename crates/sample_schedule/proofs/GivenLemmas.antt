@@ -16,11 +16,11 @@ use Rattle.sample_schedule.proofs.StageLemmas.{take-more, next-entry}
 
 -- ---- the front of a list
 
-get-after : (xs t : List Shown) → slice_get (xs ++ t) (length xs) ≡ slice_get t 0
+pub get-after : (xs t : List Shown) → slice_get (xs ++ t) (length xs) ≡ slice_get t 0
 get-after [] t = refl
 get-after (x ∷ xs) t = get-after xs t
 
-prefix-more : (xs zs : List Shown) (x : Shown) → IsPrefix xs zs → slice_get zs (length xs) ≡ Some x → IsPrefix (xs ++ x ∷ []) zs
+pub prefix-more : (xs zs : List Shown) (x : Shown) → IsPrefix xs zs → slice_get zs (length xs) ≡ Some x → IsPrefix (xs ++ x ∷ []) zs
 prefix-more xs zs x p e = of p.0 p.1
   where
     of : (t : List Shown) → xs ++ t ≡ zs → IsPrefix (xs ++ x ∷ []) zs
@@ -30,7 +30,7 @@ prefix-more xs zs x p e = of p.0 p.1
         let f : y ≡ x = cc in
         (t, append_assoc xs (x ∷ []) t ∙ ap (λ (z : Shown). xs ++ z ∷ t) (sym f) ∙ same)
 
-prefix-all : (xs zs : List Shown) → IsPrefix xs zs → slice_get zs (length xs) ≡ None → xs ≡ zs
+pub prefix-all : (xs zs : List Shown) → IsPrefix xs zs → slice_get zs (length xs) ≡ None → xs ≡ zs
 prefix-all xs zs p e = of p.0 p.1
   where
     of : (t : List Shown) → xs ++ t ≡ zs → xs ≡ zs

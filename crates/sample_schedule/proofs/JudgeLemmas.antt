@@ -1,6 +1,6 @@
 -- What each move of a judge leaves.
 use Rattle.std.proofs.Common.{◌≡◌, inl, inr, ℕ, zero, suc, ◌+◌, ◌-◌, ◌<◌, ◌≤◌, Bool, true, false, ℤ, pos, ◌≤ℤ◌, ◌<ℤ◌, List, [], ◌∷◌, ◌++◌, length, take, drop, map, Option, Some, None, Result, Ok, Err, refl, sym, ap, ◌∙◌, subst, append_assoc, append-nil, arith}
-use Rattle.std.specs.Prelude.{if◌then◌else◌, is_some, int_lt, slice_get, ◌≢◌}
+use Rattle.std.specs.Prelude.{if◌then◌else◌, is_some, slice_get, ◌≢◌}
 use Rattle.std.specs.Int.{int_max}
 use Rattle.std.specs.List.{AllByRecursion}
 use Rattle.std.specs.Option.{option_to_list}
@@ -453,13 +453,6 @@ nothing-last clock entries given s st ended idle none empty =
 
 -- ---- nothing is due
 
-starts-waiting : (t : ℤ) (ws : List Accepted) → due_of t ws ≡ [] → starts_due t ws ≡ false
-starts-waiting t [] e = refl
-starts-waiting t (w ∷ ws) e = elim (int_lt w.instant t) as (λ b. (if b then w ∷ due_of t ws else []) ≡ [] → b ≡ false) [
-  | true ↦ λ h. absurd cc
-  | false ↦ λ h. refl
-] e
-
 first-empty : (xs ys : List Accepted) → xs ++ ys ≡ [] → (xs ≡ []) × (ys ≡ [])
 first-empty [] ys e = (refl, e)
 first-empty (x ∷ xs) ys e = absurd cc
@@ -611,9 +604,6 @@ less-accepted inside s p a waiting after e judged list none =
 
 pub out-of : (clock : Clock) (entries : List Entry) (given : ℕ) (inside s : JudgeState) (shown : Shown) → inside ≡ s → slice_get (out clock inside entries) given ≡ Some shown → slice_get (out clock s entries) given ≡ Some shown
 out-of clock entries given inside s shown e h = subst (λ (x : JudgeState). slice_get (out clock x entries) given ≡ Some shown) e h
-
-pub out-of-none : (clock : Clock) (entries : List Entry) (given : ℕ) (inside s : JudgeState) → inside ≡ s → slice_get (out clock inside entries) given ≡ None → slice_get (out clock s entries) given ≡ None
-out-of-none clock entries given inside s e h = subst (λ (x : JudgeState). slice_get (out clock x entries) given ≡ None) e h
 
 pub out-keeps : (clock : Clock) (entries : List Entry) (old new : JudgeState) → Keeps old new → out clock new entries ≡ out clock old entries
 out-keeps clock entries old new k = rw (k.plan, k.closed) refl

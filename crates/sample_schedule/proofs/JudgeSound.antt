@@ -125,24 +125,6 @@ sound-pass s capacity size held pending next items is fits' same p =
 pub passes-fits : (line : List Pending) (pending : Pending) (capacity : ℕ) (next : Pending) (items : List Pending) → Passes line pending capacity next items → All IsPending line → IsPending pending → IsPending next
 passes-fits line pending capacity next items p all fits' = All-head IsPending next items (subst (All IsPending) (sym p.items) (All-push IsPending line pending all fits'))
 
-pub sound-front : (s : JudgeState) (capacity size : ℕ) (held : Held) (next : Pending) (rest : List Pending) → IsSound s capacity held → s.ahead ≡ next ∷ rest → size ≡ capacity → IsSound (record s { ahead = rest }) size held
-sound-front s capacity size held next rest is more same =
-    let all : All IsPending (next ∷ rest) = subst (All IsPending) more is.ahead in
-    let l : length s.ahead ≡ suc (length rest) = ap (λ (q : List Pending). length q) more in
-    let behind = is.behind in
-    let few = is.taken in
-    record {
-      plan = is.plan;
-      current = is.current;
-      ahead = All-tail IsPending next rest all;
-      line = same ∙ is.line;
-      behind = omega arith;
-      taken = omega arith;
-      room = is.room;
-      batches = is.batches;
-      bytes = is.bytes;
-    }
-
 -- an entry is judged next
 pub sound-next : (s : JudgeState) (capacity : ℕ) (held : Held) (next : Pending) (now : ℤ) → IsSound s capacity held → s.current ≡ None → taken s < 2 ^ 62 → IsPending next → IsSound (record s { time = now; current = Some next }) capacity held
 sound-next s capacity held next now is idle few fits' =
@@ -166,12 +148,6 @@ next_state s time next = record s { time = time; current = Some next }
 
 pub next-is : (inside s : JudgeState) (time : ℤ) (next : Pending) → inside ≡ s → time ≡ int_max inside.time (pending_arrival next) → next_state inside time next ≡ next_state s (int_max s.time (pending_arrival next)) next
 next-is inside s time next e is = ap (λ (t : ℤ). next_state inside t next) is ∙ ap (λ (x : JudgeState). next_state x (int_max x.time (pending_arrival next)) next) e
-
-pub few-passed : (s : JudgeState) (pending next : Pending) (capacity : ℕ) (items : List Pending) → Passes s.ahead pending capacity next items → taken s < 2 ^ 62 → taken (record s { ahead = items }) < 2 ^ 62
-few-passed s pending next capacity items p few = let l = p.size in omega arith
-
-pub few-front : (s : JudgeState) (next : Pending) (rest : List Pending) → s.ahead ≡ next ∷ rest → taken s ≤ 2 ^ 62 → taken (record s { ahead = rest }) < 2 ^ 62
-few-front s next rest more few = let l : length s.ahead ≡ suc (length rest) = ap (λ (q : List Pending). length q) more in omega arith
 
 pub puts-of : (pending : Pending) (inside s new : JudgeState) → inside ≡ s → Puts pending inside new → Puts pending s new
 puts-of pending inside s new e p = subst (λ (x : JudgeState). Puts pending x new) e p

@@ -1,10 +1,10 @@
 -- What holds of every schedule.
-use Rattle.std.proofs.Common.{◌≡◌, ℕ, zero, suc, ◌+◌, ◌<◌, ◌≤◌, Bool, true, false, cond, leb, ltb, ℤ, ◌≤ℤ◌, ◌<ℤ◌, List, [], ◌∷◌, ◌++◌, length, take, map, fold, Option, Some, None, Result, Ok, Err, refl, sym, ap, ◌∙◌, subst, append_assoc, append-nil, inl, inr, ⊎_elim, eq-eqb, ◌||◌, arith}
+use Rattle.std.proofs.Common.{◌≡◌, ℕ, zero, suc, ◌+◌, ◌<◌, ◌≤◌, Bool, true, false, cond, leb, ltb, ℤ, ◌≤ℤ◌, ◌<ℤ◌, List, [], ◌∷◌, ◌++◌, length, take, map, fold, Option, Some, None, Result, Ok, Err, refl, sym, ap, ◌∙◌, subst, append_assoc, append-nil, inl, inr, ⊎_elim, eq-eqb, arith}
 use Rattle.std.specs.Prelude.{◌==◌, if◌then◌else◌, int_lt, int_le, nat_lt, slice_get, option_and_then}
 use Rattle.std.specs.List.{list_any, AllByRecursion, sum_by}
 use Rattle.std.proofs.lemmas.Int.{ints, by_lt_z}
 use Rattle.avtp_base.proofs.RowLemmas.{unequal}
-use Rattle.std.proofs.lemmas.Bool.{cases_lt, le-ltb, lt-ltb}
+use Rattle.std.proofs.lemmas.Bool.{cases_lt, le-ltb, lt-ltb, or_parts}
 use Rattle.std.proofs.lemmas.List.{length-append}
 use Rattle.std.proofs.lemmas.List.Sums.{fold-append, sum_by-append}
 use Rattle.std.proofs.lemmas.List.Elements.{filter-append}
@@ -311,11 +311,7 @@ not_copy a y other e f = let t : is_copy a.instant a.batch.seq y ≡ true = rw (
 
 no_copies : (a : Accepted) (ys : List Accepted) → list_any (is_copy a.instant a.batch.seq) ys ≡ false → AllByRecursion (λ y. IsNoCopy y a) ys
 no_copies a [] other = tt
-no_copies a (y ∷ ys) other = let s = neither (is_copy a.instant a.batch.seq y) (list_any (is_copy a.instant a.batch.seq) ys) other in (not_copy a y s.0, no_copies a ys s.1)
-  where
-    neither : (x z : Bool) → (x || z) ≡ false → (x ≡ false) × (z ≡ false)
-    neither true z e = absurd cc
-    neither false z e = (refl, e)
+no_copies a (y ∷ ys) other = let s = or_parts (is_copy a.instant a.batch.seq y) (list_any (is_copy a.instant a.batch.seq) ys) other in (not_copy a y s.0, no_copies a ys s.1)
 
 turned : (a : Accepted) (ys : List Accepted) → AllByRecursion (λ y. IsNoCopy y a) ys → AllByRecursion (IsNoCopy a) ys
 turned a ys p = all-weaker (λ y. IsNoCopy y a) (IsNoCopy a) (λ y h e f. h (sym e) (sym f)) ys p

@@ -5,6 +5,7 @@ use Rattle.std.specs.Map.{lookup}
 use Rattle.std.proofs.lemmas.Bool.{or_left, or_from, or_right, cond-true, cond-false}
 use Rattle.std.proofs.lemmas.List.{map-append, length-append, length-take, take-append-drop, take-append-le, take_all}
 use Rattle.std.proofs.lemmas.List.Folds.{list_any-append}
+use Rattle.std.proofs.Math.Bool.{or-false}
 use Rattle.sequence_track.specs.declared.seen.Seen.{Seen}
 use Rattle.sequence_track.specs.declared.seen.Findings.{Findings}
 use Rattle.sequence_track.specs.declared.stream.StreamKey.{StreamKey}
@@ -195,11 +196,7 @@ any-own stream xs = list_any-append (same_stream stream) xs (stream ∷ []) ∙ 
 
 any-other : (q stream : StreamKey) (xs : List StreamKey) → same_stream q stream ≡ false → list_any (same_stream q) (xs ++ stream ∷ []) ≡ list_any (same_stream q) xs
 any-other q stream xs apart =
-    list_any-append (same_stream q) xs (stream ∷ []) ∙ ap (λ (b : Bool). list_any (same_stream q) xs || b) (or_from _ false apart refl) ∙ or_none (list_any (same_stream q) xs)
-  where
-    or_none : (b : Bool) → (b || false) ≡ b
-    or_none true = refl
-    or_none false = refl
+    list_any-append (same_stream q) xs (stream ∷ []) ∙ ap (λ (b : Bool). list_any (same_stream q) xs || b) (or_from _ false apart refl) ∙ or-false (list_any (same_stream q) xs)
 
 pub noted-new : (old new : List (StreamKey × StreamState)) (notes : List Seen) (seen : Seen) (state : StreamState)
     → StandsFor old notes → lookup (same_stream (stream_of seen)) old ≡ None → length old < most_streams

@@ -98,6 +98,3 @@ few_copies seed (suc n) =
       two_copies (draw_after seed (draws_before seed n)),
       few_copies seed n,
     )
-
-pub few_deliveries : (packets : ℕ) → length (deliveries_of packets) ≤ 2 * packets
-few_deliveries packets = omega (arith, sorted_long (all_copies packets packets), few_copies packets packets)

@@ -1,35 +1,23 @@
 -- What a hearing has shown, step by step.
-use Rattle.std.proofs.Common.{◌≡◌, ℕ, ℤ, Bool, zero, suc, ◌+◌, ◌^◌, ◌<◌, ◌≤◌, true, false, List, [], ◌∷◌, ◌++◌, length, map, take, get_or, Some, None, Result, Ok, Err, refl, sym, ap, subst, ◌∙◌, arith, take_all, length-take}
-use Rattle.std.specs.Prelude.{cond, count_by, is_err, slice_get, MatchResult}
+use Rattle.std.proofs.Common.{◌≡◌, ℕ, ℤ, zero, suc, ◌+◌, ◌^◌, ◌<◌, ◌≤◌, true, false, List, [], ◌∷◌, ◌++◌, length, map, take, get_or, Some, None, refl, sym, ap, subst, ◌∙◌, arith, take_all, length-take}
+use Rattle.std.specs.Prelude.{slice_get}
 use Rattle.std.proofs.lemmas.List.{map_more}
-use Rattle.std.proofs.lemmas.List.Sums.{sum_by-cons}
 use mathlib.Core.List.{IsPrefix}
 use Rattle.pcap_frames.specs.Capture.{Record}
 use Rattle.sample_schedule.specs.declared.shown.Shown.{Shown}
-use Rattle.sample_schedule.specs.declared.shown.Shown.TheVariants.{Present, Flag}
 use Rattle.listener.specs.declared.heard.Counts.{Counts}
-use Rattle.listener.specs.declared.plan.ListenPlan.{ListenPlan}
-use Rattle.listener.specs.Heard.{due_of, is_flag, is_present, shown_of}
 use Rattle.listener.specs.Listening.{Keeps, ListenState, StandsFor, is_closed, out}
-use Rattle.listener.proofs.Due.{due_first, due_stays}
 use Rattle.listener.proofs.Few.{few}
-use Rattle.listener.proofs.Listened.{out_ended, out_open, out_same, take_first, take_next}
+use Rattle.listener.proofs.Listened.{out_same, take_first, take_next, out_further, out_at_end}
 use Rattle.talker.specs.Journal.{stream_of}
 use Rattle.talker.specs.Talking.{Talking}
 use Rattle.soak_run.specs.declared.hearing.Stage.{Stage}
 use Rattle.soak_run.specs.declared.hearing.Stage.TheVariants.{Giving, Showing, Ended, NoMemory}
 use Rattle.soak_run.specs.Captured.{captured}
 use Rattle.soak_run.specs.Hearing.{Shows, closed_at, left_of, pull_at, records_of, shown_by, steps_left}
+use Rattle.listener.proofs.Places.{presented-or-flagged}
 
 -- ---- how many items were shown
-
-count-next : (p : Shown → Bool) (x : Shown) (xs : List Shown) → count_by p (x ∷ xs) ≡ cond (p x) 1 0 + count_by p xs
-count-next p x xs = sum_by-cons (λ (y : Shown). cond (p y) 1 0) x xs
-
-presented-or-flagged : (list : List Shown) → count_by is_present list + count_by is_flag list ≡ length list
-presented-or-flagged [] = refl
-presented-or-flagged (Present batch ∷ list) = omega (arith, count-next is_present (Present batch) list, count-next is_flag (Present batch) list, presented-or-flagged list)
-presented-or-flagged (Flag frame seq reason ∷ list) = omega (arith, count-next is_present (Flag frame seq reason) list, count-next is_flag (Flag frame seq reason) list, presented-or-flagged list)
 
 -- as many as were presented or flagged
 shown_count : (listener : ListenState) (records : List Record) (given : ℕ) → StandsFor records given listener → shown_by listener ≡ given
@@ -130,17 +118,10 @@ shows_further {before} {after} {old} {new} first step was =
 
 module _ {old new : ListenState} {records : List Record} {items : List Shown} (opened : is_closed old ≡ false) (plan : new.plan ≡ old.plan) where
   pub shows_record : (r : Record) → is_closed new ≡ false → ((given : ℕ) → StandsFor records given old → StandsFor (records ++ r ∷ []) given new) → Shows records old items → Shows (records ++ r ∷ []) new items
-  shows_record r still step was =
-      let all = records ++ r ∷ [] in
-      let before = out_open old records opened in
-      let after : out new all ≡ due_of old.plan all = out_open new all still ∙ ap (λ (p : ListenPlan). due_of p all) plan in
-      shows_further (subst (λ (l : List Shown). IsPrefix l (out new all)) (sym before) (subst (IsPrefix (due_of old.plan records)) (sym after) (due_stays old.plan records (r ∷ [])))) step was
+  shows_record r still step was = shows_further (out_further old new records (r ∷ []) opened still plan) step was
 
   pub shows_closed : is_closed new ≡ true → ((given : ℕ) → StandsFor records given old → StandsFor records given new) → Shows records old items → Shows records new items
-  shows_closed closed step was =
-      let before = out_open old records opened in
-      let after : out new records ≡ shown_of old.plan records = out_ended new records closed ∙ ap (λ (p : ListenPlan). shown_of p records) plan in
-      shows_further (subst (λ (l : List Shown). IsPrefix l (out new records)) (sym before) (subst (IsPrefix (due_of old.plan records)) (sym after) (due_first old.plan records))) step was
+  shows_closed closed step was = shows_further (out_at_end old new records opened closed plan) step was
 
 -- the records with that of the next delivery
 records_next : (talker : Talking) (deliveries : List (ℤ × ℕ)) (given : ℕ) (other : ℤ × ℕ) → given < length deliveries
@@ -165,10 +146,6 @@ module _ {old new : ListenState} {talker talker' : Talking} (deliveries : List (
 pub shows_same : {old new : ListenState} {talker talker' : Talking} (deliveries : List (ℤ × ℕ)) (given : ℕ) {items : List Shown} → talker' ≡ talker → new ≡ old → Shows (records_of talker deliveries given) old items → Shows (records_of talker' deliveries given) new items
 shows_same {old} {new} {talker} {talker'} deliveries given {items} same still was =
     subst (λ (t : Talking). Shows (records_of t deliveries given) new items) (sym same) (subst (λ (l : ListenState). Shows (records_of talker deliveries given) l items) (sym still) was)
-
-pub heard_same : {old new : ListenState} {talker talker' : Talking} (deliveries : List (ℤ × ℕ)) (given : ℕ) → talker' ≡ talker → new ≡ old → Heard talker deliveries given old → Heard talker' deliveries given new
-heard_same {old} {new} {talker} {talker'} deliveries given same still was =
-    subst (λ (t : Talking). Heard t deliveries given new) (sym same) (subst (λ (l : ListenState). Heard talker deliveries given l) (sym still) was)
 
 -- ---- stages
 
@@ -205,11 +182,3 @@ steps_over Ended deliveries given giving = absurd cc
 steps_over NoMemory deliveries given giving = absurd cc
 
 -- ---- results
-
-pub went_on : {T E : Type 0} (result : Result T E) (A B : Type 0) → is_err result ≡ false → MatchResult result (λ _. A) (λ _. B) → A
-went_on (Ok x) A B fine on = on
-went_on (Err e) A B fine on = absurd cc
-
-pub went_wrong : {T E : Type 0} (result : Result T E) (A B : Type 0) → is_err result ≡ true → MatchResult result (λ _. A) (λ _. B) → B
-went_wrong (Ok x) A B failed on = absurd cc
-went_wrong (Err e) A B failed on = on

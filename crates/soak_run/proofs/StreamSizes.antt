@@ -1,5 +1,5 @@
 -- How many samples there are, and how many packets they fill.
-use Rattle.std.proofs.Common.{◌≡◌, ℕ, zero, suc, ◌+◌, ◌*◌, ◌/◌, ◌%◌, ◌≤◌, true, ◌⊎◌, inl, inr, Some, None, List, [], ◌∷◌, ◌++◌, length, refl, sym, ap, ◌∙◌, arith, length-append}
+use Rattle.std.proofs.Common.{◌≡◌, ℕ, zero, suc, ◌*◌, ◌/◌, ◌%◌, ◌≤◌, true, ◌⊎◌, inl, inr, Some, None, List, [], ◌∷◌, ◌++◌, length, refl, sym, ap, ◌∙◌, arith, length-append}
 use Rattle.std.specs.Prelude.{◌==◌}
 use Rattle.std.specs.List.{flat_map, range_with_len}
 use Rattle.std.specs.Int.{div_ceil}
@@ -17,15 +17,12 @@ use Rattle.talker.specs.Talking.{most_input}
 use Rattle.talker.proofs.StreamLemmas.{count_of, packets_in}
 use Rattle.talker.proofs.TalkLemmas.{none_late}
 use Rattle.soak_run.specs.Captured.{sample_frame, sample_frames, soak_input}
-
-range_more : (from n next : ℕ) → from + n ≡ next → range_with_len from (suc n) ≡ range_with_len from n ++ next ∷ []
-range_more from zero next e = let same : from ≡ next = omega arith in ap (λ (x : ℕ). x ∷ []) same
-range_more from (suc n) next e = ap (λ (l : List ℕ). from ∷ l) (range_more (from + 1) n next (omega arith))
+use Rattle.talker.proofs.SoakLemmas.{range-more}
 
 -- one sample frame more
 pub frames_more : (n : ℕ) → sample_frames (suc n) ≡ sample_frames n ++ sample_frame n
 frames_more n =
-    ap (λ (l : List ℕ). flat_map sample_frame l) (range_more 0 n n (omega arith))
+    ap (λ (l : List ℕ). flat_map sample_frame l) (range-more 0 n n (omega arith))
     ∙ flat_map-append sample_frame (range_with_len 0 n) (n ∷ [])
     ∙ ap (λ (l : List ℕ). sample_frames n ++ l) (append-nil (sample_frame n))
 

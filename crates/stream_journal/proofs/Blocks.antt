@@ -9,6 +9,7 @@ use Rattle.stream_journal.specs.Examples.{blocks_of_six, came, each_eighth, each
 use Rattle.stream_journal.specs.Journal.{Journal, head_of, nominal_instant, rule_of}
 use Rattle.stream_journal.proofs.Restarted.{Each, each_below}
 use Rattle.stream_journal.proofs.Worked.{no_clock-is, no_clock-agrees}
+use Rattle.stream_journal.proofs.RestartedCopies.{same_stamp, no_stamp}
 
 -- ---- what is asked of each packet
 
@@ -123,12 +124,6 @@ sixteenth_conform =
 
 abbrev Comes : Copy → Type 0
 Comes c = IsDelivered each_sixteenth 2000000 c
-
-same_stamp : (r : Option ℕ) (i k arrival : ℕ) → r ≡ Some i → r ≡ Some k → IsInHalfCircle i arrival → IsInHalfCircle k arrival
-same_stamp r i k arrival e f near = let same : i ≡ k = cc in rw (← same) near
-
-no_stamp : (r : Option ℕ) (k arrival : ℕ) → r ≡ None → r ≡ Some k → IsInHalfCircle k arrival
-no_stamp r k arrival e f = absurd cc
 
 stamped : (n a i : ℕ) → n < 8 → a ≤ 2 ^ 62 → each_sixteenth.stamp n ≡ Some i → IsInHalfCircle i a → Comes (came n a)
 stamped n a i known arrival e near = record {

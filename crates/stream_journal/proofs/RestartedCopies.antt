@@ -7,10 +7,10 @@ use Rattle.stream_journal.specs.Examples.{came, restarted, restarted_copies, res
 abbrev Comes : Copy → Type 0
 Comes c = IsDelivered restarted 2000000 c
 
-same_stamp : (r : Option ℕ) (i k arrival : ℕ) → r ≡ Some i → r ≡ Some k → IsInHalfCircle i arrival → IsInHalfCircle k arrival
+pub same_stamp : (r : Option ℕ) (i k arrival : ℕ) → r ≡ Some i → r ≡ Some k → IsInHalfCircle i arrival → IsInHalfCircle k arrival
 same_stamp r i k arrival e f near = let same : i ≡ k = cc in rw (← same) near
 
-no_stamp : (r : Option ℕ) (k arrival : ℕ) → r ≡ None → r ≡ Some k → IsInHalfCircle k arrival
+pub no_stamp : (r : Option ℕ) (k arrival : ℕ) → r ≡ None → r ≡ Some k → IsInHalfCircle k arrival
 no_stamp r k arrival e f = absurd cc
 
 stamped : (n a i : ℕ) → n < 20 → a ≤ 2 ^ 62 → restarted.stamp n ≡ Some i → IsInHalfCircle i a → Comes (came n a)

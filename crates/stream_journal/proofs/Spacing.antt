@@ -1,5 +1,5 @@
 -- How far apart packets are due, and where the sample is due that is counted from a stamp.
-use Rattle.std.proofs.Common.{◌≡◌, ℕ, zero, suc, ◌+◌, ◌-◌, ◌*◌, ◌<◌, ◌≤◌, ℤ, pos, neg_ℤ, ◌+ℤ◌, ◌-ℤ◌, ◌*ℤ◌, refl, ap, inl, inr, subst, arith}
+use Rattle.std.proofs.Common.{◌≡◌, ℕ, zero, suc, ◌+◌, ◌-◌, ◌*◌, ◌<◌, ◌≤◌, ℤ, pos, neg_ℤ, ◌+ℤ◌, ◌-ℤ◌, refl, ap, inl, inr, subst, arith}
 use Rattle.std.proofs.Math.Nat.{mul-le-mul_left}
 use Rattle.std.proofs.lemmas.Bool.{cases_lt}
 use Rattle.std.proofs.lemmas.Int.{ints}
@@ -8,6 +8,7 @@ use Rattle.time_unfold.specs.Lines.{instant_at, nominal_line}
 use Rattle.time_unfold.proofs.OnLine.{instant_at-at}
 use Rattle.stream_journal.specs.Journal.{Journal}
 use Rattle.stream_journal.specs.Conforming.{IsApart, IsAudio}
+use Rattle.time_unfold.proofs.Floors.{one_more}
 
 -- ---- first instants add up
 
@@ -29,17 +30,11 @@ pub record IsBefore (rate due stamp index : ℕ) : Type 0 where
   pub from : due * rate + index * 1000000000 ≤ stamp * rate
   pub to : stamp * rate < due * rate + rate + index * 1000000000
 
-scaled : (z : ℤ) (due stamp rate : ℕ) → z ≡ pos due -ℤ pos stamp → up z * rate + stamp * rate ≡ down z * rate + due * rate
+pub scaled : (z : ℤ) (due stamp rate : ℕ) → z ≡ pos due -ℤ pos stamp → up z * rate + stamp * rate ≡ down z * rate + due * rate
 scaled z due stamp rate e =
     let h : up z + stamp ≡ down z + due = omega (arith, ints) in
     let f : rate * (up z + stamp) ≡ rate * (down z + due) = ap (λ (x : ℕ). rate * x) h in
     omega arith
-
-one_more : (q : ℤ) (d : ℕ) → (q +ℤ pos 1) *ℤ pos d ≡ q *ℤ pos d +ℤ pos d
-one_more q d =
-    let e : up (q +ℤ pos 1) + down q ≡ down (q +ℤ pos 1) + up q + 1 = omega (arith, ints) in
-    let f : d * (up (q +ℤ pos 1) + down q) ≡ d * (down (q +ℤ pos 1) + up q + 1) = ap (λ (n : ℕ). d * n) e in
-    omega (arith, ints)
 
 pub before_stamp : (due stamp index rate : ℕ) → 0 < rate → pos due ≡ instant_at (nominal_line (pos stamp) rate) (neg_ℤ (pos index) +ℤ pos 0) → IsBefore rate due stamp index
 before_stamp due stamp index rate some e =

@@ -7,6 +7,7 @@ use Rattle.clock_track.specs.Pairs.{IsJoined, period, pull_down, pull_up}
 use Rattle.clock_track.proofs.Pairs.{period-natural}
 use Rattle.stream_journal.specs.Clocks.{ClockJournal, Follows, IsJoinedAt, IsNext, Place, SeemNext, SeemsJoined, pair_at, point}
 use Rattle.stream_journal.specs.Conforming.{IsClock}
+use Rattle.clock_track.proofs.LineFacts.{product}
 
 -- ---- a point and the next one
 
@@ -22,11 +23,6 @@ up_of c = c.base * pull_up c.pull
 
 pub some_down : (pull : ℕ) → 1 ≤ pull_down pull
 some_down pull = grind (arith, nat_tests)
-
-product : (a b : ℕ) → 1 ≤ a → 1 ≤ b → 1 ≤ a * b
-product (suc a) (suc b) p q = omega arith
-product zero b p q = absurd (omega arith)
-product (suc a) zero p q = absurd (omega arith)
 
 some_time : (c : ClockJournal) → IsClock c → 1 ≤ time_of c
 some_time c is =

@@ -76,7 +76,7 @@ all_true true true false d e h = absurd cc
 all_true true false c d e h = absurd cc
 all_true false b c d e h = absurd cc
 
-one_flag : (a b : Bool) → same_flag a b ≡ true → a ≡ b
+pub one_flag : (a b : Bool) → same_flag a b ≡ true → a ≡ b
 one_flag true b h = sym h
 one_flag false true h = absurd cc
 one_flag false false h = refl
@@ -123,7 +123,7 @@ true_heads j is lead room c far stamps un all =
 
 -- ---- it is the journal's head
 
-flag_of : (a b : Bool) → a ≡ b → same_flag a b ≡ true
+pub flag_of : (a b : Bool) → a ≡ b → same_flag a b ≡ true
 flag_of true true e = refl
 flag_of true false e = absurd cc
 flag_of false true e = absurd cc

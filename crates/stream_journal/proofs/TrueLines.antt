@@ -20,6 +20,7 @@ use Rattle.stream_journal.specs.Conforming.{AgreesWithClock, IsClock}
 use Rattle.stream_journal.specs.Journal.{IsAtByClock, Journal, head_of}
 use Rattle.stream_journal.proofs.OneInstant.{head_stamped}
 use Rattle.stream_journal.proofs.TrueClock.{at_place, true_pairs}
+use Rattle.stream_journal.proofs.TrueHeads.{one_flag}
 
 -- ---- a row and its packet
 
@@ -78,11 +79,6 @@ inside_true c is shift row m of i within =
 record IsNextRow (row before : ClockRow) : Type 0 where
   seq : row.seq ≡ (before.seq + 1) % 256
   mr : row.mr ≡ before.mr
-
-one_flag : (a b : Bool) → same_flag a b ≡ true → a ≡ b
-one_flag true b h = sym h
-one_flag false true h = absurd cc
-one_flag false false h = refl
 
 next_so : (row before : ClockRow) → seems_next row before ≡ true → IsNextRow row before
 next_so row before e = cases (row.seq == (before.seq + 1) % 256) (same_flag row.mr before.mr) _ refl refl e

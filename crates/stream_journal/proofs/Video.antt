@@ -59,9 +59,6 @@ IsOfUnit n = ¬ Ends (video_part n) → video.due (suc n) ≡ video.due n
 each_unit : Each IsOfUnit 3
 each_unit = (((tt, (λ e. absurd (e (inl refl)))), (λ e. refl)), (λ e. refl))
 
-abbrev IsLastPart : ℕ → Type 0
-IsLastPart n = 4 ≡ suc n → Ends (video_part n)
-
 last_of : (n : ℕ) → 4 ≡ suc n → Ends (video_part n)
 last_of n e = let three : 3 ≡ n = omega arith in subst (λ (m : ℕ). Ends (video_part m)) three (inr refl)
 

@@ -27,7 +27,7 @@ use Rattle.talker.proofs.RateLemmas.{rate_from, rate_range}
 use Rattle.talker.proofs.RunLemmas.{new_bit}
 use Rattle.talker.proofs.SampleLemmas.{begun_within, samples_whole}
 use Rattle.talker.proofs.StreamLemmas.{IsStream}
-use Rattle.talker.proofs.TimingLemmas.{apart, in_time, rising, short_offset, sum_of}
+use Rattle.talker.proofs.TimingLemmas.{apart, in_time, rising, short_offset, sum_of, lead_within}
 
 -- What a format keeps, with the bytes of the headers of its frames.
 pub record IsFormatOf (plan : TalkPlan) (a : Audio) (headers : ℕ) : Type 0 where
@@ -54,11 +54,6 @@ timely plan a headers input n p is limit h =
     let begins : n * (plan.count * a.frame) < length input = begun_within a.frame plan.count n input is.some p.some_count h in
     let fewer : n * plan.count ≤ n * plan.count * a.frame = le-mul_of_pos_right (n * plan.count) is.some in
     omega (arith, mul_assoc n plan.count a.frame)
-
--- it is sent its lead before its nominal first instant
-ahead : (plan : TalkPlan) (n : ℕ) → arrival_of plan n + plan.lead ≡ first_instant plan n
-unfolding nominal_instant
-ahead plan n = omega arith
 
 -- a sample frame of it is soon after its first
 soon : (plan : TalkPlan) (n i : ℕ) → IsAudioPlan plan → i < plan.count → (first_instant plan n ≤ nominal_instant plan n i) × (nominal_instant plan n i ≤ first_instant plan n + 184500001)
@@ -178,7 +173,7 @@ near_due kind plan packets lead n p k near =
     let range = rate_range plan p in
     let due = due_near kind plan packets n p k in
     let found = near_by (arrival_of plan n) lead plan.lead (first_instant plan n) (due_in (nominal_times kind plan packets) n) plan.rate (plan.count * 1000000000)
-    (ahead plan n) (omega (arith, due.from, most_late plan.crf)) (omega (arith, due.to, most_early plan.crf)) (omega (arith, range.most, p.some_count)) near.from near.to in
+    (lead_within plan n) (omega (arith, due.from, most_late plan.crf)) (omega (arith, due.to, most_early plan.crf)) (omega (arith, range.most, p.some_count)) near.from near.to in
     record { from = found.0; to = found.1 }
 
 unstamped : (kind : Kind) (plan : TalkPlan) (n : ℕ) (b : Bool) → is_stamped (rule_of kind n) n plan.count ≡ b → stamp_of kind plan n ≡ None → b ≡ false
@@ -191,8 +186,8 @@ in_circle kind plan n instant p k e =
     let near = soon plan n (stamped_index (rule_of kind n)) p stamp.within in
     let by = stamped_near plan n (stamped_index (rule_of kind n)) p in
     record {
-      from = omega (arith, stamp.same, ahead plan n, near.1, p.lead, by.late, most_late plan.crf);
-      to = omega (arith, stamp.same, ahead plan n, near.0, by.early, most_early plan.crf);
+      from = omega (arith, stamp.same, lead_within plan n, near.1, p.lead, by.late, most_late plan.crf);
+      to = omega (arith, stamp.same, lead_within plan n, near.0, by.early, most_early plan.crf);
     }
 
 on_time : (plan : TalkPlan) (a : Audio) (headers : ℕ) (input : List ℕ) (lead n : ℕ) → IsAudioPlan plan → IsFormatOf plan a headers → length input ≤ most_input → Expects plan lead
@@ -201,7 +196,7 @@ on_time plan a headers input lead n p is limit expects h =
     let most = in_time plan n 0 p (timely plan a headers input n p is limit h) p.some_count in
     record {
       known = h;
-      arrival = omega (arith, ahead plan n, p.lead);
+      arrival = omega (arith, lead_within plan n, p.lead);
       stamped = λ instant e. in_circle a.kind plan n instant p is.kind e;
       unstamped = λ audio none. near_due a.kind plan (packets_of a plan input) lead n p is.kind
           (is.leads lead n expects (unstamped a.kind plan n (is_stamped (rule_of a.kind n) n plan.count) refl none));
@@ -221,7 +216,7 @@ sent_early : (kind : Kind) (plan : TalkPlan) (packets n : ℕ) → IsAudioPlan p
     → arrival_of plan n ≤ due_in (nominal_times kind plan packets) n
 sent_early kind plan packets n p k ready =
     let due = due_near kind plan packets n p k in
-    omega (arith, ahead plan n, due.to, early_lead plan.crf plan.lead p.some_lead ready)
+    omega (arith, lead_within plan n, due.to, early_lead plan.crf plan.lead p.some_lead ready)
 
 -- ---- all of it
 
@@ -229,7 +224,7 @@ pub audio_stream : (plan : TalkPlan) (a : Audio) (headers : ℕ) (input : List �
 audio_stream plan a headers input p is limit = record {
   rising = λ n. rising plan n p;
   early = λ n ready h. sent_early a.kind plan (packets_of a plan input) n p is.kind ready;
-  sent = λ n h. let most = in_time plan n 0 p (timely plan a headers input n p is limit h) p.some_count in omega (arith, ahead plan n);
+  sent = λ n h. let most = in_time plan n 0 p (timely plan a headers input n p is limit h) p.some_count in omega (arith, lead_within plan n);
   size = λ n h.
       let bytes = is.bytes n (samples_in a plan input n) (samples_whole a.silence a.frame plan.count n input is.silence) in
       omega (arith, bytes, is.size);

@@ -14,20 +14,9 @@ use Rattle.stream_journal.specs.Conforming.{IsSteady}
 use Rattle.talker.specs.Beats.{Beat, IsBeat, IsNextStart, pair_from, point_at, stamped_at}
 use Rattle.talker.specs.Timing.{nominal_offset}
 use Rattle.talker.proofs.TimingLemmas.{is_offset, sum_of}
+use Rattle.clock_track.proofs.LineFacts.{less, at_most}
 
 -- ---- numbers
-
-less : (w a b : ℕ) → w * a < w * b → a < b
-less w a b h = elim (cases_lt a b) [
-  | inl below ↦ below
-  | inr above ↦ let times : w * b ≤ w * a = mul-le-mul_left w above in absurd (omega arith)
-]
-
-at_most : (w a b : ℕ) → 1 ≤ w → w * a ≤ w * b → a ≤ b
-at_most w a b some h = elim (cases_lt b a) [
-  | inl below ↦ let times : w * (b + 1) ≤ w * a = mul-le-mul_left w (omega arith) in absurd (omega arith)
-  | inr above ↦ above
-]
 
 -- ---- the period from one point to the next
 

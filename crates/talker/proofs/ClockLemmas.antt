@@ -19,6 +19,7 @@ use Rattle.talker.specs.Timing.{event_of, nominal_instant, nominal_offset, run_o
 use Rattle.talker.proofs.BeatLemmas.{is_stamped, stamped_early}
 use Rattle.talker.proofs.RateLemmas.{rate_range}
 use Rattle.talker.proofs.TimingLemmas.{is_offset}
+use Rattle.clock_track.proofs.LineFacts.{product}
 
 -- ---- the two rates
 
@@ -38,9 +39,6 @@ is_pull (suc (suc (suc zero))) few = record { up = omega arith; down = omega ari
 is_pull (suc (suc (suc (suc zero)))) few = record { up = omega arith; down = omega arith; few_up = omega arith; few_down = omega arith; slow = omega arith }
 is_pull (suc (suc (suc (suc (suc zero))))) few = record { up = omega arith; down = omega arith; few_up = omega arith; few_down = omega arith; slow = omega arith }
 is_pull (suc (suc (suc (suc (suc (suc pull)))))) few = absurd (omega arith)
-
-product : (a b : ℕ) → 1 ≤ a → 1 ≤ b → 1 ≤ a * b
-product a b p q = let h : a * 1 ≤ a * b = mul-le-mul_left a q in omega arith
 
 whole_part : (a b : ℕ) → 1 ≤ a → a % b ≡ 0 → (a / b * b ≡ a) × (1 ≤ a / b)
 whole_part a b some whole =

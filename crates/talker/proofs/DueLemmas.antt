@@ -1,5 +1,5 @@
 -- When the packets of a kind are due.
-use Rattle.std.proofs.Common.{subst, zero, suc, ◌%◌, ◌≡◌, ℕ, ◌+◌, ◌-◌, ◌*◌, ◌<◌, ◌≤◌, Bool, true, false, ℤ, pos, neg_ℤ, nat_abs, ◌+ℤ◌, ◌-ℤ◌, ◌*ℤ◌, Option, Some, None, inl, inr, refl, sym, ap, ◌∙◌, arith}
+use Rattle.std.proofs.Common.{subst, zero, suc, ◌%◌, ◌≡◌, ℕ, ◌+◌, ◌-◌, ◌*◌, ◌<◌, ◌≤◌, Bool, true, false, ℤ, pos, neg_ℤ, nat_abs, ◌+ℤ◌, ◌-ℤ◌, ◌*ℤ◌, Option, Some, None, inl, inr, refl, ap, ◌∙◌, arith}
 use Rattle.std.specs.Prelude.{IsSome, ◌==◌, if◌then◌else◌, nat_le, option_map}
 use Rattle.std.specs.Int.{div_ceil}
 use Rattle.std.proofs.Math.Nat.{mul-le-mul_right}
@@ -7,7 +7,6 @@ use Rattle.std.proofs.lemmas.Bool.{cases_lt}
 use Rattle.std.proofs.lemmas.Bool.Decides.{nat_tests}
 use Rattle.std.proofs.lemmas.Grind.{div_ceil_times}
 use Rattle.std.proofs.lemmas.Int.{ints}
-use borrow.Author.Differences.{up, down}
 use Rattle.time_unfold.specs.declared.line.Line.{Line}
 use Rattle.time_unfold.specs.Lines.{IsAt, floor_of, instant_at, nominal_line}
 use Rattle.time_unfold.specs.Stamps.{same_flag}
@@ -18,7 +17,7 @@ use Rattle.time_unfold.specs.Heads.{distance, stamped_index}
 use Rattle.stream_journal.specs.Journal.{Journal, Kind, head_of, nominal_instant as journal_instant, rule_of}
 use Rattle.stream_journal.specs.Conforming.{AgreesWithClock, HasBlocks, IsAudio, IsOfKind, is_stamped}
 use Rattle.stream_journal.specs.Delivered.{IsFragment}
-use Rattle.stream_journal.proofs.Spacing.{IsBefore}
+use Rattle.stream_journal.proofs.Spacing.{IsBefore, scaled}
 use Rattle.talker.specs.declared.plan.TalkPlan.{TalkPlan}
 use Rattle.talker.specs.declared.plan.CrfPlan.{CrfPlan}
 use Rattle.talker.specs.Clock.{stamped_instant}
@@ -30,6 +29,8 @@ use Rattle.talker.proofs.ClockLemmas.{IsNear, early_by, late_by, most_early, sta
 use Rattle.talker.proofs.RateLemmas.{rate_from, rate_range}
 use Rattle.talker.proofs.RunLemmas.{in_run, no_later_run, one_run, whole}
 use Rattle.talker.proofs.TimingLemmas.{apart, is_offset, sum_of}
+use Rattle.stream_journal.proofs.TrueHeads.{flag_of, one_flag}
+use Rattle.time_unfold.proofs.Floors.{one_more}
 
 -- ---- what kinds of audio keep
 
@@ -92,11 +93,6 @@ has_room plan (suc n) m i p first =
     let early = most_early plan.crf in
     let some = third plan n p in
     omega (arith, near.early)
-
-one_flag : (a b : Bool) → same_flag a b ≡ true → a ≡ b
-one_flag true b h = sym h
-one_flag false true h = absurd cc
-one_flag false false h = refl
 
 before : (a b : ℕ) → nat_le a b ≡ true → a ≤ b
 before a b e = grind (arith, nat_tests)
@@ -210,18 +206,6 @@ record IsNearby (x : ℤ) (first : ℕ) : Type 0 where
   same : x ≡ pos due
   from : due ≤ first
   to : first ≤ due + 1
-
-scaled : (z : ℤ) (due stamp rate : ℕ) → z ≡ pos due -ℤ pos stamp → up z * rate + stamp * rate ≡ down z * rate + due * rate
-scaled z due stamp rate e =
-    let h : up z + stamp ≡ down z + due = omega (arith, ints) in
-    let f : rate * (up z + stamp) ≡ rate * (down z + due) = ap (λ (x : ℕ). rate * x) h in
-    omega arith
-
-one_more : (q : ℤ) (d : ℕ) → (q +ℤ pos 1) *ℤ pos d ≡ q *ℤ pos d +ℤ pos d
-one_more q d =
-    let e : up (q +ℤ pos 1) + down q ≡ down (q +ℤ pos 1) + up q + 1 = omega (arith, ints) in
-    let f : d * (up (q +ℤ pos 1) + down q) ≡ d * (down (q +ℤ pos 1) + up q + 1) = ap (λ (n : ℕ). d * n) e in
-    omega (arith, ints)
 
 -- so many samples before a stamp
 at_before : (due stamp index rate : ℕ) → IsBefore rate due stamp index → IsAt (nominal_line (pos stamp) rate) (neg_ℤ (pos index) +ℤ pos 0) (pos due)
@@ -369,12 +353,6 @@ head_due kind plan packets n head p k e =
 no_later : (a b : ℕ) → a ≤ b → nat_le a b ≡ true
 no_later a b h = grind (arith, nat_tests)
 
-flags : (a b : Bool) → a ≡ b → same_flag a b ≡ true
-flags true true e = refl
-flags true false e = absurd cc
-flags false true e = absurd cc
-flags false false e = refl
-
 some_of : (h : Option Head) (head : Head) → h ≡ Some head → IsSome h
 some_of h head e = rw e refl
 
@@ -393,7 +371,7 @@ has_by kind plan packets n false p k e behind same =
     let near : nat_le d n ≡ true = no_later d n (omega arith) in
     some_of (head_of (nominal_times kind plan packets) n)
     (record { instant = pos (stamped_instant plan (n - d) (stamped_index (rule_of kind (n - d)))); first = pos is.far.samples })
-    (rw (e, is.is_far, near, flags (mr_of plan (n - d)) (mr_of plan n) bits, is.stamped) refl)
+    (rw (e, is.is_far, near, flag_of (mr_of plan (n - d)) (mr_of plan n) bits, is.stamped) refl)
 
 pub has_head : (kind : Kind) (plan : TalkPlan) (packets n : ℕ) → IsAudioPlan plan → IsKindOf plan kind → 7 ≤ n → run_of plan (n - 7) ≡ run_of plan n
     → IsSome (head_of (nominal_times kind plan packets) n)

@@ -2,6 +2,7 @@
 use Rattle.std.proofs.Common.{◌≡◌, ◌≢◌, ℕ, ◌+◌, ◌-◌, ◌<◌, Bool, true, false, not, List, [], ◌∷◌, length, Option, Some, None, is_some, refl, ◌∙◌, sym, arith}
 use Rattle.std.specs.Prelude.{if◌then◌else◌, is_none}
 use Rattle.std.proofs.lemmas.Bool.Decides.{nat_tests}
+use Rattle.std.proofs.lemmas.Bool.{false_from_ne_true, not-false}
 use Rattle.memchr.specs.Find.{FindsNeedle}
 use Rattle.memchr.proofs.lemmas.MatchLemmas.{OccursAt-true, occurs_at-true}
 use Rattle.cvf_format.specs.AnnexB.{is_start_code, nal_units, start_code}
@@ -14,17 +15,13 @@ use Rattle.talker.specs.Units.{has_long_access_unit, has_other_type, has_start_c
 use Rattle.talker.specs.Rows.{first_of, row}
 use Rattle.talker.proofs.LongUnits.{any_at, any_nowhere, any_there, apart, long_is, none_at, not_at}
 
-not_true : (b : Bool) → (b ≡ true → ⊥) → b ≡ false
-not_true true never = absurd (never refl)
-not_true false never = refl
-
 pub no_code : (bytes : List ℕ) (r : Option ℕ) → FindsNeedle bytes start_code 0 r → is_none r ≡ true → units_fault bytes ≡ Some StartCode
 unfolding units_fault
 no_code bytes (Some k) none is = absurd cc
 no_code bytes None none is =
     let e : has_start_code bytes ≡ false =
     any_nowhere (is_start_code bytes) 0 (length bytes)
-    (λ k from below. not_true (is_start_code bytes k) (λ t. none k from (omega arith) (OccursAt-true bytes start_code k t))) in
+    (λ k from below. false_from_ne_true (is_start_code bytes k) (λ t. none k from (omega arith) (OccursAt-true bytes start_code k t))) in
     rw e refl
 
 some_code : (bytes : List ℕ) (r : Option ℕ) → FindsNeedle bytes start_code 0 r → is_some r ≡ true → has_start_code bytes ≡ true
@@ -70,13 +67,9 @@ accepted_is bytes e =
     let is = accepted_by (has_start_code bytes) (has_other_type bytes) (has_long_access_unit bytes) e in
     record { code = is.0; types = is.1; short = is.2 }
 
-not_not : (b : Bool) → not b ≡ false → b ≡ true
-not_not true e = refl
-not_not false e = absurd cc
-
 pub types_are : (bytes : List ℕ) (i : ℕ) → units_fault bytes ≡ None → i < length (nal_units bytes) → is_single_type (type_in bytes (unit_at (nal_units bytes) i)) ≡ true
 types_are bytes i e h =
-    not_not (is_single_type (type_in bytes (unit_at (nal_units bytes) i)))
+    not-false (is_single_type (type_in bytes (unit_at (nal_units bytes) i)))
     (not_at (λ (unit : ℕ × ℕ). not (is_single_type (type_in bytes unit))) (nal_units bytes) i (0, 0) (accepted_is bytes e).types h)
 
 -- packets so far apart are of other access units

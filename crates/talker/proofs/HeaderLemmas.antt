@@ -34,7 +34,7 @@ header_fits subtype stamp plan n length kind id size = (
   ),
 )
 
-stamped_at : (stamp : Option ℕ) → IfSome stamp (λ i. unwrap_or (option_map timestamp_of stamp) 0 ≡ i % 2 ^ 32)
+pub stamped_at : (stamp : Option ℕ) → IfSome stamp (λ i. unwrap_or (option_map timestamp_of stamp) 0 ≡ i % 2 ^ 32)
 stamped_at (Some instant) = refl
 stamped_at None = tt
 

@@ -80,18 +80,6 @@ walk_on bytes u unit w e behind some inside =
     before_by true packets before size h = omega arith
     before_by false packets before size h = omega arith
 
-pub next_listed : (bytes : List ℕ) (u : Units) (unit : ℕ × ℕ) → IsWalk bytes u → units_from bytes u.at ≡ unit ∷ units_from bytes unit.1
-    → record { from = unit.0; to = unit.1; access_unit = u.begun + flag (is_begun_by bytes u unit); first = u.packets } ≡ unit_in bytes u.number
-next_listed bytes u unit w e =
-    let units = nal_units bytes in
-    let i : ℕ = u.number in
-    let next = next_is bytes u unit w e in
-    let same : is_begun_by bytes u unit ≡ begins bytes units i = rw (w.sliced, next.at) refl in
-    rw (same, w.begun, w.packets, next.at) refl
-
-pub walk_ended : (bytes : List ℕ) (u : Units) → IsWalk bytes u → units_from bytes u.at ≡ [] → u.number ≡ length (nal_units bytes)
-walk_ended bytes u w e = let past = none_is (nal_units bytes) u.number (w.rest ∙ e) in omega (arith, w.known)
-
 pub begin_walk : (bytes : List ℕ) → IsWalk bytes (record { number = 0; at = 0; sliced = false; begun = 0; packets = 0; before = 0 })
 begin_walk bytes = record {
   known = omega arith;

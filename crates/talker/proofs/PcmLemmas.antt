@@ -11,9 +11,8 @@ use Rattle.avtp_base.specs.Octets.{flag}
 use Rattle.avtp_base.proofs.BitLemmas.{flag-below}
 use Rattle.avtp_header.specs.declared.header.StreamHeader.{StreamHeader}
 use Rattle.aaf_format.specs.declared.aaf.AafFormat.{AafFormat}
-use Rattle.aaf_format.specs.declared.aaf.AafFormat.TheVariants.{Float32, Int32, Int24, Int16}
-use Rattle.aaf_format.specs.Aaf.{Aaf as Packet, IsWritableAaf, SpellsAaf, aaf_layout, aaf_spelling, frame_size, width_of}
-use Rattle.aaf_format.proofs.AafLemmas.{aaf_again, fits_whole}
+use Rattle.aaf_format.specs.Aaf.{Aaf as Packet, IsWritableAaf, SpellsAaf, aaf_layout, aaf_spelling, frame_size}
+use Rattle.aaf_format.proofs.AafLemmas.{aaf_again, fits_whole, width-some}
 use Rattle.pcap_frames.specs.Frame.{frame_layout}
 use Rattle.time_unfold.specs.declared.head_rule.Distance.{Distance}
 use Rattle.stream_journal.specs.Journal.{Journal, rule_of}
@@ -36,13 +35,8 @@ use Rattle.talker.proofs.AudioLemmas.{IsFormatOf}
 use Rattle.talker.proofs.DueLemmas.{IsCountedBack, IsFound, IsKindOf}
 use Rattle.talker.proofs.HeaderLemmas.{header_fits, header_is}
 use Rattle.talker.proofs.RateLemmas.{known_rate}
-use Rattle.talker.proofs.SizeLemmas.{aaf_size, length-spelling}
-
-width-some : (f : AafFormat) → 0 < width_of f
-width-some Float32 = omega arith
-width-some Int32 = omega arith
-width-some Int24 = omega arith
-width-some Int16 = omega arith
+use Rattle.talker.proofs.SizeLemmas.{aaf_size}
+use Rattle.avtp_base.proofs.OnlySpelling.{length-spelling}
 
 pub frame_some : (plan : TalkPlan) (format : AafFormat) → IsAudioPlan plan → 0 < frame_size plan.channels format
 frame_some plan format p = mul-pos p.some_channels (width-some format)

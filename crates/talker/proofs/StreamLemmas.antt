@@ -298,13 +298,6 @@ packet_first plan s a b is h sooner =
     (λ k from below. le-leb (s.arrival b) (s.arrival k) (rises s.arrival is.rising b k (omega arith))) in
     rw (unrolled (frame_of s) b (packets_in s) h) (comes_first f clocks packets later others)
 
--- all were sent
-pub none_left : (s : Stream) → left_of s (clocks_in s) (packets_in s) ≡ []
-none_left s =
-    let clocks : clocks_in s - clocks_in s ≡ 0 = omega arith in
-    let packets : packets_in s - packets_in s ≡ 0 = omega arith in
-    rw (clocks, packets) refl
-
 pub count_all : (s : Stream) → length (frames_of s) ≡ clocks_in s + packets_in s
 count_all s =
     length_sorted (numbered_clock s ++ numbered_frames s)

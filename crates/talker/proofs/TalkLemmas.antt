@@ -19,11 +19,11 @@ use Rattle.talker.specs.Audio.{Audio, audio_by}
 use Rattle.talker.specs.Clock.{clock_arrival, clock_by, clock_packet, clock_packets}
 use Rattle.crf_format.specs.Crf.{Crf}
 use Rattle.talker.specs.Faults.{arrives_too_late}
-use Rattle.talker.specs.Frames.{SentFrame, capture_style, clock_bytes, clock_frame_of, frame_of, frames, left_of, numbered_clock, numbered_frames, packet_bytes, record_of, stream_frames}
+use Rattle.talker.specs.Frames.{SentFrame, capture_style, clock_bytes, clock_frame_of, frame_of, frames, left_of, numbered_clock, record_of, stream_frames}
 use Rattle.talker.specs.Journal.{Stream, clock_arrival_by, clock_packet_by, journal, samples_in, stamps_last, stream_by, stream_of, video_stream}
 use Rattle.talker.specs.Packets.{aaf_packet}
 use Rattle.talker.specs.Plan.{FitsBlocks, FitsPacket, IsAudioKind, IsAudioPlan, IsPlan, IsPlanOf, IsVideoPlan, fdf_of, rate_code}
-use Rattle.talker.specs.Talking.{IsAudio, IsClockFirst, IsClockIn, IsClockOf, IsFormat, IsSource, Talking, audio_in, audio_of, clocks_of, gone_on, headers_by, headers_of, input_in, most_input, packets_of, plan_in, samples_size, stream_in as stream_in_source}
+use Rattle.talker.specs.Talking.{IsAudio, IsClockFirst, IsClockIn, IsClockOf, IsFormat, IsSource, Talking, audio_in, audio_of, gone_on, headers_by, headers_of, input_in, most_input, packets_of, plan_in, samples_size, stream_in as stream_in_source}
 use Rattle.talker.specs.Units.{sent_units}
 use Rattle.talker.specs.Timing.{run_of}
 use Rattle.talker.specs.declared.source.Source.{Source}
@@ -34,7 +34,7 @@ use Rattle.talker.proofs.DueLemmas.{has_head}
 use Rattle.talker.proofs.PcmLemmas.{both_headers, has_both, pcm_format}
 use Rattle.talker.proofs.RateLemmas.{known_fdf}
 use Rattle.talker.proofs.SampleLemmas.{whole_samples}
-use Rattle.talker.proofs.StreamLemmas.{IsStream, at_number, clock_at_number, clock_first, clock_has_spelling, clocks_in, frames_of, has_spelling, in_turn, never_late, packet_first, packets_in, rises}
+use Rattle.talker.proofs.StreamLemmas.{IsStream, clock_at_number, clock_first, clock_has_spelling, clocks_in, frames_of, in_turn, never_late, packet_first, packets_in, rises}
 use Rattle.talker.proofs.VideoLemmas.{video_stream_keeps}
 use Rattle.talker.proofs.VideoRules.{sent_are}
 
@@ -169,9 +169,6 @@ frames_alone plan input p none limit =
 pub went_on : (t : Talking) → t.given < length (frames t.plan t.input) → record t { given = t.given + 1 } ≡ gone_on t
 went_on t h = let one : t.given + 1 ≡ min (t.given + 1) (length (frames t.plan t.input)) = omega arith in ap (λ (k : ℕ). record t { given = k }) one
 
-pub stopped : (t : Talking) → t.given ≡ length (frames t.plan t.input) → t ≡ gone_on t
-stopped t h = let same : t.given ≡ min (t.given + 1) (length (frames t.plan t.input)) = omega arith in ap (λ (k : ℕ). record t { given = k }) same
-
 -- the samples of a packet that the input has wholly
 pub whole_of : (s : AudioStream) (input : List ℕ) (n : ℕ) → IsAudio s → samples_size s ≤ length (drop (n * samples_size s) input)
     → take (samples_size s) (drop (n * samples_size s) input) ≡ samples_in (audio_of s) s.plan input n
@@ -247,25 +244,7 @@ beside c plan s packets of e clock =
 none_sent : (plan : TalkPlan) (s : Stream) → IsOf plan s → plan.crf ≡ None → clocks_in s ≡ 0
 none_sent plan s of e = of.clock.packets ∙ ap (λ (o : Option CrfPlan). (clock_by o plan (packets_in s)).packets) e
 
-pub clocks_are : (clock : Option ClockStream) (plan : TalkPlan) (s : Stream) (packets : ℕ) → IsOf plan s → packets ≡ packets_in s → IsClockOf clock plan packets → clocks_in s ≡ clocks_of clock
-clocks_are None plan s packets of e clock = none_sent plan s of clock
-clocks_are (Some c) plan s packets of e clock = (beside c plan s packets of e clock).count
-
 -- ---- packet n as it is sent, and packet m of the clock
-
-pub record IsSent (s : Stream) (n : ℕ) : Type 0 where
-  pub early : s.arrival n < 2 ^ 32 * 1000000000
-  pub frame : slice_get (numbered_frames s) n ≡ Some (frame_of s n)
-  pub fits : HasSpelling capture_style (record_of (frame_of s n))
-  pub size : length (packet_bytes (s.journal.packet n)) ≤ 1518
-
-pub sent_as : (plan : TalkPlan) (s : Stream) (n : ℕ) → IsOf plan s → n < packets_in s → IsSent s n
-sent_as plan s n of h = record {
-  early = of.keeps.sent n h;
-  frame = at_number s n h;
-  fits = has_spelling plan s n of.keeps h;
-  size = of.keeps.size n h;
-}
 
 pub record IsClockSent (s : Stream) (c : ClockStream) (m : ℕ) : Type 0 where
   pub early : clock_arrival c.crf c.plan m < 2 ^ 32 * 1000000000

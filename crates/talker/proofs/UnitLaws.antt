@@ -1,8 +1,8 @@
 -- What the laws of units rest on.
 use Rattle.std.proofs.Common.{◌≡◌, ◌⊎◌, inl, inr, ℕ, zero, suc, ◌+◌, ◌-◌, ◌*◌, ◌<◌, ◌≤◌, Bool, true, false, not, List, [], ◌∷◌, ◌++◌, take, drop, refl, sym, ap, subst, ◌∙◌, arith}
-use Rattle.std.specs.Prelude.{◌&&◌, ◌||◌, ◌==◌, if◌then◌else◌}
+use Rattle.std.specs.Prelude.{◌&&◌, ◌==◌, if◌then◌else◌}
 use Rattle.std.specs.List.{flat_map, range_with_len}
-use Rattle.std.proofs.lemmas.Bool.{cases_lt}
+use Rattle.std.proofs.lemmas.Bool.{cases_lt, and_parts, or_left, or_right, or_cases, not-true}
 use Rattle.std.proofs.lemmas.Bool.Decides.{nat_tests}
 use Rattle.std.proofs.lemmas.List.{append-nil, length-take, take_all}
 use Rattle.avtp_base.specs.Octets.{flag}
@@ -21,26 +21,6 @@ flag_is false a n e = inl (omega arith)
 pub same_or_next : (bytes : List ℕ) (units : List (ℕ × ℕ)) (i : ℕ) → (access_unit bytes units (suc i) ≡ access_unit bytes units i) ⊎ (access_unit bytes units (suc i) ≡ suc (access_unit bytes units i))
 same_or_next bytes units i = flag_is (begins bytes units (suc i)) (access_unit bytes units i) (access_unit bytes units (suc i)) refl
 
-or_cases : (a b : Bool) → (a || b) ≡ true → (a ≡ true) ⊎ (b ≡ true)
-or_cases true b e = inl refl
-or_cases false b e = inr e
-
-or_left : (a b : Bool) → a ≡ true → (a || b) ≡ true
-or_left true b e = refl
-or_left false b e = absurd cc
-
-or_right : (a b : Bool) → b ≡ true → (a || b) ≡ true
-or_right true b e = refl
-or_right false b e = e
-
-and_parts : (a b : Bool) → (a && b) ≡ true → (a ≡ true) × (b ≡ true)
-and_parts true b e = (refl, e)
-and_parts false b e = absurd cc
-
-not_so : (b : Bool) → not b ≡ true → b ≡ false
-not_so true e = absurd cc
-not_so false e = refl
-
 -- unit i + 1 is of the access unit of unit i where it does not begin one
 stays : (bytes : List ℕ) (units : List (ℕ × ℕ)) (i : ℕ) → begins bytes units (suc i) ≡ false → access_unit bytes units (suc i) ≡ access_unit bytes units i
 stays bytes units i e = rw e (omega arith)
@@ -58,7 +38,7 @@ sliced_so bytes units (suc i) e =
       | inl here ↦ record { unit = suc i; before = omega arith; one = refl; slice = here }
       | inr there ↦
           let parts = and_parts (is_sliced bytes units (suc i)) (not (may_begin bytes (unit_at units (suc i)))) there in
-          let none : begins bytes units (suc i) ≡ false = rw (parts.0, not_so (may_begin bytes (unit_at units (suc i))) parts.1) refl in
+          let none : begins bytes units (suc i) ≡ false = rw (parts.0, not-true (may_begin bytes (unit_at units (suc i))) parts.1) refl in
           let before = sliced_so bytes units i parts.0 in
           record { unit = before.unit; before = (let low = before.before in omega arith); one = before.one ∙ sym (stays bytes units i none); slice = before.slice }
     ]

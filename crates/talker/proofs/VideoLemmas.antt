@@ -1,6 +1,5 @@
 -- The stream of a plan of H.264 keeps what streams keep.
-use Rattle.std.proofs.Common.{◌≡◌, inl, inr, ℕ, suc, ◌+◌, ◌-◌, ◌%◌, ◌^◌, ◌<◌, ◌≤◌, Bool, true, false, List, [], ◌∷◌, length, Option, Some, None, pos, refl, sym, subst, ◌∙◌, option_map, arith}
-use Rattle.std.specs.Prelude.{IfSome, unwrap_or}
+use Rattle.std.proofs.Common.{◌≡◌, inl, inr, ℕ, suc, ◌+◌, ◌-◌, ◌^◌, ◌<◌, ◌≤◌, Bool, true, false, List, [], ◌∷◌, length, Option, Some, None, pos, refl, sym, subst, ◌∙◌, arith}
 use Rattle.avtp_base.specs.Layout.{Fits, Layout}
 use Rattle.avtp_base.proofs.BitLemmas.{bits-below, flag-below}
 use Rattle.avtp_header.specs.Header.{filled_layout}
@@ -21,10 +20,10 @@ use Rattle.talker.specs.Fragments.{access_unit_of, all_packets, body_at, part_at
 use Rattle.talker.specs.Frames.{StaysNearBy}
 use Rattle.talker.specs.Journal.{clock_arrival_by, video_journal, video_stream}
 use Rattle.talker.specs.Plan.{IsAudioKind, IsVideoPlan}
-use Rattle.talker.specs.Timing.{mr_of, timestamp_of}
+use Rattle.talker.specs.Timing.{mr_of}
 use Rattle.talker.specs.Video.{cvf_packet, video_arrival, video_due, video_stamp, video_times}
 use Rattle.talker.proofs.AccessLemmas.{access_step, unit_known}
-use Rattle.talker.proofs.HeaderLemmas.{header_fits}
+use Rattle.talker.proofs.HeaderLemmas.{header_fits, stamped_at}
 use Rattle.talker.proofs.SizeLemmas.{bytes_size}
 use Rattle.talker.proofs.StreamLemmas.{IsStream}
 use Rattle.talker.proofs.VideoParts.{packet_short, short_at, writable}
@@ -82,10 +81,6 @@ fits last_stamp plan bytes units n id =
     fits_by part (cvf_packet last_stamp plan bytes units n)
     (header_fits cvf_subtype (video_stamp last_stamp plan bytes units n) plan n (header_size part - 24 + length (body_at bytes units place)) (omega arith) id (omega arith))
     (omega arith) (omega arith) (bits-below (unit_at units place.unit).0 0 8 bytes)
-
-stamped_at : (stamp : Option ℕ) → IfSome stamp (λ i. unwrap_or (option_map timestamp_of stamp) 0 ≡ i % 2 ^ 32)
-stamped_at (Some instant) = refl
-stamped_at None = tt
 
 pub packet_is : (last_stamp : Bool) (plan : TalkPlan) (bytes : List ℕ) (units : List (ℕ × ℕ)) (n : ℕ) → AreSent bytes units → plan.id < 2 ^ 64 → n < all_packets units
     → IsCvfPacket (video_times last_stamp plan bytes units) (part_of (part_at units (place_of units n))) plan.id n (cvf_packet last_stamp plan bytes units n)

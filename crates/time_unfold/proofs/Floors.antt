@@ -26,7 +26,7 @@ times_more x y d below =
     omega (arith, ints)
 
 -- a product with one more
-one_more : (q : ℤ) (d : ℕ) → (q +ℤ pos 1) *ℤ pos d ≡ q *ℤ pos d +ℤ pos d
+pub one_more : (q : ℤ) (d : ℕ) → (q +ℤ pos 1) *ℤ pos d ≡ q *ℤ pos d +ℤ pos d
 one_more q d =
     let e : up (q +ℤ pos 1) + down q ≡ down (q +ℤ pos 1) + up q + 1 = omega (arith, ints) in
     let f : d * (up (q +ℤ pos 1) + down q) ≡ d * (down (q +ℤ pos 1) + up q + 1) = ap (λ (n : ℕ). d * n) e in

@@ -6,8 +6,9 @@ use Rattle.sample_schedule.specs.declared.plan.SchedulePlan.{SchedulePlan}
 use Rattle.sample_schedule.specs.declared.shown.Shown.{Shown}
 use Rattle.sample_schedule.specs.Judge.{JudgeState}
 use Rattle.listener.specs.Listening.{Judges, shown_by}
-use Rattle.listener.proofs.Judging.{found_out, judges_on, no_item, none_in}
+use Rattle.listener.proofs.Judging.{found_out, judges_on, none_in}
 use Rattle.listener.proofs.record_listener.next_shown.Goals as goal
+use Rattle.avtp_base.proofs.Results.{not_some}
 
 pub loop-next-init : goal.loop-next-init
 loop-next-init c = record {
@@ -36,7 +37,7 @@ returns-then-not-judge_next-clause-given c entries given j0 =
     let i = c.loop-next.invariant in
     let j = i.judges entries given j0 in
     let did : c.judge_next.result ≡ false = cc in
-    let nothing : c.next_out-next.result ≡ None = no_item c.next_out-next.result cc in
+    let nothing : c.next_out-next.result ≡ None = not_some c.next_out-next.result cc in
     let none = c.judge_next.ensures.step.none did in
     let closed : c.judge_next.new.judge.closed ≡ c.loop-next.judge.closed = ap (λ (x : JudgeState). x.closed) none.1.0 ∙ c.next_out-next.ensures.keeps.closed in
     none_in c.args.ended c.loop-next.judge c.loop-next.units entries given j none.0.0 (λ e. (i.over e).0) (λ e. sym closed ∙ none.1.1 e) (sym nothing ∙ c.next_out-next.ensures.given clock_spot j.judged given j.stands)
@@ -45,7 +46,7 @@ returns-then-not-judge_next-clause-given c entries given j0 =
 pub returns-then-not-judge_next-clause-judges : goal.returns-then-not-judge_next-clause-judges
 returns-then-not-judge_next-clause-judges c entries given j0 =
     let j = c.loop-next.invariant.judges entries given j0 in
-    let nothing : c.next_out-next.result ≡ None = no_item c.next_out-next.result cc in
+    let nothing : c.next_out-next.result ≡ None = not_some c.next_out-next.result cc in
     let more = judges_on entries given (length (option_to_list c.next_out-next.result)) c.loop-next.judge c.next_out-next.new.self c.loop-next.units (λ es n s. c.next_out-next.ensures.stands clock_spot es n s) j in
     c.judge_next.ensures.step.judges entries _ (subst (λ (o : Option Shown). Judges entries (given + length (option_to_list o)) c.next_out-next.new.self c.loop-next.units) nothing more)
 
@@ -64,7 +65,7 @@ pub loop-next-preserved : goal.loop-next-preserved
 loop-next-preserved c =
     let i = c.loop-next.invariant in
     let step = c.judge_next.ensures.step in
-    let nothing : c.next_out-next.result ≡ None = no_item c.next_out-next.result cc in
+    let nothing : c.next_out-next.result ≡ None = not_some c.next_out-next.result cc in
     record {
       judges = λ entries given j0.
           let j = i.judges entries given j0 in

@@ -1,7 +1,8 @@
 use Rattle.std.proofs.Common.{Some, None, sym, ap, ◌∙◌, arith, rules}
 use Rattle.avtp_tool.specs.Hearing.{pull_at}
-use Rattle.avtp_tool.proofs.HearingTo.{fine_match, goes_out, goes_over, goes_still, goes_then, pull_none, sound_on, sound_over, wrong_match}
+use Rattle.avtp_tool.proofs.HearingTo.{goes_out, goes_over, goes_still, goes_then, pull_none, sound_on, sound_over}
 use Rattle.avtp_tool.proofs.hearing.Hearing.next.Goals as goal
+use Rattle.avtp_base.proofs.Results.{fine_match, wrong_match}
 
 pub loop-shown-init : goal.loop-shown-init
 loop-shown-init g c = record { going = c.requires.1; on = goes_still (λ begun first fresh earlier was. was) c.requires.0 (omega arith) }

@@ -1,7 +1,8 @@
 use Rattle.std.proofs.Common.{◌≡◌, IsSome, None, ap, refl, sym, subst, ◌∙◌}
 use Rattle.capture_io.specs.Source.{Sourcing, GivesNext, ReadsOn, held_in}
-use Rattle.capture_io.proofs.Giving.{gives_again, gives_next, not_some}
+use Rattle.capture_io.proofs.Giving.{gives_again, gives_next}
 use Rattle.capture_io.proofs.feed.Feed.next.Goals as goal
+use Rattle.avtp_base.proofs.Results.{not_some}
 
 pub returns-then-is_some : goal.returns-then-is_some
 returns-then-is_some g c = gives_again _ c.args.self.now c.self.inside.ended c.requires (ap (λ (s : Sourcing). s.ended) (sym c.self.view_is)) (sym c.is_some.ensures ∙ c.if-is_some.true)

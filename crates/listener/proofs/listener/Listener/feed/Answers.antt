@@ -6,8 +6,9 @@ use Rattle.pcap_frames.specs.Reading.{held, taken}
 use Rattle.pcap_frames.proofs.Held.{uncertain}
 use Rattle.pcap_frames.proofs.Lent.{holds_accepted}
 use Rattle.listener.specs.Feeding.{Feeding, StandsFor}
-use Rattle.listener.proofs.Fed.{accepted, heard_here, heard_on, held_few, held_some, if_none, lent_nothing, lent_some, none_held, not_some, other_quiet, refused_first, stands_fed, stands_refused}
+use Rattle.listener.proofs.Fed.{accepted, heard_here, heard_on, held_few, held_some, if_none, lent_nothing, lent_some, none_held, other_quiet, refused_first, stands_fed, stands_refused}
 use Rattle.listener.proofs.listener.Listener.feed.Goals as goal
+use Rattle.avtp_base.proofs.Results.{not_some}
 
 -- ---- a record that is lent
 

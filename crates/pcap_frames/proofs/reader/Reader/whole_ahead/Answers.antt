@@ -1,8 +1,9 @@
 use Rattle.std.proofs.Common.{◌≡◌, ◌∙◌, [], rules, sym, subst, take, ℕ}
 use Rattle.std.specs.Prelude.{IfSome}
 use Rattle.pcap_frames.specs.Reading.{IsNext, Reading}
-use Rattle.pcap_frames.proofs.Lent.{ahead_next, none_next, not_some}
+use Rattle.pcap_frames.proofs.Lent.{ahead_next, none_next}
 use Rattle.pcap_frames.proofs.reader.Reader.whole_ahead.Goals as goal
+use Rattle.avtp_base.proofs.Results.{not_some}
 
 pub returns-clause-next : goal.returns-clause-next
 returns-clause-next c =

@@ -1,17 +1,18 @@
 use Rattle.std.proofs.Common.{arith, ◌∙◌, sym, refl, ap, length}
 use Rattle.pcapng_frames.specs.Reading.{place_of}
 use Rattle.pcapng_frames.proofs.Moves.{block_begins}
-use Rattle.pcapng_frames.proofs.Feeding.{is_reading, is_whole, none_of, passed_whole, part_in_block, head_none, gives_up}
+use Rattle.pcapng_frames.proofs.Feeding.{is_reading, is_whole, passed_whole, part_in_block, head_none, gives_up}
 use Rattle.pcapng_frames.proofs.reader.Ng.release.Goals as goal
+use Rattle.avtp_base.proofs.Results.{not_some}
 
 pub add_described-requires-clause-room : goal.add_described-requires-clause-room
 add_described-requires-clause-room c =
-    let w = is_whole _ _ _ _ _ (none_of _ (sym c.is_some.ensures ∙ c.if-is_some.false)) c.if-not-self.false c.self.invariant.7 in
+    let w = is_whole _ _ _ _ _ (not_some _ (sym c.is_some.ensures ∙ c.if-is_some.false)) c.if-not-self.false c.self.invariant.7 in
     w.room
 
 pub invariant_of-self : goal.invariant_of-self
 invariant_of-self c =
-    let none = none_of _ (sym c.is_some.ensures ∙ c.if-is_some.false) in
+    let none = not_some _ (sym c.is_some.ensures ∙ c.if-is_some.false) in
     let w = is_whole _ _ _ _ _ none c.if-not-self.false c.self.invariant.7 in
     let d = c.after_trailer-self-inside.ensures in (
       omega (arith, c.self.invariant.0, c.clear.ensures.capacity),
@@ -26,7 +27,7 @@ invariant_of-self c =
 
 pub returns-clause-given_up : goal.returns-clause-given_up
 returns-clause-given_up c = λ bytes records h.
-    let none = none_of _ (sym c.is_some.ensures ∙ c.if-is_some.false) in
+    let none = not_some _ (sym c.is_some.ensures ∙ c.if-is_some.false) in
     let d = c.after_trailer-self-inside.ensures in
     let before = rw (← c.self.view_is) at h in
     let next = ap (λ x. place_of c.after_trailer-self-inside.result x c.clear.new.self.items) c.add_described.ensures.exact ∙ d.next c.clear.new.self.items c.self.inside.part.items c.self.inside.interfaces.items in

@@ -2,8 +2,9 @@ use Rattle.std.proofs.Common.{refl, sym, ap, ◌∙◌, arith, append-nil}
 use Rattle.std.proofs.Math.Logic.{∥∥₁_elim, ∥∥₁_map}
 use Rattle.std.specs.Coded.{le_prop}
 use Rattle.soak_run.specs.Hearing.{closed_at}
-use Rattle.soak_run.proofs.HearingLemmas.{giving_by, going_on, left_on, open_at, records_few, shows_all, shows_item, shows_still, stands_on, went_on, went_wrong}
+use Rattle.soak_run.proofs.HearingLemmas.{giving_by, going_on, left_on, open_at, records_few, shows_all, shows_item, shows_still, stands_on}
 use Rattle.soak_run.proofs.hearing.HearingReceiver.next.Goals as goal
+use Rattle.avtp_base.proofs.Results.{fine_match, wrong_match}
 
 -- ---- an item was due
 
@@ -75,7 +76,7 @@ go_on-requires-clause-giving c = giving_by c.loop-shown.self.stage c.loop-shown.
 pub invariant_of-self-then-is_err : goal.invariant_of-self-then-is_err
 invariant_of-self-then-is_err c =
     let next = c.go_on.new.self in
-    let giving = went_wrong c.go_on.result _ _ (sym c.is_err.ensures.value ∙ c.if-is_err.true) c.go_on.ensures.on in
+    let giving = wrong_match c.go_on.result _ _ (sym c.is_err.ensures.value ∙ c.if-is_err.true) c.go_on.ensures.on in
     record { deliverable = next.deliverable; few = next.few; closed = next.closed ∙ open_at next.stage giving; stands = next.stands }
 
 pub returns-then-is_err : goal.returns-then-is_err
@@ -107,7 +108,7 @@ loop-shown-preserved c =
     let self = c.loop-shown.self in
     let out = c.in_default.ensures in
     let went = c.go_on.ensures in
-    let going = went_on c.go_on.result _ _ (sym c.is_err.ensures.value ∙ c.if-is_err.false) went.on in
+    let going = fine_match c.go_on.result _ _ (sym c.is_err.ensures.value ∙ c.if-is_err.false) went.on in
     record {
       going = going.0;
       left =
@@ -126,4 +127,4 @@ loop-shown-preserved c =
     }
 
 pub loop-shown-smaller : goal.loop-shown-smaller
-loop-shown-smaller c = (went_on c.go_on.result _ _ (sym c.is_err.ensures.value ∙ c.if-is_err.false) c.go_on.ensures.on).1
+loop-shown-smaller c = (fine_match c.go_on.result _ _ (sym c.is_err.ensures.value ∙ c.if-is_err.false) c.go_on.ensures.on).1
