@@ -9,6 +9,3 @@ mod writer;
 pub use aaf::{AafFormat, AafView};
 pub use reader::{rate_of, read_aaf, width_of};
 pub use writer::write_aaf;
-
-#[cfg(test)]
-mod tests;

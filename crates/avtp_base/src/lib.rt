@@ -44,6 +44,3 @@ pub use shelf::{Shelf, Slot};
 pub use sink::Sink;
 pub use spelled::Spelled;
 pub use std_sink::StdSink;
-
-#[cfg(test)]
-mod tests;

@@ -10,6 +10,3 @@ mod writer;
 pub use header::{ETHERTYPE, Peeked, StreamHeader};
 pub use reader::{exceeds, peek, peek_subtype, read_header_of, read_stream_header};
 pub use writer::{header_bytes, write_stream_header};
-
-#[cfg(test)]
-mod tests;

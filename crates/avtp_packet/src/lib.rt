@@ -8,6 +8,3 @@ mod stamp_pattern;
 pub use packet::{Packet, read_packet};
 pub use packet_stream::{PacketStream, reserved, stream_of};
 pub use stamp_pattern::stamp_is_wrong;
-
-#[cfg(test)]
-mod tests;

@@ -52,6 +52,3 @@ pub fn stamp_is_wrong(packet: &Packet<'_>) -> bool
         Packet::Crf(_) | Packet::Other(_) => false,
     }
 }
-
-#[cfg(test)]
-mod tests;

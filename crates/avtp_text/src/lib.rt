@@ -16,6 +16,3 @@ mod soak;
 mod talk;
 
 pub use buffer::{ROOM, Text};
-
-#[cfg(test)]
-mod tests;

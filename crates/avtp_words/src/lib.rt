@@ -18,6 +18,3 @@ pub use crf::Crf;
 pub use device::{DeviceFile, RawFile, Silence};
 pub use listen::Listen;
 pub use talk::{Kind, Talk};
-
-#[cfg(test)]
-mod tests;

@@ -17,6 +17,3 @@ pub use file_writer::FileWriter;
 pub use law::classic_again;
 pub use read_slots::ReadSlots;
 pub use source::Source;
-
-#[cfg(test)]
-mod tests;

@@ -16,6 +16,3 @@ pub use clock_row::{ClockRow, Points};
 pub use over::line_over;
 pub use pair::Pair;
 pub use pull::{pull_down, pull_up};
-
-#[cfg(test)]
-mod tests;

@@ -9,6 +9,3 @@ mod writer;
 pub use crf::CrfView;
 pub use reader::{point, read_crf};
 pub use writer::write_crf;
-
-#[cfg(test)]
-mod tests;

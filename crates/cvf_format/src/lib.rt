@@ -18,8 +18,3 @@ pub use packets::fragments;
 pub use piece::{Lost, Mark, Piece, Pushed};
 pub use reader::read_cvf;
 pub use writer::write_cvf;
-
-#[cfg(test)]
-mod assembler_tests;
-#[cfg(test)]
-mod tests;

@@ -18,8 +18,3 @@ pub use place::Place;
 pub use rack::Rack;
 pub use raw::RawDevice;
 pub use silence::Silence;
-
-#[cfg(test)]
-mod file_tests;
-#[cfg(test)]
-mod tests;

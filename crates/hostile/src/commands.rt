@@ -1,6 +1,7 @@
 //! The command `avtp` over one file in memory.
 
-use avtp_base::{MemoryShelf, MemorySink, NoMemory};
+use avtp_base::NoMemory;
+use avtp_memory::{MemoryShelf, MemorySink};
 use avtp_tool::run;
 use device_rack::Rack;
 use presenter_ring::NoGate;

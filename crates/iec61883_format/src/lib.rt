@@ -11,6 +11,3 @@ pub use blocks::{anchor_index, rate_of_fdf, syt_interval};
 pub use iec::{Cip, IecView};
 pub use reader::read_iec;
 pub use writer::write_iec;
-
-#[cfg(test)]
-mod tests;

@@ -18,6 +18,3 @@ pub use heard::{Counts, Heard, ShownList};
 pub use listener::{ListenFault, Listener};
 pub use plan::ListenPlan;
 pub use record_listener::RecordListener;
-
-#[cfg(test)]
-mod tests;

@@ -7,8 +7,6 @@ mod layout;
 mod pieces;
 mod reader;
 mod style;
-#[cfg(test)]
-mod tests;
 mod writer;
 
 pub use frame::{

@@ -9,6 +9,3 @@ mod refusals;
 mod steps;
 
 pub use reader::Ng;
-
-#[cfg(test)]
-mod tests;

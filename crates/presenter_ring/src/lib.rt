@@ -14,6 +14,3 @@ pub use gate::{Gate, NoGate, Side};
 pub use pipe::{Pipe, Round};
 pub use presenter::Presenter;
 pub use receiver::{Pull, Receiver};
-
-#[cfg(test)]
-mod tests;

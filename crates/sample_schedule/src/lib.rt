@@ -30,12 +30,3 @@ pub use plan::SchedulePlan;
 pub use shown::{Reason, Shown};
 pub use time_unfold::HeadRule;
 pub use whole::schedule;
-
-#[cfg(test)]
-mod clock_tests;
-#[cfg(test)]
-mod judge_tests;
-#[cfg(test)]
-mod tests;
-#[cfg(test)]
-mod waiting_tests;

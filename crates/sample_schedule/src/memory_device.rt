@@ -137,30 +137,3 @@ impl Device for MemoryDevice {
         Ok(())
     }
 }
-
-#[cfg(test)]
-mod tests {
-    use super::*;
-    use crate::shown::Reason;
-    use std::test::Fail;
-
-    fn late(frame: u64) -> Shown {
-        Shown::Flag {
-            frame,
-            seq: 0,
-            reason: Reason::Late,
-        }
-    }
-
-    #[test]
-    fn keeps_what_it_does_not_refuse(rt: HostRuntime) -> Result<(), Fail> {
-        let mut device = MemoryDevice::over(rt.alloc(), vec![in rt.alloc(); 2]?);
-        assert!(rt; device.take(&late(1)).is_ok());
-        assert!(rt; device.take(&late(2)).is_err());
-        assert!(rt; device.take(&late(3)).is_ok());
-        match device.taken() {
-            [Shown::Flag { frame: 1, .. }, Shown::Flag { frame: 3, .. }] => Ok(()),
-            _ => Err("other items")?,
-        }
-    }
-}

@@ -7,6 +7,3 @@ mod tracker;
 
 pub use seen::{Findings, Seen};
 pub use tracker::Tracker;
-
-#[cfg(test)]
-mod tests;

@@ -9,6 +9,3 @@ mod samples;
 
 pub use counts::SoakCounts;
 pub use run::soak;
-
-#[cfg(test)]
-mod tests;

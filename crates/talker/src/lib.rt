@@ -27,6 +27,3 @@ pub use sent::Sent;
 pub use soak::{SOAK_PLAN, soak_deliveries};
 pub use talker::Talker;
 pub use turn::Turn;
-
-#[cfg(test)]
-mod tests;

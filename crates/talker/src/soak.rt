@@ -97,6 +97,3 @@ pub fn soak_deliveries(alloc: Global, n: u32) -> Result<Vec<(i64, u64)>, NoMemor
     deliveries.sort_by_key(|delivery| delivery.0)?;
     Ok(deliveries)
 }
-
-#[cfg(test)]
-mod tests;

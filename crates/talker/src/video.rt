@@ -279,6 +279,3 @@ impl<'a> VideoStream<'a> {
         self.write_packet(&mut out[HEADER..], n);
     }
 }
-
-#[cfg(test)]
-mod tests;

@@ -14,6 +14,3 @@ pub use head_rule::{Distance, Head, HeadRule};
 pub use line::Line;
 pub use stamp::{Stamp, Want};
 pub use timestamp::unfold;
-
-#[cfg(test)]
-mod tests;

@@ -1,34 +1,10 @@
-//! Test vectors of AVTP packets and captures, and the whole command run over them.
+//! What tests share: test vectors of AVTP packets and captures, and numbers that are drawn alike in each run.
 #![tactic(auto)]
 
-#[cfg(test)]
-mod am824;
-#[cfg(test)]
-mod check;
-#[cfg(test)]
-mod clock;
-#[cfg(test)]
-mod faults;
-#[cfg(test)]
-mod files;
-#[cfg(test)]
-mod listen;
-#[cfg(test)]
-mod losses;
-#[cfg(test)]
-mod pcapng;
-#[cfg(test)]
-mod racks;
-#[cfg(test)]
-mod rings;
-#[cfg(test)]
-mod runs;
-#[cfg(test)]
-mod show;
-#[cfg(test)]
-mod soak;
-#[cfg(test)]
-mod talk;
+mod changed;
+mod draws;
 mod vectors;
 
+pub use changed::changed;
+pub use draws::Draws;
 pub use vectors::vector;

@@ -1,6 +1,0 @@
-use Rattle.std.proofs.Common.{All}
-use Rattle.sample_schedule.specs.Limits.{IsEntry}
-use Rattle.sample_schedule.proofs.tests.packets.Given as goal
-
-abbrev pub invariant-loop-row : goal.invariant-loop-row
-invariant-loop-row l = All IsEntry l.entries.items

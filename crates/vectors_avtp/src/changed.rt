@@ -1,0 +1,23 @@
+//! Bytes that differ from others in a few places.
+
+use avtp_base::NoMemory;
+
+/// The bytes with some of them changed, each at its offset; then cut to a length; then with zero bytes added.
+pub fn changed(
+    bytes: Vec<u8>,
+    changes: &[(usize, u8)],
+    len: usize,
+    zeros: usize,
+) -> Result<Vec<u8>, NoMemory> {
+    let mut bytes = bytes;
+    for (at, byte) in changes {
+        if let Some(place) = bytes.get_mut(*at) {
+            *place = *byte;
+        }
+    }
+    bytes.truncate(len);
+    for _ in 0..zeros {
+        bytes.push(0)?;
+    }
+    Ok(bytes)
+}
