@@ -1,4 +1,3 @@
-pub mod Naming
 pub mod BitLemmas
 pub mod Results
 pub mod RowLemmas

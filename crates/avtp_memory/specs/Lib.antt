@@ -1,0 +1,10 @@
+pub mod Asked
+pub mod Calls
+pub mod MemoryFiles
+pub mod MemoryShelf
+pub mod MemorySink
+pub mod NamedFiles
+pub mod OpenFile
+pub mod QuietShelf
+pub mod QuietSink
+pub mod Room

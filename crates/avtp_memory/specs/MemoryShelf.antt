@@ -1,0 +1,53 @@
+-- What a shelf in memory shows.
+use Rattle.std.specs.Prelude.{◌≡◌, ℕ, List, Some, Contains}
+use Rattle.avtp_memory.specs.declared.memory_shelf.MemoryShelf.{MemoryShelf}
+use Rattle.avtp_memory.specs.Calls.{next_number}
+use Rattle.avtp_memory.specs.Asked.{account_of, StandsForNames}
+use Rattle.avtp_base.specs.Files.{Files, Slots}
+use Rattle.avtp_memory.specs.MemoryFiles.{files_in, slots_in}
+use Rattle.avtp_base.specs.States.{ShelfState}
+
+-- the bytes that are kept under a name
+abbrev pub files_of : MemoryShelf → Files
+files_of shelf = files_in shelf.held
+
+-- the open files by slot
+abbrev pub slots_of : MemoryShelf → Slots
+slots_of shelf = slots_in shelf.held
+
+-- the names that it was asked for
+abbrev pub asked_of : MemoryShelf → List (List ℕ) → Type 0
+asked_of shelf = StandsForNames shelf.asked
+
+-- the number of the last call
+abbrev pub calls : MemoryShelf → ℕ
+calls shelf = shelf.calls.count
+
+-- the numbers of the calls that fail, from 1
+abbrev pub failing_calls : MemoryShelf → List ℕ
+failing_calls shelf = shelf.calls.fails.items
+
+-- the most bytes that a call moves
+abbrev pub most : MemoryShelf → ℕ
+most shelf = shelf.most
+
+-- the numbers of faults so far
+abbrev pub reading_count : MemoryShelf → ℕ
+reading_count shelf = shelf.reading_faults
+
+abbrev pub writing_count : MemoryShelf → ℕ
+writing_count shelf = shelf.writing_faults
+
+-- all that it means
+abbrev pub state_of : MemoryShelf → ShelfState
+state_of shelf = record { files = Some (files_of shelf); slots = slots_of shelf; reading_faults = reading_count shelf; writing_faults = writing_count shelf; asked = Some (account_of shelf.asked) }
+
+-- the next call fails, since its number is among those that do
+abbrev pub IsToFail : MemoryShelf → Type 0
+IsToFail shelf = Contains (failing_calls shelf) (next_number (calls shelf))
+
+-- one more call was counted, and the shelf fails and moves bytes as before
+pub record CountsCall (old new : MemoryShelf) : Type 0 where
+  pub next : calls new ≡ next_number (calls old)
+  pub fails : failing_calls new ≡ failing_calls old
+  pub most : most new ≡ most old

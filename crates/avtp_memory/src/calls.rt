@@ -1,0 +1,30 @@
+//! The calls of an object in memory, of which some are to fail.
+
+ghost use Rattle.std.specs.Prelude.{◌≡◌, ◌↔◌, Contains, IsTrue};
+ghost use Rattle.avtp_memory.specs.Calls.{next_number};
+
+/// Numbers the calls from 1, and knows which of them fail. The number stands still at the last value of a `u64`.
+#[derive(Debug, Drop)]
+pub struct Calls {
+    pub fails: Vec<u64>,
+    pub count: u64,
+}
+
+impl Calls {
+    pub fn over(fails: Vec<u64>) -> Self
+        ensures fails { result.fails.items ≡ fails.items }
+        ensures count { result.count ≡ 0 }
+    {
+        Calls { fails, count: 0 }
+    }
+
+    /// Counts the next call, and says whether it fails.
+    pub fn next_fails(&mut self) -> bool
+        ensures fails { IsTrue result ↔ Contains self.old.fails.items (next_number self.old.count) }
+        ensures count { self.new.count ≡ next_number self.old.count }
+        ensures same { self.new.fails.items ≡ self.old.fails.items }
+    {
+        self.count = self.count.saturating_add(1);
+        self.fails.contains(&self.count)
+    }
+}

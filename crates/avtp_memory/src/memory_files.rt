@@ -1,0 +1,156 @@
+//! Files in memory, with what is open of them: what both shelves in memory stand on.
+
+ghost use Rattle.std.specs.Prelude.{◌≤◌};
+ghost use Rattle.avtp_memory.specs.OpenFile.{AreNamed, HaveRoom};
+
+use crate::named_files::NamedFiles;
+use crate::open_file::{OpenFile, advance, copy_from};
+use avtp_base::slots::Slots;
+use avtp_base::{NoMemory, OpenFault, Slot};
+use std::alloc::Global;
+
+/// Files by name, and by slot those of them that are open. A file that is made has memory for so many bytes from its
+/// start.
+#[derive(Debug, Drop)]
+pub struct MemoryFiles {
+    alloc: Global,
+    files: NamedFiles,
+    live: Slots<OpenFile>,
+    room: usize,
+    ghost named: { AreNamed files.entries.items live.entries.items },
+    ghost roomy: { HaveRoom room files.entries.items live.entries.items },
+}
+
+impl MemoryFiles {
+    ghost use Rattle.std.specs.Prelude.{◌≡◌, ◌≤◌, ◌<◌, ℕ, true, [], None, Some, min, take, length, option_copied, option_map, IsSome, IfSome, IfOk, OnOk, OnErr, IsErrOf};
+    ghost use Rattle.std.specs.Io.KnownBytes.{Consumes, IsAtEnd};
+    ghost use Rattle.avtp_base.specs.Files.{file_of, left_in, name_in, IsMissing, KeepsFiles, KeepsOthers, KeepsSlots, KeepsOtherFiles, KeepsOthersFiles, PutsFile, IsOpened, IsMade, AppendsTo};
+    ghost use Rattle.avtp_memory.specs.MemoryFiles.{files_in, slots_in, room_in, KeepsPart};
+    ghost use Rattle.avtp_memory.specs.NamedFiles.{bytes_under};
+
+    /// These files, each under its name, of which none is open. Of two files of one name the first counts.
+    pub fn over(alloc: Global, files: Vec<(String, Vec<u8>)>, room: usize) -> Self
+        ensures files { files_in result ≡ bytes_under files.items }
+        ensures closed { (k : ℕ) → slots_in result k ≡ None }
+        ensures room { room_in result ≡ room }
+    {
+        MemoryFiles {
+            alloc,
+            files: NamedFiles { entries: files },
+            live: Slots::new(alloc),
+            room,
+        }
+    }
+
+    /// The bytes of the file with the name.
+    pub fn file(&self, name: &str) -> Option<&[u8]>
+        ensures { option_copied result ≡ files_in self.now name.now }
+    {
+        self.files.bytes(name)
+    }
+
+    /// Opens a file for reading, and answers `Missing` where none has the name.
+    pub fn open(&mut self, name: &str) -> Result<Slot, OpenFault>
+        ensures opened { IfOk result (λ slot. IsOpened (Some (files_in self.old)) (slots_in self.new slot.0) name.now) }
+        ensures fresh { IfOk result (λ slot. slots_in self.old slot.0 ≡ None) }
+        ensures others { IfOk result (λ slot. KeepsOthers (slots_in self.old) (slots_in self.new) slot.0) }
+        ensures refused { OnErr result (KeepsSlots (slots_in self.old) (slots_in self.new)) }
+        ensures missing { IsErrOf result OpenFault.Missing → files_in self.old name.now ≡ None }
+        ensures not_failed { IsErrOf result OpenFault.Failed → ⊥ }
+        ensures files { KeepsFiles (Some (files_in self.old)) (Some (files_in self.new)) }
+        ensures room { room_in self.new ≡ room_in self.old }
+    {
+        if self.files.bytes(name).is_none() {
+            return Err(OpenFault::Missing);
+        }
+        let Ok(file) = OpenFile::start(self.alloc, name, false) else {
+            return Err(OpenFault::Memory);
+        };
+        let Ok(slot) = self.live.free_slot() else {
+            return Err(OpenFault::Memory);
+        };
+        self.live.set(slot, Some(file));
+        Ok(slot)
+    }
+
+    /// Makes a file or empties it, with memory for its room.
+    pub fn create(&mut self, name: &str) -> Result<Slot, NoMemory>
+        ensures made { IfOk result (λ slot. IsMade (Some (files_in self.old)) (slots_in self.new slot.0) name.now) }
+        ensures fresh { IfOk result (λ slot. slots_in self.old slot.0 ≡ None) }
+        ensures others { IfOk result (λ slot. KeepsOthersFiles (slots_in self.old) (slots_in self.new) slot.0 name.now) }
+        ensures emptied { OnOk result (PutsFile (Some (files_in self.old)) (Some (files_in self.new)) name.now []) }
+        ensures refused { OnErr result (KeepsSlots (slots_in self.old) (slots_in self.new)) }
+        ensures files { OnErr result (KeepsFiles (Some (files_in self.old)) (Some (files_in self.new))) }
+        ensures room { room_in self.new ≡ room_in self.old }
+    {
+        let file = OpenFile::start(self.alloc, name, true)?;
+        let slot = self.live.free_slot()?;
+        self.files.empty(self.alloc, name, self.room)?;
+        self.live.set(slot, Some(file));
+        Ok(slot)
+    }
+
+    /// Moves bytes from the front of what is left, as many as are left, fit the buffer and are allowed.
+    pub fn read(&mut self, slot: Slot, most: usize, buf: &mut [u8]) -> usize
+        requires live { IsSome (slots_in self.old slot.0) }
+        requires some { 0 < most }
+        requires room { 0 < length buf.old }
+        ensures within { result ≤ length buf.new }
+        ensures moved { Consumes (left_in (slots_in self.old) slot.0) (left_in (slots_in self.new) slot.0) (take result buf.new) }
+        ensures at_end { result ≡ 0 → IsAtEnd (left_in (slots_in self.new) slot.0) }
+        ensures whole { IfSome (left_in (slots_in self.old) slot.0) (λ left. result ≡ min (length left) (min (length buf.old) most)) }
+        ensures same { option_map file_of (slots_in self.new slot.0) ≡ option_map file_of (slots_in self.old slot.0) }
+        ensures others { KeepsOthers (slots_in self.old) (slots_in self.new) slot.0 }
+        ensures files { KeepsFiles (Some (files_in self.old)) (Some (files_in self.new)) }
+        ensures room { room_in self.new ≡ room_in self.old }
+    {
+        let Some(file) = self.live.get(slot) else {
+            unreachable!()
+        };
+        let bytes = self.files.bytes_of(file.name.as_str());
+        let moved = copy_from(bytes, file.place, most, buf);
+        advance(&mut self.live, slot, moved);
+        moved
+    }
+
+    /// Appends a piece to the file of a slot, whole, or nothing where no memory is found.
+    pub fn append(&mut self, slot: Slot, piece: &[u8]) -> Result<(), NoMemory>
+        requires live { option_map (λ o. o.made) (slots_in self.old slot.0) ≡ Some true }
+        ensures appended { OnOk result (AppendsTo (Some (files_in self.old)) (Some (files_in self.new)) (name_in (slots_in self.old) slot.0) piece.now) }
+        ensures live { option_map (λ o. o.made) (slots_in self.new slot.0) ≡ Some true }
+        ensures slots { KeepsOtherFiles (slots_in self.old) (slots_in self.new) (name_in (slots_in self.old) slot.0) }
+        ensures refused { OnErr result (KeepsSlots (slots_in self.old) (slots_in self.new)) }
+        ensures files { OnErr result (KeepsFiles (Some (files_in self.old)) (Some (files_in self.new))) }
+        ensures room { room_in self.new ≡ room_in self.old }
+    {
+        let Some(file) = self.live.get(slot) else {
+            unreachable!()
+        };
+        self.files.append(file.name.as_str(), piece)
+    }
+
+    /// Keeps what fits the room of the slot's file of a piece, and says whether all of it did.
+    pub fn keep(&mut self, slot: Slot, piece: &[u8]) -> bool
+        requires live { option_map (λ o. o.made) (slots_in self.old slot.0) ≡ Some true }
+        ensures kept { KeepsPart (files_in self.old) (files_in self.new) (name_in (slots_in self.old) slot.0) (room_in self.old) piece.now result }
+        ensures live { option_map (λ o. o.made) (slots_in self.new slot.0) ≡ Some true }
+        ensures slots { KeepsOtherFiles (slots_in self.old) (slots_in self.new) (name_in (slots_in self.old) slot.0) }
+        ensures room { room_in self.new ≡ room_in self.old }
+    {
+        let Some(file) = self.live.get(slot) else {
+            unreachable!()
+        };
+        self.files.keep(file.name.as_str(), self.room, piece)
+    }
+
+    /// Ends the slot.
+    pub fn close(&mut self, slot: Slot)
+        requires { IsSome (slots_in self.old slot.0) }
+        ensures ended { slots_in self.new slot.0 ≡ None }
+        ensures others { KeepsOthers (slots_in self.old) (slots_in self.new) slot.0 }
+        ensures files { KeepsFiles (Some (files_in self.old)) (Some (files_in self.new)) }
+        ensures room { room_in self.new ≡ room_in self.old }
+    {
+        self.live.set(slot, None);
+    }
+}

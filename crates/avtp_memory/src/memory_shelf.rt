@@ -1,0 +1,227 @@
+//! A shelf in memory, which fails where it is told to.
+
+ghost use Rattle.std.specs.Prelude.{◌<◌};
+
+use crate::asked_names::AskedNames;
+use crate::calls::Calls;
+use crate::memory_files::MemoryFiles;
+use avtp_base::{Failed, NoMemory, OpenFault, Shelf, Slot};
+use std::alloc::Global;
+
+/// Keeps files by name. Its calls, but those of `close_file`, are numbered from 1, and those whose numbers it was
+/// given fail.
+#[derive(Debug, Drop)]
+pub struct MemoryShelf {
+    held: MemoryFiles,
+    asked: AskedNames,
+    calls: Calls,
+    most: usize,
+    reading_faults: u64,
+    writing_faults: u64,
+    ghost some: { 0 < most },
+}
+
+impl MemoryShelf {
+    ghost use Rattle.std.specs.Prelude.{◌≡◌, ◌^◌, ◌-◌, [], None, ℕ, option_copied};
+    ghost use Rattle.avtp_memory.specs.NamedFiles.{bytes_under};
+    ghost use Rattle.avtp_memory.specs.MemoryShelf.{files_of, slots_of, asked_of, calls, failing_calls, most, reading_count, writing_count};
+
+    /// A shelf of these files, each under its name, whose calls with these numbers fail. Of two files of one name
+    /// the first counts.
+    pub fn over(alloc: Global, files: Vec<(String, Vec<u8>)>, fails: Vec<u64>) -> Self
+        ensures files { files_of result ≡ bytes_under files.items }
+        ensures closed { (k : ℕ) → slots_of result k ≡ None }
+        ensures asked { asked_of result [] }
+        ensures fails { failing_calls result ≡ fails.items }
+        ensures calls { calls result ≡ 0 }
+        ensures most { most result ≡ 2 ^ 64 - 1 }
+        ensures reading { reading_count result ≡ 0 }
+        ensures writing { writing_count result ≡ 0 }
+    {
+        MemoryShelf {
+            held: MemoryFiles::over(alloc, files, 0),
+            asked: AskedNames::new(alloc),
+            calls: Calls::over(fails),
+            most: usize::MAX,
+            reading_faults: 0,
+            writing_faults: 0,
+        }
+    }
+
+    /// From now on, a read or a write moves at most `n` bytes, and `n` is at least 1.
+    pub fn at_most(self, n: usize) -> Self
+        requires { 0 < n }
+        ensures files { files_of result ≡ files_of self }
+        ensures slots { (k : ℕ) → slots_of result k ≡ slots_of self k }
+        ensures asked { result.asked ≡ self.asked }
+        ensures fails { failing_calls result ≡ failing_calls self }
+        ensures calls { calls result ≡ calls self }
+        ensures most { most result ≡ n }
+        ensures reading { reading_count result ≡ reading_count self }
+        ensures writing { writing_count result ≡ writing_count self }
+    {
+        let MemoryShelf {
+            held,
+            asked,
+            calls,
+            most: _,
+            reading_faults,
+            writing_faults,
+        } = self;
+        MemoryShelf {
+            held,
+            asked,
+            calls,
+            most: n,
+            reading_faults,
+            writing_faults,
+        }
+    }
+
+    /// The bytes of the file with the name.
+    pub fn file(&self, name: &str) -> Option<&[u8]>
+        ensures { option_copied result ≡ files_of self.now name.now }
+    {
+        self.held.file(name)
+    }
+
+    /// The names that `open_file` and `create_file` were called with, in order, up to the first for which no memory was
+    /// found.
+    pub fn asked(&self) -> &[String]
+        ensures { result.now ≡ self.now.asked.names.items }
+    {
+        self.asked.names.as_slice()
+    }
+}
+
+impl Shelf for MemoryShelf {
+    ghost use Rattle.std.specs.Prelude.{◌≡◌, ◌≤◌, ◌<◌, ◌↔◌, ◌++◌, ◌∷◌, ℕ, List, true, [], None, Some, min, take, length, option_map, IsSome, IfSome, IfOk, OnOk, OnErr, IsErr, IsErrOf};
+    ghost use Rattle.std.specs.Io.KnownBytes.{ReadConsumes};
+    ghost use Rattle.avtp_base.specs.Faults.{IsCounted, IsOpenCounted};
+    ghost use Rattle.avtp_base.specs.Files.{file_of, left_in, name_in, IsMissing, KeepsFiles, KeepsOthers, KeepsSlots, KeepsOtherFiles, KeepsOthersFiles, PutsFile, IsOpened, IsMade, AppendsTo};
+    ghost use Rattle.avtp_memory.specs.MemoryFiles.{told_of_live};
+    ghost use Rattle.avtp_memory.specs.MemoryShelf.{files_of, slots_of, asked_of, state_of, calls, most, reading_count, writing_count, IsToFail, CountsCall};
+
+    ghost state = { state_of };
+
+    ghost told = { λ shelf k told live. told_of_live shelf.held k live };
+
+    /// Fails exactly where its number is among those that fail.
+    fn open_file(&mut self, name: &str) -> Result<Slot, OpenFault>
+        ensures opened { IfOk result (λ slot. IsOpened (Some (files_of self.old)) (slots_of self.new slot.0) name.now) }
+        ensures fresh { IfOk result (λ slot. slots_of self.old slot.0 ≡ None) }
+        ensures others { IfOk result (λ slot. KeepsOthers (slots_of self.old) (slots_of self.new) slot.0) }
+        ensures refused { OnErr result (KeepsSlots (slots_of self.old) (slots_of self.new)) }
+        ensures missing { IsErrOf result OpenFault.Missing → IsMissing (Some (files_of self.old)) name.now }
+        ensures files { KeepsFiles (Some (files_of self.old)) (Some (files_of self.new)) }
+        ensures reading { IsOpenCounted (reading_count self.old) (reading_count self.new) result }
+        ensures writing { writing_count self.new ≡ writing_count self.old }
+        ensures asked { (names : List (List ℕ)) → asked_of self.old names → asked_of self.new (names ++ name.now ∷ []) }
+        ensures failed { IsErrOf result OpenFault.Failed ↔ IsToFail self.old }
+        ensures call { CountsCall self.old self.new }
+    {
+        self.asked.note(name);
+        if self.calls.next_fails() {
+            self.reading_faults = self.reading_faults.saturating_add(1);
+            return Err(OpenFault::Failed);
+        }
+        self.held.open(name)
+    }
+
+    /// Fails exactly where its number is among those that fail.
+    fn create_file(&mut self, name: &str) -> Result<Slot, OpenFault>
+        ensures made { IfOk result (λ slot. IsMade (Some (files_of self.old)) (slots_of self.new slot.0) name.now) }
+        ensures fresh { IfOk result (λ slot. slots_of self.old slot.0 ≡ None) }
+        ensures others { IfOk result (λ slot. KeepsOthersFiles (slots_of self.old) (slots_of self.new) slot.0 name.now) }
+        ensures emptied { OnOk result (PutsFile (Some (files_of self.old)) (Some (files_of self.new)) name.now []) }
+        ensures refused { OnErr result (KeepsSlots (slots_of self.old) (slots_of self.new)) }
+        ensures files { OnErr result (KeepsFiles (Some (files_of self.old)) (Some (files_of self.new))) }
+        ensures not_missing { IsErrOf result OpenFault.Missing → ⊥ }
+        ensures writing { IsOpenCounted (writing_count self.old) (writing_count self.new) result }
+        ensures reading { reading_count self.new ≡ reading_count self.old }
+        ensures asked { (names : List (List ℕ)) → asked_of self.old names → asked_of self.new (names ++ name.now ∷ []) }
+        ensures failed { IsErrOf result OpenFault.Failed ↔ IsToFail self.old }
+        ensures call { CountsCall self.old self.new }
+    {
+        self.asked.note(name);
+        if self.calls.next_fails() {
+            self.writing_faults = self.writing_faults.saturating_add(1);
+            return Err(OpenFault::Failed);
+        }
+        let Ok(slot) = self.held.create(name) else {
+            return Err(OpenFault::Memory);
+        };
+        Ok(slot)
+    }
+
+    /// Fails exactly where its number is among those that fail. It moves as many bytes as are left and fit.
+    fn read(&mut self, slot: Slot, buf: &mut [u8]) -> Result<usize, Failed>
+        requires live { IsSome (slots_of self.old slot.0) }
+        requires room { 0 < length buf.old }
+        ensures within { IfOk result (λ n. n ≤ length buf.new) }
+        ensures moved { ReadConsumes (left_in (slots_of self.old) slot.0) (left_in (slots_of self.new) slot.0) result buf.new }
+        ensures whole { IfOk result (λ n. IfSome (left_in (slots_of self.old) slot.0) (λ left. n ≡ min (length left) (min (length buf.old) (most self.old)))) }
+        ensures same { option_map file_of (slots_of self.new slot.0) ≡ option_map file_of (slots_of self.old slot.0) }
+        ensures others { KeepsOthers (slots_of self.old) (slots_of self.new) slot.0 }
+        ensures files { KeepsFiles (Some (files_of self.old)) (Some (files_of self.new)) }
+        ensures reading { IsCounted (reading_count self.old) (reading_count self.new) result }
+        ensures writing { writing_count self.new ≡ writing_count self.old }
+        ensures asked { (names : List (List ℕ)) → asked_of self.old names → asked_of self.new names }
+        ensures failed { IsErr result ↔ IsToFail self.old }
+        ensures call { CountsCall self.old self.new }
+    {
+        if self.calls.next_fails() {
+            self.reading_faults = self.reading_faults.saturating_add(1);
+            return Err(Failed);
+        }
+        Ok(self.held.read(slot, self.most, buf))
+    }
+
+    /// Fails where its number is among those that fail, and where no memory is found to keep the piece. It takes
+    /// the whole piece.
+    fn write(&mut self, slot: Slot, piece: &[u8]) -> Result<usize, Failed>
+        requires live { option_map (λ o. o.made) (slots_of self.old slot.0) ≡ Some true }
+        requires some { 0 < length piece.now }
+        ensures some { IfOk result (λ n. 0 < n) }
+        ensures within { IfOk result (λ n. n ≤ length piece.now) }
+        ensures whole { IfOk result (λ n. n ≡ min (length piece.now) (most self.old)) }
+        ensures appended { IfOk result (λ n. AppendsTo (Some (files_of self.old)) (Some (files_of self.new)) (name_in (slots_of self.old) slot.0) (take n piece.now)) }
+        ensures live { option_map (λ o. o.made) (slots_of self.new slot.0) ≡ Some true }
+        ensures slots { KeepsOtherFiles (slots_of self.old) (slots_of self.new) (name_in (slots_of self.old) slot.0) }
+        ensures refused { OnErr result (KeepsSlots (slots_of self.old) (slots_of self.new)) }
+        ensures files { OnErr result (KeepsFiles (Some (files_of self.old)) (Some (files_of self.new))) }
+        ensures writing { IsCounted (writing_count self.old) (writing_count self.new) result }
+        ensures reading { reading_count self.new ≡ reading_count self.old }
+        ensures asked { (names : List (List ℕ)) → asked_of self.old names → asked_of self.new names }
+        ensures failed { IsToFail self.old → IsErr result }
+        ensures call { CountsCall self.old self.new }
+    {
+        if self.calls.next_fails() {
+            self.writing_faults = self.writing_faults.saturating_add(1);
+            return Err(Failed);
+        }
+        let taken = piece.len().min(self.most);
+        match self.held.append(slot, &piece[..taken]) {
+            Ok(()) => Ok(taken),
+            Err(NoMemory) => {
+                self.writing_faults = self.writing_faults.saturating_add(1);
+                Err(Failed)
+            }
+        }
+    }
+
+    /// Ends the slot. The call has no number.
+    fn close_file(&mut self, slot: Slot)
+        requires { IsSome (slots_of self.old slot.0) }
+        ensures ended { slots_of self.new slot.0 ≡ None }
+        ensures others { KeepsOthers (slots_of self.old) (slots_of self.new) slot.0 }
+        ensures files { KeepsFiles (Some (files_of self.old)) (Some (files_of self.new)) }
+        ensures reading { reading_count self.new ≡ reading_count self.old }
+        ensures writing { writing_count self.new ≡ writing_count self.old }
+        ensures asked { (names : List (List ℕ)) → asked_of self.old names → asked_of self.new names }
+        ensures calls { calls self.new ≡ calls self.old }
+        ensures most { most self.new ≡ most self.old }
+    {
+        self.held.close(slot);
+    }
+}

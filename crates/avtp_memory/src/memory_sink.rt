@@ -1,0 +1,105 @@
+//! A sink in memory, which fails where it is told to.
+
+ghost use Rattle.std.specs.Prelude.{◌<◌};
+
+use crate::calls::Calls;
+use avtp_base::{Failed, Sink};
+use std::alloc::Global;
+
+/// Keeps what is written. Its calls are numbered from 1, and those whose numbers it was given fail.
+#[derive(Debug, Drop)]
+pub struct MemorySink {
+    bytes: Vec<u8>,
+    calls: Calls,
+    most: usize,
+    faults: u64,
+    ghost some: { 0 < most },
+}
+
+impl MemorySink {
+    ghost use Rattle.std.specs.Prelude.{◌≡◌, ◌^◌, ◌-◌, []};
+    ghost use Rattle.avtp_memory.specs.MemorySink.{kept, calls, failing_calls, most, fault_count};
+
+    /// An empty sink whose calls with these numbers fail.
+    pub fn over(alloc: Global, fails: Vec<u64>) -> Self
+        ensures empty { kept result ≡ [] }
+        ensures fails { failing_calls result ≡ fails.items }
+        ensures calls { calls result ≡ 0 }
+        ensures most { most result ≡ 2 ^ 64 - 1 }
+        ensures faults { fault_count result ≡ 0 }
+    {
+        MemorySink {
+            bytes: Vec::new(alloc),
+            calls: Calls::over(fails),
+            most: usize::MAX,
+            faults: 0,
+        }
+    }
+
+    /// From now on, a write takes at most `n` bytes, and `n` is at least 1.
+    pub fn at_most(self, n: usize) -> Self
+        requires { 0 < n }
+        ensures kept { kept result ≡ kept self }
+        ensures fails { failing_calls result ≡ failing_calls self }
+        ensures calls { calls result ≡ calls self }
+        ensures most { most result ≡ n }
+        ensures faults { fault_count result ≡ fault_count self }
+    {
+        let MemorySink {
+            bytes,
+            calls,
+            most: _,
+            faults,
+        } = self;
+        MemorySink {
+            bytes,
+            calls,
+            most: n,
+            faults,
+        }
+    }
+
+    /// What was written.
+    pub fn bytes(&self) -> &[u8]
+        ensures { result.now ≡ kept self.now }
+    {
+        self.bytes.as_slice()
+    }
+}
+
+impl Sink for MemorySink {
+    ghost use Rattle.std.specs.Prelude.{◌≡◌, ◌≤◌, ◌<◌, Some, min, length, Contains, IfOk, IsErr};
+    ghost use Rattle.avtp_memory.specs.Calls.{next_number};
+    ghost use Rattle.avtp_base.specs.Faults.{IsCounted};
+    ghost use Rattle.avtp_memory.specs.MemorySink.{kept, calls, failing_calls, most, fault_count};
+    ghost use Rattle.avtp_base.specs.Told.{WriteAppends};
+
+    ghost state = { λ sink. record { held = Some (kept sink); faults = fault_count sink } };
+
+    /// Fails where the number of the call is among those that fail, and where no memory is found to keep the piece.
+    fn write(&mut self, piece: &[u8]) -> Result<usize, Failed>
+        requires { 0 < length piece.now }
+        ensures some { IfOk result (λ n. 0 < n) }
+        ensures within { IfOk result (λ n. n ≤ length piece.now) }
+        ensures appends { WriteAppends (Some (kept self.old)) (Some (kept self.new)) result piece.now }
+        ensures counted { IsCounted (fault_count self.old) (fault_count self.new) result }
+        ensures told { Contains (failing_calls self.old) (next_number (calls self.old)) → IsErr result }
+        ensures whole { IfOk result (λ n. n ≡ min (length piece.now) (most self.old)) }
+        ensures next { calls self.new ≡ next_number (calls self.old) }
+        ensures fails { failing_calls self.new ≡ failing_calls self.old }
+        ensures most { most self.new ≡ most self.old }
+    {
+        if self.calls.next_fails() {
+            self.faults = self.faults.saturating_add(1);
+            return Err(Failed);
+        }
+        let taken = piece.len().min(self.most);
+        match self.bytes.extend_from_slice(&piece[..taken]) {
+            Ok(()) => Ok(taken),
+            Err(_) => {
+                self.faults = self.faults.saturating_add(1);
+                Err(Failed)
+            }
+        }
+    }
+}

@@ -1,0 +1,70 @@
+//! A file of a shelf in memory that is open.
+
+ghost use Rattle.std.specs.Prelude.{◌≡◌, ◌+◌, ◌-◌, ◌^◌, ◌<◌, ◌++◌, [], length, min, take, drop, option_map, IsSome, IfOk, IfSome, string_bytes};
+ghost use Rattle.avtp_base.specs.Entries.{entry_at, SetsEntry};
+ghost use Rattle.avtp_memory.specs.OpenFile.{moved_on};
+
+use avtp_base::slots::Slots;
+use avtp_base::{NoMemory, Slot};
+use std::alloc::Global;
+
+/// A file that is open: how many of its bytes were read, and whether it was made for writing.
+#[derive(Debug, Drop)]
+pub struct OpenFile {
+    pub name: String,
+    pub place: usize,
+    pub made: bool,
+}
+
+impl OpenFile {
+    /// The file with the name, none of it read.
+    pub fn start(alloc: Global, name: &str, made: bool) -> Result<Self, NoMemory>
+        ensures name { IfOk result (λ file. string_bytes file.name ≡ name.now) }
+        ensures place { IfOk result (λ file. file.place ≡ 0) }
+        ensures made { IfOk result (λ file. file.made ≡ made) }
+    {
+        let name = String::from_str(alloc, name)?;
+        Ok(OpenFile {
+            name,
+            place: 0,
+            made,
+        })
+    }
+}
+
+/// Moves on in the file of a live slot.
+pub fn advance(live: &mut Slots<OpenFile>, slot: Slot, by: usize)
+    requires live { IsSome (entry_at live.old.entries.items slot.0) }
+    requires fits { IfSome (entry_at live.old.entries.items slot.0) (λ file. file.place + by < 2 ^ 64) }
+    ensures { SetsEntry live.old.entries.items live.new.entries.items slot.0 (option_map (moved_on by) (entry_at live.old.entries.items slot.0)) }
+{
+    if let Some(file) = &mut live.entries[slot.0 as usize] {
+        file.place += by;
+    }
+}
+
+/// Copies from a place of a file's bytes into the buffer, at most as many bytes as said.
+pub fn copy_from(bytes: &[u8], place: usize, most: usize, buf: &mut [u8]) -> usize
+    requires some { 0 < most }
+    requires room { 0 < length buf.old }
+    ensures count { result ≡ min (length bytes.now - place) (min (length buf.old) most) }
+    ensures fits { place + result < 2 ^ 64 }
+    ensures moved { drop place bytes.now ≡ take result buf.new ++ drop (place + result) bytes.now }
+    ensures at_end { result ≡ 0 → drop (place + result) bytes.now ≡ [] }
+{
+    let left = rest_of(bytes, place);
+    let moved = left.len().min(buf.len()).min(most);
+    buf[..moved].copy_from_slice(&left[..moved]);
+    moved
+}
+
+// What stands from a place on, which may lie past the end.
+fn rest_of(bytes: &[u8], place: usize) -> &[u8]
+    ensures { result.now ≡ drop place bytes.now }
+{
+    if place < bytes.len() {
+        &bytes[place..]
+    } else {
+        &[]
+    }
+}
