@@ -14,7 +14,8 @@ use Rattle.avtp_base.proofs.HoldLemmas.{held_spells, spelled_holds}
 use Rattle.avtp_base.proofs.OnlySpelling.{only_spelling}
 use Rattle.avtp_base.proofs.LayoutLemmas.{Holds, IsLaid, holds_spelled, unset_spelled}
 use Rattle.avtp_header.specs.declared.header.StreamHeader.{StreamHeader}
-use Rattle.avtp_header.specs.Header.{SpellsHeader, filled_layout, header_layout, header_of, header_refusal, kind_refusal, subtype_row, version_row}
+use Rattle.avtp_header.specs.Header.{SpellsHeader, header_layout, header_of, header_refusal, kind_refusal, subtype_row, version_row}
+use Rattle.avtp_header.specs.state.Header.{filled_layout}
 use Rattle.avtp_header.proofs.HeaderLemmas.{header_whole, one_header, version_accepted}
 use Rattle.aaf_format.specs.declared.aaf.AafFormat.{AafFormat}
 use Rattle.aaf_format.specs.declared.aaf.AafFormat.TheVariants.{Float32, Int32, Int24, Int16}

@@ -1,15 +1,10 @@
 -- What a shelf of real files shows.
-use Rattle.std.specs.Prelude.{ℕ, None, option_map}
+use Rattle.std.specs.Prelude.{None, option_map}
 use Rattle.avtp_base.specs.declared.file_shelf.RealFile.{RealFile}
 use Rattle.avtp_base.specs.declared.slots.Slots.{Slots}
 use Rattle.avtp_base.specs.Entries.{entry_at}
 use Rattle.avtp_base.specs.Files as files
-use Rattle.avtp_base.specs.States.{ShelfState}
 
 -- the open files by slot, of which neither names nor contents are told
 abbrev pub real_slots : {F : Type 0} → Slots (RealFile F) → files.Slots
 real_slots live k = option_map (λ open_file. record { made = open_file.made; name = None; left = None }) (entry_at live.entries.items k)
-
--- all that it means: no file is told, and no account is kept of names
-abbrev pub real_state : files.Slots → ℕ → ℕ → ShelfState
-real_state slots reading writing = record { files = None; slots = slots; reading_faults = reading; writing_faults = writing; asked = None }

@@ -9,3 +9,4 @@ pub mod Told
 pub mod States
 pub mod Layout
 pub mod Waiting
+pub mod state

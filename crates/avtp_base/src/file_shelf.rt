@@ -3,7 +3,8 @@
 ghost use Rattle.std.specs.Prelude.{◌≡◌, ◌<◌, ◌≤◌, ℕ, None, length, IsSome, IfSome};
 ghost use Rattle.std.proofs.Common.{rules};
 ghost use Rattle.avtp_base.specs.Entries.{entry_at};
-ghost use Rattle.avtp_base.specs.FileShelf.{real_slots, real_state};
+ghost use Rattle.avtp_base.specs.FileShelf.{real_slots};
+ghost use Rattle.avtp_base.specs.state.FileShelf.{real_state};
 
 use crate::failed::{Failed, OpenFault};
 use crate::shelf::{Shelf, Slot};

@@ -34,13 +34,6 @@ header_layout = stream_layout (λ h. h)
     (part FormatData 16 (reserved 32 ∷ []) ∷ [])
     (part FormatFlags 22 (reserved 16 ∷ []) ∷ [])
 
--- the header with these numbers in the bits that are left to each format
-abbrev pub filled_layout : ℕ → ℕ → ℕ → Layout StreamHeader
-filled_layout format_bits format_data format_flags = stream_layout (λ h. h)
-    (holds 2 (λ h. format_bits) ∷ [])
-    (part FormatData 16 (holds 32 (λ h. format_data) ∷ []) ∷ [])
-    (part FormatFlags 22 (holds 16 (λ h. format_flags) ∷ []) ∷ [])
-
 -- The rows that all formats of AVTP share: the subtype is the format's, and the version is 0.
 abbrev pub subtype_row : ℕ → List ℕ → Row
 subtype_row subtype bytes = row Subtype 0 (not (bits 0 0 8 bytes == subtype))

@@ -1,2 +1,3 @@
 pub mod Header
 pub mod Numbers
+pub mod state

@@ -3,7 +3,8 @@
 ghost use Rattle.std.specs.Prelude.{◌≡◌, ◌≤◌, ◌<◌, ◌++◌, ◌∷◌, List, ℕ, [], take, IfOk};
 ghost use Rattle.avtp_base.specs.Layout.{Fits, spelling};
 ghost use Rattle.avtp_base.specs.Rows.{Writes};
-ghost use Rattle.avtp_header.specs.Header.{SpellsHeader, filled_layout, header_layout};
+ghost use Rattle.avtp_header.specs.Header.{SpellsHeader, header_layout};
+ghost use Rattle.avtp_header.specs.state.Header.{filled_layout};
 
 use crate::header::StreamHeader;
 use avtp_base::Room;

@@ -8,7 +8,8 @@ use Rattle.std.proofs.lemmas.List.Folds.{find_at, find-set, find_past, find-appe
 use Rattle.std.proofs.lemmas.Bool.{ltb-true, ltb-false}
 use Rattle.std.proofs.lemmas.Option.{slice_get-get_or, slice_get_cases, cond_some}
 use Rattle.std.proofs.lemmas.Slice.Eq.{bytes_eq-Decides}
-use Rattle.avtp_memory.specs.NamedFiles.{has_name, bytes_under, capacity_under, SetsFile, KeepsNamed, KeepsCapacity}
+use Rattle.avtp_memory.specs.NamedFiles.{has_name, bytes_under}
+use Rattle.avtp_memory.specs.state.NamedFiles.{capacity_under, SetsFile, KeepsNamed, KeepsCapacity}
 
 find_passes : {X : Type 0} (p : X → Bool) (xs : List X) (x : X) → find p xs ≡ Some x → p x ≡ true
 find_passes p [] x e = absurd cc

@@ -4,7 +4,7 @@ pub mod MemoryFiles
 pub mod MemoryShelf
 pub mod MemorySink
 pub mod NamedFiles
-pub mod OpenFile
 pub mod QuietShelf
 pub mod QuietSink
 pub mod Room
+pub mod state

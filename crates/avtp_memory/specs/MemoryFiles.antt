@@ -1,10 +1,10 @@
 -- What files in memory show.
-use Rattle.std.specs.Prelude.{◌≡◌, ◌≢◌, ◌↔◌, ℕ, Bool, IsTrue, List, [], Option, Some, None, drop, option_map, option_and_then, unwrap_or, refl, IsSome, string_bytes, String}
+use Rattle.std.specs.Prelude.{◌≡◌, ◌≢◌, ◌↔◌, ℕ, Bool, IsTrue, List, [], Option, Some, drop, option_map, unwrap_or, string_bytes, String}
 use Rattle.std.specs.Global.{Vec, Global}
 use Rattle.avtp_memory.specs.declared.memory_files.MemoryFiles.{MemoryFiles}
 use Rattle.avtp_memory.specs.declared.open_file.OpenFile.{OpenFile}
 use Rattle.avtp_base.specs.Entries.{entry_at}
-use Rattle.avtp_base.specs.Files.{Files, Open, Slots, name_in, left_in}
+use Rattle.avtp_base.specs.Files.{Files, Open, Slots}
 use Rattle.avtp_memory.specs.NamedFiles.{bytes_under}
 use Rattle.avtp_memory.specs.Room.{kept_within, FitsRoom}
 
@@ -24,14 +24,6 @@ slots_in held k = option_map (open_in held.files.entries.items) (entry_at held.l
 -- the room of a file that is made
 abbrev pub room_in : MemoryFiles → ℕ
 room_in held = held.room
-
--- each open file has its name and what is left
-pub told_of_live : (held : MemoryFiles) (k : ℕ) → IsSome (slots_in held k) → IsSome (name_in (slots_in held) k) × IsSome (left_in (slots_in held) k)
-told_of_live held k live =
-    elim (entry_at held.live.entries.items k) as (λ e. IsSome (option_map (open_in held.files.entries.items) e) → IsSome (option_and_then (λ o. o.name) (option_map (open_in held.files.entries.items) e)) × IsSome (option_and_then (λ o. o.left) (option_map (open_in held.files.entries.items) e))) [
-      | None ↦ λ h. absurd cc
-      | Some file ↦ λ _. (refl, refl)
-    ] live
 
 -- The named file keeps what fits its room of a piece, which is said to be all of it or not, and every other file stays.
 pub record KeepsPart (old new : Files) (named : Option (List ℕ)) (room : ℕ) (piece : List ℕ) (fits : Bool) : Type 0 where

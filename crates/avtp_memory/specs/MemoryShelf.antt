@@ -1,11 +1,10 @@
 -- What a shelf in memory shows.
-use Rattle.std.specs.Prelude.{◌≡◌, ℕ, List, Some, Contains}
+use Rattle.std.specs.Prelude.{◌≡◌, ℕ, List, Contains}
 use Rattle.avtp_memory.specs.declared.memory_shelf.MemoryShelf.{MemoryShelf}
 use Rattle.avtp_memory.specs.Calls.{next_number}
-use Rattle.avtp_memory.specs.Asked.{account_of, StandsForNames}
+use Rattle.avtp_memory.specs.Asked.{StandsForNames}
 use Rattle.avtp_base.specs.Files.{Files, Slots}
 use Rattle.avtp_memory.specs.MemoryFiles.{files_in, slots_in}
-use Rattle.avtp_base.specs.States.{ShelfState}
 
 -- the bytes that are kept under a name
 abbrev pub files_of : MemoryShelf → Files
@@ -37,10 +36,6 @@ reading_count shelf = shelf.reading_faults
 
 abbrev pub writing_count : MemoryShelf → ℕ
 writing_count shelf = shelf.writing_faults
-
--- all that it means
-abbrev pub state_of : MemoryShelf → ShelfState
-state_of shelf = record { files = Some (files_of shelf); slots = slots_of shelf; reading_faults = reading_count shelf; writing_faults = writing_count shelf; asked = Some (account_of shelf.asked) }
 
 -- the next call fails, since its number is among those that do
 abbrev pub IsToFail : MemoryShelf → Type 0

@@ -1,11 +1,10 @@
 -- What a quiet shelf shows.
-use Rattle.std.specs.Prelude.{◌≡◌, ◌&&◌, ℕ, Bool, List, Option, Some}
+use Rattle.std.specs.Prelude.{◌≡◌, ◌&&◌, ℕ, Bool, List, Option}
 use Rattle.avtp_memory.specs.declared.quiet_shelf.QuietShelf.{QuietShelf}
-use Rattle.avtp_memory.specs.Asked.{account_of, StandsForNames}
+use Rattle.avtp_memory.specs.Asked.{StandsForNames}
 use Rattle.avtp_base.specs.Files.{Files, Slots}
 use Rattle.avtp_memory.specs.MemoryFiles.{files_in, slots_in, room_in, KeepsPart}
 use Rattle.avtp_memory.specs.Room.{told_while}
-use Rattle.avtp_base.specs.States.{ShelfState}
 
 -- the bytes that are kept under a name
 abbrev pub kept_files : QuietShelf → Files
@@ -30,10 +29,6 @@ slots_of shelf = slots_in shelf.held
 -- the names that it was asked for
 abbrev pub asked_of : QuietShelf → List (List ℕ) → Type 0
 asked_of shelf = StandsForNames shelf.asked
-
--- all that it means
-abbrev pub state_of : QuietShelf → ShelfState
-state_of shelf = record { files = files_of shelf; slots = slots_of shelf; reading_faults = 0; writing_faults = 0; asked = Some (account_of shelf.asked) }
 
 -- The named file keeps what fits its room of a piece, every other file stays, and all is kept where it was and the piece
 -- fits.

@@ -2,7 +2,8 @@
 
 ghost use Rattle.std.specs.Prelude.{◌≡◌, ◌++◌, ◌∷◌, ℕ, List, [], map, string_bytes, String};
 ghost use Rattle.std.specs.Global.{Global};
-ghost use Rattle.avtp_memory.specs.Asked.{StandsForNames, NamePushed};
+ghost use Rattle.avtp_memory.specs.Asked.{StandsForNames};
+ghost use Rattle.avtp_memory.specs.state.Asked.{NamePushed};
 
 use std::alloc::Global;
 

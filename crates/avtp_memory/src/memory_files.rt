@@ -1,7 +1,7 @@
 //! Files in memory, with what is open of them: what both shelves in memory stand on.
 
 ghost use Rattle.std.specs.Prelude.{◌≤◌};
-ghost use Rattle.avtp_memory.specs.OpenFile.{AreNamed, HaveRoom};
+ghost use Rattle.avtp_memory.specs.state.OpenFile.{AreNamed, HaveRoom};
 
 use crate::named_files::NamedFiles;
 use crate::open_file::{OpenFile, advance, copy_from};

@@ -99,8 +99,9 @@ impl Shelf for MemoryShelf {
     ghost use Rattle.std.specs.Io.KnownBytes.{ReadConsumes};
     ghost use Rattle.avtp_base.specs.Faults.{IsCounted, IsOpenCounted};
     ghost use Rattle.avtp_base.specs.Files.{file_of, left_in, name_in, IsMissing, KeepsFiles, KeepsOthers, KeepsSlots, KeepsOtherFiles, KeepsOthersFiles, PutsFile, IsOpened, IsMade, AppendsTo};
-    ghost use Rattle.avtp_memory.specs.MemoryFiles.{told_of_live};
-    ghost use Rattle.avtp_memory.specs.MemoryShelf.{files_of, slots_of, asked_of, state_of, calls, most, reading_count, writing_count, IsToFail, CountsCall};
+    ghost use Rattle.avtp_memory.specs.state.MemoryFiles.{told_of_live};
+    ghost use Rattle.avtp_memory.specs.MemoryShelf.{files_of, slots_of, asked_of, calls, most, reading_count, writing_count, IsToFail, CountsCall};
+    ghost use Rattle.avtp_memory.specs.state.MemoryShelf.{state_of};
 
     ghost state = { state_of };
 

@@ -1,7 +1,8 @@
 //! Files in memory, by name.
 
 ghost use Rattle.std.specs.Prelude.{◌≡◌, ◌≤◌, [], Some, OnOk, OnErr, IsSome, option_copied, position};
-ghost use Rattle.avtp_memory.specs.NamedFiles.{bytes_under, capacity_under, has_name, SetsFile, GrowsFile, KeepsNamed, KeepsCapacity, KeepsWithin};
+ghost use Rattle.avtp_memory.specs.NamedFiles.{bytes_under, has_name};
+ghost use Rattle.avtp_memory.specs.state.NamedFiles.{capacity_under, SetsFile, GrowsFile, KeepsNamed, KeepsCapacity, KeepsWithin};
 
 use crate::room::{empty_with_room, keep_within};
 use avtp_base::NoMemory;

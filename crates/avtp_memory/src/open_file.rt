@@ -2,7 +2,7 @@
 
 ghost use Rattle.std.specs.Prelude.{◌≡◌, ◌+◌, ◌-◌, ◌^◌, ◌<◌, ◌++◌, [], length, min, take, drop, option_map, IsSome, IfOk, IfSome, string_bytes};
 ghost use Rattle.avtp_base.specs.Entries.{entry_at, SetsEntry};
-ghost use Rattle.avtp_memory.specs.OpenFile.{moved_on};
+ghost use Rattle.avtp_memory.specs.state.OpenFile.{moved_on};
 
 use avtp_base::slots::Slots;
 use avtp_base::{NoMemory, Slot};

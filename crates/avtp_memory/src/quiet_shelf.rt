@@ -48,8 +48,9 @@ impl Shelf for QuietShelf {
     ghost use Rattle.std.specs.Io.KnownBytes.{ReadConsumes};
     ghost use Rattle.avtp_base.specs.Faults.{IsCounted, IsOpenCounted};
     ghost use Rattle.avtp_base.specs.Files.{file_of, left_in, name_in, IsMissing, KeepsFiles, KeepsOthers, KeepsSlots, KeepsOtherFiles, KeepsOthersFiles, PutsFile, IsOpened, IsMade, AppendsTo};
-    ghost use Rattle.avtp_memory.specs.MemoryFiles.{told_of_live};
-    ghost use Rattle.avtp_memory.specs.QuietShelf.{files_of, kept_files, keeps_all, room_of, slots_of, asked_of, state_of, KeepsPiece};
+    ghost use Rattle.avtp_memory.specs.state.MemoryFiles.{told_of_live};
+    ghost use Rattle.avtp_memory.specs.QuietShelf.{files_of, kept_files, keeps_all, room_of, slots_of, asked_of, KeepsPiece};
+    ghost use Rattle.avtp_memory.specs.state.QuietShelf.{state_of};
 
     ghost state = { state_of };
 

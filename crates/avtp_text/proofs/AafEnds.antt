@@ -2,7 +2,7 @@
 use Rattle.std.proofs.Common.{◌≡◌, ℕ, ◌-◌, List, ◌++◌, length, drop, codes, decimal, unwrap_or, subst, arith, append_assoc, length-append}
 use Rattle.std.proofs.Math.Seq.{drop-append_seam}
 use Rattle.aaf_format.specs.Aaf.{Aaf, rate_of}
-use Rattle.avtp_text.specs.AafLines.{IsEnd, aaf_start, end_of}
+use Rattle.avtp_text.specs.state.AafLines.{IsEnd, aaf_start, end_of}
 use Rattle.avtp_text.specs.declared.aaf_line.AafEnd.{AafEnd}
 use Rattle.avtp_text.specs.Pieces.{newline, flag_text, id_text}
 use Rattle.avtp_text.specs.Show.{aaf_content, header_text, format_text}

@@ -8,7 +8,7 @@ use Rattle.time_unfold.specs.Time.{IsInstant}
 use Rattle.time_unfold.specs.Lines.{IsAt, floor_of, instant_at}
 use Rattle.time_unfold.proofs.Floors.{euclid, rest_below}
 use Rattle.time_unfold.proofs.OnLine.{instant_at-at, one_at}
-use Rattle.avtp_text.specs.Instants.{IsRestOf}
+use Rattle.avtp_text.specs.state.Instants.{IsRestOf}
 
 times_more : (q : ℤ) (n d : ℕ) → (q +ℤ pos n) *ℤ pos d ≡ q *ℤ pos d +ℤ pos (n * d)
 times_more q n d =

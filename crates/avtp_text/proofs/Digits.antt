@@ -1,7 +1,7 @@
 use Rattle.std.proofs.Common.{◌≡◌, ℕ, ◌+◌, ◌*◌, ◌/◌, ◌%◌, ◌^◌, ◌<◌, ◌≤◌, ◌++◌, length, decimal, refl, sym, ap, ◌∙◌, arith, append_assoc}
 use Rattle.std.proofs.lemmas.Fmt.{length-decimal-le}
 use Rattle.itoa.proofs.Decimal.{decimal_four, length_one, length_two, length_pair}
-use Rattle.avtp_text.specs.Pairs.{eight_digits, four_digits}
+use Rattle.avtp_text.specs.state.Pairs.{eight_digits, four_digits}
 
 pub digits_of_u64 : (n : ℕ) → n < 2 ^ 64 → length (decimal n) ≤ 20
 digits_of_u64 n h = length-decimal-le 20 n (omega arith) (omega arith) h

@@ -2,10 +2,10 @@
 use Rattle.std.proofs.Common.{◌≡◌, ℕ, ◌+◌, ◌*◌, ◌^◌, ◌<◌, ◌≤◌, ℤ, pos, List, ◌++◌, length, codes, decimal, refl, sym, ap, ◌∙◌, arith, append_assoc, length-append}
 use Rattle.std.specs.Fmt.{signed_decimal}
 use Rattle.avtp_text.specs.Listen.{due_text, place_text}
-use Rattle.avtp_text.specs.Overwrites.{Overwrites}
-use Rattle.avtp_text.specs.Pairs.{eight_digits}
+use Rattle.avtp_text.specs.state.Overwrites.{Overwrites}
+use Rattle.avtp_text.specs.state.Pairs.{eight_digits}
 use Rattle.avtp_text.specs.Pieces.{newline}
-use Rattle.avtp_text.specs.SampleLines.{behind_frame, behind_instant, behind_seq, gapped, hex_end}
+use Rattle.avtp_text.specs.state.SampleLines.{behind_frame, behind_instant, behind_seq, gapped, hex_end}
 use Rattle.avtp_text.proofs.Digits.{with_eight}
 
 regroup : (a b c d : List ℕ) → a ++ (b ++ c ++ d) ≡ a ++ b ++ c ++ d

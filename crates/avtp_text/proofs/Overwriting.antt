@@ -4,7 +4,7 @@ use Rattle.std.proofs.lemmas.List.{drop-drop, take_at, drop_at, length-take-le}
 use Rattle.std.proofs.lemmas.Slice.{take-put_mid_below}
 use Rattle.std.specs.List.{refill}
 use borrow.Rule.Slice.PartMut.{put_mid}
-use Rattle.avtp_text.specs.Overwrites.{Overwrites}
+use Rattle.avtp_text.specs.state.Overwrites.{Overwrites}
 
 -- the piece is written behind the first m bytes
 from_place : (s t before was after piece : List ℕ) (m : ℕ)

@@ -1,13 +1,10 @@
 pub mod Written
 pub mod Pieces
-pub mod Overwrites
-pub mod Pairs
 pub mod SampleLines
 pub mod Notices
 pub mod Show
-pub mod AafLines
 pub mod Check
 pub mod Listen
 pub mod Talk
 pub mod Soak
-pub mod Instants
+pub mod state

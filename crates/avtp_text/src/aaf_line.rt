@@ -2,7 +2,7 @@
 
 ghost use Rattle.std.specs.Prelude.{◌≡◌, ◌+◌, ◌-◌, ◌≤◌, ◌++◌, length, drop};
 ghost use Rattle.aaf_format.specs.Aaf.{aaf_shape};
-ghost use Rattle.avtp_text.specs.AafLines.{IsEnd, aaf_start, end_of};
+ghost use Rattle.avtp_text.specs.state.AafLines.{IsEnd, aaf_start, end_of};
 ghost use Rattle.avtp_text.specs.Pieces.{id_text, newline};
 ghost use Rattle.avtp_text.specs.Show.{aaf_content, frame_line};
 

@@ -3,7 +3,7 @@
 ghost use Rattle.std.specs.Prelude.{◌≡◌, ◌+◌, ◌<◌, pos, ◌*ℤ◌};
 ghost use Rattle.std.specs.Int.{int_rem_euclid};
 ghost use Rattle.sample_schedule.specs.Batches.{sample_instant};
-ghost use Rattle.avtp_text.specs.Instants.{IsInstantOf, IsRestOf};
+ghost use Rattle.avtp_text.specs.state.Instants.{IsInstantOf, IsRestOf};
 
 use sample_schedule::Batch;
 

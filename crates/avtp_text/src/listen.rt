@@ -4,9 +4,9 @@ ghost use Rattle.std.specs.Prelude.{◌≡◌, ◌+◌, ◌*◌, ◌/◌, ◌<�
 ghost use Rattle.hex.specs.Hex.{encode_lower};
 ghost use Rattle.avtp_text.specs.Listen.{batch_lines, capture_line, end_listen_line, flag_line, list_lines, reason_text, sample_bytes, sample_line, due_text, place_text, shown_lines};
 ghost use Rattle.time_unfold.specs.Time.{IsInstant};
-ghost use Rattle.avtp_text.specs.Instants.{IsInstantOf};
+ghost use Rattle.avtp_text.specs.state.Instants.{IsInstantOf};
 ghost use Rattle.avtp_text.specs.Pieces.{newline};
-ghost use Rattle.avtp_text.specs.SampleLines.{packet_of};
+ghost use Rattle.avtp_text.specs.state.SampleLines.{packet_of};
 ghost use Rattle.avtp_text.specs.Written.{Prints, PrintsPart};
 
 use crate::buffer::{ROOM, Text, make_room};

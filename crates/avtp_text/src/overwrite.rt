@@ -2,8 +2,8 @@
 
 ghost use Rattle.std.specs.Prelude.{◌≡◌, ◌+◌, ◌*◌, ◌<◌, ◌≤◌, length, decimal};
 ghost use Rattle.hex.specs.Hex.{encode_lower};
-ghost use Rattle.avtp_text.specs.Overwrites.{Overwrites};
-ghost use Rattle.avtp_text.specs.Pairs.{eight_digits};
+ghost use Rattle.avtp_text.specs.state.Overwrites.{Overwrites};
+ghost use Rattle.avtp_text.specs.state.Pairs.{eight_digits};
 
 use crate::pairs::{write_bytes, write_eight_digits, write_hex};
 

@@ -2,7 +2,7 @@
 
 ghost use Rattle.std.specs.Prelude.{◌≡◌, ◌+◌, ◌*◌, ◌/◌, ◌%◌, ◌<◌, ◌≤◌, length, set, slice_index};
 ghost use Rattle.hex.specs.Hex.{encode_lower, lower_digits};
-ghost use Rattle.avtp_text.specs.Pairs.{eight_digits};
+ghost use Rattle.avtp_text.specs.state.Pairs.{eight_digits};
 
 /// The two decimal digits of each number below 100.
 static DECIMAL: [u8; 200] =

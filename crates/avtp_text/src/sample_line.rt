@@ -4,7 +4,8 @@ ghost use Rattle.std.specs.Prelude.{◌≡◌, ◌+◌, ◌^◌, ◌<◌, ◌≤
 ghost use Rattle.hex.specs.Hex.{encode_lower};
 ghost use Rattle.avtp_text.specs.Listen.{due_text, place_text};
 ghost use Rattle.avtp_text.specs.Pieces.{newline};
-ghost use Rattle.avtp_text.specs.SampleLines.{Fits, KnowsGaps, SamplePacket, StartsAt, behind_frame, behind_instant, behind_seq, seen_as};
+ghost use Rattle.avtp_text.specs.SampleLines.{SamplePacket};
+ghost use Rattle.avtp_text.specs.state.SampleLines.{Fits, KnowsGaps, StartsAt, behind_frame, behind_instant, behind_seq, seen_as};
 
 use crate::line::{LONGEST, Line};
 use crate::overwrite::{overwrite_decimal, overwrite_eight_digits, overwrite_hex};
@@ -166,7 +167,8 @@ pub struct SampleLine {
 }
 
 impl Model for SampleLine {
-    ghost use Rattle.avtp_text.specs.SampleLines.{KnowsGaps, SamplePacket, seen_as};
+    ghost use Rattle.avtp_text.specs.SampleLines.{SamplePacket};
+    ghost use Rattle.avtp_text.specs.state.SampleLines.{KnowsGaps, seen_as};
 
     ghost Value = { SamplePacket };
 

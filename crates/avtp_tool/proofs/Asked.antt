@@ -17,7 +17,7 @@ use Rattle.avtp_words.specs.Number.{IsNumber, IsSigned}
 use Rattle.avtp_words.specs.Word.{IsId}
 use Rattle.avtp_words.proofs.Lacking.{video_clock, video_restart}
 use Rattle.avtp_words.specs.Options.{Setting, value_in}
-use Rattle.avtp_tool.specs.Run.{IsRequest}
+use Rattle.avtp_tool.specs.state.Run.{IsRequest}
 use Rattle.avtp_tool.specs.Talk.{talk_clock, talk_kind, talk_plan}
 
 given_within : (v : Option (List ℕ)) (low high default n : ℕ) → low ≤ default → default ≤ high → MatchOption v (n ≡ default) (λ word. IsNumber low high word n) → (low ≤ n) × (n ≤ high)

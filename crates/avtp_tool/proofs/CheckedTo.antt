@@ -23,12 +23,14 @@ use Rattle.capture_io.specs.Source.{HasGiven, Sourcing}
 use Rattle.avtp_tool.specs.declared.check.Total.{Total}
 use Rattle.avtp_tool.specs.declared.status.Status.{Status}
 use Rattle.avtp_tool.specs.declared.status.Status.TheVariants as status
-use Rattle.avtp_tool.specs.Check.{check_lines, check_report, check_status, checked_record, found_lines, HasChecked, joined_lines, noted, notes_of, PrintsFound, total_line}
+use Rattle.avtp_tool.specs.Check.{check_lines, check_report, check_status, checked_record, found_lines, joined_lines, noted, notes_of, total_line}
+use Rattle.avtp_tool.specs.state.Check.{HasChecked, PrintsFound}
 use Rattle.avtp_tool.specs.Lines.{of_each}
-use Rattle.avtp_tool.specs.Outcome.{CountsReading, EndsWith}
-use Rattle.avtp_tool.specs.Yield.{GivesPart, HandsNothing}
+use Rattle.avtp_tool.specs.state.Outcome.{CountsReading, EndsWith}
+use Rattle.avtp_tool.specs.state.Yield.{GivesPart, HandsNothing}
 use Rattle.avtp_tool.proofs.Yields.{part_text}
-use Rattle.avtp_tool.specs.Reading.{file_yield, IsReadingStatus}
+use Rattle.avtp_tool.specs.Reading.{file_yield}
+use Rattle.avtp_tool.specs.state.Reading.{IsReadingStatus}
 use Rattle.avtp_tool.proofs.DoesFile.{IsReadAndTold}
 use Rattle.avtp_tool.proofs.Lines.{each_first, each_more, each_none}
 use Rattle.avtp_tool.proofs.Leaving.{own_as, own_ended}

@@ -13,12 +13,14 @@ use Rattle.avtp_text.specs.Notices.{read_fault_line}
 use Rattle.avtp_text.specs.Written.{written}
 use Rattle.sample_schedule.specs.declared.shown.Shown.{Shown}
 use Rattle.avtp_tool.specs.declared.status.Status.{Status}
-use Rattle.avtp_tool.specs.Outcome.{CountsReading, EndsUnopened, KeepsSink, Only, TellsYield}
-use Rattle.avtp_tool.specs.Reading.{DoesFile, file_status, file_yield, IsReadingStatus, Report}
+use Rattle.avtp_tool.specs.Outcome.{Only}
+use Rattle.avtp_tool.specs.state.Outcome.{CountsReading, EndsUnopened, KeepsSink, TellsYield}
+use Rattle.avtp_tool.specs.Reading.{file_status, file_yield, Report}
+use Rattle.avtp_tool.specs.state.Reading.{DoesFile, IsReadingStatus}
 use Rattle.avtp_tool.proofs.Leaving.{read_through}
 use Rattle.avtp_tool.proofs.OneFile.{file_fault, file_here, file_read}
 use Rattle.avtp_tool.proofs.Outcomes.{counts_unopened, IsCut, missing_none, tells_cut, tells_unopened, tells_weaker, unopened_own, yield_telling}
-use Rattle.avtp_tool.specs.Yield.{GivesPart}
+use Rattle.avtp_tool.specs.state.Yield.{GivesPart}
 
 -- it could not be opened
 pub does_unopened : {T : Type 0} {slot : T → ℕ} {s t : ShelfState} {h h' : SinkState} {l l' : List ℕ} {name : List ℕ} {result : Result Status Failed} {handed : List Shown → Type 0} (report : Report) (limit : ℕ) (fault : OpenFault)

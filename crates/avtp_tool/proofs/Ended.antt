@@ -13,9 +13,12 @@ use Rattle.avtp_words.specs.Grammar.{IsCommandLine, output_of, Request, show, ch
 use Rattle.avtp_tool.specs.declared.status.Status.{Status}
 use Rattle.avtp_tool.specs.declared.status.Status.TheVariants as status
 use Rattle.avtp_tool.specs.Made.{KeepsFilesBut}
-use Rattle.avtp_tool.specs.Outcome.{AsksFor, EndsWith, Finishes, TellsRun}
-use Rattle.avtp_tool.specs.Run.{is_listening, is_through, IsThrough, MakesFrom, MakesOf}
-use Rattle.avtp_tool.specs.Yield.{Gives, Yield}
+use Rattle.avtp_tool.specs.Outcome.{AsksFor}
+use Rattle.avtp_tool.specs.state.Outcome.{EndsWith, Finishes, TellsRun}
+use Rattle.avtp_tool.specs.Run.{is_listening, is_through}
+use Rattle.avtp_tool.specs.state.Run.{IsThrough, MakesFrom, MakesOf}
+use Rattle.avtp_tool.specs.Yield.{Yield}
+use Rattle.avtp_tool.specs.state.Yield.{Gives}
 use Rattle.sample_schedule.specs.declared.shown.Shown.{Shown}
 use Rattle.avtp_tool.proofs.Outcomes.{ok_same}
 

@@ -15,10 +15,14 @@ use Rattle.avtp_words.specs.Grammar.{listen, Listening}
 use Rattle.avtp_tool.specs.declared.status.Status.{Status}
 use Rattle.avtp_tool.specs.declared.status.Status.TheVariants as status
 use Rattle.avtp_tool.specs.Listen.{listen_plan}
-use Rattle.avtp_tool.specs.Outcome.{AsksFor, EndsWith, TellsRun}
-use Rattle.avtp_tool.specs.Reading.{DoesFiles, PlanOutcome, ReadPlan}
-use Rattle.avtp_tool.specs.Run.{device_notice, device_status, IsThrough, ListenOutcome, Runs, TellsDevices}
-use Rattle.avtp_tool.specs.Yield.{Gives, GivesPart, HandsNothing, says, with_more}
+use Rattle.avtp_tool.specs.Outcome.{AsksFor}
+use Rattle.avtp_tool.specs.state.Outcome.{EndsWith, TellsRun}
+use Rattle.avtp_tool.specs.Reading.{PlanOutcome, ReadPlan}
+use Rattle.avtp_tool.specs.state.Reading.{DoesFiles}
+use Rattle.avtp_tool.specs.Run.{device_notice, device_status, ListenOutcome}
+use Rattle.avtp_tool.specs.state.Run.{IsThrough, Runs, TellsDevices}
+use Rattle.avtp_tool.specs.Yield.{says, with_more}
+use Rattle.avtp_tool.specs.state.Yield.{Gives, GivesPart, HandsNothing}
 use Rattle.avtp_tool.proofs.Leaving.{never_ends, only_read}
 use Rattle.avtp_tool.proofs.Outcomes.{counts_failed, ends_not, sink_failed, sink_then}
 use Rattle.avtp_tool.proofs.PlanRuns.{through_as}

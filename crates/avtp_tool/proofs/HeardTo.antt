@@ -17,7 +17,8 @@ use Rattle.listener.proofs.Due.{due_first, due_stays}
 use Rattle.avtp_words.specs.Grammar.{Listening}
 use Rattle.avtp_text.specs.Listen.{capture_line, list_lines, shown_lines}
 use Rattle.avtp_text.specs.Written.{AppendsPrefix, written}
-use Rattle.avtp_tool.specs.Yield.{GivesPart, Yield}
+use Rattle.avtp_tool.specs.Yield.{Yield}
+use Rattle.avtp_tool.specs.state.Yield.{GivesPart}
 use Rattle.avtp_tool.proofs.Yields.{part_text}
 use Rattle.avtp_text.proofs.Printing.{prefix_before, prefix_whole}
 use Rattle.capture_io.specs.declared.end.End.{End}
@@ -29,9 +30,10 @@ use Rattle.avtp_tool.specs.declared.hearing.Heard.TheVariants as far
 use Rattle.avtp_tool.specs.declared.hearing.Stage.{Stage}
 use Rattle.avtp_tool.specs.declared.hearing.Stage.TheVariants.{Reading, Showing, Ended, NoMemory}
 use Rattle.avtp_tool.specs.declared.status.Status.{Status}
-use Rattle.avtp_tool.specs.Hearing.{IsShown, closed_at, heard_at, is_all, pull_at, read_end}
-use Rattle.avtp_tool.specs.Listen.{HasHeard, HearsRecords, heard_end, last_line, listen_report, plan_of, shown_by, shown_text}
-use Rattle.avtp_tool.specs.Outcome.{EndsWith}
+use Rattle.avtp_tool.specs.state.Hearing.{IsShown, closed_at, heard_at, is_all, pull_at, read_end}
+use Rattle.avtp_tool.specs.Listen.{last_line, listen_report, plan_of, shown_by, shown_text}
+use Rattle.avtp_tool.specs.state.Listen.{HasHeard, HearsRecords, heard_end}
+use Rattle.avtp_tool.specs.state.Outcome.{EndsWith}
 use Rattle.avtp_tool.specs.Reading.{file_yield}
 use Rattle.avtp_tool.specs.Status.{status_of}
 use Rattle.avtp_tool.proofs.DoesFile.{IsReadAndTold}

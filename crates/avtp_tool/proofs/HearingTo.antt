@@ -23,7 +23,7 @@ use Rattle.presenter_ring.specs.declared.receiver.Pull.{Pull}
 use Rattle.presenter_ring.specs.Pulls.{items_of}
 use Rattle.avtp_tool.specs.declared.hearing.Stage.{Stage}
 use Rattle.avtp_tool.specs.declared.hearing.Stage.TheVariants.{Reading, Showing, Ended, NoMemory}
-use Rattle.avtp_tool.specs.Hearing.{GoesOn, IsSoundAt, WasGiven, IsStable, Shows, closed_at, ended_at, has_stopped, is_all, left_of, pull_at, pull_with, unread}
+use Rattle.avtp_tool.specs.state.Hearing.{GoesOn, IsSoundAt, WasGiven, IsStable, Shows, closed_at, ended_at, has_stopped, is_all, left_of, pull_at, pull_with, unread}
 use Rattle.avtp_tool.proofs.Leaving.{ended_so, quiet_next, some_same}
 use Rattle.listener.proofs.Listened.{out_further, out_at_end, out_same}
 use Rattle.listener.proofs.Places.{presented-or-flagged}

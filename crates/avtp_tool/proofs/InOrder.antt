@@ -7,9 +7,11 @@ use Rattle.avtp_base.specs.States.{Asks, ShelfState}
 use Rattle.sample_schedule.specs.declared.shown.Shown.{Shown}
 use Rattle.avtp_tool.specs.declared.status.Status.{Status}
 use Rattle.avtp_tool.specs.declared.status.Status.TheVariants as status
-use Rattle.avtp_tool.specs.Outcome.{is_done, IsDone, TellsRun, TellsYield}
+use Rattle.avtp_tool.specs.Outcome.{is_done}
+use Rattle.avtp_tool.specs.state.Outcome.{IsDone, TellsRun, TellsYield}
 use Rattle.avtp_tool.specs.Reading.{InOrder, in_order_read, in_order_status, in_order_yield, joined}
-use Rattle.avtp_tool.specs.Yield.{Gives, says, with_more, Yield}
+use Rattle.avtp_tool.specs.Yield.{says, with_more, Yield}
+use Rattle.avtp_tool.specs.state.Yield.{Gives}
 use Rattle.avtp_tool.proofs.Yields.{gives_then, Joins, more_more, more_none, part_before, part_then}
 
 -- ---- the status of files that follow each other

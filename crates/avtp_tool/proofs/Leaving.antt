@@ -4,8 +4,8 @@ use Rattle.std.specs.Prelude.{IfOk, IsErr, IsSome}
 use Rattle.avtp_base.specs.declared.failed.Failed.{Failed}
 use Rattle.avtp_tool.specs.declared.status.Status.{Status}
 use Rattle.avtp_tool.specs.declared.status.Status.TheVariants as status
-use Rattle.avtp_tool.specs.Made.{CountsWriting}
-use Rattle.avtp_tool.specs.Reading.{IsOpen, IsReadingStatus, is_of_reading, ReadsCapture}
+use Rattle.avtp_tool.specs.state.Made.{CountsWriting}
+use Rattle.avtp_tool.specs.state.Reading.{IsOpen, IsReadingStatus, is_of_reading, ReadsCapture}
 use Rattle.avtp_tool.specs.Status.{status_of}
 use Rattle.avtp_base.specs.States.{ShelfState}
 use Rattle.capture_io.specs.declared.end.End.{End}

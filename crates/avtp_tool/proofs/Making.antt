@@ -9,9 +9,11 @@ use Rattle.avtp_base.specs.Files.{Files, Slots, KeepsFiles, PutsFile}
 use Rattle.avtp_base.specs.States.{Asks, ShelfState, WasAsked}
 use Rattle.avtp_base.proofs.Files.{KeepsFiles-refl, KeepsFiles-puts, KeepsFiles-trans}
 use Rattle.capture_io.specs.Writing.{IsWriting, KeepsSlotsBut, MakesPrefix, PutsPrefix, Writing}
-use Rattle.avtp_tool.specs.Made.{CountsWriting, IsWritingPart, KeepsFilesBut, Makes, MakesFile, unmade_as}
-use Rattle.avtp_tool.specs.Outcome.{AsksFor, is_done, IsDone}
-use Rattle.avtp_tool.specs.Talk.{WritesOnly}
+use Rattle.avtp_tool.specs.Made.{KeepsFilesBut}
+use Rattle.avtp_tool.specs.state.Made.{CountsWriting, IsWritingPart, Makes, MakesFile, unmade_as}
+use Rattle.avtp_tool.specs.Outcome.{AsksFor, is_done}
+use Rattle.avtp_tool.specs.state.Outcome.{IsDone}
+use Rattle.avtp_tool.specs.state.Talk.{WritesOnly}
 use Rattle.avtp_tool.specs.declared.status.Status.{Status}
 use Rattle.avtp_tool.specs.declared.status.Status.TheVariants as status
 

@@ -17,12 +17,14 @@ use Rattle.capture_io.specs.declared.end.End.{End}
 use Rattle.capture_io.specs.declared.end.End.TheVariants as end
 use Rattle.capture_io.specs.Ends.{CountsFault}
 use Rattle.avtp_tool.specs.Status.{status_of}
-use Rattle.avtp_tool.specs.Reading.{IsReadingStatus}
+use Rattle.avtp_tool.specs.state.Reading.{IsReadingStatus}
 use Rattle.avtp_tool.proofs.Leaving.{own_as}
 use Rattle.avtp_tool.specs.declared.status.Status.{Status}
 use Rattle.avtp_tool.specs.declared.status.Status.TheVariants as status
-use Rattle.avtp_tool.specs.Outcome.{CountsReading, EndsUnopened, EndsWith, is_done, IsDone, KeepsSink, Tells, TellsText, TellsYield}
-use Rattle.avtp_tool.specs.Yield.{Gives, GivesPart, says, Yield}
+use Rattle.avtp_tool.specs.Outcome.{is_done}
+use Rattle.avtp_tool.specs.state.Outcome.{CountsReading, EndsUnopened, EndsWith, IsDone, KeepsSink, Tells, TellsText, TellsYield}
+use Rattle.avtp_tool.specs.Yield.{says, Yield}
+use Rattle.avtp_tool.specs.state.Yield.{Gives, GivesPart}
 use Rattle.avtp_tool.proofs.Yields.{part_none, part_whole}
 use Rattle.sample_schedule.specs.declared.shown.Shown.{Shown}
 use Rattle.std.proofs.lemmas.List.{append-nil}

@@ -10,7 +10,7 @@ use Rattle.avtp_text.specs.Listen.{list_lines, shown_lines}
 use Rattle.avtp_text.specs.Written.{Grows, PrintsPart, written}
 use Rattle.avtp_text.proofs.Printing.{part_as, part_failed, part_none, part_then, prefix_none}
 use Rattle.avtp_tool.specs.declared.hearing.Stage.{Stage}
-use Rattle.avtp_tool.specs.Hearing.{ended_at, pull_at}
+use Rattle.avtp_tool.specs.state.Hearing.{ended_at, pull_at}
 use Rattle.avtp_base.specs.declared.failed.Failed.{Failed}
 use Rattle.avtp_base.specs.Faults.{IsCounted, Rose}
 use Rattle.avtp_base.specs.States.{SinkState}
@@ -18,7 +18,7 @@ use Rattle.sample_schedule.specs.declared.shown.Shown.{Shown}
 use Rattle.presenter_ring.specs.declared.pipe.Pipe.{Pipe}
 use Rattle.presenter_ring.specs.declared.receiver.Pull.{Pull}
 use Rattle.presenter_ring.specs.Pipes.{ended_with, waiting_in, EndsWith, HasMoved, IsDrained}
-use Rattle.avtp_tool.specs.Presenting.{failures, GivesItems, HasPassed}
+use Rattle.avtp_tool.specs.state.Presenting.{failures, GivesItems, HasPassed}
 
 -- how a receiver ended, which is how its pipe did
 pub ends_on : {R : Type 0} {ended : R → Option Pull} {r r' : R} {a b : Pipe} → ended_with a ≡ ended r → EndsWith ended r r' a b → ended_with b ≡ ended r'

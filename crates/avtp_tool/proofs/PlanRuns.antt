@@ -13,11 +13,16 @@ use Rattle.avtp_text.specs.Written.{written}
 use Rattle.avtp_words.specs.Grammar.{check, files_of, listen, output_of, Request, show, soak, talk}
 use Rattle.avtp_tool.specs.declared.status.Status.{Status}
 use Rattle.avtp_tool.specs.declared.status.Status.TheVariants as status
-use Rattle.avtp_tool.specs.Made.{CountsWriting, KeepsFilesBut, KeepsSlotsFor}
-use Rattle.avtp_tool.specs.Outcome.{AsksFor, CountsReading, is_done, IsDone, TellsRun, TellsYield}
-use Rattle.avtp_tool.specs.Reading.{DoesFile, DoesFiles, InOrder, one_outcome, PlanOutcome, ReadPlan}
-use Rattle.avtp_tool.specs.Run.{is_listening, IsThrough, MakesOf, Outcome, Runs, TellsDevices}
-use Rattle.avtp_tool.specs.Yield.{Gives, HandsNothing, Yield}
+use Rattle.avtp_tool.specs.Made.{KeepsFilesBut, KeepsSlotsFor}
+use Rattle.avtp_tool.specs.state.Made.{CountsWriting}
+use Rattle.avtp_tool.specs.Outcome.{AsksFor, is_done}
+use Rattle.avtp_tool.specs.state.Outcome.{CountsReading, IsDone, TellsRun, TellsYield}
+use Rattle.avtp_tool.specs.Reading.{InOrder, one_outcome, PlanOutcome, ReadPlan}
+use Rattle.avtp_tool.specs.state.Reading.{DoesFile, DoesFiles}
+use Rattle.avtp_tool.specs.Run.{is_listening, Outcome}
+use Rattle.avtp_tool.specs.state.Run.{IsThrough, MakesOf, Runs, TellsDevices}
+use Rattle.avtp_tool.specs.Yield.{Yield}
+use Rattle.avtp_tool.specs.state.Yield.{Gives, HandsNothing}
 use Rattle.avtp_tool.proofs.Yields.{gives_as, part_as}
 use Rattle.avtp_tool.proofs.InOrder.{order_last, order_one}
 use Rattle.avtp_tool.proofs.Leaving.{never_ends, only_read}

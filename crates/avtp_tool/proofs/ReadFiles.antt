@@ -16,9 +16,12 @@ use Rattle.capture_io.specs.Reads.{OnlyReads}
 use Rattle.capture_io.proofs.Leaving.{only_reads_nothing, only_reads_then}
 use Rattle.avtp_tool.specs.declared.status.Status.{Status}
 use Rattle.avtp_tool.specs.declared.status.Status.TheVariants as status
-use Rattle.avtp_tool.specs.Outcome.{CountsReading, is_done, IsDone, KeepsSink, TellsYield}
-use Rattle.avtp_tool.specs.Reading.{DoesFile, DoesFiles, InOrder, is_of_reading, joined, one_outcome, one_status, one_yield, ReadPlan, Report}
-use Rattle.avtp_tool.specs.Yield.{Gives, HandsNothing, says, Yield}
+use Rattle.avtp_tool.specs.Outcome.{is_done}
+use Rattle.avtp_tool.specs.state.Outcome.{CountsReading, IsDone, KeepsSink, TellsYield}
+use Rattle.avtp_tool.specs.Reading.{InOrder, joined, one_outcome, one_status, one_yield, ReadPlan, Report}
+use Rattle.avtp_tool.specs.state.Reading.{DoesFile, DoesFiles, is_of_reading}
+use Rattle.avtp_tool.specs.Yield.{says, Yield}
+use Rattle.avtp_tool.specs.state.Yield.{Gives, HandsNothing}
 use Rattle.avtp_tool.proofs.Yields.{gives_as, Joins, part_as, part_whole}
 use Rattle.avtp_tool.proofs.InOrder.{all_done, none_read, order_weaker, tells_done, tells_stopped}
 use Rattle.avtp_tool.proofs.OneFile.{file_here, file_weaker}

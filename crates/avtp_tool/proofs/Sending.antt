@@ -5,7 +5,7 @@ use Rattle.talker.specs.declared.turn.Turn.{Turn}
 use Rattle.talker.specs.Talking.{Talking}
 use Rattle.talker.specs.Turns.{IsTurn, frame_in}
 use Rattle.talker.proofs.TurnLemmas.{frame_next}
-use Rattle.avtp_tool.specs.Talk.{next_record, spelled_frame}
+use Rattle.avtp_tool.specs.state.Talk.{next_record, spelled_frame}
 use Rattle.std.proofs.Math.Seq.{take-suc}
 use Rattle.std.proofs.lemmas.Grind.{flat_map-append}
 use Rattle.std.proofs.lemmas.List.{flat_map_more, take_all}

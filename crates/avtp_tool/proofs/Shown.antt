@@ -15,11 +15,13 @@ use Rattle.avtp_base.specs.States.{SinkState}
 use Rattle.avtp_text.specs.Written.{written}
 use Rattle.avtp_tool.specs.declared.show.Printed.{Printed}
 use Rattle.avtp_tool.specs.declared.status.Status.{Status}
-use Rattle.avtp_tool.specs.Outcome.{EndsWith}
+use Rattle.avtp_tool.specs.state.Outcome.{EndsWith}
 use Rattle.avtp_tool.specs.Reading.{file_yield}
-use Rattle.avtp_tool.specs.Yield.{GivesPart, HandsNothing, says}
+use Rattle.avtp_tool.specs.Yield.{says}
+use Rattle.avtp_tool.specs.state.Yield.{GivesPart, HandsNothing}
 use Rattle.avtp_tool.proofs.Yields.{part_text}
-use Rattle.avtp_tool.specs.Show.{end_line, HasPrinted, show_line, show_report}
+use Rattle.avtp_tool.specs.Show.{end_line, show_line, show_report}
+use Rattle.avtp_tool.specs.state.Show.{HasPrinted}
 use Rattle.avtp_tool.specs.Lines.{of_each}
 use Rattle.avtp_tool.specs.Status.{status_of}
 use Rattle.avtp_tool.proofs.DoesFile.{IsReadAndTold}

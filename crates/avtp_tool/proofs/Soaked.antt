@@ -9,10 +9,12 @@ use Rattle.avtp_text.specs.Written.{written}
 use Rattle.avtp_words.specs.Grammar.{Request, soak}
 use Rattle.avtp_tool.specs.declared.status.Status.{Status}
 use Rattle.avtp_tool.specs.declared.status.Status.TheVariants as status
-use Rattle.avtp_tool.specs.Outcome.{EndsWith}
-use Rattle.avtp_tool.specs.Run.{Runs}
-use Rattle.avtp_tool.specs.Soak.{Says, soak_report}
-use Rattle.avtp_tool.specs.Yield.{Gives, HandsNothing, says as only_text}
+use Rattle.avtp_tool.specs.state.Outcome.{EndsWith}
+use Rattle.avtp_tool.specs.state.Run.{Runs}
+use Rattle.avtp_tool.specs.Soak.{soak_report}
+use Rattle.avtp_tool.specs.state.Soak.{Says}
+use Rattle.avtp_tool.specs.Yield.{says as only_text}
+use Rattle.avtp_tool.specs.state.Yield.{Gives, HandsNothing}
 use Rattle.avtp_tool.proofs.PlanRuns.{no_devices}
 use Rattle.avtp_tool.proofs.Yields.{part_text}
 use Rattle.avtp_tool.proofs.Ended.{ends_prefix}

@@ -21,14 +21,19 @@ use Rattle.avtp_text.specs.Written.{written}
 use Rattle.avtp_words.specs.Grammar.{talk, Talking}
 use Rattle.avtp_tool.specs.declared.status.Status.{Status}
 use Rattle.avtp_tool.specs.declared.status.Status.TheVariants as status
-use Rattle.avtp_tool.specs.Made.{CountsWriting, KeepsFilesBut, Makes}
-use Rattle.avtp_tool.specs.Outcome.{AsksFor, EndsUnopened, is_done, IsDone, KeepsSink, TellsRun, TellsText}
-use Rattle.avtp_tool.specs.Run.{MakesFrom, Runs, talk_came}
-use Rattle.avtp_tool.specs.Talk.{FaultStops, TalkedOutcome, TalkOutcome, talk_plan, talk_report, talk_status, WritesOnly}
+use Rattle.avtp_tool.specs.Made.{KeepsFilesBut}
+use Rattle.avtp_tool.specs.state.Made.{CountsWriting, Makes}
+use Rattle.avtp_tool.specs.Outcome.{AsksFor, is_done}
+use Rattle.avtp_tool.specs.state.Outcome.{EndsUnopened, IsDone, KeepsSink, TellsRun, TellsText}
+use Rattle.avtp_tool.specs.Run.{talk_came}
+use Rattle.avtp_tool.specs.state.Run.{MakesFrom, Runs}
+use Rattle.avtp_tool.specs.Talk.{TalkedOutcome, TalkOutcome, talk_plan, talk_report, talk_status}
+use Rattle.avtp_tool.specs.state.Talk.{FaultStops, WritesOnly}
 use Rattle.avtp_tool.proofs.Complete.{talk_here}
 use Rattle.avtp_tool.proofs.Making.{makes_after, makes_none}
 use Rattle.avtp_text.specs.Notices.{read_fault_line}
-use Rattle.avtp_tool.specs.Yield.{Gives, HandsNothing, says}
+use Rattle.avtp_tool.specs.Yield.{says}
+use Rattle.avtp_tool.specs.state.Yield.{Gives, HandsNothing}
 use Rattle.avtp_tool.proofs.PlanRuns.{no_devices, through_as}
 use Rattle.avtp_tool.proofs.Yields.{part_text}
 use Rattle.avtp_tool.proofs.Outcomes.{counts_unopened, tells_unopened, text_telling, unopened_other, unopened_undone}

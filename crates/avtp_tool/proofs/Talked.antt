@@ -21,9 +21,10 @@ use Rattle.capture_io.specs.declared.end.Stop.{Stop}
 use Rattle.capture_io.specs.declared.end.Stop.TheVariants as stop
 use Rattle.avtp_tool.specs.declared.status.Status.{Status}
 use Rattle.avtp_tool.specs.declared.status.Status.TheVariants as status
-use Rattle.avtp_tool.specs.Made.{unmade_as}
-use Rattle.avtp_tool.specs.Outcome.{EndsWith, IsDone, TellsText}
-use Rattle.avtp_tool.specs.Talk.{EndsRefused, FaultStops, line_by, status_by, TalkedOutcome, TalkOutcome}
+use Rattle.avtp_tool.specs.state.Made.{unmade_as}
+use Rattle.avtp_tool.specs.state.Outcome.{EndsWith, IsDone, TellsText}
+use Rattle.avtp_tool.specs.Talk.{line_by, status_by, TalkedOutcome, TalkOutcome}
+use Rattle.avtp_tool.specs.state.Talk.{EndsRefused, FaultStops}
 use Rattle.avtp_tool.proofs.Complete.{talks_by}
 use Rattle.avtp_tool.proofs.Outcomes.{IsCut, ends_not, missing_none, ok_same, tells_cut, tells_line, tells_weaker, undone_as, undone_by, Unopened}
 

@@ -6,7 +6,8 @@ use Rattle.avtp_base.proofs.Told.{Appends-trans}
 use Rattle.avtp_text.specs.Written.{AppendsPrefix}
 use Rattle.avtp_text.proofs.Printing.{prefix_after, prefix_before, prefix_none, prefix_whole}
 use Rattle.sample_schedule.specs.declared.shown.Shown.{Shown}
-use Rattle.avtp_tool.specs.Yield.{Gives, GivesPart, HandsOn, says, with_more, Yield}
+use Rattle.avtp_tool.specs.Yield.{HandsOn, says, with_more, Yield}
+use Rattle.avtp_tool.specs.state.Yield.{Gives, GivesPart}
 
 pub more_none : (y : Yield) → with_more y (says []) ≡ y
 more_none y = rw (append-nil y.text, append-nil y.items) refl

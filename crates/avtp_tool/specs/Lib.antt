@@ -7,11 +7,9 @@ pub mod Made
 pub mod Lines
 pub mod Show
 pub mod Check
-pub mod Hearing
-pub mod Presenting
 pub mod Listen
 pub mod Talk
 pub mod Soak
 pub mod DeviceWords
 pub mod Run
-pub mod Files
+pub mod state

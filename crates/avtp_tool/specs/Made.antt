@@ -1,15 +1,7 @@
 -- What a command does to the files of a shelf: it writes one of them, or none.
-use Rattle.std.specs.Prelude.{◌≡◌, ◌≢◌, ℕ, ◌≤◌, List, [], ◌∷◌, ◌++◌, Option, Some, None, Result, Ok, IfOk, IsErrOf, IsOk, OnErr, OnOk, ⊤}
-use Rattle.avtp_base.specs.declared.failed.OpenFault.{OpenFault}
-use Rattle.avtp_base.specs.declared.failed.OpenFault.TheVariants as open_fault
-use Rattle.avtp_base.specs.declared.failed.Failed.{Failed}
-use Rattle.avtp_base.specs.Faults.{IsOpenCounted, Rose}
-use Rattle.avtp_base.specs.Files.{Files, Slots, KeepsFiles, KeepsSlots, PutsFile}
-use Rattle.avtp_base.specs.States.{ShelfState}
-use Rattle.capture_io.specs.Writing.{IsWriting, KeepsSlotsBut, MakesPrefix, WritesSlot, Writing}
-use Rattle.avtp_tool.specs.Outcome.{AsksFor}
-use Rattle.avtp_tool.specs.declared.status.Status.{Status}
-use Rattle.avtp_tool.specs.declared.status.Status.TheVariants as status
+use Rattle.std.specs.Prelude.{◌≡◌, ◌≢◌, ℕ, List, Option, Some, None, ⊤}
+use Rattle.avtp_base.specs.Files.{Files, Slots, KeepsFiles, KeepsSlots}
+use Rattle.capture_io.specs.Writing.{KeepsSlotsBut}
 
 -- all files that are told stay as they were, but for the one that is written, where one is
 abbrev pub KeepsFilesBut : Option (List ℕ) → Option Files → Option Files → Type 0
@@ -24,49 +16,3 @@ KeepsFilesBut (Some name) (Some old) (Some new) = (other : List ℕ) → other �
 abbrev pub KeepsSlotsFor : Option (List ℕ) → Option Files → Slots → Slots → Type 0
 KeepsSlotsFor None files old new = KeepsSlots old new
 KeepsSlotsFor (Some name) files old new = KeepsSlotsBut files old new name
-
--- A run that makes the file of this name ended so. Where all was done the file has these bytes; where memory or a write
--- failed it is as it was or has a prefix of them; and else all files are as they were.
-pub record Makes (name bytes : List ℕ) (files files' : Option Files) (result : Result Status Failed) : Type 0 where
-  pub done : result ≡ Ok status.Done → PutsFile files files' name bytes
-  pub part : MakesPrefix files files' name bytes
-  pub untouched : IfOk result (λ s. s ≢ status.Done → s ≢ status.WriteFault → s ≢ status.Memory → KeepsFiles files files')
-
--- The count of writing faults where a run ended so: it never falls, it rose where a file could not be written, and it stays
--- as it was else; and where no file is written it stays.
-pub record CountsWriting (name : Option (List ℕ)) (before after : ℕ) (result : Result Status Failed) : Type 0 where
-  pub never_falls : before ≤ after
-  pub failed : result ≡ Ok status.WriteFault → Rose before after
-  pub other : result ≢ Ok status.WriteFault → after ≡ before
-  pub unwritten : name ≡ None → after ≡ before
-
--- ---- one file
-
--- A call made a file of these bytes, or answers why not. Where it was not made, it is as it was or has a prefix of them; the
--- cause is the count of writing faults, or want of memory. All else is as it was, and no other name was asked for.
-pub record MakesFile (shelf shelf' : ShelfState) (name bytes : List ℕ) (result : Result Unit OpenFault) : Type 0 where
-  pub made : OnOk result (PutsFile shelf.files shelf'.files name bytes)
-  pub part : OnErr result (MakesPrefix shelf.files shelf'.files name bytes)
-  pub not_missing : IsErrOf result open_fault.Missing → ⊥
-  pub slots : KeepsSlotsBut shelf.files shelf.slots shelf'.slots name
-  pub reading : shelf'.reading_faults ≡ shelf.reading_faults
-  pub writing : IsOpenCounted shelf.writing_faults shelf'.writing_faults result
-  pub asked : AsksFor (name ∷ []) shelf shelf' (IsOk result)
-
--- a file is being written: it has all of these bytes, or where the shelf failed a prefix of them
-pub record IsWritingPart (shelf shelf' : ShelfState) (writer : Writing) (name bytes : List ℕ) (result : Result Unit Failed) : Type 0 where
-  pub prefix : List ℕ
-  pub rest : List ℕ
-  pub split : bytes ≡ prefix ++ rest
-  pub whole : OnOk result (rest ≡ [])
-  pub writing : IsWriting shelf shelf' writer name prefix
-
--- These bytes were written through a writer that had been given none, or where the shelf failed a prefix of them.
-pub record WritesPart (before after : ShelfState) (old new : Writing) (bytes : List ℕ) (result : Result Unit Failed) : Type 0 where
-  pub written : (begun : ShelfState) (name : List ℕ) → IsWriting begun before old name [] → IsWritingPart begun after new name bytes result
-  pub writes : WritesSlot before after old new result
-
--- the status of a run whose file could not be made
-abbrev pub unmade_as : OpenFault → Status
-unmade_as open_fault.Memory = status.Memory
-unmade_as fault = status.WriteFault

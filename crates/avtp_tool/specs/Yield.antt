@@ -1,8 +1,5 @@
 -- What a run yields: the text that it prints, and the items that it hands to devices.
-use Rattle.std.specs.Prelude.{◌≡◌, ℕ, List, [], ◌++◌, Option}
-use mathlib.Core.List.{IsPrefix}
-use Rattle.avtp_base.specs.Told.{Appends}
-use Rattle.avtp_text.specs.Written.{AppendsPrefix}
+use Rattle.std.specs.Prelude.{ℕ, List, [], ◌++◌}
 use Rattle.sample_schedule.specs.declared.shown.Shown.{Shown}
 
 pub record Yield : Type 0 where
@@ -17,23 +14,7 @@ says text = record { text = text; items = [] }
 abbrev pub with_more : Yield → Yield → Yield
 with_more first more = record { text = first.text ++ more.text; items = first.items ++ more.items }
 
--- none is handed on
-abbrev pub HandsNothing : List Shown → Type 0
-HandsNothing items = items ≡ []
-
 -- Devices were handed these items, after all that they were handed before. What it is that they were handed some since they were
 -- as at first is `handed`.
 abbrev pub HandsOn : {D : Type 0} → (D → D → List Shown → Type 0) → D → D → List Shown → Type 0
 HandsOn {D} handed old new items = (begun : D) (earlier : List Shown) → handed begun old earlier → handed begun new (earlier ++ items)
-
--- Known bytes grew by the text, and the items were handed. What it is that some items were handed is `handed`.
-pub record Gives (handed : List Shown → Type 0) (before now : Option (List ℕ)) (yields : Yield) : Type 0 where
-  pub text : Appends before now yields.text
-  pub items : handed yields.items
-
--- Known bytes grew by a prefix of the text, and the first of the items were handed.
-pub record GivesPart (handed : List Shown → Type 0) (before now : Option (List ℕ)) (yields : Yield) : Type 0 where
-  pub text : AppendsPrefix before now yields.text
-  pub front : List Shown
-  pub first : IsPrefix front yields.items
-  pub items : handed front

@@ -3,7 +3,7 @@
 ghost use Rattle.pcap_frames.specs.Capture.{header_spelling};
 ghost use Rattle.talker.specs.Frames.{capture_style};
 ghost use Rattle.talker.specs.Turns.{IsTurn};
-ghost use Rattle.avtp_tool.specs.Talk.{next_record};
+ghost use Rattle.avtp_tool.specs.state.Talk.{next_record};
 
 use avtp_base::Spelled;
 use pcap_frames::{Order, Style, Unit, record_header, write_header};

@@ -3,10 +3,11 @@
 ghost use Rattle.std.specs.Prelude.{◌≡◌, ◌^◌, ◌≤◌, [], map};
 ghost use Rattle.sequence_track.specs.Tracking.{StandsFor};
 ghost use Rattle.avtp_text.specs.Check.{finding_texts, packet_line};
-ghost use Rattle.avtp_tool.specs.Check.{check_report, check_status, ChecksOne, ChecksRecords, PrintsFound, total_line, unmarked_findings};
-ghost use Rattle.avtp_tool.specs.Outcome.{EndsWith};
-ghost use Rattle.avtp_tool.specs.Reading.{DoesFile, IsOpen, ReadsRecords};
-ghost use Rattle.avtp_tool.specs.Yield.{HandsNothing};
+ghost use Rattle.avtp_tool.specs.Check.{check_report, check_status, total_line, unmarked_findings};
+ghost use Rattle.avtp_tool.specs.state.Check.{ChecksOne, ChecksRecords, PrintsFound};
+ghost use Rattle.avtp_tool.specs.state.Outcome.{EndsWith};
+ghost use Rattle.avtp_tool.specs.state.Reading.{DoesFile, IsOpen, ReadsRecords};
+ghost use Rattle.avtp_tool.specs.state.Yield.{HandsNothing};
 
 use crate::checked::{Checked, checked_record, count};
 use crate::command::print_unopened;

@@ -16,8 +16,10 @@ ghost use Rattle.avtp_words.specs.Grammar.{files_of, IsCommandLine, IsOffence, l
 ghost use Rattle.avtp_words.specs.Word.{texts};
 ghost use Rattle.avtp_tool.specs.Listen.{HasHeadline, listen_status, plan_of};
 ghost use Rattle.avtp_tool.specs.Made.{KeepsFilesBut, KeepsSlotsFor};
-ghost use Rattle.avtp_tool.specs.Outcome.{AsksFor, EndsUnopened, EndsWith, Finishes, IsOneMissing, KeepsSink};
-ghost use Rattle.avtp_tool.specs.Run.{came_for, is_listening, is_through, IsAsked, names_of, Outcome, Runs, status_for, yield_for};
+ghost use Rattle.avtp_tool.specs.Outcome.{AsksFor, IsOneMissing};
+ghost use Rattle.avtp_tool.specs.state.Outcome.{EndsUnopened, EndsWith, Finishes, KeepsSink};
+ghost use Rattle.avtp_tool.specs.Run.{came_for, is_listening, is_through, names_of, Outcome, status_for, yield_for};
+ghost use Rattle.avtp_tool.specs.state.Run.{IsAsked, Runs};
 ghost use Rattle.avtp_tool.specs.Talk.{talk_plan};
 ghost use Rattle.avtp_tool.specs.Yield.{HandsOn, Yield};
 ghost use Rattle.sample_schedule.specs.declared.shown.Shown.{Shown};

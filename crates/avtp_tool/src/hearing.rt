@@ -2,7 +2,7 @@
 
 ghost use Rattle.std.specs.Prelude.{◌≡◌, ◌<◌, [], MatchResult, None, false};
 ghost use Rattle.listener.specs.Listening.{IsIdle, is_closed};
-ghost use Rattle.avtp_tool.specs.Hearing.{ClosesAt, GivesPull, GoesOn, IsGoing, IsAtReading, IsSoundAt, heard_at, pull_at, pull_with, reads_left};
+ghost use Rattle.avtp_tool.specs.state.Hearing.{ClosesAt, GivesPull, GoesOn, IsGoing, IsAtReading, IsSoundAt, heard_at, pull_at, pull_with, reads_left};
 
 use avtp_base::NoMemory;
 use capture_io::{End, ReadSlots, Source};

@@ -5,11 +5,12 @@ ghost use Rattle.avtp_words.specs.Grammar.{listening_of};
 ghost use Rattle.avtp_tool.specs.Yield.{HandsOn};
 ghost use Rattle.listener.specs.Listening.{StandsFor};
 ghost use Rattle.presenter_ring.specs.Pipes.{ended_with, given_to, waiting_in};
-ghost use Rattle.avtp_tool.specs.Hearing.{IsAtReading};
-ghost use Rattle.avtp_tool.specs.Listen.{HearsCapture, HearsItems, last_line, listen_report, plan_of};
-ghost use Rattle.avtp_tool.specs.Outcome.{EndsWith};
-ghost use Rattle.avtp_tool.specs.Reading.{DoesFile};
-ghost use Rattle.avtp_tool.specs.Run.{IsListening};
+ghost use Rattle.avtp_tool.specs.state.Hearing.{IsAtReading};
+ghost use Rattle.avtp_tool.specs.Listen.{last_line, listen_report, plan_of};
+ghost use Rattle.avtp_tool.specs.state.Listen.{HearsCapture, HearsItems};
+ghost use Rattle.avtp_tool.specs.state.Outcome.{EndsWith};
+ghost use Rattle.avtp_tool.specs.state.Reading.{DoesFile};
+ghost use Rattle.avtp_tool.specs.state.Run.{IsListening};
 ghost use Rattle.avtp_tool.specs.Status.{status_of};
 
 use crate::command::print_unopened;

@@ -26,7 +26,7 @@ pub struct Presenting<'a, S: Sink, D: Devices + Send> {
 
 impl<'a, S: Sink, D: Devices + Send> Presenter for Presenting<'a, S, D> {
     ghost use Rattle.std.specs.Prelude.{◌≡◌, Ok};
-    ghost use Rattle.avtp_tool.specs.Presenting.{failures, GivesItems};
+    ghost use Rattle.avtp_tool.specs.state.Presenting.{failures, GivesItems};
     ghost use Rattle.avtp_tool.specs.Yield.{HandsOn};
 
     ghost handed = { λ begun now items. (now.text.ghost_name ≡ begun.text.ghost_name) × (now.out.ghost_name ≡ begun.out.ghost_name) × (now.rack.ghost_name ≡ begun.rack.ghost_name)

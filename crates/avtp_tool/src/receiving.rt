@@ -14,7 +14,7 @@ pub struct Receiving<'a, F: Shelf> {
 impl<'a, F: Shelf> Receiver for Receiving<'a, F> {
     ghost use Rattle.std.specs.Prelude.{◌≡◌};
     ghost use Rattle.capture_io.specs.Source.{slot_of};
-    ghost use Rattle.avtp_tool.specs.Hearing.{Shows, ended_at, left_of};
+    ghost use Rattle.avtp_tool.specs.state.Hearing.{Shows, ended_at, left_of};
 
     ghost gave = { λ begun now items. (now.shelf.ghost_name ≡ begun.shelf.ghost_name) × (now.hearing.ghost_name ≡ begun.hearing.ghost_name)
         × Shows (F.state begun.shelf.now) (F.state now.shelf.now) begun.hearing.now.source now.hearing.now.source begun.hearing.now.listener now.hearing.now.listener now.hearing.now.stage items };

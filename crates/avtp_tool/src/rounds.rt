@@ -1,6 +1,6 @@
 //! The rounds of a pipe.
 
-ghost use Rattle.avtp_tool.specs.Presenting.{CanPass, HasPassed};
+ghost use Rattle.avtp_tool.specs.state.Presenting.{CanPass, HasPassed};
 
 use avtp_base::Failed;
 use presenter_ring::{Gate, Pipe, Presenter, Receiver, Round};

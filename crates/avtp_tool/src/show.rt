@@ -1,10 +1,11 @@
 //! The command `show`: what each record of a capture holds.
 
 ghost use Rattle.std.specs.Prelude.{◌^◌, ◌≤◌};
-ghost use Rattle.avtp_tool.specs.Outcome.{EndsWith};
-ghost use Rattle.avtp_tool.specs.Reading.{DoesFile, IsOpen, ReadsRecords};
-ghost use Rattle.avtp_tool.specs.Show.{end_line, PrintsRecords, show_report};
-ghost use Rattle.avtp_tool.specs.Yield.{HandsNothing};
+ghost use Rattle.avtp_tool.specs.state.Outcome.{EndsWith};
+ghost use Rattle.avtp_tool.specs.state.Reading.{DoesFile, IsOpen, ReadsRecords};
+ghost use Rattle.avtp_tool.specs.Show.{end_line, show_report};
+ghost use Rattle.avtp_tool.specs.state.Show.{PrintsRecords};
+ghost use Rattle.avtp_tool.specs.state.Yield.{HandsNothing};
 ghost use Rattle.avtp_tool.specs.Status.{status_of};
 
 use crate::command::print_unopened;

@@ -2,8 +2,9 @@
 
 ghost use Rattle.std.specs.Prelude.{◌≤◌};
 ghost use Rattle.avtp_text.specs.Soak.{soak_line};
-ghost use Rattle.avtp_tool.specs.Outcome.{EndsWith};
-ghost use Rattle.avtp_tool.specs.Soak.{Says, soak_report};
+ghost use Rattle.avtp_tool.specs.state.Outcome.{EndsWith};
+ghost use Rattle.avtp_tool.specs.Soak.{soak_report};
+ghost use Rattle.avtp_tool.specs.state.Soak.{Says};
 
 use crate::status::Status;
 use avtp_base::{Failed, NoMemory, Sink};

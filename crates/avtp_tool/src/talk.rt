@@ -8,11 +8,13 @@ ghost use Rattle.avtp_words.specs.Grammar.{talk as talk_request, talking_of};
 ghost use Rattle.avtp_text.specs.Talk.{talk_input_line, talk_line};
 ghost use Rattle.avtp_text.specs.Notices.{limit_line};
 ghost use Rattle.capture_io.specs.Writing.{IsMadeIn};
-ghost use Rattle.avtp_tool.specs.Made.{MakesFile, WritesPart, unmade_as};
-ghost use Rattle.avtp_tool.specs.Outcome.{EndsWith, Only};
-ghost use Rattle.avtp_tool.specs.Run.{Runs};
-ghost use Rattle.avtp_tool.specs.Yield.{HandsNothing};
-ghost use Rattle.avtp_tool.specs.Talk.{EndsRefused, sent_line, talk_clock, talk_kind, talk_plan, TalkedOutcome, Talks, TalksContents};
+ghost use Rattle.avtp_tool.specs.state.Made.{MakesFile, WritesPart, unmade_as};
+ghost use Rattle.avtp_tool.specs.Outcome.{Only};
+ghost use Rattle.avtp_tool.specs.state.Outcome.{EndsWith};
+ghost use Rattle.avtp_tool.specs.state.Run.{Runs};
+ghost use Rattle.avtp_tool.specs.state.Yield.{HandsNothing};
+ghost use Rattle.avtp_tool.specs.Talk.{sent_line, talk_clock, talk_kind, talk_plan, TalkedOutcome};
+ghost use Rattle.avtp_tool.specs.state.Talk.{EndsRefused, Talks, TalksContents};
 
 use crate::capture_out::{FileHeader, NextRecord};
 use crate::command::{print_fault, print_unopened};

@@ -17,7 +17,7 @@ use Rattle.avtp_words.specs.Number.{IsNumber, IsSigned}
 use Rattle.avtp_words.specs.Limits.{NumberOption, SignedOption}
 use Rattle.avtp_words.specs.Given.{IsGiven, IsGivenId, IsGivenIdIf, IsGivenIf, IsGivenSigned, IsGivenFormat}
 use Rattle.avtp_words.specs.Operands.{AreOperands}
-use Rattle.avtp_words.specs.Reading.{are_sound, begins_with_dashes, value_after, IsTail, IsRest, IsRestTo, AreOptionsTo, EndsOptions, StopsOptions, IsRead, IsReadId, IsReadIdIf, IsReadIf, IsReadSigned, IsReadFormat}
+use Rattle.avtp_words.specs.state.Reading.{are_sound, begins_with_dashes, value_after, IsTail, IsRest, IsRestTo, AreOptionsTo, EndsOptions, StopsOptions, IsRead, IsReadId, IsReadIdIf, IsReadIf, IsReadSigned, IsReadFormat}
 use Rattle.avtp_words.specs.Word.{texts, BeginsWithDash, IsName, IsId}
 use Rattle.avtp_words.specs.Options.{Row, row_named, Setting, words_of, IsValue, IsTaken, stands_alone, format_name, IsSetting, value_in}
 use Rattle.avtp_words.specs.Grammar.{Form, IsOf, Stops, StopsAt}

@@ -20,7 +20,7 @@ use Rattle.avtp_words.specs.declared.device.Silence.TheVariants.{Zero, Am824 as 
 use Rattle.avtp_words.specs.Given.{IsGiven, IsGivenId, IsGivenIdIf, IsGivenIf, IsGivenSigned, IsGivenSilence}
 use Rattle.avtp_words.specs.Number.{IsNumber}
 use Rattle.avtp_words.specs.Operands.{AreOperands}
-use Rattle.avtp_words.specs.Reading.{ClockIsWithin, IsRest, IsRestTo, StopsAfter, are_sound, value_after, IsRead, IsReadClock, IsReadId, IsReadIdIf, IsReadIf, IsReadSigned, IsReadFormat, IsReadKind, IsReadFile, IsReadRaw, IsReadSilence, ReadsFile, AreHeard, AreRead}
+use Rattle.avtp_words.specs.state.Reading.{ClockIsWithin, IsRest, IsRestTo, StopsAfter, are_sound, value_after, IsRead, IsReadClock, IsReadId, IsReadIdIf, IsReadIf, IsReadSigned, IsReadFormat, IsReadKind, IsReadFile, IsReadRaw, IsReadSilence, ReadsFile, AreHeard, AreRead}
 use Rattle.avtp_words.specs.Word.{texts, BeginsWithDash, IsId}
 use Rattle.avtp_words.specs.Limits as limits
 use Rattle.avtp_words.specs.Limits.{NumberOption, default_rate, number, signed, with_default}

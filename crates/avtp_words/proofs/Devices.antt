@@ -12,7 +12,7 @@ use Rattle.avtp_words.specs.declared.device.Silence.TheVariants.{Zero, Am824}
 use Rattle.avtp_words.specs.Given.{IsGivenSilence}
 use Rattle.avtp_words.specs.Grammar.{IsGivenFile, IsGivenRaw, IsOf, NamedFile, NamedRaw, NamesFile, listen_form}
 use Rattle.avtp_words.specs.Options.{IsSetting, Row, Setting, words_of}
-use Rattle.avtp_words.specs.Reading.{are_sound, begins_with_dashes, value_after}
+use Rattle.avtp_words.specs.state.Reading.{are_sound, begins_with_dashes, value_after}
 use Rattle.avtp_words.specs.Word.{IsName, texts}
 use Rattle.avtp_words.proofs.Numbers.{one_dash}
 use Rattle.avtp_words.proofs.Operands.{names}

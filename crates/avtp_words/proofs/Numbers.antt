@@ -9,8 +9,9 @@ use Rattle.std.specs.Fmt.{signed_decimal}
 use Rattle.std.proofs.lemmas.Bool.{leb-true, le-leb}
 use Rattle.std.proofs.lemmas.Bool.Decides.{nat_tests}
 use Rattle.std.specs.Result.{OkIff, result_unwrap_or}
-use Rattle.avtp_words.specs.Number.{BeginsAsNumber, IsNumber, IsSigned}
-use Rattle.avtp_words.specs.Reading.{IsRead, IsReadIf, IsReadSigned, begins_with_dashes}
+use Rattle.avtp_words.specs.Number.{IsNumber, IsSigned}
+use Rattle.avtp_words.specs.state.Number.{BeginsAsNumber}
+use Rattle.avtp_words.specs.state.Reading.{IsRead, IsReadIf, IsReadSigned, begins_with_dashes}
 use Rattle.avtp_words.specs.Word.{BeginsWithDash, IsName}
 
 own : IsNumeralModel (AllDigits 10) (digits_value 10)

@@ -4,7 +4,7 @@ use Rattle.std.specs.Int.{w64, to_be_bytes}
 use Rattle.std.proofs.lemmas.List.Elements.{All-nil, All-cons, All-head, All-append, All-contains, Contains-append_left, Contains-append_right}
 use Rattle.std.proofs.lemmas.List.{take-append-drop, length-take}
 use Rattle.std.proofs.Math.Seq.{drop-cons}
-use Rattle.avtp_words.specs.Reading.{IsFirstUnnamed}
+use Rattle.avtp_words.specs.state.Reading.{IsFirstUnnamed}
 use Rattle.hex.proofs.HexLemmas.{decode_pairs-ok}
 use Rattle.hex.specs.Hex.{IsBytes, decode_pairs, decode_sized}
 use Rattle.std.specs.Prelude.{MatchResult}
@@ -13,7 +13,8 @@ use Rattle.hex.specs.declared.error.FromHexError.TheVariants.{OddLength, Invalid
 use Rattle.avtp_words.specs.declared.operand.Operand.{Operand}
 use Rattle.avtp_words.specs.declared.operand.Operand.TheVariants.{Id, Name, Names, Packets}
 use Rattle.avtp_words.specs.Grammar.{Stops, StopsAt}
-use Rattle.avtp_words.specs.Operands.{IsOperand, AreOperands, takes_all}
+use Rattle.avtp_words.specs.Operands.{IsOperand, AreOperands}
+use Rattle.avtp_words.specs.state.Operands.{takes_all}
 use Rattle.std.specs.declared.alloc.Global.{Global}
 use Rattle.avtp_words.proofs.Numbers.{number_name}
 use Rattle.avtp_words.specs.Word.{texts, IsName, IsId}

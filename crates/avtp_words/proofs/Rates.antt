@@ -8,7 +8,7 @@ use Rattle.std.proofs.lemmas.List.FromFn.{get_or-range_with_len}
 use Rattle.std.proofs.lemmas.Bool.{leb-true, le-leb, and_parts}
 use Rattle.aaf_format.specs.Aaf.{rate_of}
 use Rattle.iec61883_format.specs.Iec.{rate_of_fdf, syt_interval}
-use Rattle.avtp_words.specs.Reading.{is_long_enough, suits}
+use Rattle.avtp_words.specs.state.Reading.{is_long_enough, suits}
 
 -- the codes that name a rate are 1 to 10
 known : (code rate : ℕ) → rate_of code ≡ Some rate → (1 ≤ code) × (code ≤ 10)

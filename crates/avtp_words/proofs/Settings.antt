@@ -10,7 +10,7 @@ use Rattle.aaf_format.specs.declared.aaf.AafFormat.{AafFormat}
 use Rattle.aaf_format.specs.declared.aaf.AafFormat.TheVariants.{Float32, Int32, Int24, Int16}
 use Rattle.avtp_words.specs.declared.option.Takes.{Takes}
 use Rattle.avtp_words.specs.declared.option.Takes.TheVariants.{Number, Signed, Id, Kind, Format, Name, Silence, Nothing}
-use Rattle.avtp_words.specs.Reading.{is_sound, are_sound, begins_with_dashes}
+use Rattle.avtp_words.specs.state.Reading.{is_sound, are_sound, begins_with_dashes}
 use Rattle.avtp_words.specs.Word.{BeginsWithDash, IsName}
 use Rattle.avtp_words.specs.Options.{Row, row_named, Setting, words_of, IsValue, IsTaken, stands_alone, format_name, IsSetting, AreSettings}
 use Rattle.avtp_words.proofs.Numbers.{no_dash, one_dash, no_dashes}

@@ -14,7 +14,7 @@ use Rattle.aaf_format.specs.declared.aaf.AafFormat.TheVariants.{Int16}
 use Rattle.avtp_words.specs.declared.option.Takes.{Takes}
 use Rattle.avtp_words.specs.declared.option.Takes.TheVariants.{Number, Signed, Id, Kind, Format, Name, Silence, Nothing}
 use Rattle.avtp_words.specs.declared.option.OptionRow.{OptionRow}
-use Rattle.avtp_words.specs.Reading.{row_of, rows_of, is_sound, are_sound, IsTail, AreOptionsTo, StopsOptions, IsTakenAt, LacksValue}
+use Rattle.avtp_words.specs.state.Reading.{row_of, rows_of, is_sound, are_sound, IsTail, AreOptionsTo, StopsOptions, IsTakenAt, LacksValue}
 use Rattle.avtp_words.specs.Word.{texts, BeginsWithDash}
 use Rattle.avtp_words.specs.Options.{Row, row_named, Setting, words_of, IsValue, IsTaken, stands_alone, IsSetting, AreSettings}
 use Rattle.avtp_words.specs.Grammar.{Stops}

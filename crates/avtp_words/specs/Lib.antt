@@ -5,4 +5,4 @@ pub mod Options
 pub mod Limits
 pub mod Given
 pub mod Grammar
-pub mod Reading
+pub mod state

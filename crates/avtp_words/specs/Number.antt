@@ -1,4 +1,4 @@
-use Rattle.std.specs.Prelude.{◌≡◌, ℕ, ℤ, ◌<◌, ◌≤◌, List, length, slice_index, decimal, unsigned_abs}
+use Rattle.std.specs.Prelude.{◌≡◌, ℕ, ℤ, ◌≤◌, List, decimal, unsigned_abs}
 use Rattle.std.specs.Fmt.{signed_decimal}
 
 -- The word is the number in decimal digits, without a sign and without leading zeros, and the number is in range.
@@ -11,10 +11,3 @@ pub record IsNumber (low high : ℕ) (word : List ℕ) (n : ℕ) : Type 0 where
 pub record IsSigned (most : ℕ) (word : List ℕ) (z : ℤ) : Type 0 where
   pub size : unsigned_abs z ≤ most
   pub spelled : word ≡ signed_decimal z
-
--- the first byte is a digit, and it is 0 only where it stands alone
-pub record BeginsAsNumber (bytes : List ℕ) : Type 0 where
-  pub some : 0 < length bytes
-  pub low : 48 ≤ slice_index bytes 0
-  pub high : slice_index bytes 0 ≤ 57
-  pub zero : slice_index bytes 0 ≡ 48 → length bytes ≡ 1

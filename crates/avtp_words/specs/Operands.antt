@@ -1,5 +1,5 @@
 -- The operands of a command: the words after its options.
-use Rattle.std.specs.Prelude.{ℕ, List, [], ◌∷◌, ⊤, All, Bool, true, false}
+use Rattle.std.specs.Prelude.{ℕ, List, [], ◌∷◌, ⊤, All}
 use Rattle.avtp_words.specs.declared.operand.Operand.{Operand}
 use Rattle.avtp_words.specs.declared.operand.Operand.TheVariants.{Id, Name, Names, Packets}
 use Rattle.avtp_words.specs.Limits as limits
@@ -11,13 +11,6 @@ IsOperand Id word = (id : ℕ) × IsId word id
 IsOperand Name word = IsName word
 IsOperand Names word = IsName word
 IsOperand Packets word = (n : ℕ) × IsNumber 0 limits.packets word n
-
--- the operand takes all the words that are left
-abbrev pub takes_all : Operand → Bool
-takes_all Id = false
-takes_all Name = false
-takes_all Names = true
-takes_all Packets = false
 
 -- Each word is the operand of its place, and there are no more and no fewer. `Names` takes all the words that are left,
 -- at least one.

@@ -3,7 +3,7 @@
 ghost use Rattle.std.specs.Prelude.{◌≡◌, ◌*◌, ◌/◌, ◌%◌, ◌≤◌, ◌<◌, ◌↔◌, ◌^◌, IsTrue};
 ghost use Rattle.clock_track.specs.Pairs.{pull_down as pull_down_of, pull_up as pull_up_of};
 ghost use Rattle.avtp_words.specs.Grammar.{FitsClock, FitsStream, HasWholeRuns, spacing_of};
-ghost use Rattle.avtp_words.specs.Reading.{ClockIsWithin, IsReadClock, IsWithin};
+ghost use Rattle.avtp_words.specs.state.Reading.{ClockIsWithin, IsReadClock, IsWithin};
 ghost use Rattle.avtp_words.specs.Word.{texts};
 
 use crate::limits::{

@@ -2,7 +2,7 @@
 
 ghost use Rattle.std.specs.Prelude.{◌≡◌, ◌≢◌, ◌↔◌, codes, Contains, IfSome, IsTrue, option_map};
 ghost use Rattle.avtp_words.specs.Grammar.{named_file, named_raw};
-ghost use Rattle.avtp_words.specs.Reading.{IsReadFile, IsReadRaw, IsReadSilence, value_after};
+ghost use Rattle.avtp_words.specs.state.Reading.{IsReadFile, IsReadRaw, IsReadSilence, value_after};
 ghost use Rattle.avtp_words.specs.Word.{texts};
 
 use crate::limits::{RAW, SILENCE};

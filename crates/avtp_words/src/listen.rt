@@ -2,7 +2,7 @@
 
 ghost use Rattle.std.specs.Prelude.{◌≡◌, ◌∷◌, ◌↔◌, codes, IfOk, IfErr, IsTrue};
 ghost use Rattle.avtp_words.specs.Grammar.{IsCommandLine, IsOffence, KeepsNames, SaysListen, listening_of, request_of};
-ghost use Rattle.avtp_words.specs.Reading.{AreHeard};
+ghost use Rattle.avtp_words.specs.state.Reading.{AreHeard};
 ghost use Rattle.avtp_words.specs.Word.{texts};
 
 use crate::command::{Command, Offence};

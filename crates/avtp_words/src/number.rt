@@ -2,7 +2,8 @@
 
 ghost use Rattle.std.specs.Prelude.{◌≡◌, ◌≢◌, ℕ, ℤ, List, ◌∷◌, ◌^◌, ◌<◌, ◌↔◌, IsTrue, IfSome, IfNone, MatchOption, decimal, unsigned_abs};
 ghost use Rattle.std.specs.Fmt.{signed_decimal};
-ghost use Rattle.avtp_words.specs.Number.{BeginsAsNumber, IsNumber, IsSigned};
+ghost use Rattle.avtp_words.specs.Number.{IsNumber, IsSigned};
+ghost use Rattle.avtp_words.specs.state.Number.{BeginsAsNumber};
 
 /// The number that a word spells, in decimal digits without a sign and without a leading zero; None where it
 /// spells none below 2^64.

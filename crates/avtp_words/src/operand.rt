@@ -4,8 +4,9 @@ ghost use Rattle.std.specs.Prelude.{◌≡◌, ◌+◌, ◌≤◌, ◌↔◌, �
 ghost use Rattle.avtp_words.specs.Grammar.{StopsAt};
 ghost use Rattle.avtp_words.specs.Limits as limits;
 ghost use Rattle.avtp_words.specs.Number.{IsNumber};
-ghost use Rattle.avtp_words.specs.Operands.{AreOperands, IsOperand, takes_all as takes_all_of};
-ghost use Rattle.avtp_words.specs.Reading.{IsFirstUnnamed, IsRest, IsRestTo, StopsAfter, are_sound, rows_of};
+ghost use Rattle.avtp_words.specs.Operands.{AreOperands, IsOperand};
+ghost use Rattle.avtp_words.specs.state.Operands.{takes_all as takes_all_of};
+ghost use Rattle.avtp_words.specs.state.Reading.{IsFirstUnnamed, IsRest, IsRestTo, StopsAfter, are_sound, rows_of};
 ghost use Rattle.avtp_words.specs.Word.{texts, IsName, IsId};
 
 use crate::command::Offence;

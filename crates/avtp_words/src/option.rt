@@ -6,7 +6,7 @@ ghost use Rattle.std.specs.Option.{option_copied};
 ghost use Rattle.std.specs.Str.{bytes_eq};
 ghost use Rattle.avtp_words.specs.Grammar.{Lacks, Need};
 ghost use Rattle.avtp_words.specs.Options.{IsValue, stands_alone as stands_alone_of};
-ghost use Rattle.avtp_words.specs.Reading.{EndsOptions, IsTakenAt, LacksValue, StopsOptions, are_sound, names_of, rows_of, value_after};
+ghost use Rattle.avtp_words.specs.state.Reading.{EndsOptions, IsTakenAt, LacksValue, StopsOptions, are_sound, names_of, rows_of, value_after};
 ghost use Rattle.avtp_words.specs.Word.{texts, BeginsWithDash};
 
 use crate::number::{is_number, is_signed};

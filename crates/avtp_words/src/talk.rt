@@ -6,7 +6,7 @@ ghost use Rattle.std.specs.Option.{option_eq};
 ghost use Rattle.aaf_format.specs.Aaf.{rate_of as rate_of_code};
 ghost use Rattle.iec61883_format.specs.Iec.{rate_of_fdf as rate_of_fdf_code, syt_interval as interval_of_code};
 ghost use Rattle.avtp_words.specs.Grammar.{FitsBlocks, FitsKind, FitsSamples, IsCommandLine, FitsOptions, IsOffence, KeepsRules, Lacks, SaysTalk, lacking, request_of, talking_of};
-ghost use Rattle.avtp_words.specs.Reading.{AreRead, ClockIsWithin, IsReadKind, IsReadOf, is_long_enough as is_enough, suits as suits_of};
+ghost use Rattle.avtp_words.specs.state.Reading.{AreRead, ClockIsWithin, IsReadKind, IsReadOf, is_long_enough as is_enough, suits as suits_of};
 ghost use Rattle.avtp_words.specs.Limits.{default_rate as default_rate_of, start as start_limits};
 ghost use Rattle.avtp_words.specs.Word.{texts};
 

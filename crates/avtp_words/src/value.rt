@@ -2,7 +2,7 @@
 
 ghost use Rattle.std.specs.Prelude.{◌≡◌, ◌^◌, IfSome, IfNone};
 ghost use Rattle.avtp_words.specs.Options.{format_name};
-ghost use Rattle.avtp_words.specs.Reading.{IsRead, IsReadFormat, IsReadId, IsReadIdIf, IsReadIf, IsReadSigned, value_after};
+ghost use Rattle.avtp_words.specs.state.Reading.{IsRead, IsReadFormat, IsReadId, IsReadIdIf, IsReadIf, IsReadSigned, value_after};
 ghost use Rattle.avtp_words.specs.Word.{texts};
 
 use crate::number::{number_of, signed_number_of};

@@ -15,9 +15,11 @@ use Rattle.capture_io.specs.Contents.{IsContents}
 use Rattle.capture_io.specs.Ends.{CountsFault, CountsStop, at_end, end_at}
 use Rattle.capture_io.specs.Formats.{records_in}
 use Rattle.capture_io.specs.Pieces.{Piecing, HasTaken}
-use Rattle.capture_io.specs.Reader.{CaptureReading, EndsHere, HasRead, RefusedAfter, Releases, held, nothing_read, refusal_of}
+use Rattle.capture_io.specs.Reader.{CaptureReading, HasRead, held, refusal_of}
+use Rattle.capture_io.specs.state.Reader.{EndsHere, RefusedAfter, Releases, nothing_read}
 use Rattle.capture_io.specs.Reads.{ReadsSlot}
-use Rattle.capture_io.specs.Source.{Sourcing, EndsAfter, GivesNext, HasFed, HasFedOf, HasGiven, HasGivenOf, ReadsOn, held_in, remains_of, slot_of, to_do}
+use Rattle.capture_io.specs.Source.{Sourcing, EndsAfter, GivesNext, HasFed, HasGiven, HasGivenOf, held_in, remains_of, slot_of, to_do}
+use Rattle.capture_io.specs.state.Source.{HasFedOf, ReadsOn}
 use Rattle.capture_io.proofs.Ending.{ends_limit, ends_refused, ends_whole, limited}
 use Rattle.capture_io.proofs.Leaving.{reads_nothing}
 use Rattle.capture_io.proofs.Reader.{first_held, read_nothing}

@@ -13,9 +13,11 @@ use Rattle.capture_io.specs.declared.capture_reader.Format.TheVariants.{Classic}
 use Rattle.capture_io.specs.declared.end.End.{End}
 use Rattle.capture_io.specs.Ends.{CountsFault}
 use Rattle.capture_io.specs.Pieces.{Piecing}
-use Rattle.capture_io.specs.Reader.{CaptureReading, Feeds, IsNext, Releases, held, held_by, with_part}
+use Rattle.capture_io.specs.Reader.{CaptureReading, held, held_by}
+use Rattle.capture_io.specs.state.Reader.{Feeds, IsNext, Releases, with_part}
 use Rattle.capture_io.specs.Reads.{ReadsSlot}
-use Rattle.capture_io.specs.Source.{Sourcing, GivesNext, GivesUp, HasFed, HasGivenOf, LiesAhead, ReadsOn, held_in, holding, lending, remains_of, slot_of, to_do}
+use Rattle.capture_io.specs.Source.{Sourcing, GivesNext, HasFed, HasGivenOf, held_in, remains_of, slot_of, to_do}
+use Rattle.capture_io.specs.state.Source.{GivesUp, LiesAhead, ReadsOn, holding, lending}
 use Rattle.capture_io.proofs.Giving.{gives_next, if_some, released}
 use Rattle.capture_io.proofs.Leaving.{reads_nothing}
 use Rattle.capture_io.proofs.Reader.{classic_feeds, classic_releases, feeds_as}

@@ -24,7 +24,8 @@ use Rattle.pcapng_frames.proofs.Places.{size_some, unroll}
 use Rattle.capture_io.specs.declared.capture_reader.Format.{Format}
 use Rattle.capture_io.specs.declared.capture_reader.Format.TheVariants.{Classic, Pcapng}
 use Rattle.capture_io.specs.Formats.{is_pcapng, records_in, certain_in}
-use Rattle.capture_io.specs.Reader.{CaptureReading, EndsHere, Feeds, GoesOn, HasRead, RefusedAfter, Releases, StandsFor, format_in, held, held_by, nothing_read}
+use Rattle.capture_io.specs.Reader.{CaptureReading, HasRead, StandsFor, held, held_by}
+use Rattle.capture_io.specs.state.Reader.{EndsHere, Feeds, GoesOn, RefusedAfter, Releases, format_in, nothing_read}
 use Rattle.capture_io.proofs.Formats.{classic_certain, classic_records, classic_refusal, format_stays, pcapng_certain, pcapng_records, pcapng_refusal, short_certain, short_records, short_refusal}
 
 pub read_nothing : HasRead nothing_read [] []

@@ -1,7 +1,6 @@
 -- A file that is read whole.
-use Rattle.std.specs.Prelude.{◌≡◌, ◌++◌, ◌∷◌, ◌<◌, ◌≤◌, ℕ, List, [], length, take, Option, Some, None, Result, Ok, Err, IfOk, IsErrOf}
+use Rattle.std.specs.Prelude.{◌≡◌, ◌++◌, ◌∷◌, ◌<◌, ◌≤◌, ℕ, List, [], length, take, Some, Result, IfOk, IsErrOf}
 use Rattle.avtp_base.specs.Faults.{Rose}
-use Rattle.avtp_base.specs.declared.failed.NoMemory.{NoMemory}
 use Rattle.avtp_base.specs.declared.failed.OpenFault.{OpenFault}
 use Rattle.avtp_base.specs.declared.failed.OpenFault.TheVariants as open_fault
 use Rattle.avtp_base.specs.Files.{Files, IsMissing}
@@ -18,11 +17,6 @@ abbrev pub IsContents : ℕ → List ℕ → Stop → List ℕ → Type 0
 IsContents limit bytes stop.End prefix = (bytes ≡ prefix) × (length prefix ≤ limit)
 IsContents limit bytes stop.Fault prefix = (rest : List ℕ) × (bytes ≡ prefix ++ rest) × (length prefix ≤ limit)
 IsContents limit bytes stop.Limit prefix = (limit < length bytes) × (prefix ≡ take limit bytes)
-
--- where the reading stopped, if what was read found memory
-abbrev pub stop_of : Result Contents NoMemory → Option Stop
-stop_of (Ok contents) = Some contents.stop
-stop_of (Err e) = None
 
 -- The count of reading faults where a file was read whole, or why not: it rose where a fault of reading or of opening
 -- came, and else it is as it was.

@@ -6,3 +6,4 @@ pub mod Contents
 pub mod Pieces
 pub mod Source
 pub mod Writing
+pub mod state

@@ -1,14 +1,5 @@
 -- A file that is read in pieces, up to a limit.
-use Rattle.std.specs.Prelude.{◌≡◌, ◌++◌, ◌+◌, ◌<◌, ◌≤◌, ℕ, Bool, true, false, List, [], length, Option, Some, None, IfOk, IfSome, IsSome, Result}
-use Rattle.avtp_base.specs.declared.failed.NoMemory.{NoMemory}
-use Rattle.avtp_base.specs.declared.failed.OpenFault.{OpenFault}
-use Rattle.avtp_base.specs.Files.{Files, Slots, left_in}
-use Rattle.avtp_base.specs.States.{ShelfState}
-use Rattle.capture_io.specs.declared.contents.Contents.{Contents}
-use Rattle.capture_io.specs.declared.end.Stop.{Stop}
-use Rattle.capture_io.specs.Contents.{IsContents, stop_of}
-use Rattle.capture_io.specs.Ends.{CountsStop}
-use Rattle.capture_io.specs.Reads.{ReadsSlot, TriesOpen}
+use Rattle.std.specs.Prelude.{◌≡◌, ◌++◌, ◌+◌, ◌<◌, ℕ, Bool, true, false, List, length, Option, Some}
 
 -- The slot of the file; the bytes that were read and wait to be taken; how many more may be read; and whether a read has
 -- shown that there are more.
@@ -29,35 +20,3 @@ pub record HasTaken (limit : ℕ) (bytes : List ℕ) (remains : Option (List ℕ
   pub split : bytes ≡ (prefix ++ pieces.waiting) ++ rest
   pub ahead : IsAhead pieces.over remains pieces.left rest
   pub count : length prefix + length pieces.waiting + pieces.left ≡ limit
-
--- the same of a shelf on which the file is open
-abbrev pub HasTakenOf : ℕ → List ℕ → ShelfState → Piecing → List ℕ → Type 0
-HasTakenOf limit bytes shelf pieces prefix = HasTaken limit bytes (left_in shelf.slots pieces.slot) pieces prefix
-
--- the file is open, and nothing waits
-abbrev pub IsDrained : Slots → Piecing → Type 0
-IsDrained slots pieces = IsSome (slots pieces.slot) × (pieces.waiting ≡ [])
-
--- A file of this name was opened, of which `limit` bytes may be read and none was; or it was not opened.
-pub record OpensPieces (before after : ShelfState) (limit : ℕ) (name : List ℕ) (result : Result Piecing OpenFault) : Type 0 where
-  pub begun : IfOk result (λ pieces. (files : Files) → before.files ≡ Some files → (bytes : List ℕ) × (files name ≡ Some bytes) × HasTakenOf limit bytes after pieces [])
-  pub nothing : IfOk result (λ pieces. (pieces.waiting ≡ []) × (pieces.left ≡ limit))
-  pub tries : TriesOpen (λ (pieces : Piecing). pieces.slot) before after name result
-
--- A read where nothing waited. Then some bytes wait, no more than might be read; or it stopped, and what was taken is all that
--- was read. The count of reading faults rose where a fault stopped it, and else is as it was.
-pub record ReadsPiece (before after : ShelfState) (old new : Piecing) (result : Option Stop) : Type 0 where
-  pub more : result ≡ None → (limit : ℕ) (bytes prefix : List ℕ) → HasTakenOf limit bytes before old prefix → HasTakenOf limit bytes after new prefix
-  pub stopped : IfSome result (λ stop. (limit : ℕ) (bytes prefix : List ℕ) → HasTakenOf limit bytes before old prefix → IsContents limit bytes stop prefix)
-  pub bounded : length new.waiting + new.left ≤ old.left
-  pub some : result ≡ None → 0 < length new.waiting
-  pub none : IsSome result → new.waiting ≡ []
-  pub counted : CountsStop result before.reading_faults after.reading_faults
-  pub reads : ReadsSlot before after old.slot new.slot
-
--- All pieces were read where nothing had been taken, as far as could or might be, and put one after the other.
-pub record JoinsPieces (before after : ShelfState) (old new : Piecing) (result : Result Contents NoMemory) : Type 0 where
-  pub read : IfOk result (λ contents. (limit : ℕ) (bytes : List ℕ) → HasTakenOf limit bytes before old [] → IsContents limit bytes contents.stop contents.bytes.items)
-  pub bounded : IfOk result (λ contents. length contents.bytes.items ≤ old.left)
-  pub counted : CountsStop (stop_of result) before.reading_faults after.reading_faults
-  pub reads : ReadsSlot before after old.slot new.slot

@@ -1,15 +1,15 @@
 -- The records of a capture, one after the other.
-use Rattle.std.specs.Prelude.{◌≡◌, ◌++◌, ◌+◌, ◌*◌, ◌<◌, ◌≤◌, ⊤, ℕ, List, [], ◌∷◌, length, take, drop, IfOk, IfSome, IsSome, Option, Some, None, Result, option_to_list}
+use Rattle.std.specs.Prelude.{◌≡◌, ◌++◌, ◌+◌, ◌*◌, ◌<◌, ◌≤◌, ℕ, List, [], ◌∷◌, length, IfOk, IfSome, IsSome, Option, Some, None, Result, option_to_list}
 use Rattle.avtp_base.specs.Faults.{Rose}
 use Rattle.avtp_base.specs.declared.failed.OpenFault.{OpenFault}
-use Rattle.avtp_base.specs.Files.{Files, Slots, left_in}
+use Rattle.avtp_base.specs.Files.{Files, left_in}
 use Rattle.avtp_base.specs.States.{ShelfState}
 use Rattle.pcap_frames.specs.Capture.{Record}
 use Rattle.capture_io.specs.declared.end.End.{End}
 use Rattle.capture_io.specs.Ends.{CountsFault, EndsAt}
 use Rattle.capture_io.specs.Formats.{records_in}
 use Rattle.capture_io.specs.Pieces.{Piecing, HasTaken}
-use Rattle.capture_io.specs.Reader.{CaptureReading, HasRead, IsNext, Releases, held, refusal_of, with_part}
+use Rattle.capture_io.specs.Reader.{CaptureReading, HasRead, held, refusal_of}
 use Rattle.capture_io.specs.Reads.{ReadsSlot, TriesOpen}
 
 -- The file and its pieces, the reader that takes them, and how the reading ended, once it has.
@@ -45,10 +45,6 @@ pub record HasGiven (limit : ℕ) (bytes : List ℕ) (remains : Option (List ℕ
   pub fed : HasFed limit bytes remains source before
   pub given : records ≡ before ++ option_to_list (held_in source)
 
--- the same of a shelf on which the file is open
-abbrev pub HasFedOf : ℕ → List ℕ → ShelfState → Sourcing → List Record → Type 0
-HasFedOf limit bytes shelf source records = HasFed limit bytes (remains_of shelf source) source records
-
 abbrev pub HasGivenOf : ℕ → List ℕ → ShelfState → Sourcing → List Record → Type 0
 HasGivenOf limit bytes shelf source records = HasGiven limit bytes (remains_of shelf source) source records
 
@@ -69,25 +65,6 @@ pub record OpensSource (before after : ShelfState) (limit : ℕ) (name : List �
   pub going : IfOk result (λ source. (source.ended ≡ None) × (to_do source ≤ 2 * limit))
   pub tries : TriesOpen slot_of before after name result
 
--- A call that read on, or took what waits, left this. Where the reading goes on, the source has given up the same records of
--- the same file, and less is to be done. Where it ended, it ended so after them. The count of reading faults rose where a
--- fault ended it, and else is as it was.
-pub record ReadsOn (before after : ShelfState) (old new : Sourcing) (result : Option End) : Type 0 where
-  pub more : result ≡ None → (limit : ℕ) (bytes : List ℕ) (records : List Record) → HasFedOf limit bytes before old records → HasFedOf limit bytes after new records
-  pub ends : IfSome result (λ how. (limit : ℕ) (bytes : List ℕ) (records : List Record) → HasFedOf limit bytes before old records → EndsAfter limit bytes (Rose before.reading_faults after.reading_faults) how records)
-  pub less : result ≡ None → to_do new < to_do old
-  pub counted : CountsFault None result before.reading_faults after.reading_faults
-  pub reads : ReadsSlot before after (slot_of old) (slot_of new)
-
--- It read on until a record is held, or the reading ended.
-pub record ReadsRecord (before after : ShelfState) (old new : Sourcing) (result : Option End) : Type 0 where
-  pub on : ReadsOn before after old new result
-  pub held : result ≡ None → IsSome (held_in new)
-
--- the file is open, and no record is held
-abbrev pub IsReady : Slots → Sourcing → Type 0
-IsReady slots source = IsSome (slots (slot_of source)) × (held_in source ≡ None)
-
 -- The next record was read, and is held now; or the reading ended so after the records that were given, and the count of
 -- reading faults rose where a fault ended it. A reading that had ended answers the same again.
 pub record GivesNext (before after : ShelfState) (old new : Sourcing) (result : Option End) : Type 0 where
@@ -100,35 +77,3 @@ pub record GivesNext (before after : ShelfState) (old new : Sourcing) (result : 
   pub lasting : IfSome old.ended (λ how. result ≡ Some how)
   pub counted : CountsFault old.ended result before.reading_faults after.reading_faults
   pub reads : ReadsSlot before after (slot_of old) (slot_of new)
-
--- ---- a record that is lent
-
--- the source, with so many of the bytes that wait taken by its reader
-abbrev pub holding : Sourcing → ℕ → Sourcing
-holding source size = record source { pieces = record source.pieces { waiting = drop size source.pieces.waiting }; reader = with_part source.reader (take size source.pieces.waiting) }
-
--- The reading has not ended, and so many of the bytes that wait are the next record.
-pub record LiesAhead (source : Sourcing) (size : ℕ) : Type 0 where
-  pub going : source.ended ≡ None
-  pub within : size ≤ length source.pieces.waiting
-  pub next : IsNext source.reader (take size source.pieces.waiting)
-
--- Where the next record lies whole at the front of the bytes that wait, this is its size.
-pub record FindsAhead (source : Sourcing) (result : Option ℕ) : Type 0 where
-  pub ahead : IfSome result (λ size. LiesAhead source size)
-  pub none : result ≡ None → (size : ℕ) → LiesAhead source size → ⊥
-
--- a source that lends the record in so many of the bytes that wait, or none, stands for this one
-abbrev pub lending : Option ℕ → Sourcing → Sourcing
-lending None source = source
-lending (Some size) source = holding source size
-
-abbrev pub IsLending : Option ℕ → Sourcing → Type 0
-IsLending None source = ⊤
-IsLending (Some size) source = LiesAhead source size
-
--- The record that was held was given up, and nothing else was done.
-pub record GivesUp (old new : Sourcing) : Type 0 where
-  pub pieces : new.pieces ≡ old.pieces
-  pub reader : Releases old.reader new.reader
-  pub ended : new.ended ≡ old.ended

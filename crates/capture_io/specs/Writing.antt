@@ -46,12 +46,6 @@ pub record AddsBytes (before after : ShelfState) (old new : Writing) (bytes : Li
   pub kept : OnErr result ((begun : ShelfState) (name all : List ℕ) → IsWriting begun before old name all → IsWriting begun after new name all)
   pub writes : WritesSlot before after old new result
 
--- All that waited was written, or a part of it where the shelf failed.
-pub record WritesOut (before after : ShelfState) (old new : Writing) (result : Result Unit Failed) : Type 0 where
-  pub none_waits : OnOk result (new.waiting ≡ [])
-  pub kept : (begun : ShelfState) (name all : List ℕ) → IsWriting begun before old name all → IsWriting begun after new name all
-  pub writes : WritesSlot before after old new result
-
 -- ---- what is left
 
 -- a file was not made

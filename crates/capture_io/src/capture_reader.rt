@@ -3,7 +3,8 @@
 ghost use Rattle.std.specs.Prelude.{◌≡◌, ◌+◌, ◌≤◌, ◌^◌, ℕ, List, length, None, IfOk};
 ghost use Rattle.std.specs.Result.{result_err};
 ghost use Rattle.pcap_frames.specs.Capture.{Record};
-ghost use Rattle.capture_io.specs.Reader.{EndsHere, Feeds, FindsNext, HasRead, IsNext, IsView, IsViewOf, Releases, format_in, held, nothing_read, taken, with_part};
+ghost use Rattle.capture_io.specs.Reader.{HasRead, IsView, held};
+ghost use Rattle.capture_io.specs.state.Reader.{EndsHere, Feeds, FindsNext, IsNext, IsViewOf, Releases, format_in, nothing_read, taken, with_part};
 
 use avtp_base::{Field, NoMemory, Refusal};
 use byteorder::{ByteOrder, LittleEndian};
@@ -40,7 +41,8 @@ pub struct CaptureReader {
 
 impl Model for CaptureReader {
     ghost use Rattle.std.specs.Prelude.{◌≤◌, vec_capacity};
-    ghost use Rattle.capture_io.specs.Reader.{CaptureReading, IsFront};
+    ghost use Rattle.capture_io.specs.Reader.{CaptureReading};
+    ghost use Rattle.capture_io.specs.state.Reader.{IsFront};
 
     ghost Value = { CaptureReading };
 

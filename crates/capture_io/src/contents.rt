@@ -1,7 +1,7 @@
 //! A file that is read whole.
 
 ghost use Rattle.capture_io.specs.Contents.{ReadsContents};
-ghost use Rattle.capture_io.specs.Pieces.{IsDrained, JoinsPieces};
+ghost use Rattle.capture_io.specs.state.Pieces.{IsDrained, JoinsPieces};
 
 use crate::end::Stop;
 use crate::pieces::Pieces;

@@ -3,7 +3,8 @@
 ghost use Rattle.std.specs.Prelude.{◌≡◌, ◌<◌, [], length, IsSome};
 ghost use Rattle.avtp_base.specs.States.{ShelfState};
 ghost use Rattle.capture_io.specs.Reader.{IsView};
-ghost use Rattle.capture_io.specs.Source.{FindsAhead, GivesNext, GivesUp, IsReady, LiesAhead, ReadsOn, ReadsRecord, held_in, holding, slot_of};
+ghost use Rattle.capture_io.specs.Source.{GivesNext, held_in, slot_of};
+ghost use Rattle.capture_io.specs.state.Source.{FindsAhead, GivesUp, IsReady, LiesAhead, ReadsOn, ReadsRecord, holding};
 
 use crate::capture_reader::CaptureReader;
 use crate::end::End;
@@ -23,7 +24,7 @@ pub struct Feed {
 
 impl Model for Feed {
     ghost use Rattle.std.specs.Prelude.{◌≤◌, ◌+◌, ◌^◌, length};
-    ghost use Rattle.capture_io.specs.Reader.{taken};
+    ghost use Rattle.capture_io.specs.state.Reader.{taken};
     ghost use Rattle.capture_io.specs.Source.{Sourcing};
 
     ghost Value = { Sourcing };

@@ -1,7 +1,8 @@
 //! A file that is written through a buffer.
 
 ghost use Rattle.std.specs.Prelude.{◌≡◌, ◌≤◌, [], Ok, length};
-ghost use Rattle.capture_io.specs.Writing.{AddsBytes, ClosesFile, CreatesFile, FinishesFile, IsMadeIn, WritesOut};
+ghost use Rattle.capture_io.specs.Writing.{AddsBytes, ClosesFile, CreatesFile, FinishesFile, IsMadeIn};
+ghost use Rattle.capture_io.specs.state.Writing.{WritesOut};
 
 use avtp_base::{Buffer, Failed, OpenFault, Shelf, Slot, Spelled};
 use std::marker::Model;

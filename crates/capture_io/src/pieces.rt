@@ -1,7 +1,7 @@
 //! A file that is read in pieces, up to a limit.
 
 ghost use Rattle.std.specs.Prelude.{◌≡◌, ◌≤◌, [], length, drop, IsSome};
-ghost use Rattle.capture_io.specs.Pieces.{IsDrained, OpensPieces, ReadsPiece};
+ghost use Rattle.capture_io.specs.state.Pieces.{IsDrained, OpensPieces, ReadsPiece};
 ghost use Rattle.capture_io.specs.Reads.{ClosesSlot};
 
 use crate::end::Stop;

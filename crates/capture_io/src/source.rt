@@ -3,7 +3,8 @@
 ghost use Rattle.std.specs.Prelude.{◌≤◌, ◌^◌, IsSome};
 ghost use Rattle.capture_io.specs.Reader.{IsView};
 ghost use Rattle.capture_io.specs.Reads.{ClosesSlot};
-ghost use Rattle.capture_io.specs.Source.{GivesNext, GivesUp, IsLending, OpensSource, held_in, lending, slot_of};
+ghost use Rattle.capture_io.specs.Source.{GivesNext, OpensSource, held_in, slot_of};
+ghost use Rattle.capture_io.specs.state.Source.{GivesUp, IsLending, lending};
 
 use crate::capture_reader::CaptureReader;
 use crate::end::End;
@@ -27,7 +28,8 @@ pub struct Source {
 }
 
 impl Model for Source {
-    ghost use Rattle.capture_io.specs.Source.{IsLending, Sourcing, lending};
+    ghost use Rattle.capture_io.specs.Source.{Sourcing};
+    ghost use Rattle.capture_io.specs.state.Source.{IsLending, lending};
 
     ghost Value = { Sourcing };
 

@@ -13,7 +13,7 @@ use Rattle.clock_track.specs.declared.pair.Pair.{Pair}
 use Rattle.clock_track.specs.declared.clock_row.ClockRow.{ClockRow}
 use Rattle.clock_track.specs.Rows.{across, inside, joined_by, pairs_at, timestamp, timestamps, used}
 use Rattle.clock_track.specs.Limits.{IsNotable, IsRow}
-use Rattle.clock_track.specs.Search.{kept}
+use Rattle.clock_track.specs.state.Search.{kept}
 
 kept_last : (test : Pair → Bool) (xs : List Pair) (p : Pair) (b : Bool) → test p ≡ b → find_last test (xs ++ p ∷ []) ≡ option_or (if b then Some p else None) (find_last test xs)
 kept_last test xs p true e = find_last-passes test xs p e

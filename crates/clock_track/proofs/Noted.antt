@@ -8,7 +8,7 @@ use Rattle.clock_track.specs.declared.clock.Kept.{Kept}
 use Rattle.clock_track.specs.declared.clock_row.ClockRow.{ClockRow}
 use Rattle.clock_track.specs.Limits.{IsNotable}
 use Rattle.clock_track.specs.Rows.{window}
-use Rattle.clock_track.specs.Window.{HasRoom, IsRoom, IsWindow, kept_row}
+use Rattle.clock_track.specs.state.Window.{HasRoom, IsRoom, IsWindow, kept_row}
 use Rattle.clock_track.proofs.Windows.{window-more}
 
 rows-noted : (xs : List Kept) (kept : Kept) → map kept_row (keep_last 63 xs ++ kept ∷ []) ≡ drop (length (map kept_row xs) - 63) (map kept_row xs) ++ kept_row kept ∷ []

@@ -9,7 +9,8 @@ use Rattle.clock_track.specs.declared.clock_row.ClockRow.{ClockRow}
 use Rattle.clock_track.specs.declared.pair.Pair.{Pair}
 use Rattle.clock_track.specs.Pairs.{IsJoined, covers, is_joined}
 use Rattle.clock_track.specs.Rows.{across, joined_by, pair_of, seems_next, timestamp, timestamps}
-use Rattle.clock_track.specs.Search.{IsAfter, kept}
+use Rattle.clock_track.specs.Search.{IsAfter}
+use Rattle.clock_track.specs.state.Search.{kept}
 use Rattle.clock_track.proofs.Pairs.{covers_so, joins}
 
 not_covering : (p : Pair) (rate : ℕ) (instant : ℤ) → IsJoined p → IsAfter p rate instant → covers p rate instant ≡ false

@@ -5,3 +5,4 @@ pub mod Search
 pub mod Views
 pub mod Window
 pub mod Examples
+pub mod state

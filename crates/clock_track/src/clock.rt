@@ -6,7 +6,8 @@ ghost use Rattle.clock_track.specs.declared.clock_row.ClockRow.{ClockRow as Cloc
 ghost use Rattle.clock_track.specs.Limits.{IsClockLine, IsNotable, IsShift};
 ghost use Rattle.clock_track.specs.Rows.{clock_spot};
 ghost use Rattle.clock_track.specs.Views.{answered, row_of};
-ghost use Rattle.clock_track.specs.Window.{HasRoom, IsRoom, StandsFor, kept_row};
+ghost use Rattle.clock_track.specs.Window.{StandsFor};
+ghost use Rattle.clock_track.specs.state.Window.{HasRoom, IsRoom, kept_row};
 
 use crate::answer::ClockAnswer;
 use crate::clock_row::Points;
@@ -133,7 +134,8 @@ pub struct Clock {
 impl Model for Clock {
     ghost use Rattle.std.specs.Prelude.{map};
     ghost use Rattle.clock_track.specs.Limits.{IsShift};
-    ghost use Rattle.clock_track.specs.Window.{ClockState, IsWindow, kept_row};
+    ghost use Rattle.clock_track.specs.Window.{ClockState};
+    ghost use Rattle.clock_track.specs.state.Window.{IsWindow, kept_row};
 
     ghost Value = { ClockState };
 

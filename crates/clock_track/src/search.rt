@@ -7,7 +7,8 @@ ghost use Rattle.clock_track.specs.declared.clock_row.ClockRow.{ClockRow as Cloc
 ghost use Rattle.clock_track.specs.Limits.{IsNotable, IsRow, IsShift, IsSmall};
 ghost use Rattle.clock_track.specs.Pairs.{IsJoined};
 ghost use Rattle.clock_track.specs.Rows.{across as across_rows, inside as inside_row, joined_by, latest as latest_of, pair_of as pair_of_rows, pairs_at, seems_next as seems_next_of, timestamp as timestamp_of, timestamps as timestamps_of, used};
-ghost use Rattle.clock_track.specs.Search.{IsCovering, kept, test_of};
+ghost use Rattle.clock_track.specs.Search.{IsCovering};
+ghost use Rattle.clock_track.specs.state.Search.{kept, test_of};
 ghost use Rattle.clock_track.specs.Views.{row_of};
 
 use crate::clock_row::Points;

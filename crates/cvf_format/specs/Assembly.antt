@@ -1,15 +1,8 @@
 -- What an assembler keeps of the packets that it was given.
-use Rattle.std.specs.Prelude.{◌≡◌, ℕ, ◌+◌, ◌%◌, ◌==◌, nat_le, nat_lt, Bool, true, false, not, ◌&&◌, if◌then◌else◌, ℤ, List, [], ◌∷◌, ◌++◌, length, map, Option, None, Some}
-use Rattle.std.specs.Ordering.{int_eq}
-use Rattle.cvf_format.specs.declared.cvf.NalPart.{NalPart}
+use Rattle.std.specs.Prelude.{◌≡◌, ℕ, ◌+◌, ◌%◌, Bool, if◌then◌else◌, ℤ, List, [], ◌∷◌, map, Option, None, Some}
 use Rattle.cvf_format.specs.declared.cvf.CvfView.{CvfView}
 use Rattle.cvf_format.specs.declared.piece.Mark.{Mark}
-use Rattle.cvf_format.specs.declared.piece.Lost.{Lost}
-use Rattle.cvf_format.specs.declared.piece.Lost.TheVariants.{Broken}
-use Rattle.cvf_format.specs.declared.piece.Pushed.{Pushed}
-use Rattle.cvf_format.specs.declared.piece.Piece.{Piece}
-use Rattle.cvf_format.specs.declared.piece.Piece.TheVariants as variant
-use Rattle.cvf_format.specs.Stretches.{Fragment, Event, mark_of, unit_of, stamps, held, given_up, reason, piece, lost_marks, whole_unit, goes_on, begins, completes, sequence_numbers, longest_unit, most_fragments}
+use Rattle.cvf_format.specs.Stretches.{Fragment, Event, mark_of, unit_of, stamps, held, lost_marks, whole_unit, sequence_numbers}
 
 -- the bytes of the unit so far, the marks of those that wait and of those that were given up last, what the next
 -- fragment must carry, and whether the unit is whole
@@ -65,75 +58,3 @@ pub record StandsFor (a : Assembly) (events : List Event) : Type 0 where
   pub waits : KeepsAll a (held events)
   pub lost : a.lost ≡ lost_marks events
   pub unit : shown_unit a ≡ whole_unit events
-
--- the last of these events was a packet, and the assembler answered so
-pub record IsPushed (a : Assembly) (events : List Event) (pushed : Pushed) : Type 0 where
-  pub stands : StandsFor a events
-  pub lost : pushed.lost ≡ length (given_up events)
-  pub why : pushed.why ≡ reason events
-  pub piece : pushed.piece ≡ piece events
-
--- ---- the state after a packet
-
--- two instants of which each may be unknown do not differ
-abbrev pub agree : Option ℤ → Option ℤ → Bool
-agree None b = true
-agree (Some a) None = true
-agree (Some a) (Some b) = int_eq a b
-
--- the packet goes on with what is kept
-unfoldable pub goes_on_here : Assembly → Fragment → Bool
-goes_on_here a f = not (length a.held == 0)
-    && (goes_on f.part && (f.nal == a.nal && (f.mark.seq == a.next_seq && agree a.instant f.instant)))
-
--- there is room for a fragment with this body
-unfoldable pub has_room : Assembly → List ℕ → Bool
-has_room a body = nat_le (length a.bytes + length body) longest_unit && nat_lt (length a.held) most_fragments
-
--- all that waited was given up
-abbrev pub gave_up : Assembly → Assembly
-gave_up a = record a { held = []; lost = a.held; whole = false }
-
-abbrev pub or_first : Option ℤ → Option ℤ → Option ℤ
-or_first None b = b
-or_first (Some a) b = Some a
-
-abbrev pub broken : Lost
-broken = Broken
-
-abbrev pub lost_for : Lost → Piece
-lost_for why = variant.Lost why
-
--- what becomes of a packet that is in a unit
-abbrev pub settled : NalPart → Piece
-settled part = if completes part then variant.Whole else variant.Held
-
-abbrev pub with_first : Assembly → Fragment → Assembly
-with_first a f = record {
-  bytes = f.nal ∷ f.body;
-  held = if completes f.part then [] else f.mark ∷ [];
-  lost = a.held;
-  nal = f.nal;
-  next_seq = (f.mark.seq + 1) % sequence_numbers;
-  instant = f.instant;
-  whole = completes f.part;
-}
-
-abbrev pub with_next : Assembly → Fragment → Assembly
-with_next a f = record {
-  bytes = a.bytes ++ f.body;
-  held = if completes f.part then [] else a.held ++ f.mark ∷ [];
-  lost = [];
-  nal = f.nal;
-  next_seq = (f.mark.seq + 1) % sequence_numbers;
-  instant = or_first a.instant f.instant;
-  whole = completes f.part;
-}
-
--- how many bytes the unit has that a packet would make whole, and 0 where it would make none
-abbrev pub size_with : Assembly → Fragment → ℕ
-size_with a f =
-    if not (completes f.part) then 0
-    else if begins f.part then 1 + length f.body
-    else if goes_on_here a f && has_room a f.body then length a.bytes + length f.body
-    else 0

@@ -5,3 +5,4 @@ pub mod Packets
 pub mod Settled
 pub mod StretchRules
 pub mod Stretches
+pub mod state

@@ -2,7 +2,8 @@
 
 ghost use Rattle.std.specs.Prelude.{◌≡◌, ◌+◌, ◌%◌, ◌≤◌, ◌<◌, ◌++◌, ◌∷◌, [], length, slice_get, List, IfOk, IsTrue, IsSome, if◌then◌else◌};
 ghost use Rattle.cvf_format.specs.Stretches.{Event, cut as cut_event, packet, given_up, lost_marks, piece as piece_after, reason, sequence_numbers, whole_unit, completes, goes_on, begins};
-ghost use Rattle.cvf_format.specs.Assembly.{IsPushed, StandsFor, agree, fragment_of, broken, gave_up, goes_on_here, has_room, longest_body, lost_for, or_first, settled, shown_unit, size_with, with_first, with_next};
+ghost use Rattle.cvf_format.specs.Assembly.{StandsFor, fragment_of, longest_body, shown_unit};
+ghost use Rattle.cvf_format.specs.state.Assembly.{IsPushed, agree, broken, gave_up, goes_on_here, has_room, lost_for, or_first, settled, size_with, with_first, with_next};
 
 use crate::cvf::{CvfView, NalPart};
 use crate::piece::{Lost, Mark, Piece, Pushed};

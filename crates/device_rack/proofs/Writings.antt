@@ -8,7 +8,7 @@ use Rattle.avtp_base.specs.declared.failed.Failed.{Failed}
 use Rattle.avtp_base.specs.Told.{Appends, Keeps}
 use Rattle.avtp_base.specs.Faults.{IsCounted}
 use Rattle.avtp_base.specs.States.{SinkState}
-use Rattle.device_rack.specs.Written.{AppendsPrefix, HasWritten}
+use Rattle.device_rack.specs.state.Written.{AppendsPrefix, HasWritten}
 
 -- a sink took the front of the bytes, and then more of them
 pub taken_more : (a b c : Option (List ℕ)) (bytes : List ℕ) (taken n : ℕ)

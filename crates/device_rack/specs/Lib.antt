@@ -3,3 +3,4 @@ pub mod Laws
 pub mod Output
 pub mod Racks
 pub mod Written
+pub mod state

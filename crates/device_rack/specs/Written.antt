@@ -1,9 +1,7 @@
 -- What a device leaves in its sink.
-use Rattle.std.specs.Prelude.{◌≡◌, ℕ, Bool, false, List, ◌++◌, ⊤, Option, None, Some, Result, OnOk, OnErr}
+use Rattle.std.specs.Prelude.{◌≡◌, ℕ, Bool, false, List, ◌++◌, ⊤, Option, None, Some}
 use Rattle.std.specs.List.{last_or}
 use mathlib.Core.List.{IsPrefix}
-use Rattle.avtp_base.specs.declared.failed.Failed.{Failed}
-use Rattle.avtp_base.specs.Faults.{IsCounted}
 use Rattle.avtp_base.specs.States.{SinkState}
 use Rattle.avtp_base.specs.Told.{Appends}
 use Rattle.sample_schedule.specs.Batches.{Presented, sample_instant}
@@ -13,16 +11,6 @@ use Rattle.device_rack.specs.declared.previous.Previous.{Previous}
 use Rattle.device_rack.specs.declared.raw.RawDevice.{RawDevice}
 use Rattle.device_rack.specs.declared.silence.Silence.{Silence}
 use Rattle.device_rack.specs.Output.{annexb, raw, sample_batches, sample_size}
-
--- told bytes grow by a prefix of bs
-abbrev pub AppendsPrefix : Option (List ℕ) → Option (List ℕ) → List ℕ → Type 0
-AppendsPrefix before after bs = (part : List ℕ) × IsPrefix part bs × Appends before after part
-
--- A sink was given bytes: it took all of them at Ok, and a prefix where it failed, and its count rose there alone.
-pub record HasWritten {T : Type 0} (before after : SinkState) (result : Result T Failed) (bytes : List ℕ) : Type 0 where
-  pub whole : OnOk result (Appends before.held after.held bytes)
-  pub part : OnErr result (AppendsPrefix before.held after.held bytes)
-  pub counted : IsCounted before.faults after.faults result
 
 -- what is kept of a batch: its line, the instant behind its last sample, and the bytes of one sample
 pub record IsPrevious (previous : Previous) (batch : Presented) : Type 0 where

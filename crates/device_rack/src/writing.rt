@@ -2,7 +2,7 @@
 
 ghost use Rattle.std.specs.Prelude.{◌++◌, ◌∷◌};
 ghost use Rattle.device_rack.specs.Output.{silence_of};
-ghost use Rattle.device_rack.specs.Written.{HasWritten};
+ghost use Rattle.device_rack.specs.state.Written.{HasWritten};
 
 use crate::silence::Silence;
 use avtp_base::{Failed, Output};

@@ -15,7 +15,8 @@ use Rattle.avtp_base.proofs.HoldLemmas.{held_spells, is_plain, spelled_holds}
 use Rattle.avtp_base.proofs.OnlySpelling.{only_spelling}
 use Rattle.avtp_base.proofs.LayoutLemmas.{Holds, IsLaid, holds_spelled, unset_spelled}
 use Rattle.avtp_header.specs.declared.header.StreamHeader.{StreamHeader}
-use Rattle.avtp_header.specs.Header.{SpellsHeader, filled_layout, header_layout, header_of, header_refusal, kind_refusal, subtype_row, version_row}
+use Rattle.avtp_header.specs.Header.{SpellsHeader, header_layout, header_of, header_refusal, kind_refusal, subtype_row, version_row}
+use Rattle.avtp_header.specs.state.Header.{filled_layout}
 use Rattle.avtp_header.proofs.HeaderLemmas.{header_whole, one_header, version_accepted}
 use Rattle.iec61883_format.specs.declared.iec.Cip.{Cip}
 use Rattle.iec61883_format.specs.Iec.{Iec, IsFdf, IsWritableIec, SpellsIec, audio_format, block_rows, block_size, carrier_rows, cip_layout, cip_of, cip_refusal, cip_tag, data_size, dbs_byte, dbs_of, first_quadlet_rows, iec_layout, iec_of, iec_refusal, iec_spelling, iec_subtype, no_data, plain_iec, second_mark, second_quadlet_rows, stated_block, stated_data}

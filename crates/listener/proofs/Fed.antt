@@ -18,9 +18,11 @@ use Rattle.sample_schedule.specs.declared.shown.Shown.TheVariants.{Present, Flag
 use Rattle.listener.specs.declared.heard.Counts.{Counts}
 use Rattle.listener.specs.declared.heard.Heard.{Heard}
 use Rattle.listener.specs.declared.plan.ListenPlan.{ListenPlan}
-use Rattle.listener.specs.Feeding.{Feeding, HasGiven, HasHeard, Keeps, StandsFor, is_ended, out}
+use Rattle.listener.specs.Feeding.{Feeding, Keeps, StandsFor, is_ended, out}
+use Rattle.listener.specs.state.Feeding.{HasGiven, HasHeard}
 use Rattle.listener.specs.Heard.{counts_of, heard_of, shown_of}
-use Rattle.listener.specs.Listening.{ListenState, StandsFor as RecordsStandFor, is_closed, out as out_of, with_shown, without_shown}
+use Rattle.listener.specs.Listening.{ListenState, StandsFor as RecordsStandFor, is_closed, out as out_of}
+use Rattle.listener.specs.state.Listening.{with_shown, without_shown}
 use Rattle.listener.proofs.Due.{due_none}
 use Rattle.listener.proofs.Listened.{counted_shown, out_ended, out_open, out_same, take_next, out_further, out_at_end}
 use Rattle.sample_schedule.proofs.GivenLemmas.{prefix-more, prefix-all}

@@ -27,7 +27,8 @@ use Rattle.sample_schedule.specs.declared.shown.Reason.TheVariants.{Broken as Br
 use Rattle.sample_schedule.specs.Limits.{IsItem}
 use Rattle.time_unfold.specs.Time.{IsArrival, unfolded}
 use Rattle.packet_journal.specs.Deliveries.{Delivery}
-use Rattle.listener.specs.Gathering.{Cuts, Gathered, Gives, HasUnits, IsSound, IsTimelyEvent, Pushes, Takes, item_entry, left, lost_item, own_item}
+use Rattle.listener.specs.Gathering.{Gathered, HasUnits, item_entry, left, lost_item}
+use Rattle.listener.specs.state.Gathering.{Cuts, Gives, IsSound, IsTimelyEvent, Pushes, Takes, own_item}
 use Rattle.avtp_base.specs.declared.refusal.Refusal.{Refusal}
 use Rattle.avtp_base.proofs.RowLemmas.{unequal}
 use Rattle.sample_schedule.specs.declared.entry.Entry.TheVariants.{Item as OfItem}

@@ -14,7 +14,8 @@ use Rattle.packet_journal.specs.Deliveries.{Delivery}
 use Rattle.listener.specs.Gathering.{Gathered, item_entry, left}
 use Rattle.crf_format.specs.Crf.{crf_subtype}
 use Rattle.listener.specs.Items.{clock_row, entry_of, given_by, made_entry, made_of_one}
-use Rattle.listener.specs.Listening.{Judges, shown_by}
+use Rattle.listener.specs.Listening.{Judges}
+use Rattle.listener.specs.state.Listening.{shown_by}
 use Rattle.listener.proofs.Due.{first_of_more}
 
 get_first : (xs ys : List Shown) (i : ℕ) (x : Shown) → Some x ≡ slice_get xs i → Some x ≡ slice_get (xs ++ ys) i

@@ -22,7 +22,8 @@ use Rattle.listener.specs.declared.plan.ListenPlan.{ListenPlan}
 use Rattle.listener.specs.Heard.{counts_of, deliveries_of, entries_in, entries_so_far_in, is_flag, is_present, schedule_plan, shown_of, due_of}
 use Rattle.listener.specs.Gathering.{Gathered, HasUnits, item_entry, left}
 use Rattle.listener.specs.Items.{entries_so_far, given_by, items_so_far, left_at_end, made_entry}
-use Rattle.listener.specs.Listening.{Judges, ListenState, Rests, StandsFor, entries_by, is_closed, out, shown_by, with_record, with_shown}
+use Rattle.listener.specs.Listening.{Judges, ListenState, StandsFor, entries_by, is_closed, out}
+use Rattle.listener.specs.state.Listening.{Rests, shown_by, with_record, with_shown}
 use Rattle.listener.proofs.Due.{due_first, entries_at_end, due_stays}
 use Rattle.listener.proofs.Few.{deliveries-few, entries-few, few, so-far-few}
 use Rattle.listener.proofs.Judging.{none_in}

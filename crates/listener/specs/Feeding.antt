@@ -1,13 +1,12 @@
 -- A listener that is fed a capture's bytes, in pieces of any length.
-use Rattle.std.specs.Prelude.{◌≡◌, ◌≤◌, ◌+◌, ◌++◌, ℕ, Bool, false, true, List, length, slice_get, take, Option, None, Result, Ok, Err}
-use mathlib.Core.List.{IsPrefix}
+use Rattle.std.specs.Prelude.{◌≡◌, ◌+◌, ◌++◌, ℕ, Bool, false, true, List, length, slice_get, take, Option, None, Result, Ok, Err}
 use Rattle.std.specs.Option.{option_to_list}
-use Rattle.pcap_frames.specs.Capture.{Record, whole_records}
-use Rattle.pcap_frames.specs.Reading.{HasRead, Reading, taken}
+use Rattle.pcap_frames.specs.Capture.{whole_records}
+use Rattle.pcap_frames.specs.Reading.{HasRead, Reading}
 use Rattle.sample_schedule.specs.declared.shown.Shown.{Shown}
 use Rattle.listener.specs.declared.listener.ListenFault.{ListenFault}
 use Rattle.listener.specs.declared.listener.ListenFault.TheVariants.{Refused, Memory}
-use Rattle.listener.specs.Listening.{IsIdle, ListenState, StandsFor as RecordsStandFor, is_closed, out as out_of, work as listener_work}
+use Rattle.listener.specs.Listening.{ListenState, StandsFor as RecordsStandFor, is_closed, out as out_of, work as listener_work}
 
 -- Its reader; the listener of the records that were read; what is due next; and whether no memory was found once.
 pub record Feeding : Type 0 where
@@ -40,11 +39,6 @@ pub record StandsFor (bytes : List ℕ) (given : ℕ) (fed : Feeding) : Type 0 w
   pub stands : RecordsStandFor (whole_records bytes) (given + length (option_to_list fed.next)) fed.listener
   pub next : fed.next ≡ slice_get (out fed bytes) given
 
--- A list has all that was given of these bytes.
-pub record HasGiven (bytes : List ℕ) (list : List Shown) (fed : Feeding) : Type 0 where
-  pub stands : StandsFor bytes (length list) fed
-  pub first : IsPrefix list (out fed bytes)
-
 -- ---- what a piece adds
 
 -- the bytes for which a listener stands that was fed a piece of them and answers this
@@ -58,14 +52,6 @@ is_memory (Ok n) = false
 is_memory (Err (Refused refusal)) = false
 is_memory (Err Memory) = true
 
--- ---- between two calls
-
--- The reader has taken these bytes, each record that it gave up was given to the listener, and so many items were shown.
-pub record HasHeard (bytes : List ℕ) (given : ℕ) (reader : Reading) (listener : ListenState) : Type 0 where
-  pub records : List Record
-  pub read : HasRead reader bytes records
-  pub stands : RecordsStandFor records given listener
-
 -- how many items may still be given
 abbrev pub work : Feeding → ℕ
 work fed = listener_work fed.listener + length (option_to_list fed.next)
@@ -77,13 +63,3 @@ pub record Keeps (old new : Feeding) : Type 0 where
   pub plan : new.listener.plan ≡ old.listener.plan
   pub ended : is_ended new ≡ is_ended old
   pub memory : new.out_of_memory ≡ old.out_of_memory
-
--- What holds of every listener: it stands for some bytes, of which each record has at least one; where nothing is due, all was
--- given; and nothing is due once no memory was found.
-pub record IsSound (fed : Feeding) : Type 0 where
-  pub bytes : List ℕ
-  pub given : ℕ
-  pub stands : StandsFor bytes given fed
-  pub counted : fed.reader.refusal ≡ None → fed.listener.counts.frames ≤ taken fed.reader
-  pub idle : IsQuiet fed → IsIdle fed.listener
-  pub spent : fed.out_of_memory ≡ true → IsQuiet fed

@@ -1,24 +1,18 @@
 -- What the units of a stream stand for between two deliveries, and the items that wait to be judged.
-use Rattle.std.specs.Prelude.{◌≡◌, ℕ, ℤ, ⊤, List, [], ◌∷◌, ◌++◌, All, drop, map, Option, Some, None, IfSome}
+use Rattle.std.specs.Prelude.{ℕ, List, ◌++◌, drop, map, Option}
 use Rattle.std.specs.Option.{option_to_list}
 use Rattle.cvf_format.specs.Assembly.{Assembly, StandsFor}
-use Rattle.cvf_format.specs.Cvf.{Cvf}
 use Rattle.cvf_format.specs.declared.piece.Lost.{Lost as LostFor}
-use Rattle.cvf_format.specs.declared.piece.Lost.TheVariants.{Broken}
 use Rattle.cvf_format.specs.declared.piece.Mark.{Mark}
-use Rattle.cvf_format.specs.declared.piece.Piece.{Piece}
-use Rattle.cvf_format.specs.declared.piece.Piece.TheVariants.{Whole, Held, Lost}
-use Rattle.cvf_format.specs.Stretches.{Event, cut, packet, piece, reason, whole_unit}
+use Rattle.cvf_format.specs.Stretches.{reason}
 use Rattle.sample_schedule.specs.declared.entry.Entry.{Entry}
 use Rattle.sample_schedule.specs.declared.entry.Entry.TheVariants.{Item as OfItem}
 use Rattle.sample_schedule.specs.declared.item.Item.{Item}
-use Rattle.sample_schedule.specs.declared.item.Item.TheVariants.{Unit as OfUnit, Bad as OfBad}
+use Rattle.sample_schedule.specs.declared.item.Item.TheVariants.{Bad as OfBad}
 use Rattle.sample_schedule.specs.declared.shown.Reason.{Reason}
-use Rattle.sample_schedule.specs.Limits.{IsItem}
-use Rattle.time_unfold.specs.Time.{IsArrival, unfolded}
 use Rattle.packet_journal.specs.Deliveries.{Delivery}
-use Rattle.listener.specs.Items.{given_by, lost_for, made_entry}
-use Rattle.listener.specs.Units.{events, fragment_in, mark_of}
+use Rattle.listener.specs.Items.{lost_for}
+use Rattle.listener.specs.Units.{events}
 
 -- The assembly of units; why the last fragments were given up, and how many of them were taken; and the last delivery's own item.
 pub record Gathered : Type 0 where
@@ -41,57 +35,3 @@ left u = map (lost_item (lost_for u.why)) (drop u.taken u.assembly.lost) ++ opti
 -- the units were given these deliveries
 pub record HasUnits (ds : List Delivery) (u : Gathered) : Type 0 where
   pub assembly : StandsFor u.assembly (events ds)
-
--- ---- what a delivery does
-
--- No unit goes on over it, and this is its own item.
-pub record Cuts (item : Item) (old new : Gathered) : Type 0 where
-  pub stands : (es : List Event) → StandsFor old.assembly es → StandsFor new.assembly (es ++ cut ∷ [])
-  pub why : new.why ≡ Broken
-  pub taken : new.taken ≡ 0
-  pub own : new.own ≡ Some item
-
--- The same, and its first item was answered; the others wait.
-pub record CutsFirst (item : Item) (old new : Gathered) (answer : Option Item) : Type 0 where
-  pub between : Gathered
-  pub cuts : Cuts item old between
-  pub first : left between ≡ option_to_list answer ++ left new
-  pub stands : (ds : List Delivery) → HasUnits ds between → HasUnits ds new
-
--- what a delivery leaves
-pub record Gives (ds : List Delivery) (d : Delivery) (new : Gathered) : Type 0 where
-  pub has : HasUnits (ds ++ d ∷ []) new
-  pub gives : map item_entry (left new) ≡ map made_entry (given_by ds d)
-
--- the item of a packet that makes these bytes a unit, or waits, or is lost
-abbrev pub own_item : Delivery → ℤ → List ℕ → Piece → Option Item
-own_item d instant unit Whole = Some (OfUnit (record { frame = d.frame; arrival = d.arrival; seq = d.seq; instant = instant; bytes = unit }))
-own_item d instant unit Held = None
-own_item d instant unit (Lost why) = Some (lost_item (lost_for why) (mark_of d))
-
--- It is a packet that begins a unit, or goes on with one, or is lost.
-pub record Pushes (d : Delivery) (v : Cvf) (old new : Gathered) : Type 0 where
-  pub stands : (es : List Event) → StandsFor old.assembly es → StandsFor new.assembly (es ++ packet (fragment_in d v) ∷ [])
-  pub why : (es : List Event) → StandsFor old.assembly es → new.why ≡ reason (es ++ packet (fragment_in d v) ∷ [])
-  pub taken : new.taken ≡ 0
-  pub own : (es : List Event) → StandsFor old.assembly es
-      → new.own ≡ own_item d (unfolded v.header.timestamp d.arrival) (whole_unit (es ++ packet (fragment_in d v) ∷ [])) (piece (es ++ packet (fragment_in d v) ∷ []))
-
--- a packet that has a flaw is in no unit
-abbrev pub Takes : Option Reason → Delivery → Cvf → Gathered → Gathered → Type 0
-Takes None d v old new = Pushes d v old new
-Takes (Some reason) d v old new = Cuts (lost_item reason (mark_of d)) old new
-
--- ---- between two calls
-
--- a packet came at a time that a schedule takes
-abbrev pub IsTimelyEvent : Event → Type 0
-IsTimelyEvent cut = ⊤
-IsTimelyEvent (packet f) = IsArrival f.mark.arrival
-
--- What holds of the units: they stand for some events, and all that they give can be judged.
-pub record IsSound (u : Gathered) : Type 0 where
-  pub events : List Event
-  pub stands : StandsFor u.assembly events
-  pub arrivals : All IsTimelyEvent events
-  pub own : IfSome u.own IsItem

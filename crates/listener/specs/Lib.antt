@@ -1,4 +1,3 @@
-pub mod Views
 pub mod Units
 pub mod Items
 pub mod Heard
@@ -7,3 +6,4 @@ pub mod Listening
 pub mod Feeding
 pub mod Laws
 pub mod Headline
+pub mod state

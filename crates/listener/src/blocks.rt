@@ -2,7 +2,7 @@
 
 ghost use Rattle.std.specs.Prelude.{◌≡◌, IfOk};
 ghost use Rattle.iec61883_format.specs.Iec.{iec_shape, syt_interval as syt_interval_of};
-ghost use Rattle.listener.specs.Views.{delivery_shape};
+ghost use Rattle.listener.specs.state.Views.{delivery_shape};
 ghost use Rattle.listener.specs.Items.{block_rule as block_rule_of, blocks_of as blocks_of_packet};
 
 use crate::delivery::DeliveryView;

@@ -5,7 +5,7 @@ ghost use Rattle.std.specs.List.{list_any};
 ghost use Rattle.pcap_frames.specs.Reading.{shown};
 ghost use Rattle.avtp_header.specs.declared.header.Peeked.{Peeked as PeekedFields};
 ghost use Rattle.packet_journal.specs.Deliveries.{clock_kinds, delivery, is_delivered, is_wanted, stream_kinds};
-ghost use Rattle.listener.specs.Views.{delivery_shape, is_of_clock as is_of_clock_by};
+ghost use Rattle.listener.specs.state.Views.{delivery_shape, is_of_clock as is_of_clock_by};
 
 use crate::plan::ListenPlan;
 use avtp_header::{ETHERTYPE, Peeked, peek, subtype};

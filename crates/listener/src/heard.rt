@@ -1,7 +1,7 @@
 //! What a listener shows of a capture.
 
 ghost use Rattle.std.specs.Prelude.{◌≡◌, ◌<◌, ◌≤◌, ◌+◌, ◌^◌};
-ghost use Rattle.listener.specs.Listening.{with_record as with_record_of, with_shown as with_shown_of, without_shown as without_shown_of};
+ghost use Rattle.listener.specs.state.Listening.{with_record as with_record_of, with_shown as with_shown_of, without_shown as without_shown_of};
 
 use avtp_base::Refusal;
 use sample_schedule::Shown;

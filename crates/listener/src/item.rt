@@ -2,7 +2,7 @@
 
 ghost use Rattle.std.specs.Prelude.{◌≡◌, IfOk};
 ghost use Rattle.aaf_format.specs.Aaf.{aaf_shape};
-ghost use Rattle.listener.specs.Views.{delivery_shape};
+ghost use Rattle.listener.specs.state.Views.{delivery_shape};
 ghost use Rattle.listener.specs.Items.{aaf_item as aaf_item_of, iec_item as iec_item_of, item_of as item_of_delivery, malformed as malformed_of, samples_of as samples_of_packet};
 
 use crate::blocks::blocks_of;

@@ -8,7 +8,8 @@ ghost use Rattle.pcap_frames.specs.Capture.{first_refusal, whole_records};
 ghost use Rattle.pcap_frames.specs.Layout.{certain};
 ghost use Rattle.pcap_frames.specs.Reading.{IsNext, Passes, held as held_by, taken};
 ghost use Rattle.sample_schedule.specs.Limits.{IsPlan};
-ghost use Rattle.listener.specs.Feeding.{HasHeard, IsQuiet, IsReady, Keeps, StandsFor, bytes_after, is_ended, is_memory, out, work};
+ghost use Rattle.listener.specs.Feeding.{IsQuiet, IsReady, Keeps, StandsFor, bytes_after, is_ended, is_memory, out, work};
+ghost use Rattle.listener.specs.state.Feeding.{HasHeard};
 ghost use Rattle.listener.specs.Heard.{counts_of, schedule_plan};
 ghost use Rattle.listener.specs.Listening.{IsIdle, is_closed};
 ghost use Rattle.listener.specs.declared.listener.ListenFault.TheVariants.{Refused as IsRefused, Memory as OutOfMemory};
@@ -48,7 +49,8 @@ pub struct Listener {
 }
 
 impl Model for Listener {
-    ghost use Rattle.listener.specs.Feeding.{Feeding, IsSound};
+    ghost use Rattle.listener.specs.Feeding.{Feeding};
+    ghost use Rattle.listener.specs.state.Feeding.{IsSound};
 
     ghost Value = { Feeding };
 

@@ -12,8 +12,9 @@ ghost use Rattle.packet_journal.specs.Deliveries.{Delivery};
 ghost use Rattle.listener.specs.Gathering.{HasUnits, left};
 ghost use Rattle.listener.specs.Heard.{schedule_plan};
 ghost use Rattle.listener.specs.Items.{given_by, made_entry};
-ghost use Rattle.listener.specs.Listening.{Closes, IsIdle, Judges, JudgesNext, Keeps, StandsFor, is_closed, out, shown_by, work};
-ghost use Rattle.listener.specs.Views.{delivery_shape};
+ghost use Rattle.listener.specs.Listening.{IsIdle, Judges, Keeps, StandsFor, is_closed, out, work};
+ghost use Rattle.listener.specs.state.Listening.{Closes, JudgesNext, shown_by};
+ghost use Rattle.listener.specs.state.Views.{delivery_shape};
 
 use crate::clock::clock_points;
 use crate::delivery::{DeliveryView, delivery_of};
@@ -49,7 +50,8 @@ pub struct RecordListener {
 
 impl Model for RecordListener {
     ghost use Rattle.std.specs.Prelude.{◌≡◌, true};
-    ghost use Rattle.listener.specs.Listening.{IsSound, ListenState, Rests};
+    ghost use Rattle.listener.specs.Listening.{ListenState};
+    ghost use Rattle.listener.specs.state.Listening.{IsSound, Rests};
 
     ghost Value = { ListenState };
 

@@ -9,10 +9,11 @@ ghost use Rattle.crf_format.specs.Crf.{crf_subtype};
 ghost use Rattle.packet_journal.specs.Deliveries.{Delivery};
 ghost use Rattle.sample_schedule.specs.Limits.{IsItem};
 ghost use Rattle.time_unfold.specs.Time.{IsArrival, Unfolds, unfolded};
-ghost use Rattle.listener.specs.Gathering.{Cuts, CutsFirst, Gives, HasUnits, Pushes, Takes, item_entry, left, lost_item as lost_item_of, own_item as own_item_of};
+ghost use Rattle.listener.specs.Gathering.{HasUnits, item_entry, left, lost_item as lost_item_of};
+ghost use Rattle.listener.specs.state.Gathering.{Cuts, CutsFirst, Gives, Pushes, Takes, own_item as own_item_of};
 ghost use Rattle.listener.specs.Items.{given_by, left_at_end, lost_for as lost_reason, made_entry};
 ghost use Rattle.listener.specs.Units.{flaw_in, flaw_of, fragment_in, mark_of as mark_of_delivery};
-ghost use Rattle.listener.specs.Views.{delivery_shape};
+ghost use Rattle.listener.specs.state.Views.{delivery_shape};
 
 use crate::delivery::DeliveryView;
 use crate::item::{item_of, malformed};
@@ -39,7 +40,8 @@ pub struct Units {
 
 impl Model for Units {
     ghost use Rattle.std.specs.Prelude.{◌≡◌, ◌≤◌, length};
-    ghost use Rattle.listener.specs.Gathering.{Gathered, IsSound};
+    ghost use Rattle.listener.specs.Gathering.{Gathered};
+    ghost use Rattle.listener.specs.state.Gathering.{IsSound};
 
     ghost Value = { Gathered };
 

@@ -3,7 +3,7 @@ use Rattle.std.proofs.Common.{◌≡◌, ℕ, ◌*◌, ◌%◌, ◌^◌, pos, Op
 use Rattle.std.specs.Prelude.{IfSome, unwrap_or}
 use Rattle.avtp_base.specs.Layout.{Fits}
 use Rattle.avtp_base.proofs.BitLemmas.{flag-below}
-use Rattle.avtp_header.specs.Header.{filled_layout}
+use Rattle.avtp_header.specs.state.Header.{filled_layout}
 use Rattle.iec61883_format.specs.Iec.{IsWritableIec}
 use Rattle.iec61883_format.proofs.IecLemmas.{cip_fits, fits_whole}
 use Rattle.stream_journal.specs.Conforming.{Conforms}

@@ -8,7 +8,8 @@ use Rattle.pcap_frames.specs.declared.style.Order.{Order}
 use Rattle.pcap_frames.specs.declared.style.Style.{Style}
 use Rattle.pcap_frames.specs.Layout.{number_at, file_refusal, record_refusal}
 use Rattle.pcap_frames.specs.Capture.{Record, Spells, SpellsAll, IsCapture, Holds, record_of}
-use Rattle.pcap_frames.specs.Reading.{Reading, HasRead, Follows, StandsFor, IsPart, IsReading, held, held_by, ending, ending_by}
+use Rattle.pcap_frames.specs.Reading.{Reading, HasRead, Follows, StandsFor, IsPart, IsReading, held, held_by}
+use Rattle.pcap_frames.specs.state.Reading.{ending, ending_by}
 use Rattle.pcap_frames.proofs.Fields.{file_whole, record_whole, nothing_held, record_begins}
 use Rattle.pcap_frames.proofs.Steps.{reading}
 

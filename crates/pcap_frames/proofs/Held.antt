@@ -6,7 +6,8 @@ use Rattle.pcap_frames.specs.declared.style.Order.{Order}
 use Rattle.pcap_frames.specs.declared.style.Style.{Style}
 use Rattle.pcap_frames.specs.Layout.{number_at, certain, file_refusal, record_refusal}
 use Rattle.pcap_frames.specs.Capture.{Record, IsRefused, Holds, style_of, record_of, whole_records, first_refusal}
-use Rattle.pcap_frames.specs.Reading.{Reading, HasRead, GoesOn, IsPart, IsReading, held, held_by, ending, ending_by}
+use Rattle.pcap_frames.specs.Reading.{Reading, HasRead, GoesOn, IsPart, IsReading, held, held_by}
+use Rattle.pcap_frames.specs.state.Reading.{ending, ending_by}
 use Rattle.pcap_frames.proofs.Append.{number_stays, file_stays, record_stays, style_at_stays}
 use Rattle.pcap_frames.proofs.Fields.{file_whole, record_whole, record_limit}
 use Rattle.pcap_frames.proofs.Steps.{reading}

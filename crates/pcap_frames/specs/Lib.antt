@@ -3,3 +3,4 @@ pub mod Capture
 pub mod Reading
 pub mod Frame
 pub mod Pieces
+pub mod state

@@ -1,5 +1,5 @@
 -- What a reader stands for.
-use Rattle.std.specs.Prelude.{◌≡◌, ℕ, ◌+◌, ◌<◌, ◌≤◌, false, cond, ◌⊎◌, List, [], ◌∷◌, ◌++◌, length, take, Result, IfOk, IfErr, IsSome, OnOk, OnErr, Option, Some, None, is_none, option_to_list}
+use Rattle.std.specs.Prelude.{◌≡◌, ℕ, ◌+◌, ◌<◌, ◌≤◌, false, cond, ◌⊎◌, List, [], ◌++◌, length, IsSome, Option, Some, None, is_none, option_to_list}
 use Rattle.avtp_base.specs.declared.refusal.Refusal.{Refusal}
 use Rattle.pcap_frames.specs.declared.style.Order.{Order}
 use Rattle.pcap_frames.specs.declared.style.RecordView.{RecordView}
@@ -77,27 +77,6 @@ pub record HasRead (r : Reading) (bytes : List ℕ) (records : List Record) : Ty
 -- whatever the reader had read before, it has read these bytes too now, and no record was given up
 abbrev pub GoesOn : Reading → List ℕ → Reading → Type 0
 GoesOn old more new = (bytes : List ℕ) (records : List Record) → HasRead old bytes records → HasRead new (bytes ++ more) records
-
--- What a step of feeding does with a piece: it takes bytes from its front and goes on, or it is refused, and then stands
--- for the whole piece.
-pub record Feeds (old : Reading) (piece : List ℕ) (result : Result ℕ Refusal) (new : Reading) : Type 0 where
-  pub within : IfOk result (λ n. n ≤ length piece)
-  pub counted : IfOk result (λ n. taken new ≡ taken old + n)
-  pub bounded : taken new ≤ taken old + length piece
-  pub read : IfOk result (λ n. GoesOn old (take n piece) new)
-  pub accepted : OnOk result (new.refusal ≡ None)
-  pub refused : IfErr result (λ refusal. new.refusal ≡ Some refusal)
-  pub stopped : OnErr result (GoesOn old piece new)
-
-abbrev pub ending_by : Option Refusal → Option Style → ℕ → List ℕ → Option Refusal
-ending_by (Some refusal) style start part = Some refusal
-ending_by None None start part = file_refusal part
-ending_by None (Some style) start [] = None
-ending_by None (Some style) start (b ∷ part) = record_refusal style.order start (b ∷ part)
-
--- the first refusal, where the capture ends with the bytes that were taken
-abbrev pub ending : Reading → Option Refusal
-ending r = ending_by r.refusal r.style r.start r.part
 
 -- ---- a record that is lent
 

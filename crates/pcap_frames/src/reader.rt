@@ -4,7 +4,8 @@ ghost use Rattle.std.specs.Option.{option_map, option_to_list};
 ghost use Rattle.pcap_frames.specs.Layout.{certain, IsRecordTime};
 ghost use Rattle.pcap_frames.specs.Capture.{Record, Holds, first_refusal, style_of, whole_records};
 ghost use Rattle.std.specs.Result.{result_err};
-ghost use Rattle.pcap_frames.specs.Reading.{Feeds, GoesOn, HasRead, IsNext, Passes, ending, held, nothing_read, shown, taken, with_part};
+ghost use Rattle.pcap_frames.specs.Reading.{GoesOn, HasRead, IsNext, Passes, held, nothing_read, shown, taken, with_part};
+ghost use Rattle.pcap_frames.specs.state.Reading.{Feeds, ending};
 ghost use Rattle.std.specs.Prelude.{ℕ, List, Err, IfSome, IsSome, ◌⊎◌, ◌↔◌, is_some, ◌≡◌, ◌+◌, ◌-◌, ◌<◌, ◌≤◌, ◌^◌, ◌++◌, length, take, min, None, Some, IfOk, IfErr, OnOk, OnErr, [], vec_capacity};
 
 use crate::layout::{self, FILE_HEADER, RECORD_HEADER, RECORD_LIMIT};

@@ -12,12 +12,14 @@ use Rattle.pcap_frames.proofs.Append.{number_stays}
 use Rattle.pcapng_frames.specs.declared.block.Kind.{Kind}
 use Rattle.pcapng_frames.specs.declared.block.Kind.TheVariants as kind
 use Rattle.pcapng_frames.specs.declared.interface.Interface.{Interface}
-use Rattle.pcapng_frames.specs.Fields.{first_refused, packet_arrival, head_size, kind_of, order_of_magic, refusal_at}
+use Rattle.pcapng_frames.specs.Fields.{first_refused, packet_arrival, kind_of, order_of_magic, refusal_at}
+use Rattle.pcapng_frames.specs.state.Fields.{head_size}
 use Rattle.pcapng_frames.specs.Blocks.{Place, kind_at, order_at, kind_rows, block_rows, block_refused, is_misplaced, order_or_little, record_by, after_block, after_any, in_block, size_of_any, block_size, ends_at, cut_block, cut_short, ends, short_at, refusal_here, size_here, next_place, packet_by}
 use Rattle.pcap_frames.specs.Capture.{Record}
 use Rattle.pcapng_frames.specs.declared.block.Stage.{Stage}
 use Rattle.pcapng_frames.specs.declared.block.Stage.TheVariants as stage
-use Rattle.pcapng_frames.specs.Reading.{block_need, head_need, contents_past}
+use Rattle.pcapng_frames.specs.Reading.{contents_past}
+use Rattle.pcapng_frames.specs.state.Reading.{block_need, head_need}
 use Rattle.pcapng_frames.proofs.Choices.{by_place, long_enough}
 use Rattle.pcapng_frames.proofs.Moves.{moves, stops}
 use Rattle.pcapng_frames.proofs.Heads.{head_known, packet_known}

@@ -12,7 +12,8 @@ use Rattle.pcapng_frames.specs.declared.block.Stage.TheVariants as stage
 use Rattle.pcapng_frames.specs.declared.interface.Interface.{Interface}
 use Rattle.pcap_frames.specs.declared.style.Order.{Order}
 use Rattle.pcapng_frames.specs.Blocks.{Place, Contents, refusal_here, refusal_by, order_or_little, block_refused, option_refused, trailer_refused, ends, after_any, size_of_any, and_then, after_trailer}
-use Rattle.pcapng_frames.specs.Reading.{Reading, HasRead, passed_by, held_by, after_all, Takes, HasEntered, IsReading, IsWhole, IsPart, IsAhead, IsFree, IsUnpacked, HasHead, is_inside, place_of, packet_of, part_at, need_by, block_need, option_need, contents_past, contents_at, rest_of, rest_by}
+use Rattle.pcapng_frames.specs.Reading.{Reading, HasRead, passed_by, held_by, after_all, contents_past, contents_at, rest_of, rest_by}
+use Rattle.pcapng_frames.specs.state.Reading.{Takes, HasEntered, IsReading, IsWhole, IsPart, IsAhead, IsFree, IsUnpacked, HasHead, is_inside, place_of, packet_of, part_at, need_by, block_need, option_need}
 use Rattle.pcapng_frames.proofs.Moves.{reading, going, gathered, past_none}
 use Rattle.pcapng_frames.proofs.Options.{at_option_place, at_trailer_place, trailer_moves}
 use Rattle.pcapng_frames.proofs.Blocks.{at_block, block_moves, block_stops}

@@ -8,7 +8,7 @@ use Rattle.pcapng_frames.specs.declared.block.Kind.TheVariants as kind
 use Rattle.pcapng_frames.specs.declared.interface.Interface.{Interface}
 use Rattle.pcapng_frames.specs.Fields.{first_refused}
 use Rattle.pcapng_frames.specs.Blocks.{kind_at, order_at, kind_rows, block_rows, block_refused, order_or_little}
-use Rattle.pcapng_frames.specs.Reading.{block_need, head_need}
+use Rattle.pcapng_frames.specs.state.Reading.{block_need, head_need}
 
 -- nothing in a block is refused by the rows of its kind
 kind_rows_accepted : (k : Kind) (order : Option Order) (interfaces : List Interface) (start : ℕ) (bytes : List ℕ) → 4 ≤ length bytes → first_refused start (length bytes) (block_rows k order interfaces bytes) ≡ None

@@ -6,11 +6,12 @@ use Rattle.avtp_base.specs.declared.field.Field.TheVariants.{BlockBody}
 use Rattle.avtp_base.specs.declared.refusal.Refusal.{Refusal}
 use Rattle.pcap_frames.specs.Capture.{Record}
 use Rattle.pcapng_frames.specs.Blocks.{Place, block_refused, contents, size_here, refusal_here, refused_or, and_then, next_place, packet_by, cut_short, ends, short_at, first_place}
-use Rattle.pcapng_frames.specs.Reading.{contents_at, contents_past, Reading, Takes, GoesOn, HasRead, rest_of, after_all, nothing_read}
+use Rattle.pcapng_frames.specs.Reading.{contents_at, contents_past, Reading, GoesOn, HasRead, rest_of, after_all, nothing_read}
+use Rattle.pcapng_frames.specs.state.Reading.{Takes}
 use Rattle.pcapng_frames.specs.declared.block.Cursor.{Cursor}
 use Rattle.pcapng_frames.specs.declared.block.Stage.TheVariants as stage
 use Rattle.pcapng_frames.specs.declared.interface.Interface.{Interface}
-use Rattle.pcapng_frames.specs.Reading.{IsPart, place_of, block_need}
+use Rattle.pcapng_frames.specs.state.Reading.{IsPart, place_of, block_need}
 use Rattle.pcapng_frames.proofs.Places.{unroll}
 
 -- what comes after more bytes than were passed

@@ -11,7 +11,7 @@ use Rattle.pcapng_frames.specs.declared.block.Kind.TheVariants as kind
 use Rattle.pcapng_frames.specs.declared.interface.Interface.{Interface}
 use Rattle.pcapng_frames.specs.Fields.{first_refused, padded}
 use Rattle.pcapng_frames.specs.Blocks.{kind_at, order_at, kind_rows, block_refused, block_size, size_of_any, order_or_little}
-use Rattle.pcapng_frames.specs.Reading.{block_need, head_need, option_need, value_need}
+use Rattle.pcapng_frames.specs.state.Reading.{block_need, head_need, option_need, value_need}
 use Rattle.pcapng_frames.proofs.Blocks.{kind_stays}
 use Rattle.pcapng_frames.proofs.Options.{need_of_four, need_whole}
 use Rattle.pcapng_frames.proofs.Heads.{kind_accepted}

@@ -5,13 +5,13 @@ use Rattle.pcap_frames.specs.declared.style.Order.{Order}
 use Rattle.pcap_frames.specs.Layout.{number_at}
 use Rattle.pcapng_frames.specs.declared.block.PacketHead.{PacketHead}
 use Rattle.pcapng_frames.specs.Blocks.{record_by}
-use Rattle.pcapng_frames.specs.Reading.{packet_of}
+use Rattle.pcapng_frames.specs.state.Reading.{packet_of}
 use Rattle.std.proofs.Math.Nat.{one-le-pow, div-eq_of_eq-mul_left, mul_assoc, mul-div-mul_right, div-le_self}
 use Rattle.std.proofs.lemmas.Nat.{pow-add}
 use Rattle.std.proofs.lemmas.List.Elements.{All-get_or}
 use Rattle.pcapng_frames.specs.declared.interface.Interface.{Interface}
 use Rattle.pcapng_frames.specs.Interface.{is_resolution}
-use Rattle.pcapng_frames.specs.Fields.{AllResolved}
+use Rattle.pcapng_frames.specs.state.Fields.{AllResolved}
 
 -- a power is not zero
 pub power_some : (a k : ℕ) → 1 ≤ a → 1 ≤ a ^ k

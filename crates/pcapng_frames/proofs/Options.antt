@@ -17,7 +17,8 @@ use Rattle.pcapng_frames.specs.Fields.{first_refused, padded, option_code, optio
 use Rattle.pcapng_frames.specs.Interface.{is_resolution}
 use Rattle.avtp_base.specs.declared.field.Field.{Field}
 use Rattle.pcapng_frames.specs.Blocks.{Place, order_or_little, described, size_of_option, size_here, next_place, next_by, refusal_here, option_refused, trailer_refused, refused_or, and_then, packet_by, cut_short, ends, short_at, after_trailer}
-use Rattle.pcapng_frames.specs.Reading.{IsResolved, option_need, value_need, contents_past, contents_at}
+use Rattle.pcapng_frames.specs.Reading.{contents_past, contents_at}
+use Rattle.pcapng_frames.specs.state.Reading.{IsResolved, option_need, value_need}
 use Rattle.pcapng_frames.proofs.Choices.{by_place, long_enough}
 use Rattle.pcapng_frames.proofs.Places.{unroll}
 use Rattle.pcapng_frames.proofs.Moves.{moves, stops, past_none}

@@ -16,7 +16,7 @@ use Rattle.pcapng_frames.specs.declared.block.WholePacket.{WholePacket}
 use Rattle.pcapng_frames.specs.declared.interface.Interface.{Interface}
 use Rattle.pcapng_frames.specs.Fields.{first_refused, packet_arrival, packet_rows}
 use Rattle.pcapng_frames.specs.Blocks.{Place, after_any, after_block, block_refused, block_rows, block_size, in_block, kind_at, order_at, order_or_little, size_of_any, trailer_refused}
-use Rattle.pcapng_frames.specs.Reading.{IsPacket, IsWholePacket, Takes, block_need, head_need, part_at, place_of}
+use Rattle.pcapng_frames.specs.state.Reading.{IsPacket, IsWholePacket, Takes, block_need, head_need, part_at, place_of}
 use Rattle.pcapng_frames.proofs.Choices.{long_enough}
 use Rattle.pcapng_frames.proofs.Blocks.{kind_stays}
 use Rattle.pcapng_frames.proofs.Feeding.{block_ends, holds_more}

@@ -16,7 +16,8 @@ use Rattle.pcapng_frames.specs.declared.interface.Interface.{Interface}
 use Rattle.pcapng_frames.specs.declared.block.Stage.{Stage}
 use Rattle.pcapng_frames.specs.declared.block.Stage.TheVariants as stage
 use Rattle.pcapng_frames.specs.Blocks.{Place, Contents, Ending, short_at, is_interface, kind_at, contents, settled, whole_records, first_refusal, refusal_of, refusal_here, size_here, refused_or, and_then, packet_by, next_place, cut_short, cut_by, ends_at, ends, after_trailer, order_or_little}
-use Rattle.pcapng_frames.specs.Reading.{Reading, HasRead, IsReading, IsPart, IsAhead, contents_at, contents_past, rest_of, after_all, refused_after, lacks_by, held_by, HasHead, packet_of, place_of}
+use Rattle.pcapng_frames.specs.Reading.{Reading, HasRead, contents_at, contents_past, rest_of, after_all, refused_after, held_by}
+use Rattle.pcapng_frames.specs.state.Reading.{IsReading, IsPart, IsAhead, lacks_by, HasHead, packet_of, place_of}
 use Rattle.pcapng_frames.proofs.Places.{unroll, size_some}
 use Rattle.pcapng_frames.proofs.Moves.{reading}
 use Rattle.pcapng_frames.proofs.Blocks.{at_block, size_at_block}

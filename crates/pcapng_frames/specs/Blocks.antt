@@ -148,13 +148,6 @@ in_block p order interfaces interface total left packet = record {
   packet = packet;
 }
 
--- the interfaces of the section after a block's front: a section header begins a section
-abbrev pub interfaces_after : Kind → List Interface → List Interface
-interfaces_after kind.Section interfaces = []
-interfaces_after kind.Interface interfaces = interfaces
-interfaces_after kind.Packet interfaces = interfaces
-interfaces_after kind.Other interfaces = interfaces
-
 abbrev pub after_block : Kind → Place → ℕ → List ℕ → Place
 after_block kind.Section p total bytes = in_block p (Some (order_at kind.Section p.order bytes)) [] None total 0 None
 after_block kind.Interface p total bytes = in_block p p.order p.interfaces (Some microseconds) total (total - 20) None

@@ -1,7 +1,6 @@
 -- The fields of a pcapng capture's blocks, where they stand, and which values are refused (draft-ietf-opsawg-pcapng,
 -- sections 3 and 4).
-use Rattle.std.specs.Prelude.{◌≡◌, ℕ, ℤ, true, ◌+◌, ◌*◌, ◌/◌, ◌%◌, ◌^◌, Bool, not, ◌&&◌, ◌||◌, nat_lt, nat_le, nat_eq, false, if◌then◌else◌, List, [], ◌∷◌, length, slice_index, slice_index_or, Option, Some, None, is_none}
-use Rattle.std.specs.List.{All}
+use Rattle.std.specs.Prelude.{ℕ, ℤ, ◌+◌, ◌*◌, ◌/◌, ◌%◌, ◌^◌, Bool, not, ◌&&◌, ◌||◌, nat_lt, nat_le, nat_eq, false, if◌then◌else◌, List, [], ◌∷◌, length, slice_index, slice_index_or, Option, Some, None, is_none}
 use Rattle.std.specs.Int.{cast_signed, w64}
 use Rattle.avtp_base.specs.declared.field.Field.{Field}
 use Rattle.avtp_base.specs.declared.field.Field.TheVariants.{BlockLength, SectionVersion, Interfaces, LinkType, InterfaceId, TimestampRange, CapturedLength, OptionLength, IfTsresol, IfTsoffset}
@@ -25,13 +24,6 @@ kind_of n =
 -- the byte order that a section's magic number, read as little-endian, tells
 abbrev pub order_of_magic : ℕ → Option Order
 order_of_magic n = if nat_eq n 0x1A2B3C4D then Some Little else if nat_eq n 0x4D3C2B1A then Some Big else None
-
--- how many bytes at the front of a block are its fixed fields, as far as they are read
-abbrev pub head_size : Kind → ℕ
-head_size kind.Section = 16
-head_size kind.Interface = 16
-head_size kind.Packet = 28
-head_size kind.Other = 8
 
 -- the least total length of a block
 abbrev pub least_size : Kind → ℕ
@@ -95,10 +87,6 @@ timestamp order bytes = number_at order 12 4 bytes * 2 ^ 32 + number_at order 16
 abbrev pub interface_at : List Interface → ℕ → Interface
 interface_at interfaces id = slice_index_or interfaces id microseconds
 
--- the resolutions of all the interfaces are such as are read
-abbrev pub AllResolved : List Interface → Type 0
-AllResolved interfaces = All (λ (i : Interface). is_resolution i.resolution ≡ true) interfaces
-
 -- the arrival of a packet, where its timestamp is in range
 unfoldable pub packet_arrival : Order → List Interface → List ℕ → Option ℤ
 packet_arrival order interfaces bytes = arrival_of (interface_at interfaces (number_at order 8 4 bytes)) (timestamp order bytes)
@@ -117,16 +105,6 @@ packet_rows order interfaces bytes =
 -- a block that is passed unread
 abbrev pub other_rows : Order → List ℕ → List Row
 other_rows order bytes = row BlockLength 4 8 (bad_length kind.Other (number_at order 4 4 bytes)) ∷ []
-
--- the codes of options that are read, and the code that ends the options
-abbrev pub end_of_options : ℕ
-end_of_options = 0
-
-abbrev pub if_tsresol : ℕ
-if_tsresol = 9
-
-abbrev pub if_tsoffset : ℕ
-if_tsoffset = 14
 
 -- The option that the bytes begin with: its code, the length of its value, and which lengths and values are refused,
 -- where so many bytes are left before the block's trailer.

@@ -2,3 +2,4 @@ pub mod Interface
 pub mod Fields
 pub mod Blocks
 pub mod Reading
+pub mod state

@@ -1,22 +1,12 @@
 -- What a reader stands for.
-use Rattle.std.specs.Prelude.{◌≡◌, ℕ, suc, ◌+◌, ◌-◌, ◌<◌, ◌≤◌, ◌^◌, ◌%◌, pos, ⊤, Bool, true, false, is_some, IfSome, nat_lt, nat_eq, if◌then◌else◌, List, [], ◌++◌, length, take, drop, Result, IfOk, IfErr, OnOk, OnErr, Option, Some, None}
+use Rattle.std.specs.Prelude.{◌≡◌, ℕ, suc, ◌+◌, ◌-◌, Bool, true, false, nat_lt, if◌then◌else◌, List, [], ◌++◌, length, drop, Option, Some, None}
 use Rattle.avtp_base.specs.declared.field.Field.TheVariants.{BlockBody}
 use Rattle.avtp_base.specs.declared.refusal.Refusal.{Refusal}
 use Rattle.pcap_frames.specs.Capture.{Record}
-use Rattle.pcap_frames.specs.declared.style.Order.{Order}
 use Rattle.pcap_frames.specs.declared.style.RecordView.{RecordView}
-use Rattle.pcap_frames.specs.Layout.{number_at}
-use Rattle.pcapng_frames.specs.declared.interface.Interface.{Interface}
-use Rattle.pcapng_frames.specs.declared.block.Kind.{Kind}
-use Rattle.pcapng_frames.specs.declared.block.Kind.TheVariants as kind
 use Rattle.pcapng_frames.specs.declared.block.Stage.{Stage}
 use Rattle.pcapng_frames.specs.declared.block.Stage.TheVariants as stage
-use Rattle.pcapng_frames.specs.declared.block.Cursor.{Cursor}
-use Rattle.pcapng_frames.specs.declared.block.PacketHead.{PacketHead}
-use Rattle.pcapng_frames.specs.declared.block.WholePacket.{WholePacket}
-use Rattle.pcapng_frames.specs.Interface.{is_resolution}
-use Rattle.pcapng_frames.specs.Fields.{first_refused, option_code, packet_arrival, packet_rows}
-use Rattle.pcapng_frames.specs.Blocks.{kind_at, order_or_little, refusal_here, ends_at, cut_by, Place, Contents, contents, contents_from, ends, and_then, first_place, after_trailer, short_at}
+use Rattle.pcapng_frames.specs.Blocks.{Place, Contents, contents, contents_from, ends, and_then, first_place, after_trailer, short_at}
 
 -- A reader: the place that it has come to; how many bytes are to be passed before it; the bytes of it that came;
 -- whether the block's packet is whole; and the refusal.
@@ -62,10 +52,6 @@ pub record HasRead (r : Reading) (bytes : List ℕ) (records : List Record) : Ty
 abbrev pub GoesOn : Reading → List ℕ → Reading → Type 0
 GoesOn old more new = (bytes : List ℕ) (records : List Record) → HasRead old bytes records → HasRead new (bytes ++ more) records
 
--- The reader stands for the same as before, less these bytes.
-pub record Takes (old : Reading) (bytes : List ℕ) (new : Reading) : Type 0 where
-  pub same : (more : List ℕ) → rest_of old (bytes ++ more) ≡ rest_of new more
-
 -- the packet that the reader holds
 abbrev pub held_by : Option Refusal → Bool → Option Record → Option Record
 held_by (Some refusal) whole packet = None
@@ -74,28 +60,6 @@ held_by None false packet = None
 
 abbrev pub held : Reading → Option Record
 held r = held_by r.refusal r.whole r.place.packet
-
--- How many bytes of a place are taken before more is known of it: of a block its first 8 bytes, then its fixed fields, then
--- the bytes of a packet; of an option its header, and then the value, where it is read.
-abbrev pub head_need : Kind → Order → List ℕ → ℕ
-head_need kind.Section order part = 16
-head_need kind.Interface order part = 16
-head_need kind.Packet order part = if nat_lt (length part) 28 then 28 else 28 + number_at order 20 4 part
-head_need kind.Other order part = 8
-
-unfoldable pub block_need : Option Order → List ℕ → ℕ
-block_need order part = if nat_lt (length part) 8 then 8 else head_need (kind_at order part) (order_or_little order) part
-
-abbrev pub value_need : ℕ → ℕ
-value_need code = if nat_eq code 9 then 8 else if nat_eq code 14 then 12 else 4
-
-unfoldable pub option_need : Order → List ℕ → ℕ
-option_need order part = if nat_lt (length part) 4 then 4 else value_need (option_code order part)
-
-abbrev pub need_by : Stage → Option Order → List ℕ → ℕ
-need_by stage.Block order part = block_need order part
-need_by stage.Option order part = option_need (order_or_little order) part
-need_by stage.Trailer order part = 4
 
 -- how many bytes of a block come before an option or a trailer, less those that are still to be passed
 abbrev pub passed_by : Stage → ℕ → ℕ → ℕ → ℕ
@@ -110,150 +74,10 @@ taken_by next p skip part = p.start + passed_by next skip p.left p.total + lengt
 abbrev pub taken : Reading → ℕ
 taken r = taken_by r.place.stage r.place r.skip r.part
 
--- What is still to come of a block, by how many bytes are passed, how many bytes of options are left, and its total length:
--- nothing is known of a block that begins, and the rest ends with the trailer.
-abbrev pub IsAhead : Stage → ℕ → ℕ → ℕ → Type 0
-IsAhead stage.Block skip left total = skip ≡ 0
-IsAhead stage.Option skip left total = (0 < left) × (left % 4 ≡ 0) × (skip + left + 4 ≤ total)
-IsAhead stage.Trailer skip left total = skip + 4 ≤ total
-
--- a block that begins has no packet yet
-abbrev pub IsFree : Stage → Option Record → Option Interface → Type 0
-IsFree stage.Block packet interface = (packet ≡ None) × (interface ≡ None)
-IsFree stage.Option packet interface = packet ≡ None
-IsFree stage.Trailer packet interface = ⊤
-
--- What has come of a place: nothing in it is refused, and more is needed to go on.
-pub record IsPart (p : Place) (skip : ℕ) (part : List ℕ) : Type 0 where
-  pub accepted : refusal_here p part ≡ None
-  pub partial : length part < need_by p.stage p.order part
-  pub ahead : IsAhead p.stage skip p.left p.total
-  pub room : IfSome p.interface (λ i. length p.interfaces < 256)
-  pub free : IsFree p.stage p.packet p.interface
-
--- The trailer of a packet was taken.
-pub record IsWhole (p : Place) (skip : ℕ) (part : List ℕ) : Type 0 where
-  pub at_trailer : p.stage ≡ stage.Trailer
-  pub passed : skip ≡ 0
-  pub trailer : length part ≡ 4
-  pub total : 4 ≤ p.total
-  pub some : is_some p.packet ≡ true
-  pub room : IfSome p.interface (λ i. length p.interfaces < 256)
-
--- what a reader keeps true of itself
-abbrev pub IsReading : Option Refusal → Bool → Place → ℕ → List ℕ → Type 0
-IsReading (Some refusal) whole p skip part = ⊤
-IsReading None true p skip part = IsWhole p skip part
-IsReading None false p skip part = IsPart p skip part
-
--- What a step of feeding does with a piece: it takes bytes from its front and goes on, or it is refused, and then stands
--- for the whole piece.
-pub record Feeds (old : Reading) (piece : List ℕ) (result : Result ℕ Refusal) (new : Reading) : Type 0 where
-  pub within : IfOk result (λ n. n ≤ length piece)
-  pub counted : IfOk result (λ n. taken new ≡ taken old + n)
-  pub bounded : taken new ≤ taken old + length piece
-  pub takes : IfOk result (λ n. Takes old (take n piece) new)
-  pub accepted : OnOk result (new.refusal ≡ None)
-  pub refused : IfErr result (λ refusal. new.refusal ≡ Some refusal)
-  pub stopped : OnErr result (Takes old piece new)
-
--- the bytes that came of a place: of a block, or of an option or a trailer
-abbrev pub part_at : Stage → List ℕ → List ℕ → List ℕ
-part_at stage.Block part tail = part
-part_at stage.Option part tail = tail
-part_at stage.Trailer part tail = tail
-
--- the packet whose head was read, with its bytes
-abbrev pub packet_with : PacketHead → List ℕ → Record
-packet_with head part = record { arrival = pos head.arrival; orig_len = head.orig_len; bytes = drop 28 part }
-
-abbrev pub packet_of : Option PacketHead → List ℕ → Option Record
-packet_of None part = None
-packet_of (Some head) part = Some (packet_with head part)
-
--- the place of a cursor, in a section with these interfaces, where these bytes of the block are held
-abbrev pub place_of : Cursor → List Interface → List ℕ → Place
-place_of c interfaces part = record {
-  stage = c.stage;
-  order = c.order;
-  interfaces = interfaces;
-  interface = c.interface;
-  start = c.start;
-  total = c.total;
-  left = c.left;
-  packet = packet_of c.packet part;
-}
-
 -- what a packet shows, apart from where it lies in memory
 abbrev pub shown : RecordView → Record
 shown view = record { arrival = view.arrival; orig_len = view.orig_len; bytes = view.bytes.now }
 
--- the fixed fields of the packet came, in a section
-abbrev pub HasHead : Option Order → Option PacketHead → List ℕ → Type 0
-HasHead order None part = ⊤
-HasHead order (Some head) part = (28 ≤ length part) × (head.arrival ≤ 2 ^ 62) × (is_some order ≡ true)
-
--- the interfaces that are read count in resolutions that are read
-abbrev pub IsResolved : Option Interface → Type 0
-IsResolved None = ⊤
-IsResolved (Some interface) = is_resolution interface.resolution ≡ true
-
--- an option or a trailer, and not a block
-abbrev pub is_inside : Stage → Bool
-is_inside stage.Block = false
-is_inside stage.Option = true
-is_inside stage.Trailer = true
-
--- before an option there is no packet
-abbrev pub IsUnpacked : Stage → Option PacketHead → Type 0
-IsUnpacked stage.Block packet = ⊤
-IsUnpacked stage.Option packet = packet ≡ None
-IsUnpacked stage.Trailer packet = ⊤
-
--- A cursor has entered a block, or gone on in it: it stands before an option or the trailer, these bytes of the block's front
--- are held, and so many of its bytes have come.
-pub record HasEntered (c : Cursor) (front : List ℕ) (count : ℕ) : Type 0 where
-  pub head : HasHead c.order c.packet front
-  pub resolved : IsResolved c.interface
-  pub ahead : IsAhead c.stage c.skip c.left c.total
-  pub inside : is_inside c.stage ≡ true
-  pub unpacked : IsUnpacked c.stage c.packet
-  pub passed : passed_by c.stage c.skip c.left c.total ≡ count
-
--- A reader takes bytes of a piece: it is not refused, and holds no packet.
-pub record CanFeed (r : Reading) (piece : List ℕ) : Type 0 where
-  pub accepted : r.refusal ≡ None
-  pub partial : r.whole ≡ false
-  pub more : 0 < length piece
-  pub bounded : taken r + length piece ≤ 2 ^ 62
-
 -- the refusal comes after these packets
 abbrev pub refused_after : List Record → Refusal → Contents
 refused_after records refusal = record { records = records; ending = Some (record { refusal = refusal; cut = false }) }
-
--- what the bytes of a reader lack, where the capture ends with them
-abbrev pub lacks_by : Bool → Place → List ℕ → Option Refusal
-lacks_by true p part = None
-lacks_by false p part = if ends_at p.stage p.order p.start (length part) then None else Some (cut_by p.stage p part).refusal
-
-abbrev pub lacks : Reading → Option Refusal
-lacks r = lacks_by r.whole r.place r.part
-
--- The bytes begin with an enhanced packet whose fixed fields stand there, and none is refused.
-pub record IsPacket (order : Option Order) (interfaces : List Interface) (bytes : List ℕ) (packet : WholePacket) : Type 0 where
-  pub opened : is_some order ≡ true
-  pub kind : kind_at order bytes ≡ kind.Packet
-  pub accepted : (start : ℕ) → first_refused start (length bytes) (packet_rows (order_or_little order) interfaces bytes) ≡ None
-  pub total : number_at (order_or_little order) 4 4 bytes ≡ packet.total
-  pub captured : number_at (order_or_little order) 20 4 bytes ≡ packet.captured
-  pub arrival : packet_arrival (order_or_little order) interfaces bytes ≡ Some (pos packet.head.arrival)
-  pub orig_len : number_at (order_or_little order) 24 4 bytes ≡ packet.head.orig_len
-
--- The whole block of a packet stands in the bytes, and nothing in it is refused.
-pub record IsWholePacket (order : Option Order) (interfaces : List Interface) (bytes : List ℕ) (packet : WholePacket) : Type 0 where
-  pub front : IsPacket order interfaces bytes packet
-  pub limit : packet.head.arrival ≤ 2 ^ 62
-  pub held : packet.captured ≤ 262144
-  pub room : 32 + packet.captured ≤ packet.total
-  pub within : packet.total ≤ length bytes
-  pub trailer : number_at (order_or_little order) 0 4 (drop (packet.total - 4) bytes) ≡ packet.total

@@ -4,8 +4,10 @@ ghost use Rattle.std.specs.Prelude.{◌≡◌, ◌+◌, ◌<◌, ◌≤◌, ◌^
 ghost use Rattle.std.specs.Int.{cast_signed, w64};
 ghost use Rattle.std.specs.Option.{option_map};
 ghost use Rattle.pcap_frames.specs.Layout.{number_at, IsRecordTime};
-ghost use Rattle.pcapng_frames.specs.Reading.{packet_with, shown};
-ghost use Rattle.pcapng_frames.specs.Fields.{AllResolved, kind_of as kind_of_type, order_of_magic as order_of_number, packet_arrival as arrival_in, padded as padded_length, timestamp as timestamp_in};
+ghost use Rattle.pcapng_frames.specs.Reading.{shown};
+ghost use Rattle.pcapng_frames.specs.state.Reading.{packet_with};
+ghost use Rattle.pcapng_frames.specs.Fields.{kind_of as kind_of_type, order_of_magic as order_of_number, packet_arrival as arrival_in, padded as padded_length, timestamp as timestamp_in};
+ghost use Rattle.pcapng_frames.specs.state.Fields.{AllResolved};
 ghost use Rattle.pcapng_frames.specs.Blocks.{kind_at as kind_in, order_at as order_in, order_or_little as order_or};
 ghost use Rattle.pcapng_frames.specs.declared.block.Kind.TheVariants as kind;
 

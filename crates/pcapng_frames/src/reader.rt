@@ -7,9 +7,10 @@ ghost use Rattle.pcap_frames.specs.Capture.{Record};
 ghost use Rattle.pcap_frames.specs.Layout.{IsRecordTime};
 ghost use Rattle.pcapng_frames.specs.declared.block.Stage.TheVariants as stage;
 ghost use Rattle.pcapng_frames.specs.Interface.{is_resolution, microseconds};
-ghost use Rattle.pcapng_frames.specs.Fields.{AllResolved};
+ghost use Rattle.pcapng_frames.specs.state.Fields.{AllResolved};
 ghost use Rattle.pcapng_frames.specs.Blocks.{contents, whole_records, first_refusal, settled, after_trailer};
-ghost use Rattle.pcapng_frames.specs.Reading.{CanFeed, Reading, lacks, refused_after, Takes, Feeds, GoesOn, HasRead, IsWholePacket, held, need_by, nothing_read, rest_of, shown, taken};
+ghost use Rattle.pcapng_frames.specs.Reading.{Reading, refused_after, GoesOn, HasRead, held, nothing_read, rest_of, shown, taken};
+ghost use Rattle.pcapng_frames.specs.state.Reading.{CanFeed, lacks, Takes, Feeds, IsWholePacket, need_by};
 
 use crate::block::{Cursor, Kind, Stage, WholePacket};
 use crate::interface::Interface;
@@ -44,8 +45,9 @@ pub struct Ng {
 
 impl Model for Ng {
     ghost use Rattle.std.specs.Prelude.{◌≡◌, ◌≤◌, ◌+◌, ◌^◌, length, vec_capacity, true};
-    ghost use Rattle.pcapng_frames.specs.Fields.{AllResolved};
-    ghost use Rattle.pcapng_frames.specs.Reading.{HasHead, Reading, IsReading, IsResolved, packet_of, part_at, place_of, taken_by};
+    ghost use Rattle.pcapng_frames.specs.state.Fields.{AllResolved};
+    ghost use Rattle.pcapng_frames.specs.Reading.{Reading, taken_by};
+    ghost use Rattle.pcapng_frames.specs.state.Reading.{HasHead, IsReading, IsResolved, packet_of, part_at, place_of};
 
     ghost Value = { Reading };
 

@@ -1,8 +1,9 @@
 //! Which fields of blocks are refused, row by row (draft-ietf-opsawg-pcapng, sections 3 and 4).
 
 ghost use Rattle.std.specs.Prelude.{false, [], ◌≡◌, ◌<◌, ◌^◌, length, Some};
-ghost use Rattle.pcapng_frames.specs.Reading.{lacks_by};
-ghost use Rattle.pcapng_frames.specs.Fields.{AllResolved, bad_length as is_bad_length, first_refused, interface_rows, other_rows, packet_rows, refusal_at, section_rows};
+ghost use Rattle.pcapng_frames.specs.state.Reading.{lacks_by};
+ghost use Rattle.pcapng_frames.specs.Fields.{bad_length as is_bad_length, first_refused, interface_rows, other_rows, packet_rows, refusal_at, section_rows};
+ghost use Rattle.pcapng_frames.specs.state.Fields.{AllResolved};
 ghost use Rattle.pcapng_frames.specs.Blocks.{Place, short_at, block_refused as refused_in_block, option_refused as refused_in_option, trailer_refused as refused_in_trailer, is_misplaced, kind_rows, order_at as order_in};
 ghost use Rattle.pcapng_frames.specs.declared.block.Kind.TheVariants as kind;
 ghost use Rattle.pcapng_frames.specs.declared.block.Stage.TheVariants as stage;

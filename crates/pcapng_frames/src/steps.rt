@@ -3,10 +3,13 @@
 ghost use Rattle.std.specs.Prelude.{ℕ, List, [], ◌++◌, true, ◌≡◌, ◌+◌, ◌-◌, ◌<◌, ◌≤◌, ◌^◌, ◌%◌, is_some, vec_capacity, length, pos, IfSome, Some};
 ghost use Rattle.std.specs.Option.{option_to_list};
 ghost use Rattle.pcap_frames.specs.Layout.{number_at};
-ghost use Rattle.pcapng_frames.specs.Reading.{HasEntered, IsAhead, IsResolved, IsWholePacket, passed_by, block_need as need_of_block, option_need as need_of_option, head_need, place_of};
+ghost use Rattle.pcapng_frames.specs.Reading.{passed_by};
+ghost use Rattle.pcapng_frames.specs.state.Reading.{HasEntered, IsAhead, IsResolved, IsWholePacket, block_need as need_of_block, option_need as need_of_option, head_need, place_of};
 ghost use Rattle.pcapng_frames.specs.declared.interface.Interface.{Interface};
-ghost use Rattle.pcapng_frames.specs.Fields.{AllResolved, first_refused, interface_rows, option_code, other_rows, packet_arrival as arrival_in, packet_rows};
-ghost use Rattle.pcapng_frames.specs.Blocks.{after_trailer as trailer_after, block_refused as refused_in_block, option_refused as refused_in_option, next_by, after_any, described as interface_described, interfaces_after, size_of_option, size_of_any, after_block as block_after, block_size, kind_at as kind_in, kind_rows, order_at as order_in, order_or_little as order_or};
+ghost use Rattle.pcapng_frames.specs.Fields.{first_refused, interface_rows, option_code, other_rows, packet_arrival as arrival_in, packet_rows};
+ghost use Rattle.pcapng_frames.specs.state.Fields.{AllResolved};
+ghost use Rattle.pcapng_frames.specs.Blocks.{after_trailer as trailer_after, block_refused as refused_in_block, option_refused as refused_in_option, next_by, after_any, described as interface_described, size_of_option, size_of_any, after_block as block_after, block_size, kind_at as kind_in, kind_rows, order_at as order_in, order_or_little as order_or};
+ghost use Rattle.pcapng_frames.specs.state.Blocks.{interfaces_after};
 ghost use Rattle.pcapng_frames.specs.declared.block.Kind.TheVariants as kind;
 ghost use Rattle.pcapng_frames.specs.declared.block.Stage.TheVariants as stage;
 

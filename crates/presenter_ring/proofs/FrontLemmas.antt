@@ -4,7 +4,8 @@ use Rattle.rtrb.specs.Ring.{sent, SameProducer}
 use Rattle.sample_schedule.specs.declared.shown.Shown.{Shown}
 use Rattle.presenter_ring.specs.declared.front.Front.{Front}
 use Rattle.presenter_ring.specs.declared.receiver.Pull.{Pull}
-use Rattle.presenter_ring.specs.Fronts.{hand_of, ended_of, HasFed}
+use Rattle.presenter_ring.specs.Fronts.{hand_of, ended_of}
+use Rattle.presenter_ring.specs.state.Fronts.{HasFed}
 
 pub SameProducer-then : (a b c : Front) → SameProducer a.producer b.producer → SameProducer b.producer c.producer → SameProducer a.producer c.producer
 SameProducer-then a b c p q = ((cc, cc, cc, cc), cc)

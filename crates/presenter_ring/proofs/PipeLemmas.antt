@@ -7,9 +7,11 @@ use Rattle.presenter_ring.specs.declared.ending.Ending.{Ending}
 use Rattle.presenter_ring.specs.declared.pipe.Pipe.{Pipe}
 use Rattle.presenter_ring.specs.declared.receiver.Pull.{Pull}
 use Rattle.presenter_ring.specs.Pulls.{pull_of}
-use Rattle.presenter_ring.specs.Fronts.{hand_of, HasFed}
-use Rattle.presenter_ring.specs.Backs.{HasPresented}
-use Rattle.presenter_ring.specs.Pipes.{ring_of, waiting_in, ended_with, known_free_of, pushed_by, popped_by, work, HasMoved, IsDrained, IsRound, IsStill, HasStepped, KeepsRing}
+use Rattle.presenter_ring.specs.Fronts.{hand_of}
+use Rattle.presenter_ring.specs.state.Fronts.{HasFed}
+use Rattle.presenter_ring.specs.state.Backs.{HasPresented}
+use Rattle.presenter_ring.specs.Pipes.{ring_of, waiting_in, ended_with, known_free_of, pushed_by, popped_by, work, HasMoved, IsDrained, IsRound}
+use Rattle.presenter_ring.specs.state.Pipes.{IsStill, HasStepped, KeepsRing}
 
 -- what was popped and what is in the ring are what was in it and what was pushed
 in_ring : (received known popped known' sent pushed : List Shown) → received ++ known ≡ sent → (received ++ popped) ++ known' ≡ sent ++ pushed → known ++ pushed ≡ popped ++ known'

@@ -1,7 +1,6 @@
 -- The receiver's side of a ring.
-use Rattle.std.specs.Prelude.{◌≡◌, ℕ, ◌+◌, ◌≤◌, ◌++◌, Bool, cond, false, List, [], ◌∷◌, length, Option, None, IsSome, MatchOption, option_map}
+use Rattle.std.specs.Prelude.{List, Option, option_map}
 use Rattle.std.specs.Option.{option_to_list}
-use Rattle.rtrb.specs.Ring.{sent, known_free, SameProducer}
 use Rattle.sample_schedule.specs.declared.shown.Shown.{Shown}
 use Rattle.presenter_ring.specs.declared.front.Front.{Front}
 use Rattle.presenter_ring.specs.declared.receiver.Pull.{Pull}
@@ -14,52 +13,3 @@ hand_of front = option_to_list front.hand
 -- the answer with which the receiver ended, once it has
 abbrev pub ended_of : Front → Option Pull
 ended_of front = option_map pull_of front.ended
-
--- What the receiver's side did. The meanings of a receiver are the items that it gave, the most items that it can still
--- give, and the answer with which it ended.
-pub record HasFed {R : Type 0} (gave : R → R → List Shown → Type 0) (left : R → ℕ) (ended : R → Option Pull) (receiver receiver' : R) (before after : Front) : Type 0 where
-  pub given : List Shown
-  pub pushed : List Shown
-  pub gives : (begun : R) (items : List Shown) → gave begun receiver items → gave begun receiver' (items ++ given)
-  pub leaves : left receiver' + length given ≤ left receiver
-  pub in_order : hand_of before ++ given ≡ pushed ++ hand_of after
-  pub sends : sent after.producer ≡ sent before.producer ++ pushed
-  pub same_ring : SameProducer before.producer after.producer
-  pub counted : after.given ≡ before.given + length given
-  pub ends : ended_of before ≡ None → ended_of after ≡ ended receiver'
-  pub stays : IsSome (ended_of before) → (ended_of after ≡ ended_of before) × (receiver' ≡ receiver)
-
--- nothing could be pushed: no slot was known to be free for the item in hand, or there is none and the receiver has ended
-abbrev pub IsStuck : Front → Front → Type 0
-IsStuck before after = MatchOption after.hand (IsSome (ended_of after)) (λ shown. known_free before.producer ≡ 0)
-
--- The item in hand was taken, or where there was none the receiver's next one, or it ended.
-pub record Takes {R : Type 0} (gave : R → R → List Shown → Type 0) (left : R → ℕ) (ended : R → Option Pull) (receiver receiver' : R) (before after : Front) (item : Option Shown) : Type 0 where
-  pub given : List Shown
-  pub gives : (begun : R) (items : List Shown) → gave begun receiver items → gave begun receiver' (items ++ given)
-  pub leaves : left receiver' + length given ≤ left receiver
-  pub in_order : hand_of before ++ given ≡ option_to_list item
-  pub producer : after.producer ≡ before.producer
-  pub empty : after.hand ≡ None
-  pub fewer : after.pushes + length (option_to_list item) ≤ after.given
-  pub counted : after.given ≡ before.given + length given
-  pub ends : ended_of before ≡ None → ended_of after ≡ ended receiver'
-  pub stays : IsSome (ended_of before) → (ended_of after ≡ ended_of before) × (receiver' ≡ receiver)
-
--- An item was pushed, or is in hand now, where no slot was known to be free.
-pub record Pushes (shown : Shown) (before after : Front) (pushed : Bool) : Type 0 where
-  pub sends : sent after.producer ≡ sent before.producer ++ cond pushed (shown ∷ []) []
-  pub keeps : hand_of after ≡ cond pushed [] (shown ∷ [])
-  pub full : pushed ≡ false → known_free before.producer ≡ 0
-  pub same_ring : SameProducer before.producer after.producer
-  pub given : after.given ≡ before.given
-  pub ended : after.ended ≡ before.ended
-
--- the same end of the ring, and all else as it was
-pub record KeepsFront (before after : Front) : Type 0 where
-  pub same_ring : SameProducer before.producer after.producer
-  pub sends : sent after.producer ≡ sent before.producer
-  pub hand : after.hand ≡ before.hand
-  pub ended : after.ended ≡ before.ended
-  pub given : after.given ≡ before.given
-  pub pushes : after.pushes ≡ before.pushes

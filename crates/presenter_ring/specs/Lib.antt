@@ -1,4 +1,4 @@
 pub mod Pulls
 pub mod Fronts
-pub mod Backs
 pub mod Pipes
+pub mod state

@@ -4,7 +4,7 @@ use Rattle.rtrb.specs.Ring.{sent, received, known_free, known_items}
 use Rattle.sample_schedule.specs.declared.shown.Shown.{Shown}
 use Rattle.presenter_ring.specs.declared.pipe.Pipe.{Pipe}
 use Rattle.presenter_ring.specs.declared.receiver.Pull.{Pull}
-use Rattle.presenter_ring.specs.Fronts.{hand_of, ended_of, IsStuck}
+use Rattle.presenter_ring.specs.Fronts.{hand_of, ended_of}
 
 -- the items in the ring
 abbrev pub ring_of : Pipe → List Shown
@@ -66,25 +66,6 @@ pub record IsRound {R P : Type 0} (gave : R → R → List Shown → Type 0) (le
   pub moved : HasMoved gave left handed receiver receiver' presenter presenter' before after
   pub through_ring : 0 < known_free_of before → popped_by after ≡ popped_by before ++ moved.presented
   pub steps : (IsDrained after → ⊥) → length (pushed_by before) < length (pushed_by after) + length moved.presented
-
--- nothing was pushed or popped: the ring is empty, and nothing could be pushed
-pub record IsStill (before after : Pipe) : Type 0 where
-  pub none_pushed : pushed_by after ≡ pushed_by before
-  pub none_popped : popped_by after ≡ popped_by before
-  pub empty : ring_of after ≡ []
-  pub stuck : IsStuck before.front after.front
-
--- an item was pushed or popped
-abbrev pub HasStepped : Pipe → Pipe → Type 0
-HasStepped before after = length (pushed_by before) + length (popped_by before) < length (pushed_by after) + length (popped_by after)
-
--- nothing changed but the hand
-pub record KeepsRing (before after : Pipe) : Type 0 where
-  pub producer : after.front.producer ≡ before.front.producer
-  pub back : after.back ≡ before.back
-  pub ended : after.front.ended ≡ before.front.ended
-  pub given : after.front.given ≡ before.front.given
-  pub capacity : after.capacity ≡ before.capacity
 
 -- A pipe whose receiver had not ended has the answer with which it ended now, if it did. Once it has ended, it is not called
 -- again.

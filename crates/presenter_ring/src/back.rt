@@ -22,7 +22,7 @@ impl Back {
     ghost use Rattle.std.specs.Prelude.{◌≡◌, ◌+◌, ◌<◌, ◌^◌, [], length, MatchBool, IfOk, OnErr};
     ghost use Rattle.avtp_base.specs.Faults.{IsCounted};
     ghost use Rattle.rtrb.specs.Ring.{received, known_items};
-    ghost use Rattle.presenter_ring.specs.Backs.{HasPresented, IsOneMore, IsIdle};
+    ghost use Rattle.presenter_ring.specs.state.Backs.{HasPresented, IsOneMore, IsIdle};
 
     /// Pops one item and presents it. Says whether there was one.
     fn present_next<P: Presenter, G: Gate>(

@@ -27,7 +27,8 @@ pub struct Front {
 impl Front {
     ghost use Rattle.std.specs.Prelude.{◌≡◌, ◌+◌, ◌<◌, ◌≤◌, ◌^◌, None, length, IfNone, IsSome, IsTrue, IsFalse};
     ghost use Rattle.rtrb.specs.Ring.{sent};
-    ghost use Rattle.presenter_ring.specs.Fronts.{ended_of, HasFed, IsStuck, Pushes, Takes};
+    ghost use Rattle.presenter_ring.specs.Fronts.{ended_of};
+    ghost use Rattle.presenter_ring.specs.state.Fronts.{HasFed, IsStuck, Pushes, Takes};
 
     /// The item in hand, or where there is none the next one of the receiver, which may end instead.
     #[inline(always)]

@@ -43,9 +43,11 @@ impl Pipe {
     ghost use Rattle.std.specs.Prelude.{◌≡◌, ◌+◌, ◌*◌, ◌<◌, ◌≤◌, ◌^◌, ◌++◌, [], ◌↔◌, List, None, length, IsTrue, IsSome, IfSome, IfOk, OnErr, MatchBool};
     ghost use Rattle.avtp_base.specs.Faults.{IsCounted, Rose};
     ghost use Rattle.sample_schedule.specs.declared.shown.Shown.{Shown as ShownValue};
-    ghost use Rattle.presenter_ring.specs.Backs.{HasPresented};
-    ghost use Rattle.presenter_ring.specs.Fronts.{HasFed, hand_of};
-    ghost use Rattle.presenter_ring.specs.Pipes.{ring_of, waiting_in, ended_with, given_to, capacity_of, known_free_of, pushed_by, popped_by, work, IsRound, IsDrained, IsStill, HasStepped, KeepsRing, EndsWith};
+    ghost use Rattle.presenter_ring.specs.state.Backs.{HasPresented};
+    ghost use Rattle.presenter_ring.specs.Fronts.{hand_of};
+    ghost use Rattle.presenter_ring.specs.state.Fronts.{HasFed};
+    ghost use Rattle.presenter_ring.specs.Pipes.{ring_of, waiting_in, ended_with, given_to, capacity_of, known_free_of, pushed_by, popped_by, work, IsRound, IsDrained, EndsWith};
+    ghost use Rattle.presenter_ring.specs.state.Pipes.{IsStill, HasStepped, KeepsRing};
     ghost use Rattle.presenter_ring.specs.Pulls.{items_of};
 
     /// An empty pipe whose ring has room for 1 to 256 items. `NoMemory` comes where no memory is found for it.

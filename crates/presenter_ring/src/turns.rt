@@ -3,8 +3,9 @@
 ghost use Rattle.std.specs.Prelude.{◌≡◌, ◌+◌, ◌<◌, ◌≤◌, ◌^◌, ◌++◌, None, OnErr, length};
 ghost use Rattle.avtp_base.specs.Faults.{IsCounted};
 ghost use Rattle.rtrb.specs.Ring.{sent, received, known_items, IsPair};
-ghost use Rattle.presenter_ring.specs.Backs.{HasPresented, IsIdle, KeepsBack};
-ghost use Rattle.presenter_ring.specs.Fronts.{ended_of, HasFed, IsStuck, KeepsFront};
+ghost use Rattle.presenter_ring.specs.state.Backs.{HasPresented, IsIdle, KeepsBack};
+ghost use Rattle.presenter_ring.specs.Fronts.{ended_of};
+ghost use Rattle.presenter_ring.specs.state.Fronts.{HasFed, IsStuck, KeepsFront};
 
 use crate::back::Back;
 use crate::front::Front;

@@ -8,7 +8,7 @@ use Rattle.std.proofs.lemmas.List.{append_assoc, append-nil, drop_all, length-ap
 use Rattle.std.proofs.lemmas.List.Folds.{list_any-append}
 use Rattle.std.proofs.Math.Bool.{or-false}
 use Rattle.sample_schedule.specs.declared.sorted_keys.Key.{Key}
-use Rattle.sample_schedule.specs.Keys.{AreBlocks, AreBlocksBut, IsBlockFor, IsPlace, IsStarted, KeysAreInOrder, all_keys, is_key, put_key, starts_before, starts_by}
+use Rattle.sample_schedule.specs.state.Keys.{AreBlocks, AreBlocksBut, IsBlockFor, IsPlace, IsStarted, KeysAreInOrder, all_keys, is_key, put_key, starts_before, starts_by}
 use Rattle.sample_schedule.proofs.OrderLemmas.{le_false, le_true, lt_true, lt_false}
 
 from_le : (x y : ℤ) → int_le x y ≡ true → x ≤ℤ y

@@ -7,7 +7,8 @@ use mathlib.Core.List.{IsPrefix}
 use Rattle.sample_schedule.specs.declared.entry.Entry.{Entry}
 use Rattle.sample_schedule.specs.declared.plan.SchedulePlan.{SchedulePlan}
 use Rattle.sample_schedule.specs.declared.shown.Shown.{Shown}
-use Rattle.sample_schedule.specs.Judge.{HasGiven, JudgeState, Keeps, StandsFor, out, taken}
+use Rattle.sample_schedule.specs.Judge.{JudgeState, Keeps, StandsFor, out, taken}
+use Rattle.sample_schedule.specs.state.Judge.{HasGiven}
 use Rattle.sample_schedule.specs.Schedule.{due, shown, steps}
 use Rattle.sample_schedule.specs.Verdicts.{Clock, IsClockOf}
 use Rattle.sample_schedule.proofs.Growing.{due-first, due-grows}

@@ -18,9 +18,11 @@ use Rattle.sample_schedule.specs.declared.pending.Pending.TheVariants.{Item as P
 use Rattle.sample_schedule.specs.declared.plan.SchedulePlan.{SchedulePlan}
 use Rattle.sample_schedule.specs.declared.shown.Reason.{Reason}
 use Rattle.sample_schedule.specs.declared.shown.Shown.{Shown}
-use Rattle.sample_schedule.specs.Judge.{JudgeState, Keeps, Puts, StandsFor, begun, is_over, now_with, out, pending_arrival, pending_of, taken, work}
+use Rattle.sample_schedule.specs.Judge.{JudgeState, Keeps, StandsFor, begun, is_over, out, pending_of, taken, work}
+use Rattle.sample_schedule.specs.state.Judge.{Puts, now_with, pending_arrival}
 use Rattle.sample_schedule.specs.Noted.{HasNoted}
-use Rattle.sample_schedule.specs.Order.{between, by_instant, due_of, left_of, put_behind, standing, starts_due}
+use Rattle.sample_schedule.specs.Order.{between, by_instant, due_of, left_of, put_behind, standing}
+use Rattle.sample_schedule.specs.state.Order.{starts_due}
 use Rattle.sample_schedule.specs.Schedule.{Given, Presents, Flags, accepted, accepted_by, arrival_of, due, flag_by, given, judged, latest, now_at, prefix_of, present, rest_of, settled, shown, shown_of, steps, waiting}
 use Rattle.sample_schedule.specs.Verdicts.{Clock, IsClockOf, timed, verdict}
 use Rattle.sample_schedule.proofs.Growing.{accepted-stays, steps-stay, steps-upto, take-first}

@@ -10,7 +10,8 @@ use Rattle.std.proofs.lemmas.List.Elements.{All-head, All-push, All-tail}
 use Rattle.circular_buffer.specs.Buffer.{Buffer, buffer, keep_last}
 use Rattle.sample_schedule.specs.declared.accepted.Accepted.{Accepted}
 use Rattle.sample_schedule.specs.declared.pending.Pending.{Pending}
-use Rattle.sample_schedule.specs.Judge.{IsPending, IsSound, JudgeState, Puts, now_with, pending_arrival, taken}
+use Rattle.sample_schedule.specs.Judge.{JudgeState, taken}
+use Rattle.sample_schedule.specs.state.Judge.{IsPending, IsSound, Puts, now_with, pending_arrival}
 use Rattle.sample_schedule.specs.Order.{put_behind}
 use Rattle.sample_schedule.specs.Verdicts.{total_bytes}
 use Rattle.sample_schedule.proofs.LawLemmas.{bytes-put_behind}

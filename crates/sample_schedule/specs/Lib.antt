@@ -12,3 +12,4 @@ pub mod Devices
 pub mod MemoryDevice
 pub mod Keys
 pub mod Waiting
+pub mod state

@@ -1,6 +1,5 @@
 -- What a device in memory shows.
-use Rattle.std.specs.Prelude.{◌≡◌, ℕ, Bool, List, MatchBool}
-use mathlib.Core.List.{IsPrefix}
+use Rattle.std.specs.Prelude.{ℕ, Bool, List}
 use Rattle.sample_schedule.specs.declared.memory_device.MemoryDevice.{MemoryDevice}
 use Rattle.sample_schedule.specs.declared.shown.Shown.{Shown}
 use Rattle.sample_schedule.specs.Devices.{later}
@@ -20,7 +19,3 @@ failing_calls device = later device.calls device.fails.items
 -- the number of faults so far
 abbrev pub fault_count : MemoryDevice → ℕ
 fault_count device = device.faults
-
--- the device has taken these items: it keeps all of them, or, once it found no memory, a prefix of them
-abbrev pub HasTaken : MemoryDevice → List Shown → Type 0
-HasTaken device items = MatchBool (is_cut device) (IsPrefix (kept_items device) items) (kept_items device ≡ items)

@@ -1,5 +1,5 @@
 -- Accepted items, by their first instants.
-use Rattle.std.specs.Prelude.{Bool, false, if◌then◌else◌, ℤ, int_lt, int_le, List, [], ◌∷◌, filter, fold}
+use Rattle.std.specs.Prelude.{false, if◌then◌else◌, ℤ, int_lt, int_le, List, [], ◌∷◌, filter, fold}
 use Rattle.sample_schedule.specs.declared.accepted.Accepted.{Accepted}
 
 -- those whose first instant has not passed
@@ -28,7 +28,3 @@ due_of now (a ∷ rest) = if int_lt a.instant now then a ∷ due_of now rest els
 abbrev pub left_of : ℤ → List Accepted → List Accepted
 left_of now [] = []
 left_of now (a ∷ rest) = if int_lt a.instant now then left_of now rest else a ∷ rest
-
-abbrev pub starts_due : ℤ → List Accepted → Bool
-starts_due now [] = false
-starts_due now (a ∷ rest) = int_lt a.instant now

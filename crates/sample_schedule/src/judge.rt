@@ -7,9 +7,10 @@ ghost use Rattle.sample_schedule.specs.declared.entry.Entry.TheVariants.{Item as
 ghost use Rattle.clock_track.specs.Limits.{IsNotable};
 ghost use Rattle.clock_track.specs.Views.{row_of};
 ghost use Rattle.time_unfold.specs.Time.{IsArrival};
-ghost use Rattle.sample_schedule.specs.Judge.{IsIdle, IsPending, Keeps, Puts, StandsFor, now_with, out, taken, work};
+ghost use Rattle.sample_schedule.specs.Judge.{IsIdle, Keeps, StandsFor, out, taken, work};
+ghost use Rattle.sample_schedule.specs.state.Judge.{IsPending, Puts, now_with};
 ghost use Rattle.sample_schedule.specs.Limits.{IsItem, IsPlan};
-ghost use Rattle.sample_schedule.specs.Order.{starts_due};
+ghost use Rattle.sample_schedule.specs.state.Order.{starts_due};
 ghost use Rattle.sample_schedule.specs.Schedule.{waiting};
 ghost use Rattle.sample_schedule.specs.Verdicts.{Clock, IsClockOf, total_bytes};
 
@@ -51,7 +52,8 @@ pub struct Judge {
 }
 
 impl Model for Judge {
-    ghost use Rattle.sample_schedule.specs.Judge.{IsSound, JudgeState};
+    ghost use Rattle.sample_schedule.specs.Judge.{JudgeState};
+    ghost use Rattle.sample_schedule.specs.state.Judge.{IsSound};
 
     ghost Value = { JudgeState };
 

@@ -57,7 +57,8 @@ impl MemoryDevice {
     ghost use Rattle.std.specs.Prelude.{◌≡◌, [], ◌∷◌, ◌++◌, ◌↔◌, List, false, IfOk, IsTrue, Contains};
     ghost use Rattle.sample_schedule.specs.declared.shown.Shown.{Shown as ShownValue};
     ghost use Rattle.sample_schedule.specs.Devices.{later};
-    ghost use Rattle.sample_schedule.specs.MemoryDevice.{kept_items, is_cut, failing_calls, fault_count, HasTaken};
+    ghost use Rattle.sample_schedule.specs.MemoryDevice.{kept_items, is_cut, failing_calls, fault_count};
+    ghost use Rattle.sample_schedule.specs.state.MemoryDevice.{HasTaken};
 
     /// A device that has taken nothing, and whose calls with these numbers fail. Takes no memory.
     pub fn over(alloc: Global, fails: Vec<u64>) -> Self
@@ -119,7 +120,8 @@ impl MemoryDevice {
 
 impl Device for MemoryDevice {
     ghost use Rattle.std.specs.Prelude.{Some};
-    ghost use Rattle.sample_schedule.specs.MemoryDevice.{failing_calls, fault_count, HasTaken};
+    ghost use Rattle.sample_schedule.specs.MemoryDevice.{failing_calls, fault_count};
+    ghost use Rattle.sample_schedule.specs.state.MemoryDevice.{HasTaken};
 
     ghost took = { HasTaken };
 

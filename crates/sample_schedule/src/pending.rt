@@ -12,7 +12,7 @@ pub enum Pending {
 
 impl Pending {
     ghost use Rattle.std.specs.Prelude.{◌≡◌};
-    ghost use Rattle.sample_schedule.specs.Judge.{pending_arrival};
+    ghost use Rattle.sample_schedule.specs.state.Judge.{pending_arrival};
 
     /// When the entry was captured, in nanoseconds of gPTP.
     pub fn arrival(&self) -> i64

@@ -5,7 +5,7 @@ ghost use Rattle.std.specs.List.{AllByRecursion, list_any};
 ghost use Rattle.std.specs.Option.{option_to_list};
 ghost use Rattle.std.specs.Vec.{vec_capacity, vec_len};
 ghost use Rattle.std.specs.VecDeque.{deque_capacity};
-ghost use Rattle.sample_schedule.specs.Keys.{AreBlocks, AreBlocksBut, AreTaken, IsBlockFor, IsPlace, KeysAreInOrder, all_keys, is_key, put_key, starts_before as starts_before_of, starts_by as starts_by_of};
+ghost use Rattle.sample_schedule.specs.state.Keys.{AreBlocks, AreBlocksBut, AreTaken, IsBlockFor, IsPlace, KeysAreInOrder, all_keys, is_key, put_key, starts_before as starts_before_of, starts_by as starts_by_of};
 
 use avtp_base::NoMemory;
 use std::alloc::Global;
@@ -83,7 +83,7 @@ impl Model for Block {
     ghost use Rattle.std.specs.Prelude.{List, ◌≤◌};
     ghost use Rattle.std.specs.VecDeque.{deque_capacity};
     ghost use Rattle.sample_schedule.specs.declared.sorted_keys.Key.{Key as KeyValue};
-    ghost use Rattle.sample_schedule.specs.Keys.{KeysAreInOrder};
+    ghost use Rattle.sample_schedule.specs.state.Keys.{KeysAreInOrder};
 
     ghost Value = { List KeyValue };
 
@@ -273,7 +273,8 @@ pub struct SortedKeys {
 impl Model for SortedKeys {
     ghost use Rattle.std.specs.Prelude.{◌+◌, length, min, vec_capacity};
     ghost use Rattle.std.specs.VecDeque.{deque_capacity};
-    ghost use Rattle.sample_schedule.specs.Keys.{HaveRoom, KeyList, all_keys, room_of};
+    ghost use Rattle.sample_schedule.specs.Keys.{KeyList};
+    ghost use Rattle.sample_schedule.specs.state.Keys.{HaveRoom, all_keys, room_of};
 
     ghost Value = { KeyList };
 

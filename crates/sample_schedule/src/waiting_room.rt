@@ -3,7 +3,8 @@
 ghost use Rattle.std.specs.Prelude.{◌≡◌, ◌+◌, ◌^◌, ◌<◌, ◌≤◌, ◌<ℤ◌, ◌++◌, [], false, length, IfNone, IfOk, IfSome};
 ghost use Rattle.std.specs.List.{list_any};
 ghost use Rattle.std.specs.Option.{option_to_list};
-ghost use Rattle.sample_schedule.specs.Order.{put_behind as put_behind_of, starts_due};
+ghost use Rattle.sample_schedule.specs.Order.{put_behind as put_behind_of};
+ghost use Rattle.sample_schedule.specs.state.Order.{starts_due};
 ghost use Rattle.sample_schedule.specs.Verdicts.{is_copy as is_copy_of, is_full as is_full_of, total_bytes};
 
 use crate::accepted::Accepted;
@@ -41,7 +42,8 @@ pub struct Waiting {
 
 impl Model for Waiting {
     ghost use Rattle.std.specs.Prelude.{min};
-    ghost use Rattle.sample_schedule.specs.Waiting.{Held, IsWaiting, held};
+    ghost use Rattle.sample_schedule.specs.Waiting.{Held};
+    ghost use Rattle.sample_schedule.specs.state.Waiting.{IsWaiting, held};
 
     ghost Value = { Held };
 

@@ -2,7 +2,8 @@
 
 ghost use Rattle.std.specs.Prelude.{◌≡◌, ◌+◌, ◌^◌, ◌<◌, ◌++◌, ◌∷◌, [], ℕ, false, List, All, IfOk, OnOk};
 ghost use Rattle.sample_schedule.specs.declared.entry.Entry.{Entry as EntryValue};
-ghost use Rattle.sample_schedule.specs.Judge.{HasGiven, IsIdle, Keeps, StandsFor, out, taken};
+ghost use Rattle.sample_schedule.specs.Judge.{IsIdle, Keeps, StandsFor, out, taken};
+ghost use Rattle.sample_schedule.specs.state.Judge.{HasGiven};
 ghost use Rattle.sample_schedule.specs.Limits.{IsEntry, IsPlan};
 ghost use Rattle.sample_schedule.specs.Schedule.{shown};
 ghost use Rattle.sample_schedule.specs.Verdicts.{Clock, IsClockOf};

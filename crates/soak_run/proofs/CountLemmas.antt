@@ -8,7 +8,7 @@ use Rattle.sample_schedule.specs.declared.shown.Shown.TheVariants.{Present, Flag
 use Rattle.listener.specs.Heard.{is_present}
 use Rattle.listener.proofs.Listened.{count_next}
 use Rattle.soak_run.specs.declared.counts.SoakCounts.{SoakCounts}
-use Rattle.soak_run.specs.Counting.{one_more, with_all, with_shown}
+use Rattle.soak_run.specs.state.Counting.{one_more, with_all, with_shown}
 use Rattle.soak_run.specs.Outcomes.{is_full, is_late, is_repeat, is_untimed, outcomes}
 
 -- ---- one item after another

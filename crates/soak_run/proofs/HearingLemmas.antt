@@ -14,7 +14,7 @@ use Rattle.talker.specs.Talking.{Talking}
 use Rattle.soak_run.specs.declared.hearing.Stage.{Stage}
 use Rattle.soak_run.specs.declared.hearing.Stage.TheVariants.{Giving, Showing, Ended, NoMemory}
 use Rattle.soak_run.specs.Captured.{captured}
-use Rattle.soak_run.specs.Hearing.{Shows, closed_at, left_of, pull_at, records_of, shown_by, steps_left}
+use Rattle.soak_run.specs.state.Hearing.{Shows, closed_at, left_of, pull_at, records_of, shown_by, steps_left}
 use Rattle.listener.proofs.Places.{presented-or-flagged}
 
 -- ---- how many items were shown

@@ -19,10 +19,10 @@ use Rattle.soak_run.specs.declared.hearing.Hearing.{Hearing}
 use Rattle.soak_run.specs.declared.hearing.Stage.{Stage}
 use Rattle.soak_run.specs.declared.hearing.Stage.TheVariants.{Giving, Showing, Ended, NoMemory}
 use Rattle.soak_run.specs.Captured.{captured, soak_listener}
-use Rattle.soak_run.specs.Counting.{with_all}
-use Rattle.soak_run.specs.Hearing.{closed_at, left_of, pull_at, records_of}
+use Rattle.soak_run.specs.state.Counting.{with_all}
+use Rattle.soak_run.specs.state.Hearing.{closed_at, left_of, pull_at, records_of}
 use Rattle.soak_run.specs.Outcomes.{outcomes}
-use Rattle.soak_run.specs.Showing.{HasShown}
+use Rattle.soak_run.specs.state.Showing.{HasShown}
 use Rattle.soak_run.proofs.CountLemmas.{counts_all}
 use Rattle.soak_run.proofs.HearingLemmas.{records_few}
 

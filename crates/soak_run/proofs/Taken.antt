@@ -11,7 +11,7 @@ use Rattle.talker.specs.Talking.{Talking}
 use Rattle.talker.proofs.StreamLemmas.{at_number, count_of}
 use Rattle.soak_run.specs.declared.counts.SoakCounts.{SoakCounts}
 use Rattle.soak_run.specs.Captured.{captured, soak_input, soak_listener, soak_records, soak_stream}
-use Rattle.soak_run.specs.Hearing.{IsDeliverable}
+use Rattle.soak_run.specs.state.Hearing.{IsDeliverable}
 use Rattle.soak_run.specs.Outcomes.{outcomes, soak_counts}
 use Rattle.soak_run.proofs.DeliveryLemmas.{IsCopy, are_copies, copy_time}
 use Rattle.soak_run.proofs.StreamSizes.{frames_of_stream}

@@ -1,5 +1,3 @@
 pub mod Captured
 pub mod Outcomes
-pub mod Counting
-pub mod Hearing
-pub mod Showing
+pub mod state

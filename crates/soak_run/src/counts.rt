@@ -1,7 +1,7 @@
 //! What becomes of deliveries, counted.
 
 ghost use Rattle.std.specs.Prelude.{◌≡◌, []};
-ghost use Rattle.soak_run.specs.Counting.{with_flag as with_flag_of, with_shown as with_shown_of};
+ghost use Rattle.soak_run.specs.state.Counting.{with_flag as with_flag_of, with_shown as with_shown_of};
 ghost use Rattle.soak_run.specs.Outcomes.{outcomes};
 
 use avtp_base::Failed;
@@ -82,7 +82,7 @@ impl SoakCounts {
 
 impl Presenter for SoakCounts {
     ghost use Rattle.std.specs.Prelude.{◌≡◌};
-    ghost use Rattle.soak_run.specs.Counting.{with_all};
+    ghost use Rattle.soak_run.specs.state.Counting.{with_all};
 
     ghost handed = { λ begun now items. now ≡ with_all begun items };
 

@@ -4,7 +4,7 @@ ghost use Rattle.std.specs.Prelude.{◌≡◌, ◌≤◌, ◌<◌, ◌^◌, [], 
 ghost use Rattle.listener.specs.Listening.{StandsFor, is_closed};
 ghost use Rattle.talker.specs.Journal.{stream_of};
 ghost use Rattle.soak_run.specs.Captured.{captured, soak_listener};
-ghost use Rattle.soak_run.specs.Hearing.{IsDeliverable, IsReady, Takes, closed_at, records_of, shown_by};
+ghost use Rattle.soak_run.specs.state.Hearing.{IsDeliverable, IsReady, Takes, closed_at, records_of, shown_by};
 
 use avtp_base::NoMemory;
 use listener::{ListenPlan, RecordListener};
@@ -81,8 +81,8 @@ impl<'a> Hearing<'a> {
     ghost use Rattle.sample_schedule.specs.declared.shown.Shown.{Shown as ShownValue};
     ghost use Rattle.listener.specs.Listening.{IsIdle};
     ghost use Rattle.soak_run.specs.declared.hearing.Hearing.{Hearing as HearingValue};
-    ghost use Rattle.soak_run.specs.Hearing.{left_of, pull_at, steps_left};
-    ghost use Rattle.soak_run.specs.Showing.{HasShown};
+    ghost use Rattle.soak_run.specs.state.Hearing.{left_of, pull_at, steps_left};
+    ghost use Rattle.soak_run.specs.state.Showing.{HasShown};
 
     /// The hearing of deliveries of which none was given yet.
     pub fn begin(
@@ -129,8 +129,8 @@ impl<'a> Hearing<'a> {
 }
 
 impl<'a> Receiver for Hearing<'a> {
-    ghost use Rattle.soak_run.specs.Hearing.{left_of, pull_at};
-    ghost use Rattle.soak_run.specs.Showing.{HasShown};
+    ghost use Rattle.soak_run.specs.state.Hearing.{left_of, pull_at};
+    ghost use Rattle.soak_run.specs.state.Showing.{HasShown};
 
     ghost gave = { HasShown };
 

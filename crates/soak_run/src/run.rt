@@ -7,7 +7,7 @@ ghost use Rattle.talker.specs.declared.fault.TalkFault.TheVariants.{Memory};
 ghost use Rattle.talker.specs.Journal.{stream_of};
 ghost use Rattle.talker.specs.Soak.{deliveries_of};
 ghost use Rattle.soak_run.specs.Captured.{captured, soak_capture, soak_listener};
-ghost use Rattle.soak_run.specs.Hearing.{IsDeliverable};
+ghost use Rattle.soak_run.specs.state.Hearing.{IsDeliverable};
 ghost use Rattle.soak_run.specs.Outcomes.{outcomes, soak_counts, total};
 
 use crate::counts::SoakCounts;

@@ -24,7 +24,7 @@ use Rattle.talker.specs.Audio.{am824, silent_quadlets}
 use Rattle.talker.specs.Journal.{audio_times}
 use Rattle.talker.specs.Packets.{am824_kind, dbc_of, iec_packet, stamp_of}
 use Rattle.talker.specs.Plan.{ExpectsBy, FitsBlocks, FitsPacket, IsNearLead, IsAudioPlan, fdf_of, interval_of}
-use Rattle.talker.specs.Talking.{IsAm824}
+use Rattle.talker.specs.state.Talking.{IsAm824}
 use Rattle.talker.proofs.AudioLemmas.{IsFormatOf}
 use Rattle.talker.proofs.DueLemmas.{IsCountedBack, IsFound, IsKindOf}
 use Rattle.talker.proofs.HeaderLemmas.{header_fits, header_is}

@@ -12,8 +12,9 @@ use Rattle.talker.specs.declared.plan.CrfPlan.{CrfPlan}
 use Rattle.talker.specs.declared.plan.TalkPlan.{TalkPlan}
 use Rattle.talker.specs.Beats.{IsBeat}
 use Rattle.talker.specs.declared.clock.ClockStream.{ClockStream}
-use Rattle.talker.specs.Clock.{AreFew, beat_of, clock_packets, first_point, frame_at, points_for, stamped_by}
-use Rattle.talker.specs.Talking.{IsClockStream}
+use Rattle.talker.specs.Clock.{beat_of, clock_packets, first_point, frame_at, points_for, stamped_by}
+use Rattle.talker.specs.state.Clock.{AreFew}
+use Rattle.talker.specs.state.Talking.{IsClockStream}
 use Rattle.talker.specs.Plan.{HasClock, IsClockPlan, IsAudioPlan, spacing_of}
 use Rattle.talker.specs.Timing.{event_of, nominal_instant, nominal_offset, run_of, run_start}
 use Rattle.talker.proofs.BeatLemmas.{is_stamped, stamped_early}

@@ -14,7 +14,8 @@ use Rattle.packet_journal.specs.Packets.{IsClockPacket}
 use Rattle.talker.specs.declared.plan.CrfPlan.{CrfPlan}
 use Rattle.talker.specs.declared.plan.TalkPlan.{TalkPlan}
 use Rattle.talker.specs.Beats.{point_at}
-use Rattle.talker.specs.Clock.{AreFew, beat_of, clock_by, clock_frame_size, clock_mr, clock_packet, clock_packets, clock_point, clock_times, first_point, points_for, points_in, points_size}
+use Rattle.talker.specs.Clock.{beat_of, clock_by, clock_mr, clock_packet, clock_packets, clock_point, clock_times, first_point, points_for, points_in, points_size}
+use Rattle.talker.specs.state.Clock.{AreFew, clock_frame_size}
 use Rattle.talker.specs.Journal.{clock_arrival_by, clock_id, clock_packet_by}
 use Rattle.talker.specs.Frames.{clock_bytes}
 use Rattle.talker.specs.Plan.{IsAudioPlan, spacing_of}

@@ -11,7 +11,8 @@ use Rattle.stream_journal.proofs.Worked.{no_clock-is}
 use Rattle.talker.specs.declared.plan.CrfPlan.{CrfPlan}
 use Rattle.talker.specs.declared.plan.TalkPlan.{TalkPlan}
 use Rattle.talker.specs.Beats.{IsNextStart, pair_from, point_at}
-use Rattle.talker.specs.Clock.{AreFew, beat_of, clock_by, clock_mr, clock_packets, clock_point, clock_times, first_point, frame_at, points_for}
+use Rattle.talker.specs.Clock.{beat_of, clock_by, clock_mr, clock_packets, clock_point, clock_times, first_point, frame_at, points_for}
+use Rattle.talker.specs.state.Clock.{AreFew}
 use Rattle.talker.specs.Plan.{IsAudioPlan, spacing_of}
 use Rattle.talker.specs.Timing.{nominal_offset, run_start}
 use Rattle.talker.proofs.BeatLemmas.{is_period, joined, renewed, steady}

@@ -10,7 +10,7 @@ use Rattle.cvf_format.specs.Cvf.{is_single_type}
 use Rattle.talker.specs.declared.fault.TalkFault.TheVariants.{NalType, Packets, StartCode}
 use Rattle.talker.specs.AccessUnits.{type_in, unit_at}
 use Rattle.talker.specs.Fragments.{access_unit_of, all_packets}
-use Rattle.talker.specs.Listing.{is_long_in}
+use Rattle.talker.specs.state.Listing.{is_long_in}
 use Rattle.talker.specs.Units.{has_long_access_unit, has_other_type, has_start_code, most_packets, units_fault}
 use Rattle.talker.specs.Rows.{first_of, row}
 use Rattle.talker.proofs.LongUnits.{any_at, any_nowhere, any_there, apart, long_is, none_at, not_at}

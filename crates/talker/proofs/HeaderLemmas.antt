@@ -3,7 +3,7 @@ use Rattle.std.proofs.Common.{◌≡◌, ℕ, ◌^◌, ◌%◌, ◌<◌, Option,
 use Rattle.std.specs.Prelude.{is_some, unwrap_or, IfSome}
 use Rattle.avtp_base.specs.Layout.{Fits}
 use Rattle.avtp_base.proofs.BitLemmas.{flag-below}
-use Rattle.avtp_header.specs.Header.{filled_layout}
+use Rattle.avtp_header.specs.state.Header.{filled_layout}
 use Rattle.stream_journal.specs.Journal.{Kind}
 use Rattle.packet_journal.specs.Packets.{IsHeader}
 use Rattle.talker.specs.declared.plan.TalkPlan.{TalkPlan}

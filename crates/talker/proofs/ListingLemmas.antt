@@ -10,8 +10,8 @@ use Rattle.talker.specs.declared.units.NalUnit.{NalUnit}
 use Rattle.talker.specs.declared.units.Units.{Units}
 use Rattle.talker.specs.AccessUnits.{begins, has_slice, may_begin, unit_at}
 use Rattle.talker.specs.Fragments.{packets_for}
-use Rattle.talker.specs.Listing.{IsWalk, is_begun_by, walked}
-use Rattle.talker.specs.Talking.{AreInside, IsInside, first_units, unit_in}
+use Rattle.talker.specs.state.Listing.{IsWalk, is_begun_by, walked}
+use Rattle.talker.specs.state.Talking.{AreInside, IsInside, first_units, unit_in}
 use Rattle.talker.proofs.AccessLemmas.{size_of}
 
 -- the first of what is left of a list, and what is left then

@@ -7,7 +7,7 @@ use Rattle.std.proofs.lemmas.Bool.Decides.{nat_tests}
 use Rattle.cvf_format.specs.AnnexB.{nal_units}
 use Rattle.talker.specs.AccessUnits.{access_unit, begins, begun_before}
 use Rattle.talker.specs.Fragments.{access_unit_of, all_packets, packets_before, place_of}
-use Rattle.talker.specs.Listing.{is_long_in, packets_behind}
+use Rattle.talker.specs.state.Listing.{is_long_in, packets_behind}
 use Rattle.talker.specs.Units.{has_long_access_unit, most_packets}
 use Rattle.talker.proofs.AccessLemmas.{access_rises, before_rises, begun_rises, placed, some_packets, unit_found, unit_known}
 

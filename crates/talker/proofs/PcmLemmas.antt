@@ -27,9 +27,10 @@ use Rattle.talker.specs.Audio.{pcm}
 use Rattle.talker.specs.Frames.{aaf_bytes, ethernet, packet_bytes}
 use Rattle.talker.specs.Journal.{audio_times}
 use Rattle.talker.specs.Clock.{stamped_instant}
-use Rattle.talker.specs.Packets.{aaf_packet, front_of, kind_of, patched, stamp_of}
+use Rattle.talker.specs.Packets.{aaf_packet, kind_of, stamp_of}
+use Rattle.talker.specs.state.Packets.{front_of, patched}
 use Rattle.talker.specs.Plan.{ExpectsBy, IsNearLead, IsAudioPlan, rate_code}
-use Rattle.talker.specs.Talking.{HasHeaders, IsPcm, IsSteady}
+use Rattle.talker.specs.state.Talking.{HasHeaders, IsPcm, IsSteady}
 use Rattle.talker.specs.Timing.{mr_of}
 use Rattle.talker.proofs.AudioLemmas.{IsFormatOf}
 use Rattle.talker.proofs.DueLemmas.{IsCountedBack, IsFound, IsKindOf}

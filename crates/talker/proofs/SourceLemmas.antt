@@ -11,13 +11,14 @@ use Rattle.talker.specs.declared.source.Source.{Source}
 use Rattle.talker.specs.declared.source.Source.TheVariants.{Audio as OfAudio, Video as OfVideo}
 use Rattle.talker.specs.declared.video.VideoStream.{VideoStream}
 use Rattle.talker.specs.Audio.{audio_by}
-use Rattle.talker.specs.Clock.{AreFew}
+use Rattle.talker.specs.state.Clock.{AreFew}
 use Rattle.talker.specs.Faults.{arrives_too_late, fault_of, faults_by}
 use Rattle.talker.specs.Frames.{packet_bytes}
 use Rattle.talker.specs.Journal.{Stream, samples_in, stream_of, video_stream}
 use Rattle.talker.specs.Plan.{IsPlan, IsPlanOf, IsVideoPlan}
 use Rattle.talker.specs.Rows.{first_of, row}
-use Rattle.talker.specs.Talking.{IsAudio, IsSource, IsVideo, audio_of, headers_of, most_input, packets_of, samples_size, stream_in}
+use Rattle.talker.specs.Talking.{most_input}
+use Rattle.talker.specs.state.Talking.{IsAudio, IsSource, IsVideo, audio_of, headers_of, packets_of, samples_size, stream_in}
 use Rattle.talker.specs.Units.{has_long_access_unit, has_other_type, has_start_code, units_fault}
 use Rattle.talker.proofs.AudioLemmas.{timely}
 use Rattle.talker.proofs.SampleLemmas.{samples_whole}

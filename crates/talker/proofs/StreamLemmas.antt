@@ -17,7 +17,8 @@ use Rattle.packet_journal.specs.Delivered.{OfClock, OfStream, Origin, stream_num
 use Rattle.stream_journal.specs.Journal.{Journal}
 use Rattle.packet_journal.specs.Packets.{IsConforming, PacketJournal, PacketView, spelling_of}
 use Rattle.talker.specs.declared.plan.TalkPlan.{TalkPlan}
-use Rattle.talker.specs.Frames.{SentFrame, StaysNearBy, by_arrival, capture_style, clock_bytes, clock_frame_of, ethernet, frame_of, left_of, numbered_clock, numbered_frames, packet_bytes, packet_numbers, record_of}
+use Rattle.talker.specs.Frames.{SentFrame, StaysNearBy, by_arrival, capture_style, clock_bytes, clock_frame_of, ethernet, frame_of, numbered_clock, numbered_frames, packet_bytes, packet_numbers, record_of}
+use Rattle.talker.specs.state.Frames.{left_of}
 use Rattle.talker.specs.Journal.{Stream}
 use Rattle.talker.specs.Plan.{Expects, IsAhead, IsAudioKind}
 use Rattle.talker.proofs.FrameLemmas.{AllLater, NotBefore, all_of, comes_first, each, each_from, in_order, length_sorted, none_of, numbered, sorted_all, stays_first}

@@ -19,11 +19,13 @@ use Rattle.talker.specs.Audio.{Audio, audio_by}
 use Rattle.talker.specs.Clock.{clock_arrival, clock_by, clock_packet, clock_packets}
 use Rattle.crf_format.specs.Crf.{Crf}
 use Rattle.talker.specs.Faults.{arrives_too_late}
-use Rattle.talker.specs.Frames.{SentFrame, capture_style, clock_bytes, clock_frame_of, frame_of, frames, left_of, numbered_clock, record_of, stream_frames}
+use Rattle.talker.specs.Frames.{SentFrame, capture_style, clock_bytes, clock_frame_of, frame_of, frames, numbered_clock, record_of, stream_frames}
+use Rattle.talker.specs.state.Frames.{left_of}
 use Rattle.talker.specs.Journal.{Stream, clock_arrival_by, clock_packet_by, journal, samples_in, stamps_last, stream_by, stream_of, video_stream}
 use Rattle.talker.specs.Packets.{aaf_packet}
 use Rattle.talker.specs.Plan.{FitsBlocks, FitsPacket, IsAudioKind, IsAudioPlan, IsPlan, IsPlanOf, IsVideoPlan, fdf_of, rate_code}
-use Rattle.talker.specs.Talking.{IsAudio, IsClockFirst, IsClockIn, IsClockOf, IsFormat, IsSource, Talking, audio_in, audio_of, gone_on, headers_by, headers_of, input_in, most_input, packets_of, plan_in, samples_size, stream_in as stream_in_source}
+use Rattle.talker.specs.Talking.{Talking, gone_on, most_input}
+use Rattle.talker.specs.state.Talking.{IsAudio, IsClockFirst, IsClockIn, IsClockOf, IsFormat, IsSource, audio_in, audio_of, headers_by, headers_of, input_in, packets_of, plan_in, samples_size, stream_in as stream_in_source}
 use Rattle.talker.specs.Units.{sent_units}
 use Rattle.talker.specs.Timing.{run_of}
 use Rattle.talker.specs.declared.source.Source.{Source}

@@ -10,11 +10,14 @@ use Rattle.talker.specs.declared.clock.ClockStream.{ClockStream}
 use Rattle.talker.specs.declared.plan.TalkPlan.{TalkPlan}
 use Rattle.talker.specs.declared.source.Source.{Source}
 use Rattle.talker.specs.declared.turn.Turn.{Turn}
-use Rattle.talker.specs.Clock.{clock_frame_size}
-use Rattle.talker.specs.Frames.{SentFrame, capture_style, clock_bytes, clock_frame_of, frame_of, frames, left_of, record_of}
+use Rattle.talker.specs.state.Clock.{clock_frame_size}
+use Rattle.talker.specs.Frames.{SentFrame, capture_style, clock_bytes, clock_frame_of, frame_of, frames, record_of}
+use Rattle.talker.specs.state.Frames.{left_of}
 use Rattle.talker.specs.Journal.{Stream, stream_of}
-use Rattle.talker.specs.Talking.{IsClockIn, IsClockOf, IsSource, Talking, plan_in, stream_in}
-use Rattle.talker.specs.Turns.{IsTurn, SendsPacket, frame_by, frame_in, packets_by, turn_frame, turn_of}
+use Rattle.talker.specs.Talking.{Talking}
+use Rattle.talker.specs.state.Talking.{IsClockIn, IsClockOf, IsSource, plan_in, stream_in}
+use Rattle.talker.specs.Turns.{IsTurn, frame_in, turn_of}
+use Rattle.talker.specs.state.Turns.{SendsPacket, frame_by, packets_by, turn_frame}
 use Rattle.talker.proofs.ClockPackets.{clock_size}
 use Rattle.talker.proofs.StreamLemmas.{IsFrameOf, all_frames, at_place, clock_has_spelling, clocks_in, count_all, frames_of, has_spelling, packets_in, rises}
 use Rattle.talker.proofs.TalkLemmas.{IsBeside, IsFirst, IsOf, beside, clock_step, packet_step, source_is}

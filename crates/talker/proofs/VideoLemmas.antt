@@ -2,7 +2,7 @@
 use Rattle.std.proofs.Common.{◌≡◌, inl, inr, ℕ, suc, ◌+◌, ◌-◌, ◌^◌, ◌<◌, ◌≤◌, Bool, true, false, List, [], ◌∷◌, length, Option, Some, None, pos, refl, sym, subst, ◌∙◌, arith}
 use Rattle.avtp_base.specs.Layout.{Fits, Layout}
 use Rattle.avtp_base.proofs.BitLemmas.{bits-below, flag-below}
-use Rattle.avtp_header.specs.Header.{filled_layout}
+use Rattle.avtp_header.specs.state.Header.{filled_layout}
 use Rattle.cvf_format.specs.declared.cvf.NalPart.{NalPart}
 use Rattle.cvf_format.specs.declared.cvf.NalPart.TheVariants.{Single, First, Middle, Last}
 use Rattle.cvf_format.specs.Cvf.{Cvf, cvf_layout, cvf_subtype, ends, header_size, headers_of, layout_of, starts}

@@ -10,7 +10,8 @@ use Rattle.cvf_format.specs.AnnexB.{is_start_code, nal_units, places, unit_behin
 use Rattle.talker.specs.declared.units.NalUnit.{NalUnit}
 use Rattle.talker.specs.declared.video.VideoStream.{VideoStream}
 use Rattle.talker.specs.Fragments.{place_of}
-use Rattle.talker.specs.Talking.{IsCarried, IsVideo, most_input, place_in, unit_in}
+use Rattle.talker.specs.Talking.{most_input}
+use Rattle.talker.specs.state.Talking.{IsCarried, IsVideo, place_in, unit_in}
 use Rattle.talker.proofs.AccessLemmas.{access_few, before_rises, placed, unit_known}
 
 -- unit i of the list

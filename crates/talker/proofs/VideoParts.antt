@@ -17,7 +17,7 @@ use Rattle.talker.specs.AccessUnits.{nal_in, unit_at}
 use Rattle.talker.specs.Fragments.{Place, access_unit_of, all_packets, body_at, body_by, ends_access_unit, packets_for, part_at, part_by, place_of, rest_in}
 use Rattle.talker.specs.Frames.{packet_bytes}
 use Rattle.talker.specs.Packets.{header_of}
-use Rattle.talker.specs.Talking.{IsVideo, place_in, unit_in, video_packet}
+use Rattle.talker.specs.state.Talking.{IsVideo, place_in, unit_in, video_packet}
 use Rattle.talker.specs.Video.{access_instant, cvf_packet, stamp_by, video_due}
 use Rattle.talker.proofs.FaultLemmas.{types_are}
 use Rattle.talker.proofs.SizeLemmas.{bytes_size, cvf_length}

@@ -1,5 +1,5 @@
 -- The media clock of a plan: its points, its packets, and the timestamps of the stream on it.
-use Rattle.std.specs.Prelude.{ℕ, ◌+◌, ◌-◌, ◌*◌, ◌/◌, ◌%◌, ◌^◌, ◌<◌, ◌≤◌, min, Bool, true, false, List, map, flat_map, Option, Some, None}
+use Rattle.std.specs.Prelude.{ℕ, ◌-◌, ◌*◌, ◌/◌, ◌%◌, min, Bool, true, false, List, map, flat_map, Option, Some, None}
 use Rattle.std.specs.Int.{div_ceil}
 use Rattle.std.specs.List.{range_with_len}
 use Rattle.byteorder.specs.Endian.{big_bytes}
@@ -53,10 +53,6 @@ points_for crf plan packets = div_ceil (packets * plan.count) (spacing_of crf pl
 abbrev pub run_points : CrfPlan → TalkPlan → ℕ → ℕ
 run_points crf plan packets = packets * plan.count / spacing_of crf plan.rate
 
--- the sample frames of so many packets can be counted: the longest input has no more
-abbrev pub AreFew : TalkPlan → ℕ → Type 0
-AreFew plan packets = (n : ℕ) → n < packets → n * plan.count ≤ 2 ^ 28
-
 -- ---- the packets
 
 -- how many packets they fill, the last one maybe in part
@@ -99,10 +95,6 @@ clock_packet crf plan packets m = record {
 -- when packet m is sent: the plan's lead before its first point
 abbrev pub clock_arrival : CrfPlan → TalkPlan → ℕ → ℕ
 clock_arrival crf plan m = clock_point crf plan (first_point crf m) - plan.lead
-
--- the length of packet m's frame: Ethernet's header with its tag, that of the packet, and 8 bytes for each point
-abbrev pub clock_frame_size : CrfPlan → TalkPlan → ℕ → ℕ → ℕ
-clock_frame_size crf plan packets m = 38 + 8 * points_size crf plan packets m
 
 -- ---- its journal
 

@@ -1,5 +1,5 @@
 -- The frames of a plan, and the capture that they make.
-use Rattle.std.specs.Prelude.{ℕ, ◌-◌, Bool, true, false, if◌then◌else◌, ℤ, pos, int_le, ◌≤ℤ◌, List, [], ◌∷◌, ◌++◌, length, map, slice_get, Some, ⊤}
+use Rattle.std.specs.Prelude.{ℕ, Bool, true, false, if◌then◌else◌, ℤ, pos, int_le, ◌≤ℤ◌, List, [], ◌∷◌, ◌++◌, length, map, slice_get, Some, ⊤}
 use Rattle.std.specs.List.{filter_map, range_with_len}
 use Rattle.pcap_frames.specs.declared.style.Order.TheVariants.{Little}
 use Rattle.pcap_frames.specs.declared.style.Style.{Style}
@@ -106,12 +106,6 @@ by_arrival (f ∷ frames) = put_in f (by_arrival frames)
 -- stream, and then by number.
 abbrev pub frames : TalkPlan → List ℕ → List SentFrame
 frames plan input = by_arrival (clock_frames plan input ++ stream_frames plan input)
-
--- what is left of them once so many packets of the clock and of the stream were sent
-abbrev pub left_of : Stream → ℕ → ℕ → List SentFrame
-left_of stream clocks packets =
-    by_arrival (map (clock_frame_of stream) (range_with_len clocks (stream.journal.times.clock.packets - clocks))
-    ++ map (frame_of stream) (range_with_len packets (stream.journal.times.packets - packets)))
 
 -- no frame arrives before the one in front of it
 abbrev pub RiseByArrival : List SentFrame → Type 0

@@ -10,7 +10,6 @@ pub mod Frames
 pub mod Faults
 pub mod Talking
 pub mod Turns
-pub mod Kept
 pub mod Lending
 pub mod Examples
 pub mod Noise
@@ -20,4 +19,4 @@ pub mod Fragments
 pub mod Rows
 pub mod Units
 pub mod Video
-pub mod Listing
+pub mod state

@@ -1,8 +1,6 @@
 -- The packets of a plan, each with its samples.
-use Rattle.std.specs.Prelude.{◌-◌, length, ℕ, ◌+◌, ◌*◌, ◌%◌, Bool, true, false, List, [], ◌∷◌, ◌++◌, take, drop, Option, Some, None, is_some, option_map, unwrap_or, if◌then◌else◌}
-use Rattle.avtp_base.specs.Octets.{flag}
+use Rattle.std.specs.Prelude.{length, ℕ, ◌+◌, ◌*◌, ◌%◌, Bool, true, false, List, Option, Some, None, is_some, option_map, unwrap_or, if◌then◌else◌}
 use Rattle.avtp_header.specs.declared.header.StreamHeader.{StreamHeader}
-use Rattle.byteorder.specs.Endian.{big_bytes}
 use Rattle.aaf_format.specs.declared.aaf.AafFormat.{AafFormat}
 use Rattle.aaf_format.specs.Aaf.{Aaf as Packet, aaf_subtype, frame_size, width_of}
 use Rattle.iec61883_format.specs.Iec.{Iec, block_size, iec_subtype}
@@ -34,16 +32,6 @@ header_of subtype stamp plan n length = record {
   timestamp = unwrap_or (option_map timestamp_of stamp) 0;
   data_length = length;
 }
-
--- the first four bytes of a packet with such a header: its subtype, the bits that say what of it is valid, and its number
-abbrev pub front_of : StreamHeader → List ℕ
-front_of header = header.subtype ∷ ((128 * flag header.sv + 8 * flag header.mr + flag header.tv) ∷ (header.seq ∷ (flag header.tu ∷ [])))
-
--- the 24 bytes of a header, over those of another that differs from it in this part, from this byte of the first twelve on, and
--- in the timestamp alone
-abbrev pub patched : List ℕ → ℕ → List ℕ → ℕ → List ℕ
-patched header at part timestamp =
-    take at header ++ (part ++ (take (12 - (at + length part)) (drop (at + length part) header) ++ (big_bytes 4 timestamp ++ take 8 (drop 16 header))))
 
 -- ---- PCM (IEEE 1722-2016, 7)
 

@@ -7,7 +7,7 @@ ghost use Rattle.talker.specs.Audio.{silent_quadlets as silent_quadlets_of};
 ghost use Rattle.talker.specs.Frames.{packet_bytes};
 ghost use Rattle.talker.specs.Packets.{am824_kind, dbc_of, iec_packet, stamp_of};
 ghost use Rattle.talker.specs.Plan.{IsAudioPlan, fdf_of as fdf_of_rate};
-ghost use Rattle.talker.specs.Talking.{IsAm824};
+ghost use Rattle.talker.specs.state.Talking.{IsAm824};
 
 use crate::audio::{HEADER, SAMPLES_LIMIT, write_ethernet};
 use crate::plan::{TalkKind, TalkPlan};

@@ -8,7 +8,8 @@ ghost use Rattle.talker.specs.Frames.{ethernet, packet_bytes};
 ghost use Rattle.talker.specs.Journal.{samples_in};
 ghost use Rattle.talker.specs.Plan.{IsAudioPlan};
 ghost use Rattle.talker.specs.Samples.{filled_up};
-ghost use Rattle.talker.specs.Talking.{IsAudio, audio_of, headers_of, most_input, packets_of, samples_size};
+ghost use Rattle.talker.specs.Talking.{most_input};
+ghost use Rattle.talker.specs.state.Talking.{IsAudio, audio_of, headers_of, packets_of, samples_size};
 ghost use Rattle.talker.specs.Timing.{arrival_of};
 
 use crate::am824::{Am824Format, BLOCKS_HEADER, block_size, silent_quadlets};

@@ -3,10 +3,11 @@
 ghost use Rattle.std.specs.Prelude.{◌≡◌, ◌+◌, ◌*◌, ◌/◌, ◌≤◌, ◌<◌, ◌^◌, ℕ, List, flat_map, length, pos, take, Option, Some, None};
 ghost use Rattle.byteorder.specs.Endian.{big_bytes};
 ghost use Rattle.crf_format.specs.Crf.{crf_shape, crf_spelling};
-ghost use Rattle.talker.specs.Clock.{AreFew, clock_arrival, clock_frame_size, clock_mr, clock_packet, clock_packets, clock_point, first_point, frame_at, points_for, points_in, points_size};
+ghost use Rattle.talker.specs.Clock.{clock_arrival, clock_mr, clock_packet, clock_packets, clock_point, first_point, frame_at, points_for, points_in, points_size};
+ghost use Rattle.talker.specs.state.Clock.{AreFew, clock_frame_size};
 ghost use Rattle.talker.specs.Frames.{clock_bytes};
 ghost use Rattle.talker.specs.Plan.{IsAudioPlan};
-ghost use Rattle.talker.specs.Talking.{IsClockOf, IsClockStream};
+ghost use Rattle.talker.specs.state.Talking.{IsClockOf, IsClockStream};
 
 use crate::audio::{HEADER, write_ethernet};
 use crate::plan::{CrfPlan, TalkPlan};

@@ -3,9 +3,10 @@
 ghost use Rattle.std.specs.Prelude.{◌≡◌, ◌+◌, ◌*◌, ◌≤◌, ◌<◌, ◌^◌, ◌++◌, [], length, pos, take, drop, Option, Some, None};
 ghost use Rattle.aaf_format.specs.Aaf.{aaf_shape, frame_size as frame_size_of};
 ghost use Rattle.talker.specs.Frames.{aaf_bytes};
-ghost use Rattle.talker.specs.Packets.{aaf_packet, front_of, kind_of, stamp_of, patched};
+ghost use Rattle.talker.specs.Packets.{aaf_packet, kind_of, stamp_of};
+ghost use Rattle.talker.specs.state.Packets.{front_of, patched};
 ghost use Rattle.talker.specs.Plan.{IsAudioPlan, rate_code as rate_code_of};
-ghost use Rattle.talker.specs.Talking.{HasHeaders, IsPcm, IsPcmStream};
+ghost use Rattle.talker.specs.state.Talking.{HasHeaders, IsPcm, IsPcmStream};
 ghost use Rattle.talker.specs.Timing.{arrival_of};
 
 use crate::audio::{HEADER, SAMPLES_LIMIT, write_ethernet};

@@ -6,8 +6,9 @@ ghost use Rattle.talker.specs.declared.plan.TalkKind.TheVariants.{H264};
 ghost use Rattle.talker.specs.Faults.{fault_of};
 ghost use Rattle.talker.specs.Frames.{packet_bytes};
 ghost use Rattle.talker.specs.Plan.{IsAudioPlan, IsPlan, IsVideoPlan};
-ghost use Rattle.talker.specs.Talking.{IsClockOf, IsSource, IsSourceOf, most_input, plan_in, stream_in};
-ghost use Rattle.talker.specs.Turns.{SendsPacket};
+ghost use Rattle.talker.specs.Talking.{most_input};
+ghost use Rattle.talker.specs.state.Talking.{IsClockOf, IsSource, IsSourceOf, plan_in, stream_in};
+ghost use Rattle.talker.specs.state.Turns.{SendsPacket};
 
 use crate::audio::AudioStream;
 use crate::clock::ClockStream;

@@ -8,8 +8,10 @@ ghost use Rattle.talker.specs.Faults.{fault_of};
 ghost use Rattle.talker.specs.Frames.{capture_style, clock_frames, frames, record_of, sent_frame, stream_frames};
 ghost use Rattle.talker.specs.Journal.{stream_of};
 ghost use Rattle.talker.specs.Plan.{IsPlan};
-ghost use Rattle.talker.specs.Talking.{IsClockFirst, IsClockOf, IsClockStream, IsSource, clocks_of, gone_on, most_input, plan_in, stream_in};
-ghost use Rattle.talker.specs.Turns.{IsTurn, SendsPacket, frame_in, turn_frame};
+ghost use Rattle.talker.specs.Talking.{gone_on, most_input};
+ghost use Rattle.talker.specs.state.Talking.{IsClockFirst, IsClockOf, IsClockStream, IsSource, clocks_of, plan_in, stream_in};
+ghost use Rattle.talker.specs.Turns.{IsTurn, frame_in};
+ghost use Rattle.talker.specs.state.Turns.{SendsPacket, turn_frame};
 
 use crate::clock::ClockStream;
 use crate::fault::TalkFault;
@@ -41,11 +43,12 @@ const FRAME_LIMIT: usize = 1518;
 
 impl<'a> Model for Talker<'a> {
     ghost use Rattle.std.specs.Prelude.{◌+◌};
-    ghost use Rattle.talker.specs.Talking.{Talking, input_in, plan_in};
+    ghost use Rattle.talker.specs.Talking.{Talking};
+    ghost use Rattle.talker.specs.state.Talking.{input_in, plan_in};
 
     ghost Value = { Talking };
 
-    ghost use Rattle.talker.specs.Kept.{IsTalker};
+    ghost use Rattle.talker.specs.state.Kept.{IsTalker};
 
     ghost view = { λ t. record { plan = plan_in t.source; input = input_in t.source; given = t.given_clocks + t.given_packets } };
 

@@ -6,8 +6,9 @@ ghost use Rattle.talker.specs.declared.fault.TalkFault.TheVariants.{Memory};
 ghost use Rattle.talker.specs.AccessUnits.{has_slice as has_slice_in, is_first_slice as is_first_slice_in, may_begin as may_begin_in, type_in};
 ghost use Rattle.cvf_format.specs.Cvf.{is_single_type};
 ghost use Rattle.talker.specs.Fragments.{all_packets};
-ghost use Rattle.talker.specs.Listing.{IsEnded, IsNext, IsWalk, is_begun_by, walked};
-ghost use Rattle.talker.specs.Talking.{AreInside, first_units, most_input};
+ghost use Rattle.talker.specs.state.Listing.{IsEnded, IsNext, IsWalk, is_begun_by, walked};
+ghost use Rattle.talker.specs.Talking.{most_input};
+ghost use Rattle.talker.specs.state.Talking.{AreInside, first_units};
 ghost use Rattle.talker.specs.Units.{units_fault as units_fault_of};
 
 use crate::fault::TalkFault;

@@ -9,7 +9,8 @@ ghost use Rattle.talker.specs.declared.plan.TalkKind.TheVariants.{H264};
 ghost use Rattle.talker.specs.Fragments.{access_unit_of, body_by, ends_access_unit as ends_access_unit_of, packets_for, part_by as part_of, rest_in};
 ghost use Rattle.talker.specs.Frames.{packet_bytes};
 ghost use Rattle.talker.specs.Plan.{IsVideoPlan};
-ghost use Rattle.talker.specs.Talking.{IsCarried, IsVideo, most_input, place_in, unit_in, video_packet};
+ghost use Rattle.talker.specs.Talking.{most_input};
+ghost use Rattle.talker.specs.state.Talking.{IsCarried, IsVideo, place_in, unit_in, video_packet};
 ghost use Rattle.talker.specs.Units.{units_fault};
 ghost use Rattle.talker.specs.Video.{access_instant, stamp_by, video_arrival};
 

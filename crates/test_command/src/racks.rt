@@ -40,7 +40,8 @@ impl Drop for Noting {
 
 impl Device for Noting {
     ghost use Rattle.std.specs.Prelude.{Some};
-    ghost use Rattle.sample_schedule.specs.MemoryDevice.{failing_calls, fault_count, HasTaken};
+    ghost use Rattle.sample_schedule.specs.MemoryDevice.{failing_calls, fault_count};
+    ghost use Rattle.sample_schedule.specs.state.MemoryDevice.{HasTaken};
 
     ghost took = { λ noting. HasTaken noting.device };
 

@@ -1,5 +1,5 @@
 use Rattle.std.proofs.Common.{append_assoc}
-use Rattle.avtp_text.specs.AafLines.{aaf_start}
+use Rattle.avtp_text.specs.state.AafLines.{aaf_start}
 use Rattle.avtp_text.proofs.aaf_line.prepend_start.Goals as goal
 
 pub returns-clause-text : goal.returns-clause-text

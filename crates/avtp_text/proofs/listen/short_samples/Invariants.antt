@@ -1,8 +1,8 @@
 use Rattle.std.proofs.Common.{◌≡◌, Ok, flat_map}
 use Rattle.std.specs.List.{range_with_len}
-use Rattle.avtp_text.specs.Instants.{IsInstantOf}
+use Rattle.avtp_text.specs.state.Instants.{IsInstantOf}
 use Rattle.avtp_text.specs.Listen.{sample_line}
-use Rattle.avtp_text.specs.SampleLines.{packet_of}
+use Rattle.avtp_text.specs.state.SampleLines.{packet_of}
 use Rattle.avtp_text.specs.Written.{PrintsPart}
 use Rattle.avtp_text.proofs.listen.short_samples.Given as goal
 

@@ -1,5 +1,5 @@
 use Rattle.std.proofs.Common.{◌≡◌, ◌-◌, length, arith}
-use Rattle.avtp_text.specs.Pairs.{eight_digits}
+use Rattle.avtp_text.specs.state.Pairs.{eight_digits}
 use Rattle.avtp_text.proofs.Overwriting.{part_overwritten}
 use Rattle.avtp_text.proofs.Digits.{length_eight}
 use Rattle.avtp_text.proofs.overwrite.overwrite_eight_digits.Goals as goal

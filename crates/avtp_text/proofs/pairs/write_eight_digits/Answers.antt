@@ -1,4 +1,4 @@
-use Rattle.avtp_text.specs.Pairs.{eight_digits}
+use Rattle.avtp_text.specs.state.Pairs.{eight_digits}
 use Rattle.avtp_text.proofs.Eight.{written}
 use Rattle.avtp_text.proofs.pairs.write_eight_digits.Goals as goal
 

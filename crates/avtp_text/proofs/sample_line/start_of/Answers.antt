@@ -1,7 +1,7 @@
 use Rattle.std.proofs.Common.{◌≡◌, ◌+◌, ◌*◌, ◌/◌, ◌%◌, ◌≤◌, ℤ, pos, negsuc, ◌≤ℤ◌, ap, arith, w64, to_z, to_z-of_z}
 use Rattle.std.proofs.lemmas.Int.{ints}
 use lib.IntN.{nat_abs}
-use Rattle.avtp_text.specs.SampleLines.{StartsAt}
+use Rattle.avtp_text.specs.state.SampleLines.{StartsAt}
 use Rattle.avtp_text.proofs.sample_line.start_of.Goals as goal
 
 starts : (z : ℤ) → pos 100000000 ≤ℤ z → z ≤ℤ pos 9223372036854775807 → StartsAt z (to_z w64 (nat_abs z / 100000000 * 100000000))

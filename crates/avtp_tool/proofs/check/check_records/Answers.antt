@@ -3,7 +3,7 @@ use Rattle.pcap_frames.specs.Capture.{Record}
 use Rattle.pcap_frames.specs.Reading.{shown}
 use Rattle.capture_io.specs.Source.{HasGivenOf}
 use Rattle.avtp_tool.specs.Check.{notes_of}
-use Rattle.avtp_tool.specs.Reading.{ReadsRecords}
+use Rattle.avtp_tool.specs.state.Reading.{ReadsRecords}
 use Rattle.avtp_tool.proofs.CheckedTo.{name_checked, none_checked, one_checked, text_first, text_of}
 use Rattle.avtp_tool.proofs.Leaving.{amid_begun, amid_cut, amid_ends, amid_next, amid_over, none_left, on_err, some_same}
 use Rattle.avtp_tool.proofs.Lines.{prefix_kept, some_first}

@@ -9,7 +9,8 @@ use Rattle.avtp_text.proofs.Printing.{prefix_none}
 use Rattle.avtp_words.specs.Grammar.{listen, output_of, talk}
 use Rattle.avtp_tool.specs.declared.status.Status.TheVariants as status
 use Rattle.avtp_tool.specs.Listen.{HasHeadline}
-use Rattle.avtp_tool.specs.Run.{came_for, MakesFrom, names_of, status_for, yield_for}
+use Rattle.avtp_tool.specs.Run.{came_for, names_of, status_for, yield_for}
+use Rattle.avtp_tool.specs.state.Run.{MakesFrom}
 use Rattle.avtp_tool.specs.Yield.{Yield}
 use Rattle.avtp_tool.proofs.Yields.{hands_nothing}
 use Rattle.avtp_tool.proofs.Complete.{complete_of, has_headline, outcome_here}

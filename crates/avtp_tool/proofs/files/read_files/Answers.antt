@@ -3,7 +3,7 @@ use Rattle.std.specs.Prelude.{string_bytes}
 use Rattle.avtp_words.specs.Word.{texts}
 use Rattle.avtp_tool.specs.declared.status.Status.TheVariants as status
 use Rattle.avtp_tool.specs.declared.status.Status.{Status}
-use Rattle.avtp_tool.specs.Files.{plan_for}
+use Rattle.avtp_tool.specs.state.Files.{plan_for}
 use Rattle.avtp_tool.specs.Outcome.{is_done}
 use Rattle.avtp_tool.proofs.Outcomes.{sink_ok, sink_still, sink_then}
 use Rattle.avtp_tool.proofs.ReadFiles.{does_failed, never_done, other_ends, reads_all, reads_more, reads_none, reads_stopped}

@@ -4,7 +4,7 @@ use Rattle.avtp_text.proofs.Printing.{prefix_after}
 use Rattle.avtp_tool.specs.Yield.{HandsOn}
 use Rattle.avtp_tool.proofs.Yields.{hands_nothing, part_none}
 use Rattle.capture_io.proofs.Leaving.{reads_nothing}
-use Rattle.avtp_tool.specs.Listen.{HearsCapture}
+use Rattle.avtp_tool.specs.state.Listen.{HearsCapture}
 use Rattle.avtp_tool.proofs.Leaving.{on_err}
 use Rattle.avtp_tool.proofs.HearingTo.{open_at}
 use Rattle.avtp_tool.proofs.HeardTo.{hears, hears_counted, items_cut, name_cut}

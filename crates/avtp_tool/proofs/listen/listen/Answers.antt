@@ -6,7 +6,7 @@ use Rattle.capture_io.proofs.Leaving.{reads_nothing}
 use Rattle.avtp_tool.specs.declared.hearing.Heard.TheVariants.{Ended, NoMemory}
 use Rattle.avtp_tool.specs.declared.status.Status.TheVariants as status
 use Rattle.avtp_tool.specs.Listen.{listen_report}
-use Rattle.avtp_tool.specs.Reading.{DoesFile}
+use Rattle.avtp_tool.specs.state.Reading.{DoesFile}
 use Rattle.avtp_tool.proofs.DoesFile.{does_cut, does_read, does_unopened}
 use Rattle.avtp_tool.proofs.HeardTo.{counts_heard, cut_heard, ended_as, told_heard}
 use Rattle.avtp_tool.proofs.Leaving.{on_err, own_ended}

@@ -1,5 +1,5 @@
 use Rattle.avtp_tool.specs.Lines.{of_each}
-use Rattle.avtp_tool.specs.Reading.{ReadsRecords}
+use Rattle.avtp_tool.specs.state.Reading.{ReadsRecords}
 use Rattle.avtp_tool.specs.Show.{show_line}
 use Rattle.avtp_tool.proofs.Leaving.{amid_begun, amid_cut, amid_ends, amid_next, amid_over, none_left, on_err, some_same}
 use Rattle.avtp_tool.proofs.Outcomes.{sink_err, sink_ok, sink_printed, sink_still, sink_then}

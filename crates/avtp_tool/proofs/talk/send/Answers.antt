@@ -4,7 +4,7 @@ use Rattle.avtp_text.proofs.Printing.{prefix_none}
 use Rattle.avtp_tool.specs.declared.status.Status.{Status}
 use Rattle.avtp_tool.specs.declared.status.Status.TheVariants as status
 use Rattle.talker.specs.Frames.{capture}
-use Rattle.avtp_tool.specs.Made.{Makes}
+use Rattle.avtp_tool.specs.state.Made.{Makes}
 use Rattle.avtp_tool.specs.Talk.{sent_line}
 use Rattle.avtp_tool.proofs.Making.{makes_part, makes_whole, writes_made}
 use Rattle.avtp_tool.proofs.Outcomes.{IsCut, tells_cut, tells_line}

@@ -1,5 +1,5 @@
 use Rattle.std.proofs.Common.{◌≡◌, true, subst, ◌∙◌}
-use Rattle.avtp_words.specs.Number.{BeginsAsNumber}
+use Rattle.avtp_words.specs.state.Number.{BeginsAsNumber}
 use Rattle.avtp_words.proofs.Numbers.{spelled, unread, begins-decimal}
 use Rattle.avtp_words.proofs.number.number_of.Goals as goal
 

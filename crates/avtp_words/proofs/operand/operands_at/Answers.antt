@@ -1,5 +1,5 @@
 use Rattle.std.proofs.Common.{◌+◌}
-use Rattle.avtp_words.specs.Reading.{rows_of}
+use Rattle.avtp_words.specs.state.Reading.{rows_of}
 use Rattle.avtp_words.specs.Word.{texts}
 use Rattle.avtp_words.proofs.CommandLines.{stops_of_options, stops_of_operands, rest_to, rest_within, words_after}
 use Rattle.avtp_words.proofs.operand.operands_at.Goals as goal

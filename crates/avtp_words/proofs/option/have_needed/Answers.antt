@@ -1,5 +1,5 @@
 use Rattle.std.proofs.Common.{◌≡◌, true, false, sym, ◌∙◌}
-use Rattle.avtp_words.specs.Reading.{names_of}
+use Rattle.avtp_words.specs.state.Reading.{names_of}
 use Rattle.avtp_words.specs.Word.{texts}
 use Rattle.avtp_words.proofs.Rules.{need_none, needed_there, none_needs}
 use Rattle.avtp_words.proofs.Steps.{contained}

@@ -1,6 +1,6 @@
 use Rattle.std.proofs.Common.{◌≡◌, ◌<◌, length, Some, arith, sym}
 use Rattle.avtp_words.specs.Options.{row_named}
-use Rattle.avtp_words.specs.Reading.{rows_of, row_of}
+use Rattle.avtp_words.specs.state.Reading.{rows_of, row_of}
 use Rattle.avtp_words.specs.Word.{texts}
 use Rattle.avtp_words.proofs.Steps.{unknown, repeated, first, row_is, stands, within, stops_next, goes_on}
 use Rattle.avtp_words.proofs.option.options_len.Goals as goal

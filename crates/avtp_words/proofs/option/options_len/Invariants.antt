@@ -1,5 +1,5 @@
 use Rattle.std.proofs.Common.{◌-◌, ◌≤◌, length}
-use Rattle.avtp_words.specs.Reading.{rows_of, AreOptionsTo}
+use Rattle.avtp_words.specs.state.Reading.{rows_of, AreOptionsTo}
 use Rattle.avtp_words.specs.Word.{texts}
 use Rattle.avtp_words.proofs.option.options_len.Given as goal
 

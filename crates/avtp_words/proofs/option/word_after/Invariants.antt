@@ -1,5 +1,5 @@
 use Rattle.std.proofs.Common.{◌≡◌, length}
-use Rattle.avtp_words.specs.Reading.{value_after}
+use Rattle.avtp_words.specs.state.Reading.{value_after}
 use Rattle.avtp_words.specs.Word.{texts}
 use Rattle.avtp_words.proofs.option.word_after.Given as goal
 

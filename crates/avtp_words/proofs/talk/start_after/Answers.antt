@@ -1,5 +1,5 @@
 use Rattle.std.proofs.Common.{codes, arith, ap, ◌∙◌, ℤ, pos, w64, to_z, of_z, to_z-of_z}
-use Rattle.avtp_words.specs.Reading.{value_after}
+use Rattle.avtp_words.specs.state.Reading.{value_after}
 use Rattle.avtp_words.specs.Word.{texts}
 use Rattle.avtp_words.proofs.Numbers.{signed_read}
 use Rattle.avtp_words.proofs.talk.start_after.Goals as goal

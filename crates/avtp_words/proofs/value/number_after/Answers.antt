@@ -1,5 +1,5 @@
 use Rattle.std.proofs.Common.{subst, arith, ◌∙◌, ◌^◌}
-use Rattle.avtp_words.specs.Reading.{IsRead}
+use Rattle.avtp_words.specs.state.Reading.{IsRead}
 use Rattle.avtp_words.proofs.Numbers.{number_is}
 use Rattle.avtp_words.proofs.value.number_after.Goals as goal
 

@@ -1,5 +1,5 @@
 use Rattle.std.proofs.Common.{ℤ, ap, subst, ◌∙◌, w64, to_z, of_z, to_z-of_z, unwrap_or}
-use Rattle.avtp_words.specs.Reading.{IsReadSigned}
+use Rattle.avtp_words.specs.state.Reading.{IsReadSigned}
 use Rattle.avtp_words.proofs.Numbers.{fits_mag, fits_after, signed_read_of}
 use Rattle.avtp_words.proofs.value.signed_number_after.Goals as goal
 

@@ -1,5 +1,5 @@
 use Rattle.std.proofs.Common.{subst, arith, ◌^◌}
-use Rattle.avtp_words.specs.Reading.{IsReadIf}
+use Rattle.avtp_words.specs.state.Reading.{IsReadIf}
 use Rattle.avtp_words.proofs.Numbers.{read_if}
 use Rattle.avtp_words.proofs.value.small_number_if.Goals as goal
 

@@ -4,7 +4,7 @@ use Rattle.std.specs.List.{flat_map}
 use Rattle.time_unfold.specs.Stamps.{find_last}
 use Rattle.clock_track.specs.declared.clock_row.ClockRow.{ClockRow}
 use Rattle.clock_track.specs.Rows.{pairs_at, used}
-use Rattle.clock_track.specs.Search.{test_of}
+use Rattle.clock_track.specs.state.Search.{test_of}
 use Rattle.clock_track.proofs.Lists.{all-taken, go_on, pairs-found, stop}
 use Rattle.clock_track.proofs.search.latest.Goals as goal
 

@@ -2,7 +2,7 @@ use Rattle.std.proofs.Common.{◌≡◌, ◌≤◌, length, take}
 use Rattle.std.specs.List.{flat_map}
 use Rattle.time_unfold.specs.Stamps.{find_last}
 use Rattle.clock_track.specs.Rows.{pairs_at, used}
-use Rattle.clock_track.specs.Search.{test_of}
+use Rattle.clock_track.specs.state.Search.{test_of}
 use Rattle.clock_track.proofs.search.latest.Given as goal
 
 -- what is left holds the pair that is looked for

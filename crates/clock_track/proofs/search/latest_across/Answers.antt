@@ -4,7 +4,7 @@ use Rattle.std.specs.List.{filter_map}
 use Rattle.time_unfold.specs.Stamps.{find_last}
 use Rattle.clock_track.specs.declared.clock_row.ClockRow.{ClockRow}
 use Rattle.clock_track.specs.Rows.{across, used}
-use Rattle.clock_track.specs.Search.{test_of}
+use Rattle.clock_track.specs.state.Search.{test_of}
 use Rattle.clock_track.specs.Views.{row_of}
 use Rattle.clock_track.proofs.Lists.{across-found, all-taken, go_on, stop}
 use Rattle.clock_track.proofs.TooLate.{none-found}

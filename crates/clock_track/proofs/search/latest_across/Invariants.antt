@@ -2,7 +2,7 @@ use Rattle.std.proofs.Common.{◌≡◌, ◌≤◌, length, take}
 use Rattle.std.specs.List.{filter_map}
 use Rattle.time_unfold.specs.Stamps.{find_last}
 use Rattle.clock_track.specs.Rows.{across, used}
-use Rattle.clock_track.specs.Search.{test_of}
+use Rattle.clock_track.specs.state.Search.{test_of}
 use Rattle.clock_track.specs.Views.{row_of}
 use Rattle.clock_track.proofs.search.latest_across.Given as goal
 

@@ -1,7 +1,7 @@
 -- A pair inside the packet comes last; where there is none, one that ends at its first timestamp does.
 use Rattle.std.proofs.Common.{sym, ◌∙◌}
 use Rattle.clock_track.specs.Rows.{used}
-use Rattle.clock_track.specs.Search.{test_of}
+use Rattle.clock_track.specs.state.Search.{test_of}
 use Rattle.clock_track.specs.Views.{row_of}
 use Rattle.clock_track.proofs.Lists.{across-last, inside-last, row-is}
 use Rattle.clock_track.proofs.search.latest_at.Goals as goal

@@ -1,6 +1,6 @@
 -- The last of what is left decides, or is left out of the search.
 use Rattle.std.proofs.Common.{sym, ◌∙◌, arith}
-use Rattle.clock_track.specs.Search.{test_of}
+use Rattle.clock_track.specs.state.Search.{test_of}
 use Rattle.clock_track.specs.Views.{row_of}
 use Rattle.clock_track.proofs.Lists.{go_on, inside-found, stop}
 use Rattle.clock_track.proofs.search.latest_inside.Goals as goal

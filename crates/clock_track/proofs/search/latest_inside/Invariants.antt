@@ -2,7 +2,7 @@ use Rattle.std.proofs.Common.{◌≡◌, ◌-◌, ◌≤◌}
 use Rattle.std.specs.List.{filter_map, range_with_len}
 use Rattle.time_unfold.specs.Stamps.{find_last}
 use Rattle.clock_track.specs.Rows.{inside, timestamps}
-use Rattle.clock_track.specs.Search.{test_of}
+use Rattle.clock_track.specs.state.Search.{test_of}
 use Rattle.clock_track.specs.Views.{row_of}
 use Rattle.clock_track.proofs.search.latest_inside.Given as goal
 

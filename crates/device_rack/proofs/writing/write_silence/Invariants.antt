@@ -1,6 +1,6 @@
 use Rattle.std.proofs.Common.{◌*◌, Ok}
 use Rattle.device_rack.specs.Output.{silence_of}
-use Rattle.device_rack.specs.Written.{HasWritten}
+use Rattle.device_rack.specs.state.Written.{HasWritten}
 use Rattle.device_rack.proofs.writing.write_silence.Given as goal
 
 abbrev pub invariant-loop : goal.invariant-loop

@@ -1,7 +1,7 @@
 use Rattle.std.proofs.Common.{◌-◌, ◌++◌, ℕ, List, drop, length, take, subst, ap, ◌∙◌, arith}
 use Rattle.pcap_frames.specs.Reading.{taken}
 use Rattle.pcap_frames.proofs.Steps.{all_steps, rest_long, two_steps}
-use Rattle.listener.specs.Feeding.{HasGiven}
+use Rattle.listener.specs.state.Feeding.{HasGiven}
 use Rattle.listener.proofs.Fed.{given_on}
 use Rattle.listener.proofs.capture.feed_piece.Goals as goal
 

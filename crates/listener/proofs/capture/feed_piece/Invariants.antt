@@ -1,6 +1,7 @@
 use Rattle.std.proofs.Common.{◌≡◌, ◌+◌, ◌-◌, ◌≤◌, ◌++◌, ℕ, List, false, length, take}
 use Rattle.pcap_frames.specs.Reading.{taken}
-use Rattle.listener.specs.Feeding.{HasGiven, IsReady, is_ended}
+use Rattle.listener.specs.Feeding.{IsReady, is_ended}
+use Rattle.listener.specs.state.Feeding.{HasGiven}
 use Rattle.listener.proofs.capture.feed_piece.Given as goal
 
 abbrev pub invariant-loop-used : goal.invariant-loop-used

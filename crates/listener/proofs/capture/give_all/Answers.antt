@@ -1,6 +1,6 @@
 use Rattle.std.proofs.Common.{List, sym, subst}
 use Rattle.sample_schedule.specs.declared.shown.Shown.{Shown}
-use Rattle.listener.specs.Feeding.{HasGiven}
+use Rattle.listener.specs.state.Feeding.{HasGiven}
 use Rattle.listener.proofs.Fed.{given_all, given_more, given_still, keeps_all}
 use Rattle.listener.proofs.capture.give_all.Goals as goal
 

@@ -1,5 +1,6 @@
 use Rattle.std.proofs.Common.{ℕ, List}
-use Rattle.listener.specs.Feeding.{HasGiven, Keeps, work}
+use Rattle.listener.specs.Feeding.{Keeps, work}
+use Rattle.listener.specs.state.Feeding.{HasGiven}
 use Rattle.listener.proofs.capture.give_all.Given as goal
 
 -- the list has what was given so far

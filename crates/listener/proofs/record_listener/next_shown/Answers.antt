@@ -5,7 +5,8 @@ use Rattle.clock_track.specs.Rows.{clock_spot}
 use Rattle.sample_schedule.specs.declared.plan.SchedulePlan.{SchedulePlan}
 use Rattle.sample_schedule.specs.declared.shown.Shown.{Shown}
 use Rattle.sample_schedule.specs.Judge.{JudgeState}
-use Rattle.listener.specs.Listening.{Judges, shown_by}
+use Rattle.listener.specs.Listening.{Judges}
+use Rattle.listener.specs.state.Listening.{shown_by}
 use Rattle.listener.proofs.Judging.{found_out, judges_on, none_in}
 use Rattle.listener.proofs.record_listener.next_shown.Goals as goal
 use Rattle.avtp_base.proofs.Results.{not_some}

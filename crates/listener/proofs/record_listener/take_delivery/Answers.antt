@@ -7,7 +7,7 @@ use Rattle.sample_schedule.specs.declared.entry.Entry.{Entry}
 use Rattle.sample_schedule.specs.declared.entry.Entry.TheVariants.{Clock as OfClock}
 use Rattle.listener.specs.Items.{clock_row, given_by, made_entry}
 use Rattle.listener.specs.Listening.{Judges}
-use Rattle.listener.specs.Views.{delivery_shape}
+use Rattle.listener.specs.state.Views.{delivery_shape}
 use Rattle.listener.proofs.Further.{arrival_kept}
 use Rattle.listener.proofs.Judging.{clock_given, judges_entry, judges_first, judges_given}
 use Rattle.listener.proofs.record_listener.take_delivery.Goals as goal

@@ -2,7 +2,7 @@
 use Rattle.std.proofs.Common.{◌≤◌, length, rules, sym, subst, ℕ}
 use Rattle.std.proofs.lemmas.Int.{ints}
 use Rattle.std.proofs.lemmas.List.Sorted.{IsPartitionPoint-from_clause}
-use Rattle.sample_schedule.specs.Keys.{IsBlockFor, starts_by}
+use Rattle.sample_schedule.specs.state.Keys.{IsBlockFor, starts_by}
 use Rattle.sample_schedule.proofs.BlockLemmas.{block-found, block-partitioned}
 use Rattle.sample_schedule.proofs.sorted_keys.block_for.Goals as goal
 

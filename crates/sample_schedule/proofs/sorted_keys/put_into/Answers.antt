@@ -2,7 +2,7 @@ use Rattle.std.proofs.Common.{◌≡◌, ◌<◌, ℕ, List, get_or, length, rul
 use Rattle.std.specs.Prelude.{slice_set}
 use Rattle.std.proofs.lemmas.Int.{ints}
 use Rattle.sample_schedule.specs.declared.sorted_keys.Key.{Key}
-use Rattle.sample_schedule.specs.Keys.{IsBlockFor, put_key}
+use Rattle.sample_schedule.specs.state.Keys.{IsBlockFor, put_key}
 use Rattle.sample_schedule.proofs.BlockLemmas.{IsPutInto, all-at, block-within, put-all, put-blocks}
 use Rattle.sample_schedule.proofs.sorted_keys.put_into.Goals as goal
 

@@ -1,7 +1,7 @@
 use Rattle.std.proofs.Common.{List, sym, subst}
 use Rattle.sample_schedule.specs.declared.entry.Entry.{Entry}
 use Rattle.sample_schedule.specs.declared.shown.Shown.{Shown}
-use Rattle.sample_schedule.specs.Judge.{HasGiven}
+use Rattle.sample_schedule.specs.state.Judge.{HasGiven}
 use Rattle.sample_schedule.specs.Verdicts.{Clock}
 use Rattle.sample_schedule.proofs.GivenLemmas.{given-all, given-more, given-on}
 use Rattle.sample_schedule.proofs.JudgeLemmas.{keeps-all}

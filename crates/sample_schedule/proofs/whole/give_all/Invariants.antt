@@ -1,6 +1,7 @@
 use Rattle.std.proofs.Common.{List}
 use Rattle.sample_schedule.specs.declared.entry.Entry.{Entry}
-use Rattle.sample_schedule.specs.Judge.{HasGiven, Keeps, work}
+use Rattle.sample_schedule.specs.Judge.{Keeps, work}
+use Rattle.sample_schedule.specs.state.Judge.{HasGiven}
 use Rattle.sample_schedule.specs.Verdicts.{Clock}
 use Rattle.sample_schedule.proofs.whole.give_all.Given as goal
 

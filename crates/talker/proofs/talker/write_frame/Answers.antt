@@ -1,5 +1,5 @@
 use Rattle.std.proofs.Common.{refl, ◌∙◌}
-use Rattle.talker.specs.Talking.{stream_in}
+use Rattle.talker.specs.state.Talking.{stream_in}
 use Rattle.talker.proofs.StreamLemmas.{packets_in}
 use Rattle.talker.proofs.TurnLemmas.{beside_is, clock_sized}
 use Rattle.talker.proofs.talker.write_frame.Goals as goal

@@ -1,6 +1,6 @@
 use Rattle.std.proofs.Common.{ap, ◌∙◌, arith}
 use Rattle.std.proofs.lemmas.Grind.{common_steps}
-use Rattle.talker.specs.Talking.{first_units}
+use Rattle.talker.specs.state.Talking.{first_units}
 use Rattle.talker.proofs.ListingLemmas.{inside_more, listed_more}
 use Rattle.talker.proofs.units.list_units.Goals as goal
 

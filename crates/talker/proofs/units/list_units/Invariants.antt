@@ -1,7 +1,7 @@
 use Rattle.std.proofs.Common.{◌≡◌, ◌-◌, length}
 use Rattle.cvf_format.specs.AnnexB.{nal_units}
-use Rattle.talker.specs.Listing.{IsWalk}
-use Rattle.talker.specs.Talking.{AreInside, first_units}
+use Rattle.talker.specs.state.Listing.{IsWalk}
+use Rattle.talker.specs.state.Talking.{AreInside, first_units}
 use Rattle.talker.proofs.units.list_units.Given as goal
 
 abbrev pub invariant-loop-unit : goal.invariant-loop-unit

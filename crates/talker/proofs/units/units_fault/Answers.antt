@@ -1,6 +1,6 @@
 use Rattle.std.proofs.Common.{not, sym, ap, ◌∙◌, arith}
 use Rattle.cvf_format.specs.AnnexB.{nal_units}
-use Rattle.talker.specs.Listing.{is_long_in}
+use Rattle.talker.specs.state.Listing.{is_long_in}
 use Rattle.talker.proofs.FaultLemmas.{no_other, other_type}
 use Rattle.talker.proofs.units.units_fault.Goals as goal
 

@@ -2,7 +2,7 @@ use Rattle.std.proofs.Common.{◌≡◌, ℕ, ◌-◌, ◌<◌, true, length}
 use Rattle.cvf_format.specs.AnnexB.{nal_units}
 use Rattle.cvf_format.specs.Cvf.{is_single_type}
 use Rattle.talker.specs.AccessUnits.{type_in, unit_at}
-use Rattle.talker.specs.Listing.{IsWalk, is_long_in}
+use Rattle.talker.specs.state.Listing.{IsWalk, is_long_in}
 use Rattle.talker.proofs.units.units_fault.Given as goal
 
 abbrev pub invariant-loop-unit : goal.invariant-loop-unit

@@ -1,6 +1,6 @@
 use Rattle.std.proofs.Common.{◌≡◌, ◌++◌, ◌∙◌, append_assoc, to_z-of_z}
 use Rattle.aaf_format.specs.Aaf.{aaf_shape}
-use Rattle.avtp_text.specs.AafLines.{aaf_start, end_of}
+use Rattle.avtp_text.specs.state.AafLines.{aaf_start, end_of}
 use Rattle.avtp_text.specs.Show.{frame_start}
 use Rattle.avtp_text.proofs.AafEnds.{last_of}
 use Rattle.avtp_text.proofs.aaf_line.AafLine.write.Goals as goal

@@ -4,7 +4,7 @@ use Rattle.std.proofs.lemmas.Int.{ints}
 use borrow.Rule.Slice.PartMut.{post_of}
 use Rattle.hex.specs.Hex.{encode_lower, lower_digits}
 use Rattle.hex.proofs.HexLemmas.{length-encode_with}
-use Rattle.avtp_text.specs.Pairs.{eight_digits}
+use Rattle.avtp_text.specs.state.Pairs.{eight_digits}
 use Rattle.avtp_text.specs.SampleLines.{SamplePacket}
 use Rattle.avtp_text.proofs.Digits.{length_eight}
 use Rattle.avtp_text.proofs.Gaps.{sample_text}

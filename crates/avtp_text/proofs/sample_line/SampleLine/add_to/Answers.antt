@@ -3,9 +3,10 @@ use Rattle.std.proofs.lemmas.Int.{ints}
 use Rattle.hex.specs.Hex.{encode_lower, lower_digits}
 use Rattle.hex.proofs.HexLemmas.{length-encode_with}
 use Rattle.avtp_text.specs.Listen.{due_text, place_text}
-use Rattle.avtp_text.specs.Pairs.{eight_digits}
+use Rattle.avtp_text.specs.state.Pairs.{eight_digits}
 use Rattle.avtp_text.specs.Pieces.{newline}
-use Rattle.avtp_text.specs.SampleLines.{SamplePacket, hex_end}
+use Rattle.avtp_text.specs.SampleLines.{SamplePacket}
+use Rattle.avtp_text.specs.state.SampleLines.{hex_end}
 use Rattle.avtp_text.proofs.Digits.{length_eight}
 use Rattle.avtp_text.proofs.Gaps.{at_hex, at_number, before_hex, before_number, hex_end_length, hex_written, low_written, number_written, room, sample_text}
 use Rattle.avtp_text.proofs.Overwriting.{all_left}

@@ -4,7 +4,7 @@ use mir.Val.{of_z, to_z}
 use mir.Syntax.{w64}
 use Rattle.pcap_frames.specs.Capture.{record_spelling}
 use Rattle.talker.specs.Frames.{capture_style}
-use Rattle.avtp_tool.specs.Talk.{spelled_frame}
+use Rattle.avtp_tool.specs.state.Talk.{spelled_frame}
 use Rattle.avtp_tool.proofs.Sending.{next_size}
 use Rattle.avtp_tool.proofs.capture_out.NextRecordSpelled.write.Goals as goal
 

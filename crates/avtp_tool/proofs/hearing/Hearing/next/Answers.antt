@@ -1,5 +1,5 @@
 use Rattle.std.proofs.Common.{Some, None, sym, ap, ◌∙◌, arith, rules}
-use Rattle.avtp_tool.specs.Hearing.{pull_at}
+use Rattle.avtp_tool.specs.state.Hearing.{pull_at}
 use Rattle.avtp_tool.proofs.HearingTo.{goes_out, goes_over, goes_still, goes_then, pull_none, sound_on, sound_over}
 use Rattle.avtp_tool.proofs.hearing.Hearing.next.Goals as goal
 use Rattle.avtp_base.proofs.Results.{fine_match, wrong_match}

@@ -1,5 +1,5 @@
 use Rattle.std.proofs.Common.{◌≡◌, [], None}
-use Rattle.avtp_tool.specs.Hearing.{GoesOn, pull_at, reads_left}
+use Rattle.avtp_tool.specs.state.Hearing.{GoesOn, pull_at, reads_left}
 use Rattle.avtp_tool.proofs.hearing.Hearing.next.Given as goal
 
 abbrev pub invariant-loop-shown : goal.invariant-loop-shown

@@ -1,7 +1,7 @@
 use Rattle.std.proofs.Common.{[], ◌∷◌, refl, sym, ap, ◌∙◌, arith}
 use Rattle.pcap_frames.specs.Reading.{shown}
 use Rattle.avtp_tool.specs.declared.hearing.Stage.TheVariants.{Showing}
-use Rattle.avtp_tool.specs.Hearing.{closed_at}
+use Rattle.avtp_tool.specs.state.Hearing.{closed_at}
 use Rattle.avtp_tool.proofs.HearingTo.{goes_still, left_on, left_same, open_at, reads_on_at, shows_end, shows_no_memory, shows_record, stable_on, stands_same, stands_still, stops_not, unread_at, went_on, went_wrong}
 use Rattle.avtp_tool.proofs.Leaving.{live_now}
 use Rattle.avtp_tool.proofs.hearing.Hearing.read_record.Goals as goal

@@ -2,7 +2,8 @@ use Rattle.std.proofs.Common.{◌≡◌, ◌≤◌, ◌∙◌, length, Some, Non
 use Rattle.std.proofs.lemmas.Result.{err_from_is_err_and}
 use Rattle.capture_io.specs.declared.capture_reader.Format.{Format}
 use Rattle.capture_io.specs.declared.capture_reader.Format.TheVariants.{Classic, Pcapng}
-use Rattle.capture_io.specs.Reader.{CaptureReading, IsFront}
+use Rattle.capture_io.specs.Reader.{CaptureReading}
+use Rattle.capture_io.specs.state.Reader.{IsFront}
 use Rattle.capture_io.proofs.Reader.{classic_handed, classic_rejects, feeds_as, front_feeds, longer, pcapng_handed, pcapng_rejects, told_classic, told_pcapng}
 use Rattle.capture_io.proofs.capture_reader.CaptureReader.feed_front.Goals as goal
 

@@ -1,5 +1,6 @@
 use Rattle.std.proofs.Common.{◌≡◌, IsSome, None, ap, refl, sym, subst, ◌∙◌}
-use Rattle.capture_io.specs.Source.{Sourcing, GivesNext, ReadsOn, held_in}
+use Rattle.capture_io.specs.Source.{Sourcing, GivesNext, held_in}
+use Rattle.capture_io.specs.state.Source.{ReadsOn}
 use Rattle.capture_io.proofs.Giving.{gives_again, gives_next}
 use Rattle.capture_io.proofs.feed.Feed.next.Goals as goal
 use Rattle.avtp_base.proofs.Results.{not_some}

@@ -4,7 +4,8 @@ use Rattle.std.proofs.lemmas.Grind.{common_steps}
 use Rattle.std.specs.Vec.{with_items}
 use Rattle.std.proofs.lemmas.Bool.{ltb-true, ltb-false}
 use Rattle.std.proofs.lemmas.List.{with_items_is}
-use Rattle.capture_io.specs.Pieces.{Piecing, HasTakenOf}
+use Rattle.capture_io.specs.Pieces.{Piecing}
+use Rattle.capture_io.specs.state.Pieces.{HasTakenOf}
 use Rattle.capture_io.proofs.Taking.{read_more}
 use Rattle.capture_io.proofs.pieces.Pieces.read.Goals as goal
 

@@ -1,5 +1,6 @@
 use Rattle.std.proofs.Common.{◌∙◌, sym, subst}
-use Rattle.capture_io.specs.Source.{GivesUp, Sourcing}
+use Rattle.capture_io.specs.Source.{Sourcing}
+use Rattle.capture_io.specs.state.Source.{GivesUp}
 use Rattle.capture_io.proofs.Lending.{lent_by, read_by}
 use Rattle.capture_io.proofs.source.Source.next.Goals as goal
 

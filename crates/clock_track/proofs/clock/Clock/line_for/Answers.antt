@@ -2,7 +2,8 @@
 use Rattle.std.proofs.Common.{◌≡◌, ap, ◌∙◌, map, w64, to_z, of_z, arith}
 use Rattle.std.proofs.lemmas.Int.{ints}
 use Rattle.clock_track.specs.Rows.{used, window}
-use Rattle.clock_track.specs.Window.{ClockState, kept_row}
+use Rattle.clock_track.specs.Window.{ClockState}
+use Rattle.clock_track.specs.state.Window.{kept_row}
 use Rattle.clock_track.proofs.Windows.{used-window}
 use Rattle.clock_track.proofs.clock.Clock.line_for.Goals as goal
 

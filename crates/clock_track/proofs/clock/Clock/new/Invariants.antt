@@ -1,5 +1,5 @@
 use Rattle.std.proofs.Common.{◌≡◌, All, vec_len}
-use Rattle.clock_track.specs.Window.{IsRoom}
+use Rattle.clock_track.specs.state.Window.{IsRoom}
 use Rattle.clock_track.proofs.clock.Clock.new.Given as goal
 
 -- so many rooms were reserved

@@ -1,6 +1,7 @@
 use Rattle.std.proofs.Common.{◌≡◌, true, false}
 use Rattle.cvf_format.specs.Stretches.{begins}
-use Rattle.cvf_format.specs.Assembly.{fragment_of, goes_on_here, has_room}
+use Rattle.cvf_format.specs.Assembly.{fragment_of}
+use Rattle.cvf_format.specs.state.Assembly.{goes_on_here, has_room}
 use Rattle.cvf_format.proofs.AssemblyLemmas.{pushed_first, pushed_apart, pushed_long, pushed_next, same_pushed}
 use Rattle.cvf_format.proofs.assembler.Assembler.push_packet.Goals as goal
 

@@ -5,7 +5,7 @@ use Rattle.sample_schedule.specs.declared.shown.Shown.{Shown}
 use Rattle.listener.specs.declared.heard.Counts.{Counts}
 use Rattle.listener.specs.Feeding.{Feeding, out}
 use Rattle.listener.specs.Heard.{counts_of}
-use Rattle.listener.specs.Listening.{without_shown}
+use Rattle.listener.specs.state.Listening.{without_shown}
 use Rattle.listener.proofs.Fed.{counted_before}
 use Rattle.listener.proofs.listener.Listener.counts.Goals as goal
 

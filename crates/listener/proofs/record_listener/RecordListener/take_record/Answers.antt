@@ -8,8 +8,9 @@ use Rattle.listener.specs.declared.heard.Counts.{Counts}
 use Rattle.listener.specs.Gathering.{HasUnits}
 use Rattle.listener.specs.Heard.{deliveries_of, entries_so_far_in}
 use Rattle.listener.specs.Items.{given_by, made_entry}
-use Rattle.listener.specs.Listening.{Judges, ListenState, StandsFor, is_closed, with_record}
-use Rattle.listener.specs.Views.{delivery_shape}
+use Rattle.listener.specs.Listening.{Judges, ListenState, StandsFor, is_closed}
+use Rattle.listener.specs.state.Listening.{with_record}
+use Rattle.listener.specs.state.Views.{delivery_shape}
 use Rattle.listener.proofs.Further.{chosen, not_chosen}
 use Rattle.listener.proofs.Listened.{judge_open, judges_open, packets_few, stands_with, still_rests, stands_without, taken_few}
 use Rattle.listener.proofs.record_listener.RecordListener.take_record.Goals as goal

@@ -1,6 +1,6 @@
 use Rattle.std.proofs.Common.{[], arith}
 use Rattle.std.proofs.lemmas.List.Elements.{All-nil}
-use Rattle.listener.specs.Gathering.{IsTimelyEvent}
+use Rattle.listener.specs.state.Gathering.{IsTimelyEvent}
 use Rattle.listener.proofs.Gathered.{begun_left, none_lost}
 use Rattle.listener.proofs.units.Units.new.Goals as goal
 

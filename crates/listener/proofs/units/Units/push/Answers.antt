@@ -4,9 +4,10 @@ use Rattle.cvf_format.specs.Cvf.{cvf_shape}
 use Rattle.cvf_format.specs.declared.piece.Piece.{Piece}
 use Rattle.cvf_format.specs.Stretches.{Fragment, packet, piece, reason, whole_unit}
 use Rattle.time_unfold.specs.Time.{unfolded}
-use Rattle.listener.specs.Gathering.{Gathered, Pushes, own_item}
+use Rattle.listener.specs.Gathering.{Gathered}
+use Rattle.listener.specs.state.Gathering.{Pushes, own_item}
 use Rattle.listener.specs.Units.{fragment_in}
-use Rattle.listener.specs.Views.{delivery_shape}
+use Rattle.listener.specs.state.Views.{delivery_shape}
 use Rattle.listener.proofs.Gathered.{sound_push}
 use Rattle.listener.proofs.units.Units.push.Goals as goal
 

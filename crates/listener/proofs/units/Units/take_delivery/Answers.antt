@@ -1,7 +1,7 @@
 use Rattle.std.proofs.Common.{List, ap, map, sym, ◌∙◌}
 use Rattle.sample_schedule.specs.declared.item.Item.{Item}
 use Rattle.listener.specs.Gathering.{item_entry}
-use Rattle.listener.specs.Views.{delivery_shape}
+use Rattle.listener.specs.state.Views.{delivery_shape}
 use Rattle.listener.proofs.Bounds.{item_fits}
 use Rattle.listener.proofs.Gathered.{audio_taken}
 use Rattle.listener.proofs.units.Units.take_delivery.Goals as goal

@@ -1,5 +1,5 @@
 use Rattle.cvf_format.specs.Cvf.{cvf_shape}
-use Rattle.listener.specs.Views.{delivery_shape}
+use Rattle.listener.specs.state.Views.{delivery_shape}
 use Rattle.listener.proofs.Gathered.{packet_taken, refused_taken}
 use Rattle.listener.proofs.units.Units.take_video.Goals as goal
 

@@ -1,7 +1,7 @@
 use Rattle.std.proofs.Common.{arith, ◌∙◌, sym, ap, subst, List, ℕ, []}
 use Rattle.std.proofs.lemmas.Result.{err_from_is_err_and}
 use Rattle.pcap_frames.proofs.Steps.{two_steps, all_steps, rest_long}
-use Rattle.pcapng_frames.specs.Reading.{Takes}
+use Rattle.pcapng_frames.specs.state.Reading.{Takes}
 use Rattle.pcapng_frames.proofs.Moves.{takes_twice, goes_on}
 use Rattle.pcapng_frames.proofs.Rest.{uncertain, refused_for_good, both_not}
 use Rattle.pcapng_frames.proofs.reader.Ng.feed.Goals as goal

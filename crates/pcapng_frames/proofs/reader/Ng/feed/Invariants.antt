@@ -1,5 +1,6 @@
 use Rattle.std.proofs.Common.{◌≡◌, ◌+◌, ◌-◌, ◌≤◌, None, true, length, take}
-use Rattle.pcapng_frames.specs.Reading.{Takes, taken}
+use Rattle.pcapng_frames.specs.Reading.{taken}
+use Rattle.pcapng_frames.specs.state.Reading.{Takes}
 use Rattle.pcapng_frames.proofs.reader.Ng.feed.Given as goal
 
 abbrev pub invariant-loop-used : goal.invariant-loop-used

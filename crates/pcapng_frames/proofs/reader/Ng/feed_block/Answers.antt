@@ -1,6 +1,6 @@
 use Rattle.std.proofs.Common.{arith, take, ◌∙◌, length, refl, ap}
-use Rattle.pcapng_frames.specs.Blocks.{interfaces_after}
-use Rattle.pcapng_frames.specs.Reading.{place_of}
+use Rattle.pcapng_frames.specs.state.Blocks.{interfaces_after}
+use Rattle.pcapng_frames.specs.state.Reading.{place_of}
 use Rattle.pcapng_frames.proofs.Needs.{block_bound, block_came}
 use Rattle.pcapng_frames.proofs.Feeding.{is_part, is_reading, block_part, part_block, head_none, block_takes, block_refuses, block_ends, inside_part, inside_size, room_less}
 use Rattle.pcapng_frames.proofs.reader.Ng.feed_block.Goals as goal

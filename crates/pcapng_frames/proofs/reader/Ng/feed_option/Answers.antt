@@ -1,6 +1,6 @@
 use Rattle.std.proofs.Common.{arith, ◌∙◌, sym, refl, ap, length, take, List, ℕ, ◌++◌}
 use Rattle.pcapng_frames.specs.Blocks.{order_or_little}
-use Rattle.pcapng_frames.specs.Reading.{place_of}
+use Rattle.pcapng_frames.specs.state.Reading.{place_of}
 use Rattle.pcapng_frames.proofs.Needs.{option_came, option_bound}
 use Rattle.pcapng_frames.proofs.Options.{option_stops, option_moves, at_option_place}
 use Rattle.pcapng_frames.proofs.Feeding.{is_part, is_reading, option_part, part_option, part_in_option, takes_more, refuses_more, ends_more, inside_part, inside_size, part_inside, room_same, head_none}

@@ -1,5 +1,5 @@
 use Rattle.std.proofs.Common.{arith, ◌∙◌, sym, refl, ap, length}
-use Rattle.pcapng_frames.specs.Reading.{place_of}
+use Rattle.pcapng_frames.specs.state.Reading.{place_of}
 use Rattle.pcapng_frames.proofs.Moves.{block_begins}
 use Rattle.pcapng_frames.proofs.Feeding.{is_reading, is_whole, passed_whole, part_in_block, head_none, gives_up}
 use Rattle.pcapng_frames.proofs.reader.Ng.release.Goals as goal

@@ -1,6 +1,6 @@
 use Rattle.std.proofs.Common.{◌≡◌, ◌+◌, length}
 use Rattle.rtrb.specs.Ring.{sent, known_free}
-use Rattle.presenter_ring.specs.Fronts.{HasFed}
+use Rattle.presenter_ring.specs.state.Fronts.{HasFed}
 use Rattle.presenter_ring.proofs.front.Front.take_turn.Given as goal
 
 abbrev pub invariant-loop : goal.invariant-loop

@@ -1,6 +1,7 @@
 use Rattle.std.proofs.Common.{rules, ◌<◌}
 use Rattle.std.proofs.lemmas.Bool.{MatchBool-at_false, MatchBool-at_true}
-use Rattle.presenter_ring.specs.Pipes.{work, IsStill, HasStepped}
+use Rattle.presenter_ring.specs.Pipes.{work}
+use Rattle.presenter_ring.specs.state.Pipes.{IsStill, HasStepped}
 use Rattle.presenter_ring.proofs.PipeLemmas.{moved_by_turns, moved_past, less_past}
 use Rattle.presenter_ring.proofs.pipe.Pipe.advance.Goals as goal
 

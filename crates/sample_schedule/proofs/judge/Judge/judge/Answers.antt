@@ -3,7 +3,7 @@ use Rattle.std.proofs.Common.{◌≡◌, false, Some, ap, sym, subst, ◌∙◌,
 use Rattle.std.proofs.lemmas.Int.{ints}
 use Rattle.sample_schedule.specs.declared.pending.Pending.TheVariants.{Item as PendingItem}
 use Rattle.sample_schedule.specs.Judge.{JudgeState, StandsFor}
-use Rattle.sample_schedule.specs.Order.{starts_due}
+use Rattle.sample_schedule.specs.state.Order.{starts_due}
 use Rattle.sample_schedule.proofs.JudgeLemmas.{accepted-as, flagged-as, less-accepted, out-of, passed-as, waits-judged}
 use Rattle.sample_schedule.proofs.JudgeSound.{sound-accept}
 use Rattle.sample_schedule.proofs.judge.Judge.judge.Goals as goal

@@ -1,7 +1,8 @@
 use Rattle.std.proofs.Common.{◌≡◌, ◌^◌, ◌<◌, ℤ, ap, sym, subst, ◌∙◌, arith, w64, to_z, of_z}
 use Rattle.std.proofs.lemmas.Int.{ints}
 use Rattle.std.specs.Int.{int_max}
-use Rattle.sample_schedule.specs.Judge.{JudgeState, pending_arrival, taken}
+use Rattle.sample_schedule.specs.Judge.{JudgeState, taken}
+use Rattle.sample_schedule.specs.state.Judge.{pending_arrival}
 use Rattle.sample_schedule.proofs.JudgeSound.{next-is, sound-next}
 use Rattle.sample_schedule.proofs.judge.Judge.judge_next.Goals as goal
 

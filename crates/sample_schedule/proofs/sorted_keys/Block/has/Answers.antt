@@ -3,7 +3,7 @@ use Rattle.std.proofs.Common.{◌≡◌, ◌≢◌, ◌≤ℤ◌, ◌<ℤ◌, Li
 use Rattle.std.specs.List.{list_any}
 use Rattle.std.proofs.lemmas.Int.{ints}
 use Rattle.sample_schedule.specs.declared.sorted_keys.Key.{Key}
-use Rattle.sample_schedule.specs.Keys.{is_key}
+use Rattle.sample_schedule.specs.state.Keys.{is_key}
 use Rattle.sample_schedule.proofs.BlockLemmas.{IsBehind, behind-holds, keys-before, no-key-earlier}
 use Rattle.sample_schedule.proofs.sorted_keys.Block.has.Goals as goal
 

@@ -1,6 +1,6 @@
 use Rattle.std.proofs.Common.{◌≡◌, ◌≤◌, ◌≤ℤ◌, length, take}
 use Rattle.std.specs.List.{AllByRecursion, list_any}
-use Rattle.sample_schedule.specs.Keys.{is_key}
+use Rattle.sample_schedule.specs.state.Keys.{is_key}
 use Rattle.sample_schedule.proofs.sorted_keys.Block.has.Given as goal
 
 -- those looked at are others

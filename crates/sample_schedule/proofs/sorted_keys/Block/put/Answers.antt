@@ -1,7 +1,7 @@
 use Rattle.std.proofs.Common.{◌≡◌, List, arith, rules, ap, sym, subst, ◌∙◌, w64, to_z, of_z}
 use Rattle.std.proofs.lemmas.Int.{ints}
 use Rattle.sample_schedule.specs.declared.sorted_keys.Key.{Key}
-use Rattle.sample_schedule.specs.Keys.{KeysAreInOrder, put_key}
+use Rattle.sample_schedule.specs.state.Keys.{KeysAreInOrder, put_key}
 use Rattle.sample_schedule.proofs.BlockLemmas.{in_order-put, placed}
 use Rattle.sample_schedule.proofs.sorted_keys.Block.put.Goals as goal
 

@@ -1,7 +1,7 @@
 use Rattle.std.proofs.Common.{◌++◌, List, arith, ap, sym, subst, ◌∙◌}
 use Rattle.std.proofs.lemmas.List.{append-nil}
 use Rattle.sample_schedule.specs.declared.sorted_keys.Key.{Key}
-use Rattle.sample_schedule.specs.Keys.{KeysAreInOrder}
+use Rattle.sample_schedule.specs.state.Keys.{KeysAreInOrder}
 use Rattle.sample_schedule.proofs.BlockLemmas.{in_order-left, in_order-right}
 use Rattle.sample_schedule.proofs.sorted_keys.Block.split.Goals as goal
 

@@ -2,7 +2,8 @@
 use Rattle.std.proofs.Common.{◌≡◌, ◌+◌, suc, false, true, ap, sym, ◌∙◌, arith, rules, w64, to_z, of_z}
 use Rattle.std.specs.List.{list_any}
 use Rattle.std.proofs.lemmas.Int.{ints}
-use Rattle.sample_schedule.specs.Keys.{KeyList, is_key, starts_before}
+use Rattle.sample_schedule.specs.Keys.{KeyList}
+use Rattle.sample_schedule.specs.state.Keys.{is_key, starts_before}
 use Rattle.sample_schedule.proofs.BlockLemmas.{IsBehind, block-passed, block-within, blocks-before, no-block-earlier}
 use Rattle.sample_schedule.proofs.sorted_keys.SortedKeys.has.Goals as goal
 

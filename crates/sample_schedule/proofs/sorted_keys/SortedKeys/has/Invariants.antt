@@ -1,6 +1,6 @@
 use Rattle.std.proofs.Common.{◌≡◌, ◌≤◌, length, take}
 use Rattle.std.specs.List.{list_any}
-use Rattle.sample_schedule.specs.Keys.{all_keys, is_key}
+use Rattle.sample_schedule.specs.state.Keys.{all_keys, is_key}
 use Rattle.sample_schedule.proofs.sorted_keys.SortedKeys.has.Given as goal
 
 -- those looked at have no such key

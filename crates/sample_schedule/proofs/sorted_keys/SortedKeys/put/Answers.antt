@@ -4,7 +4,8 @@ use Rattle.std.specs.Prelude.{nat_le}
 use Rattle.std.specs.List.{AllByRecursion}
 use Rattle.std.proofs.lemmas.Bool.Decides.{nat_tests}
 use Rattle.sample_schedule.specs.declared.sorted_keys.Key.{Key}
-use Rattle.sample_schedule.specs.Keys.{AreBlocksBut, KeyList, all_keys}
+use Rattle.sample_schedule.specs.Keys.{KeyList}
+use Rattle.sample_schedule.specs.state.Keys.{AreBlocksBut, all_keys}
 use Rattle.sample_schedule.proofs.BlockLemmas.{all-right, blocks-count, get-any, length-put, short-again}
 use Rattle.sample_schedule.proofs.sorted_keys.SortedKeys.put.Goals as goal
 

@@ -1,6 +1,6 @@
 use Rattle.std.proofs.Common.{◌≡◌, ap, sym, ◌∙◌, rules, w64, to_z, of_z}
 use Rattle.std.proofs.lemmas.Int.{ints}
-use Rattle.sample_schedule.specs.Order.{starts_due}
+use Rattle.sample_schedule.specs.state.Order.{starts_due}
 use Rattle.sample_schedule.specs.Waiting.{Held}
 use Rattle.sample_schedule.proofs.Keys.{first-due, none-due}
 use Rattle.sample_schedule.proofs.waiting_room.Waiting.is_due.Goals as goal

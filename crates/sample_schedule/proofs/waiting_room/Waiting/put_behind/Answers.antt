@@ -3,7 +3,8 @@ use Rattle.std.proofs.Common.{◌+◌, ℕ, ap, rules, sym, ◌∙◌, subst, le
 use Rattle.std.proofs.lemmas.Int.{ints}
 use Rattle.sample_schedule.specs.declared.sorted_keys.Key.{Key}
 use Rattle.sample_schedule.specs.Order.{put_behind}
-use Rattle.sample_schedule.specs.Waiting.{Held, IsWaiting}
+use Rattle.sample_schedule.specs.Waiting.{Held}
+use Rattle.sample_schedule.specs.state.Waiting.{IsWaiting}
 use Rattle.sample_schedule.proofs.Keys.{IsPut, held-length, put-list, put-waiting}
 use Rattle.sample_schedule.proofs.waiting_room.Waiting.put_behind.Goals as goal
 

@@ -1,6 +1,6 @@
 use Rattle.std.proofs.Common.{◌∷◌, [], sym, ap, ◌∙◌}
 use Rattle.soak_run.specs.declared.counts.SoakCounts.{SoakCounts}
-use Rattle.soak_run.specs.Counting.{with_shown}
+use Rattle.soak_run.specs.state.Counting.{with_shown}
 use Rattle.soak_run.proofs.CountLemmas.{with_all_append}
 use Rattle.soak_run.proofs.counts.SoakCountsPresenter.present.Goals as goal
 

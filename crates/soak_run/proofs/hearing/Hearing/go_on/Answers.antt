@@ -5,7 +5,7 @@ use Rattle.std.proofs.Math.Logic.{∥∥₁_elim, ∥∥₁_map}
 use Rattle.std.specs.Coded.{le_prop}
 use Rattle.talker.specs.Talking.{Talking}
 use Rattle.soak_run.specs.declared.hearing.Stage.TheVariants.{Showing, Ended}
-use Rattle.soak_run.specs.Hearing.{IsDeliverable}
+use Rattle.soak_run.specs.state.Hearing.{IsDeliverable}
 use Rattle.soak_run.proofs.HearingLemmas.{frames_few, left_on, not_ended, not_over, open_at, records_few, same_step, shows_closed, shows_next, shows_same, stands_on, step_next, steps_on, steps_over}
 use Rattle.soak_run.proofs.hearing.Hearing.go_on.Goals as goal
 

@@ -1,7 +1,7 @@
 use Rattle.std.proofs.Common.{refl, sym, ap, ◌∙◌, arith, append-nil}
 use Rattle.std.proofs.Math.Logic.{∥∥₁_elim, ∥∥₁_map}
 use Rattle.std.specs.Coded.{le_prop}
-use Rattle.soak_run.specs.Hearing.{closed_at}
+use Rattle.soak_run.specs.state.Hearing.{closed_at}
 use Rattle.soak_run.proofs.HearingLemmas.{giving_by, going_on, left_on, open_at, records_few, shows_all, shows_item, shows_still, stands_on}
 use Rattle.soak_run.proofs.hearing.HearingReceiver.next.Goals as goal
 use Rattle.avtp_base.proofs.Results.{fine_match, wrong_match}

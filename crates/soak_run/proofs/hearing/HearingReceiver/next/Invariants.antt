@@ -2,8 +2,8 @@
 use Rattle.std.proofs.Common.{◌≡◌, ◌≤◌, List, None}
 use Rattle.sample_schedule.specs.declared.shown.Shown.{Shown}
 use Rattle.soak_run.specs.declared.hearing.Hearing.{Hearing}
-use Rattle.soak_run.specs.Hearing.{left_of, pull_at, steps_left}
-use Rattle.soak_run.specs.Showing.{HasShown}
+use Rattle.soak_run.specs.state.Hearing.{left_of, pull_at, steps_left}
+use Rattle.soak_run.specs.state.Showing.{HasShown}
 use Rattle.soak_run.proofs.hearing.HearingReceiver.next.Given as goal
 
 abbrev pub invariant-loop-shown : goal.invariant-loop-shown

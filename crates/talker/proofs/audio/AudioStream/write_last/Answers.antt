@@ -1,6 +1,6 @@
 use Rattle.std.proofs.Common.{◌∙◌, ap, List, ℕ, refl}
 use Rattle.talker.specs.Frames.{packet_bytes}
-use Rattle.talker.specs.Talking.{audio_of, samples_size}
+use Rattle.talker.specs.state.Talking.{audio_of, samples_size}
 use Rattle.talker.proofs.SampleLemmas.{laid_over}
 use Rattle.talker.proofs.audio.AudioStream.write_last.Goals as goal
 

@@ -1,5 +1,5 @@
 use Rattle.std.proofs.Common.{List, ℕ, take, drop, append_assoc, arith}
-use Rattle.talker.specs.Packets.{patched}
+use Rattle.talker.specs.state.Packets.{patched}
 use Rattle.talker.proofs.PcmLemmas.{patched_behind}
 use Rattle.talker.proofs.pcm.PcmFormat.write_over.Goals as goal
 

@@ -4,7 +4,7 @@ use mir.Val.{of_z, to_z}
 use mir.Syntax.{w64}
 use Rattle.talker.specs.declared.source.Source.{Source}
 use Rattle.talker.specs.Journal.{Stream, stream_of}
-use Rattle.talker.specs.Talking.{IsSource, stream_in}
+use Rattle.talker.specs.state.Talking.{IsSource, stream_in}
 use Rattle.talker.proofs.SourceLemmas.{audio_few, video_early, video_packets, video_stream_is}
 use Rattle.talker.proofs.source.Source.arrival.Goals as goal
 

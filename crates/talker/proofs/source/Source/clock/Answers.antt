@@ -1,6 +1,6 @@
 use Rattle.std.proofs.Common.{◌≡◌, subst}
 use Rattle.talker.specs.declared.source.Source.{Source}
-use Rattle.talker.specs.Talking.{IsSource, stream_in}
+use Rattle.talker.specs.state.Talking.{IsSource, stream_in}
 use Rattle.talker.proofs.SourceLemmas.{audio_few}
 use Rattle.talker.proofs.source.Source.clock.Goals as goal
 

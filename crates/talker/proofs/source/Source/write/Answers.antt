@@ -2,7 +2,7 @@ use Rattle.std.proofs.Common.{◌≡◌, ◌<◌, length, ap, subst, sym, ◌∙
 use Rattle.talker.specs.declared.source.Source.{Source}
 use Rattle.talker.specs.Frames.{packet_bytes}
 use Rattle.talker.specs.Journal.{Stream}
-use Rattle.talker.specs.Talking.{IsSource, stream_in}
+use Rattle.talker.specs.state.Talking.{IsSource, stream_in}
 use Rattle.talker.proofs.SourceLemmas.{audio_size, video_packets, video_stream_is}
 use Rattle.talker.proofs.source.Source.write.Goals as goal
 

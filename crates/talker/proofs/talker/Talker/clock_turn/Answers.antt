@@ -3,7 +3,7 @@ use Rattle.std.proofs.lemmas.Int.{ints}
 use mir.Val.{of_z, to_z}
 use mir.Syntax.{w64}
 use Rattle.talker.specs.Clock.{clock_arrival}
-use Rattle.talker.specs.Talking.{plan_in, stream_in}
+use Rattle.talker.specs.state.Talking.{plan_in, stream_in}
 use Rattle.talker.proofs.StreamLemmas.{clocks_in, count_clock}
 use Rattle.talker.proofs.TalkLemmas.{clock_sent_as, source_is}
 use Rattle.talker.proofs.TurnLemmas.{beside_is, clock_sized}

@@ -1,5 +1,5 @@
 use Rattle.std.proofs.Common.{sym, ◌∙◌}
-use Rattle.talker.specs.Talking.{stream_in}
+use Rattle.talker.specs.state.Talking.{stream_in}
 use Rattle.talker.proofs.StreamLemmas.{count_clock}
 use Rattle.talker.proofs.talker.Talker.clocks.Goals as goal
 

@@ -1,6 +1,6 @@
 use Rattle.std.proofs.Common.{◌≡◌, ◌+◌, ℕ, arith}
-use Rattle.talker.specs.Frames.{left_of}
-use Rattle.talker.specs.Talking.{input_in, plan_in, stream_in}
+use Rattle.talker.specs.state.Frames.{left_of}
+use Rattle.talker.specs.state.Talking.{input_in, plan_in, stream_in}
 use Rattle.talker.specs.Turns.{frame_in}
 use Rattle.talker.proofs.SourceLemmas.{few_packets}
 use Rattle.talker.proofs.StreamLemmas.{frames_of}

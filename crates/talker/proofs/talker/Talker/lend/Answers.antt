@@ -5,8 +5,9 @@ use mir.Val.{of_z, to_z}
 use mir.Syntax.{w64}
 use Rattle.pcap_frames.specs.Capture.{HasSpelling}
 use Rattle.talker.specs.Frames.{SentFrame, capture_style, record_of}
-use Rattle.talker.specs.Talking.{plan_in, stream_in}
-use Rattle.talker.specs.Turns.{SendsPacket, frame_in, turn_frame}
+use Rattle.talker.specs.state.Talking.{plan_in, stream_in}
+use Rattle.talker.specs.Turns.{frame_in}
+use Rattle.talker.specs.state.Turns.{SendsPacket, turn_frame}
 use Rattle.talker.proofs.TalkLemmas.{source_is}
 use Rattle.talker.proofs.TurnLemmas.{framed, turn_early, turn_fits, turn_most}
 use Rattle.talker.proofs.talker.Talker.lend.Goals as goal

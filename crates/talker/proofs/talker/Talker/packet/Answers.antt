@@ -1,8 +1,8 @@
 use Rattle.std.proofs.Common.{◌≡◌, ◌<◌, Some, refl, arith}
 use Rattle.std.specs.Prelude.{slice_get}
 use Rattle.talker.specs.Frames.{numbered_frames}
-use Rattle.talker.specs.Talking.{stream_in}
-use Rattle.talker.specs.Turns.{turn_frame}
+use Rattle.talker.specs.state.Talking.{stream_in}
+use Rattle.talker.specs.state.Turns.{turn_frame}
 use Rattle.talker.proofs.StreamLemmas.{at_number, count_of, packets_in}
 use Rattle.talker.proofs.talker.Talker.packet.Goals as goal
 

@@ -1,7 +1,7 @@
 use Rattle.std.proofs.Common.{◌≡◌, ◌≢◌, ◌+◌, ◌<◌, ◌≤◌, true, false, ℕ, Some, length, refl, arith}
 use Rattle.std.specs.Prelude.{slice_get}
-use Rattle.talker.specs.Talking.{IsClockFirst, input_in, plan_in, stream_in}
-use Rattle.talker.specs.Turns.{SendsPacket, turn_frame}
+use Rattle.talker.specs.state.Talking.{IsClockFirst, input_in, plan_in, stream_in}
+use Rattle.talker.specs.state.Turns.{SendsPacket, turn_frame}
 use Rattle.talker.proofs.StreamLemmas.{count_all, count_clock, frames_of, packets_in}
 use Rattle.talker.proofs.TalkLemmas.{clock_step, ended, later, packet_step, sooner, source_is}
 use Rattle.talker.proofs.TurnLemmas.{is_turn}

@@ -1,5 +1,6 @@
 use Rattle.std.proofs.Common.{◌+◌}
-use Rattle.talker.specs.Talking.{Talking, input_in, plan_in}
+use Rattle.talker.specs.Talking.{Talking}
+use Rattle.talker.specs.state.Talking.{input_in, plan_in}
 use Rattle.talker.proofs.TurnLemmas.{sending, sent_next}
 use Rattle.talker.proofs.talker.Talker.write.Goals as goal
 

@@ -1,6 +1,6 @@
 use Rattle.std.proofs.Common.{ℕ, sym, subst}
 use Rattle.talker.specs.declared.units.Units.{Units}
-use Rattle.talker.specs.Listing.{IsWalk}
+use Rattle.talker.specs.state.Listing.{IsWalk}
 use Rattle.talker.proofs.ListingLemmas.{walk_on}
 use Rattle.talker.proofs.units.Units.next.Goals as goal
 

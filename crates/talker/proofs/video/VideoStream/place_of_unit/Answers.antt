@@ -5,7 +5,7 @@ use Rattle.std.proofs.lemmas.List.Sorted.{IsPartitionPoint-from_clause}
 use Rattle.cvf_format.specs.AnnexB.{nal_units}
 use Rattle.talker.specs.declared.units.NalUnit.{NalUnit}
 use Rattle.talker.specs.declared.video.VideoStream.{VideoStream}
-use Rattle.talker.specs.Talking.{IsVideo, place_in}
+use Rattle.talker.specs.state.Talking.{IsVideo, place_in}
 use Rattle.talker.proofs.AccessLemmas.{unit_known}
 use Rattle.talker.proofs.VideoLists.{parted, searched}
 use Rattle.talker.proofs.video.VideoStream.place_of_unit.Goals as goal

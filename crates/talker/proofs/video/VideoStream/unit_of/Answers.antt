@@ -1,6 +1,6 @@
 use Rattle.std.proofs.Common.{sym, subst, arith}
 use Rattle.talker.specs.declared.units.NalUnit.{NalUnit}
-use Rattle.talker.specs.Talking.{IsCarried}
+use Rattle.talker.specs.state.Talking.{IsCarried}
 use Rattle.talker.proofs.VideoLists.{carried, listed_all, unit_is}
 use Rattle.talker.proofs.video.VideoStream.unit_of.Goals as goal
 

@@ -1,0 +1,9 @@
+-- Kept for proofs: what the code's own parts hold and do. No clause of a public call rests on it.
+-- What a shelf of real files shows.
+use Rattle.std.specs.Prelude.{ℕ, None}
+use Rattle.avtp_base.specs.Files as files
+use Rattle.avtp_base.specs.States.{ShelfState}
+
+-- all that it means: no file is told, and no account is kept of names
+abbrev pub real_state : files.Slots → ℕ → ℕ → ShelfState
+real_state slots reading writing = record { files = None; slots = slots; reading_faults = reading; writing_faults = writing; asked = None }

@@ -1,0 +1,7 @@
+-- Kept for proofs alone: no clause of a public call rests on what lies here.
+pub mod Asked
+pub mod MemoryFiles
+pub mod MemoryShelf
+pub mod NamedFiles
+pub mod OpenFile
+pub mod QuietShelf

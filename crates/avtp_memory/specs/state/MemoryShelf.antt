@@ -1,0 +1,11 @@
+-- Kept for proofs: what the code's own parts hold and do. No clause of a public call rests on it.
+-- What a shelf in memory shows.
+use Rattle.std.specs.Prelude.{Some}
+use Rattle.avtp_memory.specs.declared.memory_shelf.MemoryShelf.{MemoryShelf}
+use Rattle.avtp_memory.specs.state.Asked.{account_of}
+use Rattle.avtp_base.specs.States.{ShelfState}
+use Rattle.avtp_memory.specs.MemoryShelf.{files_of, slots_of, reading_count, writing_count}
+
+-- all that it means
+abbrev pub state_of : MemoryShelf → ShelfState
+state_of shelf = record { files = Some (files_of shelf); slots = slots_of shelf; reading_faults = reading_count shelf; writing_faults = writing_count shelf; asked = Some (account_of shelf.asked) }

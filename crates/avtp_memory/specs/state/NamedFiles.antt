@@ -1,0 +1,35 @@
+-- Kept for proofs: what the code's own parts hold and do. No clause of a public call rests on it.
+-- Files in memory, as a list of names with their bytes.
+use Rattle.std.specs.Prelude.{◌≡◌, ◌≢◌, ◌↔◌, ◌≤◌, ℕ, Bool, IsTrue, List, ◌++◌, Some, option_map, unwrap_or, find, String, vec_capacity}
+use Rattle.std.specs.Global.{Vec, Global}
+use Rattle.avtp_memory.specs.Room.{kept_within, FitsRoom}
+use Rattle.avtp_memory.specs.NamedFiles.{has_name, bytes_under}
+
+-- the file has these bytes now, and every other file is as it was
+pub record SetsFile (old new : List (String Global × Vec ℕ)) (name bytes : List ℕ) : Type 0 where
+  pub set : bytes_under new name ≡ Some bytes
+  pub others : (other : List ℕ) → other ≢ name → bytes_under new other ≡ bytes_under old other
+
+-- the file has gained these bytes at its end, and every other file is as it was
+abbrev pub GrowsFile : List (String Global × Vec ℕ) → List (String Global × Vec ℕ) → List ℕ → List ℕ → Type 0
+GrowsFile old new name piece =
+    (before : List ℕ) × (bytes_under old name ≡ Some before) × SetsFile old new name (before ++ piece)
+
+-- every file is as it was
+abbrev pub KeepsNamed : List (String Global × Vec ℕ) → List (String Global × Vec ℕ) → Type 0
+KeepsNamed old new = (name : List ℕ) → bytes_under new name ≡ bytes_under old name
+
+-- the bytes that the first entry with the name has memory for
+abbrev pub capacity_under : List (String Global × Vec ℕ) → List ℕ → ℕ
+capacity_under entries name = unwrap_or (option_map (λ entry. vec_capacity entry.1) (find (has_name name) entries)) 0
+
+-- no file has less memory than it had
+abbrev pub KeepsCapacity : List (String Global × Vec ℕ) → List (String Global × Vec ℕ) → Type 0
+KeepsCapacity old new = (name : List ℕ) → capacity_under old name ≤ capacity_under new name
+
+-- the file keeps what fits its room of a piece, which is said to be all of it or not, and every other file is as it was
+pub record KeepsWithin (old new : List (String Global × Vec ℕ)) (name : List ℕ) (room : ℕ) (piece : List ℕ) (fits : Bool) : Type 0 where
+  pub before : List ℕ
+  pub was : bytes_under old name ≡ Some before
+  pub keeps : SetsFile old new name (kept_within room before piece)
+  pub fitting : IsTrue fits ↔ FitsRoom room before piece

@@ -1,0 +1,11 @@
+-- Kept for proofs: what the code's own parts hold and do. No clause of a public call rests on it.
+-- What a quiet shelf shows.
+use Rattle.std.specs.Prelude.{Some}
+use Rattle.avtp_memory.specs.declared.quiet_shelf.QuietShelf.{QuietShelf}
+use Rattle.avtp_memory.specs.state.Asked.{account_of}
+use Rattle.avtp_base.specs.States.{ShelfState}
+use Rattle.avtp_memory.specs.QuietShelf.{files_of, slots_of}
+
+-- all that it means
+abbrev pub state_of : QuietShelf → ShelfState
+state_of shelf = record { files = files_of shelf; slots = slots_of shelf; reading_faults = 0; writing_faults = 0; asked = Some (account_of shelf.asked) }

@@ -1,6 +1,0 @@
--- A piece of a text that is written over.
-use Rattle.std.specs.Prelude.{◌≡◌, ℕ, List, ◌++◌, length}
-
--- the piece stands where as many bytes stood, before the last `behind` ones
-abbrev pub Overwrites : List ℕ → List ℕ → List ℕ → ℕ → Type 0
-Overwrites old new piece behind = (before was after : List ℕ) → old ≡ before ++ was ++ after → length was ≡ length piece → length after ≡ behind → new ≡ before ++ piece ++ after

@@ -1,0 +1,31 @@
+-- Kept for proofs: what the code's own parts hold and do. No clause of a public call rests on it.
+-- The line of an AAF packet, whose end stays for that of the next one.
+use Rattle.std.specs.Prelude.{◌≡◌, List, ℕ, ◌++◌, codes, decimal}
+use Rattle.aaf_format.specs.Aaf.{Aaf}
+use Rattle.avtp_text.specs.declared.aaf_line.AafEnd.{AafEnd}
+use Rattle.avtp_text.specs.Pieces.{newline, id_text}
+use Rattle.avtp_text.specs.Show.{aaf_content}
+
+-- what a line shows of a packet up to its timestamp
+unfoldable pub aaf_start : Aaf → List ℕ
+aaf_start v = codes "aaf " ++ (codes "id " ++ id_text v.header.stream_id ++ codes " seq " ++ decimal v.header.seq ++ codes " ts " ++ decimal v.header.timestamp)
+
+-- what it shows behind that
+abbrev pub end_of : Aaf → AafEnd
+end_of v = record {
+  tv = v.header.tv;
+  tu = v.header.tu;
+  mr = v.header.mr;
+  sparse = v.sparse;
+  evt = v.evt;
+  format = v.format;
+  nsr = v.nsr;
+  channels = v.channels;
+  depth = v.depth;
+  count = v.count;
+  data_length = v.header.data_length;
+}
+
+-- the line of each packet with this end ends in this text
+abbrev pub IsEnd : AafEnd → List ℕ → Type 0
+IsEnd end text = (v : Aaf) → end_of v ≡ end → aaf_content v ++ newline ≡ aaf_start v ++ text

@@ -1,0 +1,74 @@
+-- Kept for proofs: what the code's own parts hold and do. No clause of a public call rests on it.
+-- The line of a sample, of which those of the next ones are made.
+use Rattle.std.specs.Prelude.{◌≡◌, ℕ, ◌+◌, ◌*◌, ◌^◌, ◌<◌, ◌≤◌, ℤ, pos, ◌+ℤ◌, List, ◌++◌, length, take, codes, decimal}
+use Rattle.sample_schedule.specs.Batches.{Presented}
+use Rattle.avtp_text.specs.declared.sample_line.Numbers.{Numbers}
+use Rattle.avtp_text.specs.declared.sample_line.KeptLine.{KeptLine}
+use Rattle.avtp_text.specs.Pieces.{newline}
+use Rattle.avtp_text.specs.SampleLines.{SamplePacket}
+
+abbrev pub seen_as : ℕ → ℕ → ℕ → SamplePacket
+seen_as frame seq size = record { frame = frame; seq = seq; size = size }
+
+-- that of a batch
+abbrev pub packet_of : Presented → ℕ → SamplePacket
+packet_of batch size = seen_as batch.frame batch.seq size
+
+-- how a line ends, with its hexadecimal digits
+abbrev pub hex_end : List ℕ → List ℕ
+hex_end hex = codes " " ++ hex ++ newline
+
+-- what stands behind the sequence number, with a sample's number
+abbrev pub behind_seq : List ℕ → List ℕ → List ℕ
+behind_seq number hex = codes " sample " ++ number ++ hex_end hex
+
+-- behind the frame's number
+abbrev pub behind_frame : ℕ → List ℕ → List ℕ → List ℕ
+behind_frame seq number hex = codes " seq " ++ decimal seq ++ behind_seq number hex
+
+-- and behind the instant
+unfoldable pub behind_instant : ℕ → ℕ → List ℕ → List ℕ → List ℕ
+behind_instant frame seq number hex = codes " frame " ++ decimal frame ++ behind_frame seq number hex
+
+-- a line whose instant has these digits, and these as its last eight
+abbrev pub gapped : ℕ → List ℕ → ℕ → ℕ → List ℕ → List ℕ → List ℕ
+gapped high low frame seq number hex = codes "at " ++ decimal high ++ low ++ behind_instant frame seq number hex
+
+-- The line of a sample of the packet is kept: all of it is known but the instant's last eight digits, the sample's number and its
+-- bytes.
+pub record HasGaps (line : KeptLine) (packet : SamplePacket) : Type 0 where
+  pub high : ℕ
+  pub low : List ℕ
+  pub number : List ℕ
+  pub hex : List ℕ
+  pub short : line.len ≤ length line.bytes
+  pub text : take line.len line.bytes ≡ gapped high low packet.frame packet.seq number hex
+  pub some : 1 ≤ high
+  pub from : line.from ≡ pos (high * 100000000)
+  pub early : high * 100000000 < 2 ^ 63
+  pub eight : length low ≡ 8
+  pub numbers : (n : ℕ) → line.numbers.least ≤ n → n < line.numbers.limit → length (decimal n) ≡ length number
+  pub digits : length hex ≡ 2 * packet.size
+  pub instant : line.behind.instant ≡ length (behind_instant packet.frame packet.seq number hex)
+  pub frame : line.behind.frame ≡ length (behind_frame packet.seq number hex)
+  pub seq : line.behind.seq ≡ length (behind_seq number hex)
+
+-- where a line is kept, its gaps are known
+abbrev pub KnowsGaps : KeptLine → SamplePacket → Type 0
+KnowsGaps line packet = line.numbers.least < line.numbers.limit → HasGaps line packet
+
+-- the instant's digits are those of the start but for the last eight
+pub record StartsAt (instant start : ℤ) : Type 0 where
+  pub high : ℕ
+  pub low : ℕ
+  pub some : 1 ≤ high
+  pub from : start ≡ pos (high * 100000000)
+  pub small : low < 100000000
+  pub at : instant ≡ pos (high * 100000000 + low)
+
+-- the line of this sample differs from a kept one only in its gaps
+pub record Fits (from : ℤ) (numbers : Numbers) (instant : ℤ) (j low : ℕ) : Type 0 where
+  pub small : low < 100000000
+  pub at : instant ≡ from +ℤ pos low
+  pub least : numbers.least ≤ j
+  pub limit : j < numbers.limit

@@ -1,0 +1,52 @@
+-- Kept for proofs: what the code's own parts hold and do. No clause of a public call rests on it.
+-- What `check` prints and how it ends. Its rules are this project's own.
+use Rattle.std.specs.Prelude.{◌≡◌, ◌≤◌, ℕ, ◌+◌, List, ◌++◌, length, take, Option, MatchResult, IfOk, Result, Ok, Err}
+use Rattle.avtp_base.specs.declared.failed.Failed.{Failed}
+use Rattle.avtp_base.specs.Told.{Appends, Keeps}
+use Rattle.pcap_frames.specs.Capture.{Record}
+use Rattle.capture_io.specs.Formats.{records_in}
+use Rattle.sequence_track.specs.declared.seen.Seen.{Seen}
+use Rattle.sequence_track.specs.Findings.{tracked}
+use Rattle.sequence_track.specs.declared.stream.StreamKey.{StreamKey}
+use Rattle.sequence_track.specs.declared.stream.StreamState.{StreamState}
+use Rattle.sequence_track.specs.Tracking.{StandsFor}
+use Rattle.avtp_text.specs.Listen.{capture_line}
+use Rattle.avtp_text.specs.Written.{AppendsPrefix, written}
+use Rattle.capture_io.specs.Source.{EndsAfter}
+use Rattle.avtp_tool.specs.declared.check.Total.{Total}
+use Rattle.avtp_tool.specs.declared.checked.Checked.{Checked}
+use Rattle.avtp_tool.specs.Lines.{of_each}
+use Rattle.avtp_tool.specs.state.Outcome.{KeepsSink}
+use Rattle.avtp_base.specs.States.{SinkState}
+use Rattle.avtp_tool.specs.Check.{noted, notes_of, found_lines, check_lines, joined_lines}
+
+-- ---- what is done
+
+-- The lines of the findings in a record were printed, and counted, which are few; or where the sink failed, none of them.
+pub record PrintsFound (out out' : SinkState) (waits waits' : List ℕ) (result : Result ℕ Failed) (lines : List (List ℕ)) : Type 0 where
+  pub written : MatchResult result (λ _. Appends (written out.held waits) (written out'.held waits') (joined_lines lines)) (λ _. Keeps (written out.held waits) (written out'.held waits'))
+  pub counted : IfOk result (λ n. n ≡ length lines)
+  pub few : IfOk result (λ n. n ≤ 5)
+  pub sink : KeepsSink out out' result
+
+-- The packet of a record of this number was noted, and what is found in it was printed.
+pub record ChecksOne (tracker tracker' : List (StreamKey × StreamState)) (number : ℕ) (checked : Checked) (out out' : SinkState) (waits waits' : List ℕ) (result : Result ℕ Failed) : Type 0 where
+  pub stands : (notes : List Seen) → StandsFor tracker notes → StandsFor tracker' (notes ++ noted checked)
+  pub prints : (notes : List Seen) → StandsFor tracker notes → PrintsFound out out' waits waits' result (found_lines number notes checked)
+  pub few : IfOk result (λ n. n ≤ 5)
+  pub sink : KeepsSink out out' result
+
+-- The records of a file of these bytes, as far as it could be read, were checked and counted, and its reading ended so.
+pub record HasChecked (limit : ℕ) (name bytes : List ℕ) (fault : Type 0) (total : Total) (before now : Option (List ℕ)) : Type 0 where
+  pub records : List Record
+  pub ends : EndsAfter limit bytes fault total.end records
+  pub frames : total.frames ≡ length records
+  pub streams : total.streams ≡ length (tracked (notes_of records))
+  pub found : total.findings ≡ length (of_each check_lines records)
+  pub lines : Appends before now (capture_line name ++ joined_lines (of_each check_lines records))
+
+-- They were checked, or where the sink failed a prefix of their lines was printed.
+abbrev pub ChecksRecords : ℕ → List ℕ → List ℕ → Type 0 → Option (List ℕ) → Option (List ℕ) → Result Total Failed → Type 0
+ChecksRecords limit name bytes fault before now (Ok total) = HasChecked limit name bytes fault total before now
+ChecksRecords limit name bytes fault before now (Err e) =
+    AppendsPrefix before now (capture_line name ++ joined_lines (of_each check_lines (records_in (take limit bytes))))

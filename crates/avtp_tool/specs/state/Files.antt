@@ -1,0 +1,30 @@
+-- Kept for proofs: what the code's own parts hold and do. No clause of a public call rests on it.
+-- What is done with each file of a command that reads several.
+use Rattle.std.specs.Prelude.{ℕ, ◌^◌, ◌≤◌, Bool, true, false, List}
+use Rattle.avtp_words.specs.Grammar.{listening_of}
+use Rattle.avtp_tool.specs.declared.files.Reading.{Reading}
+use Rattle.avtp_tool.specs.declared.files.Reading.TheVariants.{Check, Listen}
+use Rattle.avtp_tool.specs.Check.{check_report}
+use Rattle.avtp_tool.specs.Listen.{listen_report}
+use Rattle.avtp_tool.specs.Reading.{ReadPlan, Report}
+use Rattle.avtp_tool.specs.state.Run.{IsListening}
+
+abbrev pub report_for : Reading → List ℕ → Report
+report_for (Check limit) name = check_report limit name
+report_for (Listen asked) name = listen_report (listening_of asked.now) name
+
+abbrev pub limit_for : Reading → ℕ
+limit_for (Check limit) = limit
+limit_for (Listen asked) = asked.now.limit
+
+abbrev pub plan_for : Reading → List (List ℕ) → ReadPlan
+plan_for reading names = record { names = names; limit = limit_for reading; report = report_for reading }
+
+-- it hands items on
+abbrev pub is_hearing : Reading → Bool
+is_hearing (Check limit) = false
+is_hearing (Listen asked) = true
+
+abbrev pub IsReading : Reading → Type 0
+IsReading (Check limit) = limit ≤ 2 ^ 40
+IsReading (Listen asked) = IsListening (listening_of asked.now)

@@ -1,0 +1,67 @@
+-- Kept for proofs: what the code's own parts hold and do. No clause of a public call rests on it.
+-- What `listen` prints and how it ends.
+use Rattle.std.specs.Prelude.{◌≡◌, ℕ, List, [], Option, None, Some, IfOk, IsSome, OnOk, Result, Ok, Err}
+use Rattle.avtp_base.specs.declared.failed.Failed.{Failed}
+use Rattle.avtp_base.specs.Faults.{Rose}
+use Rattle.avtp_base.specs.States.{ShelfState, SinkState}
+use Rattle.avtp_base.specs.Told.{Appends}
+use Rattle.pcap_frames.specs.Capture.{Record}
+use Rattle.sample_schedule.specs.declared.shown.Shown.{Shown}
+use Rattle.listener.specs.declared.heard.Counts.{Counts}
+use Rattle.listener.specs.Heard.{counts_of}
+use Rattle.listener.specs.Listening.{ListenState}
+use Rattle.avtp_words.specs.Grammar.{Listening}
+use Rattle.avtp_text.specs.Written.{written}
+use Rattle.capture_io.specs.declared.end.End.{End}
+use Rattle.capture_io.specs.Ends.{CountsFault}
+use Rattle.capture_io.specs.Reads.{ReadsSlot}
+use Rattle.capture_io.specs.Source.{EndsAfter, HasGivenOf, Sourcing, slot_of}
+use Rattle.avtp_tool.specs.declared.hearing.Heard.{Heard}
+use Rattle.avtp_tool.specs.declared.hearing.Heard.TheVariants.{Ended, NoMemory}
+use Rattle.avtp_tool.specs.declared.hearing.Stage.{Stage}
+use Rattle.avtp_tool.specs.state.Hearing.{Shows, pull_at}
+use Rattle.avtp_tool.specs.state.Outcome.{KeepsSink}
+use Rattle.avtp_tool.specs.state.Presenting.{GivesItems}
+use Rattle.avtp_tool.specs.Reading.{file_yield}
+use Rattle.avtp_tool.specs.state.Yield.{GivesPart}
+use Rattle.avtp_tool.specs.Listen.{plan_of, shown_by, shown_text, listen_report}
+
+-- ---- the records of a capture
+
+-- The records of a file of these bytes, as far as it could be read, were heard, its reading ended so, and what is shown of them
+-- then was printed, handed on and counted.
+pub record HasHeard (asked : Listening) (handed : List Shown → Type 0) (name bytes : List ℕ) (fault : Type 0) (how : End) (counts : Counts) (before now : Option (List ℕ)) : Type 0 where
+  pub records : List Record
+  pub ends : EndsAfter asked.limit bytes fault how records
+  pub counted : counts ≡ counts_of (plan_of asked) records (shown_by (plan_of asked) records how)
+  pub lines : Appends before now (shown_text name (shown_by (plan_of asked) records how))
+  pub items : handed (shown_by (plan_of asked) records how)
+
+-- They were heard; or where no memory was found or the sink failed, a part of what the file yields was given out.
+abbrev pub HearsRecords : Listening → (List Shown → Type 0) → List ℕ → List ℕ → Type 0 → Option (List ℕ) → Option (List ℕ) → Result Heard Failed → Type 0
+HearsRecords asked handed name bytes fault before now (Ok (Ended how counts)) = HasHeard asked handed name bytes fault how counts before now
+HearsRecords asked handed name bytes fault before now (Ok NoMemory) = GivesPart handed before now (file_yield (listen_report asked name) asked.limit (Some bytes))
+HearsRecords asked handed name bytes fault before now (Err e) = GivesPart handed before now (file_yield (listen_report asked name) asked.limit (Some bytes))
+
+-- how the reading of the records ended, where it did
+abbrev pub heard_end : Heard → Option End
+heard_end (Ended how counts) = Some how
+heard_end NoMemory = None
+
+-- Items were shown, their lines printed and each handed on once its lines were; all of them where the hearing ended, or the
+-- first where the sink failed.
+pub record HearsItems (handed : List Shown → Type 0) (shelf shelf' : ShelfState)
+    (old_source source : Sourcing) (old_listener listener : ListenState) (stage : Stage) (out out' : SinkState) (waits waits' : List ℕ) (result : Result Unit Failed) : Type 0 where
+  pub items : List Shown
+  pub shows : Shows shelf shelf' old_source source old_listener listener stage items
+  pub gives : GivesItems handed out out' waits waits' result items
+  pub over : OnOk result (IsSome (pull_at stage))
+
+-- The records of an open capture were heard by this listener, and told of. The count of reading faults rose where a fault ended
+-- the reading, and the sink keeps what it held.
+pub record HearsCapture (handed : List Shown → Type 0) (name : List ℕ) (listener : ListenState) (shelf shelf' : ShelfState) (old new : Sourcing) (out out' : SinkState) (waits waits' : List ℕ) (result : Result Heard Failed) : Type 0 where
+  pub heard : (asked : Listening) (bytes : List ℕ) → listener.plan ≡ plan_of asked → HasGivenOf asked.limit bytes shelf old []
+      → HearsRecords asked handed name bytes (Rose shelf.reading_faults shelf'.reading_faults) (written out.held waits) (written out'.held waits') result
+  pub reads : ReadsSlot shelf shelf' (slot_of old) (slot_of new)
+  pub counted : IfOk result (λ h. CountsFault None (heard_end h) shelf.reading_faults shelf'.reading_faults)
+  pub sink : KeepsSink out out' result

@@ -1,0 +1,74 @@
+-- Kept for proofs: what the code's own parts hold and do. No clause of a public call rests on it.
+-- Files that a command reads in order: what may become of each, and of all.
+use Rattle.std.specs.Prelude.{◌≡◌, ℕ, ◌^◌, ◌≤◌, List, [], ◌∷◌, length, take, Option, Some, None, IfOk, IsSome, Result, Ok, Err, Bool, true, false}
+use Rattle.avtp_base.specs.declared.failed.Failed.{Failed}
+use Rattle.avtp_base.specs.Faults.{Rose}
+use Rattle.avtp_base.specs.Files.{Files, Slots}
+use Rattle.avtp_base.specs.States.{ShelfState, SinkState}
+use Rattle.avtp_text.specs.Written.{written}
+use Rattle.capture_io.specs.declared.end.End.{End}
+use Rattle.capture_io.specs.Ends.{CountsFault}
+use Rattle.capture_io.specs.Reads.{OnlyReads, ReadsSlot}
+use Rattle.capture_io.specs.Source.{HasGivenOf, Sourcing, slot_of, to_do}
+use Rattle.avtp_tool.specs.declared.status.Status.{Status}
+use Rattle.avtp_tool.specs.declared.status.Status.TheVariants as status
+use Rattle.sample_schedule.specs.declared.shown.Shown.{Shown}
+use Rattle.avtp_tool.specs.state.Outcome.{CountsReading, IsDone, KeepsSink, TellsRun, TellsYield}
+use Rattle.avtp_tool.specs.Reading.{Report, FileOutcome, ReadPlan, PlanOutcome}
+
+-- ---- an open capture
+
+-- It may be read, up to so many bytes, and its reading has not ended.
+abbrev pub IsOpen : Slots → Sourcing → Type 0
+IsOpen slots source = (source.ended ≡ None) × IsSome (slots (slot_of source)) × (to_do source ≤ 2 ^ 41)
+
+-- how its reading ended, where all was done with its records
+abbrev pub ended_in : {T E : Type 0} → (T → End) → Result T E → Option End
+ended_in end (Ok x) = Some (end x)
+ended_in end (Err e) = None
+
+-- It was read, and is still open; all else is as it was. The count of reading faults rose where a fault ended the reading, and
+-- else it is as it was.
+pub record ReadsCapture (shelf shelf' : ShelfState) (k now : ℕ) (how : Option End) : Type 0 where
+  pub reads : ReadsSlot shelf shelf' k now
+  pub counted : CountsFault None how shelf.reading_faults shelf'.reading_faults
+
+-- Its records were read, as far as could be, and told of. What they are told as is `Told`: it is said of how many bytes may be
+-- read, the bytes of the file, what a fault of reading needs, the text that was known before and now, and the result.
+pub record ReadsRecords {T : Type 0} (Told : ℕ → List ℕ → Type 0 → Option (List ℕ) → Option (List ℕ) → Result T Failed → Type 0) (ending : T → End)
+    (shelf shelf' : ShelfState) (old new : Sourcing) (out out' : SinkState) (waits waits' : List ℕ) (result : Result T Failed) : Type 0 where
+  pub told : (limit : ℕ) (bytes : List ℕ) → HasGivenOf limit bytes shelf old [] → Told limit bytes (Rose shelf.reading_faults shelf'.reading_faults) (written out.held waits) (written out'.held waits') result
+  pub reads : ReadsCapture shelf shelf' (slot_of old) (slot_of new) (ended_in ending result)
+  pub sink : KeepsSink out out' result
+
+-- ---- what was done
+
+-- A run that only reads can end so: with no failed write, no word, no device and no input for `talk`.
+abbrev pub is_of_reading : Status → Bool
+is_of_reading status.Words = false
+is_of_reading status.WriteFault = false
+is_of_reading status.DeviceFault = false
+is_of_reading status.TalkInput = false
+is_of_reading ended = true
+
+abbrev pub IsReadingStatus : Result Status Failed → Type 0
+IsReadingStatus result = IfOk result (λ s. is_of_reading s ≡ true)
+
+-- The file of a name was read, of which `limit` bytes may be, and nothing else was done but that items were handed on.
+pub record DoesFile (report : Report) (handed : List Shown → Type 0) (limit : ℕ) (name : List ℕ) (shelf shelf' : ShelfState) (out out' : SinkState) (waits waits' : List ℕ) (result : Result Status Failed) : Type 0 where
+  pub tells : (all : Files) → shelf.files ≡ Some all → TellsYield (FileOutcome report limit (all name) (Rose shelf.reading_faults shelf'.reading_faults)) handed (written out.held waits) (written out'.held waits') result
+  pub keeps : OnlyReads shelf shelf' (name ∷ [])
+  pub counts : CountsReading (name ∷ []) shelf.files shelf.reading_faults shelf'.reading_faults result
+  pub own : IsReadingStatus result
+  pub sink : KeepsSink out out' result
+
+-- The files of a plan were read in order, as far as the run came, and nothing else was done but that items were handed on.
+pub record DoesFiles (plan : ReadPlan) (handed : List Shown → Type 0) (shelf shelf' : ShelfState) (out out' : SinkState) (waits waits' : List ℕ) (result : Result Status Failed) : Type 0 where
+  pub tells : (all : Files) → shelf.files ≡ Some all → IsSome shelf'.files → TellsRun (PlanOutcome plan all (Rose shelf.reading_faults shelf'.reading_faults)) handed shelf shelf' (written out.held waits) (written out'.held waits') result
+  pub count : ℕ
+  pub within : count ≤ length plan.names
+  pub all : IsDone result → count ≡ length plan.names
+  pub keeps : OnlyReads shelf shelf' (take count plan.names)
+  pub counts : CountsReading plan.names shelf.files shelf.reading_faults shelf'.reading_faults result
+  pub own : IsReadingStatus result
+  pub sink : KeepsSink out out' result

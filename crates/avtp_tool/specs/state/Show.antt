@@ -1,0 +1,26 @@
+-- Kept for proofs: what the code's own parts hold and do. No clause of a public call rests on it.
+-- What `show` prints and how it ends.
+use Rattle.std.specs.Prelude.{◌≡◌, ℕ, List, length, take, Option, Result, Ok, Err}
+use Rattle.pcap_frames.specs.Capture.{Record}
+use Rattle.capture_io.specs.Formats.{records_in}
+use Rattle.capture_io.specs.Source.{EndsAfter}
+use Rattle.avtp_base.specs.declared.failed.Failed.{Failed}
+use Rattle.avtp_base.specs.Told.{Appends}
+use Rattle.avtp_text.specs.Written.{AppendsPrefix}
+use Rattle.avtp_tool.specs.declared.show.Printed.{Printed}
+use Rattle.avtp_tool.specs.Lines.{of_each}
+use Rattle.avtp_tool.specs.Show.{show_line}
+
+-- ---- the records of a capture
+
+-- The records of a file of these bytes, as far as it could be read, were printed and counted, and its reading ended so.
+pub record HasPrinted (limit : ℕ) (bytes : List ℕ) (fault : Type 0) (printed : Printed) (before now : Option (List ℕ)) : Type 0 where
+  pub records : List Record
+  pub ends : EndsAfter limit bytes fault printed.end records
+  pub counted : printed.frames ≡ length records
+  pub lines : Appends before now (of_each show_line records)
+
+-- They were printed, or where the sink failed a prefix of their lines was.
+abbrev pub PrintsRecords : ℕ → List ℕ → Type 0 → Option (List ℕ) → Option (List ℕ) → Result Printed Failed → Type 0
+PrintsRecords limit bytes fault before now (Ok printed) = HasPrinted limit bytes fault printed before now
+PrintsRecords limit bytes fault before now (Err e) = AppendsPrefix before now (of_each show_line (records_in (take limit bytes)))

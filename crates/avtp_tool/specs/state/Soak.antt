@@ -1,0 +1,16 @@
+-- Kept for proofs: what the code's own parts hold and do. No clause of a public call rests on it.
+-- What `soak` prints and how it ends.
+use Rattle.std.specs.Prelude.{◌≡◌, ◌⊎◌, ℕ, List, Result, IfOk}
+use Rattle.avtp_base.specs.declared.failed.Failed.{Failed}
+use Rattle.avtp_text.specs.Written.{written}
+use Rattle.avtp_tool.specs.declared.status.Status.{Status}
+use Rattle.avtp_tool.specs.declared.status.Status.TheVariants as status
+use Rattle.avtp_tool.specs.Outcome.{Only}
+use Rattle.avtp_tool.specs.state.Outcome.{KeepsSink, TellsText}
+use Rattle.avtp_base.specs.States.{SinkState}
+
+-- A run that reads and writes no file prints this text, or finds no memory.
+pub record Says (text : List ℕ) (out out' : SinkState) (waits waits' : List ℕ) (result : Result Status Failed) : Type 0 where
+  pub tells : TellsText (Only status.Done text) (written out.held waits) (written out'.held waits') result
+  pub own : IfOk result (λ s. (s ≡ status.Done) ⊎ (s ≡ status.Memory))
+  pub sink : KeepsSink out out' result

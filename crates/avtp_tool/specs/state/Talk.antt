@@ -1,0 +1,81 @@
+-- Kept for proofs: what the code's own parts hold and do. No clause of a public call rests on it.
+-- What `talk` prints and how it ends.
+use Rattle.std.specs.Prelude.{◌≡◌, ◌≢◌, ℕ, List, [], ◌∷◌, Option, Some, None, Result, Ok, IfOk, if◌then◌else◌, slice_get}
+use Rattle.avtp_base.specs.declared.failed.Failed.{Failed}
+use Rattle.avtp_base.specs.States.{Asks, ShelfState, SinkState}
+use Rattle.capture_io.specs.declared.contents.Contents.{Contents}
+use Rattle.capture_io.specs.Contents.{IsContents}
+use Rattle.capture_io.specs.declared.end.Stop.{Stop}
+use Rattle.capture_io.specs.declared.end.Stop.TheVariants as stop
+use Rattle.capture_io.specs.Writing.{KeepsSlotsBut}
+use Rattle.pcap_frames.specs.Capture.{record_spelling}
+use Rattle.talker.specs.declared.fault.TalkFault.{TalkFault}
+use Rattle.talker.specs.declared.plan.TalkPlan.{TalkPlan}
+use Rattle.talker.specs.Frames.{SentFrame, capture, capture_style, frames, record_of}
+use Rattle.talker.specs.Talking.{Talking as Sending, most_input}
+use Rattle.avtp_text.specs.Talk.{talk_input_line}
+use Rattle.avtp_tool.specs.declared.status.Status.{Status}
+use Rattle.avtp_tool.specs.declared.status.Status.TheVariants as status
+use Rattle.avtp_tool.specs.Made.{KeepsFilesBut}
+use Rattle.avtp_tool.specs.state.Made.{CountsWriting, Makes}
+use Rattle.avtp_tool.specs.Outcome.{AsksFor, is_done}
+use Rattle.avtp_tool.specs.state.Outcome.{EndsWith, IsDone, KeepsSink, TellsText}
+use Rattle.talker.specs.declared.fault.TalkFault.TheVariants as fault
+use Rattle.avtp_base.specs.Told.{Keeps}
+use Rattle.avtp_text.specs.Written.{written}
+use Rattle.avtp_tool.specs.Talk.{TalkedOutcome}
+
+-- ---- the records of its capture
+
+-- the record of a frame, where there is one
+abbrev pub spelled_frame : Option SentFrame → List ℕ
+spelled_frame None = []
+spelled_frame (Some f) = record_spelling capture_style (record_of f)
+
+-- that of the frame which a talker sends next
+abbrev pub next_record : Sending → List ℕ
+next_record t = spelled_frame (slice_get (frames t.plan t.input) t.given)
+
+-- ---- what is done
+
+-- A run over an input whose reading stopped so ends with a fault of reading exactly where that stopped it, and never for its
+-- words or for a device.
+pub record FaultStops (halt : Stop) (result : Result Status Failed) : Type 0 where
+  pub fault : result ≡ Ok status.ReadFault → halt ≡ stop.Fault
+  pub quiet : IfOk result (λ s. s ≢ status.ReadFault → s ≢ status.Memory → s ≢ status.WriteFault → halt ≢ stop.Fault)
+  pub no_words : result ≢ Ok status.Words
+  pub no_devices : result ≢ Ok status.DeviceFault
+
+-- A call that writes one file alone left this of all others, of the slots and of the counts, and asked for its name.
+pub record WritesOnly (shelf shelf' : ShelfState) (name : List ℕ) (result : Result Status Failed) : Type 0 where
+  pub files : KeepsFilesBut (Some name) shelf.files shelf'.files
+  pub slots : KeepsSlotsBut shelf.files shelf.slots shelf'.slots name
+  pub reading : shelf'.reading_faults ≡ shelf.reading_faults
+  pub writing : CountsWriting (Some name) shelf.writing_faults shelf'.writing_faults result
+  pub asked : AsksFor (name ∷ []) shelf shelf' (IsDone result)
+  pub came : IfOk result (λ s. s ≢ status.Memory → s ≢ status.WriteFault → Asks (if is_done s then name ∷ [] else []) shelf shelf')
+
+-- A call that makes the file of this name of these bytes told one of the outcomes that there can be; it wrote the file, and left
+-- all else as it was.
+pub record Talks (Outcome : Status → List ℕ → Type 0) (name bytes : List ℕ) (shelf shelf' : ShelfState)
+    (out out' : SinkState) (waits waits' : List ℕ) (result : Result Status Failed) : Type 0 where
+  pub tells : TellsText Outcome (written out.held waits) (written out'.held waits') result
+  pub makes : Makes name bytes shelf.files shelf'.files result
+  pub writes : WritesOnly shelf shelf' name result
+  pub sink : KeepsSink out out' result
+
+-- The same of the capture of an input, by what was read of it.
+pub record TalksContents (plan : TalkPlan) (contents : Contents) (name : List ℕ) (shelf shelf' : ShelfState)
+    (out out' : SinkState) (waits waits' : List ℕ) (result : Result Status Failed) : Type 0 where
+  pub tells : (bytes : List ℕ) → IsContents most_input bytes contents.stop contents.bytes.items → TellsText (TalkedOutcome plan bytes (contents.stop ≡ stop.Fault)) (written out.held waits) (written out'.held waits') result
+  pub makes : (bytes : List ℕ) → IsContents most_input bytes contents.stop contents.bytes.items → Makes name (capture plan bytes) shelf.files shelf'.files result
+  pub writes : WritesOnly shelf shelf' name result
+  pub counts : FaultStops contents.stop result
+  pub sink : KeepsSink out out' result
+
+-- A run ends since the input makes no stream: for want of memory with that status and nothing printed, and else with the line
+-- that says why.
+pub record EndsRefused (why : TalkFault) (out out' : SinkState) (waits waits' : List ℕ) (result : Result Status Failed) : Type 0 where
+  pub memory : why ≡ fault.Memory → (result ≡ Ok status.Memory) × Keeps (written out.held waits) (written out'.held waits')
+  pub other : why ≢ fault.Memory → EndsWith status.TalkInput out out' waits waits' result (talk_input_line why)
+  pub sink : KeepsSink out out' result

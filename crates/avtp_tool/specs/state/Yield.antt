@@ -1,0 +1,24 @@
+-- Kept for proofs: what the code's own parts hold and do. No clause of a public call rests on it.
+-- What a run yields: the text that it prints, and the items that it hands to devices.
+use Rattle.std.specs.Prelude.{◌≡◌, ℕ, List, [], Option}
+use mathlib.Core.List.{IsPrefix}
+use Rattle.avtp_base.specs.Told.{Appends}
+use Rattle.avtp_text.specs.Written.{AppendsPrefix}
+use Rattle.sample_schedule.specs.declared.shown.Shown.{Shown}
+use Rattle.avtp_tool.specs.Yield.{Yield}
+
+-- none is handed on
+abbrev pub HandsNothing : List Shown → Type 0
+HandsNothing items = items ≡ []
+
+-- Known bytes grew by the text, and the items were handed. What it is that some items were handed is `handed`.
+pub record Gives (handed : List Shown → Type 0) (before now : Option (List ℕ)) (yields : Yield) : Type 0 where
+  pub text : Appends before now yields.text
+  pub items : handed yields.items
+
+-- Known bytes grew by a prefix of the text, and the first of the items were handed.
+pub record GivesPart (handed : List Shown → Type 0) (before now : Option (List ℕ)) (yields : Yield) : Type 0 where
+  pub text : AppendsPrefix before now yields.text
+  pub front : List Shown
+  pub first : IsPrefix front yields.items
+  pub items : handed front

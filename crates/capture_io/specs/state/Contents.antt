@@ -1,0 +1,11 @@
+-- Kept for proofs: what the code's own parts hold and do. No clause of a public call rests on it.
+-- A file that is read whole.
+use Rattle.std.specs.Prelude.{Option, Some, None, Result, Ok, Err}
+use Rattle.avtp_base.specs.declared.failed.NoMemory.{NoMemory}
+use Rattle.capture_io.specs.declared.contents.Contents.{Contents}
+use Rattle.capture_io.specs.declared.end.Stop.{Stop}
+
+-- where the reading stopped, if what was read found memory
+abbrev pub stop_of : Result Contents NoMemory → Option Stop
+stop_of (Ok contents) = Some contents.stop
+stop_of (Err e) = None

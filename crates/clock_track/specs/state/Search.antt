@@ -1,0 +1,15 @@
+-- Kept for proofs: what the code's own parts hold and do. No clause of a public call rests on it.
+-- What a search for a clock's line looks for, and what it finds.
+use Rattle.std.specs.Prelude.{Bool, if◌then◌else◌, Option, Some, None}
+use Rattle.clock_track.specs.declared.pair.Pair.{Pair}
+use Rattle.clock_track.specs.declared.search.Query.{Query}
+use Rattle.clock_track.specs.Pairs.{covers}
+
+-- the test of a pair
+abbrev pub test_of : Query → Pair → Bool
+test_of query pair = covers pair query.rate query.instant
+
+-- what passes a test
+abbrev pub kept : (Pair → Bool) → Option Pair → Option Pair
+kept test None = None
+kept test (Some pair) = if test pair then Some pair else None

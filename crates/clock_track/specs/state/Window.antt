@@ -1,0 +1,34 @@
+-- Kept for proofs: what the code's own parts hold and do. No clause of a public call rests on it.
+-- A clock that keeps its last packets.
+use Rattle.std.specs.Prelude.{◌≡◌, ◌≤◌, ◌+◌, ℕ, All, length, map, vec_capacity, vec_len}
+use Rattle.std.specs.Global.{Vec}
+use Rattle.circular_buffer.specs.Buffer.{Buffer}
+use Rattle.clock_track.specs.declared.clock.Kept.{Kept}
+use Rattle.clock_track.specs.declared.clock_row.ClockRow.{ClockRow}
+use Rattle.clock_track.specs.Limits.{IsNotable}
+
+abbrev pub kept_row : Kept → ClockRow
+kept_row kept = record {
+  usable = kept.usable;
+  seq = kept.seq;
+  mr = kept.mr;
+  base_frequency = kept.base_frequency;
+  pull = kept.pull;
+  interval = kept.interval;
+  payload = kept.payload.items;
+}
+
+-- any packet's timestamps fit
+abbrev pub IsRoom : Vec ℕ → Type 0
+IsRoom room = 65528 ≤ vec_capacity room
+
+abbrev pub HasRoom : Kept → Type 0
+HasRoom kept = IsRoom kept.payload
+
+-- there is room for 64 packets, of those that are kept and those that are missing
+pub record IsWindow (rows : Buffer Kept) (spare : Vec (Vec ℕ)) : Type 0 where
+  pub capacity : rows.capacity ≡ 64
+  pub count : length rows.items + vec_len spare ≡ 64
+  pub room : All HasRoom rows.items
+  pub spare_room : All IsRoom spare.items
+  pub notable : All IsNotable (map kept_row rows.items)

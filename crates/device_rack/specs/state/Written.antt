@@ -1,0 +1,18 @@
+-- Kept for proofs: what the code's own parts hold and do. No clause of a public call rests on it.
+-- What a device leaves in its sink.
+use Rattle.std.specs.Prelude.{ℕ, List, Option, Result, OnOk, OnErr}
+use mathlib.Core.List.{IsPrefix}
+use Rattle.avtp_base.specs.declared.failed.Failed.{Failed}
+use Rattle.avtp_base.specs.Faults.{IsCounted}
+use Rattle.avtp_base.specs.States.{SinkState}
+use Rattle.avtp_base.specs.Told.{Appends}
+
+-- told bytes grow by a prefix of bs
+abbrev pub AppendsPrefix : Option (List ℕ) → Option (List ℕ) → List ℕ → Type 0
+AppendsPrefix before after bs = (part : List ℕ) × IsPrefix part bs × Appends before after part
+
+-- A sink was given bytes: it took all of them at Ok, and a prefix where it failed, and its count rose there alone.
+pub record HasWritten {T : Type 0} (before after : SinkState) (result : Result T Failed) (bytes : List ℕ) : Type 0 where
+  pub whole : OnOk result (Appends before.held after.held bytes)
+  pub part : OnErr result (AppendsPrefix before.held after.held bytes)
+  pub counted : IsCounted before.faults after.faults result

@@ -1,0 +1,32 @@
+-- Kept for proofs: what the code's own parts hold and do. No clause of a public call rests on it.
+-- A listener that is fed a capture's bytes, in pieces of any length.
+use Rattle.std.specs.Prelude.{◌≡◌, ◌≤◌, ℕ, true, List, length, None}
+use mathlib.Core.List.{IsPrefix}
+use Rattle.pcap_frames.specs.Capture.{Record}
+use Rattle.pcap_frames.specs.Reading.{HasRead, Reading, taken}
+use Rattle.sample_schedule.specs.declared.shown.Shown.{Shown}
+use Rattle.listener.specs.Listening.{IsIdle, ListenState, StandsFor as RecordsStandFor}
+use Rattle.listener.specs.Feeding.{Feeding, IsQuiet, out, StandsFor}
+
+-- A list has all that was given of these bytes.
+pub record HasGiven (bytes : List ℕ) (list : List Shown) (fed : Feeding) : Type 0 where
+  pub stands : StandsFor bytes (length list) fed
+  pub first : IsPrefix list (out fed bytes)
+
+-- ---- between two calls
+
+-- The reader has taken these bytes, each record that it gave up was given to the listener, and so many items were shown.
+pub record HasHeard (bytes : List ℕ) (given : ℕ) (reader : Reading) (listener : ListenState) : Type 0 where
+  pub records : List Record
+  pub read : HasRead reader bytes records
+  pub stands : RecordsStandFor records given listener
+
+-- What holds of every listener: it stands for some bytes, of which each record has at least one; where nothing is due, all was
+-- given; and nothing is due once no memory was found.
+pub record IsSound (fed : Feeding) : Type 0 where
+  pub bytes : List ℕ
+  pub given : ℕ
+  pub stands : StandsFor bytes given fed
+  pub counted : fed.reader.refusal ≡ None → fed.listener.counts.frames ≤ taken fed.reader
+  pub idle : IsQuiet fed → IsIdle fed.listener
+  pub spent : fed.out_of_memory ≡ true → IsQuiet fed

@@ -1,0 +1,60 @@
+-- Kept for proofs: what the code's own parts hold and do. No clause of a public call rests on it.
+-- What a listener stands for that was given a capture's records one at a time, and what it has shown of them.
+use Rattle.std.specs.Prelude.{◌≡◌, ◌<◌, ◌≤◌, ℕ, ◌+◌, ◌-◌, ◌^◌, Bool, true, false, cond, if◌then◌else◌, List, [], length}
+use Rattle.clock_track.specs.Rows.{clock_spot}
+use Rattle.pcap_frames.specs.Capture.{Record}
+use Rattle.sample_schedule.specs.declared.entry.Entry.{Entry}
+use Rattle.sample_schedule.specs.declared.shown.Shown.{Shown}
+use Rattle.sample_schedule.specs.declared.shown.Shown.TheVariants.{Present, Flag}
+use Rattle.sample_schedule.specs.Judge.{JudgeState, StandsFor as JudgeStandsFor, taken}
+use Rattle.sample_schedule.specs.declared.plan.SchedulePlan.{SchedulePlan}
+use Rattle.sample_schedule.specs.Schedule.{due, shown}
+use Rattle.listener.specs.declared.heard.Counts.{Counts}
+use Rattle.listener.specs.Gathering.{Gathered, left}
+use Rattle.listener.specs.Listening.{ListenState, is_closed, IsIdle, Judges, StandsFor}
+
+-- one more record, which belongs to the stream or not
+abbrev pub with_record : Counts → Bool → Counts
+with_record counts in_stream = record counts { frames = counts.frames + 1; packets = counts.packets + cond in_stream 1 0 }
+
+-- one more item was shown, or one less
+abbrev pub with_shown : Counts → Shown → Counts
+with_shown counts (Present batch) = record counts { presented = counts.presented + 1 }
+with_shown counts (Flag frame seq reason) = record counts { flagged = counts.flagged + 1 }
+
+abbrev pub without_shown : Counts → Shown → Counts
+without_shown counts (Present batch) = record counts { presented = counts.presented - 1 }
+without_shown counts (Flag frame seq reason) = record counts { flagged = counts.flagged - 1 }
+
+-- all that is due was given, and records may follow
+pub record Rests (listener : ListenState) : Type 0 where
+  pub opened : is_closed listener ≡ false
+  pub idle : IsIdle listener
+
+-- what is shown of entries: what is due, or all once no record follows
+abbrev pub shown_by : Bool → SchedulePlan → List Entry → List Shown
+shown_by ended plan entries = if ended then shown clock_spot plan entries else due clock_spot plan entries
+
+-- A judge was closed, or not, since more may follow or since it was closed before.
+pub record Closes (ended did : Bool) (old new : JudgeState) : Type 0 where
+  pub stands : (entries : List Entry) (given : ℕ) → JudgeStandsFor clock_spot entries given old → JudgeStandsFor clock_spot entries given new
+  pub plan : new.plan ≡ old.plan
+  pub taken : taken new ≡ taken old
+  pub done : did ≡ true → (ended ≡ true) × ((old.closed ≡ false) × (new.closed ≡ true))
+  pub not_done : did ≡ false → (new ≡ old) × (ended ≡ true → old.closed ≡ true)
+
+-- One item more was given to a judge, or it was closed; or there was nothing left to do.
+pub record JudgesNext (ended did : Bool) (units_old units_new : Gathered) (old new : JudgeState) : Type 0 where
+  pub judges : (entries : List Entry) (given : ℕ) → Judges entries given old units_old → Judges entries given new units_new
+  pub plan : new.plan ≡ old.plan
+  pub few : taken new + length (left units_new) ≡ taken old + length (left units_old)
+  pub over : new.closed ≡ true → (ended ≡ true) × (left units_new ≡ [])
+  pub less : did ≡ true → length (left units_new) + cond new.closed 0 1 < length (left units_old) + cond old.closed 0 1
+  pub none : did ≡ false → ((left units_old ≡ []) × (left units_new ≡ [])) × ((new ≡ old) × (ended ≡ true → new.closed ≡ true))
+
+-- What holds of every listener: some records were given to it, and so many items of what it shows of them were shown.
+pub record IsSound (listener : ListenState) : Type 0 where
+  pub records : List Record
+  pub given : ℕ
+  pub stands : StandsFor records given listener
+  pub few : listener.counts.frames ≤ 2 ^ 62

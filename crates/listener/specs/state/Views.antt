@@ -1,0 +1,15 @@
+-- Kept for proofs: what the code's own parts hold and do. No clause of a public call rests on it.
+-- A delivery as the code holds it.
+use Rattle.std.specs.Prelude.{ℕ, Bool, false, Option, Some, None}
+use Rattle.avtp_header.specs.declared.header.Peeked.{Peeked}
+use Rattle.packet_journal.specs.Deliveries.{Delivery, clock_kinds, is_wanted}
+use Rattle.listener.specs.declared.delivery.DeliveryView.{DeliveryView}
+
+-- a delivery, apart from where its packet lies in memory
+abbrev pub delivery_shape : DeliveryView → Delivery
+delivery_shape d = record { frame = d.frame; arrival = d.arrival; subtype = d.subtype; seq = d.seq; packet = d.packet.now }
+
+-- the first fields of a packet are those of one of the clock, where there is one
+abbrev pub is_of_clock : Option ℕ → Peeked → Bool
+is_of_clock None peeked = false
+is_of_clock (Some id) peeked = is_wanted clock_kinds id peeked

@@ -1,0 +1,4 @@
+-- Kept for proofs alone: no clause of a public call rests on what lies here.
+pub mod Blocks
+pub mod Fields
+pub mod Reading

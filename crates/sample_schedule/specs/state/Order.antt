@@ -1,0 +1,8 @@
+-- Kept for proofs: what the code's own parts hold and do. No clause of a public call rests on it.
+-- Accepted items, by their first instants.
+use Rattle.std.specs.Prelude.{Bool, false, ℤ, int_lt, List, [], ◌∷◌}
+use Rattle.sample_schedule.specs.declared.accepted.Accepted.{Accepted}
+
+abbrev pub starts_due : ℤ → List Accepted → Bool
+starts_due now [] = false
+starts_due now (a ∷ rest) = int_lt a.instant now

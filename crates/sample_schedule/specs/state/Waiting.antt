@@ -1,0 +1,34 @@
+-- Kept for proofs: what the code's own parts hold and do. No clause of a public call rests on it.
+-- The batches that wait for their instant, and how their keys stand for them.
+use Rattle.std.specs.Prelude.{◌≡◌, ◌≢◌, ⊤, ℕ, List, [], ◌∷◌, length, Option, Some}
+use Rattle.std.specs.List.{AllByRecursion, filter_map}
+use Rattle.slab.specs.Slab.{Slab, get, slab_len}
+use Rattle.sample_schedule.specs.declared.accepted.Accepted.{Accepted}
+use Rattle.sample_schedule.specs.declared.sorted_keys.Key.{Key}
+use Rattle.sample_schedule.specs.Verdicts.{total_bytes}
+
+abbrev pub batch_of : Slab Accepted → Key → Option Accepted
+batch_of batches key = get batches key.slot
+
+-- the batches of the keys, in their order
+abbrev pub held : Slab Accepted → List Key → List Accepted
+held batches keys = filter_map (batch_of batches) keys
+
+-- the batch of the key stands in its slot
+pub record IsKey (batches : Slab Accepted) (key : Key) : Type 0 where
+  pub batch : Accepted
+  pub there : batch_of batches key ≡ Some batch
+  pub instant : batch.instant ≡ key.instant
+  pub seq : batch.batch.seq ≡ key.seq
+
+-- no two keys have one slot
+abbrev pub HaveOwnSlots : List Key → Type 0
+HaveOwnSlots [] = ⊤
+HaveOwnSlots (key ∷ rest) = AllByRecursion (λ other. other.slot ≢ key.slot) rest × HaveOwnSlots rest
+
+-- the keys of the batches that are kept, and the bytes of these
+pub record IsWaiting (keys : List Key) (batches : Slab Accepted) (bytes : ℕ) : Type 0 where
+  pub there : AllByRecursion (IsKey batches) keys
+  pub own : HaveOwnSlots keys
+  pub total : bytes ≡ total_bytes (held batches keys)
+  pub count : slab_len batches ≡ length keys

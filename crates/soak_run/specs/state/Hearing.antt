@@ -1,0 +1,76 @@
+-- Kept for proofs: what the code's own parts hold and do. No clause of a public call rests on it.
+-- Deliveries that a listener hears one by one, and how far it was given them.
+use Rattle.std.specs.Prelude.{◌≡◌, ◌<◌, ℕ, ◌+◌, ◌-◌, ◌^◌, ℤ, Bool, true, false, List, [], ◌∷◌, ◌++◌, length, map, take, Option, Some, None, Result, OnOk, OnErr}
+use Rattle.avtp_base.specs.declared.failed.NoMemory.{NoMemory as WantOfMemory}
+use Rattle.time_unfold.specs.Time.{IsArrival}
+use Rattle.pcap_frames.specs.Capture.{Record}
+use Rattle.sample_schedule.specs.declared.shown.Shown.{Shown}
+use Rattle.listener.specs.Listening.{IsIdle, ListenState, StandsFor, is_closed, out}
+use Rattle.presenter_ring.specs.declared.receiver.Pull.{Pull}
+use Rattle.presenter_ring.specs.declared.receiver.Pull.TheVariants as pull
+use Rattle.talker.specs.Frames.{stream_frames}
+use Rattle.talker.specs.Journal.{stream_of}
+use Rattle.talker.specs.Talking.{Talking}
+use Rattle.soak_run.specs.declared.hearing.Stage.{Stage}
+use Rattle.soak_run.specs.declared.hearing.Stage.TheVariants.{Giving, Showing, Ended, NoMemory}
+use Rattle.soak_run.specs.Captured.{captured}
+
+-- ---- stages
+
+-- no delivery follows
+abbrev pub closed_at : Stage → Bool
+closed_at Giving = false
+closed_at Showing = true
+closed_at Ended = true
+closed_at NoMemory = false
+
+-- the answer with which the hearing ended, where it did
+abbrev pub pull_at : Stage → Option Pull
+pull_at Giving = None
+pull_at Showing = None
+pull_at Ended = Some pull.Done
+pull_at NoMemory = Some pull.Memory
+
+-- how many steps are still to go: one for each delivery that was not given, and one for the end of them
+abbrev pub steps_left : Stage → List (ℤ × ℕ) → ℕ → ℕ
+steps_left Giving deliveries given = (length deliveries - given) + 1
+steps_left stage deliveries given = 0
+
+-- ---- deliveries
+
+-- a delivery of a packet that the talker has, at a time that a capture can say
+pub record IsDeliverable (talker : Talking) (delivery : ℤ × ℕ) : Type 0 where
+  pub known : delivery.1 < length (stream_frames talker.plan talker.input)
+  pub time : IsArrival delivery.0
+
+-- the first deliveries, so many of them, as records
+abbrev pub records_of : Talking → List (ℤ × ℕ) → ℕ → List Record
+records_of talker deliveries given = map (captured (stream_of talker.plan talker.input)) (take given deliveries)
+
+-- a listener can be given a record
+pub record IsReady (listener : ListenState) : Type 0 where
+  pub opened : is_closed listener ≡ false
+  pub idle : IsIdle listener
+  pub few : listener.counts.frames < 2 ^ 62
+
+-- It was given this record, or no memory was found for that.
+pub record Takes (taken : Record) (old new : ListenState) (result : Result Unit WantOfMemory) : Type 0 where
+  pub stands : OnOk result ((records : List Record) (given : ℕ) → StandsFor records given old → StandsFor (records ++ taken ∷ []) given new)
+  pub same : OnErr result (new ≡ old)
+  pub plan : new.plan ≡ old.plan
+  pub still_open : is_closed new ≡ false
+
+-- ---- what was shown
+
+-- how many items a listener has shown
+abbrev pub shown_by : ListenState → ℕ
+shown_by listener = listener.counts.presented + listener.counts.flagged
+
+-- the most items that it can still show of deliveries, one of each
+abbrev pub left_of : List (ℤ × ℕ) → ListenState → ℕ
+left_of deliveries listener = length deliveries - shown_by listener
+
+-- Of the records that it was given a listener has shown these items.
+pub record Shows (records : List Record) (listener : ListenState) (items : List Shown) : Type 0 where
+  pub stands : StandsFor records (shown_by listener) listener
+  pub shown : items ≡ take (shown_by listener) (out listener records)
