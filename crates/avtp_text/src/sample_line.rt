@@ -79,7 +79,7 @@ struct Behind {
 }
 
 /// The whole line of a sample.
-#[tactic(auto, unfolding(crate::specs::SampleLines::behind_instant))]
+#[tactic(auto, unfolding(crate::specs::state::SampleLines::behind_instant))]
 fn whole_line(instant: i64, frame: u64, seq: u8, j: u32, bytes: &[u8]) -> (Line, Behind)
     requires { length bytes.now ≤ SHORT }
     ensures text { result.0 ≡ due_text instant frame ++ place_text seq j ++ encode_lower bytes.now ++ newline }

@@ -236,7 +236,7 @@ impl Assembler {
     }
 
     /// Whether a packet goes on with what waits.
-    #[tactic(auto, unfolding(crate::specs::Assembly::goes_on_here))]
+    #[tactic(auto, unfolding(crate::specs::state::Assembly::goes_on_here))]
     fn goes_on_with(&self, mark: Mark, instant: Option<i64>, view: &CvfView<'_>) -> bool
         ensures { result ≡ goes_on_here self.now (fragment_of mark instant view.now) }
     {
@@ -248,7 +248,7 @@ impl Assembler {
     }
 
     /// Whether the unit is within the limits with one fragment more.
-    #[tactic(auto, unfolding(crate::specs::Assembly::has_room))]
+    #[tactic(auto, unfolding(crate::specs::state::Assembly::has_room))]
     fn has_room_for(&self, body: &[u8]) -> bool
         ensures room { result ≡ has_room self.now body.now }
         ensures bytes { IsTrue result → length self.now.bytes + length body.now ≤ LONGEST_UNIT }

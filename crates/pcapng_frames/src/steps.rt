@@ -23,7 +23,7 @@ use crate::refusals::bad_length;
 use pcap_frames::Order;
 
 /// How many bytes of a block are to come before more is known of it.
-#[tactic(auto, unfolding(crate::specs::Reading::block_need))]
+#[tactic(auto, unfolding(crate::specs::state::Reading::block_need))]
 pub fn block_need(order: Option<Order>, part: &[u8]) -> usize
     ensures { result ≡ need_of_block order part.now }
 {
@@ -248,7 +248,7 @@ pub fn after_block(cursor: Cursor, interfaces: &[Interface], part: &[u8]) -> Cur
 }
 
 /// How many bytes of an option are to come before more is known of it.
-#[tactic(auto, unfolding(crate::specs::Reading::option_need))]
+#[tactic(auto, unfolding(crate::specs::state::Reading::option_need))]
 pub fn option_need(order: Order, tail: &[u8]) -> usize
     ensures { result ≡ need_of_option order tail.now }
 {
@@ -280,7 +280,7 @@ fn option_size(order: Order, at: u64, left: u32, tail: &[u8]) -> u32
 }
 
 /// What an interface's options say after one more.
-#[tactic(auto, unfolding(crate::specs::Reading::option_need))]
+#[tactic(auto, unfolding(crate::specs::state::Reading::option_need))]
 fn with_option(order: Order, interface: Option<Interface>, tail: &[u8]) -> Option<Interface>
     requires long { 4 ≤ length tail.now }
     requires whole { length tail.now ≡ need_of_option order tail.now }

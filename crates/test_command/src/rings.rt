@@ -100,8 +100,8 @@ struct MeetingShelf {
 }
 
 impl Shelf for MeetingShelf {
-    ghost use Rattle.avtp_base.specs.MemoryFiles.{told_of_live};
-    ghost use Rattle.avtp_base.specs.MemoryShelf.{state_of};
+    ghost use Rattle.avtp_memory.specs.MemoryFiles.{told_of_live};
+    ghost use Rattle.avtp_memory.specs.MemoryShelf.{state_of};
 
     ghost state = { λ meeting. state_of meeting.shelf };
 
@@ -145,7 +145,7 @@ struct MeetingSink {
 
 impl Sink for MeetingSink {
     ghost use Rattle.std.specs.Prelude.{Some};
-    ghost use Rattle.avtp_base.specs.MemorySink.{kept, fault_count};
+    ghost use Rattle.avtp_memory.specs.MemorySink.{kept, fault_count};
 
     ghost state = { λ meeting. record { held = Some (kept meeting.sink); faults = fault_count meeting.sink } };
 
