@@ -1,4 +1,4 @@
-//! A library to preload, for `bench/refused`: the call of malloc, calloc or realloc whose number AVTP_REFUSE has finds no memory,
+//! A library to preload, for `bench/trials/refused`: the call of malloc, calloc or realloc whose number AVTP_REFUSE has finds no memory,
 //! and one byte is written to file descriptor 9 then.
 use std::ffi::{c_char, c_int, c_ulong, c_void};
 use std::ptr::null_mut;

@@ -7,6 +7,7 @@
 //!   2,048 the latter 1,024 are sparse, which leaves one timestamp in eight, and one in 16 comes twice. Then come a frame of
 //!   the greatest length and a record that is cut off.
 
+#[path = "../yardsticks/packets.rs"]
 mod packets;
 
 use packets::{Capture, LONGEST, TIMESTAMP, packet, packet_of};

@@ -1,6 +1,7 @@
 //! `send INTERFACE FILE`: sends the frames of a classic capture on an interface of Linux, as they are, one every 20
 //! microseconds, so that another program can capture them. It needs the right to open a raw socket.
 
+#[path = "../yardsticks/pcap.rs"]
 mod pcap;
 
 use pcap::read_records;

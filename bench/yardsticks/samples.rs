@@ -1,6 +1,6 @@
 //! The yardstick of `bench/run` for the text of samples: `samples BATCHES TIMES` makes the batches that `measured samples` makes
 //! of these words, six samples of four bytes each, and prints them as often to a writer that keeps nothing, by the lines of
-//! `bench/listen.rs`. It prints how many bytes of text that is, and in how many nanoseconds, once the batches were made.
+//! `listen.rs`. It prints how many bytes of text that is, and in how many nanoseconds, once the batches were made.
 
 #![allow(dead_code)] // The modules are used in part.
 
