@@ -17,10 +17,10 @@ INNER = re.compile(rf"^  (?:abbrev |unfoldable )?pub (?:record |data )?({NAME})"
 
 
 class Definition:
-    """A definition: its names (several for a block of them), and its lines."""
+    """A definition: its names (several for a block of them), its lines, and what the comment directly above it says."""
 
-    def __init__(self, module, names, lines):
-        self.module, self.names, self.lines = module, names, lines
+    def __init__(self, module, names, lines, says):
+        self.module, self.names, self.lines, self.says = module, names, lines, says
 
     @property
     def key(self):
@@ -32,6 +32,16 @@ class Definition:
     def size(self):
         """The lines that are neither empty nor a comment."""
         return sum(1 for line in self.lines if line.strip() and not line.strip().startswith("--"))
+
+
+def said_by(lines):
+    """The comment that stands directly above a definition, without an empty line or a heading between them."""
+    above = []
+    for line in reversed(lines):
+        if not line or line.startswith("-- ----"):
+            break
+        above.insert(0, line[2:].strip())
+    return " ".join(above)
 
 
 class Module:
@@ -59,7 +69,7 @@ class Module:
                     current.lines += [*comments, line]
                 else:
                     names = [] if line.startswith("module ") else [name]
-                    current = Definition(self, names, [line])
+                    current = Definition(self, names, [line], said_by(comments))
                     self.definitions.append(current)
                 comments = []
         self.local = {name: it for it in self.definitions for name in it.names}
@@ -160,6 +170,16 @@ def exported(source):
     return found, items
 
 
+def owner(text, start):
+    """The trait or the type whose function begins at `start`, or an empty text."""
+    name = ""
+    for found in re.finditer(r"^(?:pub trait|trait|impl)\b([^{;]*)\{", text[:start], re.M):
+        if matched(text, found.end() - 1) > start:
+            rest = re.sub(r"\bwhere\b.*", "", found.group(1), flags=re.S).split(" for ")[-1]
+            name = re.search(r"\b([A-Z]\w*)", re.sub(r"^\s*<[^>]*>", "", rest)).group(1)
+    return name
+
+
 def is_public(text, start, name, items):
     """Whether the function that begins at `start` is seen outside; `items` are those that are, or None if all are."""
     head = None
@@ -179,7 +199,7 @@ def is_public(text, start, name, items):
 
 
 def clauses(text, items):
-    """The public clauses of a file: the function and the clause."""
+    """The public clauses of a file: the function, after its type or trait, and the clause."""
     for function in re.finditer(r"\bfn (\w+)", text):
         if not is_public(text, function.start(), function.group(1), items):
             continue
@@ -190,7 +210,8 @@ def clauses(text, items):
             if not clause or not stop or clause.end() - 1 > stop.start():
                 break
             place = matched(text, clause.end() - 1) + 1
-            yield function.group(1), text[clause.start() : place]
+            of = owner(text, function.start())
+            yield (f"{of}::{function.group(1)}" if of else function.group(1)), text[clause.start() : place]
     for trait in re.finditer(r"^pub trait[^{]*\{", text, re.M):
         body = text[trait.end() : matched(text, trait.end() - 1)]
         yield from (("", it) for it in re.findall(r"ghost \w+: \{(.*?)\};", body, re.S))
