@@ -1,10 +1,10 @@
 //! What tests share: test vectors of AVTP packets and captures, and numbers that are drawn alike in each run.
 #![tactic(auto)]
 
-mod changed;
+mod changes;
 mod draws;
 mod vectors;
 
-pub use changed::changed;
+pub use changes::changed;
 pub use draws::Draws;
 pub use vectors::vector;
