@@ -20,11 +20,11 @@ packet_start number id = finding_start number ++ codes "id " ++ id_text id ++ co
 abbrev pub packet_line : ℕ → ℕ → List ℕ → List ℕ
 packet_line number id finding = packet_start number id ++ finding ++ newline
 
--- a finding, where it is made
+-- the name of a finding, if it is made
 abbrev pub found : Bool → List ℕ → List (List ℕ)
 found is_found name = if is_found then name ∷ [] else []
 
--- a finding with its number, where it is made
+-- the label of a finding with its number, if it is made
 abbrev pub counted : Option ℕ → List ℕ → List (List ℕ)
 counted count label = option_to_list (option_map (λ n. label ++ decimal n) count)
 
@@ -37,7 +37,7 @@ finding_texts f =
     ++ counted f.hold (codes "hold ")
     ++ found f.stamp (codes "stamp")
 
--- a line for each
+-- a line for each finding in a packet
 abbrev pub findings_lines : ℕ → ℕ → Findings → List ℕ
 findings_lines number id f = flat_map (packet_line number id) (finding_texts f)
 

@@ -24,11 +24,11 @@ sample_bytes batch j = take (length batch.bytes / batch.count) (drop (j * (lengt
 unfoldable pub due_text : ℤ → ℕ → List ℕ
 due_text instant frame = codes "at " ++ signed_decimal instant ++ codes " frame " ++ decimal frame
 
--- the sequence number of its packet, and its number there
+-- the sequence number of a sample's packet, and the sample's number there
 unfoldable pub place_text : ℕ → ℕ → List ℕ
 place_text seq j = codes " seq " ++ decimal seq ++ codes " sample " ++ decimal j ++ codes " "
 
--- the line of sample j: its bytes are in hexadecimal digits
+-- the line of sample j of a batch, with its bytes as hexadecimal digits
 abbrev pub sample_line : Presented → ℕ → List ℕ
 sample_line batch j =
     due_text (sample_instant batch j) batch.frame ++ place_text batch.seq j ++ encode_lower (sample_bytes batch j) ++ newline
@@ -37,6 +37,7 @@ sample_line batch j =
 abbrev pub batch_lines : Presented → List ℕ
 batch_lines batch = flat_map (sample_line batch) (range_with_len 0 batch.count)
 
+-- how the reason of a flag is named
 abbrev pub reason_text : Reason → List ℕ
 reason_text (Malformed field) = codes "malformed " ++ name_of field
 reason_text Uncertain = codes "uncertain"
@@ -54,6 +55,7 @@ reason_text Long = codes "long"
 unfoldable pub flag_line : ℕ → ℕ → Reason → List ℕ
 flag_line frame seq reason = codes "flag frame " ++ decimal frame ++ codes " seq " ++ decimal seq ++ codes " " ++ reason_text reason ++ newline
 
+-- the lines of an item: one for each sample of a batch, or that of a flag
 abbrev pub shown_lines : Shown → List ℕ
 shown_lines (Present batch) = batch_lines batch
 shown_lines (Flag frame seq reason) = flag_line frame seq reason

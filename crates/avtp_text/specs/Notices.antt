@@ -19,6 +19,6 @@ device_fault_line = codes "device fault" ++ newline
 unfoldable pub limit_line : ℕ → List ℕ
 limit_line bytes = codes "limit " ++ decimal bytes ++ newline
 
--- the place, from 1, of the first word of the command line that cannot stand there
+-- the position, from 1, of what is wrong with the words of the command line
 unfoldable pub words_line : ℕ → List ℕ
 words_line place = codes "words: " ++ decimal place ++ newline

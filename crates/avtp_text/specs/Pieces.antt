@@ -9,6 +9,7 @@ use Rattle.avtp_base.specs.Field.{name_of}
 abbrev pub newline : List ℕ
 newline = codes "\n"
 
+-- a bit as a digit
 abbrev pub flag_text : Bool → List ℕ
 flag_text flag = if flag then codes "1" else codes "0"
 

@@ -38,6 +38,7 @@ ethertype_content f = codes "ethertype " ++ decimal f.ethertype ++ codes " bytes
 unfoldable pub other_content : ℕ → List ℕ
 other_content subtype = codes "other " ++ decimal subtype
 
+-- how a sample format of AAF is named
 abbrev pub format_text : AafFormat → List ℕ
 format_text Float32 = codes "float32"
 format_text Int32 = codes "int32"
@@ -77,6 +78,7 @@ iec_content v =
     ++ codes " count " ++ decimal v.count
     ++ codes " bytes " ++ decimal v.header.data_length
 
+-- how the part of a NAL unit that a packet carries is named
 abbrev pub part_text : NalPart → List ℕ
 part_text Single = codes "single"
 part_text First = codes "first"

@@ -29,6 +29,7 @@ use Rattle.avtp_tool.specs.Yield.{says}
 
 -- ---- a record by itself
 
+-- what `check` makes of a record that is refused, or else read
 abbrev pub malformed_or : Option Refusal → Checked → Checked
 malformed_or (Some refusal) checked = Malformed refusal
 malformed_or None checked = checked
@@ -44,28 +45,28 @@ seen_of stream packet = record {
   stamp_wrong = stamp_is_off packet;
 }
 
--- A packet is noted where its stream id is valid. One of another format is passed.
+-- A packet is noted if its stream id is valid. One of another format is passed.
 abbrev pub checked_stream : Option PacketStream → AnyPacket → Checked
 checked_stream None packet = Passed
 checked_stream (Some stream) packet =
     if stream.sv then Marked (seen_of stream packet) else Unmarked stream.id (has_reserved packet)
 
--- a packet of AVTP, which begins at this offset of its frame
+-- what `check` makes of a packet of AVTP, which begins at this offset of its frame
 unfoldable pub checked_packet : ℕ → List ℕ → Checked
 checked_packet start pdu =
     malformed_or (option_map (inside start) (packet_refusal pdu)) (checked_stream (stream_of (packet_of pdu)) (packet_of pdu))
 
--- a frame that was read; one of another EtherType is passed
+-- what `check` makes of a frame; one of another EtherType is passed
 unfoldable pub checked_frame : Frame → Checked
 checked_frame frame = if frame.ethertype == avtp_ethertype then checked_packet frame.start frame.payload else Passed
 
--- the bytes of a record
+-- what `check` makes of a record, by its bytes
 unfoldable pub checked_record : List ℕ → Checked
 checked_record bytes = malformed_or (frame_refusal bytes) (checked_frame (frame_of bytes))
 
 -- ---- a record after others
 
--- what it adds to the packets that are noted
+-- what a record adds to the packets that are noted
 abbrev pub noted : Checked → List Seen
 noted (Marked seen) = seen ∷ []
 noted checked = []
@@ -85,12 +86,13 @@ found_lines number notes (Malformed refusal) = malformed_line number refusal ∷
 found_lines number notes (Unmarked id reserved) = map (packet_line number id) (finding_texts (unmarked_findings reserved))
 found_lines number notes (Marked seen) = map (packet_line number seen.id) (finding_texts (findings notes seen))
 
--- the same of a record after others: it has the next number
+-- a line for each finding in a record that comes after these, whose number is the next
 abbrev pub check_lines : List Record → Record → List (List ℕ)
 check_lines earlier r = found_lines (length earlier + 1) (notes_of earlier) (checked_record r.bytes)
 
 -- ---- a capture
 
+-- lines one after another, as one text
 abbrev pub joined_lines : List (List ℕ) → List ℕ
 joined_lines lines = flat_map (λ line. line) lines
 
@@ -101,12 +103,14 @@ total_line limit frames streams found (end.Refused refusal) = capture_refused_li
 total_line limit frames streams found end.ReadFault = read_fault_line
 total_line limit frames streams found end.Limit = limit_line limit
 
+-- what `check` prints of a capture of this name whose reading ends so after these records: its name, a line for each
+-- finding, and the last line
 abbrev pub check_text : ℕ → List ℕ → List Record → End → List ℕ
 check_text limit name records how =
     (capture_line name ++ joined_lines (of_each check_lines records))
     ++ total_line limit (length records) (length (tracked (notes_of records))) (length (of_each check_lines records)) how
 
--- A capture that was read to its end has findings or none; any other ends as its reading did.
+-- The status of a capture: one that was read to its end has findings or none; any other ends as its reading did.
 abbrev pub check_status : ℕ → End → Status
 check_status found end.Whole = if found == 0 then status.Done else status.Findings
 check_status found how = status_of how
@@ -118,5 +122,6 @@ check_report limit name = record {
   yields = λ records how. says (check_text limit name records how);
 }
 
+-- what `check` reads, and what it makes of each file
 abbrev pub check_plan : ℕ → List (List ℕ) → ReadPlan
 check_plan limit names = record { names = names; limit = limit; report = check_report limit }

@@ -24,8 +24,8 @@ use Rattle.avtp_tool.specs.Yield.{with_more, Yield}
 abbrev pub plan_of : Listening → ListenPlan
 plan_of asked = record { stream = asked.stream; clock = asked.clock; buffer = asked.buffer; room = asked.room; look = asked.look; lead = asked.lead; shift = asked.shift }
 
--- What is shown of these records, where the reading of their capture ended so: all of it at the capture's end or at a field
--- that is refused, and what was due so far where the reading was cut short.
+-- What is shown of these records, if the reading of their capture ended so: all of it at the capture's end or at a
+-- field that is refused, and what was due so far if the reading was cut short.
 abbrev pub shown_by : ListenPlan → List Record → End → List Shown
 shown_by plan records end.Whole = shown_of plan records
 shown_by plan records (end.Refused refusal) = shown_of plan records
@@ -56,10 +56,11 @@ heard_yield asked name records how = record {
 abbrev pub listen_report : Listening → List ℕ → Report
 listen_report asked name = record { status = λ records how. status_of how; yields = heard_yield asked name }
 
+-- what `listen` reads, and what it makes of each file
 abbrev pub listen_plan : Listening → ReadPlan
 listen_plan asked = record { names = asked.files; limit = asked.limit; report = listen_report asked }
 
--- the status with which these files end, where no fault of reading comes
+-- the status with which a run of `listen` over these files ends, if no fault of reading comes
 abbrev pub listen_status : Listening → Files → List (List ℕ) → Status
 listen_status asked files names = in_order_status (one_status (listen_plan asked) files) names
 
@@ -70,15 +71,15 @@ abbrev pub end_line : Counts → Option Refusal → List ℕ
 end_line counts None = end_listen_line counts
 end_line counts (Some refusal) = capture_refused_line refusal
 
--- It is the capture's name, the lines of what is shown of the records, which keeps the headline and is handed on, and the last
--- line.
+-- What a capture yields of a talker that keeps the rules: the capture's name, the lines of what is shown of its
+-- records, which keeps the headline and is handed on, and the last line.
 pub record YieldsHeadline (asked : Listening) (name : List ℕ) (shift : ℤ) (p : PacketJournal) (bytes : List ℕ) (yields : Yield) : Type 0 where
   pub shown : List Shown
   pub keeps : KeepsHeadline shift p (plan_of asked) (records_in bytes) shown
   pub printed : yields.text ≡ shown_text name shown ++ end_line (counts_of (plan_of asked) (records_in bytes) shown) (refusal_in bytes)
   pub handed : yields.items ≡ shown
 
--- Somewhere in it there is a part that keeps the headline.
+-- What a run yields has a part that is what this capture yields, which keeps the headline.
 pub record HasHeadline (asked : Listening) (name : List ℕ) (shift : ℤ) (p : PacketJournal) (bytes : List ℕ) (yields : Yield) : Type 0 where
   pub before : Yield
   pub here : Yield

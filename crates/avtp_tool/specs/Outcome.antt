@@ -1,5 +1,4 @@
--- What a command's run may come to: the status that it ends with and what it yields; and how much of that stands where it is
--- cut short.
+-- What a command's run may come to: the status that it ends with and what it yields.
 use Rattle.std.specs.Prelude.{◌≡◌, ℕ, ◌≤◌, List, length, take, Option, Bool, true, false, Contains}
 use Rattle.avtp_base.specs.Files.{Files, IsMissing}
 use Rattle.avtp_base.specs.States.{Asks, ShelfState}
@@ -26,7 +25,7 @@ pub record IsOneMissing (names : List (List ℕ)) (files : Option Files) : Type 
   pub one : Contains names name
   pub missing : IsMissing files name
 
--- A shelf was asked for the first of these names, in their order, and for no other; for all of them where all was done.
+-- A shelf was asked for the first of these names, in their order, and for no other; for all of them if all was done.
 pub record AsksFor (names : List (List ℕ)) (shelf shelf' : ShelfState) (done : Type 0) : Type 0 where
   pub count : ℕ
   pub within : count ≤ length names

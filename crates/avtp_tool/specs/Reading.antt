@@ -27,31 +27,32 @@ pub record ReadOutcome (report : Report) (limit : ℕ) (bytes : List ℕ) (fault
   pub status : ended ≡ report.status (records_in prefix) how
   pub given : yields ≡ report.yields (records_in prefix) how
 
--- A file that a shelf tells so can end with this status and yield this. One that is missing or could not be opened gives
--- a fault of reading alone; what that needs otherwise is `fault`.
+-- A file, of which a shelf tells its bytes or that it is missing, can end with this status and yield this. One that is
+-- missing or could not be opened gives a fault of reading alone; what that needs otherwise is `fault`.
 abbrev pub FileOutcome : Report → ℕ → Option (List ℕ) → Type 0 → Status → Yield → Type 0
 FileOutcome report limit None fault ended yields = (ended ≡ status.ReadFault) × (yields ≡ says read_fault_line)
 FileOutcome report limit (Some bytes) fault ended yields =
     ReadOutcome report limit bytes fault ended yields ⊎ (fault × (ended ≡ status.ReadFault) × (yields ≡ says read_fault_line))
 
--- the same as functions, where no fault of reading comes
+-- the status with which a file ends, given its bytes or that it is missing, if no fault of reading comes
 abbrev pub file_status : Report → ℕ → Option (List ℕ) → Status
 file_status report limit None = status.ReadFault
 file_status report limit (Some bytes) = report.status (records_in (take limit bytes)) (end_of limit bytes)
 
+-- what a file yields, given its bytes or that it is missing, if no fault of reading comes
 abbrev pub file_yield : Report → ℕ → Option (List ℕ) → Yield
 file_yield report limit None = says read_fault_line
 file_yield report limit (Some bytes) = report.yields (records_in (take limit bytes)) (end_of limit bytes)
 
 -- ---- files in order
 
--- the status of a run whose first file ended so, and the rest of it so
+-- the status of a run, by how its first file ended, which is done, and how the rest of it did
 abbrev pub joined : Status → Status → Status
 joined first status.Done = first
 joined first rest = rest
 
--- Files are read in order, each to its end, up to the first that ends otherwise and with it the run. `One` says of a file
--- of a name with which status it can end and what it can yield. `read` are those to which the run came.
+-- Files are read in order, each to its end, up to the first that ends otherwise and with it the run. `One` says of a
+-- file of a name with which status it can end and what it can yield. `read` are those to which the run came.
 unfoldable pub InOrder : (List ℕ → Status → Yield → Type 0) → List (List ℕ) → List (List ℕ) → Status → Yield → Type 0
 InOrder One [] read ended yields = (read ≡ []) × (ended ≡ status.Done) × (yields ≡ says [])
 InOrder One (name ∷ names) read ended yields =
@@ -60,15 +61,17 @@ InOrder One (name ∷ names) read ended yields =
     × (is_done first ≡ true) × One name first here × InOrder One names others rest more
     × (read ≡ name ∷ others) × (ended ≡ joined first rest) × (yields ≡ with_more here more))
 
--- the same as functions, where the status of a file and what it yields are functions of its name
+-- the files to which a run comes, given the status of each: those up to the first that is not done
 unfoldable pub in_order_read : (List ℕ → Status) → List (List ℕ) → List (List ℕ)
 in_order_read one [] = []
 in_order_read one (name ∷ names) = name ∷ (if is_done (one name) then in_order_read one names else [])
 
+-- the status of a run over files in order, given the status of each
 unfoldable pub in_order_status : (List ℕ → Status) → List (List ℕ) → Status
 in_order_status one [] = status.Done
 in_order_status one (name ∷ names) = if is_done (one name) then joined (one name) (in_order_status one names) else one name
 
+-- what a run over files in order yields, given the status of each and what it yields
 unfoldable pub in_order_yield : (List ℕ → Status) → (List ℕ → Yield) → List (List ℕ) → Yield
 in_order_yield one yields [] = says []
 in_order_yield one yields (name ∷ names) = with_more (yields name) (if is_done (one name) then in_order_yield one yields names else says [])
@@ -81,26 +84,30 @@ pub record ReadPlan : Type 0 where
   pub limit : ℕ
   pub report : List ℕ → Report
 
--- the file of a name, as a shelf tells its files
+-- what may become of the file of this name, with its bytes as a shelf tells them
 abbrev pub one_outcome : ReadPlan → Files → Type 0 → List ℕ → Status → Yield → Type 0
 one_outcome plan files fault name ended yields = FileOutcome (plan.report name) plan.limit (files name) fault ended yields
 
--- It can come to these files, end with this status and yield this.
+-- a command with this plan can come to these files, end with this status and yield this
 abbrev pub PlanOutcome : ReadPlan → Files → Type 0 → List (List ℕ) → Status → Yield → Type 0
 PlanOutcome plan files fault read ended yields = InOrder (one_outcome plan files fault) plan.names read ended yields
 
--- the same as functions, where no fault of reading comes
+-- the status with which the file of this name ends, if no fault of reading comes
 abbrev pub one_status : ReadPlan → Files → List ℕ → Status
 one_status plan files name = file_status (plan.report name) plan.limit (files name)
 
+-- what the file of this name yields, if no fault of reading comes
 abbrev pub one_yield : ReadPlan → Files → List ℕ → Yield
 one_yield plan files name = file_yield (plan.report name) plan.limit (files name)
 
+-- the files to which a command with this plan comes, if no fault of reading comes
 abbrev pub plan_read : ReadPlan → Files → List (List ℕ)
 plan_read plan files = in_order_read (one_status plan files) plan.names
 
+-- the status with which a command with this plan ends, if no fault of reading comes
 abbrev pub plan_status : ReadPlan → Files → Status
 plan_status plan files = in_order_status (one_status plan files) plan.names
 
+-- what a command with this plan yields, if no fault of reading comes
 abbrev pub plan_yield : ReadPlan → Files → Yield
 plan_yield plan files = in_order_yield (one_status plan files) (one_yield plan files) plan.names

@@ -14,20 +14,22 @@ use Rattle.avtp_tool.specs.Soak.{soak_report}
 use Rattle.avtp_tool.specs.Talk.{TalkOutcome, talk_plan, talk_report, talk_status}
 use Rattle.avtp_tool.specs.Yield.{says, with_more, Yield}
 
--- the names to which a run of `talk` comes that ends so: that of its output where it was made
+-- the names to which a run of `talk` comes that ends with this status: that of its output only if it was made
 abbrev pub talk_came : Talking → Status → List (List ℕ)
 talk_came asked ended = asked.input ∷ (if is_done ended then asked.output ∷ [] else [])
 
--- A device failed in a run of `listen` that would have ended so: the status and the last line of one that was done say it.
+-- the status of a run of `listen` that would have ended so: if a device failed in one that was done, it says that
 abbrev pub device_status : Bool → Status → Status
 device_status true status.Done = status.DeviceFault
 device_status failed ended = ended
 
+-- the last line of a run of `listen` if a device failed in one that was done, else nothing
 abbrev pub device_notice : Bool → Status → List ℕ
 device_notice true status.Done = device_fault_line
 device_notice failed ended = []
 
--- what a run of `listen` can come to over files that it reads so
+-- what a run of `listen` can come to over these files: what their reading can come to, and then what a failed device
+-- adds
 pub record ListenOutcome (asked : Listening) (files : Files) (fault : Type 0) (failed : Bool) (came : List (List ℕ)) (ended : Status) (yields : Yield) : Type 0 where
   pub heard : Status
   pub given : Yield
@@ -35,8 +37,8 @@ pub record ListenOutcome (asked : Listening) (files : Files) (fault : Type 0) (f
   pub status : ended ≡ device_status failed heard
   pub notice : yields ≡ with_more given (says (device_notice failed heard))
 
--- Over the files that a shelf tells so, it can come to these, end with this status and yield this. What a fault of reading
--- needs is `fault`, and `failed` tells whether a device failed.
+-- Over the files that a shelf tells so, a run of the request can come to these names, end with this status and yield
+-- this. What a fault of reading needs is `fault`, and `failed` tells whether a device failed.
 abbrev pub Outcome : Request → Files → Type 0 → Bool → List (List ℕ) → Status → Yield → Type 0
 Outcome (show limit file) files fault failed came ended yields = PlanOutcome (show_plan limit file) files fault came ended yields
 Outcome (check limit names) files fault failed came ended yields = PlanOutcome (check_plan limit names) files fault came ended yields
@@ -45,9 +47,9 @@ Outcome (talk asked) files fault failed came ended yields =
     (came ≡ talk_came asked ended) × TalkOutcome (talk_plan asked) (files asked.input) fault ended yields.text × (yields.items ≡ [])
 Outcome (soak packets) files fault failed came ended yields = (came ≡ []) × Only status.Done (says (soak_report packets)) ended yields
 
--- ---- where no fault of reading comes
+-- ---- if no fault of reading comes
 
--- the status
+-- the status of a run, if no fault of reading comes
 abbrev pub status_for : Request → Files → Bool → Status
 status_for (show limit file) files failed = plan_status (show_plan limit file) files
 status_for (check limit names) files failed = plan_status (check_plan limit names) files
@@ -55,7 +57,7 @@ status_for (listen asked) files failed = device_status failed (plan_status (list
 status_for (talk asked) files failed = talk_status (talk_plan asked) (files asked.input)
 status_for (soak packets) files failed = status.Done
 
--- all that it yields
+-- all that a run yields, if no fault of reading comes
 abbrev pub yield_for : Request → Files → Bool → Yield
 yield_for (show limit file) files failed = plan_yield (show_plan limit file) files
 yield_for (check limit names) files failed = plan_yield (check_plan limit names) files
@@ -64,7 +66,7 @@ yield_for (listen asked) files failed =
 yield_for (talk asked) files failed = says (talk_report (talk_plan asked) (files asked.input))
 yield_for (soak packets) files failed = says (soak_report packets)
 
--- the names to which it comes
+-- the names to which a run comes, if no fault of reading comes
 abbrev pub came_for : Request → Files → List (List ℕ)
 came_for (show limit file) files = plan_read (show_plan limit file) files
 came_for (check limit names) files = plan_read (check_plan limit names) files
@@ -72,18 +74,18 @@ came_for (listen asked) files = plan_read (listen_plan asked) files
 came_for (talk asked) files = talk_came asked (talk_status (talk_plan asked) (files asked.input))
 came_for (soak packets) files = []
 
--- ---- what it does beside
+-- ---- what a run does besides
 
--- the names that it asks a shelf for: of the files that are read, in order, and then of the one that is written
+-- the names that a request asks a shelf for: of the files that are read, in order, and then of the one that is written
 abbrev pub names_of : Request → List (List ℕ)
 names_of request = files_of request ++ option_to_list (output_of request)
 
--- it hands items on
+-- the request is one of `listen`, which alone hands items on
 abbrev pub is_listening : Request → Bool
 is_listening (listen asked) = true
 is_listening request = false
 
--- all was done that the command does, but that a device may have failed
+-- all was done that the command does, though a device may have failed
 abbrev pub is_through : Status → Bool
 is_through status.DeviceFault = true
 is_through ended = is_done ended

@@ -15,7 +15,7 @@ use Rattle.avtp_tool.specs.Yield.{says}
 abbrev pub show_line : List Record → Record → List ℕ
 show_line earlier r = frame_line (length earlier + 1) r.arrival (record_content r.bytes)
 
--- the last line, where `frames` records were printed
+-- the last line of `show`, after `frames` records
 abbrev pub end_line : ℕ → ℕ → End → List ℕ
 end_line limit frames end.Whole = end_frames_line frames
 end_line limit frames (end.Refused refusal) = capture_refused_line refusal
@@ -31,5 +31,6 @@ show_text limit records how = of_each show_line records ++ end_line limit (lengt
 abbrev pub show_report : ℕ → Report
 show_report limit = record { status = λ records how. status_of how; yields = λ records how. says (show_text limit records how) }
 
+-- what `show` reads, and what it makes of the file
 abbrev pub show_plan : ℕ → List ℕ → ReadPlan
 show_plan limit file = record { names = file ∷ []; limit = limit; report = λ name. show_report limit }

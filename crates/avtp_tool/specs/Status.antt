@@ -5,6 +5,7 @@ use Rattle.capture_io.specs.declared.end.End.TheVariants as end
 use Rattle.avtp_tool.specs.declared.status.Status.{Status}
 use Rattle.avtp_tool.specs.declared.status.Status.TheVariants.{Done, Findings, Words, Refused, ReadFault, WriteFault, Memory, Limit, DeviceFault, TalkInput}
 
+-- the exit code of each status
 abbrev pub code_of : Status → ℕ
 code_of Done = 0
 code_of Findings = 1

@@ -18,15 +18,17 @@ use Rattle.avtp_tool.specs.declared.status.Status.{Status}
 use Rattle.avtp_tool.specs.declared.status.Status.TheVariants as status
 use Rattle.talker.specs.declared.fault.TalkFault.TheVariants as fault
 
+-- the kind that the words ask for, as a talker has it
 abbrev pub talk_kind : Kind → TalkKind
 talk_kind (words.Aaf format sparse) = Aaf format sparse
 talk_kind words.Am824 = Am824
 talk_kind (words.H264 last_stamp) = H264 last_stamp
 
+-- the media clock that the words ask for, as a talker has it
 abbrev pub talk_clock : Crf → CrfPlan
 talk_clock crf = record { id = crf.id; rate = crf.rate; pull = crf.pull; interval = crf.interval; points = crf.points }
 
--- what is asked for
+-- the talker's plan that the words ask for
 abbrev pub talk_plan : Talking → TalkPlan
 talk_plan asked = record {
   kind = talk_kind asked.kind;
@@ -55,27 +57,30 @@ TalkedOutcome plan bytes fault status.Limit text = (most_input < length bytes) �
 TalkedOutcome plan bytes fault status.ReadFault text = fault × (text ≡ read_fault_line)
 TalkedOutcome plan bytes fault ended text = ⊥
 
--- the same of an input that a shelf tells so; one that is missing gives the fault of reading
+-- `talk` of an input, of which a shelf tells its bytes or that it is missing, can end with this status and print this
+-- text. A missing one gives a fault of reading.
 abbrev pub TalkOutcome : TalkPlan → Option (List ℕ) → Type 0 → Status → List ℕ → Type 0
 TalkOutcome plan None fault ended text = (ended ≡ status.ReadFault) × (text ≡ read_fault_line)
 TalkOutcome plan (Some bytes) fault ended text = TalkedOutcome plan bytes fault ended text
 
--- ---- where no fault of reading comes
+-- ---- if no fault of reading comes
 
+-- the status of `talk` of an input within its limit, by the input's fault
 abbrev pub status_by : Option TalkFault → Status
 status_by None = status.Done
 status_by (Some why) = status.TalkInput
 
+-- the line of `talk` of an input within its limit, by the input's fault
 abbrev pub line_by : Option TalkFault → TalkPlan → List ℕ → List ℕ
 line_by None plan bytes = sent_line plan bytes
 line_by (Some why) plan bytes = talk_input_line why
 
--- the status
+-- the status of `talk` of an input, given its bytes or that it is missing, if no fault of reading comes
 abbrev pub talk_status : TalkPlan → Option (List ℕ) → Status
 talk_status plan None = status.ReadFault
 talk_status plan (Some bytes) = if nat_le (length bytes) most_input then status_by (fault_of plan bytes) else status.Limit
 
--- the whole text
+-- the whole text of `talk` of an input, given its bytes or that it is missing, if no fault of reading comes
 abbrev pub talk_report : TalkPlan → Option (List ℕ) → List ℕ
 talk_report plan None = read_fault_line
 talk_report plan (Some bytes) = if nat_le (length bytes) most_input then line_by (fault_of plan bytes) plan bytes else limit_line most_input

@@ -1,4 +1,4 @@
--- What an option gives: what its value says, or else what stands where it is not given.
+-- What an option gives: what its value says, or its default if it is not given.
 use Rattle.std.specs.Prelude.{◌≡◌, ℕ, ℤ, List, Option, Some, None, MatchOption, IsSomeAnd, IfSome, codes}
 use Rattle.aaf_format.specs.declared.aaf.AafFormat.{AafFormat}
 use Rattle.avtp_words.specs.declared.device.Silence.{Silence}
@@ -8,31 +8,31 @@ use Rattle.avtp_words.specs.Limits.{NumberOption, SignedOption}
 use Rattle.avtp_words.specs.Word.{IsId}
 use Rattle.avtp_words.specs.Options.{Setting, value_in, format_name}
 
--- the number that an option gives, within its range, or else its default
+-- the number that an option gives, within its range, or else its default, which it has
 abbrev pub IsGiven : NumberOption → List Setting → ℕ → Type 0
 IsGiven option settings n = MatchOption (value_in option.name settings) (IsSomeAnd option.default (λ default. n ≡ default)) (λ word. IsNumber option.low option.high word n)
 
--- the same of an option without a default
+-- the number that an option gives, within its range, or else its default, which may be none
 abbrev pub IsGivenIf : NumberOption → List Setting → Option ℕ → Type 0
 IsGivenIf option settings given = MatchOption (value_in option.name settings) (given ≡ option.default) (λ word. (n : ℕ) × (given ≡ Some n) × IsNumber option.low option.high word n)
 
--- the same of a stream id, by the name of the option and its default
+-- the stream id that the option of this name gives, or else this default
 abbrev pub IsGivenId : List ℕ → ℕ → List Setting → ℕ → Type 0
 IsGivenId name default settings id = MatchOption (value_in name settings) (id ≡ default) (λ word. IsId word id)
 
--- the same of a stream id without a default
+-- the stream id that the option of this name gives, or else none
 abbrev pub IsGivenIdIf : List ℕ → List Setting → Option ℕ → Type 0
 IsGivenIdIf name settings given = MatchOption (value_in name settings) (given ≡ None) (λ word. (id : ℕ) × (given ≡ Some id) × IsId word id)
 
--- the same of a number that may be below 0
+-- the number, which may be negative, that an option gives, within its range, or else its default
 abbrev pub IsGivenSigned : SignedOption → List Setting → ℤ → Type 0
 IsGivenSigned option settings z = MatchOption (value_in option.name settings) (z ≡ option.default) (λ word. IsSigned option.most word z)
 
--- the same of a format
+-- the sample format that the option of this name gives, or else this default
 abbrev pub IsGivenFormat : List ℕ → AafFormat → List Setting → AafFormat → Type 0
 IsGivenFormat name default settings format = MatchOption (value_in name settings) (format ≡ default) (λ word. word ≡ format_name format)
 
--- what silence is made of, which is zeros where nothing is said of it
+-- what silence is made of, by `--silence`: zeros if it is not given
 abbrev pub IsGivenSilence : List Setting → Silence → Type 0
 IsGivenSilence settings Zero = IfSome (value_in (codes "--silence") settings) (λ word. word ≡ codes "zero")
 IsGivenSilence settings Am824 = value_in (codes "--silence") settings ≡ Some (codes "am824")

@@ -1,4 +1,4 @@
--- The grammar of the command line, and where words leave it.
+-- The grammar of the command line, and the first word that leaves it.
 use Rattle.std.specs.Prelude.{◌≡◌, ◌≢◌, ℕ, ℤ, pos, ◌+◌, ◌*◌, ◌/◌, ◌%◌, ◌≤◌, ◌↔◌, ⊤, All, Bool, IsTrue, Contains, List, [], ◌∷◌, ◌++◌, drop, flat_map, length, codes, Option, None, Some, IsSomeAnd, IfSome, option_map, slice_get}
 use Rattle.std.specs.List.{find}
 use Rattle.std.specs.Str.{bytes_eq}
@@ -28,7 +28,7 @@ use Rattle.avtp_words.specs.Operands.{AreOperands}
 use Rattle.avtp_words.specs.Word.{texts, IsId}
 use Rattle.avtp_words.specs.Options.{Row, Setting, words_of, AreSettings, value_in}
 
--- ---- what a command line asks for, without where its names lie in memory
+-- ---- what a command line asks for, apart from where its names lie in memory
 
 -- a file that is written: its name, and the place of the name among the words, from 0
 pub record NamedFile : Type 0 where
@@ -40,8 +40,8 @@ pub record NamedRaw : Type 0 where
   pub file : NamedFile
   pub silence : Silence
 
--- the stream to listen to, within these bounds, its media clock, if it has one, with a shift, the files that are written, if
--- there are any, and the captures, in order
+-- what `listen` is asked for: the stream, within these bounds, its media clock, if it has one, with a shift, the files
+-- that are written, if there are any, and the captures, in order
 pub record Listening : Type 0 where
   pub stream : ℕ
   pub limit : ℕ
@@ -56,7 +56,7 @@ pub record Listening : Type 0 where
   pub annexb : Option NamedFile
   pub files : List (List ℕ)
 
--- the samples to make a capture of, and how they are sent
+-- what `talk` is asked for: the samples to make a capture of, and how they are sent
 pub record Talking : Type 0 where
   pub kind : Kind
   pub rate : ℕ
@@ -71,6 +71,7 @@ pub record Talking : Type 0 where
   pub input : List ℕ
   pub output : List ℕ
 
+-- what a command line asks for, by its command
 pub data Request : Type 0 where
   show : (limit : ℕ) → (file : List ℕ) → Request
   check : (limit : ℕ) → (files : List (List ℕ)) → Request
@@ -78,12 +79,15 @@ pub data Request : Type 0 where
   talk : Talking → Request
   soak : (packets : ℕ) → Request
 
+-- a file that is written, apart from where its name lies in memory
 abbrev pub named_file : DeviceFile → NamedFile
 named_file file = record { name = file.name.now; place = file.place }
 
+-- a file of raw audio, apart from where its name lies in memory
 abbrev pub named_raw : RawFile → NamedRaw
 named_raw raw = record { file = named_file raw.file; silence = raw.silence }
 
+-- what `listen` is asked for, apart from where its names lie in memory
 abbrev pub listening_of : AskedListen → Listening
 listening_of asked = record {
   stream = asked.stream;
@@ -100,6 +104,7 @@ listening_of asked = record {
   files = texts asked.files.now;
 }
 
+-- what `talk` is asked for, apart from where its names lie in memory
 abbrev pub talking_of : AskedTalk → Talking
 talking_of asked = record {
   kind = asked.kind;
@@ -116,6 +121,7 @@ talking_of asked = record {
   output = asked.output.now;
 }
 
+-- what a command is asked for, apart from where its names lie in memory
 abbrev pub request_of : Command → Request
 request_of (Show limit file) = show limit file.now
 request_of (Check limit files) = check limit (texts files.now)
@@ -123,7 +129,7 @@ request_of (Listen asked) = listen (listening_of asked)
 request_of (Talk asked) = talk (talking_of asked)
 request_of (Soak packets) = soak packets
 
--- the files that are read, in order
+-- the files that a request reads, in order
 abbrev pub files_of : Request → List (List ℕ)
 files_of (show limit file) = file ∷ []
 files_of (check limit files) = files
@@ -131,7 +137,7 @@ files_of (listen asked) = asked.files
 files_of (talk asked) = asked.input ∷ []
 files_of (soak packets) = []
 
--- the capture that is written
+-- the capture that a request writes, if it writes one
 abbrev pub output_of : Request → Option (List ℕ)
 output_of (show limit file) = None
 output_of (check limit files) = None
@@ -215,10 +221,11 @@ soak_form = record {
   operands = operand.Packets ∷ [];
 }
 
+-- the forms of all commands
 abbrev pub forms : List Form
 forms = show_form ∷ check_form ∷ listen_form ∷ talk_form ∷ soak_form ∷ []
 
--- the form of the command of this word
+-- the form of the command of this word, if there is one
 abbrev pub form_named : List ℕ → Option Form
 form_named command = find (λ form. bytes_eq form.command command) forms
 
@@ -242,7 +249,7 @@ pub record IsCheck (words : List (List ℕ)) (limit : ℕ) (files : List (List �
   pub line : IsOf check_form words settings files
   pub limit_given : IsGiven limits.limit settings limit
 
--- The option of this name gives the name of this file, which stands at its place among the words, after the option.
+-- The option of this name gives the name of this file, which is at its place among the words, after the option.
 pub record NamesFile (words : List (List ℕ)) (settings : List Setting) (option : List ℕ) (file : NamedFile) : Type 0 where
   pub value : value_in option settings ≡ Some file.name
   pub before : ℕ
@@ -250,12 +257,12 @@ pub record NamesFile (words : List (List ℕ)) (settings : List Setting) (option
   pub option_at : slice_get words before ≡ Some option
   pub name_at : slice_get words file.place ≡ Some file.name
 
--- It gives this file, or none.
+-- the option of this name gives this file, or is not given if there is none
 abbrev pub IsGivenFile : List (List ℕ) → List Setting → List ℕ → Option NamedFile → Type 0
 IsGivenFile words settings option None = value_in option settings ≡ None
 IsGivenFile words settings option (Some file) = NamesFile words settings option file
 
--- Words ask for raw audio in this file, with such silence.
+-- Words ask for raw audio in this file, with this silence.
 pub record SaysRaw (words : List (List ℕ)) (settings : List Setting) (raw : NamedRaw) : Type 0 where
   pub file : NamesFile words settings (codes "--raw") raw.file
   pub silence : IsGivenSilence settings raw.silence
@@ -300,14 +307,14 @@ pub record SaysVideo (words : List (List ℕ)) (settings : List Setting) (last_s
   pub kind : value_in (codes "--kind") settings ≡ Some (codes "h264")
   pub last_stamp_given : IsTrue last_stamp ↔ Contains words (codes "--last-stamp")
 
--- Words ask for a stream of this kind, which is AAF where no kind is given.
+-- Words ask for a stream of this kind, which is AAF if no kind is given.
 abbrev pub SaysKind : List (List ℕ) → List Setting → Kind → Type 0
 SaysKind words settings (Aaf format sparse) = SaysAaf words settings format sparse
 SaysKind words settings Am824 = value_in (codes "--kind") settings ≡ Some (codes "am824")
 SaysKind words settings (H264 last_stamp) = SaysVideo words settings last_stamp
 
--- Words ask for this media clock beside a stream of so many sample frames a second. Its base frequency is the stream's rate
--- where no other is given.
+-- Words ask for this media clock beside a stream of `rate` sample frames a second. Its base frequency is the stream's
+-- rate if no other is given.
 pub record SaysCrf (settings : List Setting) (rate : ℕ) (crf : Crf) : Type 0 where
   pub id : IsGivenIdIf (codes "--crf") settings (Some crf.id)
   pub base : IsGiven (with_default limits.crf_rate rate) settings crf.rate
@@ -342,34 +349,39 @@ pub record FitsSamples (format : AafFormat) (asked : Talking) : Type 0 where
   pub rate : (code : ℕ) × (rate_of code ≡ Some asked.rate)
   pub size : asked.count * frame_size asked.channels format ≤ limits.samples
 
--- An AM824 stream has a sample rate of IEC 61883-6, and a packet at least an eighth of its SYT interval, so that a block
--- is stamped in eight packets. A block has few enough quadlets, and the blocks of a packet fit into it.
+-- An AM824 stream has a sample rate of IEC 61883-6, and a packet at least an eighth of its SYT interval, so that a
+-- block is stamped in each 8 packets. A block has at most 256 quadlets, and the blocks of a packet fit into it.
 pub record FitsBlocks (asked : Talking) : Type 0 where
   pub rate : (fdf : ℕ) × (rate_of_fdf fdf ≡ Some asked.rate) × IsSomeAnd (syt_interval fdf) (λ interval. interval ≤ 8 * asked.count)
   pub quadlets : asked.channels ≤ limits.quadlets
   pub size : asked.count * block_size asked.channels ≤ limits.blocks
 
+-- what is asked of `talk` fits its kind: the rate is one of the format, and a packet fits an Ethernet frame; of H.264
+-- there are at most 240 access units a second
 abbrev pub FitsKind : Kind → Talking → Type 0
 FitsKind (Aaf format sparse) asked = FitsSamples format asked
 FitsKind Am824 asked = FitsBlocks asked
 FitsKind (H264 last_stamp) asked = asked.rate ≤ limits.access_units
 
--- The sample frames from one point of a clock to the next, at so many a second: they take as long as `interval` events at
--- the clock's frequency, which is its base frequency times the factor of its pull (IEEE 1722-2016, 10).
+-- The sample frames from one point of a clock to the next in a stream of `rate` sample frames a second: they take as
+-- long as `interval` events at the clock's frequency, which is its base frequency times the factor of its pull (IEEE
+-- 1722-2016, 10).
 abbrev pub spacing_of : Crf → ℕ → ℕ
 spacing_of crf rate = crf.interval * rate * pull_down crf.pull / (crf.rate * pull_up crf.pull)
 
--- A run is so many packets of so many sample frames, and whole packets of the clock: 8, or a multiple of 8.
+-- A run of `packets` packets has a whole number of clock packets' sample frames: 8 clock packets, or a multiple of 8.
+-- Without restarts nothing is asked.
 abbrev pub HasWholeRuns : Crf → ℕ → ℕ → Option ℕ → Type 0
 HasWholeRuns crf rate count None = ⊤
 HasWholeRuns crf rate count (Some packets) = packets * count % (8 * spacing_of crf rate * crf.points) ≡ 0
 
--- A clock fits a stream of so many sample frames a second, with so many in a packet, and maybe with restarts: its points
--- stand at whole sample frames, and its runs are whole.
+-- A clock fits a stream of `rate` sample frames a second, with `count` in a packet, and maybe with restarts: its points
+-- are at whole sample frames, and its runs are whole.
 pub record FitsStream (crf : Crf) (rate count : ℕ) (restart : Option ℕ) : Type 0 where
   pub whole : crf.interval * rate * pull_down crf.pull % (crf.rate * pull_up crf.pull) ≡ 0
   pub runs : HasWholeRuns crf rate count restart
 
+-- no media clock is asked for, or it fits the stream
 abbrev pub FitsClock : Option Crf → ℕ → ℕ → Option ℕ → Type 0
 FitsClock None rate count restart = ⊤
 FitsClock (Some crf) rate count restart = FitsStream crf rate count restart
@@ -378,11 +390,11 @@ FitsClock (Some crf) rate count restart = FitsStream crf rate count restart
 abbrev pub Lacks : List (List ℕ) → List (List ℕ) → Type 0
 Lacks words options = All (λ option. Contains words option → ⊥) options
 
--- The words have the option that these need, where they have one of these.
+-- If the words have one of these options, they have the one that it needs.
 abbrev pub Need : List (List ℕ) → List ℕ → List (List ℕ) → Type 0
 Need words needed options = All (λ option. Contains words option → Contains words needed) options
 
--- the options that a kind does not have
+-- the options of `talk` that a kind does not have
 abbrev pub lacking : Kind → List (List ℕ)
 lacking (Aaf format sparse) = codes "--last-stamp" ∷ []
 lacking Am824 = codes "--format" ∷ codes "--sparse" ∷ codes "--last-stamp" ∷ []
@@ -399,10 +411,11 @@ lacking (H264 last_stamp) =
     codes "--crf-rate" ∷
     codes "--crf-pull" ∷ []
 
--- the options that say more of a restart, and of a media clock
+-- the options that say more of a restart
 abbrev pub of_restart : List (List ℕ)
 of_restart = codes "--jump" ∷ []
 
+-- the options that say more of a media clock
 abbrev pub of_clock : List (List ℕ)
 of_clock = codes "--crf-interval" ∷ codes "--crf-points" ∷ codes "--crf-rate" ∷ codes "--crf-pull" ∷ []
 
@@ -442,7 +455,7 @@ IsCommandLine words (listen asked) = SaysListen words asked × KeepsNames (drop 
 IsCommandLine words (soak packets) = IsSoak words packets
 IsCommandLine words (talk asked) = SaysTalk words asked × KeepsRules (drop 1 words) asked
 
--- the words fit the form of their command: each can stand in its place, and none is missing
+-- the words fit the form of their command: each can be at its place, and none is missing
 pub record IsLine (words : List (List ℕ)) : Type 0 where
   pub form : Form
   pub known : form_named form.command ≡ Some form
@@ -455,12 +468,12 @@ pub record Begins (L : List (List ℕ) → Type 0) (words : List (List ℕ)) : T
   pub more : List (List ℕ)
   pub whole : L (words ++ more)
 
--- With the next word they begin no line of L; where there is no next word, they are none themselves.
+-- With the next word these begin no line of L; if there is no next word, they are no line themselves.
 abbrev pub Stops : (List (List ℕ) → Type 0) → List (List ℕ) → List (List ℕ) → Type 0
 Stops L before [] = L before → ⊥
 Stops L before (next ∷ _) = Begins L (before ++ next ∷ []) → ⊥
 
--- So many words begin a line of L, and with the next one they begin none; or they are all, and none.
+-- The first `place` words begin a line of L, and with the next one they begin none; or they are all words, and no line.
 pub record StopsAt (L : List (List ℕ) → Type 0) (words : List (List ℕ)) (place : ℕ) : Type 0 where
   pub before : List (List ℕ)
   pub rest : List (List ℕ)
@@ -471,8 +484,8 @@ pub record StopsAt (L : List (List ℕ) → Type 0) (words : List (List ℕ)) (p
 
 -- The position of what is wrong with the words, from 1.
 pub data IsOffence (words : List (List ℕ)) (position : ℕ) : Type 0 where
-  -- That of the first word that cannot stand: the words before it begin a line, and with it they begin none. Where a
+  -- That of the first word that is wrong: the words before it begin a line, and with it they begin none. If a
   -- word is missing it is one past the last.
   of_a_word : (place : ℕ) → position ≡ place + 1 → StopsAt IsLine words place → IsOffence words position
-  -- That of the command: every word can stand, and a rule over several of them fails.
+  -- That of the command: no word is wrong by itself, and a rule over several of them fails.
   of_a_rule : position ≡ 1 → IsLine words → ((request : Request) → IsCommandLine words request → ⊥) → IsOffence words position

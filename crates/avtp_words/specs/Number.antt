@@ -7,7 +7,8 @@ pub record IsNumber (low high : ℕ) (word : List ℕ) (n : ℕ) : Type 0 where
   pub most : n ≤ high
   pub spelled : word ≡ decimal n
 
--- The same of a number that may be below 0: one `-` stands before its digits then, and at no other time.
+-- The word is the number in decimal digits without leading zeros, with a `-` before them exactly if it is negative, and
+-- the number is at most `most` from 0.
 pub record IsSigned (most : ℕ) (word : List ℕ) (z : ℤ) : Type 0 where
   pub size : unsigned_abs z ≤ most
   pub spelled : word ≡ signed_decimal z

@@ -6,6 +6,7 @@ use Rattle.avtp_words.specs.Limits as limits
 use Rattle.avtp_words.specs.Number.{IsNumber}
 use Rattle.avtp_words.specs.Word.{IsId, IsName}
 
+-- the word can be this operand: a stream id, the name of a file, or a number of packets
 abbrev pub IsOperand : Operand → List ℕ → Type 0
 IsOperand Id word = (id : ℕ) × IsId word id
 IsOperand Name word = IsName word

@@ -1,4 +1,4 @@
--- The options of a command: what it knows, what was given, and when the two meet.
+-- The options of a command: those that it knows, those that were given, and when the two agree.
 use Rattle.std.specs.Prelude.{◌≡◌, ◌≢◌, ℕ, ℤ, List, ◌∷◌, Bool, true, false, IsTrue, Option, Some, None, option_to_list, option_and_then, IsSomeAnd, All, AllPairs, codes, ◌⊎◌}
 use Rattle.std.specs.List.{find}
 use Rattle.std.specs.Str.{bytes_eq}
@@ -14,15 +14,16 @@ pub record Row : Type 0 where
   pub name : List ℕ
   pub takes : Takes
 
--- the row of this name in the table of a command
+-- the row of this name in the table of a command, if there is one
 abbrev pub row_named : List Row → List ℕ → Option Row
 row_named rows name = find (λ row. bytes_eq row.name name) rows
 
--- an option as it is given: its name, and its value where it has one
+-- an option as it is given: its name, and its value if it has one
 pub record Setting : Type 0 where
   pub name : List ℕ
   pub value : Option (List ℕ)
 
+-- the words of an option as it is given
 abbrev pub words_of : Setting → List (List ℕ)
 words_of s = s.name ∷ option_to_list s.value
 
@@ -33,7 +34,7 @@ format_name Int24 = codes "int24"
 format_name Int32 = codes "int32"
 format_name Float32 = codes "float32"
 
--- the word is a value of such an option
+-- the word is a value that an option of this sort takes
 abbrev pub IsValue : Takes → List ℕ → Type 0
 IsValue (Number low high) word = (n : ℕ) × IsNumber low high word n
 IsValue (Signed most) word = (z : ℤ) × IsSigned most word z
@@ -44,6 +45,7 @@ IsValue Name word = IsName word
 IsValue Silence word = (word ≡ codes "zero") ⊎ (word ≡ codes "am824")
 IsValue Nothing word = ⊥
 
+-- the option takes no value
 abbrev pub stands_alone : Takes → Bool
 stands_alone (Number low high) = false
 stands_alone (Signed most) = false
@@ -54,7 +56,7 @@ stands_alone Name = false
 stands_alone Silence = false
 stands_alone Nothing = true
 
--- An option has a value, or stands alone.
+-- An option is given with a value that it takes, or without one if it takes none.
 abbrev pub IsTaken : Takes → Option (List ℕ) → Type 0
 IsTaken takes None = IsTrue (stands_alone takes)
 IsTaken takes (Some word) = IsValue takes word
@@ -69,6 +71,6 @@ pub record AreSettings (rows : List Row) (settings : List Setting) : Type 0 wher
   pub each : All (IsSetting rows) settings
   pub once : AllPairs (λ s t. s.name ≢ t.name) settings
 
--- the value of the option of this name, where it is given
+-- the value of the option of this name, if it is given
 abbrev pub value_in : List ℕ → List Setting → Option (List ℕ)
 value_in name settings = option_and_then (λ s. s.value) (find (λ s. bytes_eq s.name name) settings)

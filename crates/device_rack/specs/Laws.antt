@@ -1,11 +1,11 @@
--- What the NAL units of a byte stream are.
+-- The NAL units of a byte stream (ITU-T H.264, annex B).
 use Rattle.std.specs.Prelude.{◌≢◌, ℕ, ◌-◌, ◌<◌, List, length, map, slice_index}
 use Rattle.std.specs.List.{slice_range}
 use Rattle.memchr.specs.Find.{OccursAt}
 use Rattle.cvf_format.specs.AnnexB.{nal_units, start_code, three_zeros}
 
--- A byte stream can carry these bytes as one unit: there are some, no start code and no three zeros stand among them, and
--- the last is not zero.
+-- A byte stream can carry these bytes as one NAL unit: there are some, no start code and no three zeros are among them,
+-- and the last is not zero.
 pub record IsCarried (bytes : List ℕ) : Type 0 where
   pub some : 0 < length bytes
   pub no_start_code : (k : ℕ) → ¬ OccursAt bytes start_code k

@@ -9,71 +9,80 @@ use Rattle.time_unfold.specs.Lines.{floor_of}
 use Rattle.device_rack.specs.declared.silence.Silence.{Silence}
 use Rattle.device_rack.specs.declared.silence.Silence.TheVariants.{Zero, Am824}
 
+-- the batch of an item, if it is presented
 abbrev pub batch_of : Shown → Option Presented
 batch_of (Present batch) = Some batch
 batch_of (Flag frame seq reason) = None
 
--- all batches, in order
+-- the batches of all items that are presented, in order
 abbrev pub batches : List Shown → List Presented
 batches items = filter_map batch_of items
 
--- a unit is a batch whose line has one nanosecond a sample; every other one is samples
+-- the batch is a unit of H.264: its line has one nanosecond a sample; every other batch is samples
 abbrev pub is_unit : Presented → Bool
 is_unit batch = batch.line.num == 1 && batch.line.den == 1
 
+-- the units of H.264 among the items that are presented, in order
 abbrev pub units : List Shown → List Presented
 units items = filter is_unit (batches items)
 
+-- the batches of samples among the items that are presented, in order
 abbrev pub sample_batches : List Shown → List Presented
 sample_batches items = filter (λ batch. not (is_unit batch)) (batches items)
 
 -- ---- a byte stream of units (ITU-T H.264, annex B): each after a start code
 
+-- the units of the items as a byte stream (ITU-T H.264, annex B): each after the start code 00 00 00 01
 abbrev pub annexb : List Shown → List ℕ
 annexb items = flat_map (λ (unit : Presented). 0 ∷ 0 ∷ 0 ∷ 1 ∷ unit.bytes) (units items)
 
--- ---- raw samples, with silence where some are missing
+-- ---- raw samples, with silence for missing ones
 
--- the bytes of one sample, all channels
+-- the bytes of one sample of a batch, all channels
 abbrev pub sample_size : Presented → ℕ
 sample_size batch = length batch.bytes / batch.count
 
+-- an integer, or 0 if it is negative
 abbrev pub at_least_0 : ℤ → ℕ
 at_least_0 (pos n) = n
 at_least_0 (negsuc n) = 0
 
--- how many samples of a line a span of so many nanoseconds has, to the nearest whole one: span * den / num + 1 / 2,
--- rounded down, and none in a span that is too far below 0
+-- how many samples of a line a span of nanoseconds has, to the nearest whole one, half a sample up: span * den / num +
+-- 1 / 2, rounded down, or none if that is negative
 abbrev pub samples_in : Line → ℤ → ℕ
 samples_in line span = at_least_0 (floor_of (pos 2 *ℤ span *ℤ pos line.den +ℤ pos line.num) (2 * line.num))
 
--- the most bytes of silence between two batches
+-- at most this many bytes of silence are written between two batches
 abbrev pub longest_silence : ℕ
 longest_silence = 16777216
 
--- the bytes of silence in a span, in whole samples
+-- the bytes of silence in a span of nanoseconds, in whole samples of `size` bytes
 abbrev pub silent_bytes : Line → ℕ → ℤ → ℕ
 silent_bytes line size span = min (samples_in line span) (longest_silence / size) * size
 
--- byte j of silence: of AM824, each quadlet is a label and a value of 0 (IEC 61883-6)
+-- byte j of silence: 0, or of AM824 that of quadlets with the label 40 and a value of 0 (IEC 61883-6)
 abbrev pub silent_byte : Silence → ℕ → ℕ
 silent_byte Zero j = 0
 silent_byte Am824 j = if j % 4 == 0 then 0x40 else 0
 
+-- `count` bytes of silence
 abbrev pub silence_of : Silence → ℕ → List ℕ
 silence_of silence count = map (silent_byte silence) (range_with_len 0 count)
 
--- the silence before a batch: from the end of the batch before it, on the line of that one
+-- the silence before a batch: from the end of the batch of samples before it, on that batch's line; none before the
+-- first
 abbrev pub silence_before : Silence → Option Presented → Presented → List ℕ
 silence_before silence None batch = []
 silence_before silence (Some before) batch =
     silence_of silence (silent_bytes before.line (sample_size before) (sample_instant batch 0 -ℤ sample_instant before before.count))
 
--- batches, each after its silence
+-- batches of samples, each after the silence before it, given the batch before the first
 abbrev pub raw_behind : Silence → Option Presented → List Presented → List ℕ
 raw_behind silence before [] = []
 raw_behind silence before (batch ∷ batches) =
     silence_before silence before batch ++ batch.bytes ++ raw_behind silence (Some batch) batches
 
+-- The samples of the items as they are written, with silence for what is missing between two batches of samples,
+-- whatever units and flags are between.
 abbrev pub raw : Silence → List Shown → List ℕ
 raw silence items = raw_behind silence None (sample_batches items)

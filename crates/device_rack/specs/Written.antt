@@ -12,19 +12,20 @@ use Rattle.device_rack.specs.declared.raw.RawDevice.{RawDevice}
 use Rattle.device_rack.specs.declared.silence.Silence.{Silence}
 use Rattle.device_rack.specs.Output.{annexb, raw, sample_batches, sample_size}
 
--- what is kept of a batch: its line, the instant behind its last sample, and the bytes of one sample
+-- what is kept of a batch: its line, the instant after its last sample, and the bytes of one sample
 pub record IsPrevious (previous : Previous) (batch : Presented) : Type 0 where
   pub line : previous.line ≡ batch.line
   pub end : previous.end ≡ sample_instant batch batch.count
   pub size : previous.size ≡ sample_size batch
 
+-- what is kept of the batch before, or nothing if there was none
 abbrev pub IsPreviousOf : Option Previous → Option Presented → Type 0
 IsPreviousOf None None = ⊤
 IsPreviousOf None (Some batch) = ⊥
 IsPreviousOf (Some previous) None = ⊥
 IsPreviousOf (Some previous) (Some batch) = IsPrevious previous batch
 
--- what a device shows: its sink, whether it has failed, what stands for missing samples
+-- what a device shows: its sink, whether it has failed, and what its silence is made of
 module _ {S : Type 0} where
   abbrev pub raw_sink : RawDevice S → S
   raw_sink device = device.sink
@@ -41,15 +42,17 @@ module _ {S : Type 0} where
   abbrev pub annexb_failed : AnnexBDevice S → Bool
   annexb_failed device = device.failed
 
-  -- The device has taken these items, in this order, since its sink was as in `start`: the sink holds their output behind
-  -- what it held then, as long as the device has not failed.
+  -- The device has taken these items, in this order, since its sink was as in `start`: as long as it has not failed,
+  -- the sink holds their output after what it held then.
   pub record HasTakenRaw (state : S → SinkState) (start : SinkState) (device : RawDevice S) (items : List Shown) : Type 0 where
     pub previous : IsPreviousOf device.previous (last_or None (sample_batches items))
     pub holds : raw_failed device ≡ false → Appends start.held (state (raw_sink device)).held (raw (silence_in device) items)
 
+  -- The device has taken these items since its sink was as in `start`: as long as it has not failed, the sink holds
+  -- their units as a byte stream after what it held then.
   abbrev pub HasTakenUnits : (S → SinkState) → SinkState → AnnexBDevice S → List Shown → Type 0
   HasTakenUnits state start device items = annexb_failed device ≡ false → Appends start.held (state (annexb_sink device)).held (annexb items)
 
--- what a sink tells grew by all of bs and then by a part, and both are a prefix of more
+-- what a sink holds grew by all of bs and then by a part, and both together are a prefix of `more`
 abbrev pub AppendsUpTo : SinkState → SinkState → List ℕ → List ℕ → Type 0
 AppendsUpTo before after bs more = (part : List ℕ) × IsPrefix (bs ++ part) more × Appends before.held after.held (bs ++ part)

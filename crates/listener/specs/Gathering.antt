@@ -1,4 +1,4 @@
--- What the units of a stream stand for between two deliveries, and the items that wait to be judged.
+-- The units of a stream between two deliveries, and the items that wait to be judged.
 use Rattle.std.specs.Prelude.{ℕ, List, ◌++◌, drop, map, Option}
 use Rattle.std.specs.Option.{option_to_list}
 use Rattle.cvf_format.specs.Assembly.{Assembly, StandsFor}
@@ -25,6 +25,7 @@ pub record Gathered : Type 0 where
 abbrev pub lost_item : Reason → Mark → Item
 lost_item reason mark = OfBad (record { frame = mark.frame; arrival = mark.arrival; seq = mark.seq; reason = reason })
 
+-- the entry of an item in a schedule
 abbrev pub item_entry : Item → Entry
 item_entry item = OfItem item
 

@@ -13,7 +13,7 @@ use Rattle.listener.specs.declared.plan.ListenPlan.{ListenPlan}
 use Rattle.packet_journal.specs.Deliveries.{Delivery, deliveries}
 use Rattle.listener.specs.Items.{MadeItem, entries, entries_so_far, items_of}
 
--- the schedule's part of a plan
+-- the part of a listener's plan that is its schedule's
 abbrev pub schedule_plan : ListenPlan → SchedulePlan
 schedule_plan plan = record {
   buffer = plan.buffer;
@@ -24,17 +24,19 @@ schedule_plan plan = record {
   shift = plan.shift;
 }
 
--- the deliveries in a list of records, and the items and entries of these
+-- the deliveries of the listener's stream and clock in a list of records
 abbrev pub deliveries_of : ListenPlan → List Record → List Delivery
 deliveries_of plan records = deliveries plan.stream plan.clock records
 
+-- the items that a list of records makes, with the deliveries that each was made of
 abbrev pub items_in : ListenPlan → List Record → List MadeItem
 items_in plan records = items_of (deliveries_of plan records)
 
+-- the entries of the schedule of a list of records
 abbrev pub entries_in : ListenPlan → List Record → List Entry
 entries_in plan records = entries (deliveries_of plan records)
 
--- the same while further records may follow
+-- the entries that a list of records makes while further ones may follow
 abbrev pub entries_so_far_in : ListenPlan → List Record → List Entry
 entries_so_far_in plan records = entries_so_far (deliveries_of plan records)
 
@@ -42,19 +44,21 @@ entries_so_far_in plan records = entries_so_far (deliveries_of plan records)
 abbrev pub shown_of : ListenPlan → List Record → List Shown
 shown_of plan records = shown clock_spot (schedule_plan plan) (entries_in plan records)
 
--- what of it is certain while further records may follow
+-- what is certain to be shown of a list of records while further ones may follow
 abbrev pub due_of : ListenPlan → List Record → List Shown
 due_of plan records = due clock_spot (schedule_plan plan) (entries_so_far_in plan records)
 
+-- an item is presented
 abbrev pub is_present : Shown → Bool
 is_present (Present batch) = true
 is_present (Flag frame seq reason) = false
 
+-- an item is flagged
 abbrev pub is_flag : Shown → Bool
 is_flag (Present batch) = false
 is_flag (Flag frame seq reason) = true
 
--- The numbers of the records, of those that belong to the stream, and of what is presented and flagged of them.
+-- How many records there are, how many of them belong to the stream, and how much is presented and flagged.
 abbrev pub counts_of : ListenPlan → List Record → List Shown → Counts
 counts_of plan records list = record {
   frames = length records;
@@ -64,7 +68,7 @@ counts_of plan records list = record {
 }
 
 -- What a listener shows of the bytes: the schedule of their whole records, which is that of those before the first
--- refusal; its numbers; and the first refusal, where there is one.
+-- refusal; its counts; and the first refusal, if there is one.
 abbrev pub heard_of : ListenPlan → List ℕ → Heard
 heard_of plan bytes =
     let records = whole_records bytes in

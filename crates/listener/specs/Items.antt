@@ -25,8 +25,8 @@ use Rattle.packet_journal.specs.Deliveries.{Delivery}
 use Rattle.listener.specs.Units.{event_of, events, flaw_of, in_stream, last_ones, waiting}
 use Rattle.packet_journal.specs.Packets.{audio_sample_type}
 
--- A packet of AAF (IEEE 1722-2016, 7). Its timestamp counts where it is valid. In sparse mode a packet without one is
--- counted from the packet before it that has one. The user's rate is no rate.
+-- A packet of AAF (IEEE 1722-2016, 7). Its timestamp counts if it is valid. In sparse mode a packet without one is
+-- counted from the packet before it that has one. The rate code for a rate that only the user knows is no rate.
 abbrev pub samples_of : Delivery → Aaf → Item
 samples_of d v = OfPacket (record {
   frame = d.frame;
@@ -41,14 +41,15 @@ samples_of d v = OfPacket (record {
   bytes = v.payload;
 })
 
--- How a packet of IEC 61883-6 is stamped: the interval is that of its rate. A packet of no data has neither.
+-- How a packet of IEC 61883-6 is stamped: by the SYT interval of its rate, if it has one. A packet of no data has
+-- neither.
 abbrev pub block_rule : ℕ → Option ℕ → HeadRule
 block_rule dbc None = Own
 block_rule dbc (Some interval) = Blocks dbc interval
 
--- A packet of IEC 61883-6, of which each data block is a sample. Its timestamp counts where it is valid, and belongs to the
--- block whose block count is a multiple of the interval. A packet without that block is counted from the last such block
--- before it. A packet of no data has no samples.
+-- A packet of IEC 61883-6, of which each data block is a sample. Its timestamp counts if it is valid, and belongs to
+-- the block whose block count is a multiple of the interval. A packet without that block is counted from the last such
+-- block before it. A packet of no data has no samples.
 abbrev pub blocks_of : Delivery → Iec → Item
 blocks_of d v = OfPacket (record {
   frame = d.frame;
@@ -63,7 +64,7 @@ blocks_of d v = OfPacket (record {
   bytes = v.payload;
 })
 
--- a delivery that its reader refuses
+-- the item of a delivery that its reader refuses
 abbrev pub malformed : Delivery → Refusal → Item
 malformed d refusal = OfBad (record {
   frame = d.frame;
@@ -72,23 +73,26 @@ malformed d refusal = OfBad (record {
   reason = Malformed refusal.field;
 })
 
+-- the item of a delivery that its reader may refuse
 abbrev pub refused_or : Delivery → Option Refusal → Item → Item
 refused_or d None item = item
 refused_or d (Some refusal) item = malformed d refusal
 
+-- the item of a delivery of AAF
 abbrev pub aaf_item : Delivery → Item
 aaf_item d = refused_or d (aaf_refusal d.packet) (samples_of d (aaf_of d.packet))
 
+-- the item of a delivery of IEC 61883-6
 abbrev pub iec_item : Delivery → Item
 iec_item d = refused_or d (iec_refusal d.packet) (blocks_of d (iec_of d.packet))
 
--- a delivery of AAF or of IEC 61883-6
+-- the item of a delivery of AAF or of IEC 61883-6
 abbrev pub item_of : Delivery → Item
 item_of d = if d.subtype == aaf_subtype then aaf_item d else iec_item d
 
 -- ---- the media clock
 
--- What a packet of the media clock gives (IEEE 1722-2016, 10): its timestamps are points where it is of the type for audio
+-- What a packet of the media clock gives (IEEE 1722-2016, 10): its timestamps are points if it is of the type for audio
 -- samples and its times are certain.
 abbrev pub points_of : Crf → ClockRow
 points_of v = record {
@@ -101,10 +105,11 @@ points_of v = record {
   payload = v.payload;
 }
 
--- what a packet gives that its reader refuses
+-- what a packet of the media clock gives that its reader refuses
 abbrev pub no_points : ClockRow
 no_points = record { usable = false; seq = 0; mr = false; base_frequency = 0; pull = 0; interval = 0; payload = [] }
 
+-- the points of a packet of the media clock, or none if its reader refuses it
 abbrev pub points_or_none : Option Refusal → Crf → ClockRow
 points_or_none None v = points_of v
 points_or_none (Some refusal) v = no_points
@@ -142,6 +147,7 @@ flagged reason d = record {
   last = d;
 }
 
+-- the reason with which fragments are flagged that were given up for this
 abbrev pub lost_for : LostFor → Reason
 lost_for Broken = BrokenUnit
 lost_for Long = LongUnit
@@ -152,7 +158,7 @@ lost_for Long = LongUnit
 abbrev pub events_to : List Delivery → Delivery → List Event
 events_to before d = events before ++ event_of d ∷ []
 
--- the fragments that it gives up
+-- the fragments that wait and that a delivery gives up
 abbrev pub given_up_by : List Delivery → Delivery → List MadeItem
 given_up_by before d =
     map (flagged (lost_for (reason (events_to before d)))) (last_ones (length (given_up (events_to before d))) (in_stream before))
@@ -178,20 +184,21 @@ piece_by before d Whole = unit_by before d ∷ []
 piece_by before d Held = []
 piece_by before d (Lost why) = flagged (lost_for why) d ∷ []
 
+-- what a packet of H.264 makes: a flagged item if it has a flaw, else what becomes of its part of a unit
 abbrev pub video_by : List Delivery → Delivery → Option Reason → List MadeItem
 video_by before d None = piece_by before d (piece (events_to before d))
 video_by before d (Some reason) = flagged reason d ∷ []
 
--- its own item, which a fragment that waits has not
+-- the item that a delivery of the stream makes, if it makes one: a fragment that waits makes none
 abbrev pub own_by : List Delivery → Delivery → List MadeItem
 own_by before d = if d.subtype == cvf_subtype then video_by before d (flaw_of d) else made_of_one d ∷ []
 
--- What a delivery gives after those before it. One of the clock gives its points. One of the stream gives the fragments that
--- it gives up, in order, and then its own item.
+-- What a delivery gives after those before it. One of the clock gives its points. One of the stream gives the fragments
+-- that it gives up, in order, and then its own item.
 abbrev pub given_by : List Delivery → Delivery → List MadeItem
 given_by before d = if d.subtype == crf_subtype then made_of_one d ∷ [] else given_up_by before d ++ own_by before d
 
--- what these deliveries give, one after the other
+-- what these deliveries give, one after another
 abbrev pub given_after : List Delivery → List Delivery → List MadeItem
 given_after before [] = []
 given_after before (d ∷ ds) = given_by before d ++ given_after (before ++ d ∷ []) ds
@@ -210,12 +217,14 @@ left_at_end ds = map (flagged BrokenUnit) (waiting ds)
 abbrev pub items_of : List Delivery → List MadeItem
 items_of ds = items_so_far ds ++ left_at_end ds
 
--- what a schedule is made of
+-- the entry of an item in a schedule
 abbrev pub made_entry : MadeItem → Entry
 made_entry made = made.entry
 
+-- the entries of the schedule of a list of deliveries
 abbrev pub entries : List Delivery → List Entry
 entries ds = map made_entry (items_of ds)
 
+-- the entries that a list of deliveries makes while further ones may follow
 abbrev pub entries_so_far : List Delivery → List Entry
 entries_so_far ds = map made_entry (items_so_far ds)

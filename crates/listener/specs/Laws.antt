@@ -32,22 +32,23 @@ use Rattle.listener.specs.declared.plan.ListenPlan.{ListenPlan}
 use Rattle.listener.specs.Heard.{entries_in, items_in, schedule_plan}
 use Rattle.listener.specs.Items.{MadeItem, sources}
 
--- A listener with a clock listens to the talker's own, and adds to its timestamps what makes them the journal's points.
+-- The listener has no clock, or listens to the talker's own and adds to its timestamps what makes them the journal's
+-- points.
 abbrev pub FollowsClock : ℤ → PacketJournal → ℤ → Option ℕ → Type 0
 FollowsClock shift p added None = ⊤
 FollowsClock shift p added (Some id) = (id ≡ p.clock) × (added ≡ shift)
 
--- Records deliver the stream of a talker that keeps the rules, of audio or of H.264, to a listener that counts samples on the
--- nominal lines of their timestamps, or on those of the talker's clock. Any packet may be missing, come again, or come in any
--- order. Of H.264 alone more is asked: two fragments that were delivered beside each other, at least one of them without a
--- timestamp, are of packets at most 254 apart.
+-- Records deliver the stream of a talker that keeps the rules, of audio or of H.264, to a listener that counts samples
+-- on the nominal lines of their timestamps, or on those of the talker's clock. Any packet may be missing, come again,
+-- or come in any order. Only of H.264 more is asked: two adjacent fragments, at least one of them without a timestamp,
+-- are of packets at most 254 apart.
 pub record HearsTalker (shift : ℤ) (p : PacketJournal) (plan : ListenPlan) (records : List Record) : Type 0 where
   pub conforming : IsConforming shift p
   pub stream : plan.stream ≡ p.stream
   pub clock : FollowsClock shift p plan.shift plan.clock
   pub delivered : Delivers p plan.clock plan.lead records
 
--- samples are counted on the lines of a clock
+-- the listener counts samples on the lines of a clock
 abbrev pub by_clock : ListenPlan → Bool
 by_clock plan = is_some plan.clock
 
@@ -64,9 +65,9 @@ sample_count SparseAaf count = count
 sample_count (Am824 interval dbc) count = count
 sample_count (H264 part) count = 1
 
--- The batch is packet n of the journal: it has the packet's sequence number, its count and its samples' bytes, and each of
--- its samples stands at its instant in the journal, by the talker's clock or without. Of H.264 it is the unit that ends with
--- packet n, with the bytes that all packets of the unit carry, at their one instant.
+-- The batch is packet n of the journal: it has the packet's sequence number, its count and its samples' bytes, and each
+-- of its samples is at its instant in the journal, by the talker's clock or without. Of H.264 it is the unit that ends
+-- with packet n, with the bytes that all packets of the unit carry, at their one instant.
 pub record IsOfPacket (by : Bool) (p : PacketJournal) (n : ℕ) (batch : Presented) : Type 0 where
   pub known : n < p.times.packets
   pub seq : batch.seq ≡ n % 256
@@ -79,22 +80,21 @@ pub record IsOfJournal (by : Bool) (p : PacketJournal) (batch : Presented) : Typ
   pub number : ℕ
   pub is : IsOfPacket by p number batch
 
--- Two batches are not the same packet.
+-- No packet of the journal is both batches.
 abbrev pub AreOther : Bool → PacketJournal → Presented → Presented → Type 0
 AreOther by p a b = (n : ℕ) → IsOfPacket by p n a → ¬ IsOfPacket by p n b
 
--- The first instant of a batch is before that of another, or is the same, and the batch's item comes before the other's:
--- its frame has the lower number.
+-- The first instant of a batch is before that of another; or it is equal, and the batch's frame has the lower number.
 abbrev pub ComesBefore : Presented → Presented → Type 0
 ComesBefore a b = (sample_instant a 0 <ℤ sample_instant b 0) ⊎ ((sample_instant a 0 ≡ sample_instant b 0) × (a.frame < b.frame))
 
--- Two batches have the same samples: the same bytes, and each sample at the same instant.
+-- Two batches have the same samples: equal bytes, and each sample at one instant.
 pub record AreSame (a b : Presented) : Type 0 where
   pub count : a.count ≡ b.count
   pub bytes : a.bytes ≡ b.bytes
   pub instants : (k : ℕ) → k < a.count → sample_instant a k ≡ sample_instant b k
 
--- where two batches are the same packet, they have the same samples
+-- if one packet is both batches, they have the same samples
 abbrev pub Agree : Bool → PacketJournal → Presented → Presented → Type 0
 Agree by p a b = (n : ℕ) → IsOfPacket by p n a → IsOfPacket by p n b → AreSame a b
 
@@ -154,20 +154,20 @@ accepted_before plan records i = accepted clock_spot (schedule_plan plan) (entri
 abbrev pub time_of : ListenPlan → List Record → ℕ → ℤ
 time_of plan records i = now_at (entries_in plan records) i
 
--- where the samples of a packet stand, given what is known when it is judged
+-- where the samples of a packet are, given what is known when it is judged
 abbrev pub spot_in : SchedulePlan → List Entry → Packet → Option Spot
 spot_in plan prefix packet = option_and_then (spot_of clock_spot plan prefix packet.rate) (head_of plan prefix packet)
 
--- A timestamp is found from which the samples of an item are counted, and where the listener has a clock, two points of the
--- clock that cover it. A unit has its own.
+-- A timestamp is found from which the samples of an item are counted, and if the listener has a clock, two points of
+-- the clock that cover it. A unit has its own timestamp.
 abbrev pub is_known : SchedulePlan → List Entry → Entry → Bool
 is_known plan prefix (OfItem (OfPacket packet)) = is_some (spot_in plan prefix packet)
 is_known plan prefix (OfItem (OfUnit whole)) = true
 is_known plan prefix (OfItem (OfBad bad)) = false
 is_known plan prefix (OfClock arrival row) = false
 
--- The item at a place is packet n: its timestamp or clock reference is known, and its first instant, by the clock or without,
--- has not passed.
+-- The item at a place is packet n: its timestamp or clock reference is known, and its first instant, by the clock or
+-- without, has not passed.
 pub record IsTimely (p : PacketJournal) (plan : ListenPlan) (records : List Record) (place n : ℕ) (made : MadeItem) : Type 0 where
   pub there : slice_get (items_in plan records) place ≡ Some made
   pub copy : IsMadeOf p plan.lead n made
@@ -176,7 +176,8 @@ pub record IsTimely (p : PacketJournal) (plan : ListenPlan) (records : List Reco
   pub at : IsAt (by_clock plan) p.times n 0 instant
   pub in_time : time_of plan records place ≤ℤ instant
 
--- It is a copy that must be presented.
+-- The item at a place is a copy of packet n that must be presented: it is timely and the first one, and the buffer has
+-- room for it.
 pub record IsWelcome (p : PacketJournal) (plan : ListenPlan) (records : List Record) (place n : ℕ) (made : MadeItem) : Type 0 where
   pub timely : IsTimely p plan records place n made
   -- no copy of the packet was accepted before
@@ -186,7 +187,7 @@ pub record IsWelcome (p : PacketJournal) (plan : ListenPlan) (records : List Rec
   pub content : IsContent p n bytes
   pub room : is_full (schedule_plan plan) (standing (time_of plan records place) (accepted_before plan records place)) (length bytes) ≡ false
 
--- It is a further copy: one of the packet was accepted before.
+-- The item at a place is a further copy of packet n: it is timely, and a copy was accepted before.
 pub record IsFurther (p : PacketJournal) (plan : ListenPlan) (records : List Record) (place n : ℕ) (made : MadeItem) : Type 0 where
   pub timely : IsTimely p plan records place n made
   pub before : Any (λ a. IsOfPacket (by_clock plan) p n a.batch) (accepted_before plan records place)
@@ -206,7 +207,7 @@ pub record IsHeardFrom (by : Bool) (items : List MadeItem) (p : PacketJournal) (
 
 -- ---- what is shown of each item
 
--- the number of the frame of which it is shown
+-- the number of the frame of which an item is shown
 abbrev pub frame_of : Shown → ℕ
 frame_of (Present batch) = batch.frame
 frame_of (Flag frame seq reason) = frame
@@ -219,7 +220,7 @@ shown_of_frame frame list = filter (λ s. frame_of s == frame) list
 abbrev pub verdict_of : ListenPlan → List Record → ℕ → Item → Result Accepted Reason
 verdict_of plan records place item = verdict_in clock_spot (schedule_plan plan) (entries_in plan records) place item
 
--- What a verdict makes of an item with this last delivery: what it accepts is presented, and any other is flagged with its
+-- What is shown of an item with this last delivery, by its verdict: it is presented if accepted, else flagged with the
 -- one reason.
 abbrev pub shown_by : Delivery → Result Accepted Reason → Shown
 shown_by d (Ok a) = Present a.batch
@@ -227,20 +228,23 @@ shown_by d (Err reason) = Flag d.frame d.seq reason
 
 -- ---- two packets of a clock
 
--- the last point of packet m, and the first of the next
+-- the place of the last point of packet m of a clock
 abbrev pub last_of : ClockJournal → ℕ → Place
 last_of c m = record { packet = m; at = length (c.points m) - 1 }
 
+-- the place of the first point of the packet after packet m of a clock
 abbrev pub first_of : ℕ → Place
 first_of m = record { packet = suc m; at = 0 }
 
--- These two points are joined, and a listener that adds nothing to timestamps takes both for points.
+-- The last point of packet m of a clock and the first of the next are joined, and a listener that adds nothing to
+-- timestamps takes both for points.
 pub record AreJoined (c : ClockJournal) (m : ℕ) : Type 0 where
   pub joined : IsJoinedAt c (last_of c m) (first_of m)
   pub earlier : point c (last_of c m) < 2 ^ 62
   pub later : point c (first_of m) < 2 ^ 62
 
--- the pair of these points covers the timestamp of packet n, which is at this instant
+-- the pair of the last point of clock packet m and the first of the next covers the timestamp of packet n, which is at
+-- this instant
 pub record CoversPacket (p : PacketJournal) (m n instant : ℕ) : Type 0 where
   pub points : AreJoined p.times.clock m
   pub stamped : p.times.stamp n ≡ Some instant

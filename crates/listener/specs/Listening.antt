@@ -1,4 +1,4 @@
--- What a listener stands for that was given a capture's records one at a time, and what it has shown of them.
+-- A listener that was given a capture's records one at a time, and what it has shown of them.
 use Rattle.std.specs.Prelude.{◌≡◌, ◌≤◌, ℕ, ◌+◌, ◌-◌, Bool, true, false, if◌then◌else◌, List, [], ◌++◌, length, map, take}
 use Rattle.clock_track.specs.Rows.{clock_spot}
 use Rattle.pcap_frames.specs.Capture.{Record}
@@ -10,8 +10,9 @@ use Rattle.listener.specs.declared.plan.ListenPlan.{ListenPlan}
 use Rattle.listener.specs.Gathering.{Gathered, HasUnits, item_entry, left}
 use Rattle.listener.specs.Heard.{counts_of, deliveries_of, due_of, entries_in, entries_so_far_in, schedule_plan, shown_of}
 
--- Its plan; the units that its stream's deliveries make, and the items of the last one that wait to be judged; the judge of
--- them; whether no record follows; and its counts: of records, of those of the stream, and of what was presented and flagged.
+-- A listener: its plan; the units that its stream's deliveries make, and the items of the last one that wait to be
+-- judged; the judge of them; whether no record follows; and its counts: of records, of those of the stream, and of what
+-- was presented and flagged.
 pub record ListenState : Type 0 where
   pub plan : ListenPlan
   pub units : Gathered
@@ -27,22 +28,23 @@ is_closed listener = listener.ended
 abbrev pub out : ListenState → List Record → List Shown
 out listener records = if is_closed listener then shown_of listener.plan records else due_of listener.plan records
 
--- the entries of which that is shown
+-- the entries of a list of records: all if none follows, else those that are made so far
 abbrev pub entries_by : Bool → ListenPlan → List Record → List Entry
 entries_by ended plan records = if ended then entries_in plan records else entries_so_far_in plan records
 
--- all that it shows so far was given
+-- all that the listener shows so far was given
 pub record IsIdle (listener : ListenState) : Type 0 where
   pub judge : IsIdleJudge listener.judge
   pub none : left listener.units ≡ []
 
--- The judge was given the first of these entries, and has given so many items of what it shows of them; the others wait.
+-- The judge was given the first of these entries, and has given `given` items of what it shows of them; the other
+-- entries wait.
 pub record Judges (entries : List Entry) (given : ℕ) (judge : JudgeState) (units : Gathered) : Type 0 where
   pub judged : List Entry
   pub stands : JudgeStandsFor clock_spot judged given judge
   pub all : judged ++ map item_entry (left units) ≡ entries
 
--- The listener was given these records, has shown so many items of them, and has counted both.
+-- The listener was given these records, has shown `given` items of them, and has counted both.
 pub record StandsFor (records : List Record) (given : ℕ) (listener : ListenState) : Type 0 where
   pub plan : listener.judge.plan ≡ schedule_plan listener.plan
   pub units : is_closed listener ≡ false → HasUnits (deliveries_of listener.plan records) listener.units
@@ -52,11 +54,11 @@ pub record StandsFor (records : List Record) (given : ℕ) (listener : ListenSta
   pub within : given ≤ length (out listener records)
   pub counts : listener.counts ≡ counts_of listener.plan records (take given (out listener records))
 
--- how many items a listener may still show: it shows no more of them than there are records
+-- at most this many items may still be shown: a listener shows no more items than it was given records
 abbrev pub work : ListenState → ℕ
 work listener = listener.counts.frames - (listener.counts.presented + listener.counts.flagged)
 
--- What no call changes but the one that is for it: the plan, how many records were given, and that none follows.
+-- the plan, how many records were given, and whether none follows are unchanged
 pub record Keeps (old new : ListenState) : Type 0 where
   pub plan : new.plan ≡ old.plan
   pub frames : new.counts.frames ≡ old.counts.frames

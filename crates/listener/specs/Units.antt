@@ -19,18 +19,21 @@ flaw_in v =
     else if completes v.part && not v.header.tv then Some Untimed
     else None
 
+-- why a packet of H.264 is in no unit: its reader refuses it, its time is uncertain, or it completes a unit and has no
+-- timestamp
 abbrev pub flaw_or : Option Refusal → Cvf → Option Reason
 flaw_or None v = flaw_in v
 flaw_or (Some refusal) v = Some (Malformed refusal.field)
 
--- why a delivery of H.264 is in no unit, whatever stands beside it; its reader may refuse it, too
+-- why a delivery of H.264 is in no unit, whatever comes before or after it
 abbrev pub flaw_of : Delivery → Option Reason
 flaw_of d = flaw_or (cvf_refusal d.packet) (cvf_of d.packet)
 
+-- what is kept of a delivery to flag it: its frame, its sequence number and its arrival
 abbrev pub mark_of : Delivery → Mark
 mark_of d = record { frame = d.frame; seq = d.seq; arrival = d.arrival }
 
--- a unit or a fragment, with its presentation time where it is stamped (IEEE 1722-2016, 8)
+-- a unit or a fragment, with its presentation time if it is stamped (IEEE 1722-2016, 8)
 abbrev pub fragment_in : Delivery → Cvf → Fragment
 fragment_in d v = record {
   mark = mark_of d;
@@ -42,11 +45,13 @@ fragment_in d v = record {
 
 -- ---- events
 
+-- what a delivery of H.264 does to units: it is a packet of one, or if it has a flaw it cuts them
 abbrev pub event_by : Delivery → Option Reason → Event
 event_by d None = packet (fragment_in d (cvf_of d.packet))
 event_by d (Some reason) = cut
 
--- A delivery of the stream is a packet of H.264, or no unit goes on over it.
+-- What a delivery of the stream does to units: a packet of H.264 without a flaw is a packet of one, and no unit goes on
+-- over any other.
 abbrev pub event_of : Delivery → Event
 event_of d = if d.subtype == cvf_subtype then event_by d (flaw_of d) else cut
 
@@ -54,6 +59,7 @@ event_of d = if d.subtype == cvf_subtype then event_by d (flaw_of d) else cut
 abbrev pub in_stream : List Delivery → List Delivery
 in_stream ds = filter (λ (d : Delivery). not (d.subtype == crf_subtype)) ds
 
+-- what the deliveries of the stream do to units, in order
 abbrev pub events : List Delivery → List Event
 events ds = map event_of (in_stream ds)
 

@@ -20,11 +20,11 @@ subtype_of SparseAaf = aaf_subtype
 subtype_of (Am824 interval dbc) = iec_subtype
 subtype_of (H264 part) = cvf_subtype
 
--- packets of this kind are among those that belong to a stream
+-- a listener reads streams of this kind: its subtype is one of `stream_kinds`
 abbrev pub IsReadKind : Kind → Type 0
 IsReadKind kind = list_any (λ subtype. subtype_of kind == subtype) stream_kinds ≡ true
 
--- A record holds an Ethernet frame of AVTP with packet n, and was captured in time.
+-- A record holds an Ethernet frame of AVTP with packet n, captured near enough to the packet's instant.
 pub record Carries (p : PacketJournal) (lead n : ℕ) (r : Record) : Type 0 where
   pub frame : Frame
   pub writable : IsWritableFrame frame
@@ -35,7 +35,7 @@ pub record Carries (p : PacketJournal) (lead n : ℕ) (r : Record) : Type 0 wher
   pub arrived : r.arrival ≡ pos arrival
   pub delivered : IsDelivered p.times lead (record { number = n; arrival = arrival })
 
--- each record carries the packet of its number
+-- the records carry the packets of these numbers, one by one
 abbrev pub AllCarry : PacketJournal → ℕ → List ℕ → List Record → Type 0
 AllCarry p lead [] [] = ⊤
 AllCarry p lead [] (r ∷ rs) = ⊥
@@ -53,12 +53,12 @@ pub record CarriesClock (p : PacketJournal) (m : ℕ) (r : Record) : Type 0 wher
   pub avtp : frame.ethertype ≡ avtp_ethertype
   pub packet : Spells (crf_spelling (p.clock_packet m)) frame.payload
 
--- a record carries a packet of the stream, or of the clock
+-- a record carries the stream's packet n, or the clock's packet m
 abbrev pub CarriesFrom : PacketJournal → ℕ → Origin → Record → Type 0
 CarriesFrom p lead (OfStream n) r = Carries p lead n r
 CarriesFrom p lead (OfClock m) r = CarriesClock p m r
 
--- each record carries the packet of its origin
+-- the records carry the packets of these origins, one by one
 abbrev pub AllCarryFrom : PacketJournal → ℕ → List Origin → List Record → Type 0
 AllCarryFrom p lead [] [] = ⊤
 AllCarryFrom p lead [] (r ∷ rs) = ⊥

@@ -6,12 +6,12 @@ use Rattle.stream_journal.specs.Delivered.{AreNear, IsDelivered}
 use Rattle.packet_journal.specs.Deliveries.{Delivery, deliveries}
 use Rattle.packet_journal.specs.Packets.{PacketJournal, spelling_of}
 
--- Bytes are a packet, and a trail that belongs to no field.
+-- the bytes are those of a packet, and then a trail that belongs to no field
 pub record Spells (packet bytes : List ℕ) : Type 0 where
   pub trail : List ℕ
   pub whole : bytes ≡ packet ++ trail
 
--- A delivery is a copy of packet n, and came in time to be told apart from others.
+-- A delivery is a copy of packet n, and arrived near enough to the packet's instant to be told from others.
 pub record IsCopyOf (p : PacketJournal) (lead n : ℕ) (d : Delivery) : Type 0 where
   pub arrival : ℕ
   pub arrived : d.arrival ≡ pos arrival
@@ -23,35 +23,36 @@ pub record IsClockCopyOf (p : PacketJournal) (m : ℕ) (d : Delivery) : Type 0 w
   pub known : m < p.times.clock.packets
   pub spelled : Spells (crf_spelling (p.clock_packet m)) d.packet
 
--- which packet a delivery is a copy of
+-- the packet that a delivery is a copy of: one of the stream, or one of the clock
 pub data Origin : Type 0 where
   OfStream : ℕ → Origin
   OfClock : ℕ → Origin
 
+-- a delivery is a copy of the stream's packet n, or of the clock's packet m
 abbrev pub IsFrom : PacketJournal → ℕ → Origin → Delivery → Type 0
 IsFrom p lead (OfStream n) d = IsCopyOf p lead n d
 IsFrom p lead (OfClock m) d = IsClockCopyOf p m d
 
--- each delivery is from its origin
+-- the deliveries are copies of the packets of these origins, one by one
 abbrev pub AreFrom : PacketJournal → ℕ → List Origin → List Delivery → Type 0
 AreFrom p lead [] [] = ⊤
 AreFrom p lead [] (d ∷ ds) = ⊥
 AreFrom p lead (o ∷ os) [] = ⊥
 AreFrom p lead (o ∷ os) (d ∷ ds) = IsFrom p lead o d × AreFrom p lead os ds
 
--- the packets of the stream, in the order of their copies
+-- the numbers of the stream's packets among the origins, in their order
 abbrev pub stream_numbers : List Origin → List ℕ
 stream_numbers [] = []
 stream_numbers (OfStream n ∷ os) = n ∷ stream_numbers os
 stream_numbers (OfClock m ∷ os) = stream_numbers os
 
--- Each delivery is a copy of a known packet. Any packet may be missing, come again, or come in any order.
+-- Each delivery is a copy of a packet of the journal. Any packet may be missing, come again, or come in any order.
 pub record AreDelivered (p : PacketJournal) (lead : ℕ) (ds : List Delivery) : Type 0 where
   pub origins : List Origin
   pub copies : AreFrom p lead origins ds
   pub near : AreNear p.times (stream_numbers origins)
 
--- The records deliver the journal to a listener that listens to its stream, maybe to a clock, and expects packets so long
--- before their first instant.
+-- The records deliver the journal's packets to a listener of its stream, with a clock or without, that expects packets
+-- `lead` nanoseconds before their first instant.
 abbrev pub Delivers : PacketJournal → Option ℕ → ℕ → List Record → Type 0
 Delivers p clock lead records = AreDelivered p lead (deliveries p.stream clock records)

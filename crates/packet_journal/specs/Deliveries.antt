@@ -8,7 +8,7 @@ use Rattle.avtp_header.specs.Header.{peeked_of}
 use Rattle.avtp_header.specs.Numbers.{aaf_subtype, crf_subtype, cvf_subtype, iec_subtype}
 pub use Rattle.avtp_header.specs.Numbers.{avtp_ethertype}
 
--- the kinds of packets of a stream, by their subtypes (IEEE 1722-2016, table 6)
+-- the subtypes of a stream's packets (IEEE 1722-2016, table 6)
 abbrev pub stream_kinds : List ℕ
 stream_kinds =
     iec_subtype ∷
@@ -16,33 +16,35 @@ stream_kinds =
     cvf_subtype ∷
     []
 
--- the kinds of packets of a media clock (CRF)
+-- the subtypes of a media clock's packets: CRF
 abbrev pub clock_kinds : List ℕ
 clock_kinds = crf_subtype ∷ []
 
--- the payload of the frame in a record
+-- the payload of the frame in a record, from the record's bytes
 abbrev pub packet_in : List ℕ → List ℕ
 packet_in bytes = (frame_of bytes).payload
 
--- a record is a frame of AVTP whose packet has the fields that every packet of a stream begins with
+-- a record is an Ethernet frame of AVTP whose payload has at least the 12 bytes up to the end of the stream id
 abbrev pub is_avtp : List ℕ → Bool
 is_avtp bytes =
     is_none (frame_refusal bytes)
     && ((frame_of bytes).ethertype == avtp_ethertype)
     && nat_le 12 (length (packet_in bytes))
 
--- a packet is of one of these kinds, and its id is valid and this one
+-- a packet's subtype is one of these, and its stream id is valid and this one
 abbrev pub is_wanted : List ℕ → ℕ → Peeked → Bool
 is_wanted kinds id peeked = list_any (λ kind. peeked.subtype == kind) kinds && peeked.sv && (peeked.stream_id == id)
 
+-- a record holds a packet of AVTP of one of these subtypes with this stream id
 abbrev pub belongs : List ℕ → ℕ → List ℕ → Bool
 belongs kinds id bytes = is_avtp bytes && is_wanted kinds id (peeked_of (packet_in bytes))
 
+-- a record holds a packet of the media clock with this stream id; without a clock none does
 abbrev pub belongs_to_clock : Option ℕ → List ℕ → Bool
 belongs_to_clock None bytes = false
 belongs_to_clock (Some id) bytes = belongs clock_kinds id bytes
 
--- a record belongs to the stream, or to the clock, where there is one
+-- a record belongs to the stream, or to the clock if there is one
 abbrev pub is_delivered : ℕ → Option ℕ → List ℕ → Bool
 is_delivered stream clock bytes = belongs stream_kinds stream bytes || belongs_to_clock clock bytes
 
@@ -55,6 +57,7 @@ pub record Delivery : Type 0 where
   pub seq : ℕ
   pub packet : List ℕ
 
+-- what a listener has of a record that is delivered, given the record's number in the capture
 abbrev pub delivery : ℕ → Record → Delivery
 delivery frame r = record {
   frame = frame;
@@ -64,7 +67,7 @@ delivery frame r = record {
   packet = packet_in r.bytes;
 }
 
--- the deliveries of a list of records, in its order
+-- the deliveries among the records of a capture, in its order
 abbrev pub deliveries : ℕ → Option ℕ → List Record → List Delivery
 deliveries stream clock records =
     map (λ numbered. delivery numbered.0 numbered.1)

@@ -10,7 +10,7 @@ use Rattle.stream_journal.specs.Journal.{Journal}
 use Rattle.stream_journal.specs.Examples.{clocked, each_eighth, restarted}
 use Rattle.packet_journal.specs.Packets.{Am824Data, PacketJournal, Pcm}
 
--- packet n of a stereo stream of 16 bits at 48 kHz, 6 silent sample frames, in sparse mode or not
+-- the stream header of packet n of a stereo stream of PCM of 16 bits at 48 kHz, with 6 sample frames a packet
 abbrev pub silent_header : Journal → ℕ → StreamHeader
 silent_header j n = record {
   subtype = 2;
@@ -25,6 +25,7 @@ silent_header j n = record {
   data_length = 24;
 }
 
+-- packet n of `restarted`: 6 silent stereo sample frames of 16 bits at 48 kHz, in sparse mode
 abbrev pub silent_sparse : ℕ → Aaf
 silent_sparse n = record {
   header = silent_header restarted n;
@@ -39,7 +40,7 @@ silent_sparse n = record {
   reserved = false;
 }
 
--- no clock packet is sent; this stands where one would
+-- a placeholder for the packets of a clock that sends none
 abbrev pub no_packet : Crf
 no_packet = record {
   sv = false;
@@ -56,7 +57,7 @@ no_packet = record {
   reserved = false;
 }
 
--- the sparse talker that restarts, with its packets
+-- `restarted` with its packets: a sparse talker that restarts
 abbrev pub restarted_packets : PacketJournal
 restarted_packets = record {
   times = restarted;
@@ -80,7 +81,7 @@ silent_blocks n = record {
   reserved = false;
 }
 
--- the talker of AM824 that stamps each eighth block, with its packets
+-- `each_eighth` with its packets: a talker of AM824 that stamps each eighth block
 abbrev pub block_packets : PacketJournal
 block_packets = record {
   times = each_eighth;
@@ -90,11 +91,11 @@ block_packets = record {
   clock_packet = λ m. no_packet;
 }
 
--- the packets of the sparse talker, all of them stamped
+-- packet n of `clocked`: 6 silent stereo sample frames of 16 bits at 48 kHz, each packet stamped
 abbrev pub silent : ℕ → Aaf
 silent n = record (silent_sparse n) { header = silent_header (clocked 48000) n; sparse = false }
 
--- packet m of the clock of the clocked talker, for listeners that add a microsecond to its timestamps
+-- packet m of the clock of `clocked`, for listeners that add a microsecond to its timestamps
 abbrev pub clock_data : ℕ → Crf
 clock_data m = record {
   sv = true;
@@ -111,7 +112,7 @@ clock_data m = record {
   reserved = false;
 }
 
--- the clocked talker, with its packets and those of its clock
+-- `clocked` with its packets and those of its clock
 abbrev pub clocked_packets : PacketJournal
 clocked_packets = record {
   times = clocked 48000;

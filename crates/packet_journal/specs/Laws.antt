@@ -12,5 +12,6 @@ IsReadAs (Pcm v) bytes = SpellsAaf bytes (plain_aaf v)
 IsReadAs (Am824Data v) bytes = SpellsIec bytes (plain_iec v)
 IsReadAs (H264Data v) bytes = SpellsCvf bytes (plain_cvf v)
 
+-- The reader of CRF refuses nothing, and the one packet that the bytes spell is this one.
 abbrev pub IsClockReadAs : Crf → List ℕ → Type 0
 IsClockReadAs v bytes = SpellsCrf bytes (plain_crf v)

@@ -18,7 +18,7 @@ pub data PacketView : Type 0 where
   Am824Data : Iec → PacketView
   H264Data : Cvf → PacketView
 
--- A talker's stream and clock, with the packets that it sent: the times are `times`.
+-- A talker's stream and clock, with the packets that it sent, whose times are `times`.
 pub record PacketJournal : Type 0 where
   pub times : Journal
   pub stream : ℕ
@@ -28,8 +28,8 @@ pub record PacketJournal : Type 0 where
 
 -- ---- which packets belong to which times
 
--- The header of packet n of a stream (IEEE 1722-2016, 4.4.4): the low 8 bits of the packet's number, the low 32 bits of its
--- timestamp where it has one, a certain time, and the journal's restart bit.
+-- The header of packet n of a stream (IEEE 1722-2016, 4.4.4): the low 8 bits of the packet's number, the low 32 bits of
+-- its timestamp if it has one, a certain time, and the journal's restart bit.
 pub record IsHeader (j : Journal) (stream n : ℕ) (h : StreamHeader) : Type 0 where
   pub valid_id : h.sv ≡ true
   pub id : h.stream_id ≡ stream
@@ -72,7 +72,7 @@ pub record IsCvfPacket (j : Journal) (part : Part) (stream n : ℕ) (v : Cvf) : 
   pub header : IsHeader j stream n v.header
   pub part_is : part_of v.part ≡ part
 
--- packet n of a stream of some kind
+-- packet n of a stream of this kind
 abbrev pub IsPacket : Kind → Journal → ℕ → ℕ → PacketView → Type 0
 IsPacket DenseAaf j stream n (Pcm v) = IsAafPacket j false stream n v
 IsPacket DenseAaf j stream n (Am824Data v) = ⊥
@@ -123,7 +123,7 @@ spelling_of (Pcm v) = aaf_spelling v
 spelling_of (Am824Data v) = iec_spelling v
 spelling_of (H264Data v) = cvf_spelling v
 
--- the samples of a packet, or what it carries of a unit behind the unit's first byte
+-- the samples of a packet, or what it carries of a NAL unit after the unit's first byte
 abbrev pub carried : PacketView → List ℕ
 carried (Pcm v) = v.payload
 carried (Am824Data v) = v.payload

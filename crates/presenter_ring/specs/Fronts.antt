@@ -6,7 +6,7 @@ use Rattle.presenter_ring.specs.declared.front.Front.{Front}
 use Rattle.presenter_ring.specs.declared.receiver.Pull.{Pull}
 use Rattle.presenter_ring.specs.Pulls.{pull_of}
 
--- the item in hand, where there is one
+-- the item in hand, if there is one
 abbrev pub hand_of : Front → List Shown
 hand_of front = option_to_list front.hand
 

@@ -22,7 +22,7 @@ ended_with pipe = ended_of pipe.front
 abbrev pub given_to : Pipe → ℕ
 given_to pipe = pipe.front.given
 
--- the most items in the ring
+-- the greatest number of items in the ring
 abbrev pub capacity_of : Pipe → ℕ
 capacity_of pipe = pipe.capacity
 
@@ -30,10 +30,11 @@ capacity_of pipe = pipe.capacity
 abbrev pub known_free_of : Pipe → ℕ
 known_free_of pipe = known_free pipe.front.producer
 
--- the items that the ring's producer has pushed, and those that its consumer has popped
+-- all items that the ring's producer has pushed
 abbrev pub pushed_by : Pipe → List Shown
 pushed_by pipe = sent pipe.front.producer
 
+-- all items that the ring's consumer has popped
 abbrev pub popped_by : Pipe → List Shown
 popped_by pipe = received pipe.back.consumer
 
@@ -42,14 +43,14 @@ pub record IsDrained (pipe : Pipe) : Type 0 where
   pub ended : IsSome (ended_with pipe)
   pub empty : waiting_in pipe ≡ []
 
--- what is still to be done for items of which the receiver can give so many: to push those that are not in the ring yet,
--- and to present each
+-- What is still to be done if the receiver can give `left` more items: to push those that are not in the ring yet, and
+-- to present each. It falls in every round but a drained one.
 abbrev pub work : ℕ → Pipe → ℕ
 work left pipe = 2 * (left + length (hand_of pipe.front)) + length (ring_of pipe)
 
--- What rounds did. The meanings of a receiver are the items that it gave and the most items that it can still give, and that
--- of a presenter is the items that it was handed. What waited and then what was given are, in this order, what was presented
--- and then what waits.
+-- What rounds did. The meanings of a receiver are the items that it gave and how many it can still give at most, and
+-- that of a presenter is the items that it was handed. What waited and then what was given are, in this order, what was
+-- presented and then what waits.
 pub record HasMoved {R P : Type 0} (gave : R → R → List Shown → Type 0) (left : R → ℕ) (handed : P → P → List Shown → Type 0) (receiver receiver' : R) (presenter presenter' : P) (before after : Pipe) : Type 0 where
   pub given : List Shown
   pub presented : List Shown
@@ -60,7 +61,7 @@ pub record HasMoved {R P : Type 0} (gave : R → R → List Shown → Type 0) (l
   pub leaves : left receiver' + length given ≤ left receiver
   pub works : work (left receiver') after + (length (pushed_by after) + length presented) ≤ work (left receiver) before + length (pushed_by before)
 
--- What one round did. Where its producer knew a free slot as it began, all that was presented came through the ring. Where
+-- What one round did. If its producer knew a free slot as it began, all that was presented came through the ring. If
 -- something is still to be done, at least one item was pushed or presented.
 pub record IsRound {R P : Type 0} (gave : R → R → List Shown → Type 0) (left : R → ℕ) (handed : P → P → List Shown → Type 0) (receiver receiver' : R) (presenter presenter' : P) (before after : Pipe) : Type 0 where
   pub moved : HasMoved gave left handed receiver receiver' presenter presenter' before after

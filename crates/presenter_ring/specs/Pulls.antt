@@ -7,17 +7,17 @@ use Rattle.presenter_ring.specs.declared.receiver.Pull.{Pull}
 use Rattle.presenter_ring.specs.declared.receiver.Pull.TheVariants as pull
 use Rattle.presenter_ring.specs.declared.receiver.Pull.TheVariants.{Item}
 
--- the item of the answer, where it has one
+-- the item of an answer, if it has one
 abbrev pub items_of : Pull → List Shown
 items_of (Item shown) = shown ∷ []
 items_of _ = []
 
--- the answer, where it says that no item will come
+-- the answer, if it says that no item will come
 abbrev pub ending_of : Pull → Option Pull
 ending_of (Item shown) = None
 ending_of pull = Some pull
 
--- the answer of the receiver that an ending stands for
+-- the receiver's answer that an ending keeps
 abbrev pub pull_of : Ending → Pull
 pull_of ending.Done = pull.Done
 pull_of (ending.Refused refusal) = pull.Refused refusal

@@ -4,7 +4,7 @@ use Rattle.time_unfold.specs.declared.line.Line.{Line}
 use Rattle.time_unfold.specs.Lines.{instant_at}
 use Rattle.time_unfold.specs.Time.{IsInstant}
 
--- sample j of the count is at number from + j of the line
+-- A batch of samples that is presented: sample j of `count` is sample from + j of the line.
 pub record Presented : Type 0 where
   pub frame : ℕ
   pub seq : ℕ
@@ -13,11 +13,11 @@ pub record Presented : Type 0 where
   pub count : ℕ
   pub bytes : List ℕ
 
--- the instant of sample j
+-- the instant of sample j of a batch
 abbrev pub sample_instant : Presented → ℕ → ℤ
 sample_instant batch j = instant_at batch.line (batch.from +ℤ pos j)
 
--- what holds of every batch
+-- what holds of every batch: it has 1 to 65,535 samples of equally many bytes, and all its instants are in range
 pub record IsPresentable (batch : Presented) : Type 0 where
   pub some : 1 ≤ batch.count
   pub count : batch.count ≤ 65535

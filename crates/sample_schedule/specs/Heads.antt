@@ -17,7 +17,7 @@ use Rattle.sample_schedule.specs.declared.plan.SchedulePlan.{SchedulePlan}
 
 -- ---- the stamp of a packet
 
--- The timestamp of a packet, where samples can be counted from it: it is there and certain, the rate is known, and the
+-- The timestamp of a packet, if samples can be counted from it: it is there and certain, the rate is known, and the
 -- packet has the sample that it belongs to.
 abbrev pub usable_stamp : Packet → Option ℕ
 usable_stamp p =
@@ -25,25 +25,29 @@ usable_stamp p =
     if p.rate == 0 then None else
     if nat_lt (stamped_index p.rule) p.count then p.stamp else None
 
+-- the stamp that is noted of a packet of audio, if its timestamp is usable
 abbrev pub stamp_of_packet : Packet → Option Stamp
 stamp_of_packet p =
     option_map (λ timestamp. record { seq = p.seq; mr = p.mr; block = stamped_block p.rule; rate = p.rate; instant = unfolded timestamp p.arrival }) (usable_stamp p)
 
+-- the stamp that is noted of an entry, which only a packet of audio can have
 abbrev pub stamp_of : Entry → Option Stamp
 stamp_of (OfItem (OfPacket p)) = stamp_of_packet p
 stamp_of (OfItem (OfUnit u)) = None
 stamp_of (OfItem (OfBad b)) = None
 stamp_of (OfClock arrival row) = None
 
--- the usable stamps of a list, in its order
+-- the usable stamps of a list of entries, in its order
 abbrev pub stamps_of : List Entry → List Stamp
 stamps_of entries = filter_map stamp_of entries
 
--- ---- how far back the head of a packet without a usable stamp lies
+-- ---- how far back the head of a packet without a usable stamp is
 
+-- how far back the stamp is from which a packet without a usable one is counted, if its format has such a rule
 abbrev pub distance_back : Packet → Option Distance
 distance_back p = distance p.rule p.seq p.count
 
+-- what is looked for among the stamps, to count packet p from one `far` back
 abbrev pub want_of : SchedulePlan → Packet → Distance → Want
 want_of plan p far = record {
   seq = (p.seq + 256 - far.packets) % 256;
@@ -58,20 +62,21 @@ want_of plan p far = record {
 
 -- ---- the head
 
--- the packet's own timestamp
+-- the head of a packet by its own timestamp: where its first sample is, counted from the stamped one
 abbrev pub head_at : Packet → ℕ → Head
 head_at p timestamp = record { instant = unfolded timestamp p.arrival; first = neg_ℤ (pos (stamped_index p.rule)) }
 
+-- the head of a packet by its own timestamp, if that is usable
 abbrev pub own_head : Packet → Option Head
 own_head p = option_map (head_at p) (usable_stamp p)
 
--- the head that lies some packets back, where one of the last stamps of the prefix fits
+-- the head of a packet by the timestamp of another one, if one of the last stamps of the prefix fits
 abbrev pub head_back : SchedulePlan → List Entry → Packet → Option Head
 head_back plan prefix p =
     option_and_then (λ (far : Distance).
     option_map (λ (stamp : Stamp). record { instant = stamp.instant; first = pos far.samples })
     (found (plan.look + 16) (want_of plan p far) (stamps_of prefix))) (distance_back p)
 
--- a packet with a usable stamp is counted from it, and any other from the one that it finds
+-- the head of a packet: by its own timestamp if that is usable, else by the one that is found for it
 abbrev pub head_of : SchedulePlan → List Entry → Packet → Option Head
 head_of plan prefix p = option_or (own_head p) (head_back plan prefix p)

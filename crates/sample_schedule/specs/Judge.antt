@@ -17,15 +17,16 @@ use Rattle.sample_schedule.specs.Verdicts.{Clock, IsClockOf}
 
 -- ---- entries that wait for their verdict
 
--- what is kept of an entry until then: the item, or the arrival of a packet of the clock
+-- what is kept of an entry until its verdict: the item, or the arrival of a packet of the clock
 abbrev pub pending_of : Entry → Pending
 pending_of (OfItem item) = PendingItem item
 pending_of (OfClock arrival row) = PendingClock arrival
 
 -- ---- the judge
 
--- How many entries are judged, the greatest arrival up to the one that is being judged, what was noted of all entries, what
--- is accepted and waits for its instant, the entry that is being judged, those after it, and that no further one follows.
+-- A judge: how many entries are judged, the greatest arrival up to the one being judged, what was noted of all entries,
+-- the accepted batches that wait for their instant, the entry being judged, those after it, and whether the list has
+-- ended.
 pub record JudgeState : Type 0 where
   pub plan : SchedulePlan
   pub place : ℕ
@@ -66,10 +67,10 @@ none_left (Some p) ahead = false
 abbrev pub is_over : JudgeState → Bool
 is_over judge = if judge.closed then none_left judge.current judge.ahead else false
 
--- The judge was given these entries, and has given so many items of what it shows of them, by the clock of its plan.
+-- The judge was given these entries, and has given `given` items of what it shows of them, by the clock of its plan.
 pub record StandsFor (clock : Clock) (entries : List Entry) (given : ℕ) (judge : JudgeState) : Type 0 where
   pub asks : IsClockOf judge.plan clock
-  -- the entries that are not judged stand in the judge, and of all of them it has noted what others are counted from
+  -- the judge has the entries that are not judged, and has noted of all entries what others are counted from
   pub within : judge.place ≤ length entries
   pub left : map pending_of (drop judge.place entries) ≡ option_to_list judge.current ++ judge.ahead
   pub noted : HasNoted judge.plan entries judge.noted
@@ -82,7 +83,7 @@ pub record StandsFor (clock : Clock) (entries : List Entry) (given : ℕ) (judge
   pub early : is_over judge ≡ false → AllByRecursion (λ a. a.instant <ℤ judge.time) passed
   pub count : given ≡ length (steps clock judge.plan entries judge.place) + length passed
 
--- what no call of the judge changes but the one that is for it
+-- the plan, the number of entries taken, and whether the list has ended are unchanged
 pub record Keeps (old new : JudgeState) : Type 0 where
   pub plan : new.plan ≡ old.plan
   pub taken : taken new ≡ taken old

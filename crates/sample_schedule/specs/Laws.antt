@@ -11,53 +11,54 @@ use Rattle.sample_schedule.specs.Order.{standing}
 use Rattle.sample_schedule.specs.Schedule.{Given, Presents, Flags, accepted, given, now_at, prefix_of}
 use Rattle.sample_schedule.specs.Verdicts.{Clock, timed, verdict}
 
+-- the place in the list of entries of an item that is presented or flagged
 abbrev pub place_of : Given → ℕ
 place_of (Presents a) = a.place
 place_of (Flags place item reason) = place
 
--- how often the item at a place is shown
+-- how often the item at place i is shown in the schedule
 abbrev pub times_shown : Clock → SchedulePlan → List Entry → ℕ → ℕ
 times_shown clock plan entries i = count_by (λ g. place_of g == i) (given clock plan entries)
 
--- an item is shown once, and a packet of the clock never
+-- how often an entry has to be shown: an item once; a packet of the clock, or a place without an entry, never
 abbrev pub times_due : Option Entry → ℕ
 times_due None = 0
 times_due (Some (OfItem item)) = 1
 times_due (Some (OfClock arrival row)) = 0
 
--- what is shown of the item at a place
+-- what a schedule has for the item at place i
 abbrev pub shown_at : ℕ → List Given → List Given
 shown_at i list = filter (λ g. place_of g == i) list
 
--- the verdict of the item at a place of a list
+-- the verdict of the item at place i of a list, in the schedule of the list
 abbrev pub verdict_in : Clock → SchedulePlan → List Entry → ℕ → Item → Result Accepted Reason
 verdict_in clock plan entries i item =
     verdict plan (now_at entries i) (accepted clock plan entries i) i (timed clock plan (prefix_of plan entries i) item)
 
--- what a verdict makes of an item: what it accepts is presented, and any other item is flagged with its one reason
+-- what a verdict makes of the item at a place: it is presented if accepted, else flagged with the one reason
 abbrev pub given_by : ℕ → Item → Result Accepted Reason → Given
 given_by place item (Ok a) = Presents a
 given_by place item (Err reason) = Flags place item reason
 
--- what is presented, in its order
+-- the accepted items of a schedule that are presented, in its order
 abbrev pub presented : List Given → List Accepted
 presented [] = []
 presented (Presents a ∷ rest) = a ∷ presented rest
 presented (Flags place item reason ∷ rest) = presented rest
 
--- earlier, or at the same instant of an earlier item
+-- a has an earlier first instant than b, or the same instant and a lower place
 abbrev pub IsBefore : Accepted → Accepted → Type 0
 IsBefore a b = (a.instant <ℤ b.instant) ⊎ ((a.instant ≡ b.instant) × (a.place < b.place))
 
--- not the same packet again
+-- two accepted items are not copies of one packet: at equal first instants their sequence numbers differ
 abbrev pub IsNoCopy : Accepted → Accepted → Type 0
 IsNoCopy a b = a.instant ≡ b.instant → a.batch.seq ≢ b.batch.seq
 
--- it holds of each of a list and each later one
+-- R holds between each item of a list and each later one
 abbrev pub Pairwise : (Accepted → Accepted → Type 0) → List Accepted → Type 0
 Pairwise R [] = ⊤
 Pairwise R (a ∷ rest) = AllByRecursion (R a) rest × Pairwise R rest
 
--- what waits once entry i is judged
+-- the accepted items that wait once entry i is judged
 abbrev pub waiting_at : Clock → SchedulePlan → List Entry → ℕ → List Accepted
 waiting_at clock plan entries i = standing (now_at entries i) (accepted clock plan entries (suc i))

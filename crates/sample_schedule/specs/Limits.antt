@@ -11,6 +11,8 @@ use Rattle.sample_schedule.specs.declared.item.Packet.{Packet}
 use Rattle.sample_schedule.specs.declared.item.Unit.{Unit as WholeUnit}
 use Rattle.sample_schedule.specs.declared.plan.SchedulePlan.{SchedulePlan}
 
+-- A plan within its limits: a buffer of 1 to 65,536 batches and 1 to 1,073,741,824 bytes, at most 64 entries looked
+-- ahead, a lead of at most a second, and a shift of at most a second either way.
 pub record IsPlan (plan : SchedulePlan) : Type 0 where
   pub some_buffer : 1 ≤ plan.buffer
   pub buffer : plan.buffer ≤ 65536
@@ -21,6 +23,8 @@ pub record IsPlan (plan : SchedulePlan) : Type 0 where
   pub shift_from : neg_ℤ (pos 1000000000) ≤ℤ plan.shift
   pub shift_to : plan.shift ≤ℤ pos 1000000000
 
+-- A packet of audio as the formats give it: samples of equally many bytes, and a rate that is 0 or from 8,000 to
+-- 192,000 Hz.
 pub record IsPacket (p : Packet) : Type 0 where
   pub arrival : IsArrival p.arrival
   pub count : p.count ≤ 65535
@@ -29,16 +33,19 @@ pub record IsPacket (p : Packet) : Type 0 where
   pub rate_to : p.rate ≤ 192000
   pub rule : IsRule p.rule
 
+-- a unit of H.264 as the formats give it, with its instant from -2^62 up to 2^62 + 2^31 ns
 pub record IsUnit (u : WholeUnit) : Type 0 where
   pub arrival : IsArrival u.arrival
   pub from : neg_ℤ (pos (2 ^ 62)) ≤ℤ u.instant
   pub to : u.instant <ℤ pos (2 ^ 62 + 2 ^ 31)
 
+-- an item as the formats give it: a packet of audio, a unit of H.264, or one that could not be read
 abbrev pub IsItem : Item → Type 0
 IsItem (OfPacket p) = IsPacket p
 IsItem (OfUnit u) = IsUnit u
 IsItem (OfBad b) = IsArrival b.arrival
 
+-- an entry as the formats give it: an item, or a packet of the clock that the clock can note
 abbrev pub IsEntry : Entry → Type 0
 IsEntry (OfItem item) = IsItem item
 IsEntry (OfClock arrival row) = IsArrival arrival × IsNotable row

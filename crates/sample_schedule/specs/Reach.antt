@@ -1,9 +1,9 @@
--- How far the head of a packet can lie, which bounds the instants that are counted from it.
+-- How far the head of a packet can be, which bounds the instants that are counted from it.
 use Rattle.std.specs.Prelude.{◌+◌, ◌*◌, ◌^◌, pos, neg_ℤ, ◌≤ℤ◌, ◌<ℤ◌}
 use Rattle.time_unfold.specs.declared.head_rule.Head.{Head}
 
--- The stamped sample is one of the packet itself, whose instant is at most 2^31 ns before an arrival, or it lies at
--- most 7 packets back.
+-- A head from which samples can be counted: the stamped sample is one of the packet itself, whose instant is at most
+-- 2^31 ns before an arrival, or it is at most 7 packets back.
 pub record IsCountable (head : Head) : Type 0 where
   pub from : neg_ℤ (pos (2 ^ 62)) ≤ℤ head.instant
   pub to : head.instant <ℤ pos (2 ^ 62 + 2 ^ 31)

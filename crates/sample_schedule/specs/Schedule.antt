@@ -15,26 +15,30 @@ use Rattle.sample_schedule.specs.Verdicts.{Clock, timed, verdict}
 
 -- ---- items
 
+-- when the packet of an item was captured
 abbrev pub item_arrival : Item → ℤ
 item_arrival (OfPacket p) = p.arrival
 item_arrival (OfUnit u) = u.arrival
 item_arrival (OfBad b) = b.arrival
 
+-- when the packet of an entry was captured
 abbrev pub arrival_of : Entry → ℤ
 arrival_of (OfItem item) = item_arrival item
 arrival_of (OfClock arrival row) = arrival
 
+-- the number of an item's record in the capture
 abbrev pub frame_of : Item → ℕ
 frame_of (OfPacket p) = p.frame
 frame_of (OfUnit u) = u.frame
 frame_of (OfBad b) = b.frame
 
+-- the sequence number of an item
 abbrev pub seq_of : Item → ℕ
 seq_of (OfPacket p) = p.seq
 seq_of (OfUnit u) = u.seq
 seq_of (OfBad b) = b.seq
 
--- the greatest arrival of a list; arrivals are not below 0
+-- the greatest arrival of a list of entries; arrivals are not below 0
 unfoldable pub latest : List Entry → ℤ
 latest entries = fold int_max (pos 0) (map arrival_of entries)
 
@@ -48,17 +52,19 @@ prefix_of plan entries i = take (i + plan.look + 1) entries
 abbrev pub now_at : List Entry → ℕ → ℤ
 now_at entries i = latest (take (suc i) entries)
 
--- the verdict of entry i, given what was accepted before it; a packet of the clock has none
+-- the verdict of an entry at place i, given what was accepted before it; a packet of the clock has none
 abbrev pub judged : Clock → SchedulePlan → List Entry → ℕ → List Accepted → Entry → Option (Result Accepted Reason)
 judged clock plan entries i earlier (OfItem item) =
     Some (verdict plan (now_at entries i) earlier i (timed clock plan (prefix_of plan entries i) item))
 judged clock plan entries i earlier (OfClock arrival row) = None
 
--- the same by its place; a place behind the list has none either
+-- the verdict of the entry at place i, given what was accepted before it; none if that is a packet of the clock, or if
+-- the list is not that long
 unfoldable pub verdict_at : Clock → SchedulePlan → List Entry → ℕ → List Accepted → Option (Result Accepted Reason)
 verdict_at clock plan entries i earlier =
     option_and_then (judged clock plan entries i earlier) (slice_get entries i)
 
+-- the item that a verdict accepts, if it does
 abbrev pub accepted_by : Option (Result Accepted Reason) → List Accepted
 accepted_by None = []
 accepted_by (Some (Ok a)) = a ∷ []
@@ -72,24 +78,27 @@ accepted clock plan entries (suc i) =
 
 -- ---- what is shown
 
--- an item as it is shown: presented, or flagged at its place
+-- an item of the schedule: presented, or flagged at its place
 pub data Given : Type 0 where
   Presents : Accepted → Given
   Flags : ℕ → Item → Reason → Given
 
+-- what is shown of an accepted item: its batch
 abbrev pub present : Accepted → Shown
 present a = Present a.batch
 
+-- what is shown of an item of the schedule: its batch, or a flag with its frame, its sequence number and the reason
 abbrev pub shown_of : Given → Shown
 shown_of (Presents a) = present a
 shown_of (Flags place item reason) = Flag (frame_of item) (seq_of item) reason
 
+-- the flag of entry i, if it is an item that its verdict refuses
 abbrev pub flag_by : ℕ → Option Entry → Option (Result Accepted Reason) → List Given
 flag_by i (Some (OfItem item)) (Some (Err reason)) = Flags i item reason ∷ []
 flag_by i e v = []
 
 -- Step i presents what was accepted before entry i and whose first instant passed between the entry before it and this
--- one, and then flags entry i, where it has a reason. (At step 0 nothing was accepted before.)
+-- one, and then flags entry i if it is refused. (At step 0 nothing was accepted before.)
 unfoldable pub step : Clock → SchedulePlan → List Entry → ℕ → List Given
 step clock plan entries i =
     let earlier = accepted clock plan entries i in
@@ -101,7 +110,8 @@ unfoldable pub steps : Clock → SchedulePlan → List Entry → ℕ → List Gi
 steps clock plan entries zero = []
 steps clock plan entries (suc i) = steps clock plan entries i ++ step clock plan entries i
 
--- After the last entry stands what was accepted and no step presented: its first instant has not passed.
+-- What no step presented of what was accepted: it is presented after the last entry, since its first instant has not
+-- passed.
 abbrev pub rest_of : Clock → SchedulePlan → List Entry → List Given
 rest_of clock plan entries =
     map Presents (by_instant (standing (latest entries) (accepted clock plan entries (length entries))))
@@ -110,18 +120,19 @@ rest_of clock plan entries =
 unfoldable pub given : Clock → SchedulePlan → List Entry → List Given
 given clock plan entries = steps clock plan entries (length entries) ++ rest_of clock plan entries
 
+-- all that is shown of a whole list of entries, in the order of the schedule
 abbrev pub shown : Clock → SchedulePlan → List Entry → List Shown
 shown clock plan entries = map shown_of (given clock plan entries)
 
--- how many entries are judged while further ones may follow: those whose prefix is whole
+-- how many entries are judged while further ones may follow: those with `look` entries after them
 abbrev pub settled : SchedulePlan → List Entry → ℕ
 settled plan entries = length entries - plan.look
 
--- what is certain while further entries may follow: the steps of those that are judged
+-- what is certain while further entries may follow: what the steps of the judged entries show
 abbrev pub due : Clock → SchedulePlan → List Entry → List Shown
 due clock plan entries = map shown_of (steps clock plan entries (settled plan entries))
 
--- what waits then, by first instant and then by place
+-- the accepted items that wait while further entries may follow, by first instant and then by place
 abbrev pub waiting : Clock → SchedulePlan → List Entry → List Accepted
 waiting clock plan entries =
     by_instant (standing (latest (take (settled plan entries) entries)) (accepted clock plan entries (settled plan entries)))

@@ -20,49 +20,55 @@ use Rattle.sample_schedule.specs.Batches.{Presented, sample_instant}
 use Rattle.sample_schedule.specs.Order.{standing}
 use Rattle.sample_schedule.specs.Heads.{head_of}
 
--- ---- where the samples of an item stand
+-- ---- where the samples of an item are
 
--- What a media clock answers: where on its lines an instant stands, by the clock's packets so far, what is added to
--- their timestamps, and the rate of the stream. None where no line covers the instant.
+-- What a media clock answers: where on its lines an instant is, by the clock's packets so far, what is added to their
+-- timestamps, and the rate of the stream. None if no line covers the instant.
 abbrev pub Clock : Type 0
 Clock = List ClockRow → ℤ → ℤ → ℕ → Option Spot
 
--- Where the plan has a clock, it is that of the clock's packets; where it has none, any clock will do, since none is asked.
+-- If the plan has a clock, `clock` is that of the clock's packets; if not, it may be any, since none is asked.
 abbrev pub IsClockOf : SchedulePlan → Clock → Type 0
 IsClockOf plan clock = plan.clock ≡ true → clock ≡ clock_spot
 
+-- what a clock notes of an entry, which only a packet of the clock has
 abbrev pub row_of : Entry → Option ClockRow
 row_of (OfItem item) = None
 row_of (OfClock arrival row) = Some row
 
--- n samples further on
+-- the spot n samples further on
 abbrev pub moved : ℤ → Spot → Spot
 moved n spot = record spot { from = spot.from +ℤ n }
 
--- on the nominal line of the head: the head is its sample 0
+-- the spot of a packet's first sample on the nominal line of its head, whose sample 0 is the stamped one
 abbrev pub nominal_spot : ℕ → Head → Spot
 nominal_spot rate head = record { line = nominal_line head.instant rate; from = head.first }
 
--- where the first sample stands that is counted from a head: on the nominal line of the head, or on the clock's
+-- the spot of the first sample that is counted from a head: on the head's nominal line, or on the clock's if the plan
+-- has a clock, which need not cover it
 abbrev pub spot_of : Clock → SchedulePlan → List Entry → ℕ → Head → Option Spot
 spot_of clock plan prefix rate head =
     if plan.clock
     then option_map (moved head.first) (clock (filter_map row_of prefix) plan.shift head.instant rate)
     else Some (nominal_spot rate head)
 
+-- the samples of a packet as a batch that begins at a spot
 abbrev pub samples_at : Packet → Spot → Presented
 samples_at p spot =
     record { frame = p.frame; seq = p.seq; line = spot.line; from = spot.from; count = p.count; bytes = p.bytes }
 
--- a unit is presented at one instant
+-- a unit of H.264 as a batch, which is presented at one instant
 abbrev pub unit_at_once : WholeUnit → Presented
 unit_at_once u =
     record { frame = u.frame; seq = u.seq; line = record { base = u.instant; num = 1; den = 1 }; from = pos 0; count = 1; bytes = u.bytes }
 
+-- a batch if there is one, else the reason
 abbrev pub ok_or_reason : Reason → Option Presented → Result Presented Reason
 ok_or_reason reason None = Err reason
 ok_or_reason reason (Some batch) = Ok batch
 
+-- the samples of a packet counted from its head: `Untimed` if it has none, `NoClock` if the clock does not cover the
+-- head
 abbrev pub counted_from : Clock → SchedulePlan → List Entry → Packet → Option Head → Result Presented Reason
 counted_from clock plan prefix p None = Err Untimed
 counted_from clock plan prefix p (Some head) =
@@ -81,25 +87,29 @@ timed clock plan prefix (OfBad b) = Err b.reason
 
 -- ---- the verdict
 
+-- the instant of a batch's first sample
 abbrev pub first_instant : Presented → ℤ
 first_instant batch = sample_instant batch 0
 
+-- the bytes of accepted batches together
 abbrev pub total_bytes : List Accepted → ℕ
 total_bytes accepted = sum_by (λ a. length a.batch.bytes) accepted
 
+-- two instants are equal
 abbrev pub same_instant : ℤ → ℤ → Bool
 same_instant x y = if int_le x y then int_le y x else false
 
--- an accepted item is taken for the same packet
+-- an accepted item counts as another copy of the packet with this first instant and sequence number
 abbrev pub is_copy : ℤ → ℕ → Accepted → Bool
 is_copy instant seq a = if same_instant a.instant instant then a.batch.seq == seq else false
 
--- the buffer has all its batches, or its bytes and so many more are more than its room
+-- the buffer holds all the batches that it may, or with `size` bytes more it would hold more bytes than it may
 abbrev pub is_full : SchedulePlan → List Accepted → ℕ → Bool
 is_full plan waiting size =
     if nat_le plan.buffer (length waiting) then true else nat_lt plan.room (total_bytes waiting + size)
 
--- The first row that holds decides: the first instant has passed, the item came before, the buffer or its room is full.
+-- The first of these decides: the first instant has passed (late), the item came before (repeat), the buffer is full.
+-- If none holds, the item is accepted.
 abbrev pub decided : Bool → Bool → Bool → ℕ → Presented → Result Accepted Reason
 decided late repeat full place batch =
     if late then Err Late else

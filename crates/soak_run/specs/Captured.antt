@@ -14,14 +14,15 @@ use Rattle.talker.specs.Soak.{deliveries_of, soak_plan}
 abbrev pub sample_frame : ℕ → List ℕ
 sample_frame k = big_bytes 2 (k % 65536) ++ big_bytes 2 (65535 - k % 65536)
 
--- the first sample frames, so many of them
+-- the first `number` sample frames
 abbrev pub sample_frames : ℕ → List ℕ
 sample_frames number = flat_map sample_frame (range_with_len 0 number)
 
--- the samples of so many packets, six sample frames in each
+-- the samples of a number of packets, six sample frames in each
 unfoldable pub soak_input : ℕ → List ℕ
 soak_input packets = sample_frames (6 * packets)
 
+-- the stream that is sent, of a number of packets
 unfoldable pub soak_stream : ℕ → Stream
 soak_stream packets = stream_of soak_plan (soak_input packets)
 
@@ -31,11 +32,11 @@ soak_stream packets = stream_of soak_plan (soak_input packets)
 abbrev pub captured : Stream → ℤ × ℕ → Record
 captured stream delivery = record_of (record (frame_of stream delivery.1) { arrival = delivery.0 })
 
--- all deliveries of so many packets
+-- the records of all deliveries of a number of packets
 unfoldable pub soak_records : ℕ → List Record
 soak_records packets = map (captured (soak_stream packets)) (deliveries_of packets)
 
--- and the capture that they make
+-- the capture of all deliveries of a number of packets
 abbrev pub soak_capture : ℕ → List ℕ
 soak_capture packets = capture_spelling capture_style (soak_records packets)
 

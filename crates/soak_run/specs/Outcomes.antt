@@ -8,27 +8,31 @@ use Rattle.talker.specs.Soak.{deliveries_of}
 use Rattle.soak_run.specs.declared.counts.SoakCounts.{SoakCounts}
 use Rattle.soak_run.specs.Captured.{soak_listener, soak_records}
 
--- ---- an item that is shown is flagged for this reason
+-- ---- the reason of a flag
 
+-- an item is flagged as late: its first instant has passed
 abbrev pub is_late : Shown → Bool
 is_late (Flag frame seq Late) = true
 is_late shown = false
 
+-- an item is flagged as a repeat: its packet came before
 abbrev pub is_repeat : Shown → Bool
 is_repeat (Flag frame seq Repeat) = true
 is_repeat shown = false
 
+-- an item is flagged as untimed: no timestamp was found to count its samples from
 abbrev pub is_untimed : Shown → Bool
 is_untimed (Flag frame seq Untimed) = true
 is_untimed shown = false
 
+-- an item is flagged since the buffer is full
 abbrev pub is_full : Shown → Bool
 is_full (Flag frame seq Full) = true
 is_full shown = false
 
 -- ---- counts
 
--- of so many deliveries, how many of those that are shown are presented, and how many are flagged for each reason
+-- of `delivered` deliveries, how many of what is shown is presented, and how many are flagged for each reason
 abbrev pub outcomes : ℕ → List Shown → SoakCounts
 outcomes delivered shown = record {
   delivered = delivered;
@@ -39,14 +43,14 @@ outcomes delivered shown = record {
   full = count_by is_full shown;
 }
 
--- how many items were counted
+-- how many items were presented or flagged, all together
 abbrev pub total : SoakCounts → ℕ
 total counts = counts.presented + counts.late + counts.repeat + counts.untimed + counts.full
 
--- what a listener shows of so many packets' deliveries
+-- what a listener shows of the deliveries of a number of packets
 abbrev pub soak_shown : ℕ → List Shown
 soak_shown packets = shown_of soak_listener (soak_records packets)
 
--- what becomes of the deliveries of so many packets
+-- what becomes of the deliveries of a number of packets, counted
 unfoldable pub soak_counts : ℕ → SoakCounts
 soak_counts packets = outcomes (length (deliveries_of packets)) (soak_shown packets)

@@ -1,4 +1,4 @@
--- What a listener has of a clock's packets, and where it lets samples stand by them.
+-- What a listener has of a clock's packets, and where it puts samples by them.
 use Rattle.std.specs.Prelude.{◌≡◌, ℕ, ◌*◌, ◌%◌, ◌<◌, true, ℤ, pos, ◌+ℤ◌, length, get_or}
 use Rattle.clock_track.specs.declared.clock_row.ClockRow.{ClockRow}
 use Rattle.clock_track.specs.declared.pair.Pair.{Pair}
@@ -7,7 +7,8 @@ use Rattle.clock_track.specs.Rows.{timestamp}
 use Rattle.stream_journal.specs.Clocks.{ClockJournal, IsJoinedAt, Place, pair_at}
 use Rattle.stream_journal.specs.Journal.{Journal}
 
--- A copy of packet m of a clock. What is added to its timestamps makes them the clock's points.
+-- The row is a copy of the clock's packet m. Its timestamps and `shift`, which the listener adds, are the clock's
+-- points.
 pub record IsRowOf (c : ClockJournal) (shift : ℤ) (m : ℕ) (row : ClockRow) : Type 0 where
   pub known : m < c.packets
   pub seq : row.seq ≡ m % 256
@@ -22,14 +23,15 @@ pub record IsRowOf (c : ClockJournal) (shift : ℤ) (m : ℕ) (row : ClockRow) :
 abbrev pub IsTrueRow : ClockJournal → ℤ → ClockRow → Type 0
 IsTrueRow c shift row = row.usable ≡ true → (m : ℕ) × IsRowOf c shift m row
 
--- two points of the list of all, which are joined there
+-- the pair is one of adjacent points of the clock that are joined
 pub record IsTruePair (c : ClockJournal) (pair : Pair) : Type 0 where
   pub earlier : Place
   pub later : Place
   pub joined : IsJoinedAt c earlier later
   pub same : pair ≡ pair_at c earlier later
 
--- where a sample stands that is stamped with an instant, by a joined pair of the list of all points that covers it
+-- the spot is where a sample stamped with an instant lies, by a joined pair of the clock's points that covers the
+-- instant
 pub record IsSpotAt (j : Journal) (instant : ℤ) (spot : Spot) : Type 0 where
   pub earlier : Place
   pub later : Place

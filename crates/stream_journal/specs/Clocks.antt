@@ -1,5 +1,5 @@
--- The media clock of a talker: the packets of its reference timestamps (IEEE 1722-2016, 10), and which of these are beside
--- each other in the list of all.
+-- The media clock of a talker: the packets of its reference timestamps (IEEE 1722-2016, 10), and which of these are
+-- adjacent in the list of all.
 use Rattle.std.specs.Prelude.{◌≡◌, ◌⊎◌, ℕ, suc, ◌*◌, ◌%◌, ◌<◌, Bool, false, pos, List, [], length, get_or}
 use Rattle.clock_track.specs.declared.pair.Pair.{Pair}
 use Rattle.clock_track.specs.Pairs.{IsJoined, pull_down, pull_up}
@@ -18,11 +18,12 @@ pub record ClockJournal : Type 0 where
 abbrev pub no_clock : ClockJournal
 no_clock = record { base = 1; pull = 0; interval = 1; packets = 0; points = λ n. []; mr = λ n. false }
 
--- where a point stands: in which packet, and at which place there, from 0
+-- where a point is: in which packet, and at which index there, both from 0
 pub record Place : Type 0 where
   pub packet : ℕ
   pub at : ℕ
 
+-- the place is one of a point: the clock has the packet, and the packet a point at the index
 pub record IsPlace (c : ClockJournal) (p : Place) : Type 0 where
   pub packet : p.packet < c.packets
   pub at : p.at < length (c.points p.packet)
@@ -31,22 +32,24 @@ pub record IsPlace (c : ClockJournal) (p : Place) : Type 0 where
 abbrev pub point : ClockJournal → Place → ℕ
 point c p = get_or (c.points p.packet) p.at 0
 
--- the next place of a packet, or the first place of the next packet behind the last of one
+-- q is the place after p: the next index of the packet, or after its last one the first of the next packet
 abbrev pub IsNext : ClockJournal → Place → Place → Type 0
 IsNext c p q =
     ((q.packet ≡ p.packet) × (q.at ≡ suc p.at))
     ⊎ ((q.packet ≡ suc p.packet) × (q.at ≡ 0) × (suc p.at ≡ length (c.points p.packet)))
 
--- the point at q is the one behind that at p, in the list of all points
+-- p and q are places of points, and q is the place after p in the list of all points
 pub record Follows (c : ClockJournal) (p q : Place) : Type 0 where
   pub first : IsPlace c p
   pub second : IsPlace c q
   pub next : IsNext c p q
 
--- two places are of one run, where they are beside each other
+-- the packets at p and q have the same `mr`; adjacent points are in one run if this holds
 abbrev pub InOneRun : ClockJournal → Place → Place → Type 0
 InOneRun c p q = c.mr p.packet ≡ c.mr q.packet
 
+-- the points at two places as a pair, with the interval between timestamps in events, and the clock's frequency up /
+-- down: its base frequency times the factor of its pull (IEEE 1722-2016, 10)
 abbrev pub pair_at : ClockJournal → Place → Place → Pair
 pair_at c p q = record {
   earlier = pos (point c p);
@@ -56,20 +59,20 @@ pair_at c p q = record {
   down = pull_down c.pull;
 }
 
--- a joined pair of the whole list of points
+-- p and q are adjacent places of one run, and the points there are joined
 pub record IsJoinedAt (c : ClockJournal) (p q : Place) : Type 0 where
   pub follows : Follows c p q
   pub one_run : InOneRun c p q
   pub joined : IsJoined (pair_at c p q)
 
--- What a listener takes for points beside each other: two of one packet, or the last of one packet and the first of another
+-- What a listener takes for adjacent points: two of one packet, or the last of one packet and the first of another
 -- whose sequence number is the next one.
 abbrev pub SeemNext : ClockJournal → Place → Place → Type 0
 SeemNext c p q =
     ((q.packet ≡ p.packet) × (q.at ≡ suc p.at))
     ⊎ ((q.packet % 256 ≡ suc p.packet % 256) × (q.at ≡ 0) × (suc p.at ≡ length (c.points p.packet)))
 
--- a pair that a listener joins over copies of the clock's packets
+-- a pair of points that a listener joins that has copies of the clock's packets
 pub record SeemsJoined (c : ClockJournal) (p q : Place) : Type 0 where
   pub first : IsPlace c p
   pub second : IsPlace c q

@@ -1,5 +1,5 @@
--- The rules that a talker keeps. Whatever is counted from its timestamps rests on them alone. They are this project's own
--- where no standard is named.
+-- The rules that a talker keeps. All that is counted from its timestamps rests on them alone. They are this project's
+-- own if no standard is named.
 use Rattle.std.specs.Prelude.{◌≡◌, ◌≢◌, ◌⊎◌, ◌↔◌, ℕ, suc, ◌+◌, ◌*◌, ◌%◌, ◌^◌, ◌==◌, ◌<◌, ◌≤◌, nat_lt, Bool, true, ⊤, pos, Some, is_some}
 use Rattle.time_unfold.specs.declared.head_rule.Head.{Head}
 use Rattle.time_unfold.specs.declared.head_rule.HeadRule.{HeadRule}
@@ -37,23 +37,24 @@ pub record BlocksGoOn (interval : ℕ) (dbc : ℕ → ℕ) (count packets : ℕ)
   pub first : dbc 0 < 256
   pub next : (n : ℕ) → suc n < packets → dbc (suc n) ≡ (dbc n + count) % 256
 
+-- the packets of an AM824 stream count their data blocks on (IEC 61883-6); other kinds have no blocks to count
 abbrev pub HasBlocks : Kind → ℕ → ℕ → Type 0
 HasBlocks DenseAaf count packets = ⊤
 HasBlocks SparseAaf count packets = ⊤
 HasBlocks (Am824 interval dbc) count packets = BlocksGoOn interval dbc count packets
 HasBlocks (H264 part) count packets = ⊤
 
--- From one instant to another pass at least `quarters` quarters of a packet's time, which is count / rate seconds.
+-- At least `quarters` quarters of a packet's time, which is count / rate seconds, pass from one instant to another.
 abbrev pub IsApart : Journal → ℕ → ℕ → ℕ → Type 0
 IsApart j quarters from to = 4 * (from * j.rate) + quarters * (j.count * 1000000000) ≤ 4 * (to * j.rate)
 
--- Packets of one kind, one rate and one count.
+-- An audio stream: packets of one kind, one rate and one count, stamped as the format says, and evenly spaced.
 pub record IsAudio (j : Journal) : Type 0 where
   -- the nominal rates that the formats name lie between these
   pub rate_from : 8000 ≤ j.rate
   pub rate_to : j.rate ≤ 192000
   pub some : 1 ≤ j.count
-  -- stamps stand where the format says
+  -- packets are stamped as the format says
   pub stamps : (n : ℕ) → n < j.packets → is_some (j.stamp n) ≡ is_stamped (rule_of j.kind n) n j.count
   pub blocks : HasBlocks j.kind j.count j.packets
   -- first instants are at least 3/4 of a packet's time apart
@@ -63,31 +64,32 @@ pub record IsAudio (j : Journal) : Type 0 where
 
 -- ---- H.264
 
--- a unit begins, or ends, with the packet
+-- the part begins a NAL unit: it is a whole unit or the first fragment of one
 abbrev pub Begins : Part → Type 0
 Begins part = (part ≡ Single) ⊎ (part ≡ First)
 
+-- the part ends a NAL unit: it is a whole unit or the last fragment of one
 abbrev pub Ends : Part → Type 0
 Ends part = (part ≡ Single) ⊎ (part ≡ Last)
 
--- Each packet is stamped, or exactly those that end a unit.
+-- Each packet is stamped, or exactly those that end a NAL unit.
 abbrev pub StampsUnits : Journal → (ℕ → Part) → Type 0
 StampsUnits j part =
     ((n : ℕ) → n < j.packets → is_some (j.stamp n) ≡ true)
     ⊎ ((n : ℕ) → n < j.packets → (is_some (j.stamp n) ≡ true) ↔ Ends (part n))
 
--- The packets of one access unit share one instant, and other access units have other instants: packets are of one access
--- unit where they are due at one instant.
+-- A stream of H.264. The packets of one access unit share one instant, and other access units have other instants:
+-- packets due at one instant are of one access unit.
 pub record IsVideo (j : Journal) (part : ℕ → Part) : Type 0 where
   pub stamps : StampsUnits j part
   pub one_instant : (n instant : ℕ) → n < j.packets → j.stamp n ≡ Some instant → instant ≡ j.due n
-  -- the fragments of a unit are packets beside each other: a first, then only middle ones, then a last
+  -- the fragments of a unit are adjacent packets: a first, then only middle ones, then a last
   pub first : 1 ≤ j.packets → Begins (part 0)
   pub last : (n : ℕ) → j.packets ≡ suc n → Ends (part n)
   pub beside : (n : ℕ) → suc n < j.packets → Ends (part n) ↔ Begins (part (suc n))
   -- they are of one access unit
   pub unit : (n : ℕ) → suc n < j.packets → ¬ Ends (part n) → j.due (suc n) ≡ j.due n
-  -- the packets of one access unit are beside each other, and at most 255
+  -- the packets of one access unit are adjacent, and at most 255
   pub together : (n k m : ℕ) → n ≤ k → k ≤ m → m < j.packets → j.due n ≡ j.due m → j.due k ≡ j.due n
   pub few : (n m : ℕ) → m < j.packets → j.due n ≡ j.due m → m < n + 255
 
@@ -98,8 +100,8 @@ pub record IsSteady (first second : Pair) : Type 0 where
   pub longer : 4 * (period second * second.up) ≤ 4 * (period first * first.up) + 1000000000 * first.down
   pub shorter : 4 * (period first * first.up) ≤ 4 * (period second * second.up) + 1000000000 * first.down
 
--- A clock keeps these rules. Points beside each other in one run stand in one packet or in packets beside each other with
--- equal `mr`, and a new run begins with a new packet and the other `mr`, since runs are told by it.
+-- A clock that keeps the rules. Adjacent points of one run are in one packet or in adjacent packets with equal `mr`,
+-- and a new run begins with a new packet and the other `mr`, since runs are told by it.
 pub record IsClock (c : ClockJournal) : Type 0 where
   pub base : 1 ≤ c.base
   pub pull : c.pull ≤ 5
@@ -109,34 +111,37 @@ pub record IsClock (c : ClockJournal) : Type 0 where
   pub instants : (p : Place) → IsPlace c p → point c p ≤ 2 ^ 62
   -- each point is at least 3/4 of the nominal interval after the one before it, over all runs
   pub spaced : (p q : Place) → Follows c p q → IsSpaced (pair_at c p q)
-  -- points beside each other in a run are within 1/8 of the nominal interval
+  -- adjacent points of a run are within 1/8 of the nominal interval
   pub even : (p q : Place) → Follows c p q → InOneRun c p q → IsJoined (pair_at c p q)
-  -- periods beside each other in a run differ little
+  -- adjacent periods of a run differ little
   pub steady : (p q r : Place) → Follows c p q → Follows c q r → InOneRun c p q → InOneRun c q r
       → IsSteady (pair_at c p q) (pair_at c q r)
-  -- the first point of a new run isn't before the last point and the last period behind it
+  -- the first point of a new run is at least the last period after the last point of the run before
   pub renewed : (p q r : Place) → Follows c p q → Follows c q r → InOneRun c p q → ¬ InOneRun c q r
       → point c q + period (pair_at c p q) ≤ point c r
   pub holds : HoldsEight c.packets c.mr
 
 -- ---- the clock and the timestamps of an audio stream
 
--- the timestamp of packet n is at this instant, and the joined pair of these points covers it
+-- the timestamp of packet n is at this instant, and the joined pair of the points at p and q covers it
 pub record IsCovered (j : Journal) (n instant : ℕ) (p q : Place) : Type 0 where
   pub known : n < j.packets
   pub stamped : j.stamp n ≡ Some instant
   pub joined : IsJoinedAt j.clock p q
   pub covers : Covers (pair_at j.clock p q) j.rate (pos instant)
 
+-- The clock fits the timestamps of an audio stream: at most one joined pair covers each, and if the clock's frequency
+-- is the stream's rate, a covered timestamp is the instant of an event.
 pub record AgreesWithClock (j : Journal) : Type 0 where
   -- at most one joined pair of the whole list of points covers a timestamp
   pub one : (n instant : ℕ) (p q r s : Place) → IsCovered j n instant p q → IsCovered j n instant r s → (p ≡ r) × (q ≡ s)
-  -- where the clock's frequency is the stream's rate, the timestamp is the instant of an event
+  -- if the clock's frequency is the stream's rate, the timestamp is the instant of an event
   pub exact : (n instant : ℕ) (p q : Place) → IsCovered j n instant p q → IsOfRate (pair_at j.clock p q) j.rate
       → instant_at (spot_by (pair_at j.clock p q) j.rate (pos instant)).line (spot_by (pair_at j.clock p q) j.rate (pos instant)).from ≡ pos instant
 
 -- ---- all of it
 
+-- the rules for streams of this kind: those of audio and of audio beside its clock, or those of H.264
 abbrev pub IsOfKind : Kind → Journal → Type 0
 IsOfKind DenseAaf j = IsAudio j × AgreesWithClock j
 IsOfKind SparseAaf j = IsAudio j × AgreesWithClock j

@@ -7,23 +7,25 @@ pub record Copy : Type 0 where
   pub number : ℕ
   pub arrival : ℕ
 
--- a stamped packet comes less than 2^31 ns before, or at most 2^31 ns behind what is stamped
+-- a copy arrives less than 2^31 ns before the stamped instant, or at most 2^31 ns after it
 pub record IsInHalfCircle (instant arrival : ℕ) : Type 0 where
   pub from : instant < arrival + 2 ^ 31
   pub to : arrival ≤ instant + 2 ^ 31
 
--- two instants are less than so many packets' time apart
+-- instants x and y are less than `times` packets' time apart
 pub record IsWithin (j : Journal) (times x y : ℕ) : Type 0 where
   pub from : y * j.rate < x * j.rate + times * (j.count * 1000000000)
   pub to : x * j.rate < y * j.rate + times * (j.count * 1000000000)
 
+-- the kind is audio: AAF, sparse or not, or AM824
 abbrev pub IsAudioKind : Kind → Type 0
 IsAudioKind DenseAaf = ⊤
 IsAudioKind SparseAaf = ⊤
 IsAudioKind (Am824 interval dbc) = ⊤
 IsAudioKind (H264 part) = ⊥
 
--- A copy of a packet reaches a listener that expects packets so long before their first instant.
+-- A copy of one of the journal's packets arrives near enough to its instant that a listener which expects packets
+-- `lead` nanoseconds before their first instant can tell which one it is.
 pub record IsDelivered (j : Journal) (lead : ℕ) (c : Copy) : Type 0 where
   pub known : c.number < j.packets
   pub arrival : c.arrival ≤ 2 ^ 62
@@ -31,22 +33,23 @@ pub record IsDelivered (j : Journal) (lead : ℕ) (c : Copy) : Type 0 where
   -- an audio packet without a timestamp is expected less than 128 packets' time from its first instant
   pub unstamped : IsAudioKind j.kind → j.stamp c.number ≡ None → IsWithin j 128 (c.arrival + lead) (j.due c.number)
 
--- ---- copies of fragments beside each other
+-- ---- copies of adjacent fragments
 
+-- packet n carries a fragment of a NAL unit (RFC 6184, 5.8)
 abbrev pub IsFragment : Kind → ℕ → Type 0
 IsFragment DenseAaf n = ⊥
 IsFragment SparseAaf n = ⊥
 IsFragment (Am824 interval dbc) n = ⊥
 IsFragment (H264 part) n = (part n ≡ First) ⊎ ((part n ≡ Middle) ⊎ (part n ≡ Last))
 
--- Of two fragments of H.264 that were delivered beside each other, at least one of them without a timestamp, the packets
--- are at most 254 numbers apart.
+-- Two fragments of H.264, not both stamped, are of packets at most 254 apart. Two that are stamped with one instant are
+-- of one access unit, which has at most 255 packets, so they need no rule.
 abbrev pub IsNear : Journal → ℕ → ℕ → Type 0
 IsNear j n m =
     IsFragment j.kind n → IsFragment j.kind m → ((j.stamp n ≡ None) ⊎ (j.stamp m ≡ None)) →
     (n ≤ m + 254) × (m ≤ n + 254)
 
--- this holds of the packets of copies, in the order of the copies
+-- `IsNear` holds of each two adjacent packets of the list; of a whole run of fragments it follows by induction
 abbrev pub AreNear : Journal → List ℕ → Type 0
 AreNear j [] = ⊤
 AreNear j (n ∷ []) = ⊤

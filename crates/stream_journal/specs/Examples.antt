@@ -17,11 +17,12 @@ three_packets spacing = record {
   clock = no_clock;
 }
 
--- Twenty packets of 6 sample frames at 48 kHz, of which each eighth is stamped, with a restart at packet 10 that begins a
--- millisecond late.
+-- when packet n is due, each 125 microseconds after the one before it, and packet 10 a millisecond later than that
 abbrev pub restarted_due : ℕ → ℕ
 restarted_due n = if nat_lt n 10 then 1002000000 + n * 125000 else 1004250000 + (n - 10) * 125000
 
+-- Twenty packets of 6 sample frames at 48 kHz in sparse mode, of which each eighth is stamped, with a restart at packet
+-- 10 that begins a millisecond late.
 abbrev pub restarted : Journal
 restarted = record {
   kind = SparseAaf;
@@ -34,10 +35,11 @@ restarted = record {
   clock = no_clock;
 }
 
--- What reached a listener of it: packet 8 was lost, packet 5 came again, and packet 18 came before packet 17.
+-- a copy of a packet, by the packet's number and the copy's arrival
 abbrev pub came : ℕ → ℕ → Copy
 came number arrival = record { number = number; arrival = arrival }
 
+-- What reaches a listener of `restarted`: packet 8 is lost, packet 5 comes twice, and packet 18 comes before packet 17.
 abbrev pub restarted_copies : List Copy
 restarted_copies =
     came 0 1000000000 ∷
@@ -81,14 +83,14 @@ each_eighth = blocks_of_six 48000 8
     (1002000000 ∷ 1002124999 ∷ 1002249999 ∷ 1002374999 ∷ 1002500000 ∷ 1002624999 ∷ 1002749999 ∷ 1002874999 ∷ [])
     (Some 1002000000 ∷ Some 1002166666 ∷ Some 1002333333 ∷ None ∷ Some 1002500000 ∷ Some 1002666666 ∷ Some 1002833333 ∷ None ∷ [])
 
--- At 96 kHz each sixteenth block is: block 0 of packet 0, block 4 of packet 2 and block 2 of packet 5.
+-- At 96 kHz each sixteenth block is stamped: block 0 of packet 0, block 4 of packet 2 and block 2 of packet 5.
 abbrev pub each_sixteenth : Journal
 each_sixteenth = blocks_of_six 96000 16
     (1002000000 ∷ 1002062500 ∷ 1002124999 ∷ 1002187499 ∷ 1002249999 ∷ 1002312499 ∷ 1002374999 ∷ 1002437499 ∷ [])
     (Some 1002000000 ∷ None ∷ Some 1002166666 ∷ None ∷ None ∷ Some 1002333333 ∷ None ∷ None ∷ [])
 
--- What reached a listener of the latter: packet 2 was lost, and with it the timestamp from which packets 3 and 4 are
--- counted.
+-- What reaches a listener of `each_sixteenth`: packet 2 is lost, and with it the timestamp from which packets 3 and 4
+-- are counted.
 abbrev pub sixteenth_copies : List Copy
 sixteenth_copies =
     came 0 1000000000 ∷
@@ -121,14 +123,15 @@ clocked base = record {
   };
 }
 
--- A whole unit, and a unit of three fragments that is stamped on its last one, in two access units a thirtieth of a second
--- apart.
+-- the parts of four packets: a whole NAL unit, and the first, the middle and the last fragment of another
 abbrev pub video_part : ℕ → Part
 video_part zero = Single
 video_part (suc zero) = First
 video_part (suc (suc zero)) = Middle
 video_part (suc (suc (suc n))) = Last
 
+-- Four packets of H.264: a whole NAL unit, and a unit of three fragments that is stamped on its last one, in two access
+-- units a thirtieth of a second apart.
 abbrev pub video : Journal
 video = record {
   kind = H264 video_part;
@@ -143,7 +146,7 @@ video = record {
 
 -- ---- at the limits of the rules
 
--- a talker of nothing, beside a clock
+-- an audio stream without packets, beside a clock
 abbrev pub beside : ClockJournal → Journal
 beside clock = record {
   kind = DenseAaf;
@@ -156,11 +159,11 @@ beside clock = record {
   clock = clock;
 }
 
--- no packets, with some code of pull
+-- a clock without packets, with this code of pull
 abbrev pub pulled : ℕ → ClockJournal
 pulled pull = record no_clock { pull = pull }
 
--- three points of 48 kHz, 96 events apart, of which the last comes so many nanoseconds late
+-- a clock of three points at 48 kHz, 96 events apart, of which the last is `late` nanoseconds late
 abbrev pub unsteady : ℕ → ClockJournal
 unsteady late = record {
   base = 48000;
@@ -171,8 +174,8 @@ unsteady late = record {
   mr = λ m. false;
 }
 
--- Three points of 44.1 kHz of which the last comes 4,000 ns early, so that the first two cover what the last two do too; and
--- a packet at such an instant.
+-- Three points at 44.1 kHz of which the last is 4,000 ns early, so that both pairs cover some instants, and a packet at
+-- one of these.
 abbrev pub overlapped : Journal
 overlapped = record {
   kind = DenseAaf;
@@ -192,7 +195,7 @@ overlapped = record {
   };
 }
 
--- so many whole units in one access unit
+-- `packets` whole NAL units in one access unit, each of them stamped
 abbrev pub one_access_unit : ℕ → Journal
 one_access_unit packets = record {
   kind = H264 (λ n. Single);

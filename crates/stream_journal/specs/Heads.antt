@@ -18,19 +18,19 @@ stamp_at j k instant = record {
   instant = pos instant;
 }
 
--- a stamp of a packet of the journal
+-- the stamp is what a listener notes of a copy of packet k, which the journal stamps
 pub record IsStampOf (j : Journal) (k : ℕ) (stamp : Stamp) : Type 0 where
   pub known : k < j.packets
   pub instant : ℕ
   pub stamped : j.stamp k ≡ Some instant
   pub same : stamp ≡ stamp_at j k instant
 
--- a stamp that a talker sent
+-- the stamp is that of some packet of the journal
 pub record IsTrue (j : Journal) (stamp : Stamp) : Type 0 where
   pub number : ℕ
   pub is : IsStampOf j number stamp
 
--- what a listener looks for, to count the copy of a packet without a timestamp from a stamp so far back
+-- what a listener looks for, to count a copy of a packet without a timestamp from a stamp `far` back
 abbrev pub wanted : Journal → ℕ → Copy → Distance → Want
 wanted j lead c far = record {
   seq = (c.number % 256 + 256 - far.packets) % 256;
@@ -43,8 +43,8 @@ wanted j lead c far = record {
   count = j.count;
 }
 
--- A listener that expects packets so long before their first instant has a copy of a packet without a timestamp, which is
--- counted from a stamp so far back.
+-- A listener that expects packets `lead` nanoseconds before their first instant has a copy of a packet without a
+-- timestamp, which is counted from a stamp `far` back.
 pub record IsUnstamped (j : Journal) (lead : ℕ) (c : Copy) (far : Distance) : Type 0 where
   pub came : IsDelivered j lead c
   pub none : j.stamp c.number ≡ None
@@ -55,20 +55,20 @@ pub record IsOther (n k : ℕ) (far : Distance) : Type 0 where
   pub same : (k + far.packets) % 256 ≡ n % 256
   pub other : k + far.packets ≢ n
 
--- The stamp is that of packet n - d, and no restart lies between the two.
+-- The stamp is that of the packet `far.packets` before packet n, and both packets have the same `mr`.
 pub record IsHeadOf (j : Journal) (n : ℕ) (far : Distance) (stamp : Stamp) : Type 0 where
   pub back : far.packets ≤ n
   pub is : IsStampOf j (n - far.packets) stamp
   pub one_run : j.mr (n - far.packets) ≡ j.mr n
 
--- the instant of the sample that is so many samples behind a stamped one
+-- the instant `samples` samples after another one, at the stream's rate
 abbrev pub behind : Journal → ℕ → ℕ → ℕ
 behind j instant samples = instant + samples * 1000000000 / j.rate
 
--- two instants are at least so many packets' time apart
+-- two instants are at least `times` packets' time apart
 abbrev pub AreApart : Journal → ℕ → ℕ → ℕ → Type 0
 AreApart j times x y = IsApart j (4 * times) x y ⊎ IsApart j (4 * times) y x
 
--- The head of packet n is this stamp, so far back.
+-- Packet n is counted from this stamp: its first sample is `far.samples` samples after the stamped one.
 abbrev pub IsCountedFrom : Journal → ℕ → Distance → Stamp → Type 0
 IsCountedFrom j n far stamp = head_of j n ≡ Some (record { instant = stamp.instant; first = pos far.samples })

@@ -1,5 +1,5 @@
--- The journal of a talker: what it sent, as far as time is concerned, in true numbers. Packets are counted from 0 and not
--- modulo 256, and instants are whole nanoseconds of gPTP and not modulo 2^32.
+-- The journal of a talker: what it sent, as far as time is concerned. Packets are counted from 0 and not modulo 256,
+-- and instants are whole nanoseconds of gPTP and not modulo 2^32.
 use Rattle.std.specs.Prelude.{◌≡◌, ℕ, ◌-◌, nat_le, if◌then◌else◌, Bool, true, false, ℤ, pos, neg_ℤ, ◌+ℤ◌, Option, Some, None, option_map, option_and_then}
 use Rattle.std.specs.Option.{option_or}
 use Rattle.time_unfold.specs.declared.head_rule.Distance.{Distance}
@@ -54,12 +54,13 @@ rule_of (H264 part) n = Own
 
 -- ---- the instants of a packet's samples
 
--- packet n by its own timestamp
+-- the head of packet n by its own timestamp, if it has one
 abbrev pub own_head : Journal → ℕ → Option Head
 own_head j n =
     option_map (λ instant. record { instant = pos instant; first = neg_ℤ (pos (stamped_index (rule_of j.kind n))) }) (j.stamp n)
 
--- packet n by the timestamp of packet n - d, where no restart lies between them
+-- the head of packet n by the timestamp of the packet `far.packets` before it, if that is stamped and both have the
+-- same `mr`
 abbrev pub head_from : Journal → ℕ → Distance → Option Head
 head_from j n far =
     if nat_le far.packets n then
@@ -67,27 +68,27 @@ head_from j n far =
     option_map (λ instant. record { instant = pos instant; first = pos far.samples }) (j.stamp (n - far.packets))
     else None else None
 
--- The head of packet n: its own timestamp, or that of the packet from which it is counted, where there is one.
+-- The head of packet n: by its own timestamp, or else by that of the packet from which it is counted, if there is one.
 abbrev pub head_of : Journal → ℕ → Option Head
 head_of j n = option_or (own_head j n) (option_and_then (head_from j n) (distance (rule_of j.kind n) n j.count))
 
--- sample k of a packet with this head, at the nominal rate
+-- the instant of sample k of a packet with this head, at the nominal rate
 abbrev pub nominal_instant : Journal → Head → ℕ → ℤ
 nominal_instant j head k = instant_at (nominal_line head.instant j.rate) (head.first +ℤ pos k)
 
--- sample k of a packet with this head, by a pair of the clock's points
+-- the instant of sample k of a packet with this head, by a pair of the clock's points
 abbrev pub instant_by : Pair → Journal → Head → ℕ → ℤ
 instant_by pair j head k =
     let spot = spot_by pair j.rate head.instant in
     instant_at spot.line ((spot.from +ℤ head.first) +ℤ pos k)
 
--- Without a clock, sample k of packet n is at this instant.
+-- Without a clock, sample k of packet n is at this instant: counted from the packet's head at the nominal rate.
 pub record IsAtNominal (j : Journal) (n k : ℕ) (instant : ℤ) : Type 0 where
   pub head : Head
   pub is_head : head_of j n ≡ Some head
   pub at : instant ≡ nominal_instant j head k
 
--- With the clock, sample k of packet n is at this instant: by the joined pair that covers the packet's head.
+-- With the clock, sample k of packet n is at this instant: by a joined pair that covers the packet's head.
 pub record IsAtByClock (j : Journal) (n k : ℕ) (instant : ℤ) : Type 0 where
   pub head : Head
   pub is_head : head_of j n ≡ Some head
@@ -97,7 +98,8 @@ pub record IsAtByClock (j : Journal) (n k : ℕ) (instant : ℤ) : Type 0 where
   pub covers : Covers (pair_at j.clock earlier later) j.rate head.instant
   pub at : instant ≡ instant_by (pair_at j.clock earlier later) j head k
 
--- Sample k of a packet of audio, or a unit of H.264, which is at the one instant of its packets.
+-- Sample k of packet n is at this instant, in a stream of this kind, by the clock or at the nominal rate. A unit of
+-- H.264 has one sample, at the instant at which its packets are due.
 abbrev pub IsAtBy : Kind → Bool → Journal → ℕ → ℕ → ℤ → Type 0
 IsAtBy DenseAaf true j n k instant = IsAtByClock j n k instant
 IsAtBy DenseAaf false j n k instant = IsAtNominal j n k instant
@@ -107,7 +109,7 @@ IsAtBy (Am824 interval dbc) true j n k instant = IsAtByClock j n k instant
 IsAtBy (Am824 interval dbc) false j n k instant = IsAtNominal j n k instant
 IsAtBy (H264 part) by_clock j n k instant = (k ≡ 0) × (instant ≡ pos (j.due n))
 
--- Sample k of packet n is at this instant, for listeners with the clock or without. A packet of audio without a head, and
--- with the clock one whose head no joined pair covers, has no instants.
+-- Sample k of packet n is at this instant, for listeners with the clock or without. A packet of audio without a head,
+-- and with the clock one whose head no joined pair covers, has no instants.
 abbrev pub IsAt : Bool → Journal → ℕ → ℕ → ℤ → Type 0
 IsAt by_clock j n k instant = IsAtBy j.kind by_clock j n k instant

@@ -15,12 +15,12 @@ use Rattle.talker.specs.Plan.{Expects, IsAudioPlan, IsVideoPlan}
 use Rattle.talker.specs.Talking.{most_input}
 use Rattle.talker.specs.Units.{sent_units}
 
--- what is read of a capture that has the plan's frames of these places, in this order
+-- the records of a capture that has the plan's frames of these places, in this order
 abbrev pub captured : TalkPlan → List ℕ → List ℕ → List Record
 captured plan input places = whole_records (capture_of (frames_at plan input places))
 
--- The plan is one of audio and talked of the input, and the listener listens to its stream, on its clock or without one. It
--- expects packets so long before their first instant that it can tell those apart that have no timestamp.
+-- The plan is one of audio and talked of the input, and the listener listens to its stream, with its clock or without
+-- one. The listener's lead lets it tell packets without a timestamp apart.
 pub record ListensTo (plan : TalkPlan) (input : List ℕ) (listen : ListenPlan) : Type 0 where
   pub talked : IsAudioPlan plan
   pub id : plan.id < 2 ^ 64
@@ -29,7 +29,7 @@ pub record ListensTo (plan : TalkPlan) (input : List ℕ) (listen : ListenPlan) 
   pub stream : listen.stream ≡ plan.id
   pub clock : FollowsClock (pos 0) (journal plan input) listen.shift listen.clock
 
--- packet n of the plan is stamped, and has room in the buffer of the listener, which has no clock
+-- packet n of a plan without a clock is stamped, and fits the buffer of the listener, which has no clock either
 pub record HasRoomFor (plan : TalkPlan) (input : List ℕ) (listen : ListenPlan) (n : ℕ) : Type 0 where
   pub known : n < (journal plan input).times.packets
   -- no clock is sent beside the stream, so its frame is the one of its number
@@ -42,9 +42,9 @@ pub record HasRoomFor (plan : TalkPlan) (input : List ℕ) (listen : ListenPlan)
 
 -- ---- H.264
 
--- The plan is one of H.264 and talked of the input, and the listener listens to its stream. Where the plan stamps the last
--- fragments of units alone, fragments that are captured beside each other are of packets at most 254 apart, unless both are
--- stamped. Nothing is asked of when the listener expects packets.
+-- The plan is one of H.264 and talked of the input, and the listener listens to its stream. If the plan stamps the last
+-- fragments of units alone, adjacent captured fragments are of packets at most 254 apart, unless both are stamped.
+-- Nothing is asked of the listener's lead.
 pub record ListensToVideo (plan : TalkPlan) (input places : List ℕ) (listen : ListenPlan) : Type 0 where
   pub last_stamp : Bool
   pub kind : plan.kind ≡ H264 last_stamp
@@ -59,7 +59,7 @@ pub record ListensToVideo (plan : TalkPlan) (input places : List ℕ) (listen : 
 abbrev pub part_sent : List ℕ → ℕ → Part
 part_sent input n = part_of (part_at (sent_units input) (place_of (sent_units input) n))
 
--- packets `from` to `n` of the plan carry one unit, and this has room in the buffer of the listener
+-- packets `from` to `n` of the plan carry one unit, and it fits the buffer of the listener
 pub record HasRoomForUnit (plan : TalkPlan) (input : List ℕ) (listen : ListenPlan) (from n : ℕ) : Type 0 where
   pub known : n < (journal plan input).times.packets
   pub packets : AreUnit (part_sent input) from n

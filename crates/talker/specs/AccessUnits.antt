@@ -5,36 +5,39 @@ use Rattle.std.specs.Prelude.{◌≡◌, ℕ, zero, suc, ◌+◌, ◌≤◌, ◌
 use Rattle.avtp_base.specs.Octets.{bits, flag, is_set}
 use Rattle.cvf_format.specs.Cvf.{type_of}
 
--- unit i
+-- the range of unit i
 abbrev pub unit_at : List (ℕ × ℕ) → ℕ → ℕ × ℕ
 unit_at units i = get_or units i (0, 0)
 
--- the first byte of a unit, and the type that it tells
+-- the first byte of a unit
 abbrev pub nal_in : List ℕ → ℕ × ℕ → ℕ
 nal_in bytes unit = bits unit.0 0 8 bytes
 
+-- the type of a unit (`nal_unit_type`), which its first byte tells
 abbrev pub type_in : List ℕ → ℕ × ℕ → ℕ
 type_in bytes unit = type_of (nal_in bytes unit)
 
--- a unit has a slice of a picture: its type is 1 to 5
+-- the unit has a slice of a picture: its type is 1 to 5
 unfoldable pub has_slice : List ℕ → ℕ × ℕ → Bool
 has_slice bytes unit = nat_le 1 (type_in bytes unit) && nat_le (type_in bytes unit) 5
 
--- its slice is the first of a picture: `first_mb_in_slice` is 0, which is spelled by a bit that is set
+-- the slice of the unit is the first of a picture: `first_mb_in_slice` is 0, which is spelled by a set bit at the head
+-- of its second byte; a unit of one byte has none
 abbrev pub is_first_slice : List ℕ → ℕ × ℕ → Bool
 is_first_slice bytes unit = nat_lt (unit.0 + 1) unit.1 && is_set (unit.0 + 1) 0 bytes
 
+-- a type is at least `low` and at most `high`
 abbrev pub is_in : ℕ → ℕ → ℕ → Bool
 is_in low high type = nat_le low type && nat_le type high
 
--- A unit begins an access unit where the one before it has a slice: one of type 6 to 9 or 14 to 18, or the first slice of
--- a picture, of type 1, 2 or 5.
+-- A unit that begins an access unit if one before it in the last access unit has a slice: one of type 6 to 9 or 14 to
+-- 18, or the first slice of a picture, of type 1, 2 or 5.
 unfoldable pub may_begin : List ℕ → ℕ × ℕ → Bool
 may_begin bytes unit =
     is_in 6 9 (type_in bytes unit) || is_in 14 18 (type_in bytes unit)
     || ((is_in 1 2 (type_in bytes unit) || type_in bytes unit == 5) && is_first_slice bytes unit)
 
--- the access unit of the units before unit i has a slice
+-- the last access unit of the units before unit i has a slice
 abbrev pub is_sliced : List ℕ → List (ℕ × ℕ) → ℕ → Bool
 is_sliced bytes units zero = false
 is_sliced bytes units (suc i) = has_slice bytes (unit_at units i) || (is_sliced bytes units i && not (may_begin bytes (unit_at units i)))
@@ -43,7 +46,7 @@ is_sliced bytes units (suc i) = has_slice bytes (unit_at units i) || (is_sliced 
 abbrev pub begins : List ℕ → List (ℕ × ℕ) → ℕ → Bool
 begins bytes units i = is_sliced bytes units i && may_begin bytes (unit_at units i)
 
--- how many of the units before unit i do
+-- how many of the units before unit i begin a new access unit
 abbrev pub begun_before : List ℕ → List (ℕ × ℕ) → ℕ → ℕ
 begun_before bytes units zero = 0
 begun_before bytes units (suc i) = begun_before bytes units i + flag (begins bytes units i)

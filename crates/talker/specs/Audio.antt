@@ -11,6 +11,7 @@ use Rattle.talker.specs.declared.plan.TalkKind.TheVariants.{Aaf, Am824, H264}
 use Rattle.talker.specs.declared.plan.TalkPlan.{TalkPlan}
 use Rattle.talker.specs.Packets.{aaf_packet, am824_kind, iec_packet, kind_of}
 
+-- what of a stream is each audio format's own
 pub record Audio : Type 0 where
   -- how its packets are stamped
   pub kind : Kind
@@ -21,11 +22,11 @@ pub record Audio : Type 0 where
   -- packet n, with these samples
   pub packet : ℕ → List ℕ → PacketView
 
--- so many quadlets of silence: the label of linear audio of 24 bits, and a value of 0 (IEC 61883-6)
+-- silence of a number of quadlets: each has the label of linear audio of 24 bits, and a value of 0 (IEC 61883-6)
 unfoldable pub silent_quadlets : ℕ → List ℕ
 silent_quadlets quadlets = flat_map (big_bytes 4) (replicate quadlets 0x40000000)
 
--- PCM: silence is zero bytes
+-- PCM in AAF (IEEE 1722-2016, 7): silence is zero bytes
 abbrev pub pcm : AafFormat → Bool → TalkPlan → Audio
 pcm format sparse plan = record {
   kind = kind_of sparse;
@@ -43,7 +44,7 @@ am824 plan = record {
   packet = λ n blocks. Am824Data (iec_packet plan n blocks);
 }
 
--- the format of a plan, where it is one of audio that is talked
+-- the format of a plan, if it is one of audio
 abbrev pub audio_by : TalkKind → TalkPlan → Option Audio
 audio_by (Aaf format sparse) plan = Some (pcm format sparse plan)
 audio_by Am824 plan = Some (am824 plan)

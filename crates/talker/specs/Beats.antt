@@ -8,8 +8,8 @@ use Rattle.clock_track.specs.Pairs.{spot_by}
 use Rattle.time_unfold.specs.Lines.{instant_at}
 use Rattle.talker.specs.Timing.{nominal_offset}
 
--- A stream of so many events a second beside a clock of up / down events a second: `spacing` events of the stream take as
--- long as `interval` events of the clock.
+-- A stream of `rate` events a second beside a clock of up / down events a second: `spacing` events of the stream take
+-- as long as `interval` events of the clock.
 pub record Beat : Type 0 where
   pub rate : ℕ
   pub spacing : ℕ
@@ -30,8 +30,8 @@ pub record IsBeat (b : Beat) : Type 0 where
 abbrev pub point_at : Beat → ℕ → ℕ → ℕ
 point_at b start m = start + nominal_offset b.rate (m * b.spacing)
 
--- The instant with which event e of the run is stamped: before the second point its nominal one, and from then on so far
--- behind the last point as the period between the last two points tells.
+-- The instant with which event e of the run is stamped: before the second point its nominal one, and from then on as
+-- long after the last point as the period between the last two points tells.
 unfoldable pub stamped_at : Beat → ℕ → ℕ → ℕ
 stamped_at b start e =
     if nat_lt e b.spacing then start + nominal_offset b.rate e else
@@ -48,11 +48,11 @@ pair_from b start m = record {
   down = b.down;
 }
 
--- From a run of so many events, the next one starts at least 4 nanoseconds later than the time of the events.
+-- The run after one of `events` events starts at least 4 nanoseconds after the time that these events take.
 abbrev pub IsNextStart : Beat → ℕ → ℕ → ℕ → Type 0
 IsNextStart b start events next = start + nominal_offset b.rate events + 4 ≤ next
 
--- by a pair, the nearest event of the clock is at the instant, to the nanosecond
+-- by a pair, the event of the clock nearest to the instant is at the instant, to the nanosecond
 abbrev pub IsOnEvent : Pair → ℕ → ℕ → Type 0
 IsOnEvent pair rate instant =
     instant_at (spot_by pair rate (pos instant)).line (spot_by pair rate (pos instant)).from ≡ pos instant

@@ -25,19 +25,20 @@ beat_of crf plan = record {
 
 -- ---- the stream's timestamps
 
--- The instant with which sample frame i of packet n is stamped: without a clock its nominal instant, and with one what the
--- clock's points in the packet's run tell.
+-- The instant with which sample frame i of packet n is stamped: without a clock its nominal instant, and with one what
+-- the clock's points in the packet's run tell.
 abbrev pub stamped_by : Option CrfPlan → TalkPlan → ℕ → ℕ → ℕ
 stamped_by None plan n i = nominal_instant plan n i
 stamped_by (Some crf) plan n i = stamped_at (beat_of crf plan) (run_start plan (run_of plan n)) (event_of plan n i)
 
+-- the instant with which sample frame i of packet n is stamped, with the plan's clock or without one
 abbrev pub stamped_instant : TalkPlan → ℕ → ℕ → ℕ
 stamped_instant plan n i = stamped_by plan.crf plan n i
 
 -- ---- the points
 
--- The clock has a point at the first sample frame of the stream, and at each further `spacing_of` sample frames. Point s is
--- at this sample frame, of all that are sent.
+-- the sample frame, of all that are sent, at which point s is: the clock has a point at the first sample frame of the
+-- stream, and at each further `spacing_of` sample frames
 abbrev pub frame_at : CrfPlan → TalkPlan → ℕ → ℕ
 frame_at crf plan s = s * spacing_of crf plan.rate
 
@@ -45,37 +46,37 @@ frame_at crf plan s = s * spacing_of crf plan.rate
 unfoldable pub clock_point : CrfPlan → TalkPlan → ℕ → ℕ
 clock_point crf plan s = nominal_instant plan (frame_at crf plan s / plan.count) (frame_at crf plan s % plan.count)
 
--- how many points a stream of so many packets has, those at sample frames with which its last packet is filled up among them
+-- how many points a stream of this many packets has, with those at sample frames that fill up its last packet
 abbrev pub points_for : CrfPlan → TalkPlan → ℕ → ℕ
 points_for crf plan packets = div_ceil (packets * plan.count) (spacing_of crf plan.rate)
 
--- the points of a run of so many packets
+-- how many points a run of this many packets has
 abbrev pub run_points : CrfPlan → TalkPlan → ℕ → ℕ
 run_points crf plan packets = packets * plan.count / spacing_of crf plan.rate
 
 -- ---- the packets
 
--- how many packets they fill, the last one maybe in part
+-- how many clock packets the points fill, the last one maybe in part
 abbrev pub clock_packets : CrfPlan → TalkPlan → ℕ → ℕ
 clock_packets crf plan packets = div_ceil (points_for crf plan packets) crf.points
 
--- the first point of packet m, of all points
+-- the number of the first point of clock packet m, of all points
 abbrev pub first_point : CrfPlan → ℕ → ℕ
 first_point crf m = m * crf.points
 
--- the number of its points
+-- how many points clock packet m has
 abbrev pub points_size : CrfPlan → TalkPlan → ℕ → ℕ → ℕ
 points_size crf plan packets m = min crf.points (points_for crf plan packets - first_point crf m)
 
--- its points
+-- the points of clock packet m
 unfoldable pub points_in : CrfPlan → TalkPlan → ℕ → ℕ → List ℕ
 points_in crf plan packets m = map (clock_point crf plan) (range_with_len (first_point crf m) (points_size crf plan packets m))
 
--- its restart bit: that of the stream where its first point stands
+-- the restart bit of clock packet m: that of the stream's packet with the sample frame of its first point
 abbrev pub clock_mr : CrfPlan → TalkPlan → ℕ → Bool
 clock_mr crf plan m = mr_of plan (frame_at crf plan (first_point crf m) / plan.count)
 
--- packet m (IEEE 1722-2016, 10)
+-- clock packet m (IEEE 1722-2016, 10)
 abbrev pub clock_packet : CrfPlan → TalkPlan → ℕ → ℕ → Crf
 clock_packet crf plan packets m = record {
   sv = true;
@@ -92,13 +93,13 @@ clock_packet crf plan packets m = record {
   reserved = false;
 }
 
--- when packet m is sent: the plan's lead before its first point
+-- when clock packet m is sent: the plan's lead before its first point
 abbrev pub clock_arrival : CrfPlan → TalkPlan → ℕ → ℕ
 clock_arrival crf plan m = clock_point crf plan (first_point crf m) - plan.lead
 
 -- ---- its journal
 
--- the clock beside a stream of so many packets
+-- the journal of the clock beside a stream of this many packets
 abbrev pub clock_times : CrfPlan → TalkPlan → ℕ → ClockJournal
 clock_times crf plan packets = record {
   base = crf.rate;
@@ -109,6 +110,7 @@ clock_times crf plan packets = record {
   mr = λ m. clock_mr crf plan m;
 }
 
+-- the journal of the plan's clock beside a stream of this many packets; without a clock, that of one that sends none
 abbrev pub clock_by : Option CrfPlan → TalkPlan → ℕ → ClockJournal
 clock_by None plan packets = no_clock
 clock_by (Some crf) plan packets = clock_times crf plan packets

@@ -10,17 +10,17 @@ use Rattle.talker.specs.Frames.{frames}
 use Rattle.talker.specs.Rows.{Row, first_of, row}
 use Rattle.talker.specs.Units.{unit_faults}
 
--- a frame would arrive when no capture can say: 32 bits of seconds after 0, or later
+-- a frame would arrive at 2^32 seconds or later, which no capture can say
 abbrev pub arrives_too_late : TalkPlan → List ℕ → Bool
 arrives_too_late plan input = list_any (λ f. int_le (pos (2 ^ 32 * 1000000000)) f.arrival) (frames plan input)
 
--- The faults of audio, or of H.264, in the order in which they are tested.
+-- The faults of audio, or of H.264 if there is no audio format, in the order in which they are tested.
 abbrev pub faults_by : Option Audio → TalkPlan → List ℕ → List Row
 faults_by (Some audio) plan input =
     row Frames (not (is_whole audio.frame input)) ∷
     row Arrival (arrives_too_late plan input) ∷ []
 faults_by None plan input = unit_faults input ++ row Arrival (arrives_too_late plan input) ∷ []
 
--- the first fault of a plan and its input
+-- the first fault of a plan and its input, if there is one
 unfoldable pub fault_of : TalkPlan → List ℕ → Option TalkFault
 fault_of plan input = first_of (faults_by (audio_by plan.kind plan) plan input)

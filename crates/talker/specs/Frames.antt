@@ -26,7 +26,7 @@ pub record SentFrame : Type 0 where
   pub clock : Bool
   pub bytes : List ℕ
 
--- what is sent, apart from where its bytes lie in memory
+-- a frame that is lent, apart from where its bytes lie in memory
 abbrev pub sent_frame : Sent → SentFrame
 sent_frame s = record { arrival = s.arrival; number = s.number; clock = s.clock; bytes = s.bytes.now }
 
@@ -48,7 +48,7 @@ ethernet packet = record {
 unfoldable pub packet_bytes : PacketView → List ℕ
 packet_bytes packet = frame_spelling (ethernet (spelling_of packet))
 
--- and of a packet of PCM
+-- the bytes of the frame of packet n of PCM, with these samples
 abbrev pub aaf_bytes : AafFormat → Bool → TalkPlan → ℕ → List ℕ → List ℕ
 aaf_bytes format sparse plan n samples = packet_bytes (Pcm (aaf_packet format sparse plan n samples))
 
@@ -65,6 +65,7 @@ frame_of stream n = record {
 abbrev pub numbered_frames : Stream → List SentFrame
 numbered_frames stream = map (frame_of stream) (range_with_len 0 stream.journal.times.packets)
 
+-- the frames of a plan's stream, by the numbers of their packets
 abbrev pub stream_frames : TalkPlan → List ℕ → List SentFrame
 stream_frames plan input = numbered_frames (stream_of plan input)
 
@@ -87,6 +88,7 @@ clock_frame_of stream m = record {
 abbrev pub numbered_clock : Stream → List SentFrame
 numbered_clock stream = map (clock_frame_of stream) (range_with_len 0 stream.journal.times.clock.packets)
 
+-- the frames of a plan's clock, by the numbers of their packets
 abbrev pub clock_frames : TalkPlan → List ℕ → List SentFrame
 clock_frames plan input = numbered_clock (stream_of plan input)
 
@@ -97,7 +99,7 @@ abbrev pub put_in : SentFrame → List SentFrame → List SentFrame
 put_in f [] = f ∷ []
 put_in f (g ∷ frames) = if int_le f.arrival g.arrival then f ∷ g ∷ frames else g ∷ put_in f frames
 
--- frames by arrival, and those of one arrival as they stood
+-- frames by arrival, and those of one arrival in their order
 abbrev pub by_arrival : List SentFrame → List SentFrame
 by_arrival [] = []
 by_arrival (f ∷ frames) = put_in f (by_arrival frames)
@@ -107,13 +109,13 @@ by_arrival (f ∷ frames) = put_in f (by_arrival frames)
 abbrev pub frames : TalkPlan → List ℕ → List SentFrame
 frames plan input = by_arrival (clock_frames plan input ++ stream_frames plan input)
 
--- no frame arrives before the one in front of it
+-- no frame arrives before the one that precedes it
 abbrev pub RiseByArrival : List SentFrame → Type 0
 RiseByArrival [] = ⊤
 RiseByArrival (f ∷ []) = ⊤
 RiseByArrival (f ∷ g ∷ frames) = (f.arrival ≤ℤ g.arrival) × RiseByArrival (g ∷ frames)
 
--- the frames in these places, in this order: some may be missing, come again, or change places
+-- the frames at these places, in this order: some may be missing, come again, or change places
 abbrev pub frames_at : TalkPlan → List ℕ → List ℕ → List SentFrame
 frames_at plan input places = filter_map (slice_get (frames plan input)) places
 
@@ -124,14 +126,16 @@ abbrev pub packet_numbers : List SentFrame → List ℕ
 packet_numbers [] = []
 packet_numbers (f ∷ frames) = if f.clock then packet_numbers frames else f.number ∷ packet_numbers frames
 
+-- of H.264 that stamps last fragments alone, adjacent packets of these numbers are near; nothing is asked of other
+-- kinds
 abbrev pub StaysNearBy : TalkKind → Journal → List ℕ → Type 0
 StaysNearBy (Aaf format sparse) j numbers = ⊤
 StaysNearBy Am824 j numbers = ⊤
 StaysNearBy (H264 false) j numbers = ⊤
 StaysNearBy (H264 true) j numbers = AreNear j numbers
 
--- Fragments without a timestamp are told apart by their sequence numbers alone. So where a plan stamps the last fragments of
--- units alone, fragments that are captured beside each other are of packets at most 254 apart, unless both are stamped.
+-- Fragments without a timestamp are told apart by their sequence numbers alone. So if a plan stamps the last fragments
+-- of units alone, adjacent captured fragments are of packets at most 254 apart, unless both are stamped.
 abbrev pub StaysNear : TalkPlan → List ℕ → List SentFrame → Type 0
 StaysNear plan input frames = StaysNearBy plan.kind (journal plan input).times (packet_numbers frames)
 
@@ -145,6 +149,7 @@ capture_style = record { order = Little; unit = Nano }
 abbrev pub record_of : SentFrame → Record
 record_of f = record { arrival = f.arrival; orig_len = length f.bytes; bytes = f.bytes }
 
+-- the records of a plan's capture, in order
 abbrev pub records : TalkPlan → List ℕ → List Record
 records plan input = map record_of (frames plan input)
 
@@ -152,6 +157,6 @@ records plan input = map record_of (frames plan input)
 abbrev pub capture_of : List SentFrame → List ℕ
 capture_of frames = capture_spelling capture_style (map record_of frames)
 
--- and of the capture of a plan
+-- the bytes of a plan's capture
 abbrev pub capture : TalkPlan → List ℕ → List ℕ
 capture plan input = capture_of (frames plan input)

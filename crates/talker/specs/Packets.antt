@@ -12,13 +12,13 @@ use Rattle.talker.specs.Clock.{stamped_instant}
 use Rattle.talker.specs.Plan.{fdf_of, interval_of, rate_code}
 use Rattle.talker.specs.Timing.{mr_of, seq_of, timestamp_of}
 
--- The instant with which packet n is stamped, in a stream of this kind: that of the sample frame that the kind stamps, where
--- the packet has it.
+-- The instant with which packet n of a stream of this kind is stamped: that of the sample frame that the kind stamps,
+-- if the packet has it.
 abbrev pub stamp_of : Kind → TalkPlan → ℕ → Option ℕ
 stamp_of kind plan n =
     if is_stamped (rule_of kind n) n plan.count then Some (stamped_instant plan n (stamped_index (rule_of kind n))) else None
 
--- The stream header of packet n (IEEE 1722-2016, 4.4.4), with this stamp, before so many bytes.
+-- The stream header of packet n (IEEE 1722-2016, 4.4.4), with this stamp, before this many bytes.
 abbrev pub header_of : ℕ → Option ℕ → TalkPlan → ℕ → ℕ → StreamHeader
 header_of subtype stamp plan n length = record {
   subtype = subtype;
@@ -35,12 +35,12 @@ header_of subtype stamp plan n length = record {
 
 -- ---- PCM (IEEE 1722-2016, 7)
 
--- the kind of a stream of PCM, by whether it is sparse: then one packet in eight is stamped, and not each
+-- the kind of a stream of PCM: sparse, with one packet in eight stamped, or with each packet stamped
 abbrev pub kind_of : Bool → Kind
 kind_of false = DenseAaf
 kind_of true = SparseAaf
 
--- packet n, with these samples
+-- packet n of PCM, with these samples
 abbrev pub aaf_packet : AafFormat → Bool → TalkPlan → ℕ → List ℕ → Packet
 aaf_packet format sparse plan n samples = record {
   header = header_of aaf_subtype (stamp_of (kind_of sparse) plan n) plan n (plan.count * frame_size plan.channels format);
@@ -61,10 +61,11 @@ aaf_packet format sparse plan n samples = record {
 abbrev pub dbc_of : TalkPlan → ℕ → ℕ
 dbc_of plan n = n * plan.count % 256
 
+-- the kind of a stream of AM824: stamped by the SYT interval of its rate, with blocks counted from 0
 abbrev pub am824_kind : TalkPlan → Kind
 am824_kind plan = Am824 (interval_of plan.rate) (λ n. dbc_of plan n)
 
--- packet n, with these data blocks; it comes from no bus
+-- packet n of AM824, with these data blocks; it comes from no IEEE 1394 bus
 abbrev pub iec_packet : TalkPlan → ℕ → List ℕ → Iec
 iec_packet plan n blocks = record {
   header = header_of iec_subtype (stamp_of (am824_kind plan) plan n) plan n (8 + plan.count * block_size plan.channels);

@@ -33,20 +33,21 @@ fdf_of rate =
     if rate == 176400 then Some 5 else
     if rate == 192000 then Some 6 else None
 
--- SYT_INTERVAL at a sample rate: of so many data blocks one is stamped (IEC 61883-6)
+-- SYT_INTERVAL at a sample rate: of this many data blocks one is stamped (IEC 61883-6)
 abbrev pub interval_of : ℕ → ℕ
 interval_of rate = unwrap_or (option_and_then syt_interval (fdf_of rate)) 8
 
--- the most bytes of samples that a packet of AAF holds in an Ethernet frame, and of data blocks one of IEC 61883
+-- the most bytes of samples that a packet of AAF holds in an Ethernet frame
 abbrev pub most_samples : ℕ
 most_samples = 1476
 
+-- the most bytes of data blocks that a packet of IEC 61883 holds in an Ethernet frame
 abbrev pub most_blocks : ℕ
 most_blocks = 1468
 
 -- ---- audio
 
--- PCM and AM824
+-- the kind is audio: PCM or AM824
 abbrev pub IsAudioKind : TalkKind → Type 0
 IsAudioKind (Aaf format sparse) = ⊤
 IsAudioKind Am824 = ⊤
@@ -59,43 +60,46 @@ HasRate Am824 rate = IsSome (fdf_of rate)
 HasRate (H264 last_stamp) rate = ⊥
 
 -- A packet of AM824 has data blocks of at most 256 quadlets, which fit an Ethernet frame, and at least an eighth of the
--- interval of them: then in 8 packets beside each other a block is stamped.
+-- interval of them: then a block is stamped in each 8 packets.
 pub record FitsBlocks (plan : TalkPlan) : Type 0 where
   pub quadlets : plan.channels ≤ 256
   pub some : interval_of plan.rate ≤ 8 * plan.count
   pub size : plan.count * block_size plan.channels ≤ most_blocks
 
--- a packet of so many sample frames fits an Ethernet frame
+-- a packet of the plan's sample frames fits an Ethernet frame
 abbrev pub FitsPacket : TalkKind → TalkPlan → Type 0
 FitsPacket (Aaf format sparse) plan = plan.count * frame_size plan.channels format ≤ most_samples
 FitsPacket Am824 plan = FitsBlocks plan
 FitsPacket (H264 last_stamp) plan = ⊥
 
--- A restart after so many packets, which sets presentation times so many nanoseconds forward. Listeners rely on a restart
--- bit that stands for 8 packets at least.
+-- A restart after each `packets` packets, which sets presentation times `jump` nanoseconds forward. Listeners rely on a
+-- restart bit that keeps its value for at least 8 packets.
 pub record IsRestart (packets jump : ℕ) : Type 0 where
   pub some : 8 ≤ packets
   pub most : packets ≤ 1000000000
   pub least_jump : 4 ≤ jump
   pub most_jump : jump ≤ 1000000000
 
+-- the plan has no restarts, or they are within their limits
 abbrev pub Restarts : Option ℕ → ℕ → Type 0
 Restarts None jump = ⊤
 Restarts (Some packets) jump = IsRestart packets jump
 
 -- ---- the media clock
 
--- The sample frames from one point of the clock to the next, at so many a second: they take as long as `interval` events at
--- the clock's frequency, which is its base frequency times the factor of its pull (IEEE 1722-2016, 10).
+-- The sample frames from one point of the clock to the next in a stream of `rate` sample frames a second: they take as
+-- long as `interval` events at the clock's frequency, which is its base frequency times the factor of its pull (IEEE
+-- 1722-2016, 10).
 unfoldable pub spacing_of : CrfPlan → ℕ → ℕ
 spacing_of crf rate = crf.interval * rate * pull_down crf.pull / (crf.rate * pull_up crf.pull)
 
--- A run is so many sample frames of so many packets, which are whole packets of the clock: 8, or a multiple of 8.
+-- A run of `packets` packets has a whole number of clock packets' sample frames: 8 clock packets, or a multiple of 8.
+-- Without restarts nothing is asked.
 abbrev pub HasWholeRuns : CrfPlan → ℕ → ℕ → Option ℕ → Type 0
 HasWholeRuns crf rate count None = ⊤
 HasWholeRuns crf rate count (Some packets) = packets * count % (8 * spacing_of crf rate * crf.points) ≡ 0
 
--- A clock beside a stream of so many sample frames a second, with so many in a packet, and maybe with restarts.
+-- A clock beside a stream of `rate` sample frames a second, with `count` in a packet, and maybe with restarts.
 pub record IsClockPlan (crf : CrfPlan) (rate count : ℕ) (restart : Option ℕ) : Type 0 where
   pub id : crf.id < 2 ^ 64
   pub some_rate : 1 ≤ crf.rate
@@ -105,15 +109,16 @@ pub record IsClockPlan (crf : CrfPlan) (rate count : ℕ) (restart : Option ℕ)
   pub most_interval : crf.interval ≤ 65535
   pub some_points : 1 ≤ crf.points
   pub most_points : crf.points ≤ 180
-  -- its points stand at whole sample frames
+  -- its points are at whole sample frames
   pub whole : crf.interval * rate * pull_down crf.pull % (crf.rate * pull_up crf.pull) ≡ 0
   pub runs : HasWholeRuns crf rate count restart
 
+-- the plan has no clock, or one that fits the stream
 abbrev pub HasClock : Option CrfPlan → ℕ → ℕ → Option ℕ → Type 0
 HasClock None rate count restart = ⊤
 HasClock (Some crf) rate count restart = IsClockPlan crf rate count restart
 
--- Timestamps on a clock can be a few nanoseconds before nominal instants: a lead of 3 is more.
+-- With a clock the lead is at least 3 ns, since timestamps on a clock can be a few nanoseconds before nominal instants.
 abbrev pub IsAhead : Option CrfPlan → ℕ → Type 0
 IsAhead None lead = ⊤
 IsAhead (Some crf) lead = 3 ≤ lead
@@ -151,6 +156,7 @@ pub record IsVideoPlan (plan : TalkPlan) : Type 0 where
 
 -- ---- all plans
 
+-- a plan of this kind that is talked
 abbrev pub IsPlanOf : TalkKind → TalkPlan → Type 0
 IsPlanOf (Aaf format sparse) plan = IsAudioPlan plan
 IsPlanOf Am824 plan = IsAudioPlan plan
@@ -167,14 +173,16 @@ pub record IsNearLead (plan : TalkPlan) (lead : ℕ) : Type 0 where
   pub from : plan.lead * plan.rate < lead * plan.rate + 127 * (plan.count * 1000000000)
   pub to : lead * plan.rate < plan.lead * plan.rate + 127 * (plan.count * 1000000000)
 
+-- what a kind asks of the lead of a listener: that it is near the plan's, if packets may have no timestamp to be told
+-- by
 abbrev pub ExpectsBy : TalkKind → TalkPlan → ℕ → Type 0
 ExpectsBy (Aaf format false) plan lead = ⊤
 ExpectsBy (Aaf format true) plan lead = IsNearLead plan lead
 ExpectsBy Am824 plan lead = plan.count < interval_of plan.rate → IsNearLead plan lead
 ExpectsBy (H264 last_stamp) plan lead = ⊤
 
--- A listener that tells packets without a timestamp apart by when they come has to expect them when the plan sends them.
--- Where each packet is stamped, any lead will do: in PCM that is not sparse, and in AM824 where a packet has at least as
--- many data blocks as the interval.
+-- A listener that tells packets without a timestamp apart by when they arrive has to expect them when the plan sends
+-- them. If each packet is stamped, any lead will do: in PCM that is not sparse, and in AM824 if a packet has at least
+-- as many data blocks as the interval.
 abbrev pub Expects : TalkPlan → ℕ → Type 0
 Expects plan lead = ExpectsBy plan.kind plan lead

@@ -7,9 +7,11 @@ pub record Row : Type 0 where
   pub fault : TalkFault
   pub holds : Bool
 
+-- a fault, with whether it is there
 abbrev pub row : TalkFault → Bool → Row
 row fault holds = record { fault = fault; holds = holds }
 
+-- the first fault of a list that is there, if any is
 abbrev pub first_of : List Row → Option TalkFault
 first_of [] = None
 first_of (r ∷ rows) = if r.holds then Some r.fault else first_of rows

@@ -2,22 +2,22 @@
 use Rattle.std.specs.Prelude.{ℕ, ◌*◌, ◌/◌, ◌%◌, ◌==◌, Bool, List, ◌++◌, length, take, drop}
 use Rattle.std.specs.Int.{div_ceil}
 
--- the input is whole sample frames of so many bytes
+-- the input is whole sample frames of `frame` bytes
 abbrev pub is_whole : ℕ → List ℕ → Bool
 is_whole frame input = length input % frame == 0
 
--- how many packets of `count` sample frames they fill, the last one maybe in part
+-- how many packets of `count` sample frames the input fills, the last one maybe in part
 abbrev pub packets_for : ℕ → ℕ → List ℕ → ℕ
 packets_for frame count input = div_ceil (length input / frame) count
 
--- `count` sample frames from the one with this number on, as far as there are any
+-- `count` sample frames of the input from number `first` on, as far as there are any
 abbrev pub sample_frames : ℕ → ℕ → ℕ → List ℕ → List ℕ
 sample_frames frame first count input = take (count * frame) (drop (first * frame) input)
 
--- samples laid over those of a packet of silence
+-- samples, and then the rest of a packet of silence
 abbrev pub filled_up : List ℕ → List ℕ → List ℕ
 filled_up silence samples = samples ++ drop (length samples) silence
 
--- the samples of packet n
+-- the samples of packet n, with silence after the last of the input
 unfoldable pub samples_of : List ℕ → ℕ → ℕ → List ℕ → ℕ → List ℕ
 samples_of silence frame count input n = filled_up silence (sample_frames frame (n * count) count input)

@@ -1,4 +1,4 @@
--- What a talker stands for.
+-- A talker, as its contracts see it.
 use Rattle.std.specs.Prelude.{ℕ, ◌+◌, min, List, length}
 use Rattle.talker.specs.declared.plan.TalkPlan.{TalkPlan}
 use Rattle.talker.specs.Frames.{frames}
@@ -9,10 +9,10 @@ pub record Talking : Type 0 where
   pub input : List ℕ
   pub given : ℕ
 
--- one frame more was given, unless all were
+-- the talker after one more frame was given, unless all were
 abbrev pub gone_on : Talking → Talking
 gone_on t = record t { given = min (t.given + 1) (length (frames t.plan t.input)) }
 
--- the most bytes that a plan is talked of
+-- the most bytes that an input may have
 abbrev pub most_input : ℕ
 most_input = 268435456

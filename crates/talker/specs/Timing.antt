@@ -5,25 +5,27 @@
 use Rattle.std.specs.Prelude.{ℕ, ◌+◌, ◌-◌, ◌*◌, ◌/◌, ◌%◌, ◌^◌, ◌==◌, Bool, nat_abs, Option, Some, None}
 use Rattle.talker.specs.declared.plan.TalkPlan.{TalkPlan}
 
--- how long after event 0 the k-th event is at a nominal rate, rounded down
+-- how long after event 0 event k is at a nominal rate, in nanoseconds rounded down
 abbrev pub nominal_offset : ℕ → ℕ → ℕ
 nominal_offset rate k = k * 1000000000 / rate
 
 -- ---- runs
 
--- the run of packet n: without restarts there is one
+-- the run of packet n, if each has this many packets; without restarts there is one run
 abbrev pub run_by : Option ℕ → ℕ → ℕ
 run_by None n = 0
 run_by (Some packets) n = n / packets
 
+-- the run of packet n of a plan, from 0
 abbrev pub run_of : TalkPlan → ℕ → ℕ
 run_of plan n = run_by plan.restart n
 
--- the first packet of run g
+-- the first packet of run g, if each has this many packets
 abbrev pub first_by : Option ℕ → ℕ → ℕ
 first_by None g = 0
 first_by (Some packets) g = g * packets
 
+-- the first packet of run g of a plan
 abbrev pub first_packet : TalkPlan → ℕ → ℕ
 first_packet plan g = first_by plan.restart g
 
@@ -46,7 +48,7 @@ nominal_instant plan n i = run_start plan (run_of plan n) + nominal_offset plan.
 abbrev pub first_instant : TalkPlan → ℕ → ℕ
 first_instant plan n = nominal_instant plan n 0
 
--- when packet n is sent: the plan's lead before that
+-- when packet n is sent: the plan's lead before the nominal instant of its first sample frame
 abbrev pub arrival_of : TalkPlan → ℕ → ℕ
 arrival_of plan n = first_instant plan n - plan.lead
 
@@ -58,6 +60,6 @@ seq_of n = n % 256
 abbrev pub mr_of : TalkPlan → ℕ → Bool
 mr_of plan n = run_of plan n % 2 == 1
 
--- the timestamp of an instant
+-- the timestamp of an instant: its low 32 bits
 abbrev pub timestamp_of : ℕ → ℕ
 timestamp_of instant = instant % 2 ^ 32

@@ -21,26 +21,28 @@ has_other_type bytes = list_any (λ unit. not (is_single_type (type_in bytes uni
 abbrev pub most_packets : ℕ
 most_packets = 255
 
--- an access unit needs more than that: two packets of it are so many apart
+-- an access unit needs more packets than that: two packets of it are 255 apart
 abbrev pub has_long_access_unit : List ℕ → Bool
 has_long_access_unit bytes =
     list_any (λ n. access_unit_of bytes (nal_units bytes) n == access_unit_of bytes (nal_units bytes) (n + most_packets))
     (range_with_len 0 (all_packets (nal_units bytes) - most_packets))
 
--- why a byte stream is not sent, in the order in which it is tested
+-- the faults for which a byte stream is not sent, in the order in which they are tested
 abbrev pub unit_faults : List ℕ → List Row
 unit_faults bytes =
     row StartCode (not (has_start_code bytes)) ∷
     row NalType (has_other_type bytes) ∷
     row Packets (has_long_access_unit bytes) ∷ []
 
+-- the first fault of a byte stream, if there is one
 unfoldable pub units_fault : List ℕ → Option TalkFault
 units_fault bytes = first_of (unit_faults bytes)
 
--- of a stream with a fault none are sent
+-- the NAL units that are sent of a byte stream: all if it has no fault, else none
 abbrev pub units_by : Option TalkFault → List ℕ → List (ℕ × ℕ)
 units_by None bytes = nal_units bytes
 units_by (Some fault) bytes = []
 
+-- the NAL units that are sent of a byte stream, which are none if it has a fault
 unfoldable pub sent_units : List ℕ → List (ℕ × ℕ)
 sent_units bytes = units_by (units_fault bytes) bytes

@@ -15,27 +15,31 @@ use Rattle.talker.specs.Units.{sent_units}
 
 -- ---- time
 
--- the instant of an access unit
+-- the instant of access unit a
 unfoldable pub access_instant : TalkPlan → ℕ → ℕ
 access_instant plan a = nat_abs plan.start + plan.lead + nominal_offset plan.rate a
 
--- when packet n is due, and when it is sent: the plan's lead before that
+-- when packet n is due: at the instant of its access unit
 abbrev pub video_due : TalkPlan → List ℕ → List (ℕ × ℕ) → ℕ → ℕ
 video_due plan bytes units n = access_instant plan (access_unit_of bytes units n)
 
+-- when packet n is sent: the plan's lead before it is due
 abbrev pub video_arrival : TalkPlan → List ℕ → List (ℕ × ℕ) → ℕ → ℕ
 video_arrival plan bytes units n = video_due plan bytes units n - plan.lead
 
--- Each packet is stamped with the instant of its access unit, or those alone that end a NAL unit.
+-- The stamp of a packet with this part of a NAL unit: the instant of its access unit; or none, if only packets that end
+-- a NAL unit are stamped and this one does not.
 abbrev pub stamp_by : Bool → NalPart → ℕ → Option ℕ
 stamp_by last_stamp part instant = if last_stamp && not (completes part) then None else Some instant
 
+-- the instant with which packet n is stamped, if it is
 abbrev pub video_stamp : Bool → TalkPlan → List ℕ → List (ℕ × ℕ) → ℕ → Option ℕ
 video_stamp last_stamp plan bytes units n = stamp_by last_stamp (part_at units (place_of units n)) (video_due plan bytes units n)
 
 -- ---- packets
 
--- packet n, which carries this part of a unit, whose first byte is `nal`, and of the others `body`
+-- packet n, which carries this part of a NAL unit: `nal` is the first byte of the unit, and `body` what the packet has
+-- of the others
 abbrev pub cvf_by : NalPart → Option ℕ → TalkPlan → ℕ → Bool → ℕ → ℕ → List ℕ → Cvf
 cvf_by part stamp plan n marker instant nal body = record {
   header = header_of cvf_subtype stamp plan n (header_size part - 24 + length body);
@@ -49,18 +53,20 @@ cvf_by part stamp plan n marker instant nal body = record {
   reserved = false;
 }
 
+-- packet n of these units of a byte stream
 abbrev pub cvf_packet : Bool → TalkPlan → List ℕ → List (ℕ × ℕ) → ℕ → Cvf
 cvf_packet last_stamp plan bytes units n =
     let place = place_of units n in
     cvf_by (part_at units place) (video_stamp last_stamp plan bytes units n) plan n (ends_access_unit bytes units n)
     (video_due plan bytes units n) (nal_in bytes (unit_at units place.unit)) (body_at bytes units place)
 
--- packet n of a byte stream
+-- packet n of what is sent of a byte stream
 abbrev pub sent_packet : Bool → TalkPlan → List ℕ → ℕ → Cvf
 sent_packet last_stamp plan bytes n = cvf_packet last_stamp plan bytes (sent_units bytes) n
 
 -- ---- the journal's times
 
+-- the times of the packets of these units
 abbrev pub video_times : Bool → TalkPlan → List ℕ → List (ℕ × ℕ) → Journal
 video_times last_stamp plan bytes units = record {
   kind = H264 (λ n. part_of (part_at units (place_of units n)));
