@@ -15,7 +15,7 @@ use std::io::ErrorKind;
 use std::process::ExitCode;
 use std::thread::Threads;
 
-/// Does what the words behind the program's name ask for, and answers the exit status.
+/// Does what the words after the program's name ask for, and answers the exit status.
 pub fn run_program<T: Threads + Sync>(rt: &HostRuntime, threads: &T) -> ExitCode
     ensures { (ended : Status) × (exit_status result ≡ code_of ended) }
 {
@@ -23,7 +23,7 @@ pub fn run_program<T: Threads + Sync>(rt: &HostRuntime, threads: &T) -> ExitCode
     ExitCode::from(status.code())
 }
 
-/// Does what the words behind the program's name ask for.
+/// Does what the words after the program's name ask for.
 fn status_of_words<T: Threads + Sync>(rt: &HostRuntime, threads: &T) -> Status {
     match words_of(rt) {
         Ok(words) => run_words(rt, threads, &words).unwrap_or(Status::Memory),
@@ -62,7 +62,7 @@ fn run_words<T: Threads + Sync>(
     ))
 }
 
-/// The file whose name stands at this place of the words.
+/// The file whose name is at this place of the words.
 fn file_named(
     rt: &HostRuntime,
     words: &[String],
@@ -72,7 +72,7 @@ fn file_named(
     Ok(FileSink::named(*rt, String::from_str(rt.alloc(), name)?))
 }
 
-/// Gives a device a place behind the others.
+/// Gives a device a place after the others.
 fn add_device(places: &mut Vec<Place>, device: Box<dyn Device + Send>) -> Result<(), NoMemory>
     requires few { length places.old.items ≤ 1 }
     requires live { All (λ place. place.live ≡ true) places.old.items }
@@ -83,7 +83,7 @@ fn add_device(places: &mut Vec<Place>, device: Box<dyn Device + Send>) -> Result
     Ok(())
 }
 
-/// The words behind the program's name. Words that are no text are a faulty command line.
+/// The words after the program's name. Words that are no text are a faulty command line.
 fn words_of(rt: &HostRuntime) -> Result<Vec<String>, Status> {
     let arguments = match env::args(rt) {
         Ok(arguments) => arguments,

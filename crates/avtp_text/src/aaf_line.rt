@@ -14,7 +14,7 @@ use aaf_format::{AafFormat, AafView, rate_of};
 /// No end of a line has more bytes.
 const LONGEST_END: usize = 138;
 
-/// What the line of an AAF packet shows behind its timestamp. It seldom differs from packet to packet.
+/// What the line of an AAF packet shows after its timestamp. It seldom differs from packet to packet.
 #[derive(Clone, Copy, PartialEq, Eq)]
 struct AafEnd {
     tv: bool,
@@ -115,8 +115,8 @@ fn prepend_start(line: &mut Line, id: &IdText, view: &AafView<'_>)
     line.prepend("aaf ");
 }
 
-/// The line of an AAF packet. Where that of the next one has the same end, only what stands before it is written, and where it
-/// is of the same stream, the text of the stream's id is copied.
+/// The line of an AAF packet. Its end is kept for the next packet, which mostly has it too: then only what comes before
+/// the end is written. If the next packet is of this stream too, the text of the stream's id is copied.
 #[derive(Drop)]
 pub struct AafLine {
     line: Line,

@@ -21,9 +21,9 @@ pub const ROOM: usize = Buffer::ROOM;
 /// Text that waits to be written to a sink, which contracts see as the list of its bytes: at most 65,536, for which
 /// the memory is reserved once.
 ///
-/// Each call that may write is given the sink. What the sink holds and then what waits is all that was written so
-/// far: a call adds its whole line to that, or where the sink fails nothing. No text is lost or written twice, so after
-/// a failure the same call may be made again.
+/// Each call that may write is given the sink. What the sink holds and then what waits is all that was written so far:
+/// a call adds its whole line to that, or if the sink fails nothing. No text is lost or written twice, so after a
+/// failure the call may be made again.
 #[derive(Drop)]
 pub struct Text {
     pub(crate) buffer: Buffer,
@@ -58,7 +58,7 @@ fn write_out<S: Output>(out: &mut S, bytes: &[u8]) -> usize
     taken
 }
 
-/// Writes all that waits to the sink. Where the sink fails, what it has not taken still waits.
+/// Writes all that waits to the sink. If the sink fails, what it has not taken still waits.
 #[tactic(auto, using(crate::proofs::Moved::written_moved, crate::proofs::Growth::grows_by))]
 #[inline(never)]
 fn flush<S: Output>(buffer: &mut Buffer, out: &mut S) -> Result<(), Failed>
@@ -76,7 +76,7 @@ fn flush<S: Output>(buffer: &mut Buffer, out: &mut S) -> Result<(), Failed>
     Ok(())
 }
 
-/// Makes room for a piece of so many bytes.
+/// Makes room for a piece of this many bytes.
 #[tactic(auto, using(crate::proofs::Growth::grows_none))]
 #[inline(always)]
 pub(crate) fn make_room<S: Output>(
@@ -109,7 +109,7 @@ impl Text {
         })
     }
 
-    /// Writes all that waits to the sink. Where the sink fails, what it has not taken still waits.
+    /// Writes all that waits to the sink. If the sink fails, what it has not taken still waits.
     pub fn flush<S: Output>(&mut self, out: &mut S) -> Result<(), Failed>
         ensures written { Keeps (written (S.state out.old).held self.old) (written (S.state out.new).held self.new) }
         ensures none_waits { OnOk result (self.new ≡ []) }
@@ -119,7 +119,7 @@ impl Text {
         flush(&mut self.buffer, out)
     }
 
-    /// Makes room for a piece of so many bytes.
+    /// Makes room for a piece of this many bytes.
     #[inline(always)]
     pub(crate) fn make_room<S: Output>(&mut self, out: &mut S, len: usize) -> Result<(), Failed>
         requires { len ≤ ROOM }
@@ -150,7 +150,7 @@ impl Text {
         self.buffer.push(self.aaf.as_slice());
     }
 
-    /// Adds a piece of text of at most [`ROOM`] bytes, whole, or nothing where the sink fails.
+    /// Adds a piece of text of at most [`ROOM`] bytes, whole, or nothing if the sink fails.
     #[inline(always)]
     pub fn print<S: Output>(&mut self, out: &mut S, piece: &[u8]) -> Result<(), Failed>
         requires { length piece.now ≤ ROOM }

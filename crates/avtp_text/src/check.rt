@@ -39,7 +39,7 @@ fn prepend_packet(line: &mut Line, number: u64, id: u64)
 }
 
 impl Text {
-    /// Adds a finding in a packet, where it is made. There is room for it.
+    /// Adds a finding in a packet, if it is made. There is room for it.
     fn push_found(&mut self, number: u64, id: u64, is_found: bool, name: &str)
         requires short { length name.now ≤ 8 }
         requires room { length self.old + FINDING ≤ ROOM }
@@ -54,7 +54,7 @@ impl Text {
         }
     }
 
-    /// Adds a finding that has a number in the same way.
+    /// Adds a finding in a packet with its number, if it is made. There is room for it.
     fn push_counted(&mut self, number: u64, id: u64, count: Option<u32>, label: &str)
         requires short { length label.now ≤ 8 }
         requires room { length self.old + FINDING ≤ ROOM }
@@ -113,7 +113,8 @@ impl Text {
         self.print(out, line.as_slice())
     }
 
-    /// Says that a capture ended after so many records, how many streams of it are tracked, and how many findings it has.
+    /// Says that a capture ended after `frames` records, how many streams of it are tracked, and how many findings it
+    /// has.
     #[tactic(auto, unfolding(crate::specs::Check::end_check_line))]
     pub fn end_check<S: Output>(
         &mut self,

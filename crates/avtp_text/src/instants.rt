@@ -59,7 +59,7 @@ impl Instant {
         }
     }
 
-    /// Goes on to that of the next sample, or the first one behind the batch's.
+    /// Goes on to that of the next sample, or the first one after the batch's.
     #[inline(always)]
     pub fn next(&mut self, batch: &Batch)
         requires inside { self.old.j < batch.now.count }

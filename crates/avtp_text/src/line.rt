@@ -64,7 +64,7 @@ impl Line {
         self.start = LONGEST - 1;
     }
 
-    /// Leaves so many bytes, the line's last ones.
+    /// Keeps the last `len` bytes of the line.
     #[inline(always)]
     pub fn keep_last(&mut self, len: usize)
         requires { len ≤ length self.old }
@@ -102,7 +102,7 @@ impl Line {
         self.start = start;
     }
 
-    /// Puts a text before the line. It is written fastest where the compiler knows it, as a label.
+    /// Puts a text before the line. It is written fastest if the compiler knows it, as a label.
     #[inline(always)]
     pub fn prepend(&mut self, piece: &str)
         requires { length piece.now + length self.old ≤ LONGEST }
@@ -147,7 +147,7 @@ impl Line {
         self.prepend(label);
     }
 
-    /// Puts a label and a number before the line, in decimal, with a minus sign where it is negative.
+    /// Puts a label and a number before the line, in decimal, with a minus sign if it is negative.
     #[tactic(auto, using(crate::proofs::Digits::digits_of_u64))]
     #[inline(always)]
     pub fn prepend_i64(&mut self, label: &str, number: i64)

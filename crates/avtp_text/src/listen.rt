@@ -129,7 +129,7 @@ fn short_samples<S: Output>(
 }
 
 impl Text {
-    /// Adds a text of any length. Where the sink fails, a front of it was added.
+    /// Adds a text of any length. If the sink fails, a front of it was added.
     #[tactic(auto, using(crate::proofs::Printing::part_of))]
     fn print_all<S: Output>(&mut self, out: &mut S, text: &[u8]) -> Result<(), Failed>
         ensures { PrintsPart (S.state out.old) (S.state out.new) self.old self.new result text.now }

@@ -39,7 +39,7 @@ impl Text {
         self.print(out, b"device fault\n")
     }
 
-    /// Says that a file has more than so many bytes.
+    /// Says that a file has more than `bytes` bytes.
     #[tactic(auto, unfolding(crate::specs::Notices::limit_line))]
     pub fn limit<S: Output>(&mut self, out: &mut S, bytes: u64) -> Result<(), Failed>
         ensures { Prints (S.state out.old) (S.state out.new) self.old self.new result (limit_line bytes) }
@@ -49,7 +49,7 @@ impl Text {
         self.print(out, line.as_slice())
     }
 
-    /// Says which word of the command line, counted from 1, is the first that cannot stand at its place.
+    /// Says which word of the command line, counted from 1, is the first that is wrong.
     #[tactic(auto, unfolding(crate::specs::Notices::words_line))]
     pub fn words<S: Output>(&mut self, out: &mut S, place: u64) -> Result<(), Failed>
         ensures { Prints (S.state out.old) (S.state out.new) self.old self.new result (words_line place) }

@@ -1,4 +1,4 @@
-//! Pieces that are written over a text, so many bytes before its end.
+//! Pieces that are written over a text, at a distance from its end.
 
 ghost use Rattle.std.specs.Prelude.{◌≡◌, ◌+◌, ◌*◌, ◌<◌, ◌≤◌, length, decimal};
 ghost use Rattle.hex.specs.Hex.{encode_lower};

@@ -88,8 +88,8 @@ pub fn write_hex(bytes: &[u8], out: &mut [u8])
     }
 }
 
-/// Writes a piece of text. Where its length is known to the compiler, these are moves of words, while a copy would first be
-/// tested for an overlap.
+/// Writes a piece of text. If its length is known to the compiler, these are moves of words, while a copy would first
+/// be tested for an overlap.
 #[inline(always)]
 pub fn write_bytes(piece: &[u8], out: &mut [u8])
     requires { length out.old ≡ length piece.now }

@@ -1,4 +1,4 @@
-//! The line of a sample, of which those of the next ones are made.
+//! The line of a sample, from which those of the next ones are made.
 
 ghost use Rattle.std.specs.Prelude.{◌≡◌, ◌+◌, ◌^◌, ◌<◌, ◌≤◌, ℕ, ◌++◌, length, decimal, IfSome, IsTrue};
 ghost use Rattle.hex.specs.Hex.{encode_lower};
@@ -15,10 +15,10 @@ use std::marker::Model;
 /// The most bytes of a sample with which its line fits a [`Line`]: 64.
 pub const SHORT: usize = 64;
 
-/// So many instants have the same digits but for the last eight.
+/// This many instants have equal digits but for the last eight: a tenth of a second.
 const INSTANTS: i64 = 100_000_000;
 
-/// So many bytes of a line are kept.
+/// At most this many bytes of a line are kept; a longer line is made anew for each sample.
 const KEPT: usize = 128;
 
 /// Puts before the line which sample of which packet it is.
@@ -59,7 +59,7 @@ impl Numbers {
     }
 }
 
-/// The first instant that has the digits of this one but for its last eight, where it has so many.
+/// The first instant that has the digits of this one but for its last eight, if it has more than eight.
 fn start_of(instant: i64) -> Option<i64>
     ensures { IfSome result (StartsAt instant) }
 {
@@ -70,7 +70,8 @@ fn start_of(instant: i64) -> Option<i64>
     Some((high * INSTANTS as u64) as i64)
 }
 
-/// How many bytes of a line stand behind the instant, behind the digits of the frame, and behind those of the sequence number.
+/// How many bytes of a line come after the instant, after the digits of the frame, and after those of the sequence
+/// number.
 #[derive(Clone, Copy)]
 struct Behind {
     instant: usize,
@@ -105,7 +106,8 @@ fn whole_line(instant: i64, frame: u64, seq: u8, j: u32, bytes: &[u8]) -> (Line,
     (line, behind)
 }
 
-/// The last eight digits of an instant, where these, the sample's number and its bytes may be written over those of a line.
+/// The last eight digits of an instant, if these, the sample's number and its bytes may be written over those of a
+/// line.
 #[inline(always)]
 fn low_of(from: i64, numbers: Numbers, instant: i64, j: u32) -> Option<u32>
     ensures { IfSome result (λ low. Fits from numbers instant j low) }
@@ -124,16 +126,16 @@ fn low_of(from: i64, numbers: Numbers, instant: i64, j: u32) -> Option<u32>
     Some(low as u32)
 }
 
-/// A line that is kept for others, where it is short enough.
+/// A line that is kept for others, if it is short enough.
 #[derive(Clone, Copy)]
 struct KeptLine {
-    /// The line's bytes, and any behind them: all of these are copied, which takes no call.
+    /// The line's bytes, and any after them: all of these are copied, which takes no call.
     bytes: [u8; KEPT],
     len: usize,
     behind: Behind,
     /// The first instant whose digits are the line's but for the last eight.
     from: i64,
-    /// The numbers of samples that have as many digits as the line's, or none where no line is kept.
+    /// The numbers of samples that have as many digits as the line's, or none if no line is kept.
     numbers: Numbers,
 }
 
@@ -154,8 +156,9 @@ impl KeptLine {
     }
 }
 
-/// The line of a sample, which contracts see as the packet whose samples it is for. Where that of another sample differs from it
-/// only in the instant's last eight digits, the sample's number and its bytes, these alone are written, over those of a copy.
+/// The line of a sample, which contracts see as the packet whose samples it is for. If that of another sample differs
+/// from it only in the instant's last eight digits, the sample's number and its bytes, these alone are written, over
+/// those of a copy. It is made anew when the number gains a digit or the instant's other digits change.
 #[derive(Drop)]
 pub struct SampleLine {
     line: KeptLine,
@@ -199,7 +202,7 @@ impl SampleLine {
         }
     }
 
-    /// Goes on to another packet. The line stays, where only digits have to be written over.
+    /// Goes on to another packet. The line stays, if only digits have to be written over.
     pub fn turn_to(&mut self, frame: u64, seq: u8, size: usize)
         ensures { self.new ≡ seen_as frame seq size }
     {
@@ -211,7 +214,7 @@ impl SampleLine {
         self.size = size;
     }
 
-    /// Adds the line of a sample to a buffer, which has room for a line, and keeps it where it is short enough.
+    /// Adds the line of a sample to a buffer, which has room for a line, and keeps it if it is short enough.
     #[inline(never)]
     fn add_anew(&mut self, buffer: &mut Buffer, instant: i64, j: u32, bytes: &[u8])
         requires short { length bytes.now ≤ SHORT }

@@ -198,7 +198,7 @@ impl Text {
         self.print(out, line.as_slice())
     }
 
-    /// Says what an AAF packet holds. The rate is in Hz, and 0 where only the user knows it.
+    /// Says what an AAF packet holds. The rate is in Hz, and 0 if only the user knows it.
     pub fn frame_aaf<S: Output>(
         &mut self,
         out: &mut S,
@@ -262,7 +262,7 @@ impl Text {
         self.print(out, line.as_slice())
     }
 
-    /// Says that a capture ended after so many records.
+    /// Says that a capture ended after `frames` records.
     #[tactic(auto, unfolding(crate::specs::Show::end_frames_line))]
     pub fn end_frames<S: Output>(&mut self, out: &mut S, frames: u64) -> Result<(), Failed>
         ensures { Prints (S.state out.old) (S.state out.new) self.old self.new result (end_frames_line frames) }

@@ -9,7 +9,7 @@ use avtp_base::{Failed, Sink};
 use soak_run::SoakCounts;
 
 impl Text {
-    /// Says what became of the deliveries of so many packets.
+    /// Says what became of the deliveries of `packets` packets.
     #[tactic(auto, unfolding(crate::specs::Soak::soak_line))]
     pub fn soak<S: Sink>(
         &mut self,

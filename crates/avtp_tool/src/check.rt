@@ -27,7 +27,8 @@ pub struct Total {
     pub end: End,
 }
 
-/// Prints a capture's name, what is found in it, and its numbers. At most `limit` bytes of it are read.
+/// Prints a capture's name, what is found in it, and its numbers. At most `limit` bytes of it are read. All memory is
+/// taken before the first line, so nothing is printed if none is found.
 pub fn check<F: Shelf, S: Sink>(
     alloc: Global,
     limit: u64,
@@ -86,7 +87,8 @@ fn check_records<F: Shelf, S: Sink>(
     }
 }
 
-/// Notes the packet of a record, and prints a line for each finding in it. Answers how many they are.
+/// Notes the packet of a record, and prints a line for each finding in it, all of them or none if the sink fails.
+/// Answers how many they are.
 fn print_checked<S: Sink>(
     tracker: &mut Tracker,
     text: &mut Text,

@@ -22,7 +22,7 @@ pub enum Checked {
     Malformed(Refusal),
     /// A packet whose stream id is not valid.
     Unmarked {
-        /// The stream id all the same.
+        /// The stream id that it has even so.
         id: u64,
         /// A reserved bit is set.
         reserved: bool,

@@ -56,7 +56,7 @@ pub fn run<T: Threads + Sync, F: Shelf, S: Sink, G: Gate, D: Devices + Send>(
         (came : List (List ℕ)) × (yields : Yield) × Outcome request files (Rose (F.state shelf.old).reading_faults (F.state shelf.new).reading_faults) (nat_lt (D.failures rack.old) (D.failures rack.new)) came result yields
         × Appends (S.state out.old).held (S.state out.new).held yields.text × HandsOn D.handed rack.old rack.new yields.items × Asks came (F.state shelf.old) (F.state shelf.new) }
 
-    // Where no fault of reading comes, that is the whole report.
+    // If no fault of reading comes, that is the whole report.
     ensures complete { result ≢ Status.Memory → result ≢ Status.WriteFault → (request : Request) (files : Files) →
         IsCommandLine (texts words.now) request → (F.state shelf.old).files ≡ Some files → IsSome (F.state shelf.new).files →
         IsQuiet (F.state shelf.old).reading_faults (F.state shelf.new).reading_faults →
@@ -73,7 +73,7 @@ pub fn run<T: Threads + Sync, F: Shelf, S: Sink, G: Gate, D: Devices + Send>(
         length bytes ≤ asked.limit → HearsTalker shift p (plan_of asked) (records_in bytes) →
         (yields : Yield) × HasHeadline asked name shift p bytes yields × Appends (S.state out.old).held (S.state out.new).held yields.text × HandsOn D.handed rack.old rack.new yields.items }
 
-    // Words that are no command line are told by the first that cannot stand.
+    // Words that are no command line are told by the first that is wrong.
     ensures words { result ≢ Status.Memory → result ≢ Status.WriteFault → (position : ℕ) → IsOffence (texts words.now) position →
         (result ≡ Status.Words) × Appends (S.state out.old).held (S.state out.new).held (words_line position) }
     ensures only_words { result ≡ Status.Words → (position : ℕ) × IsOffence (texts words.now) position }
@@ -91,8 +91,8 @@ pub fn run<T: Threads + Sync, F: Shelf, S: Sink, G: Gate, D: Devices + Send>(
         IsQuiet (F.state shelf.old).reading_faults (F.state shelf.new).reading_faults → AppendsPrefix (S.state out.old).held (S.state out.new).held (yield_for request files (nat_lt (D.failures rack.old) (D.failures rack.new))).text }
     ensures part_words { (position : ℕ) → IsOffence (texts words.now) position → AppendsPrefix (S.state out.old).held (S.state out.new).held (words_line position) }
 
-    // A run ends with a device's fault exactly where it listened, all else was done, and a device failed in it; and no other command
-    // touches the devices.
+    // A run ends with a device's fault exactly if it listened, all else was done, and a device failed in it; and no
+    // other command touches the devices.
     ensures device_fault { result ≡ Status.DeviceFault → ((asked : Listening) × IsCommandLine (texts words.now) (listen_request asked)) × (nat_lt (D.failures rack.old) (D.failures rack.new) ≡ true) }
     ensures no_device_fault { result ≡ Status.Done → (asked : Listening) → IsCommandLine (texts words.now) (listen_request asked) → nat_lt (D.failures rack.old) (D.failures rack.new) ≡ false }
     ensures devices_kept { (request : Request) → IsCommandLine (texts words.now) request → is_listening request ≡ false → rack.new ≡ rack.old }
@@ -105,8 +105,8 @@ pub fn run<T: Threads + Sync, F: Shelf, S: Sink, G: Gate, D: Devices + Send>(
     ensures no_write_fault { result ≢ Status.WriteFault → (S.state out.new).faults ≡ (S.state out.old).faults }
     ensures no_file_fault { result ≢ Status.WriteFault → (F.state shelf.new).writing_faults ≡ (F.state shelf.old).writing_faults }
 
-    // Where all was done, the file that `talk` writes has the capture of its input; else it is as it was, or has a prefix of
-    // that.
+    // If all was done, the file that `talk` writes has the capture of its input; else it is as it was, or has a prefix
+    // of that.
     ensures made { result ≡ Status.Done → (asked : Talking) (files : Files) (bytes : List ℕ) →
         IsCommandLine (texts words.now) (talk_request asked) → (F.state shelf.old).files ≡ Some files → files asked.input ≡ Some bytes →
         PutsFile (F.state shelf.old).files (F.state shelf.new).files asked.output (capture (talk_plan asked) bytes) }
@@ -117,7 +117,7 @@ pub fn run<T: Threads + Sync, F: Shelf, S: Sink, G: Gate, D: Devices + Send>(
         KeepsFiles (F.state shelf.old).files (F.state shelf.new).files }
     ensures untouched { result ≢ Status.Done → result ≢ Status.WriteFault → result ≢ Status.Memory → KeepsFiles (F.state shelf.old).files (F.state shelf.new).files }
 
-    // No name but those of the words is asked for, and these in their order: all of them where all was done.
+    // No name but those of the words is asked for, and these in their order: all of them if all was done.
     ensures asks { (request : Request) → IsCommandLine (texts words.now) request → AsksFor (names_of request) (F.state shelf.old) (F.state shelf.new) (is_through result ≡ true) }
 
     // Every other file is as it was, and each that was opened is closed.
@@ -137,7 +137,7 @@ pub fn run<T: Threads + Sync, F: Shelf, S: Sink, G: Gate, D: Devices + Send>(
     finish(&mut text, out, ended)
 }
 
-/// Does what the words ask for, or says which of them cannot stand.
+/// Does what the words ask for, or says which of them is wrong.
 fn execute<T: Threads + Sync, F: Shelf, S: Sink, G: Gate, D: Devices + Send>(
     rt: &T,
     alloc: Global,
@@ -175,7 +175,7 @@ fn execute<T: Threads + Sync, F: Shelf, S: Sink, G: Gate, D: Devices + Send>(
     }
 }
 
-/// Says which word is the first that cannot stand at its place.
+/// Says which word is the first that is wrong.
 fn print_offence<S: Sink>(text: &mut Text, out: &mut S, position: u64) -> Result<Status, Failed>
     ensures { EndsWith Status.Words (S.state out.old) (S.state out.new) text.old text.new result (words_line position) }
 {
@@ -191,7 +191,7 @@ pub fn print_fault<S: Sink>(text: &mut Text, out: &mut S) -> Result<Status, Fail
     Ok(Status::ReadFault)
 }
 
-/// Says that a file could not be opened, where that is for want of memory by the status alone.
+/// Says that a file could not be opened; if that is for want of memory, by the status alone.
 pub fn print_unopened<S: Sink>(
     text: &mut Text,
     out: &mut S,

@@ -8,10 +8,11 @@ ghost use Rattle.avtp_tool.specs.DeviceWords.{devices_of, silence_as};
 use avtp_words::{Command, Listen, parse};
 use device_rack::Silence;
 
-/// A device, and the place among the words, from 0, of the name of the file that it writes.
+/// A device, and the place among the words, from 0, of the name of the file that it writes, so that a device is made
+/// without reading the words a second time in another way.
 #[derive(Clone, Copy, Debug, PartialEq, Eq)]
 pub enum DeviceWord {
-    /// Raw audio, with such silence where packets are missing.
+    /// Raw audio, with this silence for missing packets.
     Raw { word: usize, silence: Silence },
     /// H.264 units as a byte stream.
     AnnexB { word: usize },
@@ -19,7 +20,7 @@ pub enum DeviceWord {
 
 /// The device of this number that the words ask for, from 0, with raw audio before a byte stream.
 ///
-/// `None` comes exactly where the words are no command line of `listen`, or ask for no such device.
+/// `None` comes exactly if the words are no command line of `listen`, or ask for no such device.
 pub fn device_word(words: &[String], n: u32) -> Option<DeviceWord>
     ensures found { (asked : Listening) → IsCommandLine (texts words.now) (listen_request asked) → result ≡ slice_get (devices_of asked) n }
     ensures only { IfSome result (λ device. (asked : Listening) × IsCommandLine (texts words.now) (listen_request asked)) }
@@ -33,7 +34,7 @@ pub fn device_word(words: &[String], n: u32) -> Option<DeviceWord>
     }
 }
 
-/// The same of what was asked for.
+/// The device of this number that was asked for, from 0.
 fn device_of(asked: &Listen<'_>, n: u32) -> Option<DeviceWord>
     ensures { result ≡ slice_get (devices_of (listening_of asked.now)) n }
 {

@@ -10,7 +10,7 @@ use listener::{Counts, RecordListener};
 use presenter_ring::Pull;
 use std::alloc::Global;
 
-/// Where the hearing of a capture stands.
+/// How far the hearing of a capture has come.
 #[derive(Clone, Copy, Debug, PartialEq, Eq)]
 pub enum Stage {
     /// Records are read, and what is due of them is shown.
@@ -44,7 +44,7 @@ fn pull_of(end: End) -> Pull
     }
 }
 
-/// Closes the listener where all is shown of a capture whose reading ended so, and not only what was due.
+/// Closes the listener if all is shown of a capture whose reading ended so, and not only what was due.
 fn close_at(listener: &mut RecordListener, end: End)
     requires { (is_closed listener.old ≡ false) × IsIdle listener.old }
     ensures { ClosesAt end listener.old listener.new }
@@ -66,7 +66,7 @@ pub struct Hearing {
 }
 
 impl Hearing {
-    /// The next item that is shown, or where there is none how the hearing ended.
+    /// The next item that is shown, or if there is none how the hearing ended.
     pub fn next<F: ReadSlots>(&mut self, shelf: &mut F) -> Pull
         requires { IsGoing (F.state shelf.old).slots self.old.source self.old.stage }
         ensures { GivesPull (F.state shelf.old) (F.state shelf.new) self.old.source self.new.source self.old.listener self.new.listener self.old.stage self.new.stage result }

@@ -44,8 +44,9 @@ fn plan(asked: &Listen<'_>) -> ListenPlan
     }
 }
 
-/// Prints of a capture what of the stream is presented, at which instants, and why the rest is not, each as soon as it is due.
-/// One thread reads and judges; another writes, and hands each item on once its text is written.
+/// Prints of a capture what of the stream is presented, at which instants, and why the rest is not, each as soon as it
+/// is due. One thread reads and judges; another writes, and hands each item on once its text is written. Memory is
+/// taken for each packet, so if none is found, what was due before is printed.
 pub fn listen<T: Threads + Sync, F: Shelf, S: Sink, G: Gate, D: Devices + Send>(
     rt: &T,
     alloc: Global,

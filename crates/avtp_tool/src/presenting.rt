@@ -11,8 +11,9 @@ use device_rack::Devices;
 use presenter_ring::Presenter;
 use sample_schedule::Shown;
 
-/// The text of what is shown, the sink that it goes to, and the rack that is handed each item once its text was written. Once
-/// the sink has failed, no more is written, and none is handed on.
+/// The text of what is shown, the sink that it goes to, and the rack that is handed each item once its text was
+/// written. Once the sink has failed, further items are neither written nor handed on, so no text ever comes after a
+/// gap.
 #[derive(Drop)]
 pub struct Presenting<'a, S: Sink, D: Devices + Send> {
     pub text: &'a mut Text,

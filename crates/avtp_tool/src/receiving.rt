@@ -21,7 +21,8 @@ impl<'a, F: Shelf> Receiver for Receiving<'a, F> {
 
     ghost left = { λ receiving. left_of receiving.hearing.now.stage receiving.hearing.now.source receiving.hearing.now.listener };
 
-    // One whose file is not open cannot go on: it counts as ended by a fault of reading.
+    // One whose file is not open cannot go on: it counts as ended by a fault of reading. That its file is open is no
+    // fact that a struct with a borrow can keep.
     ghost ended = { λ receiving. ended_at ((F.state receiving.shelf.now).slots (slot_of receiving.hearing.now.source)) receiving.hearing.now.stage };
 
     fn next(&mut self) -> Pull {

@@ -23,7 +23,8 @@ pub struct Printed {
     pub end: End,
 }
 
-/// Prints a line for each record of a capture, and a line for its end. At most `limit` bytes of it are read.
+/// Prints a line for each record of a capture, and a line for its end. At most `limit` bytes of it are read. All memory
+/// is taken before the first line, so nothing is printed if none is found.
 pub fn show<F: Shelf, S: Sink>(
     alloc: Global,
     limit: u64,

@@ -13,8 +13,8 @@ use soak_run::SoakCounts;
 use std::alloc::Global;
 use std::thread::Threads;
 
-/// Sends so many packets over a network that loses, repeats and delays them, and prints what a listener makes of those that
-/// arrive. One thread hears, and another counts.
+/// Sends a number of packets over a network that loses, repeats and delays them, and prints what a listener makes of
+/// those that arrive. One thread hears, and another counts.
 pub fn soak<T: Threads + Sync, S: Sink>(
     rt: &T,
     alloc: Global,
@@ -31,7 +31,7 @@ pub fn soak<T: Threads + Sync, S: Sink>(
     }
 }
 
-/// Prints what became of the deliveries of so many packets.
+/// Prints what became of the deliveries of this many packets.
 fn print_counts<S: Sink>(
     text: &mut Text,
     out: &mut S,

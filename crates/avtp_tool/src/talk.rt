@@ -97,7 +97,7 @@ pub fn talk<F: Shelf, S: Sink>(
     }
 }
 
-/// Makes the capture of an input's contents, where it was read whole.
+/// Makes the capture of an input's contents, if it was read whole.
 fn talk_contents<F: Shelf, S: Sink>(
     alloc: Global,
     plan: TalkPlan,
@@ -151,9 +151,10 @@ fn unmade(fault: OpenFault) -> Status
     }
 }
 
-/// Makes a file, or empties it, and writes the capture of all frames of a talker.
+/// Makes a file, or empties it, and writes the capture of all frames of a talker. All memory is taken before the file
+/// is made. If it cannot be made or written nothing is printed, since the line of `talk` says what was made.
 ///
-/// `Failed` comes only where the writing count rose; the file then is as it was, or has a prefix of the capture. `Memory`
+/// `Failed` comes only if the writing count rose; the file then is as it was, or has a prefix of the capture. `Memory`
 /// leaves it as it was, and `Missing` never comes.
 fn make_capture<F: Shelf>(
     alloc: Global,
@@ -210,7 +211,7 @@ fn print_sent<S: Sink>(
     Ok(Status::Done)
 }
 
-/// Says why the input makes no stream, where that is for want of memory by the status alone.
+/// Says why the input makes no stream; if that is for want of memory, by the status alone.
 fn print_talk_fault<S: Sink>(
     text: &mut Text,
     out: &mut S,

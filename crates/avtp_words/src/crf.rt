@@ -13,8 +13,8 @@ use crate::limits::{
 use crate::value::{byte_after, id_if, short_number_after, small_number_after};
 use clock_track::{pull_down, pull_up};
 
-/// A media clock beside a stream (IEEE 1722-2016, 10). Its points stand at whole sample frames of the stream, and where the
-/// stream restarts each run of it is a multiple of 8 whole packets of the clock.
+/// A media clock beside a stream (IEEE 1722-2016, 10). Its points are at whole sample frames of the stream, and if the
+/// stream restarts, each run of it is a multiple of 8 whole packets of the clock.
 #[derive(Clone, Copy, Debug, PartialEq, Eq)]
 pub struct Crf {
     /// The stream ID of the clock.
@@ -29,7 +29,7 @@ pub struct Crf {
     pub points: u8,
 }
 
-/// The clock that options ask for beside a stream of so many sample frames a second.
+/// The clock that options ask for beside a stream of `rate` sample frames a second.
 pub fn crf_after(options: &[String], rate: u32) -> Option<Crf>
     ensures { IsReadClock (texts options.now) rate result }
 {
@@ -43,7 +43,7 @@ pub fn crf_after(options: &[String], rate: u32) -> Option<Crf>
     })
 }
 
-/// Whether a clock, if there is one, fits a stream of so many sample frames a second, with so many in a packet.
+/// Whether a clock, if there is one, fits a stream of `rate` sample frames a second, with `count` in a packet.
 pub fn fits_clock(crf: Option<Crf>, rate: u32, count: u32, restart: Option<u32>) -> bool
     requires { ClockIsWithin crf rate }
     ensures { IsTrue result ↔ FitsClock crf rate count restart }

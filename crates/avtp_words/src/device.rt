@@ -1,4 +1,4 @@
-//! The files that `listen` writes beside what it prints.
+//! The files that `listen` writes besides what it prints.
 
 ghost use Rattle.std.specs.Prelude.{◌≡◌, ◌≢◌, ◌↔◌, codes, Contains, IfSome, IsTrue, option_map};
 ghost use Rattle.avtp_words.specs.Grammar.{named_file, named_raw};
@@ -31,11 +31,11 @@ pub enum Silence {
 pub struct RawFile<'a> {
     /// The file.
     pub file: DeviceFile<'a>,
-    /// What stands in it where packets are missing.
+    /// What silence is made of, which is written for missing packets.
     pub silence: Silence,
 }
 
-/// The file named after the option of this name, where it is given. The place of its name counts the command in.
+/// The file named after the option of this name, if it is given. The place of its name counts the command in.
 pub fn file_after<'a>(options: &'a [String], name: &str) -> Option<DeviceFile<'a>>
     ensures { IsReadFile name.now (texts options.now) (option_map named_file result) }
 {
@@ -47,7 +47,7 @@ pub fn file_after<'a>(options: &'a [String], name: &str) -> Option<DeviceFile<'a
     })
 }
 
-/// What silence is made of by the options of `listen`: zeros where nothing else is said.
+/// What silence is made of by the options of `listen`: zeros if nothing else is said.
 fn silence_after(options: &[String]) -> Silence
     ensures { IsReadSilence (value_after (codes "--silence") (texts options.now)) result }
 {
@@ -76,7 +76,7 @@ pub fn is_new(file: Option<DeviceFile<'_>>, files: &[String]) -> bool
     }
 }
 
-/// The same for a file of raw audio.
+/// Whether the file of raw audio, if there is one, has another name than each of these files.
 pub fn is_new_raw(raw: Option<RawFile<'_>>, files: &[String]) -> bool
     ensures { IsTrue result ↔ IfSome (option_map named_raw raw.entry) (λ raw. Contains (texts files.now) raw.file.name → ⊥) }
 {

@@ -1,5 +1,5 @@
-//! The words of the command line as a type: a command with its options and names, or the position of the first
-//! word that cannot stand.
+//! The words of the command line as a type: a command with its options and names, or the position of the first word
+//! that is wrong.
 #![tactic(auto)]
 
 mod command;

@@ -1,10 +1,9 @@
-//! The options of each command in one table: what each is called, what its value may be, and what stands where it is
-//! not given.
+//! The options of each command in one table: what each is called, what its value may be, and its default.
 
 use crate::option::{OptionRow, Takes};
 use aaf_format::AafFormat;
 
-/// The most bytes that are read of a capture where no `--limit` is given, and the most that can be asked: 1 TiB.
+/// The most bytes that are read of a capture if no `--limit` is given, and the most that can be asked: 1 TiB.
 pub const MAX_LIMIT: u64 = 1 << 40;
 
 pub const SHOW_OPTIONS: [OptionRow; 1] = [LIMIT];
@@ -63,7 +62,7 @@ pub const LOOK: OptionRow = OptionRow {
 
 pub const LOOK_DEFAULT: u32 = 0;
 
-/// The stream ID of the media clock that samples are counted on. Where it is not given the stream's own timestamps are
+/// The stream ID of the media clock that samples are counted on. If it is not given, the stream's own timestamps are
 /// enough.
 pub const CLOCK: OptionRow = OptionRow {
     name: "--clock",
@@ -88,7 +87,7 @@ pub const RING: OptionRow = OptionRow {
 
 pub const RING_DEFAULT: u32 = 64;
 
-/// The file that the samples that are presented are written to as raw audio. Where it is not given they are not.
+/// The file that the samples that are presented are written to as raw audio. If it is not given, they are not.
 pub const RAW: OptionRow = OptionRow {
     name: "--raw",
     takes: Takes::Name,
@@ -103,7 +102,7 @@ pub const SILENCE: OptionRow = OptionRow {
 /// The options that say more of raw audio.
 pub const RAW_OPTIONS: [OptionRow; 1] = [SILENCE];
 
-/// The file that the units of H.264 are written to as a byte stream. Where it is not given they are not.
+/// The file that the units of H.264 are written to as a byte stream. If it is not given, they are not.
 pub const ANNEXB: OptionRow = OptionRow {
     name: "--annexb",
     takes: Takes::Name,
@@ -255,7 +254,7 @@ pub const LAST_STAMP: OptionRow = OptionRow {
     takes: Takes::Nothing,
 };
 
-/// The packets after which the media clock restarts, again and again. Where it is not given there is no restart.
+/// The packets after which the media clock restarts, again and again. If it is not given, there is no restart.
 pub const RESTART: OptionRow = OptionRow {
     name: "--restart",
     takes: Takes::Number {
@@ -275,7 +274,7 @@ pub const JUMP: OptionRow = OptionRow {
 
 pub const JUMP_DEFAULT: u32 = 1_000_000;
 
-/// The stream ID of the media clock that is sent beside the stream. Where it is not given no clock is sent.
+/// The stream ID of the media clock that is sent beside the stream. If it is not given, no clock is sent.
 pub const CRF: OptionRow = OptionRow {
     name: "--crf",
     takes: Takes::Id,
@@ -326,7 +325,7 @@ pub const MAX_PACKETS: u64 = 1_000_000;
 /// The most bytes of samples in a packet of AAF: the 1,500 that an Ethernet frame carries, less the 24 of the header.
 pub const MAX_SAMPLES: u64 = 1_476;
 
-/// The most bytes of data blocks in a packet of AM824, where the CIP header takes 8 more.
+/// The most bytes of data blocks in a packet of AM824, in which the CIP header takes 8 more.
 pub const MAX_BLOCKS: u64 = 1_468;
 
 /// The most quadlets of a data block of AM824, one for each channel (IEC 61883-1).

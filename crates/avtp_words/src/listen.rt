@@ -32,15 +32,15 @@ pub struct Listen<'a> {
     /// The max transit time, in nanoseconds, 0 to 1,000,000,000: how long before its presentation time a packet is
     /// expected.
     pub lead: u32,
-    /// The stream ID of the media clock on whose lines samples are counted, where one is asked for.
+    /// The stream ID of the media clock on whose lines samples are counted, if one is asked for.
     pub clock: Option<u64>,
     /// What is added to each timestamp of the clock, in nanoseconds, from -1,000,000,000 to 1,000,000,000.
     pub shift: i64,
     /// How many items the queue holds between the thread that judges and the one that presents, 1 to 256.
     pub ring: u32,
-    /// The file that the samples that are presented are written to as raw audio, where one is asked for.
+    /// The file that the samples that are presented are written to as raw audio, if one is asked for.
     pub raw: Option<RawFile<'a>>,
-    /// The file that the units of H.264 are written to as a byte stream, where one is asked for.
+    /// The file that the units of H.264 are written to as a byte stream, if one is asked for.
     pub annexb: Option<DeviceFile<'a>>,
     /// The names of the captures, in order, at least one.
     pub files: &'a [String],
@@ -48,8 +48,8 @@ pub struct Listen<'a> {
 
 const LISTEN_OPERANDS: [Operand; 2] = [Operand::Id, Operand::Names];
 
-/// The words after `listen`. Where all can stand and a rule over several of them fails, the offence is that of the
-/// command.
+/// The words after `listen`. If no word is wrong by itself and a rule over several of them fails, the offence is that
+/// of the command.
 pub fn read_listen(words: &[String]) -> Result<Command<'_>, Offence>
     ensures ok { IfOk result (λ command. IsCommandLine (codes "listen" ∷ texts words.now) (request_of command)) }
     ensures err { IfErr result (λ offence. IsOffence (codes "listen" ∷ texts words.now) offence.position) }

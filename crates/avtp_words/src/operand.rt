@@ -21,9 +21,10 @@ pub enum Operand {
     Id,
     /// The name of a file.
     Name,
-    /// The number of packets of `soak`.
+    /// The number of packets of `soak`. It is read as an operand, so a number out of range has its own position.
     Packets,
-    /// The names of files, all the words that are left, at least one.
+    /// The names of files, all the words that are left, at least one: no option can follow the first name, and a file
+    /// may be named twice.
     Names,
 }
 

@@ -125,15 +125,15 @@ fn has_one(words: &[String], options: &[OptionRow]) -> bool
     options.iter().any(|option| contains(words, option.name))
 }
 
-/// Whether the words have the option that these need, where they have one of these.
+/// Whether the words have the option that these need, if they have one of these.
 pub fn have_needed(words: &[String], needed: &str, options: &[OptionRow]) -> bool
     ensures { IsTrue result ↔ Need (texts words.now) needed.now (names_of options.now) }
 {
     contains(words, needed) || lacks(words, options)
 }
 
-/// How many words from a place on are the value of an option: none where it stands alone, and else one. None comes
-/// where no value stands there.
+/// How many words from a place on are the value of an option: 0 if it takes no value, else 1. None comes if there is no
+/// value there.
 fn value_len(words: &[String], place: usize, takes: Takes) -> Option<usize>
     ensures some { IfSome result (IsTakenAt takes (texts words.now) place) }
     ensures none { IfNone result (LacksValue takes (texts words.now) place) }

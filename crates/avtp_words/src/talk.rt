@@ -63,7 +63,7 @@ pub struct Talk<'a> {
     pub restart: Option<u32>,
     /// How far each restart sets presentation times forward, in nanoseconds, 4 to 1,000,000,000.
     pub jump: u32,
-    /// The media clock that is sent beside the stream, where one is asked for.
+    /// The media clock that is sent beside the stream, if one is asked for.
     pub crf: Option<Crf>,
     /// The file of raw samples, or of an H.264 byte stream.
     pub input: &'a str,
@@ -76,8 +76,9 @@ const TALK_OPERANDS: [Operand; 2] = [Operand::Name, Operand::Name];
 /// The codes that name a nominal sample rate.
 const RATE_CODES: [u8; 10] = [1, 2, 3, 4, 5, 6, 7, 8, 9, 10];
 
-/// The words after `talk`. Where all can stand and a rule over several of them fails, the offence is that of the
-/// command.
+/// The words after `talk`. If no word is wrong by itself and a rule over several of them fails, the offence is that of
+/// the command. If a word is missing too, that is what is told. That H.264 has at most 240 access units a second is
+/// such a rule, since the kind can come after the rate.
 pub fn read_talk(words: &[String]) -> Result<Command<'_>, Offence>
     ensures ok { IfOk result (λ command. IsCommandLine (codes "talk" ∷ texts words.now) (request_of command)) }
     ensures err { IfErr result (λ offence. IsOffence (codes "talk" ∷ texts words.now) offence.position) }
@@ -108,7 +109,7 @@ fn read_words(words: &[String]) -> Result<Talk<'_>, Offence>
     Ok(read_options(&words[..place], kind, input, output))
 }
 
-/// What the options of `talk` give beside the kind, each by itself.
+/// What the options of `talk` give besides the kind, each by itself.
 fn read_options<'a>(options: &[String], kind: Kind, input: &'a str, output: &'a str) -> Talk<'a>
     ensures kind { result.kind ≡ kind }
     ensures input { result.input.now ≡ input.now }
@@ -196,7 +197,7 @@ impl<'a> Talk<'a> {
 }
 
 impl Kind {
-    /// The sample rate in Hz, or the access units in a second, where none is given.
+    /// The sample rate in Hz, or the access units in a second, if none is given.
     fn default_rate(self) -> u32
         ensures { result ≡ default_rate_of self }
     {
@@ -244,7 +245,7 @@ fn has_rate(codes: &[u8], rate: u32) -> bool
 /// The codes FDF that name a sample rate (IEC 61883-6).
 const FDF_CODES: [u8; 7] = [0, 1, 2, 3, 4, 5, 6];
 
-/// Whether a sample rate is one of IEC 61883-6, and a packet of so many data blocks has at least an eighth of its
+/// Whether a sample rate is one of IEC 61883-6, and a packet of `count` data blocks has at least an eighth of its
 /// SYT_INTERVAL: then a block is stamped in eight packets.
 fn suits_blocks(rate: u32, count: u32) -> bool
     ensures { IsTrue result ↔ ((fdf : ℕ) × (rate_of_fdf_code fdf ≡ Some rate) × IsSomeAnd (interval_of_code fdf) (λ interval. interval ≤ 8 * count)) }

@@ -10,16 +10,16 @@ ghost use Rattle.device_rack.specs.Racks.{places_of};
 
 use crate::rack::Rack;
 
-/// Where a byte stream can carry each unit, the NAL units of what is written are just the units that were taken, in their
+/// If a byte stream can carry each unit, the NAL units of what is written are just the units that were taken, in their
 /// order.
 pub fn units_again()
     ensures { (items : List Shown) → All (λ unit. IsCarried unit.bytes) (units items) → nal_units_of (annexb items) ≡ map (λ unit. unit.bytes) (units items) }
 {}
 
-/// Where each item of a list was handed to the rack, one after the other, each device that is live at the end took all of
-/// them and its count of faults is as it was; one that turned failed took a front of them that is not all, and its count
-/// rose; and a place that had failed before stays as it was. Where a device told the numbers of its failing calls to come,
-/// it turned failed exactly where one of these is at most the number of the items.
+/// If each item of a list was handed to the rack, one after another, each device that is live at the end took all of
+/// them and its count of faults is as it was; one that turned failed took a front of them that is not all, and its
+/// count rose; and a place that had failed before stays as it was. If a device told the numbers of its failing calls to
+/// come, it turned failed exactly if one of these is at most the number of the items.
 pub fn lists_are_handed(before: &Rack, after: &Rack)
     ensures { (items : List Shown) → HandsAll (λ device. took device) (λ device. faults device) (λ device. failing device) items (places_of before.now) (places_of after.now) → AllZip (AreHanded (λ device. took device) (λ device. faults device) (λ device. failing device) items) (places_of before.now) (places_of after.now) }
 {}

@@ -6,7 +6,8 @@ ghost use Rattle.device_rack.specs.Racks.{IsHanded, failed_count};
 
 use sample_schedule::{Device, Shown};
 
-/// A device, and whether it is live. A place that is not live has failed.
+/// A device, and whether it is live. A place that is not live has failed. A boxed device brings a type of its own with
+/// it, which a model of the rack could not name, so a rack is seen as the list of its places.
 #[derive(Drop)]
 pub struct Place {
     pub device: Box<dyn Device + Send>,

@@ -5,11 +5,11 @@ ghost use Rattle.std.specs.Prelude.{◌≤◌, ◌^◌};
 use sample_schedule::Batch;
 use time_unfold::Line;
 
-/// What is kept of a batch of samples, so that the silence behind it can be measured.
+/// What is kept of a batch of samples, so that the silence after it can be measured.
 #[derive(Clone, Copy)]
 pub struct Previous {
     line: Line,
-    /// The instant of the first sample behind it.
+    /// The instant of the first sample after it.
     end: i64,
     /// The bytes of one sample, all channels.
     size: usize,
@@ -51,7 +51,7 @@ impl Previous {
         (2 * span * u128::from(self.line.den) + num) / (2 * num)
     }
 
-    /// How many bytes of silence stand for them.
+    /// How many bytes of silence are written for them.
     fn silent_bytes(&self, next: i64) -> usize
         ensures { result ≡ silent_bytes self.now.line self.now.size (next -ℤ self.now.end) }
     {
@@ -62,7 +62,7 @@ impl Previous {
         self.missing(next).min(most as u128) as usize * self.size
     }
 
-    /// How many bytes of silence stand before a batch.
+    /// How many bytes of silence are written before a batch.
     pub fn silent_before(previous: &Option<Self>, batch: &Batch) -> usize
         ensures { (silence : Silence) (before : Option Presented) → IsPreviousOf previous.now before → silence_of silence result ≡ silence_before silence before batch.now }
     {

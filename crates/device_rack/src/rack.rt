@@ -5,7 +5,7 @@ ghost use Rattle.std.specs.Prelude.{◌<◌, ◌^◌, length};
 use crate::place::{Place, hand_each};
 use sample_schedule::Shown;
 
-/// Places side by side.
+/// The places of several devices.
 #[derive(Drop)]
 pub struct Rack {
     places: Vec<Place>,
@@ -46,8 +46,8 @@ impl Rack {
         self.places.len() as u32 - self.live()
     }
 
-    /// Hands an item to each live device, in the order of the places, and answers how many places turned failed. A place
-    /// turns failed where its device answers `Failed`, and is handed nothing from then on.
+    /// Hands an item to each live device, in the order of the places, and answers how many places turned failed. A
+    /// place turns failed if its device answers `Failed`, and is handed nothing from then on.
     pub fn hand(&mut self, shown: &Shown) -> u32
         ensures places { AllZip (IsHanded (λ device. took device) (λ device. faults device) (λ device. failing device) shown.now) (places_of self.old) (places_of self.new) }
         ensures failures { failed_count (places_of self.new) ≡ failed_count (places_of self.old) + result }

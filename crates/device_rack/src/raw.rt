@@ -7,12 +7,13 @@ use crate::writing::write_samples;
 use avtp_base::{Failed, Sink};
 use sample_schedule::{Device, Shown};
 
-/// Writes the samples that it takes to a sink, in the order in which they come, with silence where some are missing.
+/// Writes the samples that it takes to a sink, in the order in which they come, with silence for missing ones.
 ///
-/// Units and flags add nothing. Between two batches of samples stands silence from the end of the first up to the
-/// beginning of the second, to the nearest whole sample of the first's line, and of at most 16,777,216 bytes; where they
-/// overlap there is none. As long as no `take` has failed, the sink holds what it held at first and then all of it. The
-/// first `take` that fails leaves a prefix of what its item adds.
+/// Units and flags add nothing. Between two batches of samples is silence from the end of the first up to the beginning
+/// of the second, whatever units and flags came between, to the nearest whole sample of the first's line (half a sample
+/// counts as one), and of at most 16,777,216 bytes; if they overlap there is none. Nothing is kept back: all bytes of
+/// an item are in the sink when `take` answers `Ok`. As long as no `take` has failed, the sink holds what it held at
+/// first and then all of it. The first `take` that fails leaves a prefix of what its item adds.
 #[derive(Drop)]
 pub struct RawDevice<S> {
     sink: S,

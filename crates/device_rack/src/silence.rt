@@ -1,6 +1,6 @@
-//! What stands for samples that are missing.
+//! What is written for missing samples.
 
-/// What stands for samples that are missing.
+/// What is written for missing samples.
 #[derive(Clone, Copy, Debug, PartialEq, Eq)]
 pub enum Silence {
     /// Bytes of 0.

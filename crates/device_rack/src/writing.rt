@@ -7,10 +7,10 @@ ghost use Rattle.device_rack.specs.state.Written.{HasWritten};
 use crate::silence::Silence;
 use avtp_base::{Failed, Output};
 
-/// What stands before each unit of a byte stream.
+/// What comes before each unit of a byte stream.
 const START_CODE: [u8; 4] = [0, 0, 0, 1];
 
-/// Writes all the bytes. Where the sink fails it has taken a prefix of them.
+/// Writes all the bytes. If the sink fails, it has taken a prefix of them.
 fn write_all<S: Output>(sink: &mut S, bytes: &[u8]) -> Result<(), Failed>
     ensures { HasWritten (S.state sink.old) (S.state sink.new) result bytes.now }
 {
@@ -21,7 +21,7 @@ fn write_all<S: Output>(sink: &mut S, bytes: &[u8]) -> Result<(), Failed>
     Ok(())
 }
 
-/// Writes so many bytes of silence, as `write_all` does.
+/// Writes `count` bytes of silence, as `write_all` does.
 fn write_silence<S: Output>(sink: &mut S, silence: Silence, count: usize) -> Result<(), Failed>
     ensures { HasWritten (S.state sink.old) (S.state sink.new) result (silence_of silence count) }
 {
@@ -35,7 +35,7 @@ fn write_silence<S: Output>(sink: &mut S, silence: Silence, count: usize) -> Res
     write_all(sink, &piece[..count % Silence::PIECE])
 }
 
-/// Writes samples after so many bytes of silence, as `write_all` does.
+/// Writes samples after a number of bytes of silence, as `write_all` does.
 pub fn write_samples<S: Output>(
     sink: &mut S,
     silence: Silence,

@@ -163,8 +163,9 @@ abbrev pub given_up_by : List Delivery → Delivery → List MadeItem
 given_up_by before d =
     map (flagged (lost_for (reason (events_to before d)))) (last_ones (length (given_up (events_to before d))) (in_stream before))
 
--- The unit that a delivery completes: its frame number, its arrival, its sequence number and its presentation time are those
--- of that delivery, the last of the stretch.
+-- The unit that a delivery completes: its frame number, its arrival, its sequence number and its presentation time are
+-- those of that delivery, the last of the stretch. The other deliveries of the unit are the last of the stream before
+-- it.
 abbrev pub unit_by : List Delivery → Delivery → MadeItem
 unit_by before d = record {
   entry = OfItem (OfUnit (record {

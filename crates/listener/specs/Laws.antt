@@ -117,8 +117,8 @@ abbrev pub AreCopiesFrom : PacketJournal → ℕ → ℕ → List Delivery → T
 AreCopiesFrom p lead n [] = ⊤
 AreCopiesFrom p lead n (d ∷ ds) = IsCopyOf p lead n d × AreCopiesFrom p lead (suc n) ds
 
--- The item was made of copies of packets that follow each other, the last of which is packet n; an item of audio is made of
--- a copy of packet n alone.
+-- The item was made of copies of packets that follow each other, the last of which is packet n; an item of audio is
+-- made of a copy of packet n alone. Two packets may have equal bytes, so the number of each copy is told.
 pub record IsMadeOf (p : PacketJournal) (lead n : ℕ) (made : MadeItem) : Type 0 where
   pub from : ℕ
   pub to : from + length made.earlier ≡ n

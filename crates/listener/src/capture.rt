@@ -100,19 +100,20 @@ fn hear(alloc: Global, listener: &mut Listener, bytes: &[u8]) -> Result<Heard, N
 /// before the first refusal; how many there were; and the first refusal. It is what a `Listener` shows that is fed with the
 /// bytes and ended.
 ///
-/// A record belongs to the stream where it is a readable Ethernet frame of AVTP, its packet is of a kind that is read (AAF, IEEE
-/// 1722-2016, 7, CVF of H.264, 8, and IEC 61883-6), and its stream id is valid and the wanted one. A packet that its reader
-/// refuses is flagged as malformed. Fragments of H.264 beside each other are put together to one unit, which has the frame
-/// number and the presentation time of its last packet; a fragment that is in no whole unit is flagged as broken or too long. A record belongs to the media clock where the same holds with a packet of CRF (IEEE
-/// 1722-2016, 10) and the clock's id. Record times are taken as nanoseconds of gPTP. The plan is within the limits that
-/// `ListenPlan` names.
+/// A record belongs to the stream if it is a readable Ethernet frame of AVTP, its packet is of a kind that is read
+/// (AAF, IEEE 1722-2016, 7, CVF of H.264, 8, and IEC 61883-6), and its stream id is valid and the wanted one. A packet
+/// that its reader refuses is flagged as malformed. Adjacent fragments of H.264 are put together to one unit, which has
+/// the frame number and the presentation time of its last packet; a fragment that is in no whole unit is flagged as
+/// broken or too long. A record belongs to the media clock if this holds with a packet of CRF (IEEE 1722-2016, 10) and
+/// the clock's id. Record times are taken as nanoseconds of gPTP. The plan is within the limits that `ListenPlan`
+/// names.
 ///
 /// Whatever the capture loses, repeats or reorders of the packets of a talker that keeps the rules and of its clock, what is
 /// shown keeps the headline: what came in time, found room and has a known timestamp or clock reference is presented once, in
 /// order, at the talker's own nanoseconds, so that any two listeners with one clock agree, and every other packet that came is
 /// flagged with its one reason. A unit of H.264 that is presented is one of the talker's units, whole.
 ///
-/// The capture has at most 2^62 bytes. `NoMemory` comes where no memory is found, and nothing is shown then.
+/// The capture has at most 2^62 bytes. `NoMemory` comes if no memory is found, and nothing is shown then.
 pub fn whole(alloc: Global, plan: &ListenPlan, bytes: &[u8]) -> Result<Heard, NoMemory>
     requires plan { IsPlan (schedule_plan plan.now) }
     requires bounded { length bytes.now ≤ 2 ^ 62 }

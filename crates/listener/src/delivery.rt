@@ -48,8 +48,9 @@ fn is_of_clock(clock: Option<u64>, peeked: Peeked) -> bool
     }
 }
 
-/// The record as a delivery of the plan's stream or of its clock, where it belongs to one of them: a readable Ethernet frame
-/// of AVTP, with a packet of a stream that is read or of a media clock, and with a stream id that is valid and the wanted one.
+/// The record as a delivery of the plan's stream or of its clock, if it belongs to one of them: a readable Ethernet
+/// frame of AVTP, with a packet of a stream that is read or of a media clock, and with a stream id that is valid and
+/// the wanted one.
 pub fn delivery_of<'a>(
     plan: &ListenPlan,
     frame: u64,

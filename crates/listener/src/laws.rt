@@ -40,16 +40,16 @@ pub fn each_delivery_is_shown()
         → shown_of_frame made.last.frame (shown_of plan records) ≡ shown_by made.last (verdict_of plan records place item) ∷ [] }
 {}
 
-/// What is due of the records so far stays, whatever records follow: what is due of more begins with it. Where no record follows,
-/// what is shown begins with it.
+/// What is due of the records so far stays, whatever records follow: what is due of more begins with it. If no record
+/// follows, what is shown begins with it.
 pub fn what_is_due_stays()
     ensures longer { (plan : ListenPlan) (records others : List Record) → IsPrefix (due_of plan records) (due_of plan (records ++ others)) }
     ensures first { (plan : ListenPlan) (records : List Record) → IsPrefix (due_of plan records) (shown_of plan records) }
 {}
 
-/// Records that carry packets of a talker that keeps the rules, and of its clock, whichever they are and in any order, meet the
-/// whole premise of the laws below, for each kind of stream, for listeners with the clock and without. Of H.264, two fragments
-/// that stand beside each other, at least one of them without a timestamp, are of packets that are at most 254 apart.
+/// Records that carry packets of a talker that keeps the rules, and of its clock, whichever they are and in any order,
+/// meet the whole premise of the laws below, for each kind of stream, for listeners with the clock and without. Of
+/// H.264, two adjacent fragments, at least one of them without a timestamp, are of packets that are at most 254 apart.
 pub fn carried_packets_are_heard()
     ensures dense { (shift : ℤ) (p : PacketJournal) (plan : ListenPlan) (origins : List Origin) (records : List Record) → IsConforming shift p → p.times.kind ≡ DenseAaf → plan.stream ≡ p.stream → FollowsClock shift p plan.shift plan.clock → AllCarryFrom p plan.lead origins records → HearsTalker shift p plan records }
     ensures sparse { (shift : ℤ) (p : PacketJournal) (plan : ListenPlan) (origins : List Origin) (records : List Record) → IsConforming shift p → p.times.kind ≡ SparseAaf → plan.stream ≡ p.stream → FollowsClock shift p plan.shift plan.clock → AllCarryFrom p plan.lead origins records → HearsTalker shift p plan records }
@@ -66,27 +66,27 @@ pub fn clocks_are_followed()
     ensures with_it { (shift : ℤ) (p : PacketJournal) → FollowsClock shift p shift (Some p.clock) }
 {}
 
-/// Fragments are put together truly. Whatever a capture loses, repeats or reorders of the packets of H.264 of a talker that keeps
-/// the rules: each unit that is whole was made of one copy of each packet of one unit of the talker, in their order, and it has
-/// this unit's bytes and its instant. Sequence numbers alone would not tell packets that are 256 apart; timestamps do, and where
-/// fragments have none, that their copies are of packets at most 254 apart.
+/// Fragments are put together truly. Whatever a capture loses, repeats or reorders of the packets of H.264 of a talker
+/// that keeps the rules: each unit that is whole was made of one copy of each packet of one unit of the talker, in
+/// their order, and it has this unit's bytes and its instant. Sequence numbers alone would not tell packets that are
+/// 256 apart; timestamps do, and if fragments have none, that their copies are of packets at most 254 apart.
 pub fn units_are_true()
     ensures { (shift : ℤ) (p : PacketJournal) (plan : ListenPlan) (records : List Record) (place : ℕ) (made : MadeItem) (unit : Unit) (part : ℕ → Part) → HearsTalker shift p plan records → p.times.kind ≡ H264 part → slice_get (items_in plan records) place ≡ Some made → made.entry ≡ Entry.Item (Item.Unit unit)
         → (n : ℕ) × IsUnitFrom p part plan.lead n made unit }
 {}
 
-/// What is presented is true. Whatever a capture loses, repeats or reorders of the packets of a talker that keeps the rules
-/// and of its clock, and wherever these restart: each batch that is presented is one of the talker's packets or units, with its
-/// bytes, and each of its samples stands at the nanosecond of gPTP that the talker gave it, or that is counted from the
-/// timestamp to which it belongs: at the nominal rate, or for a listener with the clock on the line of the two points of all
-/// that cover that timestamp. The packet is the one of which the batch's own item was made.
+/// What is presented is true. Whatever a capture loses, repeats or reorders of the packets of a talker that keeps the
+/// rules and of its clock, and wherever these restart: each batch that is presented is one of the talker's packets or
+/// units, with its bytes, and each of its samples is at the nanosecond of gPTP that the talker gave it, or that is
+/// counted from the timestamp to which it belongs: at the nominal rate, or for a listener with the clock on the line of
+/// the two points of all that cover that timestamp. The packet is the one of which the batch's own item was made.
 pub fn presented_are_true()
     ensures origin { (shift : ℤ) (p : PacketJournal) (plan : ListenPlan) (records : List Record) → HearsTalker shift p plan records → All (IsHeardFrom (by_clock plan) (items_in plan records) p plan.lead) (presented_of (shown_of plan records)) }
     ensures packet { (shift : ℤ) (p : PacketJournal) (plan : ListenPlan) (records : List Record) → HearsTalker shift p plan records → All (IsOfJournal (by_clock plan) p) (presented_of (shown_of plan records)) }
 {}
 
-/// A batch is one packet of the talker at most, so where it is said that a batch is packet n, no other is meant. A unit of H.264
-/// has the number of its last packet.
+/// A batch is at most one packet of the talker, so if it is said that a batch is packet n, no other is meant. A unit of
+/// H.264 has the number of its last packet.
 pub fn batches_have_one_number()
     ensures { (shift : ℤ) (p : PacketJournal) (by : Bool) (n m : ℕ) (batch : Presented) → IsConforming shift p → IsOfPacket by p n batch → IsOfPacket by p m batch → n ≡ m }
 {}
@@ -96,50 +96,53 @@ pub fn no_packet_twice()
     ensures { (shift : ℤ) (p : PacketJournal) (plan : ListenPlan) (records : List Record) → HearsTalker shift p plan records → AllPairs (AreOther (by_clock plan) p) (presented_of (shown_of plan records)) }
 {}
 
-/// What is presented of the talker's packets comes in order: first instants never fall, and equal ones stand in the order
-/// of the items.
+/// What is presented of the talker's packets comes in order: first instants never fall, and batches with equal ones are
+/// in the order of the items.
 pub fn first_instants_never_fall()
     ensures { (shift : ℤ) (p : PacketJournal) (plan : ListenPlan) (records : List Record) → HearsTalker shift p plan records → AllPairs ComesBefore (presented_of (shown_of plan records)) }
 {}
 
-/// Any two listeners agree that both have the talker's clock, or both have none. Two captures may lose, repeat and reorder a
-/// talker's packets each in its own way, and two listeners may have other buffers, look further ahead and expect packets
-/// earlier or later: of each packet that both present, they present the same bytes, and each sample at the same nanosecond.
+/// Any two listeners agree that both have the talker's clock, or both have none. Two captures may lose, repeat and
+/// reorder a talker's packets each in its own way, and two listeners may have other buffers, look further ahead and
+/// expect packets earlier or later: of each packet that both present, they present the same bytes, and each sample at
+/// one nanosecond.
 pub fn listeners_agree()
     ensures { (shift : ℤ) (p : PacketJournal) (plan other : ListenPlan) (records others : List Record) → HearsTalker shift p plan records → HearsTalker shift p other others → by_clock other ≡ by_clock plan → All (λ a. All (Agree (by_clock plan) p a) (presented_of (shown_of other others))) (presented_of (shown_of plan records)) }
 {}
 
-/// A copy of a packet is presented where its timestamp is known, and with a clock two points that cover it, it came in time and
-/// found room, and no copy of the packet was accepted before, however many others are late, lost or untimed. What is presented
-/// has the number of its frame.
+/// A copy of a packet is presented if its timestamp is known, and with a clock two points that cover it, it came in
+/// time and found room, and no copy of the packet was accepted before, however many others are late, lost or untimed.
+/// What is presented has the number of its frame.
 pub fn known_and_in_time_is_presented()
     ensures { (shift : ℤ) (p : PacketJournal) (plan : ListenPlan) (records : List Record) (place n : ℕ) (made : MadeItem) → HearsTalker shift p plan records → IsWelcome p plan records place n made → Any (IsPresentedOf (by_clock plan) p n made) (presented_of (shown_of plan records)) }
 {}
 
-/// For a listener without a clock the first packet of an audio stream in a capture is one that must be presented, where it is
-/// stamped, came before it is due, and its bytes fit the room. So something must be presented.
+/// For a listener without a clock the first packet of an audio stream in a capture is one that must be presented, if it
+/// is stamped, came before it is due, and its bytes fit the room. So something must be presented.
 pub fn first_packet_is_welcome()
     ensures { (shift : ℤ) (p : PacketJournal) (plan : ListenPlan) (records : List Record) (n instant : ℕ) (delivery : Delivery) → HearsTalker shift p plan records → IsAudioKind p.times.kind → plan.clock ≡ None → slice_get (deliveries_of plan records) 0 ≡ Some delivery
         → IsCopyOf p plan.lead n delivery → p.times.stamp n ≡ Some instant → delivery.arrival ≤ℤ pos (p.times.due n) → 1 ≤ plan.buffer → length (carried (p.packet n)) ≤ plan.room → IsWelcome p plan records 0 n (made_of_one delivery) }
 {}
 
-/// Of H.264 the first packet of the stream in a capture is one that must be presented, with the clock or without, where it has a
-/// whole unit, came before that is due, and the unit's bytes fit the room.
+/// Of H.264 the first packet of the stream in a capture is one that must be presented, with the clock or without, if it
+/// has a whole unit, came before that is due, and the unit's bytes fit the room.
 pub fn first_unit_is_welcome()
     ensures { (shift : ℤ) (p : PacketJournal) (plan : ListenPlan) (records : List Record) (n : ℕ) (part : ℕ → Part) (delivery : Delivery) → HearsTalker shift p plan records → p.times.kind ≡ H264 part → slice_get (deliveries_of plan records) 0 ≡ Some delivery
         → IsCopyOf p plan.lead n delivery → part n ≡ Single → delivery.arrival ≤ℤ pos (p.times.due n) → 1 ≤ plan.buffer → length (unit_bytes p n n) ≤ plan.room → IsWelcome p plan records 0 n (unit_by [] delivery) }
 {}
 
-/// So are the first packets of H.264 together that are all packets of one unit of the talker, in their order, where the last came
-/// before the unit is due, each carries the unit's first byte, the unit is within the limits of units, and its bytes fit the room.
+/// So are the first packets of H.264 together that are all packets of one unit of the talker, in their order, if the
+/// last came before the unit is due, each carries the unit's first byte, the unit is within the limits of units, and
+/// its bytes fit the room.
 pub fn first_fragments_are_welcome()
     ensures { (shift : ℤ) (p : PacketJournal) (plan : ListenPlan) (records : List Record) (from n : ℕ) (part : ℕ → Part) (earlier : List Delivery) (last : Delivery) (rest : List Delivery) → HearsTalker shift p plan records → p.times.kind ≡ H264 part → deliveries_of plan records ≡ earlier ++ last ∷ rest
         → AreOfUnit p part plan.lead from n earlier last → last.arrival ≤ℤ pos (p.times.due n) → 1 ≤ plan.buffer → length (unit_bytes p from n) ≤ plan.room → IsWelcome p plan records 0 n (unit_by earlier last) }
 {}
 
-/// For a listener with the clock a packet of an audio stream is one that must be presented that comes behind two packets of the clock
-/// beside each other, where the last point of the one and the first of the other cover its timestamp, all came before its first
-/// instant on their line, and its bytes fit the room. So with a clock, too, something must be presented.
+/// For a listener with the clock a packet of an audio stream is one that must be presented that comes after two
+/// adjacent packets of the clock, if the last point of the one and the first of the other cover its timestamp, all came
+/// before its first instant on their line, and its bytes fit the room. So with a clock, too, something must be
+/// presented.
 pub fn clocked_packet_is_welcome()
     ensures { (p : PacketJournal) (plan : ListenPlan) (records : List Record) (m n instant : ℕ) (x : ℤ) (first second third : Delivery) → HearsTalker (pos 0) p plan records → IsAudioKind p.times.kind → plan.clock ≡ Some p.clock → plan.look ≡ 0
         → slice_get (deliveries_of plan records) 0 ≡ Some first → slice_get (deliveries_of plan records) 1 ≡ Some second → slice_get (deliveries_of plan records) 2 ≡ Some third
@@ -147,16 +150,16 @@ pub fn clocked_packet_is_welcome()
         → 1 ≤ plan.buffer → length (carried (p.packet n)) ≤ plan.room → IsWelcome p plan records 2 n (made_of_one third) }
 {}
 
-/// Where the second packet of an audio stream in a capture is the first one again, and came before it is due too, it is a further
-/// copy, and so it must be flagged as a repeat.
+/// If the second packet of an audio stream in a capture is the first one again, and came before it is due too, it is a
+/// further copy, and so it must be flagged as a repeat.
 pub fn second_copy_is_further()
     ensures { (shift : ℤ) (p : PacketJournal) (plan : ListenPlan) (records : List Record) (n instant : ℕ) (first second : Delivery) → HearsTalker shift p plan records → IsAudioKind p.times.kind → plan.clock ≡ None → IsWelcome p plan records 0 n (made_of_one first)
         → slice_get (deliveries_of plan records) 0 ≡ Some first → slice_get (deliveries_of plan records) 1 ≡ Some second → IsCopyOf p plan.lead n second → p.times.stamp n ≡ Some instant → second.arrival ≤ℤ pos (p.times.due n)
         → IsFurther p plan records 1 n (made_of_one second) }
 {}
 
-/// A further copy of a packet that was accepted before is flagged as a repeat where it is known and came in time, whether or not
-/// there is room, and nothing else is shown of its frame.
+/// A further copy of a packet that was accepted before is flagged as a repeat if it is known and came in time, whether
+/// or not there is room, and nothing else is shown of its frame.
 pub fn further_copies_are_repeats()
     ensures { (shift : ℤ) (p : PacketJournal) (plan : ListenPlan) (records : List Record) (place n : ℕ) (made : MadeItem) → HearsTalker shift p plan records → IsFurther p plan records place n made → shown_of_frame made.last.frame (shown_of plan records) ≡ Flag made.last.frame made.last.seq Repeat ∷ [] }
 {}

@@ -43,7 +43,8 @@ pub enum ListenFault {
 pub struct Listener {
     reader: Reader,
     listener: RecordListener,
-    /// What is due next.
+    /// What is due next. It is taken out of the judge before it is asked for, so that `feed` can tell that something is
+    /// due and only then answers 0; the counts are the judge's without this item.
     next: Option<Shown>,
     out_of_memory: bool,
 }
@@ -82,10 +83,10 @@ impl Listener {
     /// Takes bytes up to the end of one record or of the piece, and answers how many. At most 2^62 bytes may be taken, and the
     /// listener was not ended.
     ///
-    /// Where no fault is answered, `Ok(0)` comes exactly where the piece is empty or something is due. `Refused` is the
-    /// capture's first refusal and comes as soon as the bytes so far show it; what was accepted stays, and may be ended.
-    /// `Memory` comes where no memory is found for the samples of the record that was read; the record makes no item then, and
-    /// every later `feed` and `end` answers `Memory`.
+    /// If no fault is answered, `Ok(0)` comes exactly if the piece is empty or something is due. `Refused` is the
+    /// capture's first refusal and comes as soon as the bytes so far show it; what was accepted stays, and may be
+    /// ended. `Memory` comes if no memory is found for the samples of the record that was read; the record makes no
+    /// item then, and every later `feed` and `end` answers `Memory`.
     pub fn feed(&mut self, alloc: Global, piece: &[u8]) -> Result<usize, ListenFault>
         requires open { is_ended self.old ≡ false }
         requires bounded { taken self.old.reader + length piece.now ≤ 2 ^ 62 }
@@ -140,8 +141,8 @@ impl Listener {
         }
     }
 
-    /// The next item that is shown of the bytes so far: while more may follow, of what is due, and after `end` of all. None
-    /// comes exactly where all of that was given. Takes no memory.
+    /// The next item that is shown of the bytes so far: while more may follow, of what is due, and after `end` of all.
+    /// None comes exactly if all of that was given. Takes no memory.
     pub fn next_out(&mut self) -> Option<Shown>
         ensures given { (bytes : List ℕ) (given : ℕ) → StandsFor bytes given self.old → result ≡ slice_get (out self.old bytes) given }
         ensures stands { (bytes : List ℕ) (given : ℕ) → StandsFor bytes given self.old → StandsFor bytes (given + length (option_to_list result)) self.new }
@@ -194,7 +195,8 @@ impl Listener {
     }
 }
 
-/// Gives the next record to the listener, where it lies: these are its bytes. Where no memory is found the reader is as it was.
+/// Gives the next record to the listener without a copy: these are its bytes. If no memory is found, the reader is as
+/// it was.
 fn take_lent(
     alloc: Global,
     reader: &mut Reader,
@@ -217,7 +219,8 @@ fn take_lent(
     Ok(())
 }
 
-/// Gives the record that the reader holds to the listener, if there is one. Where no memory is found the reader still holds it.
+/// Gives the record that the reader holds to the listener, if there is one. If no memory is found, the reader still
+/// holds it.
 fn take_held(
     alloc: Global,
     reader: &mut Reader,

@@ -10,7 +10,7 @@ use sample_schedule::SchedulePlan;
 pub struct ListenPlan {
     /// The id of the stream.
     pub stream: u64,
-    /// The id of the stream's media clock, where its samples are counted on the clock's lines.
+    /// The id of the stream's media clock, if its samples are counted on the clock's lines.
     pub clock: Option<u64>,
     /// The most batches that wait for their presentation time, 1 to 65,536.
     pub buffer: u32,

@@ -32,9 +32,10 @@ use std::marker::Model;
 /// A listener that is given a capture's records one at a time, in the capture's order, and shows each item of the stream once:
 /// presented, or flagged with the first reason why not. It shows an item as soon as no further record can change that.
 ///
-/// After each record, and after `close`, all that is due is taken by `next_out` before the listener is given more. A record may
-/// give up to 4,097 items, since it may give up fragments of H.264; they are judged one after the other by `next_out`. Memory is
-/// reserved when it is made; later each packet's samples, and each whole unit, are copied once, into the batch that is shown.
+/// After each record, and after `close`, all that is due is taken by `next_out` before the listener is given more. A
+/// record may give up to 4,097 items, since it may give up fragments of H.264; they are judged one after another by
+/// `next_out`. Memory is reserved when it is made; later each packet's samples, and each whole unit, are copied once,
+/// into the batch that is shown.
 #[derive(Drop)]
 pub struct RecordListener {
     plan: ListenPlan,
@@ -43,7 +44,8 @@ pub struct RecordListener {
     ended: bool,
     /// The judge was told that nothing follows.
     closed: bool,
-    /// All that is due was given, and nothing came since that could change that.
+    /// All that is due was given, and nothing came since that could change that: only a record of the stream or its
+    /// clock, or the end, can. After a record of another stream the judge is not asked.
     idle: bool,
     counts: Counts,
 }
@@ -57,6 +59,8 @@ impl Model for RecordListener {
 
     ghost view = { λ listener. record { plan = listener.plan; units = listener.units; judge = listener.judge; ended = listener.ended; counts = listener.counts } };
 
+    // The counts do not run over: there are some records for which the listener stands, and a stream shows no more
+    // items than there are records.
     ghost invariant = { λ listener. IsSound (record { plan = listener.plan; units = listener.units; judge = listener.judge; ended = listener.ended; counts = listener.counts }) × (listener.closed ≡ listener.judge.closed)
         × (listener.idle ≡ true → Rests (record { plan = listener.plan; units = listener.units; judge = listener.judge; ended = listener.ended; counts = listener.counts })) };
 }
@@ -87,8 +91,8 @@ impl RecordListener {
     /// Takes the next record. Nothing is due of those before it, fewer than 2^62 were taken, and the listener is not closed.
     /// The record's time is from 0 to 2^62 ns.
     ///
-    /// A record that belongs neither to the stream nor to its clock is counted and passed. `NoMemory` comes where no memory is
-    /// found for the packet's samples or the unit; the listener is then as it was.
+    /// A record that belongs neither to the stream nor to its clock is counted and passed. `NoMemory` comes if no
+    /// memory is found for the packet's samples or the unit; the listener is then as it was.
     pub fn take_record(&mut self, alloc: Global, held: &RecordView<'_>) -> Result<(), NoMemory>
         requires open { is_closed self.old ≡ false }
         requires idle { IsIdle self.old }
@@ -114,8 +118,8 @@ impl RecordListener {
         }
     }
 
-    /// The next item that is shown of the records so far: while further ones may follow, of what is due, and once the listener
-    /// is closed of all. None comes exactly where all of that was shown. Takes no memory.
+    /// The next item that is shown of the records so far: while further ones may follow, of what is due, and once the
+    /// listener is closed of all. None comes exactly if all of that was shown. Takes no memory.
     #[inline(always)]
     pub fn next_out(&mut self) -> Option<Shown>
         ensures given { (records : List Record) (given : ℕ) → StandsFor records given self.old → result ≡ slice_get (out self.old records) given }
@@ -140,7 +144,7 @@ impl RecordListener {
         next
     }
 
-    /// Puts the next item that is shown where none is. Mostly there is none, and nothing is moved.
+    /// Puts the next item that is shown into an empty place. Mostly there is none, and nothing is moved.
     #[inline(always)]
     pub(crate) fn put_next(&mut self, next: &mut Option<Shown>)
         requires { next.old ≡ None }
@@ -210,8 +214,8 @@ fn take_delivery(
     Ok(())
 }
 
-/// The next item that is shown, where the items that wait are judged one after the other, and the judge is closed once all
-/// items of a list that has ended are judged.
+/// The next item that is shown, for which the items that wait are judged one after another, and the judge is closed
+/// once all items of a list that has ended are judged.
 #[inline(always)]
 fn next_shown(units: &mut Units, judge: &mut Judge, ended: bool, closed: &mut bool) -> Option<Shown>
     requires closed { closed.old ≡ judge.old.closed }
@@ -236,7 +240,7 @@ fn next_shown(units: &mut Units, judge: &mut Judge, ended: bool, closed: &mut bo
     }
 }
 
-/// Gives the judge the next item that waits, or, where none does and the list has ended, closes it. Whether it did.
+/// Gives the judge the next item that waits, or, if none does and the list has ended, closes it. Whether it did either.
 #[inline(always)]
 fn judge_next(units: &mut Units, judge: &mut Judge, ended: bool, closed: &mut bool) -> bool
     requires idle { IsIdleJudge judge.old }
@@ -256,7 +260,7 @@ fn judge_next(units: &mut Units, judge: &mut Judge, ended: bool, closed: &mut bo
     }
 }
 
-/// Closes the judge, where the list has ended and it was not closed before. Whether it did.
+/// Closes the judge, if the list has ended and it was not closed before. Whether it did.
 fn close_ended(judge: &mut Judge, ended: bool, closed: &mut bool) -> bool
     requires idle { IsIdleJudge judge.old }
     requires closed { closed.old ≡ judge.old.closed }

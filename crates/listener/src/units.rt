@@ -92,7 +92,8 @@ fn completes_unit(part: NalPart) -> bool
     }
 }
 
-/// Why a packet is in no unit, whatever stands beside it: its time is uncertain, or it completes a unit and has no timestamp.
+/// Why a packet is in no unit, whatever comes before or after it: its time is uncertain, or it completes a unit and has
+/// no timestamp.
 fn flaw(view: &CvfView<'_>) -> Option<Reason>
     ensures { result ≡ flaw_in (cvf_shape view.now) }
 {
@@ -190,7 +191,7 @@ impl Units {
         self.own = Some(item);
     }
 
-    /// The same, and answers the first item that is given; the others wait.
+    /// What `cut` does, and answers the first item that is given; the others wait.
     #[inline(always)]
     fn cut_first(&mut self, item: Item) -> Option<Item>
         requires { IsItem item }
@@ -208,8 +209,8 @@ impl Units {
         self.next()
     }
 
-    /// A packet begins a unit, or goes on with one, or is lost. `NoMemory` comes where no memory is found for the unit that
-    /// it makes whole.
+    /// A packet begins a unit, or goes on with one, or is lost. `NoMemory` comes if no memory is found for the unit
+    /// that it makes whole, which is reserved before the packet is pushed.
     fn push(
         &mut self,
         alloc: Global,
@@ -233,10 +234,10 @@ impl Units {
         Ok(())
     }
 
-    /// Takes the next delivery of the stream, where all items that those before it gave were taken. Answers the first item that
-    /// it gives, where it gives one; the others wait.
+    /// Takes the next delivery of the stream, after all items that those before it gave were taken. Answers the first
+    /// item that it gives, if it gives one; the others, which only H.264 has, wait.
     ///
-    /// `NoMemory` comes where no memory is found for a packet's samples or for a unit; nothing changes then.
+    /// `NoMemory` comes if no memory is found for a packet's samples or for a unit; nothing changes then.
     #[inline(always)]
     pub fn take_delivery(
         &mut self,

@@ -17,8 +17,8 @@ pub fn copies_are_read()
     cvf_format::laws::packet_again();
 }
 
-/// A record that carries a packet of a conforming talker belongs to the talker's stream, where the kind is one of those that
-/// belong to a stream, and its delivery is a copy of the packet.
+/// A record that carries a packet of a conforming talker belongs to the talker's stream, if the kind is one of those
+/// that belong to a stream, and its delivery is a copy of the packet.
 pub fn carried_packet_is_delivered()
     ensures belongs { (shift : ℤ) (p : PacketJournal) (lead n : ℕ) (r : Record) → IsConforming shift p → IsReadKind p.times.kind → Carries p lead n r → belongs stream_kinds p.stream r.bytes ≡ true }
     ensures copy { (p : PacketJournal) (lead n frame : ℕ) (r : Record) → Carries p lead n r → IsCopyOf p lead n (delivery frame r) }
@@ -26,8 +26,8 @@ pub fn carried_packet_is_delivered()
     cvf_format::laws::packet_again();
 }
 
-/// Records whose frames carry packets of a conforming talker, captured in time, deliver its journal, whichever packets they
-/// are, where the kind is one of those that belong to a stream.
+/// Records whose frames carry packets of a conforming talker, captured in time, deliver its journal, whichever packets
+/// they are, if the kind is one of those that belong to a stream.
 pub fn carried_packets_are_delivered()
     ensures { (shift : ℤ) (p : PacketJournal) (clock : Option ℕ) (lead : ℕ) (numbers : List ℕ) (records : List Record) → IsConforming shift p → IsReadKind p.times.kind → AllCarry p lead numbers records → AreNear p.times numbers → Delivers p clock lead records }
 {

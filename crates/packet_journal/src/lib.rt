@@ -1,4 +1,4 @@
-//! The packets of a talker's journal, and which records of a capture are copies of them. The definitions stand here; each
+//! The packets of a talker's journal, and which records of a capture are copies of them. The definitions are here; each
 //! call is a law of them, and does nothing.
 #![tactic(auto)]
 

@@ -47,7 +47,7 @@ impl Back {
         }
     }
 
-    /// The presenter's turn of a round: pops and presents what is found, at most so many items, until one fails.
+    /// The presenter's turn of a round: pops and presents what is found, at most `most` items, until one fails.
     pub fn take_turn<P: Presenter, G: Gate>(
         &mut self,
         presenter: &mut P,

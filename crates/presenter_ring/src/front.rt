@@ -30,7 +30,7 @@ impl Front {
     ghost use Rattle.presenter_ring.specs.Fronts.{ended_of};
     ghost use Rattle.presenter_ring.specs.state.Fronts.{HasFed, IsStuck, Pushes, Takes};
 
-    /// The item in hand, or where there is none the next one of the receiver, which may end instead.
+    /// The item in hand, or if there is none the next one of the receiver, which may end instead.
     #[inline(always)]
     fn next_item<R: Receiver>(&mut self, receiver: &mut R) -> Option<Shown>
         requires live { ended_of self.old ≡ None → R.ended receiver.old ≡ None }
@@ -56,7 +56,7 @@ impl Front {
         }
     }
 
-    /// Pushes an item, or keeps it in hand where no slot is free. Says whether one was.
+    /// Pushes an item, or keeps it in hand if no slot is free. Says whether one was.
     #[inline(always)]
     fn push<G: Gate>(&mut self, shown: Shown, gate: &G) -> bool
         requires empty { self.old.hand ≡ None }
@@ -77,7 +77,7 @@ impl Front {
         }
     }
 
-    /// Pushes one item, which is pulled where none is in hand, and says whether there was one that found a free slot.
+    /// Pushes one item, which is pulled if none is in hand, and says whether there was one that found a free slot.
     #[inline(always)]
     fn push_next<R: Receiver, G: Gate>(&mut self, receiver: &mut R, gate: &G) -> bool
         requires live { ended_of self.old ≡ None → R.ended receiver.old ≡ None }
@@ -93,7 +93,7 @@ impl Front {
         }
     }
 
-    /// The receiver's turn of a round: pulls and pushes while a free slot is found, at most so many items.
+    /// The receiver's turn of a round: pulls and pushes while a free slot is found, at most `most` items.
     pub fn take_turn<R: Receiver, G: Gate>(&mut self, receiver: &mut R, gate: &G, most: usize)
         requires some { 0 < most }
         requires live { ended_of self.old ≡ None → R.ended receiver.old ≡ None }

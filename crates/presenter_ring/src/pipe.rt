@@ -25,8 +25,8 @@ pub enum Round {
     PresentFault,
 }
 
-/// A ring between a receiver and a presenter, with the item that was pulled and found no free slot. It goes on in rounds, in
-/// each of which both take their turns, side by side in two threads.
+/// A ring between a receiver and a presenter, with the item that was pulled and found no free slot. It goes on in
+/// rounds, in in each of which both take their turns, in two threads.
 #[derive(Drop)]
 pub struct Pipe {
     front: Front,
@@ -50,7 +50,7 @@ impl Pipe {
     ghost use Rattle.presenter_ring.specs.state.Pipes.{IsStill, HasStepped, KeepsRing};
     ghost use Rattle.presenter_ring.specs.Pulls.{items_of};
 
-    /// An empty pipe whose ring has room for 1 to 256 items. `NoMemory` comes where no memory is found for it.
+    /// An empty pipe whose ring has room for 1 to 256 items. `NoMemory` comes if no memory is found for it.
     pub fn begin(alloc: Global, capacity: u32) -> Result<Self, NoMemory>
         requires some { 1 ≤ capacity }
         requires most { capacity ≤ 256 }
@@ -137,8 +137,8 @@ impl Pipe {
         }
     }
 
-    /// Both sides take their turns. Where nothing was pushed or popped, though an item is in hand, the ring is empty and its
-    /// producer knew no free slot, so the item is presented past the ring.
+    /// Both sides take their turns. If nothing was pushed or popped, though an item is in hand, the ring is empty and
+    /// its producer knew no free slot, so the item is presented past the ring.
     fn advance<T: Threads + Sync, R: Receiver, P: Presenter, G: Gate>(
         &mut self,
         rt: &T,
@@ -171,11 +171,12 @@ impl Pipe {
             && self.back.consumer.cached_slots() == 0
     }
 
-    /// Goes on by one round: the receiver's side pulls items and pushes them while it finds a free slot, at most as many as
-    /// the ring has room for, and keeps one in hand where it finds none; the presenter's side pops and presents as many at
-    /// most, until one fails. Each takes its turn in a thread of its own. The gate is called after each push and each pop.
+    /// Goes on by one round: the receiver's side pulls items and pushes them while it finds a free slot, at most as
+    /// many as the ring has room for, and keeps one in hand if it finds none; the presenter's side pops and presents as
+    /// many at most, until one fails. Each takes its turn in a thread of its own. The gate is called after each push
+    /// and each pop.
     ///
-    /// Needs a receiver that has not ended where `ended` is `None`, and at most 2^62 items in all.
+    /// Needs a receiver that has not ended if `ended` is `None`, and at most 2^62 items in all.
     pub fn round<T: Threads + Sync, R: Receiver, P: Presenter, G: Gate>(
         &mut self,
         rt: &T,

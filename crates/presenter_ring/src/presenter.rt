@@ -14,10 +14,10 @@ pub trait Presenter: Send {
     /// From how the first was on, the presenter was handed these items, in this order, and so became the second.
     ghost handed: { Self → Self → List ShownValue → Type 0 };
 
-    /// The number of faults so far, which stands still at the last value of a 64-bit number.
+    /// The number of faults so far, which stays at the last value of a 64-bit number.
     ghost faults: { Self → ℕ };
 
-    /// Presents an item. `Failed` comes only where the count rose; the item was handed over all the same.
+    /// Presents an item. `Failed` comes only if the count rose; the item counts as handed over even then.
     fn present(&mut self, shown: Shown) -> Result<(), Failed>
         ensures handed { (begun : Self) (items : List ShownValue) → handed begun self.old items → handed begun self.new (items ++ shown ∷ []) }
         ensures counted { IsCounted (faults self.old) (faults self.new) result };

@@ -23,7 +23,9 @@ pub enum Pull {
     Memory,
 }
 
-/// Something that gives items, one after the other, until it ends.
+/// Something that gives items, one after another, until it ends. What it gave is said of two values, one from which on
+/// items were given and one that it became, since a side that borrows what it works on keeps no account of how that was
+/// at first.
 pub trait Receiver: Send {
     ghost use Rattle.std.specs.Prelude.{List, ℕ, Option};
     ghost use Rattle.sample_schedule.specs.declared.shown.Shown.{Shown as ShownValue};

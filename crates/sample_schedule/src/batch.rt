@@ -4,7 +4,8 @@ use avtp_base::Bytes;
 use std::marker::Model;
 use time_unfold::Line;
 
-/// Samples with the line on which their instants lie. Sample j is at the instant of number `from + j`.
+/// Samples with the line on which their instants lie. Sample j is at the instant of number `from + j`. What holds of
+/// its instants is an invariant of the type, so that definitions can speak of batches without proofs inside.
 #[derive(Debug, Drop)]
 pub struct Batch {
     /// The number of the capture's frame, from 1.
@@ -15,7 +16,7 @@ pub struct Batch {
     pub line: Line,
     /// The number of the first sample on the line.
     pub from: i64,
-    /// The sample bytes, `count` times the same number.
+    /// The sample bytes, equally many for each of the `count` samples.
     pub bytes: Bytes,
 }
 
@@ -35,8 +36,8 @@ impl Batch {
     ghost use Rattle.std.specs.Prelude.{◌≡◌, ◌≤◌};
     ghost use Rattle.sample_schedule.specs.Batches.{sample_instant};
 
-    /// The instant of sample `j`, in nanoseconds of gPTP; at the number of samples, which `j` may
-    /// not pass, that of the first one behind them.
+    /// The instant of sample `j`, in nanoseconds of gPTP; at the number of samples, which `j` may not pass, that of the
+    /// first one after them.
     pub fn instant(&self, j: u32) -> i64
         requires { j ≤ self.now.count }
         ensures { result ≡ sample_instant self.now j }

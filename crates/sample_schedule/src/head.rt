@@ -42,7 +42,7 @@ fn stamp_of_packet(packet: &Packet) -> Option<Stamp>
     }
 }
 
-/// The stamp that an item adds to those from which packets are counted, where it has a usable one.
+/// The stamp that an item adds to those from which packets are counted, if it has a usable one.
 pub fn stamp_of(item: &Item) -> Option<Stamp>
     requires { IsItem item.now }
     ensures value { result ≡ stamp_of_entry (OfItem item.now) }
@@ -102,7 +102,7 @@ fn head_back(plan: &SchedulePlan, noted: &Noted, packet: &Packet) -> Option<Head
     })
 }
 
-/// The head of a packet that has samples and a rate: its own timestamp where that is usable, or the stamp that it finds
+/// The head of a packet that has samples and a rate: its own timestamp if that is usable, or the stamp that it finds
 /// among those of a prefix of the list.
 pub fn head_of(plan: &SchedulePlan, noted: &Noted, packet: &Packet) -> Option<Head>
     requires plan { IsPlan plan.now }

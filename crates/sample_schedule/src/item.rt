@@ -16,14 +16,14 @@ pub struct Packet {
     pub mr: bool,
     /// The timestamp is uncertain.
     pub tu: bool,
-    /// The timestamp, where there is a valid one.
+    /// The timestamp, if there is a valid one.
     pub stamp: Option<u32>,
     pub rule: HeadRule,
-    /// The nominal rate in Hz; 0 where the packet names none.
+    /// The nominal rate in Hz; 0 if the packet names none.
     pub rate: u32,
     /// The number of sample frames or data blocks.
     pub count: u32,
-    /// The sample bytes, `count` times the same number.
+    /// The sample bytes, equally many for each of the `count` samples.
     pub bytes: Bytes,
 }
 
@@ -40,7 +40,7 @@ pub struct Unit {
     pub bytes: Bytes,
 }
 
-/// A delivery that cannot be presented, whatever comes beside it.
+/// A delivery that cannot be presented, whatever comes before or after it.
 #[derive(Debug, Drop)]
 pub struct Bad {
     /// The number of the capture's frame, from 1.

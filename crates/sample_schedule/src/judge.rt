@@ -31,8 +31,10 @@ use std::marker::Model;
 /// A judge is given the entries of a stream one at a time, in capture order, and shows each item of the stream once,
 /// presented or flagged with the first reason that holds of it.
 ///
-/// An item is judged once `look` further entries are known, so a packet without a timestamp may be counted from one that was
-/// captured after it. All memory is reserved when the judge is made.
+/// An item is judged once `look` further entries are known, so a packet without a timestamp may be counted from one
+/// that was captured after it. A stamp is noted when its entry comes, and the entry is judged when it leaves the delay
+/// line. Before an entry is judged, what its arrival makes due is given, so what is held is what waits. All memory is
+/// reserved when the judge is made.
 #[derive(Drop)]
 pub struct Judge {
     plan: SchedulePlan,
@@ -63,8 +65,8 @@ impl Model for Judge {
 }
 
 impl Judge {
-    /// A judge of no entries. Reserves all the memory that it takes, of which some 4 MiB for a clock where the plan has one: no
-    /// further call takes any.
+    /// A judge of no entries. Reserves all the memory that it takes, of which some 4 MiB for a clock if the plan has
+    /// one: no further call takes any.
     pub fn begin(alloc: Global, plan: SchedulePlan) -> Result<Self, NoMemory>
         requires plan { IsPlan plan }
         ensures stands { IfOk result (λ judge. (clock : Clock) → IsClockOf plan clock → StandsFor clock [] 0 judge) }
@@ -100,8 +102,8 @@ impl Judge {
         self.current = Some(next);
     }
 
-    /// Puts an entry behind those that wait for further ones; the first of them is judged next, once they are more than the
-    /// look-ahead.
+    /// Puts an entry after those that wait for further ones; the first of them is judged next, once they are more than
+    /// the look-ahead.
     #[inline(always)]
     fn put(&mut self, pending: Pending)
         requires idle { IsIdle self.old }
@@ -132,8 +134,8 @@ impl Judge {
         self.put(Pending::Item(item));
     }
 
-    /// Takes a packet of the stream's clock, by its arrival and its points: an entry that is never shown. The same holds as for
-    /// an item. Where the plan has no clock it counts by its arrival alone. Takes no memory.
+    /// Takes a packet of the stream's clock, by its arrival and its points: an entry that is never shown. The same
+    /// holds as for an item. If the plan has no clock, it counts by its arrival alone. Takes no memory.
     pub fn step_clock(&mut self, arrival: i64, points: &Points<'_>)
         requires open { self.old.closed ≡ false }
         requires idle { IsIdle self.old }
@@ -149,7 +151,7 @@ impl Judge {
         self.put(Pending::Clock { arrival });
     }
 
-    /// The front of what waits, where the arrival of the entry that is being judged has passed its instant.
+    /// The front of what waits, if the arrival of the entry that is being judged has passed its instant.
     #[inline(always)]
     fn give_due(&mut self) -> Option<Accepted>
         requires { self.old.current ≢ None }
@@ -209,7 +211,7 @@ impl Judge {
         }
     }
 
-    /// Gives what the entry that is being judged makes due, and then its flag, where it has one.
+    /// Gives what the entry that is being judged makes due, and then its flag, if it has one.
     #[inline(always)]
     fn give_or_judge(&mut self) -> Option<Shown>
         ensures given { (clock : Clock) (entries : List EntryValue) (given : ℕ) → StandsFor clock entries given self.old → IfSome result (λ shown. slice_get (out clock self.old entries) given ≡ Some shown) }
@@ -271,8 +273,8 @@ impl Judge {
         }
     }
 
-    /// The next item that is shown of the entries so far: while further ones may follow, of those that are judged, and once
-    /// the judge is closed of all. None comes exactly where all of that was given. Takes no memory.
+    /// The next item that is shown of the entries so far: while further ones may follow, of those that are judged, and
+    /// once the judge is closed of all. None comes exactly if all of that was given. Takes no memory.
     pub fn next_out(&mut self) -> Option<Shown>
         ensures given { (clock : Clock) (entries : List EntryValue) (given : ℕ) → StandsFor clock entries given self.old → result ≡ slice_get (out clock self.old entries) given }
         ensures stands { (clock : Clock) (entries : List EntryValue) (given : ℕ) → StandsFor clock entries given self.old → StandsFor clock entries (given + length (option_to_list result)) self.new }
@@ -304,8 +306,9 @@ impl Judge {
         self.closed = true;
     }
 
-    /// How many batches are held: at most as many as the buffer takes, with at most as many bytes as its room. Where nothing
-    /// is due these are the accepted ones, of the entries that are judged, which were not given; none after `close`.
+    /// How many batches are held: at most as many as the buffer takes, with at most as many bytes as its room. If
+    /// nothing is due these are the accepted ones, of the entries that are judged, which were not given; none after
+    /// `close`.
     pub fn held(&self) -> u32
         ensures held { result ≡ length self.now.waiting }
         ensures batches { result ≤ self.now.plan.buffer }

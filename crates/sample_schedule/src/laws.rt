@@ -41,7 +41,7 @@ pub fn each_item_is_shown_as_judged()
     ensures { (clock : Clock) (plan : SchedulePlan) (entries : List Entry) (i : ℕ) (item : Item) → slice_get entries i ≡ Some (Entry.Item item) → shown_at i (given clock plan entries) ≡ given_by i item (verdict_in clock plan entries i item) ∷ [] }
 {}
 
-/// First instants of what is presented never fall, and equal ones stand in the order of the items.
+/// First instants of what is presented never fall, and those with equal ones are in the order of the items.
 pub fn presented_in_order()
     ensures { (clock : Clock) (plan : SchedulePlan) (entries : List Entry) → Pairwise IsBefore (presented (given clock plan entries)) }
 {}
@@ -52,7 +52,7 @@ pub fn copies_are_not_presented()
     ensures { (clock : Clock) (plan : SchedulePlan) (entries : List Entry) → Pairwise IsNoCopy (presented (given clock plan entries)) }
 {}
 
-/// What is certain of a list stays where the list goes on: what is due of the longer list begins with it.
+/// What is certain of a list stays if the list goes on: what is due of the longer list begins with it.
 pub fn due_stays()
     ensures { (clock : Clock) (plan : SchedulePlan) (entries more : List Entry) → IsPrefix (due clock plan entries) (due clock plan (entries ++ more)) }
 {}
@@ -76,7 +76,7 @@ pub fn copies_wait()
     ensures { (now instant : ℤ) (seq : ℕ) (earlier : List Accepted) → now ≤ℤ instant → list_any (is_copy instant seq) (standing now earlier) ≡ list_any (is_copy instant seq) earlier }
 {}
 
-/// Where the time goes on, what waits splits into what is due, first, and what is still held.
+/// When the time goes on, what waits splits into what is due, first, and what is still held.
 pub fn what_waits_is_due_or_held()
     ensures due { (from to : ℤ) (earlier : List Accepted) → due_of to (by_instant (standing from earlier)) ≡ by_instant (between from to earlier) }
     ensures held { (from to : ℤ) (earlier : List Accepted) → from ≤ℤ to → left_of to (by_instant (standing from earlier)) ≡ by_instant (standing to earlier) }

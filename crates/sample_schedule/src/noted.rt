@@ -21,17 +21,17 @@ use clock_track::{Clock, Points};
 use std::alloc::Global;
 use time_unfold::{Anchors, Stamp, Want};
 
-/// How many stamps are looked through, beside those of the packets that are waited for.
+/// How many stamps are looked through, besides those of the packets that are waited for.
 const STAMPS: u32 = 16;
 
-/// What was noted of the entries so far: the last usable stamps, and the packets of the clock where the plan has one.
+/// What was noted of the entries so far: the last usable stamps, and the packets of the clock if the plan has one.
 #[derive(Drop)]
 pub struct Noted {
     stamps: Anchors,
     pub clock: Option<Clock>,
 }
 
-/// A clock of no packets, with the plan's shift, where the plan has one. Reserves all the memory that it needs.
+/// A clock of no packets, with the plan's shift, if the plan has one. Reserves all the memory that it needs.
 fn clock_of(alloc: Global, plan: &SchedulePlan) -> Result<Option<Clock>, NoMemory>
     requires { IsPlan plan.now }
     ensures { IfOk result (λ clock. HasClock plan.now [] clock) }
@@ -54,7 +54,7 @@ impl Noted {
         Ok(Noted { stamps, clock })
     }
 
-    /// Notes the usable stamp of an item, where it has one. Takes no memory.
+    /// Notes the usable stamp of an item, if it has one. Takes no memory.
     #[inline(always)]
     pub fn note_item(&mut self, item: &Item)
         requires { IsItem item.now }
@@ -66,7 +66,7 @@ impl Noted {
         }
     }
 
-    /// Notes a packet of the clock, where the plan has one. Takes no memory.
+    /// Notes a packet of the clock, if the plan has one. Takes no memory.
     pub fn note_points(&mut self, points: &Points<'_>)
         requires { IsNotable (row_of points.now) }
         ensures { (plan : SchedulePlanValue) (entries : List EntryValue) (arrival : ℤ) → HasNoted plan entries self.old → HasNoted plan (entries ++ OfClock arrival (row_of points.now) ∷ []) self.new }

@@ -1,4 +1,4 @@
-//! Keys that stand for what waits, sorted.
+//! Keys of what waits, sorted.
 
 ghost use Rattle.std.specs.Prelude.{◌≡◌, ◌+◌, ◌^◌, ◌<◌, ◌≤◌, ◌++◌, [], insert, length, nat_le, slice_get, slice_index_or, IfNone, IfOk, IfSome};
 ghost use Rattle.std.specs.List.{AllByRecursion, list_any};
@@ -12,12 +12,13 @@ use std::alloc::Global;
 use std::collections::VecDeque;
 use std::marker::Model;
 
-/// A block that has as many keys is split in two of half as many.
+/// A block with this many keys is split in halves, so all blocks but the first are at least half full, and `with_room`
+/// can reserve them all.
 const FULL: usize = 512;
 
 const HALF: usize = FULL / 2;
 
-/// Stands for a batch: the instant of its first sample, its sequence number, and the slot in which it is kept.
+/// The key of a batch: the instant of its first sample, its sequence number, and the slot in which it is kept.
 #[derive(Clone, Copy)]
 pub struct Key {
     pub instant: i64,
@@ -52,7 +53,7 @@ fn insert_key(keys: &mut VecDeque<Key>, place: usize, key: Key)
     };
 }
 
-/// Moves all keys but so many to the front of others, which have room.
+/// Moves all keys after the first `count` to the front of others, which have room.
 fn move_behind(keys: &mut VecDeque<Key>, count: usize, others: &mut VecDeque<Key>)
     requires count { count ≤ length keys.old.items }
     requires room { length keys.old.items + length others.old.items ≤ count + deque_capacity others.old }
@@ -138,7 +139,7 @@ impl Block {
         }
     }
 
-    /// Puts a key behind those that are not later.
+    /// Puts a key after those that are not later.
     fn put(&mut self, key: Key)
         requires { length self.old < 512 }
         ensures { self.new ≡ put_key self.old key }
@@ -232,7 +233,7 @@ fn split(blocks: &mut VecDeque<Block>, place: usize, mut upper: Block)
     insert_block(blocks, place + 1, upper);
 }
 
-/// Takes the first block, where it has no keys and others follow.
+/// Takes the first block, if it has no keys and others follow.
 fn take_empty(blocks: &mut VecDeque<Block>) -> Option<Block>
     requires { AreTaken blocks.old.items }
     ensures all { all_keys blocks.new.items ≡ all_keys blocks.old.items }
@@ -262,7 +263,8 @@ fn spare_blocks(alloc: Global, count: usize) -> Result<Vec<Block>, NoMemory>
     Ok(spare)
 }
 
-/// Keys by instant, and then as they came. They stand in blocks, so that few are moved where one is put among others.
+/// Keys by instant, and then as they came. They are kept in blocks of fewer than 512, so that one that comes out of
+/// order moves few others.
 #[derive(Drop)]
 pub struct SortedKeys {
     blocks: VecDeque<Block>,
@@ -284,7 +286,7 @@ impl Model for SortedKeys {
 }
 
 impl SortedKeys {
-    /// No keys. Reserves the memory in which so many find room.
+    /// No keys. Reserves the memory for this many.
     pub fn with_room(alloc: Global, keys: u32) -> Result<Self, NoMemory>
         ensures none { IfOk result (λ sorted. sorted.list ≡ []) }
         ensures room { IfOk result (λ sorted. keys ≤ sorted.room) }
@@ -314,7 +316,7 @@ impl SortedKeys {
         false
     }
 
-    /// Puts a key behind those that are not later. Takes no memory.
+    /// Puts a key after those that are not later. Takes no memory.
     pub fn put(&mut self, key: Key)
         requires { length self.old.list < self.old.room }
         ensures list { self.new.list ≡ put_key self.old.list key }

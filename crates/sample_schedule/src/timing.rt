@@ -66,7 +66,7 @@ fn on_nominal_line(packet: Packet, head: &Head) -> Batch
     samples_on(packet, line, head.first)
 }
 
-/// The samples of a packet on a line of the clock, where its head has this number.
+/// The samples of a packet on a line of the clock, on which its head has this number.
 fn on_clock_line(packet: Packet, head: &Head, line: Line, number: u64) -> Batch
     requires packet { IsPacket packet }
     requires some { 1 ≤ packet.count }
@@ -77,8 +77,8 @@ fn on_clock_line(packet: Packet, head: &Head, line: Line, number: u64) -> Batch
     samples_on(packet, line, number as i64 + head.first)
 }
 
-/// The samples of a packet that are counted from its head: on the line of the clock that covers it, or on the nominal line
-/// where there is no clock.
+/// The samples of a packet that are counted from its head: on the line of the clock that covers it, or on the nominal
+/// line if there is no clock.
 #[inline(always)]
 fn counted(noted: &Noted, packet: Packet, head: &Head) -> Result<Batch, Reason>
     requires packet { IsPacket packet }

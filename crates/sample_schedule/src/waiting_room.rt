@@ -31,7 +31,7 @@ fn size(accepted: &Accepted) -> u64
 }
 
 /// What is accepted and waits for its instant, by first instant and then by place. Small keys are in that order; the
-/// batches stand in slots, and are not moved while they wait.
+/// batches are kept in slots, and are not moved while they wait.
 #[derive(Drop)]
 pub struct Waiting {
     keys: SortedKeys,
@@ -53,7 +53,7 @@ impl Model for Waiting {
 }
 
 impl Waiting {
-    /// Nothing waits. Reserves the memory in which so many batches wait.
+    /// Nothing waits. Reserves the memory for this many batches.
     pub fn with_room(alloc: Global, batches: u32) -> Result<Self, NoMemory>
         ensures none { IfOk result (λ waiting. waiting.list ≡ []) }
         ensures room { IfOk result (λ waiting. batches ≤ waiting.room) }
@@ -89,7 +89,7 @@ impl Waiting {
         self.keys.has(instant, seq)
     }
 
-    /// So many batches wait as the buffer takes, or their bytes and so many more are more than its room.
+    /// As many batches wait as the buffer takes, or their bytes and `size` more are more than its room.
     #[inline(always)]
     pub fn is_full(&self, plan: &SchedulePlan, size: usize) -> bool
         ensures full { result ≡ is_full_of plan.now self.now.list size }
@@ -100,7 +100,7 @@ impl Waiting {
             || self.bytes().saturating_add(size as u64) > u64::from(plan.room)
     }
 
-    /// Puts one behind all that are not later. Takes no memory.
+    /// Puts one after all that are not later. Takes no memory.
     #[inline(always)]
     pub fn put_behind(&mut self, accepted: Accepted)
         requires room { length self.old.list < self.old.room }
@@ -141,7 +141,7 @@ impl Waiting {
         Some(first)
     }
 
-    /// Takes the first one, where its instant is before `now`.
+    /// Takes the first one, if its instant is before `now`.
     #[inline(always)]
     pub fn take_due(&mut self, now: i64) -> Option<Accepted>
         ensures taken { self.old.list ≡ option_to_list result ++ self.new.list }

@@ -8,11 +8,11 @@ use avtp_base::Failed;
 use presenter_ring::Presenter;
 use sample_schedule::{Reason, Shown};
 
-/// What becomes of the packets of a stream that are delivered. As a presenter it counts what it is handed, each number up to
-/// the largest of 64 bits.
+/// What becomes of the packets of a stream that are delivered. As a presenter it counts what it is handed, each number
+/// up to the largest of 64 bits, since it may be handed any number of items; no count of `soak` comes so far.
 #[derive(Clone, Copy, Debug, PartialEq, Eq)]
 pub struct SoakCounts {
-    /// The deliveries: packets that arrive, where one that arrives twice counts twice.
+    /// The deliveries: packets that arrive; one that arrives twice counts twice.
     pub delivered: u64,
     /// Those that are presented.
     pub presented: u64,
@@ -27,7 +27,7 @@ pub struct SoakCounts {
 }
 
 impl SoakCounts {
-    /// None of so many deliveries was shown yet.
+    /// None of this many deliveries was shown yet.
     pub(crate) fn of(delivered: u64) -> Self
         ensures { result ≡ outcomes delivered [] }
     {

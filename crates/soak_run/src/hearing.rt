@@ -24,7 +24,7 @@ const SOAK_LISTENER: ListenPlan = ListenPlan {
     shift: 0,
 };
 
-/// Where the hearing of deliveries stands.
+/// How far the hearing of deliveries has come.
 #[derive(Clone, Copy, Debug, PartialEq, Eq)]
 pub enum Stage {
     /// Deliveries are given to the listener, and what is due of them is shown.
@@ -108,7 +108,7 @@ impl<'a> Hearing<'a> {
         })
     }
 
-    /// Gives the next delivery to the listener, or closes it where all were given. Nothing is due of those before.
+    /// Gives the next delivery to the listener, or closes it if all were given. Nothing is due of those before.
     fn go_on(&mut self) -> Result<(), NoMemory>
         requires giving { self.old.stage ≡ Stage.Giving }
         requires idle { IsIdle self.old.listener }

@@ -69,15 +69,15 @@ fn want_of_memory(_fault: TalkFault) -> NoMemory
     NoMemory
 }
 
-/// Sends so many packets over a bad network, at most 1,000,000, has a listener hear what arrives, and answers what became of
-/// it. `NoMemory` comes where no memory is found.
+/// Sends `packets` packets over a bad network, at most 1,000,000, has a listener hear what arrives, and answers what
+/// became of it. `NoMemory` comes if no memory is found.
 ///
 /// The stream is sparse PCM of two channels at 48 kHz, with six sample frames in a packet. One packet in 16 is lost and one
 /// comes twice, and each copy comes up to 2.52 ms late. The listener looks 32 items ahead, and is given the deliveries as the
 /// records of a capture, in the order in which they arrive. Each of them has one outcome, so the counts add up.
 ///
-/// One thread talks and hears, and another counts what is shown, with a ring between them. The counts are the same whatever
-/// the two saw of each other.
+/// One thread talks and hears, and another counts what is shown, with a ring between them. The counts do not depend on
+/// what the two saw of each other.
 pub fn soak<T: Threads + Sync>(rt: &T, alloc: Global, packets: u32) -> Result<SoakCounts, NoMemory>
     requires { packets ≤ 1000000 }
     ensures exact { IfOk result (λ counts. counts ≡ soak_counts packets) }

@@ -8,7 +8,7 @@ ghost use Rattle.stream_journal.specs.Examples.{beside, came, clocked, each_eigh
 ghost use Rattle.stream_journal.specs.Heads.{stamp_at, wanted};
 ghost use Rattle.stream_journal.specs.Journal.{IsAt, head_of};
 
-/// Three packets of 6 samples at 48 kHz take 125,000 ns each. They keep the rules exactly where they are due at least 3/4
+/// Three packets of 6 samples at 48 kHz take 125,000 ns each. They keep the rules exactly if they are due at least 3/4
 /// of that apart.
 pub fn three_packets_conform()
     ensures { (spacing : ℕ) → spacing ≤ 1000000000 → Conforms (three_packets spacing) ↔ 93750 ≤ spacing }
@@ -39,8 +39,8 @@ pub fn block_talkers_conform()
     ensures two_before { head_of each_sixteenth 4 ≡ Some (record { instant = pos 1002166666; first = pos 8 }) }
 {}
 
-/// Copies of its packets at 96 kHz, of which packet 2 was lost, are delivered to a listener that expects packets 2 ms before
-/// their first instant. For packet 4 it finds the stamp of packet 2 where it has that, and none where it has not.
+/// Copies of its packets at 96 kHz, of which packet 2 was lost, are delivered to a listener that expects packets 2 ms
+/// before their first instant. For packet 4 it finds the stamp of packet 2 if it has that, else none.
 pub fn block_copies_are_delivered()
     ensures delivered { AreDelivered each_sixteenth 2000000 sixteenth_copies }
     ensures known { found 16 (wanted each_sixteenth 2000000 (came 4 1000250000) (record { packets = 2; samples = 8 })) (stamp_at each_sixteenth 0 1002000000 ∷ stamp_at each_sixteenth 2 1002166666 ∷ [])
@@ -48,7 +48,7 @@ pub fn block_copies_are_delivered()
     ensures lost { found 16 (wanted each_sixteenth 2000000 (came 4 1000250000) (record { packets = 2; samples = 8 })) (stamp_at each_sixteenth 0 1002000000 ∷ stamp_at each_sixteenth 5 1002333333 ∷ []) ≡ None }
 {}
 
-/// A talker that sends a clock beside a stream of 48 kHz, with 96 events in 2 ms, keeps the rules exactly where these 2 ms
+/// A talker that sends a clock beside a stream of 48 kHz, with 96 events in 2 ms, keeps the rules exactly if these 2 ms
 /// are within 1/8 of the nominal time of 96 events.
 pub fn clocked_talkers_conform()
     ensures { (base : ℕ) → Conforms (clocked base) ↔ (42000 ≤ base) × (base ≤ 54000) }
@@ -63,9 +63,9 @@ pub fn samples_are_clocked()
     ensures next { IsAt true (clocked 44100) 17 5 (pos 1004220703) }
 {}
 
-/// The rules at their limits: codes of pull are 0 to 5; periods beside each other differ by at most a quarter of the 20,833
-/// ns between two events of 48 kHz; a timestamp that two joined pairs cover is none of a stream that agrees with its clock;
-/// an access unit has at most 255 packets.
+/// The rules at their limits: codes of pull are 0 to 5; adjacent periods differ by at most a quarter of the 20,833 ns
+/// between two events of 48 kHz; a timestamp that two joined pairs cover is none of a stream that agrees with its
+/// clock; an access unit has at most 255 packets.
 pub fn rules_have_limits()
     ensures pull { (pull : ℕ) → Conforms (beside (pulled pull)) ↔ pull ≤ 5 }
     ensures steady { (late : ℕ) → Conforms (beside (unsteady late)) ↔ late ≤ 5208 }

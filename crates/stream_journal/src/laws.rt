@@ -23,8 +23,8 @@ pub fn timestamps_are_true()
     ensures { (j : Journal) (lead : ℕ) (c : Copy) (instant : ℕ) → IsDelivered j lead c → j.stamp c.number ≡ Some instant → unfolded (instant % 2 ^ 32) (pos c.arrival) ≡ pos instant }
 {}
 
-/// Packets that are so many numbers apart are due at least 3/4 of so many packets' time apart, so they are due in the order
-/// of their numbers.
+/// Packets that are n numbers apart are due at least 3/4 of n packets' time apart, so they are due in the order of
+/// their numbers.
 pub fn packets_are_spaced()
     ensures rising { (j : Journal) (n m : ℕ) → IsAudio j → n < m → m < j.packets → j.due n < j.due m }
     ensures apart { (j : Journal) (n m : ℕ) → IsAudio j → n + m < j.packets → IsApart j (3 * m) (j.due n) (j.due (n + m)) }
@@ -59,7 +59,7 @@ pub fn samples_have_one_instant()
     ensures { (j : Journal) (by_clock : Bool) (n k : ℕ) (x y : ℤ) → Conforms j → n < j.packets → IsAt by_clock j n k x → IsAt by_clock j n k y → x ≡ y }
 {}
 
-/// Where two packets at most 8 apart have one restart bit, all packets between them have it: no restart lies there.
+/// If two packets at most 8 apart have one restart bit, all packets between them have it: no restart lies there.
 pub fn no_restart_lies_between()
     ensures { (j : Journal) (n d k : ℕ) → HoldsEight j.packets j.mr → n < j.packets → d ≤ n → d ≤ 8 → j.mr (n - d) ≡ j.mr n → n - d ≤ k → k ≤ n → j.mr k ≡ j.mr n }
 {}
@@ -71,8 +71,9 @@ pub fn joined_pairs_are_true()
 {}
 
 /// So whatever copies of a clock's packets a listener has, each pair that it joins is a joined pair of the list of all
-/// points, and each line that it finds is that of a joined pair of this list which covers the instant. Where the stream
-/// agrees with the clock, a packet's head has one such line at most, and the samples on it are at the journal's instants.
+/// points, and each line that it finds is that of a joined pair of this list which covers the instant. If the stream
+/// agrees with the clock, a packet's head has one such line at most, and the samples on it are at the journal's
+/// instants.
 pub fn clock_lines_are_true()
     ensures pairs { (c : ClockJournal) (shift : ℤ) (rows : List ClockRow) → IsClock c → All (IsTrueRow c shift) rows → All (IsTruePair c) (joined_pairs shift (window rows)) }
     ensures spot { (j : Journal) (shift instant : ℤ) (rows : List ClockRow) → IsClock j.clock → All (IsTrueRow j.clock shift) rows → IfSome (clock_spot rows shift instant j.rate) (IsSpotAt j instant) }

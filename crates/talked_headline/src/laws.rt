@@ -39,8 +39,8 @@ pub fn talked_keeps_headline()
     headline_holds();
 }
 
-/// The first packet that is captured of a plan of audio must be presented, where it is stamped and has room, whatever comes after it:
-/// it is welcome at place 0, so the headline says something of each such capture.
+/// The first packet that is captured of a plan of audio must be presented, if it is stamped and has room, whatever
+/// comes after it: it is welcome at place 0, so the headline says something of each such capture.
 pub fn talked_is_welcome()
     ensures { (plan : TalkPlan) (input places : List ℕ) (listen : ListenPlan) (n : ℕ) → ListensTo plan input listen → HasRoomFor plan input listen n
         → (made : MadeItem) × IsWelcome (journal plan input) listen (captured plan input (n ∷ places)) 0 n made }
@@ -54,7 +54,7 @@ pub fn talked_is_welcome()
     first_packet_is_welcome();
 }
 
-/// Where that packet is captured once more, directly after, it is a further copy, which is flagged as a repeat.
+/// If that packet is captured once more, directly after, it is a further copy, which is flagged as a repeat.
 pub fn talked_again_is_further()
     ensures { (plan : TalkPlan) (input places : List ℕ) (listen : ListenPlan) (n : ℕ) → ListensTo plan input listen → HasRoomFor plan input listen n
         → (made : MadeItem) × IsFurther (journal plan input) listen (captured plan input (n ∷ n ∷ places)) 1 n made }
@@ -69,9 +69,9 @@ pub fn talked_again_is_further()
     second_copy_is_further();
 }
 
-/// Whatever a capture loses, repeats or reorders of a plan of H.264, it meets the whole premise of the headline, too. Where the
-/// plan stamps the last fragments of units alone, fragments that are captured beside each other have to be of packets that
-/// are at most 254 apart.
+/// Whatever a capture loses, repeats or reorders of a plan of H.264, it meets the whole premise of the headline, too.
+/// If the plan stamps the last fragments of units alone, adjacent captured fragments have to be of packets that are at
+/// most 254 apart.
 pub fn talked_video_is_heard()
     ensures { (plan : TalkPlan) (input places : List ℕ) (listen : ListenPlan) → ListensToVideo plan input places listen → HearsTalker (pos 0) (journal plan input) listen (captured plan input places) }
 {
@@ -89,8 +89,8 @@ pub fn talked_video_keeps_headline()
     headline_holds();
 }
 
-/// Where the first packets that are captured of a plan of H.264 are all packets of one of its units, in their order, or the one
-/// packet that has it whole, and there is room for the unit, it must be presented, whatever comes after them.
+/// If the first packets that are captured of a plan of H.264 are all packets of one of its units, in their order, or
+/// the one packet that has it whole, and there is room for the unit, it must be presented, whatever comes after them.
 pub fn talked_unit_is_welcome()
     ensures { (plan : TalkPlan) (input places : List ℕ) (listen : ListenPlan) (from n : ℕ) → ListensToVideo plan input (range_with_len from (n - from) ++ n ∷ places) listen → HasRoomForUnit plan input listen from n
         → (made : MadeItem) × IsWelcome (journal plan input) listen (captured plan input (range_with_len from (n - from) ++ n ∷ places)) 0 n made }

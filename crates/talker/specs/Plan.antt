@@ -118,7 +118,8 @@ abbrev pub HasClock : Option CrfPlan → ℕ → ℕ → Option ℕ → Type 0
 HasClock None rate count restart = ⊤
 HasClock (Some crf) rate count restart = IsClockPlan crf rate count restart
 
--- With a clock the lead is at least 3 ns, since timestamps on a clock can be a few nanoseconds before nominal instants.
+-- With a clock the lead is at least 3 ns: a timestamp on a clock can be up to 2 ns before its sample's nominal instant,
+-- and a packet's first sample up to 3 ns.
 abbrev pub IsAhead : Option CrfPlan → ℕ → Type 0
 IsAhead None lead = ⊤
 IsAhead (Some crf) lead = 3 ≤ lead

@@ -20,7 +20,7 @@ use iec61883_format::{Cip, IecView, anchor_index, syt_interval, write_iec};
 pub(crate) struct Am824Format {
     /// The code of the sample rate.
     pub fdf: u8,
-    /// SYT_INTERVAL: of so many data blocks one is stamped.
+    /// SYT_INTERVAL: of this many data blocks one is stamped.
     pub interval: u32,
 }
 
@@ -30,7 +30,7 @@ pub(crate) const BLOCKS_HEADER: usize = 32;
 /// The quadlet of silence: the label of linear audio of 24 bits, and a value of 0 (IEC 61883-6).
 const SILENT: u32 = 0x4000_0000;
 
-/// The code of a sample rate in Hz, where IEC 61883-6 has one.
+/// The code of a sample rate in Hz, if IEC 61883-6 has one.
 fn fdf_of(rate: u32) -> Option<u8>
     ensures { result ≡ fdf_of_rate rate }
 {
@@ -87,8 +87,8 @@ impl Am824Format {
         Am824Format { fdf, interval }
     }
 
-    /// The instant with which packet `n` is stamped: that of the first block whose count is a multiple of the interval, where
-    /// the packet has it (IEC 61883-6).
+    /// The instant with which packet `n` is stamped: that of the first block whose count is a multiple of the interval,
+    /// if the packet has it (IEC 61883-6).
     fn stamp(&self, plan: &TalkPlan, n: u64) -> Option<u64>
         requires plan { IsAudioPlan plan.now }
         requires format { IsAm824 self.now plan.now }

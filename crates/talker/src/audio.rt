@@ -129,7 +129,8 @@ impl AudioStream {
         self.plan.arrival(n)
     }
 
-    /// The samples of a packet of silence, and more of it.
+    /// The samples of a packet of silence, and more of it. The samples of the last packet are laid over them in an
+    /// array of its own, so the talker reserves one frame's buffer alone.
     #[tactic(auto, using(crate::proofs::Am824Lemmas::packet_of_silence, crate::proofs::PcmLemmas::zeros))]
     fn silence(&self) -> [u8; SAMPLES_LIMIT]
         requires { IsAudio self.now }
@@ -158,6 +159,8 @@ impl AudioStream {
     }
 
     /// Writes the frame of the packet whose samples end the input, which is sent at this arrival, filled up with silence.
+    // What is seldom run while audio is sent is marked cold, here and for clock packets, stamps on a clock and H.264,
+    // so that it takes no registers from the rest.
     #[cold]
     #[inline(never)]
     fn write_last(&self, out: &mut [u8], n: u64, arrival: i64, rest: &[u8])

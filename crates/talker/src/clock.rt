@@ -14,7 +14,9 @@ use crate::plan::{CrfPlan, TalkPlan};
 use byteorder::{BigEndian, ByteOrder};
 use crf_format::{CrfView, write_crf};
 
-/// The media clock of a plan, beside a stream of so many packets.
+/// The media clock of a plan, beside a stream of `stream` packets. Its points are counted through the whole stream:
+/// point s is at sample frame s * spacing, those that fill up the last packet among them. A restart lies at a whole
+/// packet of the clock, so this agrees with counting in each run.
 #[derive(Clone, Copy, Debug)]
 pub(crate) struct ClockStream {
     pub plan: TalkPlan,
@@ -36,7 +38,7 @@ const POINTS_LIMIT: usize = 180;
 const AUDIO_SAMPLE: u8 = 1;
 
 impl ClockStream {
-    /// The clock of a plan, where it has one, beside a stream of so many packets.
+    /// The clock of a plan, if it has one, beside a stream of this many packets.
     pub fn of(plan: TalkPlan, stream: u64) -> Option<Self>
         requires plan { IsAudioPlan plan }
         requires few { AreFew plan stream }
@@ -66,7 +68,7 @@ impl ClockStream {
         self.points().div_ceil(u64::from(self.crf.points))
     }
 
-    /// The sample frame of the stream at which point `s` stands.
+    /// The sample frame of the stream at which point `s` is.
     fn frame(&self, s: u64) -> u64
         requires clock { IsClockStream self.now }
         requires known { s < points_for self.now.crf self.now.plan self.now.stream }
@@ -85,7 +87,7 @@ impl ClockStream {
         m * u64::from(self.crf.points)
     }
 
-    /// The packet of the stream in which point `s` stands.
+    /// The packet of the stream in which point `s` is.
     #[tactic(auto, using(crate::proofs::ClockLemmas::point_within))]
     fn stream_packet(&self, s: u64) -> u64
         requires clock { IsClockStream self.now }

@@ -70,22 +70,23 @@ pub fn packets_are_sent_in_time()
     ensures stream { (plan : TalkPlan) (input : List ℕ) (n : ℕ) → IsPlan plan → IsAhead plan.crf plan.lead → length input ≤ most_input → n < (journal plan input).times.packets → IsSomeAnd (slice_get (stream_frames plan input) n) (λ f. f.arrival ≤ℤ pos ((journal plan input).times.due n)) }
 {}
 
-/// Where no restart lies between a packet and the seventh before it, one of these eight is stamped, and the packet is
+/// If no restart lies between a packet and the seventh before it, one of these eight is stamped, and the packet is
 /// counted from that: it has a head in the plan's journal.
 pub fn packets_have_heads()
     ensures { (plan : TalkPlan) (input : List ℕ) (n : ℕ) → IsAudioPlan plan → 7 ≤ n → run_of plan (n - 7) ≡ run_of plan n → IsSome (head_of (journal plan input).times n) }
 {}
 
-/// The first NAL unit is of access unit 0. Each further one is of the same access unit as the unit before it, or of the next:
-/// of the next exactly where the access unit of the unit before it has a slice already, and it is of those that begin one.
+/// The first NAL unit is of access unit 0. Each further one is of the access unit of the unit before it, or of the
+/// next: of the next exactly if the access unit of the unit before it has a slice already, and it is of those that
+/// begin one.
 pub fn access_units_begin()
     ensures first { (bytes : List ℕ) (units : List (ℕ × ℕ)) → access_unit bytes units 0 ≡ 0 }
     ensures further { (bytes : List ℕ) (units : List (ℕ × ℕ)) (i : ℕ) → (access_unit bytes units (suc i) ≡ access_unit bytes units i) ⊎ (access_unit bytes units (suc i) ≡ suc (access_unit bytes units i)) }
     ensures next { (bytes : List ℕ) (units : List (ℕ × ℕ)) (i : ℕ) → access_unit bytes units (suc i) ≡ suc (access_unit bytes units i) ↔ (HasSlice bytes units i × (may_begin bytes (unit_at units (suc i)) ≡ true)) }
 {}
 
-/// Packet `n` of H.264 carries fragment `k` of unit `i` exactly where so many packets stand before it: those of the units
-/// before `i`, and `k`. What the packets of a unit carry, put together behind its first byte, is the unit.
+/// Packet `n` of H.264 carries fragment `k` of unit `i` exactly if this many packets come before it: those of the units
+/// before `i`, and `k`. What the packets of a unit carry, put together after its first byte, is the unit.
 pub fn units_are_carried()
     ensures place { (units : List (ℕ × ℕ)) (n i k : ℕ) → place_of units n ≡ record { unit = i; fragment = k } ↔ ((packets_before units i + k ≡ n) × (k < packets_at units i)) }
     ensures whole { (bytes : List ℕ) (unit : ℕ × ℕ) → flat_map (body_of bytes unit) (range_with_len 0 (packets_for unit)) ≡ rest_in bytes unit }
@@ -117,11 +118,11 @@ pub fn journal_conforms()
     ensures { (plan : TalkPlan) (input : List ℕ) → IsPlan plan → plan.id < 2 ^ 64 → length input ≤ most_input → IsConforming (pos 0) (journal plan input) }
 {}
 
-/// The capture of a plan delivers its journal: its records carry the packets of the stream and of its clock, each once, and
-/// without a clock those of the stream in their order. It does so to every listener where each packet is stamped. Of a
-/// sparse stream, or one of AM824 with fewer data blocks in a packet than its interval, it does so to every listener that
-/// expects packets by about the plan's lead before their first instants. Packets of H.264 are delivered where listeners take
-/// their kind for one of a stream's.
+/// The capture of a plan delivers its journal: its records carry the packets of the stream and of its clock, each once,
+/// and without a clock those of the stream in their order. It does so to every listener if each packet is stamped. Of a
+/// sparse stream, or one of AM824 with fewer data blocks in a packet than its interval, it does so to every listener
+/// that expects packets by about the plan's lead before their first instants. Packets of H.264 are delivered if
+/// listeners take their kind for one of a stream's.
 pub fn capture_delivers()
     ensures carries { (plan : TalkPlan) (input : List ℕ) (lead : ℕ) → IsPlan plan → plan.crf ≡ None → length input ≤ most_input → Expects plan lead → AllCarry (journal plan input) lead (range_with_len 0 (journal plan input).times.packets) (records plan input) }
     ensures delivers { (plan : TalkPlan) (input : List ℕ) (clock : Option ℕ) (lead : ℕ) → IsAudioPlan plan → plan.id < 2 ^ 64 → length input ≤ most_input → Expects plan lead → Delivers (journal plan input) clock lead (records plan input) }
@@ -130,11 +131,11 @@ pub fn capture_delivers()
     records_of_both_are_delivered();
 }
 
-/// Whatever a capture loses, repeats or reorders of a plan's frames, each captured when it was sent: it reads back as just
-/// the records of these frames, and delivers the plan's journal to the same listeners as the whole capture, those of the
-/// law above, whichever packets of the stream and of the clock are lost, come again or change places. Of H.264 whose units
-/// are stamped on their last fragments alone, fragments that are captured beside each other have to be of packets that are
-/// at most 254 apart.
+/// Whatever a capture loses, repeats or reorders of a plan's frames, each captured when it was sent: it reads back as
+/// just the records of these frames, and delivers the plan's journal to the same listeners as the whole capture, those
+/// of the law above, whichever packets of the stream and of the clock are lost, come again or change places. Of H.264
+/// whose units are stamped on their last fragments alone, adjacent captured fragments have to be of packets that are at
+/// most 254 apart.
 pub fn losses_are_delivered()
     ensures records { (plan : TalkPlan) (input places : List ℕ) → IsPlan plan → length input ≤ most_input → whole_records (capture_of (frames_at plan input places)) ≡ map record_of (frames_at plan input places) }
     ensures delivers { (plan : TalkPlan) (input places : List ℕ) (clock : Option ℕ) (lead : ℕ) → IsAudioPlan plan → plan.id < 2 ^ 64 → length input ≤ most_input → Expects plan lead → Delivers (journal plan input) clock lead (whole_records (capture_of (frames_at plan input places))) }
@@ -143,10 +144,10 @@ pub fn losses_are_delivered()
     records_of_both_are_delivered();
 }
 
-/// The arithmetic of a media clock and of a stream that is stamped on it, on plain numbers: points beside each other in a
-/// run are joined, and their periods differ little; a new run doesn't begin before the last point and the last period behind
-/// it. The instant of an event is covered by just the pair that ends with the last point before the event, and by no pair
-/// of another run. Where the clock's frequency is the stream's rate, it is that of an event of the clock.
+/// The arithmetic of a media clock and of a stream that is stamped on it, on plain numbers: adjacent points in a run
+/// are joined, and their periods differ little; a new run doesn't begin before the last point and the last period after
+/// it. The instant of an event is covered by just the pair that ends with the last point before the event, and by no
+/// pair of another run. If the clock's frequency is the stream's rate, it is that of an event of the clock.
 pub fn clocks_keep_time()
     ensures even { (b : Beat) (start m : ℕ) → IsBeat b → IsJoined (pair_from b start m) }
     ensures steady { (b : Beat) (start m : ℕ) → IsBeat b → IsSteady (pair_from b start m) (pair_from b start (suc m)) }

@@ -24,8 +24,9 @@ pub(crate) struct PcmFormat {
     pub steady: bool,
     /// The code of the sample rate.
     pub code: u8,
-    /// The headers of packet 0's frame, Ethernet's and the packet's. Those of all frames differ from them only in the packet's
-    /// first four bytes and in its timestamp, and in a steady stream only in its sequence number and its timestamp.
+    /// The headers of packet 0's frame, Ethernet's and the packet's, which are spelled once and written over for each
+    /// frame. Those of all frames differ from them only in the packet's first four bytes and in its timestamp, and in a
+    /// steady stream only in its sequence number and its timestamp.
     pub headers: [u8; HEADERS],
 }
 
@@ -35,7 +36,7 @@ pub(crate) const PCM_HEADER: usize = 24;
 /// The length of both headers of a frame.
 const HEADERS: usize = HEADER + PCM_HEADER;
 
-/// The code of a sample rate in Hz, where AAF has one.
+/// The code of a sample rate in Hz, if AAF has one.
 fn rate_code(rate: u32) -> Option<u8>
     ensures { result ≡ rate_code_of rate }
 {
@@ -82,8 +83,8 @@ fn put_bytes<const N: usize>(out: &mut [u8], offset: usize, bytes: &[u8; N])
 /// The bytes of each of two parts in which samples are moved.
 const PART: usize = 16;
 
-/// Copies samples to as many bytes. The 16 to 32 bytes of many a packet are two parts, which may overlap and are moved without a
-/// call.
+/// Copies samples to as many bytes. The 16 to 32 bytes of many a packet are two parts, which may overlap and are moved
+/// without a call: the compiler makes a call of a move whose length it does not know.
 #[inline(always)]
 fn copy_samples(out: &mut [u8], samples: &[u8])
     requires { length out.old ≡ length samples.now }

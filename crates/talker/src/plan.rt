@@ -48,6 +48,6 @@ pub struct TalkPlan {
     pub restart: Option<u32>,
     /// How far a restart sets presentation times forward, in nanoseconds.
     pub jump: u32,
-    /// The media clock that is sent beside the stream, and on which the stream's timestamps stand.
+    /// The media clock that is sent beside the stream, and on which the stream's timestamps are.
     pub crf: Option<CrfPlan>,
 }

@@ -92,7 +92,7 @@ impl<'a> Source<'a> {
         }
     }
 
-    /// The media clock beside so many packets, where there is one.
+    /// The media clock beside this many packets, if there is one.
     pub fn clock(&self, packets: u64) -> Option<ClockStream>
         requires source { IsSource self.now }
         requires packets { packets ≡ (stream_in self.now).journal.times.packets }

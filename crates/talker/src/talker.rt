@@ -74,10 +74,10 @@ impl<'a> Talker<'a> {
     /// time from one to the next, 1 to 65,535 events of the clock, is that of whole sample frames, and with restarts a run of
     /// the stream is 8 packets of the clock or a multiple of that.
     ///
-    /// `Frames` comes exactly where an input of audio is not whole sample frames. Of H.264 `StartCode` comes exactly where the
-    /// input has no start code; else `NalType` where a NAL unit has another type than 1 to 23; else `Packets` where an access
-    /// unit needs more than 255 packets. `Arrival` comes exactly where none of these holds and a packet would arrive 2^32
-    /// seconds after 0 or later, which no such plan does. `Memory` comes where no memory is found.
+    /// `Frames` comes exactly if an input of audio is not whole sample frames. Of H.264 `StartCode` comes exactly if
+    /// the input has no start code; else `NalType` if a NAL unit has another type than 1 to 23; else `Packets` if an
+    /// access unit needs more than 255 packets. `Arrival` comes exactly if none of these holds and a packet would
+    /// arrive 2^32 seconds after 0 or later, which no such plan does. `Memory` comes if no memory is found.
     pub fn begin(alloc: Global, plan: TalkPlan, input: &'a [u8]) -> Result<Self, TalkFault>
         requires plan { IsPlan plan }
         requires limit { length input.now ≤ most_input }
@@ -165,8 +165,8 @@ impl<'a> Talker<'a> {
         }
     }
 
-    /// What is sent next, of all frames, in the order in which they are sent: by arrival, those of the clock first. `None`
-    /// comes exactly where all frames were given.
+    /// What is sent next, of all frames, in the order in which they are sent: by arrival, those of the clock first.
+    /// `None` comes exactly if all frames were given.
     #[inline(always)]
     pub fn turn(&self) -> Option<Turn>
         ensures turn { IfSome result (IsTurn self.now) }
@@ -205,8 +205,8 @@ impl<'a> Talker<'a> {
         }
     }
 
-    /// The next of all frames, in the order in which they are sent: by arrival, those of the clock first. It takes no memory.
-    /// `None` comes exactly where all frames were given.
+    /// The next of all frames, in the order in which they are sent: by arrival, those of the clock first. It takes no
+    /// memory. `None` comes exactly if all frames were given.
     #[inline(always)]
     pub fn next(&mut self) -> Option<Sent<'_>>
         ensures frame { option_map sent_frame result ≡ slice_get (frames self.old.plan self.old.input) self.old.given }
@@ -220,7 +220,7 @@ impl<'a> Talker<'a> {
     }
 }
 
-/// The number of packets of a clock, where there is one.
+/// The number of packets of a clock, if there is one.
 fn clock_packets(clock: &Option<ClockStream>) -> u64
     requires { IfSome clock.now IsClockStream }
     ensures { result ≡ clocks_of clock.now }
@@ -271,7 +271,8 @@ fn write_front(source: &Source<'_>, clock: &Option<ClockStream>, turn: Turn, out
     write_frame(source, clock, turn, &mut out[..turn.size]);
 }
 
-/// Packet `m` of the clock, where there is one, is sent before packet `n` of a stream of so many, or at the same time.
+/// Packet `m` of the clock, if there is one, is sent before packet `n` of a stream of this many, or at one time with
+/// it.
 fn clock_is_first(
     clock: &Option<ClockStream>,
     source: &Source<'_>,

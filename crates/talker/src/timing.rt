@@ -58,8 +58,9 @@ impl TalkPlan {
         self.run(n) * u64::from(self.jump)
     }
 
-    /// How long so many sample frames take, in nanoseconds. At multiples of 48 kHz one takes some thirds of a nanosecond: a
-    /// division by 3 is a multiplication, where one by a number that is not known beforehand takes ten times as long.
+    /// How long a number of sample frames take, in nanoseconds. At multiples of 48 kHz one takes some thirds of a
+    /// nanosecond: a division by 3 is a multiplication, while one by a number that is not known beforehand takes ten
+    /// times as long.
     #[tactic(auto, using(crate::proofs::RateLemmas::rate_from, crate::proofs::TimingLemmas::short_offset))]
     fn offset(&self, frames: u64) -> u64
         requires plan { IsAudioPlan self.now }
@@ -128,8 +129,8 @@ impl TalkPlan {
             / (u64::from(crf.rate) * pull_up(crf.pull))
     }
 
-    /// The instant with which sample frame `i` of packet `n` is stamped on the plan's clock, in nanoseconds of gPTP: so far
-    /// behind the last point of the clock as the period before it tells.
+    /// The instant with which sample frame `i` of packet `n` is stamped on the plan's clock, in nanoseconds of gPTP: so
+    /// far after the last point of the clock as the period before it tells.
     #[cold]
     #[inline(never)]
     fn clocked_instant(&self, crf: &CrfPlan, n: u64, i: u32) -> u64
@@ -196,7 +197,8 @@ impl TalkPlan {
         self.run(n) % 2 == 1
     }
 
-    /// The stream header of packet `n` (IEEE 1722-2016, 4.4.4), which is stamped with an instant or not, before so many bytes.
+    /// The stream header of packet `n` (IEEE 1722-2016, 4.4.4), which is stamped with an instant or not, before this
+    /// many bytes.
     pub(crate) fn header(
         &self,
         subtype: u8,

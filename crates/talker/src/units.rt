@@ -17,13 +17,13 @@ use cvf_format::{fragments, next_unit};
 use memchr::memmem;
 use std::alloc::Global;
 
-/// What stands before each unit (ITU-T H.264, annex B).
+/// What comes before each unit (ITU-T H.264, annex B).
 const START_CODE: [u8; 3] = [0, 0, 1];
 
 /// The most packets of an access unit.
 const MOST_PACKETS: u64 = 255;
 
-/// A NAL unit, and where it stands among the packets of the stream.
+/// A NAL unit, and which packets of the stream carry it.
 #[derive(Clone, Copy, Debug)]
 pub(crate) struct NalUnit {
     /// The place of its first byte, and the place after its last.
@@ -35,7 +35,8 @@ pub(crate) struct NalUnit {
     pub first: u64,
 }
 
-/// The NAL units of a byte stream, one after another.
+/// The NAL units of a byte stream, one after another. One walk finds faults and takes no memory, and a second one lists
+/// the units, so a fault comes whether memory is found or not.
 #[derive(Clone, Copy, Debug)]
 pub(crate) struct Units {
     /// How many came so far, and where the last one of them ends.
@@ -69,7 +70,8 @@ fn has_slice(bytes: &[u8], from: usize, to: usize) -> bool
     matches!(unit_type(bytes, from, to), 1..=5)
 }
 
-/// A unit has the first slice of a picture, if it has one: its second byte begins with a bit that is set.
+/// A unit has the first slice of a picture, if it has one: its second byte begins with a bit that is set. A slice of
+/// one byte has no second one, so it begins no access unit.
 fn is_first_slice(bytes: &[u8], from: usize, to: usize) -> bool
     requires some { from < to }
     requires inside { to ≤ length bytes.now }
@@ -78,7 +80,7 @@ fn is_first_slice(bytes: &[u8], from: usize, to: usize) -> bool
     from + 1 < to && bit_at(bytes, from + 1, 0)
 }
 
-/// A unit begins an access unit where the one before it has a slice (ITU-T H.264, 7.4.1.2.3).
+/// A unit begins an access unit if the one before it has a slice (ITU-T H.264, 7.4.1.2.3).
 #[tactic(auto, unfolding(crate::specs::AccessUnits::may_begin))]
 fn may_begin(bytes: &[u8], from: usize, to: usize) -> bool
     requires some { from < to }
@@ -107,7 +109,7 @@ impl Units {
         }
     }
 
-    /// A unit begins a new access unit behind those that came.
+    /// A unit begins a new access unit after those that came.
     fn is_begun(&self, bytes: &[u8], from: usize, to: usize) -> bool
         requires some { from < to }
         requires inside { to ≤ length bytes.now }
@@ -116,7 +118,7 @@ impl Units {
         self.sliced && may_begin(bytes, from, to)
     }
 
-    /// The same with one unit more.
+    /// These units with one more.
     fn with(&self, bytes: &[u8], from: usize, to: usize) -> Self
         requires some { from < to }
         requires inside { to ≤ length bytes.now }
@@ -137,7 +139,7 @@ impl Units {
         }
     }
 
-    /// The next unit. `None` comes where there is none.
+    /// The next unit. `None` comes if there is none.
     pub fn next(&mut self, bytes: &[u8]) -> Option<NalUnit>
         requires walk { IsWalk bytes.now self.old }
         requires limit { length bytes.now ≤ most_input }

@@ -35,13 +35,13 @@ pub(crate) struct VideoStream<'a> {
     pub packets: u64,
 }
 
-/// The bytes of a NAL unit behind its first that each of its fragments carries, but the last.
+/// The bytes of a NAL unit after its first that each of its fragments carries, but the last.
 const FULL_BODY: usize = 1398;
 
 /// The bytes of a packet that its stated length does not count.
 const UNCOUNTED: usize = 24;
 
-/// The part of a unit that fragment `k` of so many is.
+/// The part of a unit that its fragment `k` is, if it has this many.
 #[tactic(auto, unfolding(crate::specs::Fragments::part_by))]
 fn part_by(packets: u64, k: u64) -> NalPart
     requires { k < packets }
@@ -68,7 +68,7 @@ fn counted_header(part: NalPart) -> usize
     }
 }
 
-/// Fragment `k` of the bytes of a unit behind its first.
+/// Fragment `k` of the bytes of a unit after its first.
 fn fragment(rest: &[u8], k: usize) -> &[u8]
     requires { k * 1398 ≤ length rest.now }
     ensures value { result.now ≡ take 1398 (drop (k * 1398) rest.now) }
@@ -103,7 +103,7 @@ impl NalUnit {
         part_by(self.packets(), n - self.first)
     }
 
-    /// Its bytes behind the first that packet `n` carries.
+    /// Its bytes after the first that packet `n` carries.
     fn body<'a>(&self, bytes: &'a [u8], n: u64) -> &'a [u8]
         requires { IsCarried bytes.now self.now n }
         ensures value { result.now ≡ body_by (part_of (packets_for (self.now.from, self.now.to)) (n - self.now.first)) (n - self.now.first) (rest_in bytes.now (self.now.from, self.now.to)) }
@@ -146,7 +146,8 @@ impl<'a> VideoStream<'a> {
         })
     }
 
-    /// The place of the unit that packet `n` carries.
+    /// The place of the unit that packet `n` carries, found by halves in the list of units, which has the first packet
+    /// of each.
     fn place_of_unit(&self, n: u64) -> usize
         requires video { IsVideo self.now }
         requires known { n < self.now.packets }
