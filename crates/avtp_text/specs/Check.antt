@@ -8,7 +8,7 @@ use Rattle.avtp_text.specs.Pieces.{newline, id_text, refusal_text}
 unfoldable pub finding_start : ℕ → List ℕ
 finding_start number = codes "finding frame " ++ decimal number ++ codes " "
 
--- a frame or a packet that cannot be accepted; the offset is in the frame
+-- the line of a frame or a packet that cannot be accepted; the offset is in the frame
 unfoldable pub malformed_line : ℕ → Refusal → List ℕ
 malformed_line number r = finding_start number ++ codes "malformed " ++ refusal_text r ++ newline
 
@@ -28,7 +28,7 @@ found is_found name = if is_found then name ∷ [] else []
 abbrev pub counted : Option ℕ → List ℕ → List (List ℕ)
 counted count label = option_to_list (option_map (λ n. label ++ decimal n) count)
 
--- what is found in a packet, in the order in which it is printed
+-- the findings in a packet, in the order in which they are printed
 abbrev pub finding_texts : Findings → List (List ℕ)
 finding_texts f =
     found f.reserved (codes "reserved")
@@ -41,7 +41,7 @@ finding_texts f =
 abbrev pub findings_lines : ℕ → ℕ → Findings → List ℕ
 findings_lines number id f = flat_map (packet_line number id) (finding_texts f)
 
--- the end of a capture: its records, the streams that are tracked, and the findings
+-- the line at the end of a capture: its records, the streams that are tracked, and the findings
 unfoldable pub end_check_line : ℕ → ℕ → ℕ → List ℕ
 end_check_line frames streams findings =
     codes "end frames " ++ decimal frames

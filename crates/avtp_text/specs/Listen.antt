@@ -12,7 +12,7 @@ use Rattle.sample_schedule.specs.Batches.{Presented, sample_instant}
 use Rattle.listener.specs.declared.heard.Counts.{Counts}
 use Rattle.avtp_text.specs.Pieces.{newline}
 
--- the capture that was opened
+-- the line of the capture that was opened
 unfoldable pub capture_line : List ℕ → List ℕ
 capture_line name = codes "capture " ++ name ++ newline
 
@@ -20,11 +20,11 @@ capture_line name = codes "capture " ++ name ++ newline
 abbrev pub sample_bytes : Presented → ℕ → List ℕ
 sample_bytes batch j = take (length batch.bytes / batch.count) (drop (j * (length batch.bytes / batch.count)) batch.bytes)
 
--- when a sample is due, in nanoseconds, and the frame that it came in
+-- how the line of a sample begins: when it is due, in nanoseconds, and the frame that it came in
 unfoldable pub due_text : ℤ → ℕ → List ℕ
 due_text instant frame = codes "at " ++ signed_decimal instant ++ codes " frame " ++ decimal frame
 
--- the sequence number of a sample's packet, and the sample's number there
+-- how the line of a sample goes on: its packet's sequence number, and its number in the packet
 unfoldable pub place_text : ℕ → ℕ → List ℕ
 place_text seq j = codes " seq " ++ decimal seq ++ codes " sample " ++ decimal j ++ codes " "
 
@@ -51,7 +51,7 @@ reason_text Full = codes "full"
 reason_text Broken = codes "broken"
 reason_text Long = codes "long"
 
--- an item that is not presented, and why
+-- the line of an item that is not presented, with the reason
 unfoldable pub flag_line : ℕ → ℕ → Reason → List ℕ
 flag_line frame seq reason = codes "flag frame " ++ decimal frame ++ codes " seq " ++ decimal seq ++ codes " " ++ reason_text reason ++ newline
 
@@ -60,11 +60,11 @@ abbrev pub shown_lines : Shown → List ℕ
 shown_lines (Present batch) = batch_lines batch
 shown_lines (Flag frame seq reason) = flag_line frame seq reason
 
--- all that is shown, in its order
+-- the lines of all that is shown, in its order
 abbrev pub list_lines : List Shown → List ℕ
 list_lines list = flat_map shown_lines list
 
--- the end of a capture: its records, the packets of the stream among them, and what became of these
+-- the line at the end of a capture: its records, the packets of the stream among them, and what became of these
 unfoldable pub end_listen_line : Counts → List ℕ
 end_listen_line counts =
     codes "end frames " ++ decimal counts.frames

@@ -17,6 +17,6 @@ flag_text flag = if flag then codes "1" else codes "0"
 unfoldable pub id_text : ℕ → List ℕ
 id_text id = encode_lower (to_be_bytes w64 id)
 
--- the field, its offset, and whether the part that should hold it is too short
+-- a refusal: the field, its offset, and whether the part that should hold it is too short
 unfoldable pub refusal_text : Refusal → List ℕ
 refusal_text r = name_of r.field ++ codes " at " ++ decimal r.at ++ (if r.short then codes " short" else [])

@@ -22,19 +22,19 @@ frame_start number arrival = codes "frame " ++ decimal number ++ codes " at " ++
 abbrev pub frame_line : ℕ → ℤ → List ℕ → List ℕ
 frame_line number arrival content = frame_start number arrival ++ content ++ newline
 
--- the end of a capture, with the number of its records
+-- the line at the end of a capture, with the number of its records
 unfoldable pub end_frames_line : ℕ → List ℕ
 end_frames_line frames = codes "end frames " ++ decimal frames ++ newline
 
--- a frame or a packet that cannot be accepted; the offset is in the frame
+-- how a frame or a packet is shown that cannot be accepted; the offset is in the frame
 unfoldable pub refused_content : Refusal → List ℕ
 refused_content r = codes "refused " ++ refusal_text r
 
--- a frame of an EtherType other than that of AVTP, with the length of its payload
+-- how a frame of an EtherType other than that of AVTP is shown: with the length of its payload
 unfoldable pub ethertype_content : Frame → List ℕ
 ethertype_content f = codes "ethertype " ++ decimal f.ethertype ++ codes " bytes " ++ decimal (length f.payload)
 
--- a packet of an AVTP subtype that is not read
+-- how a packet of an AVTP subtype that is not read is shown
 unfoldable pub other_content : ℕ → List ℕ
 other_content subtype = codes "other " ++ decimal subtype
 
@@ -45,7 +45,7 @@ format_text Int32 = codes "int32"
 format_text Int24 = codes "int24"
 format_text Int16 = codes "int16"
 
--- the stream header that AAF, IEC 61883 and CVF packets begin with
+-- how the stream header is shown that AAF, IEC 61883 and CVF packets begin with
 unfoldable pub header_text : StreamHeader → List ℕ
 header_text h =
     codes "id " ++ id_text h.stream_id
@@ -55,7 +55,7 @@ header_text h =
     ++ codes " tu " ++ flag_text h.tu
     ++ codes " mr " ++ flag_text h.mr
 
--- an AAF packet; a rate that only the user knows is 0
+-- how an AAF packet is shown; a rate that only the user knows is 0
 unfoldable pub aaf_content : Aaf → List ℕ
 aaf_content v =
     codes "aaf " ++ header_text v.header
@@ -68,7 +68,7 @@ aaf_content v =
     ++ codes " count " ++ decimal v.count
     ++ codes " bytes " ++ decimal v.header.data_length
 
--- an IEC 61883-6 packet
+-- how an IEC 61883-6 packet is shown
 unfoldable pub iec_content : Iec → List ℕ
 iec_content v =
     codes "iec " ++ header_text v.header
@@ -89,7 +89,7 @@ part_text Last = codes "last"
 abbrev pub nal_type : ℕ → ℕ
 nal_type nal = nal % 32
 
--- an H.264 packet
+-- how an H.264 packet is shown
 unfoldable pub h264_content : Cvf → List ℕ
 h264_content v =
     codes "h264 " ++ header_text v.header
@@ -100,7 +100,7 @@ h264_content v =
     ++ codes " part " ++ part_text v.part
     ++ codes " bytes " ++ decimal v.header.data_length
 
--- a CRF packet, with the number of its timestamps and the first of them
+-- how a CRF packet is shown: with the number of its timestamps and the first of them
 unfoldable pub crf_content : Crf → List ℕ
 crf_content v =
     codes "crf id " ++ id_text v.stream_id

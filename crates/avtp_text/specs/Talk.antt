@@ -13,10 +13,10 @@ fault_text Packets = codes "packets"
 fault_text Arrival = codes "arrival"
 fault_text Memory = codes "memory"
 
--- why the input makes no stream
+-- the line of an input that makes no stream, with the reason
 unfoldable pub talk_input_line : TalkFault → List ℕ
 talk_input_line fault = codes "talk input: " ++ fault_text fault ++ newline
 
--- how many packets the capture has of the stream, and of its media clock
+-- the line of a capture that was made: how many packets it has of the stream, and of its media clock
 unfoldable pub talk_line : ℕ → ℕ → List ℕ
 talk_line packets clocks = codes "talk packets " ++ decimal packets ++ codes " clock " ++ decimal clocks ++ newline

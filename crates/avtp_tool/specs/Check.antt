@@ -34,7 +34,7 @@ abbrev pub malformed_or : Option Refusal → Checked → Checked
 malformed_or (Some refusal) checked = Malformed refusal
 malformed_or None checked = checked
 
--- what is noted of a packet
+-- what `check` notes of a packet
 abbrev pub seen_of : PacketStream → AnyPacket → Seen
 seen_of stream packet = record {
   id = stream.id;
@@ -75,7 +75,7 @@ noted checked = []
 abbrev pub notes_of : List Record → List Seen
 notes_of records = flat_map (λ r. noted (checked_record r.bytes)) records
 
--- what is found in a packet without a valid stream id
+-- what `check` finds in a packet without a valid stream id
 abbrev pub unmarked_findings : Bool → Findings
 unmarked_findings reserved = record { reserved = reserved; step = None; hold = None; stamp = false; untracked = false }
 

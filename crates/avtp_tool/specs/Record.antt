@@ -12,11 +12,11 @@ abbrev pub refused_or : Option Refusal → List ℕ → List ℕ
 refused_or (Some refusal) content = refused_content refusal
 refused_or None content = content
 
--- a refusal in a frame's payload, which begins at this offset of the frame
+-- a refusal in a frame's payload as one in the frame, in which the payload begins at this offset
 abbrev pub inside : ℕ → Refusal → Refusal
 inside start refusal = record refusal { at = refusal.at + start }
 
--- the fields of a packet, by its format
+-- what `show` says of a packet's fields, by its format
 abbrev pub fields_content : AnyPacket → List ℕ
 fields_content (OfIec v) = iec_content v
 fields_content (OfAaf v) = aaf_content v
@@ -24,15 +24,15 @@ fields_content (OfH264 v) = h264_content v
 fields_content (OfCrf v) = crf_content v
 fields_content (OfOther subtype) = other_content subtype
 
--- a packet of AVTP, which begins at this offset of its frame
+-- what `show` says of a packet of AVTP, which begins at this offset of its frame
 unfoldable pub packet_content : ℕ → List ℕ → List ℕ
 packet_content start pdu = refused_or (option_map (inside start) (packet_refusal pdu)) (fields_content (packet_of pdu))
 
--- a frame that was read
+-- what `show` says of a frame that was read
 unfoldable pub frame_content : Frame → List ℕ
 frame_content frame =
     if frame.ethertype == avtp_ethertype then packet_content frame.start frame.payload else ethertype_content frame
 
--- the bytes of a record
+-- what `show` says of a record, by its bytes
 unfoldable pub record_content : List ℕ → List ℕ
 record_content bytes = refused_or (frame_refusal bytes) (frame_content (frame_of bytes))

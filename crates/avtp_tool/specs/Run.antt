@@ -37,8 +37,8 @@ pub record ListenOutcome (asked : Listening) (files : Files) (fault : Type 0) (f
   pub status : ended ≡ device_status failed heard
   pub notice : yields ≡ with_more given (says (device_notice failed heard))
 
--- Over the files that a shelf tells so, a run of the request can come to these names, end with this status and yield
--- this. What a fault of reading needs is `fault`, and `failed` tells whether a device failed.
+-- Over the files that a shelf tells, a run of the request can come to these names, end with this status and yield this.
+-- What a fault of reading needs is `fault`, and `failed` tells whether a device failed.
 abbrev pub Outcome : Request → Files → Type 0 → Bool → List (List ℕ) → Status → Yield → Type 0
 Outcome (show limit file) files fault failed came ended yields = PlanOutcome (show_plan limit file) files fault came ended yields
 Outcome (check limit names) files fault failed came ended yields = PlanOutcome (check_plan limit names) files fault came ended yields

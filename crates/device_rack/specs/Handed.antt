@@ -18,7 +18,7 @@ pub record WasHandedAll {Device : Type 0} (took : Device → List Shown → Type
   pub counts : live ≡ false → Rose (faults before) (faults after)
   pub told : IfSome (failing before) (λ numbers. live ≡ false ↔ Any (λ n. (1 ≤ n) × (n ≤ length items)) numbers)
 
--- A place's device is of a kind that it brings with it.
+-- What handing items to the places of a rack does. A place's device is of a kind that it brings with it.
 module _ {Kind : Type 0} {Value : Kind → Type 0} where
   -- places were handed these items, one after another
   unfoldable pub HandsAll : (DynBox Kind Global Value → List Shown → Type 0) → (DynBox Kind Global Value → ℕ) → (DynBox Kind Global Value → Option (List ℕ)) → List Shown → List (Place Kind Value) → List (Place Kind Value) → Type 0

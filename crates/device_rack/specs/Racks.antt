@@ -17,7 +17,7 @@ pub record WasHanded {Device : Type 0} (took : Device → List Shown → Type 0)
   pub counts : live ≡ false → Rose (faults before) (faults after)
   pub told : IfSome (failing before) (λ numbers. (live ≡ false ↔ Contains numbers 1) × (failing after ≡ Some (later 1 numbers)))
 
--- A place's device is of a kind that it brings with it.
+-- The places of a rack, what handing an item to one does, and how many are live or failed. A device brings its kind.
 module _ {Kind : Type 0} {Value : Kind → Type 0} where
   -- the places of a rack, in their order
   abbrev pub places_of : Rack Kind Value → List (Place Kind Value)

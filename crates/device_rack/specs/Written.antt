@@ -25,7 +25,7 @@ IsPreviousOf None (Some batch) = ⊥
 IsPreviousOf (Some previous) None = ⊥
 IsPreviousOf (Some previous) (Some batch) = IsPrevious previous batch
 
--- what a device shows: its sink, whether it has failed, and what its silence is made of
+-- what a device shows: its sink, whether it has failed, what its silence is made of, and that it has taken these items
 module _ {S : Type 0} where
   abbrev pub raw_sink : RawDevice S → S
   raw_sink device = device.sink

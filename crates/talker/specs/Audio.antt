@@ -11,7 +11,8 @@ use Rattle.talker.specs.declared.plan.TalkKind.TheVariants.{Aaf, Am824, H264}
 use Rattle.talker.specs.declared.plan.TalkPlan.{TalkPlan}
 use Rattle.talker.specs.Packets.{aaf_packet, am824_kind, iec_packet, kind_of}
 
--- what of a stream is each audio format's own
+-- what an audio format tells: how its packets are stamped, the bytes of a sample frame, a packet of silence, and packet
+-- n with given samples
 pub record Audio : Type 0 where
   -- how its packets are stamped
   pub kind : Kind

@@ -17,7 +17,8 @@ pub record Beat : Type 0 where
   pub up : ℕ
   pub down : ℕ
 
--- The rates are those of audio, and the clock is one of at most 250 MHz.
+-- A beat whose rate is one of audio and whose clock has at most 250 MHz: events of both take equally long, as `Beat`
+-- says.
 pub record IsBeat (b : Beat) : Type 0 where
   pub rate_from : 8000 ≤ b.rate
   pub rate_to : b.rate ≤ 192000

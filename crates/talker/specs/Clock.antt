@@ -13,7 +13,7 @@ use Rattle.talker.specs.Beats.{Beat, stamped_at}
 use Rattle.talker.specs.Plan.{spacing_of}
 use Rattle.talker.specs.Timing.{event_of, mr_of, nominal_instant, run_of, run_start, seq_of}
 
--- the stream and its clock, side by side
+-- a plan's stream beside its clock, as rates and spacings
 abbrev pub beat_of : CrfPlan → TalkPlan → Beat
 beat_of crf plan = record {
   rate = plan.rate;
