@@ -12,7 +12,7 @@ use Rattle.aaf_format.specs.declared.aaf.AafFormat.{AafFormat}
 use Rattle.aaf_format.specs.declared.aaf.AafFormat.TheVariants.{Float32, Int32, Int24, Int16}
 use Rattle.aaf_format.specs.declared.aaf.AafView.{AafView}
 
--- a packet, apart from where its samples lie in memory
+-- a PCM packet, apart from where its samples lie in memory
 pub record Aaf : Type 0 where
   pub header : StreamHeader
   pub format : AafFormat
@@ -25,6 +25,7 @@ pub record Aaf : Type 0 where
   pub payload : List ℕ
   pub reserved : Bool
 
+-- the packet that a view shows, apart from where its samples lie in memory
 abbrev pub aaf_shape : AafView → Aaf
 aaf_shape v = record {
   header = v.header;
@@ -39,14 +40,14 @@ aaf_shape v = record {
   reserved = v.reserved;
 }
 
--- the byte that names a format
+-- the byte that names a format of samples
 abbrev pub code_of : AafFormat → ℕ
 code_of Float32 = 1
 code_of Int32 = 2
 code_of Int24 = 3
 code_of Int16 = 4
 
--- the format of PCM that a byte names
+-- the format of samples that a byte names, if it is one of PCM
 abbrev pub named_format : ℕ → Option AafFormat
 named_format code =
     if code == 1 then Some Float32 else
@@ -54,14 +55,14 @@ named_format code =
     if code == 3 then Some Int24 else
     if code == 4 then Some Int16 else None
 
--- the bytes of a sample
+-- the bytes of a sample of this format
 abbrev pub width_of : AafFormat → ℕ
 width_of Float32 = 4
 width_of Int32 = 4
 width_of Int24 = 3
 width_of Int16 = 2
 
--- the sample rate in Hz that a code names
+-- the sample rate in Hz that a code (nsr) names
 abbrev pub rate_of : ℕ → Option ℕ
 rate_of nsr =
     if nsr == 1 then Some 8000 else
@@ -75,14 +76,15 @@ rate_of nsr =
     if nsr == 9 then Some 192000 else
     if nsr == 10 then Some 24000 else None
 
+-- the format of samples that byte 16 of a packet names, and Int16 if it names none, which is refused
 abbrev pub format_of : List ℕ → AafFormat
 format_of bytes = unwrap_or (named_format (bits 16 0 8 bytes)) Int16
 
--- the bytes of a sample frame
+-- the bytes of a sample frame: one sample of each channel
 abbrev pub frame_size : ℕ → AafFormat → ℕ
 frame_size channels format = channels * width_of format
 
--- The table of the format. The two format bits of the stream header are reserved, and a view shows them.
+-- The table of a PCM packet. The two format bits of the stream header are reserved, and a view shows them.
 abbrev pub aaf_layout : Layout Aaf
 aaf_layout = stream_layout (λ v. v.header)
     (reserved_shown 2 (λ v. v.header.format_bits) ∷ [])
@@ -92,10 +94,11 @@ aaf_layout = stream_layout (λ v. v.header)
     (part FormatFlags 22 (reserved 3 ∷ holds 1 (λ v. flag v.sparse) ∷ holds 4 (λ v. v.evt) ∷ []) ∷
     part FormatFlags 23 (reserved 8 ∷ []) ∷ [])
 
+-- a reserved bit of a PCM packet is set
 abbrev pub sets_reserved : List ℕ → Bool
 sets_reserved bytes = any_set (reserved_ranges aaf_layout) bytes
 
--- The rows that refuse a packet after those that all formats share, in this order.
+-- The rows of format, sample rate, channels and bit depth, in this order; they come after those that all formats share.
 abbrev pub sample_rows : List ℕ → List Row
 sample_rows bytes =
     row Format 16 (is_none (named_format (bits 16 0 8 bytes))) ∷
@@ -103,19 +106,22 @@ sample_rows bytes =
     row ChannelsPerFrame 17 (bits 17 6 10 bytes == 0) ∷
     row BitDepth 19 (nat_lt (8 * width_of (format_of bytes)) (bits 19 0 8 bytes)) ∷ []
 
+-- the rows of the stated length, which come last: it is more than what follows the header, or no whole number of sample
+-- frames
 abbrev pub length_rows : List ℕ → List Row
 length_rows bytes =
     row StreamDataLength 20 (exceeds 24 (bits 20 0 16 bytes) (length bytes)) ∷
     row StreamDataLength 20
     (not (bits 20 0 16 bytes % frame_size (bits 17 6 10 bytes) (format_of bytes) == 0)) ∷ []
 
--- why bytes are no packet of this format
+-- Why bytes are no PCM packet. In a packet that is cut off, bytes 16 to 19, 22 and 23 are refused by the names they
+-- have in the stream header: `format_data` and `format_flags`.
 abbrev pub aaf_refusal : List ℕ → Option Refusal
 aaf_refusal bytes =
     or_else (kind_refusal aaf_subtype bytes)
     (or_else (first_row (sample_rows bytes)) (first_row (length_rows bytes)))
 
--- The bytes spell a packet. Behind the stated length anything may stand.
+-- The bytes spell this PCM packet; anything may follow its stated length.
 pub record SpellsAaf (bytes : List ℕ) (v : Aaf) : Type 0 where
   pub accepted : aaf_refusal bytes ≡ None
   pub fields : Spells aaf_layout v bytes
@@ -123,7 +129,7 @@ pub record SpellsAaf (bytes : List ℕ) (v : Aaf) : Type 0 where
   pub payload : v.payload ≡ take v.header.data_length (drop 24 bytes)
   pub reserved : v.reserved ≡ sets_reserved bytes
 
--- the one packet that bytes spell, where nothing refuses them
+-- the one PCM packet that bytes spell, if nothing refuses them
 abbrev pub aaf_of : List ℕ → Aaf
 aaf_of bytes = record {
   header = header_of bytes;
@@ -138,7 +144,7 @@ aaf_of bytes = record {
   reserved = sets_reserved bytes;
 }
 
--- a packet that can be written: no row refuses it, and its count and its length are those of its payload
+-- a PCM packet that can be written: no row refuses it, and its count and its length are those of its payload
 pub record IsWritableAaf (v : Aaf) : Type 0 where
   pub subtype : v.header.subtype ≡ aaf_subtype
   pub nsr : v.nsr ≤ 10
@@ -149,10 +155,10 @@ pub record IsWritableAaf (v : Aaf) : Type 0 where
   pub data_length : v.header.data_length ≡ length v.payload
   pub count : v.count * frame_size v.channels v.format ≡ length v.payload
 
--- the packet with every reserved bit 0
+-- a PCM packet with every reserved bit 0
 abbrev pub plain_aaf : Aaf → Aaf
 plain_aaf v = record v { header = record v.header { format_bits = 0 }; reserved = false }
 
--- the bytes of a packet, with every reserved bit 0 and nothing after the stated length
+-- the bytes of a PCM packet, with every reserved bit 0 and nothing after the stated length
 abbrev pub aaf_spelling : Aaf → List ℕ
 aaf_spelling v = spelling aaf_layout v ++ v.payload

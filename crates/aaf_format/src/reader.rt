@@ -55,7 +55,7 @@ fn format_named(code: u8) -> Option<AafFormat>
     }
 }
 
-/// The format of the samples, where the fields that describe them are accepted.
+/// The format of the samples, if the fields that describe them are accepted.
 fn sample_format(pdu: &[u8]) -> Result<AafFormat, Refusal>
     requires { 24 ≤ length pdu.now }
     ensures { Reads (λ f. f) (first_row (sample_rows pdu.now)) (format_of pdu.now) result }
@@ -129,8 +129,8 @@ fn read_packet(pdu: &[u8]) -> Result<AafView<'_>, Refusal>
 ///
 /// Refused is the first of these, in this order: a field of the stream header that does not lie wholly in the slice; a
 /// subtype other than AAF; a version other than 0; a format that is not PCM; a reserved code of the sample rate; no
-/// channels; a bit depth of more than a sample's width; a stated length of more than what stands there; one that is no
-/// multiple of a sample frame. Reserved bits may be set, and what follows the stated length is ignored.
+/// channels; a bit depth of more than a sample's width; a stated length of more than what follows the header; one that
+/// is no multiple of a sample frame. Reserved bits may be set, and what follows the stated length is ignored.
 #[inline(always)]
 pub fn read_aaf(pdu: &[u8]) -> Result<AafView<'_>, Refusal>
     ensures exact { Reads aaf_shape (aaf_refusal pdu.now) (aaf_of pdu.now) result }

@@ -1,29 +1,31 @@
--- Counts of faults. An object of the outside counts the calls that failed; its count stands still at the last
--- value of a 64-bit number.
+-- Counts of faults. An object of the outside counts the calls that failed; its count stops at the largest 64-bit
+-- number.
 use Rattle.std.specs.Prelude.{◌≡◌, ℕ, ◌+◌, ◌-◌, ◌^◌, ◌≤◌, ◌<◌, min, Result, OnOk, OnErr, IsErrOf}
 use Rattle.avtp_base.specs.declared.failed.Failed.{Failed}
 use Rattle.avtp_base.specs.declared.failed.OpenFault.{OpenFault}
 use Rattle.avtp_base.specs.declared.failed.OpenFault.TheVariants as open_fault
 
--- the value at which a count of faults stands still
+-- the value at which a count of faults stops: the largest 64-bit number
 abbrev pub last_count : ℕ
 last_count = 2 ^ 64 - 1
 
--- the count rose, or stands at its last value
+-- the count of faults rose, or is at its last value
 abbrev pub Rose : ℕ → ℕ → Type 0
 Rose before after = min (before + 1) last_count ≤ after
 
--- the count did not rise, nor does it stand at its last value
+-- the count of faults did not rise, and is not at its last value
 abbrev pub IsQuiet : ℕ → ℕ → Type 0
 IsQuiet before after = after < min (before + 1) last_count
 
--- A call of the outside answered this: its count never falls, it stays at Ok, and a failure raised it.
+-- The count of faults before and after a call to the outside with this result: it never falls, stays as it was at Ok,
+-- and rose at a failure.
 pub record IsCounted {T : Type 0} (before after : ℕ) (result : Result T Failed) : Type 0 where
   pub never_falls : before ≤ after
   pub ok : OnOk result (after ≡ before)
   pub failed : OnErr result (Rose before after)
 
--- The same for a call that opens or makes a file, which counts neither a missing file nor want of memory.
+-- The count of faults before and after a call that opens or makes a file, with this result: it never falls, stays as it
+-- was at Ok, and rose at `Failed`. Neither a missing file nor want of memory is counted.
 pub record IsOpenCounted {T : Type 0} (before after : ℕ) (result : Result T OpenFault) : Type 0 where
   pub never_falls : before ≤ after
   pub ok : OnOk result (after ≡ before)

@@ -5,6 +5,6 @@ use Rattle.avtp_base.specs.declared.slots.Slots.{Slots}
 use Rattle.avtp_base.specs.Entries.{entry_at}
 use Rattle.avtp_base.specs.Files as files
 
--- the open files by slot, of which neither names nor contents are told
+-- the open files of a shelf of real files, by slot; neither their names nor their contents are shown
 abbrev pub real_slots : {F : Type 0} → Slots (RealFile F) → files.Slots
 real_slots live k = option_map (λ open_file. record { made = open_file.made; name = None; left = None }) (entry_at live.entries.items k)

@@ -1,4 +1,4 @@
--- Headers as tables: what each bit belongs to, part by part, as the standards print it. A table serves for reading
+-- Headers as tables: what each bit belongs to, part by part, as the standards print it. One table is used for reading
 -- and for writing.
 use Rattle.std.specs.Prelude.{◌≡◌, ℕ, ◌+◌, ◌*◌, ◌/◌, ◌^◌, ◌<◌, Bool, true, false, nat_lt, if◌then◌else◌, List, [], ◌∷◌, map, Option, Some, None, ⊤}
 use Rattle.std.specs.List.{flat_map}
@@ -8,8 +8,8 @@ use Rattle.avtp_base.specs.declared.refusal.Refusal.{Refusal}
 use Rattle.avtp_base.specs.Octets.{bits, Range, range}
 use Rattle.avtp_base.specs.Rows.{Row, first_row}
 
--- Bits beside each other: what they hold of a view of type V, where it shows them; whether they are free, so that a
--- packet may hold anything there and a writer writes 0.
+-- Adjacent bits of a header: their width; what they hold of a view of type V, if it shows them; and whether they are
+-- free (reserved), so that a packet may hold anything there and a writer writes 0.
 pub record Bits (V : Type 0) : Type 0 where
   pub width : ℕ
   pub shown : Option (V → ℕ)
@@ -21,93 +21,106 @@ pub record Part (V : Type 0) : Type 0 where
   pub at : ℕ
   pub bits : List (Bits V)
 
+-- the table of a header: its parts, in order
 abbrev pub Layout : Type 0 → Type 0
 Layout V = List (Part V)
 
+-- the part of a table that has these bits from byte `at` on, and this field to refuse a packet that ends before their
+-- end
 abbrev pub part : {V : Type 0} → Field → ℕ → List (Bits V) → Part V
 part field at bits = record { field = field; at = at; bits = bits }
 
+-- bits of a header that hold a value of the view
 abbrev pub holds : {V : Type 0} → ℕ → (V → ℕ) → Bits V
 holds width value = record { width = width; shown = Some value; free = false }
 
+-- reserved bits of a header, which a view does not show
 abbrev pub reserved : {V : Type 0} → ℕ → Bits V
 reserved width = record { width = width; shown = None; free = true }
 
--- reserved bits that a view shows all the same
+-- reserved bits of a header that a view shows all the same
 abbrev pub reserved_shown : {V : Type 0} → ℕ → (V → ℕ) → Bits V
 reserved_shown width value = record { width = width; shown = Some value; free = true }
 
 -- ---- what a table says of bytes
 
+-- a number is the value that a view shows of some bits; if it shows none, it may be any number
 abbrev pub Shows : {V : Type 0} → Option (V → ℕ) → V → ℕ → Type 0
 Shows None v n = ⊤
 Shows (Some value) v n = n ≡ value v
 
+-- these bits, from bit `first` of byte `at` on, hold in the bytes what the view shows of them
 abbrev pub SpellsBits : {V : Type 0} → ℕ → ℕ → List (Bits V) → V → List ℕ → Type 0
 SpellsBits at first [] v bytes = ⊤
 SpellsBits at first (b ∷ bs) v bytes =
     Shows b.shown v (bits at first b.width bytes) × SpellsBits at (first + b.width) bs v bytes
 
--- each field of the view has the bits that the table gives it
+-- the bytes hold each value of the view in the bits that the table gives it
 abbrev pub Spells : {V : Type 0} → Layout V → V → List ℕ → Type 0
 Spells [] v bytes = ⊤
 Spells (p ∷ parts) v bytes = SpellsBits p.at 0 p.bits v bytes × Spells parts v bytes
 
+-- the reserved ones of these bits, which begin at bit `first` of byte `at`, as ranges
 abbrev pub free_ranges : {V : Type 0} → ℕ → ℕ → List (Bits V) → List Range
 free_ranges at first [] = []
 free_ranges at first (b ∷ bs) =
     if b.free then range at first b.width ∷ free_ranges at (first + b.width) bs else free_ranges at (first + b.width) bs
 
--- the reserved bits of a header
+-- the reserved bits of a header, as ranges
 abbrev pub reserved_ranges : {V : Type 0} → Layout V → List Range
 reserved_ranges layout = flat_map (λ p. free_ranges p.at 0 p.bits) layout
 
 -- ---- the sizes of parts, and the refusal of a packet that is too short
 
+-- how many bits these are together
 abbrev pub total_width : {V : Type 0} → List (Bits V) → ℕ
 total_width [] = 0
 total_width (b ∷ bs) = b.width + total_width bs
 
--- in bytes
+-- the size of a part in bytes
 abbrev pub size_of : {V : Type 0} → Part V → ℕ
 size_of p = total_width p.bits / 8
 
--- the row that refuses n bytes by a part that does not lie wholly in them
+-- the row that refuses n bytes if this part of the header does not lie wholly in them
 abbrev pub short_row : {V : Type 0} → ℕ → Part V → Row
 short_row n p =
     record { refusal = record { field = p.field; at = p.at; short = true }; holds = nat_lt n (p.at + size_of p) }
 
+-- the refusal of n bytes by the first part of the header that does not lie wholly in them, if there is one
 abbrev pub first_short : {V : Type 0} → Layout V → ℕ → Option Refusal
 first_short layout n = first_row (map (short_row n) layout)
 
 -- ---- what is written
 
+-- the value that a view shows of some bits, and 0 if it shows none
 abbrev pub value_of : {V : Type 0} → Option (V → ℕ) → V → ℕ
 value_of None v = 0
 value_of (Some value) v = value v
 
--- what a writer puts into these bits
+-- what a writer puts into these bits: 0 if they are reserved, otherwise what the view shows
 abbrev pub written : {V : Type 0} → Bits V → V → ℕ
 written b v = if b.free then 0 else value_of b.shown v
 
--- each value is below what its bits can hold
+-- each value that a writer puts into these bits fits their width
 abbrev pub FitsBits : {V : Type 0} → List (Bits V) → V → Type 0
 FitsBits [] v = ⊤
 FitsBits (b ∷ bs) v = (written b v < 2 ^ b.width) × FitsBits bs v
 
+-- each value that a writer puts into the header fits the width of its bits
 abbrev pub Fits : {V : Type 0} → Layout V → V → Type 0
 Fits [] v = ⊤
 Fits (p ∷ parts) v = FitsBits p.bits v × Fits parts v
 
--- the number that bits spell beside each other, after bits that spell n
+-- the number that n and then the values written to these bits spell, the first in the highest bits
 abbrev pub packed_behind : {V : Type 0} → ℕ → List (Bits V) → V → ℕ
 packed_behind n [] v = n
 packed_behind n (b ∷ bs) v = packed_behind (n * 2 ^ b.width + written b v) bs v
 
+-- the number that the values written to these bits spell, the first in the highest bits
 abbrev pub packed : {V : Type 0} → List (Bits V) → V → ℕ
 packed [] v = 0
 packed (b ∷ bs) v = packed_behind (written b v) bs v
 
--- the bytes of a header, with every reserved bit 0
+-- the bytes of a header that spell a view, with every reserved bit 0
 abbrev pub spelling : {V : Type 0} → Layout V → V → List ℕ
 spelling layout v = flat_map (λ p. big_bytes (size_of p) (packed p.bits v)) layout

@@ -3,36 +3,37 @@
 use Rattle.std.specs.Prelude.{ℕ, ◌+◌, ◌-◌, ◌*◌, ◌/◌, ◌%◌, ◌^◌, ◌<◌, ◌==◌, Bool, true, false, List, [], ◌∷◌, slice_index, if◌then◌else◌}
 use Rattle.byteorder.specs.Endian.{big_from}
 
--- The number that `width` bits from bit `first` of byte `at` on spell, the highest first. The bytes that they
--- reach into are one number: they stand in it above what follows them.
+-- The number that `width` bits spell from bit `first` of byte `at` on, the highest first: the bytes that they reach
+-- into are read as one big-endian number, and the bits are cut out of it.
 unfoldable pub bits : ℕ → ℕ → ℕ → List ℕ → ℕ
 bits at first width bytes =
     let size = (first + width + 7) / 8 in
     big_from at size bytes / 2 ^ (8 * size - (first + width)) % 2 ^ width
 
--- one bit
+-- bit `bit` of byte `at` is 1
 abbrev pub is_set : ℕ → ℕ → List ℕ → Bool
 is_set at bit bytes = bits at bit 1 bytes == 1
 
--- a bit as a number
+-- a bit as a number: 1 if it is set, otherwise 0
 abbrev pub flag : Bool → ℕ
 flag true = 1
 flag false = 0
 
--- a range of bits, as `bits` counts them
+-- a range of bits: `width` of them from bit `first` of byte `at` on
 pub record Range : Type 0 where
   pub at : ℕ
   pub first : ℕ
   pub width : ℕ
 
+-- the range of `width` bits from bit `first` of byte `at` on
 abbrev pub range : ℕ → ℕ → ℕ → Range
 range at first width = record { at = at; first = first; width = width }
 
--- a bit of one of the ranges is set
+-- a bit of one of the ranges is set in the bytes
 abbrev pub any_set : List Range → List ℕ → Bool
 any_set [] bytes = false
 any_set (r ∷ ranges) bytes = if bits r.at r.first r.width bytes == 0 then any_set ranges bytes else true
 
--- every item is a byte
+-- every number of the list is a byte, below 256
 abbrev pub AreBytes : List ℕ → Type 0
 AreBytes bytes = (i : ℕ) → slice_index bytes i < 256

@@ -4,36 +4,39 @@ use Rattle.avtp_base.specs.declared.field.Field.{Field}
 use Rattle.avtp_base.specs.declared.refusal.Refusal.{Refusal}
 use Rattle.avtp_base.specs.declared.refusal.Room.{Room}
 
--- a row of a table of refusals: what it refuses, and whether it does
+-- a row of a table of refusals: the refusal, and whether it holds
 pub record Row : Type 0 where
   pub refusal : Refusal
   pub holds : Bool
 
--- the row that refuses the field at a byte for its value
+-- the row that refuses the field at byte `at` for its value, if this holds
 abbrev pub row : Field → ℕ → Bool → Row
 row field at holds = record { refusal = record { field = field; at = at; short = false }; holds = holds }
 
+-- the refusal of the first row of a table that holds, if one does
 abbrev pub first_row : List Row → Option Refusal
 first_row [] = None
 first_row (r ∷ rows) = if r.holds then Some r.refusal else first_row rows
 
+-- the first of two refusals, or the second if there is no first
 abbrev pub or_else : Option Refusal → Option Refusal → Option Refusal
 or_else None second = second
 or_else (Some refusal) second = Some refusal
 
--- A reader answered so: the view that the bytes spell where nothing refuses them, and the refusal else.
+-- A reader's result: Ok with the view that the bytes spell if nothing refuses them, otherwise the refusal.
 abbrev pub Reads : {X V : Type 0} → (X → V) → Option Refusal → V → Result X Refusal → Type 0
 Reads shape refusal view (Ok x) = (refusal ≡ None) × (shape x ≡ view)
 Reads shape refusal view (Err r) = refusal ≡ Some r
 
--- A writer answered so: it put the spelling at the front and left the rest, or found too little room and left all.
+-- A writer's result: it put the spelling at the front of the slice, left the rest as it was and answered the spelling's
+-- length; or the slice is too short, it left all as it was, and answered the room that is needed and the room there is.
 abbrev pub Writes : List ℕ → List ℕ → List ℕ → Result ℕ Room → Type 0
 Writes spelling old new (Ok n) =
     (n ≡ length spelling) × (length spelling ≤ length old) × (new ≡ spelling ++ drop (length spelling) old)
 Writes spelling old new (Err room) =
     (room ≡ record { need = length spelling; found = length old }) × (length old < length spelling) × (new ≡ old)
 
--- Where nothing refuses bytes they spell one view and no other; where a row does they spell none.
+-- If nothing refuses the bytes, they spell one view and no other; if there is a refusal, they spell none.
 abbrev pub IsSpelledOnce : {V : Type 0} → Option Refusal → (V → Type 0) → Type 0
 IsSpelledOnce {V} None Spelled = (v : V) × Spelled v × ((w : V) → Spelled w → w ≡ v)
 IsSpelledOnce {V} (Some refusal) Spelled = (w : V) → ¬ Spelled w

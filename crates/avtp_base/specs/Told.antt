@@ -1,15 +1,15 @@
--- What an object of the outside tells of the bytes that it holds. It may tell them, or not, or stop telling them: what
--- is no longer told is never told again. What is said of them is said where they are told before and after.
+-- What an object of the outside shows of the bytes that it holds. It may show them, or not, or stop showing them, and
+-- then it never shows them again. What is said of the bytes holds if they are shown before and after.
 use Rattle.std.specs.Prelude.{◌≡◌, ℕ, List, ◌++◌, take, ⊤, Option, None, Some, Result, MatchResult, option_map}
 
--- told bytes stay as they were
+-- the bytes that are shown stay as they were
 abbrev pub Keeps : Option (List ℕ) → Option (List ℕ) → Type 0
 Keeps None None = ⊤
 Keeps None (Some ys) = ⊥
 Keeps (Some xs) None = ⊤
 Keeps (Some xs) (Some ys) = ys ≡ xs
 
--- told bytes grow by bs at their end
+-- the bytes that are shown grow by bs at their end
 abbrev pub Appends : Option (List ℕ) → Option (List ℕ) → List ℕ → Type 0
 Appends None None bs = ⊤
 Appends None (Some ys) bs = ⊥
@@ -20,6 +20,6 @@ Appends (Some xs) (Some ys) bs = ys ≡ xs ++ bs
 abbrev pub WriteAppends : {E : Type 0} → Option (List ℕ) → Option (List ℕ) → Result ℕ E → List ℕ → Type 0
 WriteAppends old new r piece = MatchResult r (λ n. Appends old new (take n piece)) (λ _. Keeps old new)
 
--- told bytes, and then bs
+-- the bytes that are shown, followed by bs
 abbrev pub append_known : Option (List ℕ) → List ℕ → Option (List ℕ)
 append_known told bs = option_map (λ xs. xs ++ bs) told

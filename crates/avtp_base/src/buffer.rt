@@ -7,13 +7,12 @@ use crate::spelled::Spelled;
 use std::alloc::Global;
 use std::marker::Model;
 
-/// Bytes that wait to be written, which contracts see as their list: at most 65,536, for which the memory is reserved
-/// once.
+/// Bytes that wait to be written, which contracts see as their list: at most 65,536. Their memory is reserved once.
 #[derive(Drop)]
 pub struct Buffer {
-    /// The bytes that wait, and behind them what is written over.
+    /// The bytes that wait, and after them bytes that will be overwritten.
     bytes: Vec<u8>,
-    /// How many wait.
+    /// How many bytes wait.
     len: usize,
 }
 
@@ -34,10 +33,11 @@ impl Buffer {
     /// The most bytes that wait.
     pub const ROOM: usize = 65_536;
 
-    /// Nothing waits yet. Reserves all the memory that bytes will take.
+    /// A buffer in which nothing waits. Reserves all the memory that its bytes will take.
     pub fn new(alloc: Global) -> Result<Self, NoMemory>
         ensures { IfOk result (λ buffer. buffer ≡ []) }
     {
+        // The memory is written here, since a slice of it must have values.
         match vec![in alloc; 0; Self::ROOM] {
             Ok(bytes) => Ok(Buffer { bytes, len: 0 }),
             Err(_) => Err(NoMemory),
@@ -62,8 +62,8 @@ impl Buffer {
         self.len = end;
     }
 
-    /// Adds the first `len` of these bytes at the end. There must be room for all of them, since all are moved: where the
-    /// compiler knows how many they are, that is done in place and without a call.
+    /// Adds the first `len` of these bytes at the end. There must be room for all of them, since all are moved: if the
+    /// compiler knows their number, it does that in place and without a call.
     #[inline(always)]
     pub fn push_first(&mut self, bytes: &[u8], len: usize)
         requires some { len ≤ length bytes.now }
@@ -75,7 +75,7 @@ impl Buffer {
         self.len = end;
     }
 
-    /// Adds the bytes of what is written in place at the end. There must be room for them.
+    /// Adds what is spelled at the end, and writes it there in place. There must be room for them.
     #[inline(always)]
     pub fn add<W: Spelled>(&mut self, added: &W)
         requires { length self.old + length (W.spelling added.now) ≤ Self.ROOM }
@@ -93,7 +93,7 @@ impl Buffer {
         &self.bytes[..self.len]
     }
 
-    /// The bytes that wait, which may be written over.
+    /// The bytes that wait, to be changed in place.
     #[inline(always)]
     pub fn waiting_mut(&mut self) -> &mut [u8]
         ensures* writes_back { sem 𝓛 (LendsWaiting self.entry result) }
@@ -102,7 +102,7 @@ impl Buffer {
         self.bytes.slice_mut(0..self.len)
     }
 
-    /// Drops so many bytes from the front, which were written.
+    /// Drops the first `count` bytes, which were written.
     pub fn drop_front(&mut self, count: usize)
         requires { count ≤ length self.old }
         ensures { self.new ≡ drop count self.old }
@@ -113,7 +113,7 @@ impl Buffer {
     }
 }
 
-/// Moves all bytes behind the first `count` to the front.
+/// Moves all bytes after the first `count` to the front.
 fn move_to_front(bytes: &mut [u8], count: usize)
     requires { count ≤ length bytes.old }
     ensures { bytes.new ≡ drop count bytes.old ++ take count bytes.old }

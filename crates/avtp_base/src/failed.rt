@@ -16,7 +16,7 @@ pub struct NoMemory;
 /// Why a file was not opened or not made.
 #[derive(Clone, Copy, Debug, PartialEq, Eq, Error)]
 pub enum OpenFault {
-    /// The shelf tells its files, and none has the name.
+    /// The shelf shows its files, and none has the name.
     #[error("no such file")]
     Missing,
     /// The outside failed, and the shelf counts it.

@@ -21,7 +21,7 @@ pub struct RealFile<F> {
     made: bool,
 }
 
-/// Real files, by their paths. It tells nothing of their contents, and a missing file counts as a fault.
+/// Real files, by their paths. Contracts see nothing of their contents, and a missing file counts as a fault.
 #[derive(Drop)]
 pub struct FileShelf<'a, R: Files> {
     rt: &'a R,
@@ -102,7 +102,7 @@ where
     }
 }
 
-// Reads from the file in a live slot. None where that failed.
+// Reads from the file in a live slot. None if that failed.
 fn read_open<F: Read + Drop>(
     live: &mut Slots<RealFile<F>>,
     slot: Slot,
@@ -118,7 +118,7 @@ fn read_open<F: Read + Drop>(
     moved
 }
 
-// Writes to the file in a live slot. None where that failed, or took nothing.
+// Writes to the file in a live slot. None if that failed, or took nothing.
 fn write_open<F: Write + Drop>(
     live: &mut Slots<RealFile<F>>,
     slot: Slot,

@@ -8,7 +8,7 @@ use std::fs;
 use std::io::Write;
 use std::rt::Files;
 
-/// A real file. It tells nothing of what it holds.
+/// A real file. Contracts see nothing of what it holds.
 #[derive(Drop)]
 pub struct FileSink<R: Files> {
     rt: R,
@@ -18,7 +18,7 @@ pub struct FileSink<R: Files> {
 }
 
 impl<R: Files> FileSink<R> {
-    /// The file with the path. None is made yet: the first `write` makes or empties it.
+    /// The file with this path. It is not made yet: the first `write` makes or empties it.
     pub fn named(rt: R, name: String) -> Self
         ensures { result.faults ≡ 0 }
     {
@@ -30,7 +30,8 @@ impl<R: Files> FileSink<R> {
         }
     }
 
-    // Makes or empties the file where that is to come, and writes to it. None where that failed, or took nothing.
+    // Makes or empties the file if that was not done yet, and writes to it. None if that failed, or took nothing: if
+    // the file could not be made, the next write tries again.
     fn write_some(&mut self, piece: &[u8]) -> Option<usize>
         ensures some { IfSome result (λ n. 0 < n) }
         ensures within { IfSome result (λ n. n ≤ length piece.now) }

@@ -1,5 +1,5 @@
-//! What every crate of the product stands on: the outside as two traits and over real files, and the names of the fields
-//! that can be refused.
+//! What every crate of the product is based on: files and sinks as two traits and over real files, and the names of the
+//! fields that can be refused.
 #![tactic(auto)]
 
 mod buffer;

@@ -1,4 +1,4 @@
-//! Where text goes, without leave to go to another thread.
+//! Where text goes, without the bound `Send`.
 
 ghost use Rattle.std.specs.Prelude.{◌≤◌, ◌<◌, length, IfOk};
 ghost use Rattle.avtp_base.specs.Faults.{IsCounted};
@@ -7,11 +7,11 @@ ghost use Rattle.avtp_base.specs.Told.{WriteAppends};
 use crate::failed::Failed;
 use crate::sink::Sink;
 
-/// A sink, without leave to go to another thread: what a body in a trait can ask of a type parameter. Each sink is one.
+/// A sink without the bound `Send`: what a body in a trait can ask of a type parameter. Each sink is one.
 pub trait Output {
     ghost use Rattle.avtp_base.specs.States.{SinkState};
 
-    /// The bytes that the sink holds, where it tells them, and its count of faults.
+    /// The bytes that the sink holds, if it shows them, and its count of faults.
     ghost state: { Self → SinkState };
 
     /// Appends a prefix of the piece, as `Sink::write` does.

@@ -2,7 +2,7 @@
 
 use crate::field::Field;
 
-/// The first field, in the order in which a format judges its fields, that cannot be accepted.
+/// The first field that cannot be accepted, in the order in which a format judges its fields.
 #[derive(Clone, Copy, Debug, PartialEq, Eq)]
 pub struct Refusal {
     pub field: Field,

@@ -17,14 +17,14 @@ pub struct Slot(pub u32);
 pub trait Shelf: Send {
     ghost use Rattle.avtp_base.specs.States.{ShelfState};
 
-    /// Its files, where it tells them, its open files, its counts of faults and the names that it was asked for. A shelf may
-    /// stop telling its files, and then never tells them again.
+    /// Its files, if it shows them, its open files, its counts of faults and the names that it was asked for. A shelf
+    /// may stop showing its files, and then never shows them again.
     ghost state: { Self → ShelfState };
 
     /// Opens a file for reading, in a slot that was not live.
     ///
-    /// `Missing` comes only where the shelf tells its files and none has the name. A shelf that does not tell its
-    /// files answers `Failed` for a missing name. `Failed` comes only where the reading count rose.
+    /// It answers `Missing` only if the shelf shows its files and none has the name. A shelf that does not show its
+    /// files answers `Failed` for a missing name. At `Failed` the reading count rose.
     fn open_file(&mut self, name: &str) -> Result<Slot, OpenFault>
         ensures opened { IfOk result (λ slot. IsOpened (state self.old).files ((state self.new).slots slot.0) name.now) }
         ensures fresh { IfOk result (λ slot. (state self.old).slots slot.0 ≡ None) }
@@ -38,7 +38,7 @@ pub trait Shelf: Send {
 
     /// Makes a file or empties it, for writing in a slot that was not live.
     ///
-    /// `Failed` comes only where the writing count rose. It never answers `Missing`.
+    /// At `Failed` the writing count rose. It never answers `Missing`.
     fn create_file(&mut self, name: &str) -> Result<Slot, OpenFault>
         ensures made { IfOk result (λ slot. IsMade (state self.old).files ((state self.new).slots slot.0) name.now) }
         ensures fresh { IfOk result (λ slot. (state self.old).slots slot.0 ≡ None) }
@@ -54,7 +54,7 @@ pub trait Shelf: Send {
     /// Moves bytes from the front of what is left into the buffer, at least one, and answers their number; 0 means
     /// that nothing is left.
     ///
-    /// `Failed` comes only where the reading count rose, and then nothing was moved.
+    /// At `Failed` the reading count rose, and nothing was moved.
     fn read(&mut self, slot: Slot, buf: &mut [u8]) -> Result<usize, Failed>
         requires live { IsSome ((state self.old).slots slot.0) }
         requires room { 0 < length buf.old }
@@ -69,7 +69,7 @@ pub trait Shelf: Send {
 
     /// Appends a prefix of the piece, of at least one byte, to the file of the slot, and answers its length.
     ///
-    /// `Failed` comes only where the writing count rose, and then nothing was appended.
+    /// At `Failed` the writing count rose, and nothing was appended.
     fn write(&mut self, slot: Slot, piece: &[u8]) -> Result<usize, Failed>
         requires live { option_map (λ o. o.made) ((state self.old).slots slot.0) ≡ Some true }
         requires some { 0 < length piece.now }
@@ -94,6 +94,6 @@ pub trait Shelf: Send {
         ensures writing { (state self.new).writing_faults ≡ (state self.old).writing_faults }
         ensures asked { AsksNothing (state self.old) (state self.new) };
 
-    /// Where files are told, so are the name of each live slot and what is left there.
+    /// If files are shown, so are the name of each live slot and what is left there.
     ghost told: { (shelf : Self) (k : ℕ) → IsSome (state shelf).files → IsSome ((state shelf).slots k) → IsSome (name_in (state shelf).slots k) × IsSome (left_in (state shelf).slots k) };
 }

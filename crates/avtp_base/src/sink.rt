@@ -10,13 +10,13 @@ use crate::failed::Failed;
 pub trait Sink: Send {
     ghost use Rattle.avtp_base.specs.States.{SinkState};
 
-    /// The bytes that it holds, where it tells them, and its count of faults, which stands still at the last value of a
-    /// 64-bit number. A sink may stop telling its bytes, and then never tells them again.
+    /// The bytes that it holds, if it shows them, and its count of faults, which stops at the largest 64-bit number. A
+    /// sink may stop showing its bytes, and then never shows them again.
     ghost state: { Self → SinkState };
 
     /// Appends a prefix of the piece, of at least one byte, and answers its length.
     ///
-    /// `Failed` comes only where the count rose, and then nothing was appended.
+    /// At `Failed` the count rose, and nothing was appended.
     fn write(&mut self, piece: &[u8]) -> Result<usize, Failed>
         requires { 0 < length piece.now }
         ensures some { IfOk result (λ n. 0 < n) }

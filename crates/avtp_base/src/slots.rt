@@ -7,7 +7,7 @@ use crate::failed::NoMemory;
 use crate::shelf::Slot;
 use std::alloc::Global;
 
-/// Entries by slot. A slot that is given up is given out again.
+/// Entries by slot. A slot that was freed is used again.
 #[derive(Debug, Drop)]
 pub struct Slots<T> {
     pub entries: Vec<Option<T>>,

@@ -1,12 +1,13 @@
-//! What is written where its bytes go.
+//! What is written in place.
 
 ghost use Rattle.std.specs.Prelude.{◌≡◌, length};
 
-/// What knows how many bytes it is written as, and writes them where they go.
+/// What knows how many bytes it is written as, and writes them in their final place: a frame that is made first and
+/// then copied after its record's header takes longer, since the copy waits for what was just written.
 pub trait Spelled {
     ghost use Rattle.std.specs.Prelude.{List, ℕ};
 
-    /// The bytes as which it is written.
+    /// The bytes that it is written as.
     ghost spelling: { Self → List ℕ };
 
     /// The number of its bytes.

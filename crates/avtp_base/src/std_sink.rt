@@ -5,7 +5,7 @@ ghost use Rattle.std.specs.Prelude.{◌≡◌, None};
 use crate::failed::Failed;
 use crate::sink::Sink;
 
-/// Standard output. It tells nothing of what it holds.
+/// Standard output. Contracts see nothing of what it holds.
 #[derive(Drop)]
 pub struct StdSink<'a, R> {
     rt: &'a R,

@@ -8,8 +8,8 @@ use Rattle.avtp_base.specs.Layout.{Bits, Layout, part, holds, reserved, Spells, 
 use Rattle.avtp_header.specs.declared.header.StreamHeader.{StreamHeader}
 use Rattle.avtp_header.specs.declared.header.Peeked.{Peeked}
 
--- The table of the header, of a view that has a stream header. Each format gives its own meaning to two bits of
--- byte 1, to bytes 16 to 19 and to bytes 22 and 23.
+-- The table of the stream header, for a view that has one. Each format gives its own meaning to two bits of byte 1, to
+-- bytes 16 to 19 and to bytes 22 and 23.
 abbrev pub stream_layout : {V : Type 0} → (V → StreamHeader) → List (Bits V) → Layout V → Layout V → Layout V
 stream_layout header format_bits format_data format_flags =
     part Subtype 0 (holds 8 (λ v. (header v).subtype) ∷ []) ∷
@@ -27,26 +27,29 @@ stream_layout header format_bits format_data format_flags =
     part StreamDataLength 20 (holds 16 (λ v. (header v).data_length) ∷ []) ∷
     format_flags)
 
--- the header by itself, which shows the format bits and leaves the other bits to the format
+-- the table of the stream header alone: it shows the two format bits, and leaves bytes 16 to 19, 22 and 23 to the
+-- format
 abbrev pub header_layout : Layout StreamHeader
 header_layout = stream_layout (λ h. h)
     (holds 2 (λ h. h.format_bits) ∷ [])
     (part FormatData 16 (reserved 32 ∷ []) ∷ [])
     (part FormatFlags 22 (reserved 16 ∷ []) ∷ [])
 
--- The rows that all formats of AVTP share: the subtype is the format's, and the version is 0.
+-- the row that refuses a packet of another subtype than this
 abbrev pub subtype_row : ℕ → List ℕ → Row
 subtype_row subtype bytes = row Subtype 0 (not (bits 0 0 8 bytes == subtype))
 
+-- the row that refuses a packet whose version is not 0
 abbrev pub version_row : List ℕ → Row
 version_row bytes = row Version 1 (not (bits 1 1 3 bytes == 0))
 
--- why bytes are no stream header
+-- why bytes do not begin with a stream header: a field is cut off, or the version is not 0
 abbrev pub header_refusal : List ℕ → Option Refusal
 header_refusal bytes =
     or_else (first_short header_layout (length bytes)) (first_row (version_row bytes ∷ []))
 
--- why bytes do not begin as a packet of a format with this header does
+-- why bytes do not begin with a stream header of this subtype: a field is cut off, the subtype is another, or the
+-- version is not 0
 abbrev pub kind_refusal : ℕ → List ℕ → Option Refusal
 kind_refusal subtype bytes =
     or_else (first_short header_layout (length bytes))
@@ -56,12 +59,12 @@ kind_refusal subtype bytes =
 abbrev pub exceeds : ℕ → ℕ → ℕ → Bool
 exceeds header stated n = nat_lt n (header + stated)
 
--- the bytes begin with this header
+-- the bytes begin with this stream header
 pub record SpellsHeader (bytes : List ℕ) (h : StreamHeader) : Type 0 where
   pub accepted : header_refusal bytes ≡ None
   pub fields : Spells header_layout h bytes
 
--- the one header that bytes begin with, where nothing refuses them
+-- the one stream header that bytes begin with, if nothing refuses them
 abbrev pub header_of : List ℕ → StreamHeader
 header_of bytes = record {
   subtype = bits 0 0 8 bytes;
@@ -76,7 +79,7 @@ header_of bytes = record {
   data_length = bits 20 0 16 bytes;
 }
 
--- the first fields of any packet of a stream, which CRF packets have at the same places
+-- the first fields of any packet of a stream, which a CRF packet has in the same places
 abbrev pub peeked_of : List ℕ → Peeked
 peeked_of bytes = record {
   subtype = bits 0 0 8 bytes;

@@ -20,7 +20,7 @@ pub struct StreamHeader {
     pub subtype: u8,
     /// The stream id is valid.
     pub sv: bool,
-    /// The media clock restart: it toggles where the source of the media clock changes.
+    /// The media clock restart: it toggles when the source of the media clock changes.
     pub mr: bool,
     /// The two bits that each format gives a meaning of its own, 0 to 3.
     pub format_bits: u8,

@@ -1,4 +1,4 @@
-//! Laws of stream headers. Each call is its contract, and does nothing.
+//! Laws of stream headers. Each is stated by a contract; the call does nothing.
 
 ghost use Rattle.std.specs.Prelude.{◌≡◌, ◌≤◌, ◌++◌, false, length, drop, List, ℕ};
 ghost use Rattle.avtp_base.specs.Layout.{Fits, reserved_ranges, spelling};
@@ -17,7 +17,8 @@ pub fn header_again()
     ensures { (h : StreamHeader) (trail : List ℕ) → Fits header_layout h → SpellsHeader (spelling header_layout h ++ trail) h }
 {}
 
-/// Bytes that begin with a header, and have zeros where a format has its own bits, begin with the header's spelling.
+/// Bytes that begin with a header, and have zeros in the bits that belong to each format, begin with the header's
+/// spelling.
 pub fn one_spelling()
     ensures { (bytes : List ℕ) (h : StreamHeader) → AreBytes bytes → SpellsHeader bytes h → 24 ≤ length bytes
         → any_set (reserved_ranges header_layout) bytes ≡ false → bytes ≡ spelling header_layout h ++ drop 24 bytes }

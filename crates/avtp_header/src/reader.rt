@@ -110,7 +110,7 @@ pub fn read_header_of(subtype: u8, pdu: &[u8]) -> Result<StreamHeader, Refusal>
     Ok(fields(pdu))
 }
 
-/// The first fields of a packet, and `None` where it has fewer than the 12 bytes that hold them.
+/// The first fields of a packet, and `None` if it has fewer than the 12 bytes that hold them.
 pub fn peek(pdu: &[u8]) -> Option<Peeked>
     ensures none { IsNone result ↔ (length pdu.now < 12) }
     ensures fields { IfSome result (λ peeked. peeked ≡ peeked_of pdu.now) }
@@ -126,7 +126,7 @@ pub fn peek(pdu: &[u8]) -> Option<Peeked>
     })
 }
 
-/// The subtype of a packet. An empty slice is refused by it.
+/// The subtype of a packet. An empty slice is refused by this field.
 #[inline(always)]
 pub fn peek_subtype(pdu: &[u8]) -> Result<u8, Refusal>
     ensures { Reads (λ s. s) (first_short (part Subtype 0 (holds 8 (λ s. s) ∷ []) ∷ []) (length pdu.now)) (bits 0 0 8 pdu.now) result }

@@ -58,8 +58,8 @@ pub fn header_bytes(
     ]
 }
 
-/// Writes a stream header, with zeros in the bits that are left to each format, and answers its 24 bytes. `Room` comes
-/// where the slice is shorter, which is then unchanged. The format bits are 0 to 3.
+/// Writes a stream header, with zeros in the bits that are left to each format, and answers its 24 bytes. If the slice
+/// is shorter it answers `Room` and leaves the slice unchanged. The format bits are 0 to 3.
 pub fn write_stream_header(out: &mut [u8], header: &StreamHeader) -> Result<usize, Room>
     requires { header.now.format_bits ≤ 3 }
     ensures written { Writes (spelling header_layout header.now) out.old out.new result }

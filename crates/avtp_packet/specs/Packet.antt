@@ -11,7 +11,7 @@ use Rattle.crf_format.specs.Crf.{Crf, crf_subtype, crf_refusal, crf_of, crf_shap
 use Rattle.avtp_packet.specs.declared.packet.Packet.{Packet as PacketView}
 use Rattle.avtp_packet.specs.declared.packet.Packet.TheVariants as view
 
--- a packet of one of the formats that are read, or of another, by its subtype
+-- a packet of one of the formats that are read, or of another, of which only the subtype is known
 pub data AnyPacket : Type 0 where
   OfIec : Iec → AnyPacket
   OfAaf : Aaf → AnyPacket
@@ -19,6 +19,7 @@ pub data AnyPacket : Type 0 where
   OfCrf : Crf → AnyPacket
   OfOther : ℕ → AnyPacket
 
+-- the packet that a view shows, apart from where its payload lies in memory
 abbrev pub packet_shape : PacketView → AnyPacket
 packet_shape (view.Iec v) = OfIec (iec_shape v)
 packet_shape (view.Aaf v) = OfAaf (aaf_shape v)
@@ -37,7 +38,7 @@ kind_of subtype pdu =
     if subtype == crf_subtype then OfCrf (crf_of pdu) else
     OfOther subtype
 
--- why bytes of this subtype are no packet
+-- why bytes of this subtype are no packet; None for a format that is not read
 unfoldable pub kind_refusal : ℕ → List ℕ → Option Refusal
 kind_refusal subtype pdu =
     if subtype == iec_subtype then iec_refusal pdu else
@@ -48,19 +49,19 @@ kind_refusal subtype pdu =
 
 -- ---- by the bytes alone
 
--- a packet without a byte has no subtype
+-- the refusal of a packet without a byte, which has no subtype
 abbrev pub subtype_refusal : List ℕ → Option Refusal
 subtype_refusal pdu = if nat_lt (length pdu) 1 then Some (record { field = Subtype; at = 0; short = true }) else None
 
--- the packet that the bytes spell
+-- the packet that bytes spell, by the subtype in their first byte
 abbrev pub packet_of : List ℕ → AnyPacket
 packet_of pdu = kind_of (bits 0 0 8 pdu) pdu
 
--- why the bytes are no packet
+-- why bytes are no packet: they have no subtype, or the format of their subtype refuses them
 abbrev pub packet_refusal : List ℕ → Option Refusal
 packet_refusal pdu = or_else (subtype_refusal pdu) (kind_refusal (bits 0 0 8 pdu) pdu)
 
--- a clock reference packet has at least one timestamp
+-- a clock reference packet has at least one timestamp; nothing is asked of others
 abbrev pub HasPoint : PacketView → Type 0
 HasPoint (view.Crf v) = 8 ≤ length v.payload.now
 HasPoint packet = ⊤

@@ -6,15 +6,15 @@ use Rattle.crf_format.specs.Crf.{Crf}
 use Rattle.avtp_packet.specs.declared.packet_stream.PacketStream.{PacketStream}
 use Rattle.avtp_packet.specs.Packet.{AnyPacket, OfAaf, OfCrf, OfH264, OfIec, OfOther}
 
--- the fields of a packet of this subtype that has a stream header
+-- the stream of a packet of this subtype that has a stream header, and its place in it
 abbrev pub header_stream : ℕ → StreamHeader → PacketStream
 header_stream subtype header = record { subtype = subtype; id = header.stream_id; sv = header.sv; seq = header.seq; mr = header.mr }
 
--- the fields of a clock reference packet
+-- the stream of a clock reference packet, and its place in it
 abbrev pub clock_stream : Crf → PacketStream
 clock_stream v = record { subtype = crf_subtype; id = v.stream_id; sv = v.sv; seq = v.seq; mr = v.mr }
 
--- the stream of a packet; of another format it is not known
+-- the stream of a packet, and its place in it; None for a format that is not read
 abbrev pub stream_of : AnyPacket → Option PacketStream
 stream_of (OfIec v) = Some (header_stream iec_subtype v.header)
 stream_of (OfAaf v) = Some (header_stream aaf_subtype v.header)
@@ -22,7 +22,7 @@ stream_of (OfH264 v) = Some (header_stream cvf_subtype v.header)
 stream_of (OfCrf v) = Some (clock_stream v)
 stream_of (OfOther subtype) = None
 
--- a reserved bit of a packet is set; those of another format are not known
+-- a reserved bit of a packet is set; those of a format that is not read are not known
 abbrev pub has_reserved : AnyPacket → Bool
 has_reserved (OfIec v) = v.reserved
 has_reserved (OfAaf v) = v.reserved

@@ -1,5 +1,5 @@
--- Which packets of a stream have a timestamp. The rule of sparse PCM is of IEEE 1722-2016, 7; the rest is this project's
--- own.
+-- Which packets of a stream must have a timestamp. The rule of sparse PCM is that of IEEE 1722-2016, 7; the rest is
+-- this project's own.
 use Rattle.std.specs.Prelude.{ℕ, ◌%◌, ◌==◌, Bool, true, false, not, ◌&&◌, nat_lt, Option, Some, None, if◌then◌else◌}
 use Rattle.std.specs.Bool.{beq}
 use Rattle.aaf_format.specs.Aaf.{Aaf}
@@ -9,39 +9,41 @@ use Rattle.cvf_format.specs.Cvf.{Cvf}
 use Rattle.iec61883_format.specs.Iec.{Iec, anchor_index, syt_interval}
 use Rattle.avtp_packet.specs.Packet.{AnyPacket, OfAaf, OfCrf, OfH264, OfIec, OfOther}
 
--- a packet of so many samples, with a timestamp or not, which must have one or must not: a packet of no samples may do
--- either
+-- A packet with `count` samples is stamped and must not be, or is not stamped and must be. A packet of no samples may
+-- do either.
 abbrev pub is_off : ℕ → Bool → Bool → Bool
 is_off count stamped must = nat_lt 0 count && not (beq stamped must)
 
--- PCM is stamped in every packet, and sparse PCM in every packet whose sequence number is a multiple of 8.
+-- a PCM packet must be stamped: always, but in a sparse stream only if its sequence number is a multiple of 8
 abbrev pub must_stamp_aaf : Aaf → Bool
 must_stamp_aaf v = if v.sparse then v.header.seq % 8 == 0 else true
 
+-- a PCM packet is stamped and must not be, or is not stamped and must be
 abbrev pub aaf_is_off : Aaf → Bool
 aaf_is_off v = is_off v.count v.header.tv (must_stamp_aaf v)
 
--- AM824 is stamped in every packet that has the data block to which a timestamp belongs. A packet of no data has no
--- interval and no block.
+-- An AM824 packet with this SYT_INTERVAL is stamped and must not be, or is not stamped and must be: it must if it has
+-- the data block to which a timestamp belongs. A packet of no data has no interval and no block, and may do either.
 abbrev pub iec_is_off_by : Option ℕ → Iec → Bool
 iec_is_off_by None v = false
 iec_is_off_by (Some interval) v = is_off v.count v.header.tv (nat_lt (anchor_index v.cip.dbc interval) v.count)
 
+-- an AM824 packet is stamped and must not be, or is not stamped and must be
 abbrev pub iec_is_off : Iec → Bool
 iec_is_off v = iec_is_off_by (syt_interval v.cip.fdf) v
 
--- a packet that ends a NAL unit of H.264
+-- a packet ends a NAL unit of H.264
 abbrev pub ends_unit : NalPart → Bool
 ends_unit Single = true
 ends_unit First = false
 ends_unit Middle = false
 ends_unit Last = true
 
--- H.264 is stamped in every packet that ends a NAL unit; its other packets may be stamped.
+-- an H.264 packet ends a NAL unit and is not stamped, which it must be; other packets may be stamped or not
 abbrev pub h264_is_off : Cvf → Bool
 h264_is_off v = ends_unit v.part && not v.header.tv
 
--- a packet has a timestamp where it must not, or has none where it must: a packet of a clock has no rule
+-- a packet is stamped and must not be, or is not stamped and must be; there is no rule for a clock reference packet
 abbrev pub stamp_is_off : AnyPacket → Bool
 stamp_is_off (OfIec v) = iec_is_off v
 stamp_is_off (OfAaf v) = aaf_is_off v

@@ -32,8 +32,8 @@ pub enum Packet<'a> {
 
 /// Reads a packet by the format that its subtype names.
 ///
-/// It is refused by `subtype`, short, exactly where it has no byte, and else exactly as its format refuses it. A packet of
-/// another subtype is never refused. A clock reference packet has at least one timestamp.
+/// It is refused by `subtype`, short, exactly if it has no byte, and otherwise exactly as its format refuses it. A
+/// packet of another subtype is never refused. A clock reference packet has at least one timestamp.
 #[inline(always)]
 pub fn read_packet(pdu: &[u8]) -> Result<Packet<'_>, Refusal>
     ensures exact { Reads packet_shape (packet_refusal pdu.now) (packet_of pdu.now) result }

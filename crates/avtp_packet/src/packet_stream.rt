@@ -34,7 +34,7 @@ fn stream_by(subtype: u8, header: &StreamHeader) -> PacketStream
     }
 }
 
-/// The stream of a packet. `None` comes exactly for packets of another format.
+/// The stream of a packet. It is `None` exactly for packets of another format.
 pub fn stream_of(packet: &Packet<'_>) -> Option<PacketStream>
     ensures { result ≡ stream_of_packet (packet_shape packet.now) }
 {

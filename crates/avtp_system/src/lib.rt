@@ -7,9 +7,8 @@ ghost use Rattle.avtp_tool.specs.Status.{code_of};
 
 use avtp_base::{FileShelf, FileSink, NoMemory, StdSink};
 use avtp_tool::{DeviceWord, Status, device_word, run};
-use device_rack::{AnnexBDevice, Place, Rack, RawDevice};
+use device_rack::{AnnexBDevice, Device, Place, Rack, RawDevice};
 use presenter_ring::NoGate;
-use sample_schedule::Device;
 use std::env;
 use std::io::ErrorKind;
 use std::process::ExitCode;

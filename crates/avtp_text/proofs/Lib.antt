@@ -10,4 +10,3 @@ pub mod Overwriting
 pub mod Tables
 pub mod Gaps
 pub mod AafEnds
-pub mod Carried

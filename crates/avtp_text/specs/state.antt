@@ -1,6 +1,5 @@
 -- Kept for proofs alone: no clause of a public call rests on what lies here.
 pub mod AafLines
-pub mod Instants
 pub mod Overwrites
 pub mod Pairs
 pub mod SampleLines

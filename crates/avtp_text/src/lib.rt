@@ -4,7 +4,6 @@
 mod aaf_line;
 mod buffer;
 mod check;
-mod instants;
 mod line;
 mod listen;
 mod notices;

@@ -4,18 +4,17 @@ ghost use Rattle.std.specs.Prelude.{◌≡◌, ◌+◌, ◌*◌, ◌/◌, ◌<�
 ghost use Rattle.hex.specs.Hex.{encode_lower};
 ghost use Rattle.avtp_text.specs.Listen.{batch_lines, capture_line, end_listen_line, flag_line, list_lines, reason_text, sample_bytes, sample_line, due_text, place_text, shown_lines};
 ghost use Rattle.time_unfold.specs.Time.{IsInstant};
-ghost use Rattle.avtp_text.specs.state.Instants.{IsInstantOf};
+ghost use Rattle.sample_schedule.specs.Instants.{IsInstantOf};
 ghost use Rattle.avtp_text.specs.Pieces.{newline};
 ghost use Rattle.avtp_text.specs.state.SampleLines.{packet_of};
 ghost use Rattle.avtp_text.specs.Written.{Prints, PrintsPart};
 
 use crate::buffer::{ROOM, Text, make_room};
-use crate::instants::Instant;
 use crate::line::{LONGEST, Line};
 use crate::sample_line::{SHORT, SampleLine, prepend_place};
 use avtp_base::{Buffer, Failed, Output};
 use listener::Counts;
-use sample_schedule::{Batch, Reason, Shown};
+use sample_schedule::{Batch, Instant, Reason, Shown};
 
 /// The bytes that are printed at a time of a longer sample.
 const PIECE: usize = 2_048;

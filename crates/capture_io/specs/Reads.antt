@@ -8,8 +8,8 @@ use Rattle.avtp_base.specs.Faults.{IsCounted, IsOpenCounted}
 use Rattle.avtp_base.specs.Files.{IsMissing, KeepsFiles, KeepsOthers, KeepsSlots, file_of, left_in}
 use Rattle.avtp_base.specs.States.{Asks, AsksNothing, ShelfState}
 
--- A call that only reads left this: every file and every slot is as it was, and so is the count of writing faults; the
--- count of reading faults did not fall; and it asked for these names, in this order.
+-- A call that only reads: every file and every slot is as it was, and so is the count of writing faults; the count of
+-- reading faults did not fall; and these names were asked for, in this order.
 pub record OnlyReads (before after : ShelfState) (names : List (List ℕ)) : Type 0 where
   pub files : KeepsFiles before.files after.files
   pub slots : KeepsSlots before.slots after.slots
@@ -19,8 +19,8 @@ pub record OnlyReads (before after : ShelfState) (names : List (List ℕ)) : Typ
 
 -- ---- while the file of one slot is open
 
--- Bytes were moved from the front of what is left in slot k to the front of the buffer, as many as the result says, or none
--- where a fault came, which was counted; the slot keeps its file, and all else is as it was.
+-- Bytes were moved from the front of what is left in slot k to the front of the buffer, as many as the result says; or
+-- none if a fault came, which was counted. The slot keeps its file, and all else is as it was.
 pub record ReadsBytes (before after : ShelfState) (k : ℕ) (result : Result ℕ Failed) (buffer : List ℕ) : Type 0 where
   pub within : IfOk result (λ n. n ≤ length buffer)
   pub moved : ReadConsumes (left_in before.slots k) (left_in after.slots k) result buffer
@@ -31,8 +31,8 @@ pub record ReadsBytes (before after : ShelfState) (k : ℕ) (result : Result ℕ
   pub writing : after.writing_faults ≡ before.writing_faults
   pub asked : AsksNothing before after
 
--- The file that is open in slot k was read, and is still open there, which is slot `now`; all else is as it was, and no name
--- was asked for.
+-- The file that is open in slot k was read, and is still open there: `now` is slot k, too. All else is as it was, and
+-- no name was asked for.
 pub record ReadsSlot (before after : ShelfState) (k now : ℕ) : Type 0 where
   pub slot : now ≡ k
   pub files : KeepsFiles before.files after.files
@@ -42,8 +42,8 @@ pub record ReadsSlot (before after : ShelfState) (k now : ℕ) : Type 0 where
   pub writing : after.writing_faults ≡ before.writing_faults
   pub asked : AsksNothing before after
 
--- The file of this name was asked for and opened, in slot k, which was not live, and it was read or not; all else is as
--- it was.
+-- The file of this name was asked for and opened in slot k, which was free, and it was read or not; all else is as it
+-- was.
 pub record OpensSlot (before after : ShelfState) (name : List ℕ) (k : ℕ) : Type 0 where
   pub free : before.slots k ≡ None
   pub files : KeepsFiles before.files after.files
@@ -53,8 +53,8 @@ pub record OpensSlot (before after : ShelfState) (name : List ℕ) (k : ℕ) : T
   pub writing : after.writing_faults ≡ before.writing_faults
   pub asked : Asks (name ∷ []) before after
 
--- A file of this name was opened, in the slot of what was made of it; or not: then it is missing where the shelf tells so, the
--- count of reading faults rose where the shelf failed, and nothing else was done.
+-- A file of this name was opened, in the slot of what was made of it. Or it was not opened: `Missing` means that the
+-- shelf shows its files and none has the name, at `Failed` the count of reading faults rose, and nothing else was done.
 pub record TriesOpen {T : Type 0} (slot : T → ℕ) (before after : ShelfState) (name : List ℕ) (result : Result T OpenFault) : Type 0 where
   pub opened : IfOk result (λ file. OpensSlot before after name (slot file))
   pub refused : OnErr result (OnlyReads before after (name ∷ []))

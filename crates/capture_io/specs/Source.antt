@@ -12,39 +12,41 @@ use Rattle.capture_io.specs.Pieces.{Piecing, HasTaken}
 use Rattle.capture_io.specs.Reader.{CaptureReading, HasRead, held, refusal_of}
 use Rattle.capture_io.specs.Reads.{ReadsSlot, TriesOpen}
 
--- The file and its pieces, the reader that takes them, and how the reading ended, once it has.
+-- A source of records: the file and its pieces, the reader that takes them, and how the reading ended, once it has.
 pub record Sourcing : Type 0 where
   pub pieces : Piecing
   pub reader : CaptureReading
   pub ended : Option End
 
--- the slot of the file
+-- the slot of a source's file
 abbrev pub slot_of : Sourcing → ℕ
 slot_of source = source.pieces.slot
 
--- what is left to read of the file, where the shelf tells it
+-- what is left to read of a source's file, if the shelf shows it
 abbrev pub remains_of : ShelfState → Sourcing → Option (List ℕ)
 remains_of shelf source = left_in shelf.slots (slot_of source)
 
--- the record that is held
+-- the record that a source holds
 abbrev pub held_in : Sourcing → Option Record
 held_in source = held source.reader
 
--- The reader has taken a prefix of a file of these bytes, has refused nothing, and has given up these records.
+-- The reader has taken a prefix of a file of these bytes, has refused nothing, and has released these records.
 pub record HasFed (limit : ℕ) (bytes : List ℕ) (remains : Option (List ℕ)) (source : Sourcing) (records : List Record) : Type 0 where
   pub prefix : List ℕ
   pub taken : HasTaken limit bytes remains source.pieces prefix
   pub accepted : refusal_of source.reader ≡ None
   pub read : HasRead source.reader prefix records
 
--- Of a file of these bytes, of which `limit` may be read and the slot has `remains` left, these records were given, the
--- last of which may still be held; and the reading has not ended.
+-- Of a file of these bytes, of which at most `limit` may be read and the slot has `remains` left, these records were
+-- given, the last of which may still be held; and the reading has not ended.
 pub record HasGiven (limit : ℕ) (bytes : List ℕ) (remains : Option (List ℕ)) (source : Sourcing) (records : List Record) : Type 0 where
   pub going : source.ended ≡ None
   pub before : List Record
   pub fed : HasFed limit bytes remains source before
   pub given : records ≡ before ++ option_to_list (held_in source)
 
+-- A source has given these records of a file of these bytes, of which at most `limit` may be read, and its slot has
+-- left what this state of the shelf shows; the reading has not ended.
 abbrev pub HasGivenOf : ℕ → List ℕ → ShelfState → Sourcing → List Record → Type 0
 HasGivenOf limit bytes shelf source records = HasGiven limit bytes (remains_of shelf source) source records
 
@@ -58,15 +60,16 @@ pub record EndsAfter (limit : ℕ) (bytes : List ℕ) (fault : Type 0) (how : En
 abbrev pub to_do : Sourcing → ℕ
 to_do source = 2 * source.pieces.left + length source.pieces.waiting
 
--- A capture of this name was opened, of which `limit` bytes may be read, and no record was given yet; or it was not opened.
+-- A capture of this name was opened, of which at most `limit` bytes may be read, and no record was given yet; or it was
+-- not opened.
 pub record OpensSource (before after : ShelfState) (limit : ℕ) (name : List ℕ) (result : Result Sourcing OpenFault) : Type 0 where
-  -- nothing was given yet of the file's bytes, where the shelf tells them
+  -- nothing was given yet of the file's bytes, if the shelf shows them
   pub begun : IfOk result (λ source. (files : Files) → before.files ≡ Some files → (bytes : List ℕ) × (files name ≡ Some bytes) × HasGivenOf limit bytes after source [])
   pub going : IfOk result (λ source. (source.ended ≡ None) × (to_do source ≤ 2 * limit))
   pub tries : TriesOpen slot_of before after name result
 
--- The next record was read, and is held now; or the reading ended so after the records that were given, and the count of
--- reading faults rose where a fault ended it. A reading that had ended answers the same again.
+-- The next record was read, and is held now; or the reading ended in this way after the records that were given, and
+-- the count of reading faults rose if a fault ended it. A reading that had ended answers the same again.
 pub record GivesNext (before after : ShelfState) (old new : Sourcing) (result : Option End) : Type 0 where
   pub given : result ≡ None → (limit : ℕ) (bytes : List ℕ) (records : List Record) → HasGivenOf limit bytes before old records
       → (next : Record) × (held_in new ≡ Some next) × HasGivenOf limit bytes after new (records ++ next ∷ [])

@@ -7,18 +7,18 @@ use Rattle.avtp_base.specs.Faults.{IsCounted, IsOpenCounted}
 use Rattle.avtp_base.specs.Files.{Files, Slots, file_of, left_in, name_in, KeepsFiles, KeepsOtherFiles, KeepsSlots, PutsFile}
 use Rattle.avtp_base.specs.States.{Asks, AsksNothing, ShelfState}
 
--- The slot of the file, and the bytes that wait to be written to it.
+-- A file that is written through a buffer: its slot, and the bytes that wait to be written to it.
 pub record Writing : Type 0 where
   pub slot : ℕ
   pub waiting : List ℕ
 
--- the file of slot k was made for writing
+-- slot k is live, and its file was made for writing
 abbrev pub IsMadeIn : Slots → ℕ → Type 0
 IsMadeIn slots k = option_map (λ o. o.made) (slots k) ≡ Some true
 
--- Since the shelf stood so, the file of this name was made, and it is open in the
--- writer's slot, which was not live. The bytes are those that it has and then those that wait. All other files are as they
--- were where they are told, and so are the other slots, but for what is left there of this file.
+-- Since the shelf was in the state `before`, the file of this name was made, and it is open in the writer's slot, which
+-- was free. The bytes are those that the file has and then those that wait. All other files are as they were, if they
+-- are shown, and so are the other slots, except what is left there of this file.
 pub record IsWriting (before after : ShelfState) (writer : Writing) (name bytes : List ℕ) : Type 0 where
   pub held : List ℕ
   pub split : bytes ≡ held ++ writer.waiting
@@ -30,8 +30,8 @@ pub record IsWriting (before after : ShelfState) (writer : Writing) (name bytes 
   pub left : IsSome before.files → (j : ℕ) → j ≢ writer.slot → name_in before.slots j ≢ Some name → left_in after.slots j ≡ left_in before.slots j
   pub reading : after.reading_faults ≡ before.reading_faults
 
--- The writer's file was written, or not, and is still open. The count of writing faults rose where the shelf failed; no reading
--- fault was counted, and no name was asked for.
+-- The writer's file was written, or not, and is still open. The count of writing faults rose if the shelf failed; no
+-- reading fault was counted, and no name was asked for.
 pub record WritesSlot (before after : ShelfState) (old new : Writing) (result : Result Unit Failed) : Type 0 where
   pub slot : new.slot ≡ old.slot
   pub made : IsMadeIn after.slots old.slot
@@ -40,7 +40,7 @@ pub record WritesSlot (before after : ShelfState) (old new : Writing) (result : 
   pub counted : IsCounted before.writing_faults after.writing_faults result
   pub asked : AsksNothing before after
 
--- These bytes were added, or nothing where the shelf failed.
+-- These bytes were added to the writer's file, or nothing if the shelf failed.
 pub record AddsBytes (before after : ShelfState) (old new : Writing) (bytes : List ℕ) (result : Result Unit Failed) : Type 0 where
   pub added : OnOk result ((begun : ShelfState) (name all : List ℕ) → IsWriting begun before old name all → IsWriting begun after new name (all ++ bytes))
   pub kept : OnErr result ((begun : ShelfState) (name all : List ℕ) → IsWriting begun before old name all → IsWriting begun after new name all)
@@ -48,14 +48,14 @@ pub record AddsBytes (before after : ShelfState) (old new : Writing) (bytes : Li
 
 -- ---- what is left
 
--- a file was not made
+-- a file was not made: files, slots and the count of reading faults are as they were
 pub record NotMade (before after : ShelfState) : Type 0 where
   pub files : KeepsFiles before.files after.files
   pub slots : KeepsSlots before.slots after.slots
   pub reading : after.reading_faults ≡ before.reading_faults
 
--- A file of this name was made, and is written through a buffer in which nothing waits; or it was not made, and the count of
--- writing faults rose where the shelf failed. The name was asked for.
+-- A file of this name was made, and is written through a buffer in which nothing waits; or it was not made, and the
+-- count of writing faults rose if the shelf failed. The name was asked for.
 pub record CreatesFile (before after : ShelfState) (name : List ℕ) (result : Result Writing OpenFault) : Type 0 where
   pub begun : IfOk result (λ writer. IsWriting before after writer name [])
   pub not_made : OnErr result (NotMade before after)
@@ -63,24 +63,27 @@ pub record CreatesFile (before after : ShelfState) (name : List ℕ) (result : R
   pub counted : IsOpenCounted before.writing_faults after.writing_faults result
   pub asked : Asks (name ∷ []) before after
 
--- the file has a prefix of these bytes now, and all other files that are told stay as they were
+-- the file of this name has a prefix of these bytes now, and all other files are as they were, as far as the shelf
+-- shows them
 pub record PutsPrefix (old new : Option Files) (name bytes : List ℕ) : Type 0 where
   pub prefix : List ℕ
   pub rest : List ℕ
   pub split : bytes ≡ prefix ++ rest
   pub put : PutsFile old new name prefix
 
--- the file is as it was, or has a prefix of these bytes, and all other files stay as they were
+-- the file of this name is as it was, or has a prefix of these bytes now, and all other files are as they were, as far
+-- as the shelf shows them
 abbrev pub MakesPrefix : Option Files → Option Files → List ℕ → List ℕ → Type 0
 MakesPrefix old new name bytes = KeepsFiles old new ⊎ PutsPrefix old new name bytes
 
--- Every slot is live as it was, with its file; and where files are told, what is left of a file of another name than this.
+-- Every slot is live or free as it was, with its file; and if files are shown, what is left to read is as it was in
+-- each slot whose file has another name than this.
 pub record KeepsSlotsBut (files : Option Files) (old new : Slots) (name : List ℕ) : Type 0 where
   pub same : (j : ℕ) → option_map file_of (new j) ≡ option_map file_of (old j)
   pub left : IsSome files → (j : ℕ) → name_in old j ≢ Some name → left_in new j ≡ left_in old j
 
--- The writer's file was closed, which has a prefix of all that was added. Every other file and slot is as it was; the count of
--- writing faults rose where the shelf failed, no reading fault was counted, and no name was asked for.
+-- The writer's file was closed, and has a prefix of all that was added. Every other file and slot is as it was; the
+-- count of writing faults rose if the shelf failed, no reading fault was counted, and no name was asked for.
 pub record ClosesFile (before after : ShelfState) (writer : Writing) (result : Result Unit Failed) : Type 0 where
   pub prefix : (begun : ShelfState) (name all : List ℕ) → IsWriting begun before writer name all → PutsPrefix begun.files after.files name all
   pub slots : (begun : ShelfState) (name all : List ℕ) → IsWriting begun before writer name all → KeepsSlotsBut begun.files begun.slots after.slots name
@@ -88,7 +91,7 @@ pub record ClosesFile (before after : ShelfState) (writer : Writing) (result : R
   pub counted : IsCounted before.writing_faults after.writing_faults result
   pub asked : AsksNothing before after
 
--- It was finished: closed, and where nothing failed it has all that was added.
+-- The writer's file was finished: it was closed, and if nothing failed it has all that was added.
 pub record FinishesFile (before after : ShelfState) (writer : Writing) (result : Result Unit Failed) : Type 0 where
   pub put : OnOk result ((begun : ShelfState) (name all : List ℕ) → IsWriting begun before writer name all → PutsFile begun.files after.files name all)
   pub closes : ClosesFile before after writer result

@@ -25,11 +25,11 @@ pub enum Format {
 /// The first four bytes of a pcapng capture, which read alike in either byte order.
 const SECTION_HEADER: u32 = 0x0A0D_0D0A;
 
-/// How many bytes tell the layout.
+/// From how many bytes the layout is known.
 const FRONT: usize = 4;
 
-/// Reads a capture in either layout, with the calls of [`Reader`]; only records of a classic capture are lent. The first four
-/// bytes are held back until they are all there, and tell the layout.
+/// Reads a capture in either layout, with the calls of [`Reader`]; only records of a classic capture are lent. The
+/// first four bytes are held back until they are all there, and show the layout.
 #[derive(Drop)]
 pub struct CaptureReader {
     format: Option<Format>,
@@ -69,8 +69,8 @@ impl CaptureReader {
         })
     }
 
-    /// Takes bytes of the piece, up to the end of one record at most, and answers how many; or answers the capture's first
-    /// refusal, as soon as the bytes so far show it.
+    /// Takes bytes of the piece, up to the end of one record at most, and answers how many; or answers the capture's
+    /// first refusal, as soon as the bytes so far show it.
     pub fn feed(&mut self, piece: &[u8]) -> Result<usize, Refusal>
         requires { taken self.old + length piece.now ≤ 2 ^ 62 }
         ensures { Feeds self.old piece.now result self.new }
@@ -105,7 +105,7 @@ impl CaptureReader {
         Ok(taken)
     }
 
-    /// The record that was taken last, where it is whole and was not released.
+    /// The record that was taken last, if it is whole and was not released.
     pub fn held(&self) -> Option<RecordView<'_>>
         ensures { IsViewOf (held self.now) result }
     {
@@ -128,9 +128,9 @@ impl CaptureReader {
         };
     }
 
-    /// The size of the next record, where it lies whole at the front of the piece and nothing of it was taken yet.
+    /// The size of the next record, if it lies whole at the front of the piece and nothing of it was taken yet.
     ///
-    /// None comes only where no such record lies there, or the capture is not a classic one. Then the piece is to be fed.
+    /// It is None only if there is no such record, or the capture is not a classic one. Then the piece is to be fed.
     pub fn whole_ahead(&self, piece: &[u8]) -> Option<usize>
         ensures { FindsNext self.now piece.now result }
     {
@@ -140,7 +140,7 @@ impl CaptureReader {
         }
     }
 
-    /// The next record, where it lies: these are its bytes, header and all.
+    /// The next record, in the piece: these are its bytes, header and all.
     pub fn lend<'a>(&self, bytes: &'a [u8]) -> RecordView<'a>
         requires { IsNext self.now bytes.now }
         ensures { IsView (held (with_part self.now bytes.now)) result }
@@ -157,8 +157,8 @@ impl CaptureReader {
         self.classic.pass(bytes);
     }
 
-    /// Whether the bytes so far are a whole capture; otherwise it answers their first refusal. It changes nothing: bytes may
-    /// follow. Where fewer than four came, the magic number of a classic capture is what they lack.
+    /// Whether the bytes so far are a whole capture; otherwise it answers their first refusal. It changes nothing:
+    /// bytes may follow. If fewer than four came, the magic number of a classic capture is what they lack.
     pub fn finish(&self) -> Result<(), Refusal>
         ensures { (bytes : List ℕ) (records : List Record) → HasRead self.now bytes records → EndsHere self.now bytes records (result_err result) }
     {

@@ -17,10 +17,11 @@ pub struct Contents {
     pub stop: Stop,
 }
 
-/// Opens a file, reads it to its end, or as far as it can or may be read, and closes it. At most `limit` bytes are read.
+/// Opens a file, reads it to its end, or as far as it can or may be read, and closes it. At most `limit` bytes are
+/// read.
 ///
-/// `Missing` comes only where the shelf tells its files and none has the name, `Failed` only where the file could not be
-/// opened and the reading count rose, and `Memory` where no memory was found.
+/// It answers `Missing` only if the shelf shows its files and none has the name, `Failed` only if the file could not be
+/// opened and the reading count rose, and `Memory` if no memory was found.
 pub fn read_contents<F: Shelf>(
     alloc: Global,
     limit: u64,

@@ -13,8 +13,8 @@ use crate::read_slots::ReadSlots;
 use pcap_frames::RecordView;
 use std::marker::Model;
 
-/// A capture that is read from a shelf, and fed to a reader in pieces. The bytes of a record are taken by the reader, which
-/// holds it then, or the record is looked at where it lies in the piece.
+/// A capture that is read from a shelf, and fed to a reader in pieces. The bytes of a record are taken by the reader,
+/// which holds it then, or the record is shown from the piece.
 #[derive(Drop)]
 pub struct Feed {
     pub pieces: Pieces,
@@ -35,8 +35,8 @@ impl Model for Feed {
 }
 
 impl Feed {
-    /// Drops the record that is held, and reads on to the next. At `None` one is held now; else it answers how the reading
-    /// ended. Once it has ended, each further call answers the same and reads nothing.
+    /// Drops the record that is held, and reads on to the next. At `None` one is held now; otherwise it answers how the
+    /// reading ended. Once it has ended, each further call answers the same and reads nothing.
     #[inline(never)]
     pub fn next<F: ReadSlots>(&mut self, shelf: &mut F) -> Option<End>
         requires { IsSome ((F.state shelf.old).slots (slot_of self.old)) }
@@ -65,7 +65,7 @@ impl Feed {
         }
     }
 
-    /// Feeds the reader what waits, or where nothing waits reads the next piece.
+    /// Feeds the reader what waits, or reads the next piece if nothing waits.
     fn step<F: ReadSlots>(&mut self, shelf: &mut F) -> Option<End>
         requires { IsReady (F.state shelf.old).slots self.old }
         ensures { ReadsOn (F.state shelf.old) (F.state shelf.new) self.old self.new result }
@@ -76,7 +76,7 @@ impl Feed {
         self.feed_piece()
     }
 
-    /// Reads the next piece, where nothing waits.
+    /// Reads the next piece, when nothing waits.
     fn read_piece<F: ReadSlots>(&mut self, shelf: &mut F) -> Option<End>
         requires ready { IsReady (F.state shelf.old).slots self.old }
         requires none_waits { self.old.pieces.waiting ≡ [] }
@@ -103,8 +103,8 @@ impl Feed {
         }
     }
 
-    /// The size of the next record, where it lies whole at the front of the bytes that wait and nothing of it was taken yet.
-    /// None comes only where no such record lies there, or the reading has ended.
+    /// The size of the next record, if it lies whole at the front of the bytes that wait and nothing of it was taken
+    /// yet. It is None only if there is no such record, or the reading has ended.
     pub fn whole_ahead(&self) -> Option<usize>
         ensures { FindsAhead self.now result }
     {
@@ -114,7 +114,7 @@ impl Feed {
         self.reader.whole_ahead(self.pieces.waiting())
     }
 
-    /// The next record, where it lies in so many bytes that wait.
+    /// The next record, which is the first `size` of the bytes that wait.
     pub fn lend(&self, size: usize) -> RecordView<'_>
         requires { LiesAhead self.now size }
         ensures { IsView (held_in (holding self.now size)) result }
@@ -122,7 +122,7 @@ impl Feed {
         self.reader.lend(&self.pieces.waiting()[..size])
     }
 
-    /// Goes past the next record, which lies in so many bytes that wait.
+    /// Goes past the next record, which is the first `size` of the bytes that wait.
     pub fn pass(&mut self, size: usize)
         requires { LiesAhead self.old size }
         ensures { GivesUp (holding self.old size) self.new }

@@ -9,7 +9,7 @@ use std::marker::Model;
 
 /// A file of a shelf that is made and written through a buffer.
 ///
-/// What the file has and then what waits in the buffer is all that was added. Where the shelf fails the file has a prefix
+/// What the file has and then what waits in the buffer is all that was added. If the shelf fails, the file has a prefix
 /// of that; nothing is lost or written twice, so the same call may be made again.
 #[derive(Drop)]
 pub struct FileWriter {
@@ -26,10 +26,11 @@ impl Model for FileWriter {
 }
 
 impl FileWriter {
-    /// Makes a file, or empties it, to write it through a buffer in which nothing waits.
+    /// Makes a file, or empties it, to write it through a buffer in which nothing waits. The buffer's memory was
+    /// reserved before, so want of memory leaves the file as it was.
     ///
-    /// `Failed` comes only where the writing count rose, and `Memory` is the shelf's; after both the file is as it was. It
-    /// never answers `Missing`.
+    /// At `Failed` the writing count rose, and `Memory` is the shelf's; after both the file is as it was. It never
+    /// answers `Missing`.
     pub fn create<F: Shelf>(buffer: Buffer, shelf: &mut F, name: &str) -> Result<Self, OpenFault>
         requires { buffer ≡ [] }
         ensures { CreatesFile (F.state shelf.old) (F.state shelf.new) name.now result }
@@ -38,7 +39,7 @@ impl FileWriter {
         Ok(FileWriter { slot, buffer })
     }
 
-    /// Adds what is spelled in at most [`Buffer::ROOM`] bytes, which are written in their place, or nothing where the shelf
+    /// Adds what is spelled in at most [`Buffer::ROOM`] bytes, which are written in place, or nothing if the shelf
     /// fails.
     #[inline(always)]
     pub fn add<F: Shelf, W: Spelled>(&mut self, shelf: &mut F, added: &W) -> Result<(), Failed>
@@ -66,7 +67,7 @@ impl FileWriter {
         Ok(())
     }
 
-    /// Writes what waits, and closes the file. At `Ok` the file has all that was added; else it has a prefix of that.
+    /// Writes what waits, and closes the file. At `Ok` the file has all that was added, otherwise a prefix of that.
     pub fn finish<F: Shelf>(self, shelf: &mut F) -> Result<(), Failed>
         requires { IsMadeIn (F.state shelf.old).slots self.slot }
         ensures { FinishesFile (F.state shelf.old) (F.state shelf.new) self result }

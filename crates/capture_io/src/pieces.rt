@@ -19,7 +19,7 @@ const PIECE: usize = 65_536;
 pub struct Pieces {
     slot: Slot,
     piece: Vec<u8>,
-    /// Where in the piece the bytes begin that wait, and where they end.
+    /// Where the waiting bytes begin and end in the piece.
     start: usize,
     end: usize,
     /// How many more bytes may be read.
@@ -40,8 +40,8 @@ impl Model for Pieces {
 }
 
 impl Pieces {
-    /// Opens a file of which at most `limit` bytes may be read. The name is asked for first, and the memory of a piece is
-    /// reserved after that; where there is none, the file is closed again.
+    /// Opens a file of which at most `limit` bytes may be read. The name is asked for first, and the memory of a piece
+    /// is reserved after that; if there is none, the file is closed again.
     pub fn open<F: Shelf>(
         alloc: Global,
         limit: u64,
@@ -65,7 +65,8 @@ impl Pieces {
         })
     }
 
-    /// Reads the next piece, where none waits: then bytes wait, or it answers where the reading stopped.
+    /// Reads the next piece, when no bytes wait: then bytes wait, or it answers where the reading stopped. Bytes of a
+    /// piece beyond the limit are dropped, and that there are more is answered once the others were taken.
     pub fn read<F: ReadSlots>(&mut self, shelf: &mut F) -> Option<Stop>
         requires { IsDrained (F.state shelf.old).slots self.old }
         ensures { ReadsPiece (F.state shelf.old) (F.state shelf.new) self.old self.new result }
@@ -94,7 +95,7 @@ impl Pieces {
         &self.piece[self.start..self.end]
     }
 
-    /// Takes so many of the bytes that wait.
+    /// Takes the first `count` of the bytes that wait.
     pub fn take(&mut self, count: usize)
         requires { count ≤ length self.old.waiting }
         ensures { self.new ≡ record self.old { waiting = drop count self.old.waiting } }

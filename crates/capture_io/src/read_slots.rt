@@ -5,8 +5,8 @@ ghost use Rattle.capture_io.specs.Reads.{ReadsBytes};
 
 use avtp_base::{Failed, Shelf, Slot};
 
-/// A shelf whose open files are read, without leave to go to another thread: what a body in a trait can ask of a type
-/// parameter. Each shelf is one.
+/// A shelf whose open files are read, without the bound `Send`: what a body in a trait can ask of a type parameter.
+/// Each shelf is one.
 pub trait ReadSlots {
     ghost use Rattle.avtp_base.specs.States.{ShelfState};
 

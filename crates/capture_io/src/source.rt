@@ -19,11 +19,12 @@ use std::marker::Model;
 /// A capture that is read from a shelf, which gives its records one after the other. It takes at most 65,536 bytes in
 /// a call of the shelf, and its memory, which is reserved when it is opened, does not grow with the capture.
 ///
-/// A record that lies whole in the piece that was read is lent from there; only one that is cut is copied.
+/// A record that lies whole in the piece that was read is lent from there; only one that is cut is copied. Contracts
+/// see a lent record as held, and its bytes as taken, until the next one is asked for.
 #[derive(Drop)]
 pub struct Source {
     feed: Feed,
-    /// The size of the record that is held, where it is lent: it lies at the front of the bytes that wait.
+    /// The size of the record that is held, if it is lent: it is at the front of the bytes that wait.
     lent: Option<usize>,
 }
 
@@ -41,8 +42,9 @@ impl Model for Source {
 impl Source {
     /// Opens a capture of which at most `limit` bytes may be read; `limit` is at most 2^62. No record is held yet.
     ///
-    /// `Missing` comes only where the shelf tells its files and none has the name, `Failed` only where the reading count
-    /// rose, and `Memory` where no memory was found; after each of them the file is not open.
+    /// It answers `Missing` only if the shelf shows its files and none has the name, `Failed` only if the reading count
+    /// rose, and `Memory` if no memory was found; after each of them the file is not open. The name is asked for before
+    /// memory is reserved, so exactly this name was asked for, whatever it answers.
     pub fn open<F: Shelf>(
         alloc: Global,
         limit: u64,
@@ -65,8 +67,8 @@ impl Source {
         Ok(Source { feed, lent: None })
     }
 
-    /// Drops the record that is held, and reads on to the next. At `None` one is held now; else it answers how the reading
-    /// ended. Once it has ended, each further call answers the same and reads nothing.
+    /// Drops the record that is held, and reads on to the next. At `None` one is held now; otherwise it answers how the
+    /// reading ended. Once it has ended, each further call answers the same and reads nothing.
     #[inline(always)]
     pub fn next<F: ReadSlots>(&mut self, shelf: &mut F) -> Option<End>
         requires { IsSome ((F.state shelf.old).slots (slot_of self.old)) }
@@ -94,7 +96,7 @@ impl Source {
         }
     }
 
-    /// Closes the file, wherever the reading stands.
+    /// Closes the file, however far it was read.
     pub fn close<F: Shelf>(self, shelf: &mut F)
         requires { IsSome ((F.state shelf.old).slots (slot_of self)) }
         ensures { ClosesSlot (F.state shelf.old) (F.state shelf.new) (slot_of self) }
@@ -103,7 +105,7 @@ impl Source {
     }
 }
 
-/// Gives up the record that is lent, or else the one that is held, if there is one.
+/// Releases the record that is lent, or else the one that is held, if there is one.
 fn give_up(feed: &mut Feed, lent: Option<usize>)
     requires { IsLending lent feed.old }
     ensures { GivesUp (lending lent feed.old) feed.new }

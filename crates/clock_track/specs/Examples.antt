@@ -4,11 +4,11 @@ use Rattle.byteorder.specs.Endian.{big_bytes}
 use Rattle.clock_track.specs.declared.clock_row.ClockRow.{ClockRow}
 use Rattle.clock_track.specs.declared.pair.Pair.{Pair}
 
--- 147 events of 44.1 kHz take 3,333,333 1/3 ns
+-- a pair of points of a 44.1 kHz clock: 147 events take 3,333,333 1/3 ns
 abbrev pub second_pair : Pair
 second_pair = record { earlier = pos 1002000000; later = pos 1005333333; interval = 147; up = 44100; down = 1 }
 
--- a packet of one point, 96 events of a base frequency behind the one before
+-- a clock packet of one timestamp, with an interval of 96 events of a base frequency
 abbrev pub worked_row : ℕ → Bool → ℕ → ℕ → ClockRow
 worked_row seq mr base timestamp = record {
   usable = true;
@@ -20,6 +20,6 @@ worked_row seq mr base timestamp = record {
   payload = big_bytes 8 timestamp;
 }
 
--- two of them, 2 ms apart, maybe with a restart between them
+-- two clock packets whose points are 2 ms apart, with or without a restart between them
 abbrev pub worked_rows : ℕ → Bool → List ClockRow
 worked_rows base restarts = worked_row 255 false base 1002000000 ∷ worked_row 0 restarts base 1004000000 ∷ []

@@ -5,7 +5,7 @@ use Rattle.clock_track.specs.declared.clock_row.ClockRow.{ClockRow}
 use Rattle.clock_track.specs.declared.pair.Pair.{Pair}
 use Rattle.clock_track.specs.Pairs.{Spot}
 
--- where a point may be: a timestamp below 2^62, and up to a second more or less
+-- a point is a timestamp below 2^62, shifted by at most a second
 pub record IsPoint (instant : ℤ) : Type 0 where
   pub from : neg_ℤ (pos 1000000000) ≤ℤ instant
   pub to : instant <ℤ pos (2 ^ 62 + 1000000000)
@@ -15,7 +15,7 @@ pub record IsNear (base instant : ℤ) : Type 0 where
   pub from : (base -ℤ pos (2 ^ 51)) ≤ℤ instant
   pub to : instant ≤ℤ (base +ℤ pos (2 ^ 51))
 
--- a base frequency has 29 bits, and an interval 16
+-- the numbers of a pair are as small as the format makes them: a base frequency has 29 bits, and an interval 16
 pub record IsSmall (p : Pair) : Type 0 where
   pub earlier : IsPoint p.earlier
   pub later : IsPoint p.later
@@ -26,8 +26,8 @@ pub record IsSmall (p : Pair) : Type 0 where
   pub some_down : 1 ≤ p.down
   pub down : p.down ≤ 1001
 
--- A packet that gives points: a code of pull, a base frequency of 29 bits and an interval of the format, and at most 8,191
--- whole timestamps.
+-- A packet that gives points: a code of pull, a base frequency of 29 bits and an interval of the format, and at most
+-- 8,191 whole timestamps.
 pub record IsRow (row : ClockRow) : Type 0 where
   pub pull : row.pull ≤ 5
   pub some_frequency : 1 ≤ row.base_frequency
@@ -37,18 +37,19 @@ pub record IsRow (row : ClockRow) : Type 0 where
   pub whole : length row.payload % 8 ≡ 0
   pub size : length row.payload ≤ 65528
 
--- Nothing is asked of a packet that gives no points.
+-- A packet can be noted: if it gives points, its numbers are those of the format.
 abbrev pub IsNotable : ClockRow → Type 0
 IsNotable row = row.usable ≡ true → IsRow row
 
--- what may be added to timestamps: a second at most, or less than nothing
+-- what may be added to timestamps: at most a second, forward or back
 pub record IsShift (shift : ℤ) : Type 0 where
   pub from : neg_ℤ (pos 1000000000) ≤ℤ shift
   pub to : shift ≤ℤ pos 1000000000
 
 -- ---- a line that a clock answers
 
--- What holds of the line and the number of a sample on it, for a stream of a rate and an instant that was asked for.
+-- What holds of the line and the number of a sample on it that a clock answers, for a stream of this rate and the
+-- instant that was asked for.
 pub record IsClockLine (rate : ℕ) (instant : ℤ) (spot : Spot) : Type 0 where
   pub some_num : 1 ≤ spot.line.num
   pub num : spot.line.num ≤ 2 ^ 60
@@ -60,5 +61,5 @@ pub record IsClockLine (rate : ℕ) (instant : ℤ) (spot : Spot) : Type 0 where
   pub to : spot.from <ℤ pos 65535
   -- sample 0 is a point, or at the instant itself
   pub base : (spot.line.base ≡ instant) ⊎ IsPoint spot.line.base
-  -- about a million samples before and behind it are within 2^51 ns
+  -- about a million samples before and after it are within 2^51 ns
   pub near : (k : ℤ) → neg_ℤ (pos (2 ^ 20)) ≤ℤ k → k ≤ℤ pos (2 ^ 20) → IsNear spot.line.base (instant_at spot.line k)

@@ -1,5 +1,6 @@
--- Two points of a media clock: reference timestamps of every so many events of a nominal frequency (IEEE 1722-2016, 10),
--- and the line of events behind them. What is said of whole numbers here is said of fractions, multiplied out.
+-- Two points of a media clock: reference timestamps that are an interval of events of a nominal frequency apart (IEEE
+-- 1722-2016, 10), and the line of events after them. What is said of whole numbers here is said of fractions,
+-- multiplied out.
 use Rattle.std.specs.Prelude.{◌≡◌, ℕ, ◌*◌, ◌==◌, ◌≤◌, nat_le, if◌then◌else◌, Bool, false, ℤ, pos, negsuc, ◌+ℤ◌, ◌-ℤ◌, ◌*ℤ◌, ◌≤ℤ◌, ◌<ℤ◌, int_le, int_lt}
 use Rattle.clock_track.specs.declared.pair.Pair.{Pair}
 use Rattle.time_unfold.specs.declared.line.Line.{Line}
@@ -7,7 +8,7 @@ use Rattle.time_unfold.specs.Lines.{floor_of}
 
 -- ---- the frequency
 
--- The multiplier of the base frequency that a code of pull stands for, above and below the line.
+-- the numerator of the factor of the base frequency that a code of pull names (IEEE 1722-2016, 10)
 abbrev pub pull_up : ℕ → ℕ
 pull_up pull =
     if pull == 1 then 1000 else
@@ -15,6 +16,7 @@ pull_up pull =
     if pull == 3 then 24 else
     if pull == 4 then 25 else 1
 
+-- the denominator of the factor of the base frequency that a code of pull names (IEEE 1722-2016, 10)
 abbrev pub pull_down : ℕ → ℕ
 pull_down pull =
     if pull == 1 then 1001 else
@@ -30,15 +32,15 @@ abbrev pub at_least_0 : ℤ → ℕ
 at_least_0 (pos n) = n
 at_least_0 (negsuc n) = 0
 
--- the time from one point to the other; 0 where the other isn't later
+-- the time from the earlier point to the later, in nanoseconds; 0 if the second isn't later
 abbrev pub period : Pair → ℕ
 period p = at_least_0 (p.later -ℤ p.earlier)
 
--- The nominal time of the interval is nominal p / up nanoseconds.
+-- the nominal time of the interval, times `up`: it is nominal p / up nanoseconds
 abbrev pub nominal : Pair → ℕ
 nominal p = p.interval * 1000000000 * p.down
 
--- the points are within 1/8 of the nominal time of the interval apart
+-- the time between the points is within 1/8 of the nominal time of the interval
 pub record IsJoined (p : Pair) : Type 0 where
   pub least : 7 * nominal p ≤ 8 * (period p * p.up)
   pub most : 8 * (period p * p.up) ≤ 9 * nominal p
@@ -49,14 +51,15 @@ IsSpaced p = 3 * nominal p ≤ 4 * (period p * p.up)
 
 -- ---- the samples of a stream by a pair
 
--- A sample each step_num p / step_den p rate nanoseconds.
+-- the numerator of the samples' spacing by a pair, which is step_num p / step_den p rate nanoseconds
 abbrev pub step_num : Pair → ℕ
 step_num p = period p * p.up
 
+-- the denominator of the samples' spacing by a pair, for a stream of this rate
 abbrev pub step_den : Pair → ℕ → ℕ
 step_den p rate = p.interval * rate * p.down
 
--- How far an instant lies behind half a sample before the later point, in nanoseconds, times 2 * step_den p rate.
+-- how far an instant is after half a sample before the later point, in nanoseconds, times 2 * step_den p rate
 abbrev pub reach : Pair → ℕ → ℤ → ℤ
 reach p rate instant = (instant -ℤ p.later) *ℤ pos (2 * step_den p rate) +ℤ pos (step_num p)
 
@@ -69,7 +72,7 @@ pub record Covers (p : Pair) (rate : ℕ) (instant : ℤ) : Type 0 where
 abbrev pub IsOfRate : Pair → ℕ → Type 0
 IsOfRate p rate = p.up ≡ rate * p.down
 
--- a sample's line, and its number on it
+-- the line of a clock on which a sample lies, and its number on it
 pub record Spot : Type 0 where
   pub line : Line
   pub from : ℤ
@@ -78,24 +81,26 @@ pub record Spot : Type 0 where
 abbrev pub event_line : Pair → Line
 event_line p = record { base = p.later; num = period p; den = p.interval }
 
--- the number of the event of that line that is nearest to an instant
+-- the number of the clock's event that is nearest to an instant, counted from the later point
 abbrev pub nearest_event : Pair → ℤ → ℤ
 nearest_event p instant = floor_of ((instant -ℤ p.later) *ℤ pos (2 * p.interval) +ℤ pos (period p)) (2 * period p)
 
--- Where a sample that is stamped with an instant stands by a pair: where the clock's frequency is the stream's rate it is
--- the nearest event; else samples are counted from the instant, in the pair's spacing.
+-- The line and the number on it of a sample that is stamped with an instant, by a pair: if the clock's frequency is the
+-- stream's rate, it is the nearest event; otherwise samples are counted from the instant, in the pair's spacing.
 abbrev pub spot_by : Pair → ℕ → ℤ → Spot
 spot_by p rate instant =
     if p.up == rate * p.down
     then record { line = event_line p; from = nearest_event p instant }
     else record { line = record { base = instant; num = step_num p; den = step_den p rate }; from = pos 0 }
 
--- ---- the same as tests
+-- ---- tests of a pair
 
+-- whether the time between the points is within 1/8 of the nominal time of the interval
 abbrev pub is_joined : Pair → Bool
 is_joined p =
     if nat_le (7 * nominal p) (8 * step_num p) then nat_le (8 * step_num p) (9 * nominal p) else false
 
+-- whether a pair covers an instant: from half a sample before its later point to half a sample before one more period
 abbrev pub covers : Pair → ℕ → ℤ → Bool
 covers p rate instant =
     if int_le (pos 0) (reach p rate instant) then int_lt (reach p rate instant) (pos (2 * (period p * step_den p rate))) else false

@@ -9,16 +9,17 @@ use Rattle.clock_track.specs.Pairs.{Covers, Spot, covers, is_joined, pull_down, 
 
 -- ---- the timestamps of a packet
 
--- how many there are
+-- how many timestamps a packet has
 abbrev pub timestamps : ClockRow → ℕ
 timestamps row = length row.payload / 8
 
+-- timestamp i of a packet, counted from 0
 abbrev pub timestamp : ClockRow → ℕ → ℕ
 timestamp row i = bits (8 * i) 0 64 row.payload
 
--- ---- two timestamps beside each other
+-- ---- two adjacent timestamps
 
--- a packet's clock, with two of its timestamps, to which a listener adds what it is told to
+-- the pair of two timestamps of a packet's clock, each with the listener's shift added
 abbrev pub pair_of : ℤ → ClockRow → ℕ → ℕ → Pair
 pair_of shift row first second = record {
   earlier = pos first +ℤ shift;
@@ -28,18 +29,18 @@ pair_of shift row first second = record {
   down = pull_down row.pull;
 }
 
--- They are points where they are below 2^62, and a pair where they are joined.
+-- the pair of two timestamps of a packet's clock, if both are below 2^62 and it is joined
 abbrev pub joined_by : ℤ → ClockRow → ℕ → ℕ → Option Pair
 joined_by shift row first second =
     if nat_lt first (2 ^ 62) then
     if nat_lt second (2 ^ 62) then
     if is_joined (pair_of shift row first second) then Some (pair_of shift row first second) else None else None else None
 
--- in one packet, behind i others
+-- the joined pair of timestamps i and i + 1 of one packet, if they are one
 abbrev pub inside : ℤ → ClockRow → ℕ → Option Pair
 inside shift row i = joined_by shift row (timestamp row i) (timestamp row (i + 1))
 
--- a packet has the next number, and the clock neither restarted nor changed
+-- a packet has the number after that of the other, and the clock neither restarted nor changed between them
 abbrev pub seems_next : ClockRow → ClockRow → Bool
 seems_next row before =
     if row.seq == (before.seq + 1) % 256 then
@@ -47,7 +48,7 @@ seems_next row before =
     if row.base_frequency == before.base_frequency then
     if row.pull == before.pull then row.interval == before.interval else false else false else false else false
 
--- the last of a packet and the first of the next
+-- the joined pair of the last timestamp of a packet and the first of the next, if they are one
 abbrev pub across : ℤ → ClockRow → ClockRow → Option Pair
 across shift row before =
     if seems_next row before then
@@ -57,16 +58,19 @@ across shift row before =
 
 -- ---- all pairs
 
--- those whose later point a packet has, in the order of the later points, and for one in the order of the earlier
+-- the joined pairs whose later point this packet has, in the order of the later points, and for one later point in the
+-- order of the earlier
 abbrev pub pairs_at : ℤ → List ClockRow → ClockRow → List Pair
 pairs_at shift rows row =
     filter_map (across shift row) rows ++ filter_map (inside shift row) (range_with_len 0 (timestamps row - 1))
 
+-- all joined pairs of the packets, in the order of their later points
 abbrev pub joined_pairs : ℤ → List ClockRow → List Pair
 joined_pairs shift rows = flat_map (pairs_at shift rows) rows
 
 -- ---- the line of an instant
 
+-- the packets that give points
 abbrev pub used : List ClockRow → List ClockRow
 used rows = filter (λ row. row.usable) rows
 
@@ -78,7 +82,7 @@ window rows = last_of 64 (used rows)
 abbrev pub latest : ℤ → ℤ → ℕ → List ClockRow → Option Pair
 latest shift instant rate rows = find_last (λ pair. covers pair rate instant) (joined_pairs shift rows)
 
--- The same without a search: a pair of a list that covers the instant, and behind it none does; or none does at all.
+-- the pair is one of the list that covers the instant, and no pair after it does
 pub record IsLastCovering (rate : ℕ) (instant : ℤ) (pairs : List Pair) (pair : Pair) : Type 0 where
   pub before : List Pair
   pub behind : List Pair
@@ -86,10 +90,12 @@ pub record IsLastCovering (rate : ℕ) (instant : ℤ) (pairs : List Pair) (pair
   pub covers : Covers pair rate instant
   pub none_behind : All (λ other. ¬ Covers other rate instant) behind
 
+-- the pair is the last of the list that covers the instant, or there is none and none of the list covers it
 abbrev pub IsLatest : ℕ → ℤ → List Pair → Option Pair → Type 0
 IsLatest rate instant pairs None = All (λ pair. ¬ Covers pair rate instant) pairs
 IsLatest rate instant pairs (Some pair) = IsLastCovering rate instant pairs pair
 
--- Where a sample that is stamped with an instant stands by a clock's packets so far; none where no pair covers it.
+-- The line and the number on it of a sample that is stamped with an instant, by a clock's packets so far; None if no
+-- pair covers the instant.
 abbrev pub clock_spot : List ClockRow → ℤ → ℤ → ℕ → Option Spot
 clock_spot rows shift instant rate = option_map (λ pair. spot_by pair rate instant) (latest shift instant rate (window rows))

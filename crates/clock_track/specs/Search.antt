@@ -10,6 +10,7 @@ pub record IsCovering (rate : ℕ) (instant : ℤ) (pair : Pair) : Type 0 where
   pub joined : IsJoined pair
   pub covers : Covers pair rate instant
 
--- Even with the longest period that joins it, half a sample before the later point is behind the instant.
+-- A pair comes after the instant: even with twice the nominal time as its period, more than any that joins it, half a
+-- sample before its later point is after the instant.
 abbrev pub IsAfter : Pair → ℕ → ℤ → Type 0
 IsAfter p rate instant = ((instant -ℤ p.later) *ℤ pos (2 * step_den p rate) +ℤ pos (2 * nominal p)) <ℤ pos 0

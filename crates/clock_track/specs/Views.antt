@@ -6,6 +6,7 @@ use Rattle.clock_track.specs.declared.answer.ClockAnswer.{ClockAnswer}
 use Rattle.clock_track.specs.declared.answer.ClockAnswer.TheVariants.{OnLine, NoClock}
 use Rattle.clock_track.specs.Pairs.{Spot}
 
+-- the clock packet whose timestamps are lent
 abbrev pub row_of : Points → ClockRow
 row_of points = record {
   usable = points.usable;
@@ -17,6 +18,7 @@ row_of points = record {
   payload = points.payload.now;
 }
 
+-- the line and the number on it that a search answers, if it found any
 abbrev pub answered : ClockAnswer → Option Spot
 answered (OnLine line offset) = Some (record { line = line; from = pos offset })
 answered NoClock = None

@@ -1,8 +1,8 @@
-//! Where an instant stands by a clock.
+//! What a clock answers for an instant.
 
 use time_unfold::Line;
 
-/// Where a sample that is stamped with an instant stands by a clock.
+/// Which sample of a clock's line a sample is that is stamped with an instant.
 #[derive(Clone, Copy, Debug, PartialEq, Eq)]
 pub enum ClockAnswer {
     /// It is the sample with this number of this line.

@@ -9,7 +9,7 @@ pub struct Points<'a> {
     pub usable: bool,
     /// The sequence number, modulo 256.
     pub seq: u8,
-    /// The media clock restart bit, which turns over where the clock restarts.
+    /// The media clock restart bit, which toggles when the clock restarts.
     pub mr: bool,
     /// The base frequency in Hz, before it is pulled.
     pub base_frequency: u32,
@@ -37,7 +37,7 @@ impl ClockRow {
     ghost use Rattle.std.specs.Prelude.{◌≡◌};
     ghost use Rattle.clock_track.specs.Views.{row_of};
 
-    /// The same with its timestamps lent.
+    /// The clock packet with its timestamps lent.
     pub fn points(&self) -> Points<'_>
         ensures { row_of result ≡ self.now }
     {

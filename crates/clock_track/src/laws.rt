@@ -1,4 +1,4 @@
-//! Laws of a clock's lines. Each call is its contract, and does nothing.
+//! Laws of a clock's lines. Each is stated by a contract; the call does nothing.
 
 ghost use Rattle.std.specs.Prelude.{◌≡◌, ◌+◌, ◌*◌, ◌≤◌, ℕ, ℤ, List, All, None, Some, false, true, pos};
 ghost use Rattle.clock_track.specs.declared.clock_row.ClockRow.{ClockRow};
@@ -6,15 +6,16 @@ ghost use Rattle.clock_track.specs.Examples.{second_pair, worked_rows};
 ghost use Rattle.clock_track.specs.Pairs.{Covers, IsJoined, spot_by};
 ghost use Rattle.clock_track.specs.Rows.{IsLatest, clock_spot, joined_pairs, latest};
 
-/// The pair by which a sample stands is joined and covers the instant, and no pair behind it in the list of joined pairs does;
-/// where there is none, no joined pair covers the instant.
+/// The pair that gives a sample its line is joined and covers the instant, and no pair after it in the list of joined
+/// pairs does; if there is none, no joined pair covers the instant.
 pub fn last_covering_pair_counts()
     ensures joined { (shift : ℤ) (rows : List ClockRow) → All IsJoined (joined_pairs shift rows) }
     ensures latest { (shift instant : ℤ) (rate : ℕ) (rows : List ClockRow) → IsLatest rate instant (joined_pairs shift rows) (latest shift instant rate rows) }
 {}
 
-/// A clock of 44.1 kHz and 147 events, beside a stream of 48 kHz whose packets are 125,000 ns apart: its second point is
-/// 3,333,333 ns behind the first, so packets 0 to 26 have no line, and those up to packet 53 have one by these two points.
+/// A clock of 44.1 kHz and 147 events, and a stream of 48 kHz whose packets are 125,000 ns apart: its second point is
+/// 3,333,333 ns after the first, so packets 0 to 26 have no line, and those up to packet 53 have one by these two
+/// points.
 pub fn second_point_is_waited_for()
     ensures joined { IsJoined second_pair }
     ensures before { (n : ℕ) → n ≤ 26 → ¬ Covers second_pair 48000 (pos (1002000000 + n * 125000)) }
@@ -23,8 +24,8 @@ pub fn second_point_is_waited_for()
 {}
 
 /// Two packets of one point each, 2 ms apart: at 48 kHz and 96 events a timestamp is the nearest event; at 44.1 kHz the
-/// samples of a stream of 48 kHz are counted from the timestamp on, 19,140.625 ns apart; before half a sample to the second
-/// point there is no line, and over a restart there is none.
+/// samples of a stream of 48 kHz are counted from the timestamp on, 19,140.625 ns apart; before half a sample to the
+/// second point there is no line, and across a restart there is none.
 pub fn worked_lines_are_so()
     ensures own { clock_spot (worked_rows 48000 false) (pos 0) (pos 1004125000) 48000 ≡ Some (record { line = record { base = pos 1004000000; num = 2000000; den = 96 }; from = pos 6 }) }
     ensures other { clock_spot (worked_rows 44100 false) (pos 0) (pos 1004125000) 48000 ≡ Some (record { line = record { base = pos 1004125000; num = 88200000000; den = 4608000 }; from = pos 0 }) }

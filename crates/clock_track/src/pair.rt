@@ -1,4 +1,4 @@
-//! Two points of a clock, and the line behind them.
+//! Two points of a clock, and the line after them.
 
 ghost use Rattle.std.specs.Prelude.{Some, ◌≡◌, ◌≤◌, ◌<◌, ◌*◌, ◌^◌, ◌↔◌, pos, ◌-ℤ◌, ◌*ℤ◌, ◌+ℤ◌, IsTrue};
 ghost use Rattle.clock_track.specs.Limits.{IsSmall};
@@ -11,8 +11,8 @@ use time_unfold::Line;
 
 const NANOSECONDS: u64 = 1_000_000_000;
 
-/// Two timestamps beside each other, in nanoseconds of gPTP, `interval` events apart, of a clock of `up / down` events a
-/// second (IEEE 1722-2016, 10).
+/// Two adjacent timestamps, in nanoseconds of gPTP, `interval` events apart, of a clock of `up / down` events a second
+/// (IEEE 1722-2016, 10).
 #[derive(Clone, Copy, Debug, PartialEq, Eq)]
 pub struct Pair {
     pub earlier: i64,
@@ -41,7 +41,7 @@ fn doubled(period: u64, den: u64) -> i128
 }
 
 impl Pair {
-    /// The time from one point to the other; 0 where the second isn't later.
+    /// The time from one point to the other; 0 if the second isn't later.
     fn period(&self) -> u64
         requires { IsSmall self.now }
         ensures { result ≡ period_of self.now }
@@ -91,8 +91,8 @@ impl Pair {
         u64::from(self.interval) * u64::from(rate) * self.down
     }
 
-    /// Whether the pair covers an instant, for a stream of this rate: from half a sample before its later point to half a
-    /// sample before one more period.
+    /// Whether the pair covers an instant, for a stream of this rate: from half a sample before its later point to half
+    /// a sample before one more period.
     #[tactic(auto, using(crate::proofs::Pairs::covers_so))]
     pub fn covers(&self, rate: u32, instant: i64) -> bool
         requires small { IsSmall self.now }
@@ -105,7 +105,8 @@ impl Pair {
         0 <= reach && reach < doubled(self.period(), den)
     }
 
-    /// Whether an instant lies before all that the later point covers in a stream of this rate, whatever the earlier point.
+    /// Whether an instant lies before all that the later point covers in a stream of this rate, whatever the earlier
+    /// point.
     pub fn is_after(&self, rate: u32, instant: i64) -> bool
         requires { IsSmall self.now }
         ensures { IsTrue result ↔ IsAfter self.now rate instant }
@@ -113,7 +114,7 @@ impl Pair {
         scaled(instant, self.later, 2 * self.nominal(), self.step_den(rate)) < 0
     }
 
-    /// The number of the event nearest to an instant, from the later point on, where the clock's frequency is the stream's
+    /// The number of the event nearest to an instant, from the later point on, if the clock's frequency is the stream's
     /// rate.
     fn nearest_event(&self, rate: u32, instant: i64) -> u64
         requires rate { 1 ≤ rate }
@@ -123,12 +124,13 @@ impl Pair {
     {
         let period = self.period();
         let behind = scaled(instant, self.later, period, u64::from(self.interval));
+        // It is never negative, since the pair covers the instant, so rounding down and towards zero are one.
         behind.div_euclid(i128::from(2 * period)) as u64
     }
 
-    /// Where a sample stands that is stamped with an instant which the pair covers, in a stream of this rate. Where the
-    /// clock's frequency is the rate, it is the nearest event; else samples are counted from the instant, in the pair's
-    /// spacing.
+    /// The line and the number on it of a sample that is stamped with an instant which the pair covers, in a stream of
+    /// this rate. If the clock's frequency is the rate, it is the nearest event; otherwise samples are counted from the
+    /// instant, in the pair's spacing.
     pub fn answer(&self, rate: u32, instant: i64) -> ClockAnswer
         requires rate { 1 ≤ rate }
         requires covering { IsCovering rate instant self.now }

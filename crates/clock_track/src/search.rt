@@ -19,8 +19,8 @@ use avtp_base::octets::u64_at;
 /// Timestamps from here on are no points.
 const POINTS_END: u64 = 1 << 62;
 
-/// What a pair is looked for: the instant that it covers, for a stream of this rate in Hz; and what is added to the
-/// clock's timestamps.
+/// What is looked for: the instant that it covers, for a stream of this rate in Hz; and what is added to the clock's
+/// timestamps.
 #[derive(Clone, Copy)]
 pub struct Query {
     pub shift: i64,
@@ -70,7 +70,7 @@ fn pair_of(row: &Points<'_>, shift: i64, first: u64, second: u64) -> Pair
     }
 }
 
-/// The pair of two timestamps, where both are points, they are joined, and they cover the instant.
+/// The pair of two timestamps, if both are points, they are joined, and they cover the instant.
 fn covering(row: &Points<'_>, query: &Query, first: u64, second: u64) -> Option<Pair>
     requires row { IsRow (row_of row.now) }
     requires shift { IsShift query.now.shift }
@@ -120,7 +120,7 @@ fn seems_next(row: &Points<'_>, before: &Points<'_>) -> bool
         && row.interval == before.interval
 }
 
-/// The pair of the last timestamp of a packet and the first of the next, where it covers the instant.
+/// The pair of the last timestamp of a packet and the first of the next, if it covers the instant.
 fn covering_across(row: &Points<'_>, before: &Points<'_>, query: &Query) -> Option<Pair>
     requires row { IsRow (row_of row.now) }
     requires shift { IsShift query.now.shift }
@@ -137,7 +137,8 @@ fn covering_across(row: &Points<'_>, before: &Points<'_>, query: &Query) -> Opti
     covering(row, query, timestamp(before, count - 1), timestamp(row, 0))
 }
 
-/// The same for a packet at a place, where it gives points.
+/// The pair of the last timestamp of the packet at a place and the first of the next, if that packet gives points and
+/// the pair covers the instant.
 fn covering_from<R: Rows>(rows: &R, place: usize, row: &Points<'_>, query: &Query) -> Option<Pair>
     requires place { place < length (R.rows rows.now) }
     requires row { IsRow (row_of row.now) }
@@ -153,8 +154,8 @@ fn covering_from<R: Rows>(rows: &R, place: usize, row: &Points<'_>, query: &Quer
     }
 }
 
-/// Whether no pair that ends at the first timestamp of a packet can cover the instant: there is none, it is no point, or
-/// it is too late, whatever the other point.
+/// Whether no pair that ends at the first timestamp of a packet can cover the instant: there is none, it is no point,
+/// or it is too late, whatever the other point.
 fn is_too_late(row: &Points<'_>, query: &Query) -> bool
     requires row { IsRow (row_of row.now) }
     requires shift { IsShift query.now.shift }
@@ -189,7 +190,7 @@ fn latest_across<R: Rows>(rows: &R, row: &Points<'_>, query: &Query) -> Option<P
     None
 }
 
-/// The last pair that covers the instant, of those whose later point the packet at a place has, where it gives points.
+/// The last pair that covers the instant, of those whose later point the packet at a place has, if it gives points.
 fn latest_at<R: Rows>(rows: &R, place: usize, query: &Query) -> Option<Pair>
     requires rows { All IsNotable (R.rows rows.now) }
     requires place { place < length (R.rows rows.now) }
@@ -208,7 +209,8 @@ fn latest_at<R: Rows>(rows: &R, place: usize, query: &Query) -> Option<Pair>
     latest_across(rows, &row, query)
 }
 
-/// The last joined pair of a clock's packets that covers the instant.
+/// The last joined pair of a clock's packets that covers the instant: the search goes from the end of the list of all
+/// joined pairs, and stops at the first that covers.
 pub fn latest<R: Rows>(rows: &R, query: &Query) -> Option<Pair>
     requires rows { All IsNotable (R.rows rows.now) }
     requires shift { IsShift query.now.shift }

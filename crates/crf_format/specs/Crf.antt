@@ -9,7 +9,7 @@ use Rattle.avtp_header.specs.Header.{exceeds, subtype_row, version_row}
 pub use Rattle.avtp_header.specs.Numbers.{crf_subtype}
 use Rattle.crf_format.specs.declared.crf.CrfView.{CrfView}
 
--- a packet, apart from where its timestamps lie in memory
+-- a clock reference packet, apart from where its timestamps lie in memory
 pub record Crf : Type 0 where
   pub sv : Bool
   pub mr : Bool
@@ -24,6 +24,7 @@ pub record Crf : Type 0 where
   pub payload : List ℕ
   pub reserved : Bool
 
+-- the packet that a view shows, apart from where its timestamps lie in memory
 abbrev pub crf_shape : CrfView → Crf
 crf_shape v = record {
   sv = v.sv;
@@ -40,7 +41,7 @@ crf_shape v = record {
   reserved = v.reserved;
 }
 
--- the table of the format
+-- the table of a clock reference packet (IEEE 1722-2016, 10)
 abbrev pub crf_layout : Layout Crf
 crf_layout =
     part Subtype 0 (holds 8 (λ v. crf_subtype) ∷ []) ∷
@@ -58,28 +59,30 @@ crf_layout =
     part CrfDataLength 16 (holds 16 (λ v. length v.payload) ∷ []) ∷
     part TimestampInterval 18 (holds 16 (λ v. v.interval) ∷ []) ∷ []
 
+-- a reserved bit of a clock reference packet is set
 abbrev pub sets_reserved : List ℕ → Bool
 sets_reserved bytes = any_set (reserved_ranges crf_layout) bytes
 
--- the timestamp that is after i others
+-- timestamp i of a payload, counted from 0
 abbrev pub point_at : ℕ → List ℕ → ℕ
 point_at i payload = bits (8 * i) 0 64 payload
 
 -- ---- the rows
 
--- the largest code of a factor
+-- the largest code of pull, which names a factor of the base frequency
 abbrev pub last_pull : ℕ
 last_pull = 5
 
--- a stated length that is not one or more timestamps, or is more than what n bytes hold after the header
+-- a stated length is 0, is no multiple of a timestamp's 8 bytes, or is more than what n bytes hold after the header
 abbrev pub misses_timestamps : ℕ → ℕ → Bool
 misses_timestamps stated n = stated == 0 || not (stated % 8 == 0) || exceeds 20 stated n
 
--- the rows that all formats of AVTP share
+-- the rows of subtype and version, which all formats of AVTP share
 abbrev pub shared_rows : List ℕ → List Row
 shared_rows bytes = subtype_row crf_subtype bytes ∷ version_row bytes ∷ []
 
--- the rows after those, in this order
+-- the rows of pull, base frequency, stated length and timestamp interval, in this order; they come after the shared
+-- ones
 abbrev pub clock_rows : List ℕ → List Row
 clock_rows bytes =
     row Pull 12 (nat_lt last_pull (bits 12 0 3 bytes)) ∷
@@ -87,7 +90,7 @@ clock_rows bytes =
     row CrfDataLength 16 (misses_timestamps (bits 16 0 16 bytes) (length bytes)) ∷
     row TimestampInterval 18 (bits 18 0 16 bytes == 0) ∷ []
 
--- why bytes are no packet of this format
+-- why bytes are no clock reference packet
 abbrev pub crf_refusal : List ℕ → Option Refusal
 crf_refusal bytes =
     or_else (first_short crf_layout (length bytes))
@@ -95,14 +98,14 @@ crf_refusal bytes =
 
 -- ---- packets
 
--- The bytes spell a packet. Behind the stated length anything may stand.
+-- The bytes spell this clock reference packet; anything may follow its stated length.
 pub record SpellsCrf (bytes : List ℕ) (v : Crf) : Type 0 where
   pub accepted : crf_refusal bytes ≡ None
   pub fields : Spells crf_layout v bytes
   pub payload : v.payload ≡ take (bits 16 0 16 bytes) (drop 20 bytes)
   pub reserved : v.reserved ≡ sets_reserved bytes
 
--- the one packet that bytes spell, where nothing refuses them
+-- the one clock reference packet that bytes spell, if nothing refuses them
 abbrev pub crf_of : List ℕ → Crf
 crf_of bytes = record {
   sv = is_set 1 0 bytes;
@@ -119,7 +122,7 @@ crf_of bytes = record {
   reserved = sets_reserved bytes;
 }
 
--- a packet that can be written: no row refuses it, and its payload is one or more whole timestamps
+-- a clock reference packet that can be written: no row refuses it, and its payload is one or more whole timestamps
 pub record IsWritableCrf (v : Crf) : Type 0 where
   pub pull : v.pull ≤ last_pull
   pub some_frequency : 0 < v.base_frequency
@@ -129,10 +132,10 @@ pub record IsWritableCrf (v : Crf) : Type 0 where
   pub whole_points : length v.payload % 8 ≡ 0
   pub data_length : length v.payload < 2 ^ 16
 
--- the packet with every reserved bit 0
+-- a clock reference packet with every reserved bit 0
 abbrev pub plain_crf : Crf → Crf
 plain_crf v = record v { reserved = false }
 
--- the bytes of a packet, with every reserved bit 0 and nothing after the stated length
+-- the bytes of a clock reference packet, with every reserved bit 0 and nothing after the stated length
 abbrev pub crf_spelling : Crf → List ℕ
 crf_spelling v = spelling crf_layout v ++ v.payload

@@ -5,7 +5,7 @@
 pub struct CrfView<'a> {
     /// The stream id is valid.
     pub sv: bool,
-    /// The media clock restart: it toggles where the source of the media clock changes.
+    /// The media clock restart: it toggles when the source of the media clock changes.
     pub mr: bool,
     /// Frame synchronization.
     pub fs: bool,
@@ -13,8 +13,8 @@ pub struct CrfView<'a> {
     pub tu: bool,
     /// The sequence number.
     pub seq: u8,
-    /// What the clock's events are: 0 for what the user says, 1 for audio samples, 2 for video frames, 3 for video lines,
-    /// 4 for machine cycles.
+    /// What the clock's events are: 0 for what the user defines, 1 for audio samples, 2 for video frames, 3 for video
+    /// lines, 4 for machine cycles.
     pub kind: u8,
     pub stream_id: u64,
     /// The code of the factor that `base_frequency` is multiplied by: 0 for 1, 1 for 1000/1001, 2 for 1001/1000, 3 for

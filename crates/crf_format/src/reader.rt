@@ -121,9 +121,9 @@ fn read_packet(pdu: &[u8]) -> Result<CrfView<'_>, Refusal>
 /// Reads a packet of the clock reference format, of any type.
 ///
 /// Refused is the first of these, in this order: a field of the header that does not lie wholly in the slice; a subtype
-/// other than CRF; a version other than 0; a reserved code of the pull; a base frequency of 0; a stated length that is 0,
-/// no multiple of a timestamp, or more than what stands there; an interval of 0. The reserved bit may be set, and what
-/// follows the stated length is ignored.
+/// other than CRF; a version other than 0; a reserved code of the pull; a base frequency of 0; a stated length that is
+/// 0, no multiple of a timestamp, or more than what follows the header; an interval of 0. The reserved bit may be set,
+/// and what follows the stated length is ignored.
 #[inline(always)]
 pub fn read_crf(pdu: &[u8]) -> Result<CrfView<'_>, Refusal>
     ensures exact { Reads crf_shape (crf_refusal pdu.now) (crf_of pdu.now) result }
@@ -134,8 +134,8 @@ pub fn read_crf(pdu: &[u8]) -> Result<CrfView<'_>, Refusal>
     read_packet(pdu)
 }
 
-/// The timestamp that is after `i` others, in nanoseconds of gPTP. There are more than `i`: the payload has at least
-/// `8 * i + 8` bytes.
+/// Timestamp `i` of the packet, counted from 0, in nanoseconds of gPTP. There must be more than `i`: the payload has at
+/// least `8 * i + 8` bytes.
 pub fn point(view: &CrfView<'_>, i: usize) -> u64
     requires { 8 * i + 8 ≤ length view.now.payload.now }
     ensures { result ≡ point_at i view.now.payload.now }

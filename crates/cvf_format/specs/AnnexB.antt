@@ -5,18 +5,20 @@ use Rattle.std.specs.List.{range_with_len, filter_map, last_or}
 use Rattle.std.specs.Option.{option_map}
 use Rattle.memchr.specs.Find.{OccursAt, occurs_at}
 
+-- the start code of a NAL unit, 00 00 01 (ITU-T H.264, annex B)
 abbrev pub start_code : List ℕ
 start_code = 0 ∷ 0 ∷ 1 ∷ []
 
+-- three zero bytes, before which a NAL unit ends (ITU-T H.264, annex B)
 abbrev pub three_zeros : List ℕ
 three_zeros = 0 ∷ 0 ∷ 0 ∷ []
 
--- a unit ends before a start code, before three zero bytes, and where the bytes end
+-- a NAL unit may end at this place: before a start code, before three zero bytes, or at the end of the bytes
 abbrev pub IsEnd : List ℕ → ℕ → Type 0
 IsEnd bytes at = OccursAt bytes start_code at ⊎ OccursAt bytes three_zeros at ⊎ (at ≡ length bytes)
 
--- The bytes from `from` up to `to` are a NAL unit: it begins after a start code, reaches to the first place from there
--- on where a unit ends, and is without the zero bytes before that place. It has at least one byte.
+-- The bytes from `from` up to `to` are a NAL unit: it begins after a start code, goes to the first place from there on
+-- at which a unit may end, and is without the zero bytes before that place. It has at least one byte.
 pub record IsUnit (bytes : List ℕ) (from to end : ℕ) : Type 0 where
   pub behind : 3 ≤ from
   pub code : OccursAt bytes start_code (from - 3)
@@ -27,40 +29,44 @@ pub record IsUnit (bytes : List ℕ) (from to end : ℕ) : Type 0 where
   pub last : slice_index bytes (to - 1) ≢ 0
   pub zeros : (k : ℕ) → to ≤ k → k < end → slice_index bytes k ≡ 0
 
--- the ranges are those of the units, in order
+-- the ranges are those of all NAL units of the bytes, in order
 pub record AreUnits (bytes : List ℕ) (ranges : List (ℕ × ℕ)) : Type 0 where
   pub units : (from to : ℕ) → Contains ranges (from, to) ↔ ((end : ℕ) × IsUnit bytes from to end)
   pub in_order : AllPairs (λ (a : ℕ × ℕ) (b : ℕ × ℕ). a.1 ≤ b.0) ranges
 
--- ---- the same as a function
+-- ---- the units as a function
 
 -- the places from `low` up to `high` that pass a test, in order
 abbrev pub places : (ℕ → Bool) → ℕ → ℕ → List ℕ
 places test low high = filter test (range_with_len low (high - low))
 
+-- a start code begins at this place of the bytes
 abbrev pub is_start_code : List ℕ → ℕ → Bool
 is_start_code bytes at = occurs_at bytes start_code at
 
+-- a start code or three zero bytes begin at this place of the bytes
 abbrev pub is_end : List ℕ → ℕ → Bool
 is_end bytes at = occurs_at bytes start_code at || occurs_at bytes three_zeros at
 
--- where a unit that begins at `from` ends
+-- where a NAL unit that begins at `from` ends, with the zero bytes after it
 abbrev pub end_behind : List ℕ → ℕ → ℕ
 end_behind bytes from = unwrap_or (find (is_end bytes) (range_with_len from (length bytes - from))) (length bytes)
 
+-- the byte at this place is not 0
 abbrev pub is_other_byte : List ℕ → ℕ → Bool
 is_other_byte bytes at = not (slice_index bytes at == 0)
 
--- The unit after a start code goes to its last byte that is not zero. Without such a byte there is none.
+-- The NAL unit after the start code at this place: it goes to the last byte before its end that is not 0, and there is
+-- none without such a byte.
 abbrev pub unit_behind : List ℕ → ℕ → Option (ℕ × ℕ)
 unit_behind bytes code =
     option_map (λ last. (code + 3, last + 1))
     (last_or None (places (is_other_byte bytes) (code + 3) (end_behind bytes (code + 3))))
 
--- the units after the start codes from place `at` on, in order
+-- the NAL units after the start codes from place `at` on, in order
 unfoldable pub units_from : List ℕ → ℕ → List (ℕ × ℕ)
 units_from bytes at = filter_map (unit_behind bytes) (places (is_start_code bytes) at (length bytes))
 
--- all units, in order
+-- all NAL units of the bytes, in order
 abbrev pub nal_units : List ℕ → List (ℕ × ℕ)
 nal_units bytes = units_from bytes 0

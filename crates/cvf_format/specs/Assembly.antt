@@ -4,8 +4,9 @@ use Rattle.cvf_format.specs.declared.cvf.CvfView.{CvfView}
 use Rattle.cvf_format.specs.declared.piece.Mark.{Mark}
 use Rattle.cvf_format.specs.Stretches.{Fragment, Event, mark_of, unit_of, stamps, held, lost_marks, whole_unit, sequence_numbers}
 
--- the bytes of the unit so far, the marks of those that wait and of those that were given up last, what the next
--- fragment must carry, and whether the unit is whole
+-- An assembler: the bytes of the unit so far; the marks of the packets that wait and of those that were given up last;
+-- the first byte of the unit, the sequence number and the instant that the next fragment must have; and whether the
+-- unit is whole.
 pub record Assembly : Type 0 where
   pub bytes : List ℕ
   pub held : List Mark
@@ -15,6 +16,7 @@ pub record Assembly : Type 0 where
   pub instant : Option ℤ
   pub whole : Bool
 
+-- the packet with this mark and instant, and with what a view shows of its NAL unit
 abbrev pub fragment_of : Mark → Option ℤ → CvfView → Fragment
 fragment_of mark instant view = record {
   mark = mark;
@@ -24,21 +26,23 @@ fragment_of mark instant view = record {
   body = view.body.now;
 }
 
--- the longest body of a packet
+-- the bytes of the longest body that a packet can have
 abbrev pub longest_body : ℕ
 longest_body = 65530
 
 -- ---- the state that a list of events leaves
 
+-- the first instant of a list, and None of an empty one
 abbrev pub first_stamp : List ℤ → Option ℤ
 first_stamp [] = None
 first_stamp (instant ∷ rest) = Some instant
 
+-- the last packet of a list that begins with this one
 abbrev pub last_of : Fragment → List Fragment → Fragment
 last_of fragment [] = fragment
 last_of fragment (next ∷ rest) = last_of next rest
 
--- the assembler keeps the packets that wait, of which there is one at least
+-- the assembler keeps these packets, at least one, which wait for the rest of their unit
 pub record Keeps (a : Assembly) (first : Fragment) (rest : List Fragment) : Type 0 where
   pub marks : a.held ≡ map mark_of (first ∷ rest)
   pub bytes : a.bytes ≡ unit_of (first ∷ rest)
@@ -46,14 +50,17 @@ pub record Keeps (a : Assembly) (first : Fragment) (rest : List Fragment) : Type
   pub next_seq : a.next_seq ≡ ((last_of first rest).mark.seq + 1) % sequence_numbers
   pub instant : a.instant ≡ first_stamp (stamps (first ∷ rest))
 
+-- the assembler keeps these packets, or none, which wait for the rest of their unit
 abbrev pub KeepsAll : Assembly → List Fragment → Type 0
 KeepsAll a [] = a.held ≡ []
 KeepsAll a (first ∷ rest) = Keeps a first rest
 
+-- the bytes of the unit that an assembler shows, and none if the unit is not whole
 abbrev pub shown_unit : Assembly → List ℕ
 shown_unit a = if a.whole then a.bytes else []
 
--- an assembler that was given these events, and nothing else
+-- An assembler that was given these events, and nothing else: it keeps the packets that wait, the marks of those that
+-- the last event gave up, and the unit that it made whole.
 pub record StandsFor (a : Assembly) (events : List Event) : Type 0 where
   pub waits : KeepsAll a (held events)
   pub lost : a.lost ≡ lost_marks events

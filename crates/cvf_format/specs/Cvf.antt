@@ -13,7 +13,7 @@ use Rattle.cvf_format.specs.declared.cvf.NalPart.{NalPart}
 use Rattle.cvf_format.specs.declared.cvf.NalPart.TheVariants.{Single, First, Middle, Last}
 use Rattle.cvf_format.specs.declared.cvf.CvfView.{CvfView}
 
--- a packet, apart from where its body lies in memory
+-- an H.264 packet, apart from where its body lies in memory
 pub record Cvf : Type 0 where
   pub header : StreamHeader
   pub ptv : Bool
@@ -25,6 +25,7 @@ pub record Cvf : Type 0 where
   pub body : List ℕ
   pub reserved : Bool
 
+-- the packet that a view shows, apart from where its body lies in memory
 abbrev pub cvf_shape : CvfView → Cvf
 cvf_shape v = record {
   header = v.header;
@@ -38,46 +39,51 @@ cvf_shape v = record {
   reserved = v.reserved;
 }
 
--- the format that is laid out by an RFC, and among these the subtype of H.264
+-- the format of video that is laid out by an RFC (IEEE 1722-2016, 8)
 abbrev pub rfc_format : ℕ
 rfc_format = 2
 
+-- the format subtype of H.264 (IEEE 1722-2016, 8)
 abbrev pub h264_subtype : ℕ
 h264_subtype = 1
 
 -- ---- the first byte of a NAL unit: F and NRI in three bits, and the type in five
 
+-- F and NRI of a NAL unit: the highest three bits of its first byte
 abbrev pub reference_of : ℕ → ℕ
 reference_of nal = nal / 2 ^ 5
 
+-- the type of a NAL unit: the lowest five bits of its first byte
 abbrev pub type_of : ℕ → ℕ
 type_of nal = nal % 2 ^ 5
 
--- the types of single NAL units
+-- a type of a single NAL unit, 1 to 23 (RFC 6184, 5.2)
 abbrev pub is_single_type : ℕ → Bool
 is_single_type type = nat_lt 0 type && nat_lt type 24
 
--- the type of a packet that carries a fragment (FU-A)
+-- the type of a packet that carries a fragment, FU-A (RFC 6184, 5.8)
 abbrev pub fu_a : ℕ
 fu_a = 28
 
 -- ---- the tables
 
--- the bits S and E of a fragment
+-- the bit S of a fragment: it is the first of its NAL unit (RFC 6184, 5.8)
 abbrev pub starts : NalPart → Bool
 starts First = true
 starts Single = false
 starts Middle = false
 starts Last = false
 
+-- the bit E of a fragment: it is the last of its NAL unit (RFC 6184, 5.8)
 abbrev pub ends : NalPart → Bool
 ends Last = true
 ends Single = false
 ends First = false
 ends Middle = false
 
--- The table of the format, with what follows the H.264 timestamp. The two format bits of the stream header are
--- reserved, and a view shows them. The stated length counts from the H.264 timestamp on.
+-- The table of an H.264 packet: 28 bytes that whole NAL units and fragments share, and then the headers of the unit,
+-- which are given. The two format bits of the stream header are reserved, and a view shows them. The stated length
+-- counts from the H.264 timestamp on, so a packet that ends within that timestamp is refused by the stated length.
 abbrev pub cvf_layout : Layout Cvf → Layout Cvf
 cvf_layout nal_headers = stream_layout (λ v. v.header)
     (reserved_shown 2 (λ v. v.header.format_bits) ∷ [])
@@ -89,7 +95,7 @@ cvf_layout nal_headers = stream_layout (λ v. v.header)
     part StreamDataLength 24 (holds 32 (λ v. v.h264_timestamp) ∷ []) ∷
     nal_headers)
 
--- the header of a NAL unit that is whole
+-- the header of a NAL unit that is carried whole
 abbrev pub single_headers : Layout Cvf
 single_headers =
     part NalType 28 (holds 3 (λ v. reference_of v.nal) ∷ holds 5 (λ v. type_of v.nal) ∷ []) ∷ []
@@ -104,16 +110,18 @@ fragment_headers =
     reserved 1 ∷
     holds 5 (λ v. type_of v.nal) ∷ []) ∷ []
 
+-- the headers of what a packet carries: a whole NAL unit or a fragment
 abbrev pub headers_of : NalPart → Layout Cvf
 headers_of Single = single_headers
 headers_of First = fragment_headers
 headers_of Middle = fragment_headers
 headers_of Last = fragment_headers
 
+-- the table of an H.264 packet, by what it carries of a NAL unit
 abbrev pub layout_of : NalPart → Layout Cvf
 layout_of part = cvf_layout (headers_of part)
 
--- the bytes before the body
+-- how many bytes come before the body, by what the packet carries of a NAL unit
 abbrev pub header_size : NalPart → ℕ
 header_size Single = 29
 header_size First = 30
@@ -122,8 +130,8 @@ header_size Last = 30
 
 -- ---- the rows
 
--- The rows that refuse a packet after those that all formats share, in this order. The stated length counts the H.264
--- timestamp and the byte of the NAL type.
+-- The rows of format, format subtype and stated length, in this order; they come after those that all formats share.
+-- The stated length counts the H.264 timestamp and the byte of the NAL type.
 abbrev pub format_rows : List ℕ → List Row
 format_rows bytes =
     row CvfFormat 16 (not (bits 16 0 8 bytes == rfc_format)) ∷
@@ -131,13 +139,16 @@ format_rows bytes =
     row StreamDataLength 20 (nat_lt (bits 20 0 16 bytes) 5) ∷
     row StreamDataLength 20 (exceeds 24 (bits 20 0 16 bytes) (length bytes)) ∷ []
 
+-- byte 28 of the packet has the type of a fragment (FU-A)
 abbrev pub is_fragment : List ℕ → Bool
 is_fragment bytes = bits 28 3 5 bytes == fu_a
 
--- the row that refuses a field which the stated length cuts off
+-- the row that refuses a field that the stated length cuts off, if this holds
 abbrev pub cut_off : Field → ℕ → Bool → Row
 cut_off field at holds = record { refusal = record { field = field; at = at; short = true }; holds = holds }
 
+-- The rows of the NAL unit's headers, which come last: the type is neither that of a single unit nor FU-A; the FU
+-- header is cut off, has both S and E, or names a type that is none of a single unit.
 abbrev pub nal_rows : List ℕ → List Row
 nal_rows bytes =
     row NalType 28 (not (is_single_type (bits 28 3 5 bytes) || is_fragment bytes)) ∷
@@ -145,7 +156,7 @@ nal_rows bytes =
     row FuHeader 29 (is_fragment bytes && is_set 29 0 bytes && is_set 29 1 bytes) ∷
     row FuHeader 29 (is_fragment bytes && not (is_single_type (bits 29 3 5 bytes))) ∷ []
 
--- why bytes are no packet of this format
+-- why bytes are no H.264 packet
 abbrev pub cvf_refusal : List ℕ → Option Refusal
 cvf_refusal bytes =
     or_else (kind_refusal cvf_subtype bytes)
@@ -153,6 +164,7 @@ cvf_refusal bytes =
 
 -- ---- packets
 
+-- a reserved bit of an H.264 packet is set, by what it carries of a NAL unit
 abbrev pub sets_reserved : NalPart → List ℕ → Bool
 sets_reserved part bytes = any_set (reserved_ranges (layout_of part)) bytes
 
@@ -160,7 +172,7 @@ sets_reserved part bytes = any_set (reserved_ranges (layout_of part)) bytes
 abbrev pub body_of : NalPart → ℕ → List ℕ → List ℕ
 body_of part stated bytes = take (24 + stated - header_size part) (drop (header_size part) bytes)
 
--- The bytes spell a packet, of a NAL unit with a type of single units. Behind the stated length anything may stand.
+-- The bytes spell this H.264 packet, whose NAL unit has a type of single units; anything may follow its stated length.
 pub record SpellsCvf (bytes : List ℕ) (v : Cvf) : Type 0 where
   pub accepted : cvf_refusal bytes ≡ None
   pub fields : Spells (layout_of v.part) v bytes
@@ -168,20 +180,22 @@ pub record SpellsCvf (bytes : List ℕ) (v : Cvf) : Type 0 where
   pub body : v.body ≡ body_of v.part v.header.data_length bytes
   pub reserved : v.reserved ≡ sets_reserved v.part bytes
 
--- the fragment with these bits S and E
+-- what a fragment with these bits S and E carries of its NAL unit
 abbrev pub fragment_of : Bool → Bool → NalPart
 fragment_of true end = First
 fragment_of false true = Last
 fragment_of false false = Middle
 
+-- what a packet carries of its NAL unit, by its type and its FU header
 abbrev pub part_of : List ℕ → NalPart
 part_of bytes = if is_fragment bytes then fragment_of (is_set 29 0 bytes) (is_set 29 1 bytes) else Single
 
--- A fragment has F and NRI in its FU indicator, and the type in its FU header.
+-- The first byte of the NAL unit of a packet. A fragment has F and NRI in its FU indicator, and the type in its FU
+-- header.
 abbrev pub nal_of : List ℕ → ℕ
 nal_of bytes = bits 28 0 3 bytes * 2 ^ 5 + (if is_fragment bytes then bits 29 3 5 bytes else bits 28 3 5 bytes)
 
--- the one packet that bytes spell, where nothing refuses them
+-- the one H.264 packet that bytes spell, if nothing refuses them
 abbrev pub cvf_of : List ℕ → Cvf
 cvf_of bytes = record {
   header = header_of bytes;
@@ -195,17 +209,17 @@ cvf_of bytes = record {
   reserved = sets_reserved (part_of bytes) bytes;
 }
 
--- a packet that can be written: no row refuses it, and its length is that of its headers and its body
+-- an H.264 packet that can be written: no row refuses it, and its length is that of its headers and its body
 pub record IsWritableCvf (v : Cvf) : Type 0 where
   pub subtype : v.header.subtype ≡ cvf_subtype
   pub evt : v.evt < 2 ^ 4
   pub type : is_single_type (type_of v.nal) ≡ true
   pub data_length : 24 + v.header.data_length ≡ header_size v.part + length v.body
 
--- the packet with every reserved bit 0
+-- an H.264 packet with every reserved bit 0
 abbrev pub plain_cvf : Cvf → Cvf
 plain_cvf v = record v { header = record v.header { format_bits = 0 }; reserved = false }
 
--- the bytes of a packet, with every reserved bit 0 and nothing after the stated length
+-- the bytes of an H.264 packet, with every reserved bit 0 and nothing after the stated length
 abbrev pub cvf_spelling : Cvf → List ℕ
 cvf_spelling v = spelling (layout_of v.part) v ++ v.body

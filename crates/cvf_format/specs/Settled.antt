@@ -1,16 +1,18 @@
--- Each packet is settled once, in order: it is given up, or lost when it comes, or in a unit that is whole, or it waits.
+-- Each packet is settled once, in order: it is given up, or lost when it comes, or in a unit that is whole, or it
+-- waits.
 use Rattle.std.specs.Prelude.{List, [], ◌∷◌, ◌++◌}
 use Rattle.cvf_format.specs.declared.piece.Piece.{Piece}
 use Rattle.cvf_format.specs.declared.piece.Piece.TheVariants.{Whole, Held, Lost}
 use Rattle.cvf_format.specs.Stretches.{Fragment, Event, packet, cut, last_stretch, piece, given_up}
 
--- all packets of a list of events
+-- all packets of a list of events, in order
 abbrev pub packets : List Event → List Fragment
 packets [] = []
 packets (cut ∷ events) = packets events
 packets (packet fragment ∷ events) = fragment ∷ packets events
 
--- A packet settles all of its unit where it makes it whole, and itself where it is lost.
+-- the packets that a packet settles by what becomes of it: all of its unit if it makes it whole, none if it is held,
+-- itself if it is lost
 abbrev pub settled_as : Piece → Fragment → List Fragment → List Fragment
 settled_as Whole fragment stretch = stretch
 settled_as Held fragment stretch = []
@@ -23,7 +25,7 @@ settled_by before (packet fragment) =
     given_up (before ++ packet fragment ∷ [])
     ++ settled_as (piece (before ++ packet fragment ∷ [])) fragment (last_stretch (before ++ packet fragment ∷ []))
 
--- what these events settle, one after the other
+-- what these events settle, one after the other, after the events before them
 abbrev pub settled : List Event → List Event → List Fragment
 settled before [] = []
 settled before (event ∷ events) = settled_by before event ++ settled (before ++ event ∷ []) events

@@ -1,4 +1,4 @@
--- How fragments beside each other make one NAL unit (RFC 6184, 5.8). The limits are a choice of this project.
+-- How adjacent fragments make one NAL unit (RFC 6184, 5.8). The limits are a choice of this project.
 use Rattle.std.specs.Prelude.{ℕ, ◌+◌, ◌-◌, ◌%◌, ◌==◌, nat_le, nat_lt, Bool, true, false, not, ◌&&◌, if◌then◌else◌, ℤ, List, [], ◌∷◌, length, take, map, Option}
 use Rattle.std.specs.List.{list_any, list_all, filter_map, flat_map}
 use Rattle.std.specs.Ordering.{int_eq}
@@ -10,20 +10,21 @@ use Rattle.cvf_format.specs.declared.piece.Lost.TheVariants.{Broken, Long}
 use Rattle.cvf_format.specs.declared.piece.Piece.{Piece}
 use Rattle.cvf_format.specs.declared.piece.Piece.TheVariants as variant
 
--- the bytes of the longest unit, and the most fragments of one
+-- the bytes of the longest NAL unit that is put together
 abbrev pub longest_unit : ℕ
 longest_unit = 4194304
 
+-- the most packets that one NAL unit is put together from
 abbrev pub most_fragments : ℕ
 most_fragments = 4096
 
--- the numbers of packets of a stream, which begin again at 0
+-- how many sequence numbers there are: after the last they begin again at 0
 abbrev pub sequence_numbers : ℕ
 sequence_numbers = 256
 
 -- ---- events
 
--- a packet that carries a unit, or a fragment of one, with its instant where it is stamped
+-- a packet that carries a NAL unit or a fragment of one, with its instant if it is stamped
 pub record Fragment : Type 0 where
   pub mark : Mark
   pub instant : Option ℤ
@@ -31,11 +32,12 @@ pub record Fragment : Type 0 where
   pub part : NalPart
   pub body : List ℕ
 
--- a packet, or something between two packets that no unit goes on over
+-- a packet, or a cut between two packets that no NAL unit goes on over
 pub data Event : Type 0 where
   packet : Fragment → Event
   cut : Event
 
+-- the event is a cut, not a packet
 abbrev pub is_cut : Event → Bool
 is_cut (packet fragment) = false
 is_cut cut = true
@@ -49,19 +51,21 @@ after_cuts (packet fragment ∷ events) =
 
 -- ---- stretches
 
--- what a unit begins with, goes on with, and is whole with
+-- a packet begins a NAL unit: it carries a whole one or a first fragment
 abbrev pub begins : NalPart → Bool
 begins Single = true
 begins First = true
 begins Middle = false
 begins Last = false
 
+-- a packet goes on with a NAL unit: it carries a middle or last fragment
 abbrev pub goes_on : NalPart → Bool
 goes_on Single = false
 goes_on First = false
 goes_on Middle = true
 goes_on Last = true
 
+-- a packet completes a NAL unit: it carries a whole one or a last fragment
 abbrev pub completes : NalPart → Bool
 completes Single = true
 completes First = false
@@ -76,31 +80,32 @@ follows before after =
     && (after.nal == before.nal)
     && (after.mark.seq == (before.mark.seq + 1) % sequence_numbers)
 
--- each packet goes on with the unit of the one before it
+-- each packet, after this first one, goes on with the unit of the one before it
 abbrev pub are_linked : Fragment → List Fragment → Bool
 are_linked before [] = true
 are_linked before (after ∷ rest) = follows before after && are_linked after rest
 
--- the instants of those that are stamped
+-- the instants of the packets that are stamped
 abbrev pub stamps : List Fragment → List ℤ
 stamps fragments = filter_map (λ (f : Fragment). f.instant) fragments
 
+-- all instants of a list are one and the same
 abbrev pub all_equal : List ℤ → Bool
 all_equal [] = true
 all_equal (instant ∷ rest) = list_all (int_eq instant) rest
 
--- Packets beside each other are a stretch: the first begins a unit, each other goes on with it, and all that are stamped
--- have one instant.
+-- Adjacent packets are a stretch: the first begins a unit, each other goes on with it, and all that are stamped have
+-- one instant.
 unfoldable pub is_stretch : List Fragment → Bool
 is_stretch [] = false
 is_stretch (first ∷ rest) = begins first.part && are_linked first rest && all_equal (stamps (first ∷ rest))
 
--- the longest end of a list that is a stretch, and nothing where no end is one
+-- the longest end of a list that is a stretch; empty if no end is one
 abbrev pub stretch_of : List Fragment → List Fragment
 stretch_of [] = []
 stretch_of (first ∷ rest) = if is_stretch (first ∷ rest) then first ∷ rest else stretch_of rest
 
--- the stretch that the last event belongs to
+-- the stretch that ends with the last event; empty if there is none
 unfoldable pub last_stretch : List Event → List Fragment
 last_stretch events = stretch_of (after_cuts events)
 
@@ -111,11 +116,11 @@ abbrev pub unit_of : List Fragment → List ℕ
 unit_of [] = []
 unit_of (first ∷ rest) = first.nal ∷ flat_map (λ (f : Fragment). f.body) (first ∷ rest)
 
--- a stretch is within the limits
+-- a stretch is within the limits of a unit, in bytes and in packets
 unfoldable pub is_within : List Fragment → Bool
 is_within stretch = nat_le (length (unit_of stretch)) longest_unit && nat_le (length stretch) most_fragments
 
--- a stretch has the last packet of its unit
+-- the last packet of a stretch completes its unit
 unfoldable pub is_complete : List Fragment → Bool
 is_complete [] = false
 is_complete (last ∷ []) = completes last.part
@@ -127,10 +132,11 @@ before_last items = take (length items - 1) items
 
 -- ---- what becomes of the packets
 
--- the packets that wait at the end of the events for the rest of their unit
+-- the packets of a stretch if they wait for the rest of their unit: the stretch is within the limits and not complete
 abbrev pub waiting : List Fragment → List Fragment
 waiting stretch = if is_within stretch && not (is_complete stretch) then stretch else []
 
+-- the packets that wait, after these events, for the rest of their unit
 abbrev pub held : List Event → List Fragment
 held events = waiting (last_stretch events)
 
@@ -138,39 +144,44 @@ held events = waiting (last_stretch events)
 abbrev pub is_passed : List Fragment → Bool
 is_passed stretch = not (is_within stretch) && is_within (before_last stretch)
 
--- what becomes of the last packet of a stretch, and of a packet that belongs to none, as far as is known there
+-- what becomes of the last packet of a stretch, and of a packet that belongs to none, as far as is known when it comes
 abbrev pub piece_of : List Fragment → Piece
 piece_of [] = variant.Lost Broken
 piece_of (first ∷ rest) =
     if is_within (first ∷ rest) then (if is_complete (first ∷ rest) then variant.Whole else variant.Held)
     else if is_passed (first ∷ rest) then variant.Lost Long else variant.Lost Broken
 
+-- what becomes of the last packet of these events, as far as is known when it comes
 abbrev pub piece : List Event → Piece
 piece events = piece_of (last_stretch events)
 
--- a packet went on with the unit of those before it, within the limits
+-- the last packet of a stretch went on with the unit of those before it, within the limits
 abbrev pub is_joined : List Fragment → Bool
 is_joined stretch = nat_lt 1 (length stretch) && is_within stretch
 
--- the packets that waited until the last event, and that it gave up
+-- the packets that waited before the last event, and that it gave up
 abbrev pub given_up : List Event → List Fragment
 given_up events = if is_joined (last_stretch events) then [] else held (before_last events)
 
--- Why: a packet with which their unit is too long, or what did not go on with it.
+-- Why the last packet of a stretch gave up those that waited: it makes their unit too long, or it did not go on with
+-- it.
 abbrev pub reason_of : List Fragment → Lost
 reason_of [] = Broken
 reason_of (first ∷ rest) = if is_passed (first ∷ rest) then Long else Broken
 
+-- why the last event gave up the packets that waited before it
 abbrev pub reason : List Event → Lost
 reason events = reason_of (last_stretch events)
 
--- the bytes of the unit that the last event made whole, and none where it made none
+-- the bytes of the unit of a stretch; none if it is not complete or not within the limits
 abbrev pub whole_of : List Fragment → List ℕ
 whole_of stretch = if is_within stretch && is_complete stretch then unit_of stretch else []
 
+-- the bytes of the unit that the last event made whole; none if it made none
 abbrev pub whole_unit : List Event → List ℕ
 whole_unit events = whole_of (last_stretch events)
 
+-- the mark of a packet: its frame, its sequence number and its arrival
 abbrev pub mark_of : Fragment → Mark
 mark_of fragment = fragment.mark
 

@@ -10,10 +10,10 @@ use avtp_base::NoMemory;
 use memchr::memmem;
 use std::alloc::Global;
 
-/// What stands before each unit.
+/// What comes before each unit.
 const START_CODE: [u8; 3] = [0, 0, 1];
 
-/// The first place from `from` on at which the needle stands.
+/// The first place from `from` on at which the needle is found.
 fn find_from(bytes: &[u8], needle: &[u8], from: usize) -> Option<usize>
     requires { from ≤ length bytes.now }
     ensures { IsFirst (OccursAt bytes.now needle.now) from (length bytes.now + 1) result }
@@ -32,7 +32,7 @@ fn ends_at(bytes: &[u8], zeros: usize) -> bool
     zeros + 2 < bytes.len() && bytes[zeros + 2] <= 1
 }
 
-/// Where a unit that begins at `from` ends: before a start code or three zero bytes, or where the bytes end.
+/// Where a unit that begins at `from` ends: before a start code or three zero bytes, or at the end of the bytes.
 fn end_of_unit(bytes: &[u8], from: usize) -> usize
     requires { from ≤ length bytes.now }
     ensures value { result ≡ end_behind bytes.now from }
@@ -49,7 +49,7 @@ fn end_of_unit(bytes: &[u8], from: usize) -> usize
     bytes.len()
 }
 
-/// A range of bytes without the zero bytes at its end. `None` comes where it has no others.
+/// A range of bytes without the zero bytes at its end; `None` if it has no others.
 fn without_zeros(bytes: &[u8], from: usize, end: usize) -> Option<(usize, usize)>
     requires order { from ≤ end }
     requires inside { end ≤ length bytes.now }
@@ -65,9 +65,9 @@ fn without_zeros(bytes: &[u8], from: usize, end: usize) -> Option<(usize, usize)
     None
 }
 
-/// The first NAL unit whose start code stands at `from` or after it: the place of its first byte, and the place after its
-/// last. `None` comes where there is none. So all units come, in order, from 0 and then from the end of the one before.
-/// `from` is at most the number of bytes.
+/// The first NAL unit whose start code is at `from` or after it: the place of its first byte, and the place after its
+/// last; `None` if there is none. All units are found, in order, from 0 and then from the end of the one before. `from`
+/// is at most the number of bytes.
 pub fn next_unit(bytes: &[u8], from: usize) -> Option<(usize, usize)>
     requires { from ≤ length bytes.now }
     ensures next { MatchOption result (units_from bytes.now from ≡ []) (λ unit. units_from bytes.now from ≡ unit ∷ units_from bytes.now unit.1) }
@@ -88,10 +88,10 @@ pub fn next_unit(bytes: &[u8], from: usize) -> Option<(usize, usize)>
 
 /// The NAL units of a byte stream, in order: of each the place of its first byte, and the place after its last.
 ///
-/// A start code is 00 00 01. A unit begins after a start code and ends before the next 00 00 01 or 00 00 00, or where the
-/// bytes end. Zero bytes at its end belong to none, and a unit without a byte is left out. Bytes before the first start
-/// code belong to none, nor do those after 00 00 00, up to the next start code. `NoMemory` comes where no memory is found
-/// for the list, and nothing else is allocated.
+/// A start code is 00 00 01. A unit begins after a start code and ends before the next 00 00 01 or 00 00 00, or at the
+/// end of the bytes. Zero bytes at its end belong to none, and a unit without a byte is left out. Bytes before the
+/// first start code belong to none, nor do those after 00 00 00, up to the next start code. It answers `NoMemory` if no
+/// memory is found for the list; nothing else is allocated.
 pub fn split_annex_b(alloc: Global, bytes: &[u8]) -> Result<Vec<(usize, usize)>, NoMemory>
     ensures units { IfOk result (λ units. AreUnits bytes.now units.items) }
     ensures value { IfOk result (λ units. units.items ≡ nal_units bytes.now) }

@@ -21,13 +21,16 @@ const MOST_FRAGMENTS: usize = 4_096;
 ///
 /// A unit is one packet, or a first fragment and those after it, each with the same first byte of the unit and the next
 /// sequence number, up to a last one. All that are stamped must have one presentation time.
+///
+/// What becomes of a packet depends on the whole list of packets up to it, by its longest end that is one stretch; the
+/// assembler keeps that stretch alone.
 #[derive(Drop)]
 pub struct Assembler {
     /// The unit so far, or the last one that is whole.
     bytes: Vec<u8>,
     /// The marks of the fragments that wait.
     held: Vec<Mark>,
-    /// The marks of those that were given up last.
+    /// The marks of the fragments that were given up last.
     lost: Vec<Mark>,
     nal: u8,
     next_seq: u8,
@@ -60,7 +63,7 @@ impl Model for Assembler {
         × (most_fragments ≤ vec_capacity a.lost) };
 }
 
-/// Whether two presentation times, of which each may be unknown, do not differ.
+/// Whether two presentation times, each of which may be unknown, do not differ.
 fn agrees(a: Option<i64>, b: Option<i64>) -> bool
     ensures { result ≡ agree a b }
 {
@@ -107,8 +110,8 @@ fn completes_unit(part: NalPart) -> bool
 }
 
 impl Assembler {
-    /// No packet yet. Reserves the memory for a unit of 4,194,304 bytes, and for the marks of 4,096 fragments that wait and
-    /// as many that were given up.
+    /// No packet yet. Reserves the memory for a unit of 4,194,304 bytes, and for the marks of 4,096 fragments that wait
+    /// and as many that were given up.
     pub fn new(alloc: Global) -> Result<Self, NoMemory>
         ensures { IfOk result (λ assembler. StandsFor assembler []) }
     {
@@ -123,11 +126,11 @@ impl Assembler {
         })
     }
 
-    /// Takes a packet, with its mark and, where it is stamped, its presentation time in nanoseconds of gPTP.
+    /// Takes a packet, with its mark and, if it is stamped, its presentation time in nanoseconds of gPTP.
     ///
-    /// A unit is whole with its last packet. A packet that does not go on with the fragments that wait gives them up, and
-    /// so does one with which the unit would have more than 4,194,304 bytes or 4,096 fragments, which is then lost too. A
-    /// packet that completes a unit must be stamped, and a body has at most 65,530 bytes. Takes no memory.
+    /// A unit is whole with its last packet. A packet that does not go on with the fragments that wait gives them up,
+    /// and so does one that would make the unit longer than 4,194,304 bytes or 4,096 fragments, which is then lost too.
+    /// A packet that completes a unit must be stamped, and a body has at most 65,530 bytes. Takes no memory.
     pub fn push(&mut self, mark: Mark, instant: Option<i64>, view: &CvfView<'_>) -> Pushed
         requires body { length view.now.body.now ≤ longest_body }
         requires stamped { IsTrue (completes view.now.part) → IsSome instant }
@@ -144,8 +147,8 @@ impl Assembler {
         self.push_packet(mark, instant, view)
     }
 
-    /// The mark of one of the fragments that were given up by the last packet or cut: these are counted from 0, in the
-    /// order in which they came, and `i` is below their number.
+    /// The mark of fragment `i` of those that were given up by the last packet or cut, counted from 0 in the order in
+    /// which they came; `i` is below their number.
     pub fn lost_mark(&self, i: u32) -> Mark
         requires { i < length self.now.lost }
         ensures { (events : List Event) → StandsFor self.now events → slice_get (lost_marks events) i ≡ Some result }
@@ -153,8 +156,8 @@ impl Assembler {
         self.lost[i as usize]
     }
 
-    /// Something stands here between two packets that no unit goes on over. Gives up the fragments that wait, and answers
-    /// how many these are. Takes no memory.
+    /// A cut: no unit goes on from the packets before to those after. Gives up the fragments that wait, and answers how
+    /// many these are. Takes no memory.
     pub fn cut(&mut self) -> u32
         ensures stands { (events : List Event) → StandsFor self.old events → StandsFor self.new (events ++ cut_event ∷ []) }
         ensures lost { (events : List Event) → StandsFor self.old events → result ≡ length (given_up (events ++ cut_event ∷ [])) }
@@ -163,15 +166,15 @@ impl Assembler {
         self.give_up()
     }
 
-    /// The bytes of the unit that the last packet made whole, and none where it made none.
+    /// The bytes of the unit that the last packet made whole; none if it made none.
     pub fn unit(&self) -> &[u8]
         ensures { (events : List Event) → StandsFor self.now events → result.now ≡ whole_unit events }
     {
         self.shown()
     }
 
-    /// How many bytes the unit has that this packet would make whole, and 0 where it would make none. The same holds of the
-    /// packet as for `push`. So memory for the unit can be found before the packet is pushed.
+    /// The size of the unit that this packet would make whole, and 0 if it would make none, so that memory for the unit
+    /// can be found before the packet is pushed. What `push` asks of a packet holds here too.
     pub fn unit_with(&self, mark: Mark, instant: Option<i64>, view: &CvfView<'_>) -> usize
         requires { length view.now.body.now ≤ longest_body }
         ensures { (events : List Event) → StandsFor self.now events
@@ -247,7 +250,7 @@ impl Assembler {
             && agrees(self.instant, instant)
     }
 
-    /// Whether the unit is within the limits with one fragment more.
+    /// Whether the unit stays within the limits with one more fragment.
     #[tactic(auto, unfolding(crate::specs::state::Assembly::has_room))]
     fn has_room_for(&self, body: &[u8]) -> bool
         ensures room { result ≡ has_room self.now body.now }
@@ -300,7 +303,7 @@ impl Assembler {
         Piece::Held
     }
 
-    /// Begins a unit, where what waited is given up.
+    /// Begins a unit, after what waited was given up.
     fn begin(&mut self, mark: Mark, instant: Option<i64>, view: &CvfView<'_>) -> Pushed
         requires { length view.now.body.now ≤ longest_body }
         ensures left { self.new ≡ with_first self.old (fragment_of mark instant view.now) }

@@ -33,8 +33,8 @@ pub struct CvfView<'a> {
     pub evt: u8,
     /// The timestamp of the H.264 payload, like the header's in nanoseconds of gPTP modulo 2^32.
     pub h264_timestamp: u32,
-    /// The first byte of the NAL unit: F in one bit, NRI in two, and the type, 1 to 23, in five. Fragments carry it in
-    /// their two headers, all of them the same.
+    /// The first byte of the NAL unit: F in one bit, NRI in two, and the type, 1 to 23, in five. All fragments of a
+    /// unit carry the same, in their two headers.
     pub nal: u8,
     pub part: NalPart,
     /// The bytes of the NAL unit after its first that this packet carries.

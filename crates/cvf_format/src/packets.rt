@@ -10,7 +10,7 @@ const LONGEST_SINGLE: usize = 1400;
 const FULL_BODY: usize = 1398;
 
 /// The number of packets that carry a NAL unit of `len` bytes, 1 to 268,435,456: one for a unit of at most 1400 bytes,
-/// and else the number of fragments (FU-A) for the bytes that follow its first, 1398 in each but the last.
+/// otherwise the number of fragments (FU-A) for the bytes that follow its first, 1398 in each but the last.
 pub fn fragments(len: usize) -> u32
     requires some { 1 ≤ len }
     requires most { len ≤ 268435456 }

@@ -1,6 +1,7 @@
 //! What becomes of the fragments of NAL units.
 
-/// Where a packet stands: its frame of the capture from 1, its sequence number, and its arrival in nanoseconds of gPTP.
+/// Which packet it is: its frame of the capture, counted from 1, its sequence number, and its arrival in nanoseconds of
+/// gPTP.
 #[derive(Clone, Copy, Debug, PartialEq, Eq)]
 pub struct Mark {
     pub frame: u64,
@@ -33,7 +34,7 @@ pub enum Piece {
 pub struct Pushed {
     /// The number of earlier fragments that it gave up.
     pub lost: u32,
-    /// Why it gave them up, and `Broken` where there are none.
+    /// Why it gave them up; `Broken` if there are none.
     pub why: Lost,
     /// What becomes of the packet itself.
     pub piece: Piece,

@@ -43,7 +43,7 @@ fn is_fragment(pdu: &[u8]) -> bool
     bits_at(pdu, 28, 3, 5) == FU_A
 }
 
-/// Which fragment a packet carries, where its FU header is accepted.
+/// Which fragment a packet carries, if its FU header is accepted.
 fn fragment_part(pdu: &[u8], stated: u16) -> Result<NalPart, Refusal>
     requires inside { 24 + stated ≤ length pdu.now }
     requires some { 5 ≤ stated }
@@ -66,7 +66,7 @@ fn fragment_part(pdu: &[u8], stated: u16) -> Result<NalPart, Refusal>
     })
 }
 
-/// What a packet carries of a NAL unit, where the headers of the unit are accepted.
+/// What a packet carries of a NAL unit, if the headers of the unit are accepted.
 fn nal_part(pdu: &[u8], stated: u16) -> Result<NalPart, Refusal>
     requires inside { 24 + stated ≤ length pdu.now }
     requires some { 5 ≤ stated }
@@ -147,9 +147,9 @@ fn read_packet(pdu: &[u8]) -> Result<CvfView<'_>, Refusal>
 ///
 /// Refused is the first of these, in this order: a field of the stream header that does not lie wholly in the slice; a
 /// subtype other than CVF; a version other than 0; a format that is not an RFC's; a format subtype that is not H.264; a
-/// stated length of fewer than 5 bytes, or of more than what stands there; a NAL type that is neither that of a single
-/// unit, 1 to 23, nor FU-A; a fragment without an FU header; one that is both first and last, or whose type is not 1 to
-/// 23. A body may be empty. Reserved bits may be set, and what follows the stated length is ignored.
+/// stated length of fewer than 5 bytes, or of more than what follows the stream header; a NAL type that is neither that
+/// of a single unit, 1 to 23, nor FU-A; a fragment without an FU header; one that is both first and last, or whose type
+/// is not 1 to 23. A body may be empty. Reserved bits may be set, and what follows the stated length is ignored.
 #[inline(always)]
 pub fn read_cvf(pdu: &[u8]) -> Result<CvfView<'_>, Refusal>
     ensures exact { Reads cvf_shape (cvf_refusal pdu.now) (cvf_of pdu.now) result }

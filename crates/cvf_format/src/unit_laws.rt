@@ -1,11 +1,11 @@
-//! Laws of the units that packets make. Each call is its contract, and does nothing.
+//! Laws of the units that packets make. Each is stated by a contract; the call does nothing.
 
 ghost use Rattle.std.specs.Prelude.{◌≡◌, ◌≤◌, ◌++◌, ◌∷◌, ◌↔◌, ◌⊎◌, true, [], length, List};
 ghost use Rattle.cvf_format.specs.Settled.{packets, settled, settled_by};
 ghost use Rattle.cvf_format.specs.StretchRules.{EndsWith, IsStretch};
 ghost use Rattle.cvf_format.specs.Stretches.{Event, Fragment, given_up, held, is_stretch, last_stretch, longest_unit, most_fragments, whole_unit};
 
-/// The test of a stretch tells what the rules say.
+/// The test of a stretch agrees with the rules.
 pub fn stretches_by_the_rules()
     ensures { (packets : List Fragment) → (is_stretch packets ≡ true) ↔ IsStretch packets }
 {}
@@ -16,8 +16,8 @@ pub fn one_stretch()
     ensures some { (events : List Event) → (last_stretch events ≡ []) ⊎ EndsWith events (last_stretch events) }
 {}
 
-/// Each packet is settled exactly once, and all are in the order in which they came: it is given up by a later event, or
-/// lost when it comes, or it is in a unit that a packet makes whole, or it waits at the end.
+/// Each packet is settled exactly once, in the order in which they came: it is given up by a later event, or lost when
+/// it comes, or it is in a unit that a packet makes whole, or it waits at the end.
 pub fn each_packet_once()
     ensures all { (events : List Event) → packets events ≡ settled [] events ++ held events }
     ensures next { (before : List Event) (event : Event) → held before ++ packets (event ∷ []) ≡ settled_by before event ++ held (before ++ event ∷ []) }

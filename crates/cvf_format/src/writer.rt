@@ -23,7 +23,7 @@ fn format_flags(view: &CvfView<'_>) -> u16
     (flags << 4 | u16::from(view.evt)) << 8
 }
 
-/// Bytes 28 and 29: the headers of the NAL unit, of which one that is whole has the first alone.
+/// Bytes 28 and 29: the headers of the NAL unit; one that is whole has only the first.
 fn nal_headers(view: &CvfView<'_>) -> [u8; 2]
     ensures { take (size_of_header view.now.part - 28) result ≡ spelling (headers_of view.now.part) (cvf_shape view.now) }
 {
@@ -51,12 +51,12 @@ fn packet_header(view: &CvfView<'_>) -> [u8; 30]
     bytes
 }
 
-/// Writes a packet, with every reserved bit 0, and answers its length. `Room` comes where the slice is shorter, which is
-/// then unchanged.
+/// Writes a packet, with every reserved bit 0, and answers its length. If the slice is shorter it answers `Room` and
+/// leaves the slice unchanged.
 ///
-/// The view is one that `read_cvf` could give: its subtype is CVF, its event field at most 15, the type of its NAL unit 1
-/// to 23, and `data_length` is that of the part's headers and the body: 5 more than a whole unit's body, and 6 more than
-/// a fragment's. The header's format bits and `reserved` are not read.
+/// The view is one that `read_cvf` could give: its subtype is CVF, its event field at most 15, the type of its NAL unit
+/// 1 to 23, and `data_length` is that of the part's headers and the body: 5 more than a whole unit's body, and 6 more
+/// than a fragment's. The header's format bits and `reserved` are not read.
 pub fn write_cvf(out: &mut [u8], view: &CvfView<'_>) -> Result<usize, Room>
     requires { IsWritableCvf (cvf_shape view.now) }
     ensures written { Writes (cvf_spelling (cvf_shape view.now)) out.old out.new result }

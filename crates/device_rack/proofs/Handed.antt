@@ -5,7 +5,7 @@ use Rattle.std.specs.List.{AllZip}
 use Rattle.std.specs.declared.dyn_box.DynBox.{DynBox}
 use Rattle.avtp_base.specs.Faults.{Rose}
 use Rattle.sample_schedule.specs.declared.shown.Shown.{Shown}
-use Rattle.sample_schedule.specs.Devices.{later}
+use Rattle.device_rack.specs.Devices.{later}
 use Rattle.device_rack.specs.Handed.{AreHanded, HandsAll, WasHandedAll}
 use Rattle.device_rack.specs.Racks.{IsHanded, WasHanded}
 use Rattle.device_rack.specs.declared.place.Place.{Place}

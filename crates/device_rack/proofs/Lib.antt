@@ -1,3 +1,4 @@
+pub mod CallLemmas
 pub mod Carried
 pub mod Handed
 pub mod Outputs

@@ -5,12 +5,12 @@ use Rattle.std.specs.Prelude.{filter, flat_map}
 use Rattle.std.proofs.lemmas.List.{append-nil}
 use Rattle.std.proofs.lemmas.List.Elements.{filter-append, filter_map-append}
 use Rattle.std.proofs.lemmas.Grind.{flat_map-append}
-use Rattle.sample_schedule.specs.Batches.{Presented}
+use Rattle.sample_schedule.specs.Batches.{Presented, is_unit}
 use Rattle.sample_schedule.specs.declared.shown.Reason.{Reason}
 use Rattle.sample_schedule.specs.declared.shown.Shown.{Shown}
 use Rattle.sample_schedule.specs.declared.shown.Shown.TheVariants.{Present, Flag}
 use Rattle.device_rack.specs.declared.silence.Silence.{Silence}
-use Rattle.device_rack.specs.Output.{annexb, batch_of, batches, is_unit, raw, raw_behind, sample_batches, silence_before, units}
+use Rattle.device_rack.specs.Output.{annexb, batch_of, batches, raw, raw_behind, sample_batches, silence_before, units}
 
 -- the batches that pass a test, and one more
 kept_more : (test : Presented → Bool) (items : List Shown) (batch : Presented)

@@ -4,12 +4,12 @@ use Rattle.std.specs.List.{last_or}
 use Rattle.avtp_base.proofs.Told.{Appends-trans}
 use Rattle.avtp_base.specs.States.{SinkState}
 use Rattle.avtp_base.specs.Told.{Appends}
-use Rattle.sample_schedule.specs.Batches.{Presented}
+use Rattle.sample_schedule.specs.Batches.{Presented, is_unit}
 use Rattle.sample_schedule.specs.declared.shown.Shown.{Shown}
 use Rattle.sample_schedule.specs.declared.shown.Shown.TheVariants.{Present}
 use Rattle.device_rack.specs.declared.raw.RawDevice.{RawDevice}
 use Rattle.device_rack.specs.declared.annex_b.AnnexBDevice.{AnnexBDevice}
-use Rattle.device_rack.specs.Output.{annexb, is_unit, raw, sample_batches, silence_before}
+use Rattle.device_rack.specs.Output.{annexb, raw, sample_batches, silence_before}
 use Rattle.device_rack.specs.Written.{AppendsUpTo, HasTakenRaw, HasTakenUnits, IsPreviousOf, annexb_failed, annexb_sink, raw_failed, raw_sink, silence_in}
 use Rattle.device_rack.specs.state.Written.{AppendsPrefix}
 use Rattle.device_rack.proofs.Outputs.{annexb_of_unit, last_more, raw_of_samples, samples_of_samples}

@@ -1,3 +1,5 @@
+pub mod Devices
+pub mod MemoryDevice
 pub mod Handed
 pub mod Laws
 pub mod Output

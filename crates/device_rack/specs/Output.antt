@@ -1,7 +1,7 @@
 -- What the files of devices hold of the items that were taken.
 use Rattle.std.specs.Prelude.{ℕ, ◌*◌, ◌/◌, ◌%◌, ◌==◌, Bool, not, ◌&&◌, if◌then◌else◌, min, ℤ, pos, negsuc, ◌+ℤ◌, ◌-ℤ◌, ◌*ℤ◌, List, [], ◌∷◌, ◌++◌, length, map, filter, flat_map, Option, None, Some}
 use Rattle.std.specs.List.{filter_map, range_with_len}
-use Rattle.sample_schedule.specs.Batches.{Presented, sample_instant}
+use Rattle.sample_schedule.specs.Batches.{Presented, is_unit, sample_instant}
 use Rattle.sample_schedule.specs.declared.shown.Shown.{Shown}
 use Rattle.sample_schedule.specs.declared.shown.Shown.TheVariants.{Present, Flag}
 use Rattle.time_unfold.specs.declared.line.Line.{Line}
@@ -17,10 +17,6 @@ batch_of (Flag frame seq reason) = None
 -- the batches of all items that are presented, in order
 abbrev pub batches : List Shown → List Presented
 batches items = filter_map batch_of items
-
--- the batch is a unit of H.264: its line has one nanosecond a sample; every other batch is samples
-abbrev pub is_unit : Presented → Bool
-is_unit batch = batch.line.num == 1 && batch.line.den == 1
 
 -- the units of H.264 among the items that are presented, in order
 abbrev pub units : List Shown → List Presented

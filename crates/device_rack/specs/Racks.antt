@@ -4,7 +4,7 @@ use Rattle.std.specs.Global.{Global}
 use Rattle.std.specs.declared.dyn_box.DynBox.{DynBox}
 use Rattle.avtp_base.specs.Faults.{Rose}
 use Rattle.sample_schedule.specs.declared.shown.Shown.{Shown}
-use Rattle.sample_schedule.specs.Devices.{later}
+use Rattle.device_rack.specs.Devices.{later}
 use Rattle.device_rack.specs.declared.place.Place.{Place}
 use Rattle.device_rack.specs.declared.rack.Rack.{Rack}
 

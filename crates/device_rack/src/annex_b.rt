@@ -1,9 +1,9 @@
 //! A byte stream of H.264 units.
 
-use crate::unit::is_unit;
+use crate::device::Device;
 use crate::writing::write_unit;
 use avtp_base::{Failed, Sink};
-use sample_schedule::{Device, Shown};
+use sample_schedule::Shown;
 
 /// Writes the units that it takes to a sink, in the order in which they come, each after a start code (ITU-T H.264,
 /// annex B). Samples and flags add nothing.
@@ -62,7 +62,7 @@ impl<S: Sink + Drop> Device for AnnexBDevice<S> {
         ensures counted { IsCounted (S.state (annexb_sink self.old)).faults (S.state (annexb_sink self.new)).faults result }
     {
         match shown {
-            Shown::Present(batch) if is_unit(batch) => {
+            Shown::Present(batch) if batch.is_unit() => {
                 let written = write_unit(&mut self.sink, batch.bytes.as_slice());
                 match written {
                     Ok(()) => {}

@@ -2,8 +2,9 @@
 
 ghost use Rattle.std.specs.Prelude.{◌≡◌, ◌++◌, [], ◌∷◌};
 
+use crate::device::Device;
 use crate::rack::Rack;
-use sample_schedule::{Device, Shown};
+use sample_schedule::Shown;
 
 /// Devices that are handed what is presented, item by item.
 pub trait Devices {

@@ -2,18 +2,21 @@
 #![tactic(auto)]
 
 mod annex_b;
+mod device;
 mod devices;
 pub mod laws;
+mod memory_device;
 mod place;
 mod previous;
 mod rack;
 mod raw;
 mod silence;
-mod unit;
 mod writing;
 
 pub use annex_b::AnnexBDevice;
+pub use device::Device;
 pub use devices::Devices;
+pub use memory_device::MemoryDevice;
 pub use place::Place;
 pub use rack::Rack;
 pub use raw::RawDevice;

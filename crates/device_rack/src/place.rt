@@ -4,7 +4,8 @@ ghost use Rattle.std.specs.Prelude.{◌+◌, ◌<◌, ◌^◌, length, ◌≡◌
 ghost use Rattle.std.specs.List.{AllZip};
 ghost use Rattle.device_rack.specs.Racks.{IsHanded, failed_count};
 
-use sample_schedule::{Device, Shown};
+use crate::device::Device;
+use sample_schedule::Shown;
 
 /// A device, and whether it is live. A place that is not live has failed. A boxed device brings a type of its own with
 /// it, which a model of the rack could not name, so a rack is seen as the list of its places.

@@ -1,11 +1,11 @@
 //! A file of raw samples.
 
+use crate::device::Device;
 use crate::previous::Previous;
 use crate::silence::Silence;
-use crate::unit::is_unit;
 use crate::writing::write_samples;
 use avtp_base::{Failed, Sink};
-use sample_schedule::{Device, Shown};
+use sample_schedule::Shown;
 
 /// Writes the samples that it takes to a sink, in the order in which they come, with silence for missing ones.
 ///
@@ -53,7 +53,7 @@ impl<S: Sink + Drop> Device for RawDevice<S> {
     ghost use Rattle.std.specs.Prelude.{◌≡◌, ◌++◌, [], ◌∷◌, ◌||◌, List, false, None, OnOk, OnErr, IfSome, is_err};
     ghost use Rattle.avtp_base.specs.Faults.{IsCounted};
     ghost use Rattle.avtp_base.specs.States.{SinkState};
-    ghost use Rattle.sample_schedule.specs.Devices.{FailsAsTold};
+    ghost use Rattle.device_rack.specs.Devices.{FailsAsTold};
     ghost use Rattle.sample_schedule.specs.declared.shown.Shown.{Shown as ShownValue};
     ghost use Rattle.device_rack.specs.Output.{raw};
     ghost use Rattle.device_rack.specs.Written.{AppendsUpTo, HasTakenRaw, raw_sink, raw_failed, silence_in};
@@ -73,7 +73,7 @@ impl<S: Sink + Drop> Device for RawDevice<S> {
         ensures counted { IsCounted (S.state (raw_sink self.old)).faults (S.state (raw_sink self.new)).faults result }
     {
         match shown {
-            Shown::Present(batch) if !is_unit(batch) => {
+            Shown::Present(batch) if !batch.is_unit() => {
                 let silent = Previous::silent_before(&self.previous, batch);
                 let written = write_samples(
                     &mut self.sink,

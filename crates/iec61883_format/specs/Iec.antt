@@ -15,7 +15,7 @@ pub use Rattle.avtp_header.specs.Numbers.{iec_subtype}
 use Rattle.iec61883_format.specs.declared.iec.Cip.{Cip}
 use Rattle.iec61883_format.specs.declared.iec.IecView.{IecView}
 
--- a packet, apart from where its data blocks lie in memory
+-- an IEC 61883-6 packet, apart from where its data blocks lie in memory
 pub record Iec : Type 0 where
   pub header : StreamHeader
   pub gateway_info : ℕ
@@ -27,6 +27,7 @@ pub record Iec : Type 0 where
   pub payload : List ℕ
   pub reserved : Bool
 
+-- the packet that a view shows, apart from where its data blocks lie in memory
 abbrev pub iec_shape : IecView → Iec
 iec_shape v = record {
   header = v.header;
@@ -42,31 +43,31 @@ iec_shape v = record {
 
 -- ---- numbers
 
--- the tag of a packet that has a CIP header
+-- the tag of a packet that has a CIP header (IEC 61883-1)
 abbrev pub cip_tag : ℕ
 cip_tag = 1
 
--- the two bits that mark the second quadlet of the CIP header; the first has 0
+-- the two bits that mark the second quadlet of the CIP header; those of the first are 0 (IEC 61883-1)
 abbrev pub second_mark : ℕ
 second_mark = 2
 
--- the format of audio and music data (IEC 61883-6)
+-- the FMT of audio and music data (IEC 61883-6)
 abbrev pub audio_format : ℕ
 audio_format = 0x10
 
--- the FDF of a packet of no data
+-- the FDF of a packet of no data (IEC 61883-6)
 abbrev pub no_data : ℕ
 no_data = 255
 
--- the quadlets of a data block that the byte DBS tells; 256 do not fit a byte, and are told by 0
+-- the quadlets of a data block, by the byte DBS: 256 do not fit a byte, so 0 means 256 (IEC 61883-1)
 abbrev pub dbs_of : ℕ → ℕ
 dbs_of byte = if byte == 0 then 256 else byte
 
--- the byte that tells so many quadlets, 1 to 256
+-- the byte DBS of data blocks of 1 to 256 quadlets
 abbrev pub dbs_byte : ℕ → ℕ
 dbs_byte dbs = if dbs == 256 then 0 else dbs
 
--- the sample rate in Hz that FDF names
+-- the sample rate in Hz that FDF names (IEC 61883-6)
 abbrev pub rate_of_fdf : ℕ → Option ℕ
 rate_of_fdf fdf =
     if fdf == 0 then Some 32000 else
@@ -77,7 +78,7 @@ rate_of_fdf fdf =
     if fdf == 5 then Some 176400 else
     if fdf == 6 then Some 192000 else None
 
--- SYT_INTERVAL: of so many data blocks one has a timestamp
+-- SYT_INTERVAL by FDF: one in this many data blocks has a timestamp (IEC 61883-6)
 abbrev pub syt_interval : ℕ → Option ℕ
 syt_interval fdf =
     if fdf == 0 then Some 8 else
@@ -88,26 +89,27 @@ syt_interval fdf =
     if fdf == 5 then Some 32 else
     if fdf == 6 then Some 32 else None
 
+-- a SYT_INTERVAL of IEC 61883-6: 8, 16 or 32
 abbrev pub IsSytInterval : ℕ → Type 0
 IsSytInterval interval = (interval ≡ 8) ⊎ (interval ≡ 16) ⊎ (interval ≡ 32)
 
--- The first data block, of a packet whose first has this block count, whose block count is a multiple of the interval:
--- the one that the packet's timestamp belongs to. Blocks are counted from 0.
+-- The data block that the packet's timestamp belongs to, counted from 0: the first whose block count is a multiple of
+-- the interval, in a packet whose first data block has the count `dbc`.
 abbrev pub anchor_index : ℕ → ℕ → ℕ
 anchor_index dbc interval = stamped_index (Blocks dbc interval)
 
--- the bytes of a data block of so many quadlets
+-- the bytes of a data block of `dbs` quadlets
 abbrev pub block_size : ℕ → ℕ
 block_size dbs = 4 * dbs
 
--- how many of the bytes after the CIP header are data blocks: all, and none in a packet of no data
+-- how many of the `size` bytes after the CIP header are data blocks: all of them, and none in a packet of no data
 abbrev pub data_size : ℕ → ℕ → ℕ
 data_size fdf size = if fdf == no_data then 0 else size
 
 -- ---- the table
 
--- The table of the CIP header (IEC 61883-1), of a view that has one: two quadlets, in bytes 24 to 31. The bits of a
--- packet that is split, packed or stamped in its data are 0. A packet that ends within this header is refused by the
+-- The table of the CIP header (IEC 61883-1), for a view that has one: two quadlets, in bytes 24 to 31. FN, QPC and SPH
+-- are 0, so data is neither split nor packed nor stamped. A packet that ends within this header is refused by the
 -- stated length.
 abbrev pub cip_layout : {V : Type 0} → (V → Cip) → Layout V
 cip_layout cip =
@@ -119,8 +121,8 @@ cip_layout cip =
     part StreamDataLength 29 (holds 8 (λ v. (cip v).fdf) ∷ []) ∷
     part StreamDataLength 30 (holds 16 (λ v. (cip v).syt) ∷ []) ∷ []
 
--- The table of the format. Of the two format bits of the stream header the first is reserved, which a view shows, and
--- the second says whether `gateway_info` is valid.
+-- The table of an IEC 61883-6 packet. The first of the two format bits of the stream header is reserved, and a view
+-- shows it; the second says whether `gateway_info` is valid.
 abbrev pub iec_layout : Layout Iec
 iec_layout = stream_layout (λ v. v.header)
     (reserved_shown 1 (λ v. v.header.format_bits / 2) ∷ holds 1 (λ v. v.header.format_bits % 2) ∷ [])
@@ -129,19 +131,21 @@ iec_layout = stream_layout (λ v. v.header)
     part FormatFlags 23 (holds 4 (λ v. v.tcode) ∷ holds 4 (λ v. v.sy) ∷ []) ∷
     cip_layout (λ v. v.cip))
 
+-- a reserved bit of an IEC 61883-6 packet is set
 abbrev pub sets_reserved : List ℕ → Bool
 sets_reserved bytes = any_set (reserved_ranges iec_layout) bytes
 
 -- ---- the rows
 
--- The rows that refuse a packet after those that all formats share, in this order: those of the encapsulation, of each
--- quadlet of the CIP header, and of the data blocks.
+-- The rows of the encapsulation, after those that all formats share: the tag is not that of a CIP header; the stated
+-- length is less than a CIP header or more than what follows the stream header.
 abbrev pub carrier_rows : List ℕ → List Row
 carrier_rows bytes =
     row Tag 22 (not (bits 22 0 2 bytes == cip_tag)) ∷
     row StreamDataLength 20
     (nat_lt (bits 20 0 16 bytes) 8 || exceeds 24 (bits 20 0 16 bytes) (length bytes)) ∷ []
 
+-- the rows of the first quadlet of the CIP header, after those of the encapsulation: QI_1, FN, QPC or SPH is not 0
 abbrev pub first_quadlet_rows : List ℕ → List Row
 first_quadlet_rows bytes =
     row Qi1 24 (not (bits 24 0 2 bytes == 0)) ∷
@@ -149,35 +153,40 @@ first_quadlet_rows bytes =
     row Qpc 26 (not (bits 26 2 3 bytes == 0)) ∷
     row Sph 26 (not (bits 26 5 1 bytes == 0)) ∷ []
 
+-- the rows of the second quadlet of the CIP header, after those of the first: QI_2 is not 2, FMT is not audio, or FDF
+-- names neither a rate nor no data
 abbrev pub second_quadlet_rows : List ℕ → List Row
 second_quadlet_rows bytes =
     row Qi2 28 (not (bits 28 0 2 bytes == second_mark)) ∷
     row Fmt 28 (not (bits 28 2 6 bytes == audio_format)) ∷
     row Fdf 29 (nat_lt 6 (bits 29 0 8 bytes) && not (bits 29 0 8 bytes == no_data)) ∷ []
 
--- the bytes of data blocks that bytes tell, and of each
+-- the bytes of all data blocks of a packet, by its stated length and its FDF
 abbrev pub stated_data : List ℕ → ℕ
 stated_data bytes = data_size (bits 29 0 8 bytes) (bits 20 0 16 bytes - 8)
 
+-- the bytes of each data block of a packet, by its DBS
 abbrev pub stated_block : List ℕ → ℕ
 stated_block bytes = block_size (dbs_of (bits 25 0 8 bytes))
 
+-- the row of the data blocks, which comes last: they do not fill the stated length
 abbrev pub block_rows : List ℕ → List Row
 block_rows bytes = row StreamDataLength 20 (not (stated_data bytes % stated_block bytes == 0)) ∷ []
 
+-- the first refusal of a packet by its CIP header or its data blocks
 abbrev pub cip_refusal : List ℕ → Option Refusal
 cip_refusal bytes =
     or_else (first_row (first_quadlet_rows bytes))
     (or_else (first_row (second_quadlet_rows bytes)) (first_row (block_rows bytes)))
 
--- why bytes are no packet of this format
+-- why bytes are no IEC 61883-6 packet that is accepted
 abbrev pub iec_refusal : List ℕ → Option Refusal
 iec_refusal bytes =
     or_else (kind_refusal iec_subtype bytes) (or_else (first_row (carrier_rows bytes)) (cip_refusal bytes))
 
 -- ---- packets
 
--- The bytes spell a packet. Behind the stated length anything may stand.
+-- The bytes spell this IEC 61883-6 packet; anything may follow its stated length.
 pub record SpellsIec (bytes : List ℕ) (v : Iec) : Type 0 where
   pub accepted : iec_refusal bytes ≡ None
   pub fields : Spells iec_layout v bytes
@@ -186,6 +195,7 @@ pub record SpellsIec (bytes : List ℕ) (v : Iec) : Type 0 where
   pub payload : v.payload ≡ take (v.header.data_length - 8) (drop 32 bytes)
   pub reserved : v.reserved ≡ sets_reserved bytes
 
+-- the CIP header that the bytes of a packet spell
 abbrev pub cip_of : List ℕ → Cip
 cip_of bytes = record {
   sid = bits 24 2 6 bytes;
@@ -195,7 +205,7 @@ cip_of bytes = record {
   syt = bits 30 0 16 bytes;
 }
 
--- the one packet that bytes spell, where nothing refuses them
+-- the one IEC 61883-6 packet that bytes spell, if nothing refuses them
 abbrev pub iec_of : List ℕ → Iec
 iec_of bytes = record {
   header = header_of bytes;
@@ -209,11 +219,11 @@ iec_of bytes = record {
   reserved = sets_reserved bytes;
 }
 
--- FDF names a rate or no data
+-- FDF names a sample rate or no data
 abbrev pub IsFdf : ℕ → Type 0
 IsFdf fdf = (fdf ≤ 6) ⊎ (fdf ≡ no_data)
 
--- a packet that can be written: no row refuses it, and its count and its length are those of its payload
+-- an IEC 61883-6 packet that can be written: no row refuses it, and its count and its length are those of its payload
 pub record IsWritableIec (v : Iec) : Type 0 where
   pub subtype : v.header.subtype ≡ iec_subtype
   pub channel : v.channel < 2 ^ 6
@@ -226,10 +236,10 @@ pub record IsWritableIec (v : Iec) : Type 0 where
   pub data_length : v.header.data_length ≡ 8 + length v.payload
   pub count : v.count * block_size v.cip.dbs ≡ data_size v.cip.fdf (length v.payload)
 
--- the packet with every reserved bit 0
+-- an IEC 61883-6 packet with every reserved bit 0
 abbrev pub plain_iec : Iec → Iec
 plain_iec v = record v { header = record v.header { format_bits = v.header.format_bits % 2 }; reserved = false }
 
--- the bytes of a packet, with every reserved bit 0 and nothing after the stated length
+-- the bytes of an IEC 61883-6 packet, with every reserved bit 0 and nothing after the stated length
 abbrev pub iec_spelling : Iec → List ℕ
 iec_spelling v = spelling iec_layout v ++ v.payload

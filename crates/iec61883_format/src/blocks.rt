@@ -23,8 +23,8 @@ pub fn rate_of_fdf(fdf: u8) -> Option<u32>
     })
 }
 
-/// SYT_INTERVAL, of how many data blocks one has a timestamp, at the rate that the code FDF names (IEC 61883-6). `None`
-/// comes for codes above 6.
+/// SYT_INTERVAL, at the rate that the code FDF names: one in this many data blocks has a timestamp (IEC 61883-6).
+/// `None` comes for codes above 6.
 pub fn syt_interval(fdf: u8) -> Option<u32>
     ensures exact { result ≡ interval_of fdf }
     ensures none { IsNone result ↔ (6 < fdf) }
@@ -39,8 +39,8 @@ pub fn syt_interval(fdf: u8) -> Option<u32>
 }
 
 /// The data block, counted from 0, that the timestamp of a packet belongs to: the first whose block count is a multiple
-/// of SYT_INTERVAL, where the packet's first block has the count `dbc`. The packet may have fewer blocks than that.
-/// The interval is 8, 16 or 32.
+/// of SYT_INTERVAL, if the packet's first block has the count `dbc`. The packet may have fewer blocks than that. The
+/// interval is 8, 16 or 32.
 pub fn anchor_index(dbc: u8, interval: u32) -> u32
     requires { IsSytInterval interval }
     ensures exact { result ≡ index_of_anchor dbc interval }

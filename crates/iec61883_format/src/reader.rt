@@ -14,7 +14,7 @@ use avtp_header::{exceeds, read_header_of, subtype};
 /// The FDF of a packet of no data.
 const NO_DATA: u8 = 255;
 
-/// The quadlets of a data block that the byte DBS tells.
+/// The quadlets of a data block, by the byte DBS.
 fn dbs_of(byte: u8) -> u16
     ensures exact { result ≡ quadlets_of byte }
     ensures some { 0 < result }
@@ -83,7 +83,7 @@ fn refused_by_second_quadlet(pdu: &[u8]) -> Option<Refusal>
     None
 }
 
-/// The refusal of data blocks that do not fill the stated length, of so many bytes in blocks of `block` bytes.
+/// The refusal of data blocks of `block` bytes that do not fill their part of the stated length.
 fn refused_by_blocks(pdu: &[u8], data_bytes: u32, block: u32) -> Option<Refusal>
     requires some { 0 < block }
     requires all { data_bytes ≡ stated_data pdu.now }
@@ -167,10 +167,10 @@ fn read_packet(pdu: &[u8]) -> Result<IecView<'_>, Refusal>
 ///
 /// Refused is the first of these, in this order: a field of the stream header that does not lie wholly in the slice; a
 /// subtype other than IEC 61883; a version other than 0; a tag other than 1; a stated length of less than a CIP header,
-/// or of more than what stands there; of the CIP header `qi_1` other than 0, `fn`, `qpc` or `sph` other than 0, `qi_2`
-/// other than 2, another format than audio, an FDF that names neither a rate nor no data; a stated length after the CIP
-/// header that is no multiple of a data block, unless there is no data. Reserved bits may be set, and what follows the
-/// stated length is ignored.
+/// or of more than what follows the stream header; of the CIP header `qi_1` other than 0, `fn`, `qpc` or `sph` other
+/// than 0, `qi_2` other than 2, another format than audio, an FDF that names neither a rate nor no data; a stated
+/// length after the CIP header that is no multiple of a data block, unless there is no data. Reserved bits may be set,
+/// and what follows the stated length is ignored.
 #[inline(always)]
 pub fn read_iec(pdu: &[u8]) -> Result<IecView<'_>, Refusal>
     ensures exact { Reads iec_shape (iec_refusal pdu.now) (iec_of pdu.now) result }

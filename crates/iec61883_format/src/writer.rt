@@ -11,7 +11,7 @@ use avtp_base::Room;
 use avtp_base::octets::write_front;
 use avtp_header::header_bytes;
 
-/// The byte DBS that tells so many quadlets.
+/// The byte DBS of data blocks of this many quadlets.
 fn dbs_byte(dbs: u16) -> u8
     requires { dbs ≤ 256 }
     ensures { result ≡ byte_of_quadlets dbs }
@@ -49,7 +49,7 @@ fn cip_bytes(cip: Cip) -> [u8; 8]
     ]
 }
 
-/// All that stands before the data blocks.
+/// All that comes before the data blocks.
 fn whole_header(view: &IecView<'_>) -> [u8; 32]
     requires { IsWritableIec (iec_shape view.now) }
     ensures spelled { result ≡ spelling iec_layout (iec_shape view.now) }
@@ -65,8 +65,8 @@ fn whole_header(view: &IecView<'_>) -> [u8; 32]
     bytes
 }
 
-/// Writes an IEC 61883-6 packet, with every reserved bit 0, and answers its length. `Room` comes where the slice is
-/// shorter, which is then unchanged.
+/// Writes an IEC 61883-6 packet, with every reserved bit 0, and answers its length. If the slice is shorter it answers
+/// `Room` and leaves the slice unchanged.
 ///
 /// The view is one that `read_iec` could give: its subtype is IEC 61883, its channel and SID at most 63, its codes at
 /// most 15, its data blocks of 1 to 256 quadlets, its FDF at most 6 or 255, and `count` and `data_length` are those of

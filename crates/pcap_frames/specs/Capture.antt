@@ -11,14 +11,14 @@ pub record Record : Type 0 where
   pub orig_len : ℕ
   pub bytes : List ℕ
 
--- The bytes are a file header of the style.
+-- The bytes are a file header of this style.
 pub record IsFileHeader (style : Style) (bytes : List ℕ) : Type 0 where
   pub size : length bytes ≡ 24
   pub magic : style_at bytes ≡ Some style
   pub version_major : number_at style.order 4 2 bytes ≡ 2
   pub network : number_at style.order 20 4 bytes % 65536 ≡ 1
 
--- The bytes spell the record in the style.
+-- The bytes spell this record in this style.
 pub record Spells (style : Style) (r : Record) (bytes : List ℕ) : Type 0 where
   pub size : length bytes ≡ 16 + length r.bytes
   pub arrival : r.arrival ≡ pos (instant style.unit (number_at style.order 0 4 bytes) (number_at style.order 4 4 bytes))
@@ -33,7 +33,7 @@ SpellsAll style [] bytes = bytes ≡ []
 SpellsAll style (r ∷ records) bytes =
     (first : List ℕ) × (rest : List ℕ) × (bytes ≡ first ++ rest) × Spells style r first × SpellsAll style records rest
 
--- The bytes are a capture of the style and the records.
+-- The bytes are a capture in this style, with these records.
 pub record IsCapture (style : Style) (records : List Record) (bytes : List ℕ) : Type 0 where
   pub header : List ℕ
   pub body : List ℕ
@@ -41,8 +41,8 @@ pub record IsCapture (style : Style) (records : List Record) (bytes : List ℕ) 
   pub is_header : IsFileHeader style header
   pub spelled : SpellsAll style records body
 
--- The bytes are a capture of the records, and then the part of a record in which this is the first field that is not
--- whole or that is refused.
+-- The bytes are a capture of these records and then part of another record, whose first field that is cut off or
+-- refused is this one.
 pub record IsRefusedInRecord (bytes : List ℕ) (records : List Record) (refusal : Refusal) : Type 0 where
   pub style : Style
   pub front : List ℕ
@@ -52,21 +52,22 @@ pub record IsRefusedInRecord (bytes : List ℕ) (records : List Record) (refusal
   pub some : 0 < length rest
   pub refused : record_refusal style.order (length front) rest ≡ Some refusal
 
--- the first refusal of the bytes, and the whole records before it
+-- the refusal is by the first field of the bytes that is cut off or refused, and these are the whole records before it
 abbrev pub IsRefused : List ℕ → List Record → Refusal → Type 0
 IsRefused bytes records refusal =
     ((records ≡ []) × (file_refusal bytes ≡ Some refusal)) ⊎ IsRefusedInRecord bytes records refusal
 
--- the bytes hold these whole records, and then end, or this is their first refusal
+-- the bytes are a capture of these records; or, if there is a refusal, it is their first and these are the whole
+-- records before it
 abbrev pub Holds : List ℕ → List Record → Option Refusal → Type 0
 Holds bytes records None = (style : Style) × IsCapture style records bytes
 Holds bytes records (Some refusal) = IsRefused bytes records refusal
 
--- the style of the bytes, once the whole file header stands there and none of its fields is refused
+-- the style of a capture, if its file header is whole and none of its fields is refused
 abbrev pub style_of : List ℕ → Option Style
 style_of bytes = cond (is_none (file_refusal bytes)) (style_at bytes) None
 
--- the record that the bytes spell
+-- the record that the bytes spell, if they spell one
 abbrev pub record_of : Style → List ℕ → Record
 record_of style bytes = record {
   arrival = pos (instant style.unit (number_at style.order 0 4 bytes) (number_at style.order 4 4 bytes));
@@ -74,11 +75,11 @@ record_of style bytes = record {
   bytes = drop 16 bytes;
 }
 
--- how many bytes a record has, by its header
+-- how many bytes the record has that the bytes begin with, by its header
 abbrev pub record_size : Style → List ℕ → ℕ
 record_size style bytes = 16 + number_at style.order 8 4 bytes
 
--- the whole records at the front of the bytes, n at most
+-- the whole records at the front of the bytes, at most n
 abbrev pub records_from : ℕ → Style → List ℕ → List Record
 records_from zero style bytes = []
 records_from (suc n) style bytes =
@@ -86,7 +87,7 @@ records_from (suc n) style bytes =
     then record_of style (take (record_size style bytes) bytes) ∷ records_from n style (drop (record_size style bytes) bytes)
     else []
 
--- the first refusal after n records at most; the bytes begin at `start`
+-- the first refusal among at most n records; the bytes begin at offset `start` of the capture
 abbrev pub refusal_from : ℕ → Style → ℕ → List ℕ → Option Refusal
 refusal_from zero style start bytes = None
 refusal_from (suc n) style start [] = None
@@ -95,19 +96,21 @@ refusal_from (suc n) style start (b ∷ bytes) =
     then refusal_from n style (start + record_size style (b ∷ bytes)) (drop (record_size style (b ∷ bytes)) (b ∷ bytes))
     else record_refusal style.order start (b ∷ bytes)
 
+-- the whole records after a file header of this style, and none if there is no style
 abbrev pub records_behind : Option Style → List ℕ → List Record
 records_behind None bytes = []
 records_behind (Some style) bytes = records_from (length bytes) style (drop 24 bytes)
 
--- the whole records of the bytes, before their first refusal
+-- the whole records of a capture, before its first refusal
 unfoldable pub whole_records : List ℕ → List Record
 whole_records bytes = records_behind (style_of bytes) bytes
 
+-- the first refusal after a file header of this style, or that of the file header if there is no style
 abbrev pub refusal_behind : Option Style → List ℕ → Option Refusal
 refusal_behind None bytes = file_refusal bytes
 refusal_behind (Some style) bytes = refusal_from (length bytes) style 24 (drop 24 bytes)
 
--- the first refusal of the bytes
+-- the first refusal of a capture, by a field that is cut off or whose value is refused
 unfoldable pub first_refusal : List ℕ → Option Refusal
 first_refusal bytes = refusal_behind (style_of bytes) bytes
 
@@ -132,8 +135,8 @@ record_spelling style r =
     ++ number_bytes style.order 4 r.orig_len
     ++ r.bytes
 
--- What the canonical spelling can say: an instant of 32 bits of seconds, in whole units of the fraction, and at most
--- 262,144 bytes.
+-- A record that the canonical spelling can say: its instant has 32 bits of seconds and is a whole number of units of
+-- the fraction, and it has at most 262,144 bytes.
 pub record HasSpelling (style : Style) (r : Record) : Type 0 where
   pub begun : pos 0 ≤ℤ r.arrival
   pub ended : r.arrival <ℤ pos (2 ^ 32 * 1000000000)

@@ -7,7 +7,7 @@ use Rattle.avtp_base.specs.Layout.{Layout, part, holds, Spells, first_short, spe
 use Rattle.pcap_frames.specs.declared.frame.FrameView.{FrameView}
 use Rattle.pcap_frames.specs.declared.frame.Tag.{Tag}
 
--- a frame, apart from where its payload lies in memory
+-- an Ethernet frame, apart from where its payload lies in memory
 pub record Frame : Type 0 where
   pub dst : ℕ
   pub src : ℕ
@@ -16,6 +16,7 @@ pub record Frame : Type 0 where
   pub start : ℕ
   pub payload : List ℕ
 
+-- the frame that a view shows, apart from where its payload lies in memory
 abbrev pub frame_shape : FrameView → Frame
 frame_shape v = record {
   dst = v.dst;
@@ -26,15 +27,15 @@ frame_shape v = record {
   payload = v.payload.now;
 }
 
--- the EtherType that says that a tag follows
+-- the EtherType that says that a VLAN tag follows (IEEE 802.1Q)
 abbrev pub tag_ethertype : ℕ
 tag_ethertype = 0x8100
 
--- the tag of a frame that has one
+-- the tag of a frame, and zeros if it has none
 abbrev pub tag_of : Frame → Tag
 tag_of v = unwrap_or v.tag (record { pcp = 0; dei = false; vid = 0 })
 
--- the header without a tag, and with one
+-- the table of the header of a frame, without a tag and with one
 abbrev pub frame_layout : Bool → Layout Frame
 frame_layout false =
     part Destination 0 (holds 48 (λ v. v.dst) ∷ []) ∷
@@ -50,19 +51,20 @@ frame_layout true =
     holds 12 (λ v. (tag_of v).vid) ∷ []) ∷
     part Ethertype 16 (holds 16 (λ v. v.ethertype) ∷ []) ∷ []
 
--- the length of the header
+-- the bytes of the header of a frame, without a tag and with one
 abbrev pub header_len : Bool → ℕ
 header_len false = 14
 header_len true = 18
 
+-- the frame has a VLAN tag: the EtherType at byte 12 is that of a tag
 abbrev pub is_tagged : List ℕ → Bool
 is_tagged bytes = bits 12 0 16 bytes == tag_ethertype
 
--- why bytes are no frame: a field of the header does not lie wholly in them
+-- why bytes are no frame: a field of the header is cut off
 abbrev pub frame_refusal : List ℕ → Option Refusal
 frame_refusal bytes = first_short (frame_layout (is_tagged bytes)) (length bytes)
 
--- the bytes spell a frame
+-- the bytes spell this frame
 pub record SpellsFrame (bytes : List ℕ) (v : Frame) : Type 0 where
   pub accepted : frame_refusal bytes ≡ None
   pub tagged : is_some v.tag ≡ is_tagged bytes
@@ -70,10 +72,11 @@ pub record SpellsFrame (bytes : List ℕ) (v : Frame) : Type 0 where
   pub start : v.start ≡ header_len (is_some v.tag)
   pub payload : v.payload ≡ drop v.start bytes
 
+-- the VLAN tag that the bytes of a tagged frame spell
 abbrev pub tag_in : List ℕ → Tag
 tag_in bytes = record { pcp = bits 14 0 3 bytes; dei = is_set 14 3 bytes; vid = bits 14 4 12 bytes }
 
--- the one frame that bytes spell, where nothing refuses them
+-- the one frame that bytes spell, if nothing refuses them
 abbrev pub frame_of : List ℕ → Frame
 frame_of bytes =
     let tagged = is_tagged bytes in
@@ -86,7 +89,7 @@ frame_of bytes =
       payload = drop (header_len tagged) bytes;
     }
 
--- a frame that can be written: its fields fit their bits, and without a tag its EtherType says so
+-- a frame that can be written: its fields fit their bits, and the EtherType of an untagged one is not that of a tag
 pub record IsWritableFrame (v : Frame) : Type 0 where
   pub dst : v.dst < 2 ^ 48
   pub src : v.src < 2 ^ 48
@@ -94,7 +97,7 @@ pub record IsWritableFrame (v : Frame) : Type 0 where
   pub tag : IfSome v.tag (λ t. (t.pcp < 2 ^ 3) × (t.vid < 2 ^ 12))
   pub untagged : IfNone v.tag (v.ethertype ≢ tag_ethertype)
 
--- the frame with the start that its header has
+-- a frame with the start of its payload that its header gives
 abbrev pub plain_frame : Frame → Frame
 plain_frame v = record v { start = header_len (is_some v.tag) }
 

@@ -1,5 +1,5 @@
--- The layout of a capture: the fields of its file header and of a record, where they stand, and which values are
--- refused (draft-ietf-opsawg-pcap, "PCAP Capture File Format", sections 4 and 5).
+-- The layout of a capture: the fields of its file header and of a record, at which offsets they are, and which values
+-- are refused (draft-ietf-opsawg-pcap, "PCAP Capture File Format", sections 4 and 5).
 use Rattle.std.specs.Prelude.{ℕ, ◌+◌, ◌*◌, ◌%◌, ◌^◌, ℤ, pos, ◌≤ℤ◌, Bool, true, false, cond, not, nat_lt, nat_eq, if◌then◌else◌, List, [], ◌∷◌, length, drop, Option, Some, None, is_none}
 use Rattle.std.specs.Option.{option_or}
 use Rattle.byteorder.specs.Endian.{big_number, little_number, big_bytes, little_bytes}
@@ -12,22 +12,22 @@ use Rattle.pcap_frames.specs.declared.style.Unit as units
 use Rattle.pcap_frames.specs.declared.style.Unit.TheVariants.{Micro, Nano}
 use Rattle.pcap_frames.specs.declared.style.Style.{Style}
 
--- the number of `size` bytes at an offset
+-- the number that `size` bytes at an offset spell in this byte order
 unfoldable pub number_at : Order → ℕ → ℕ → List ℕ → ℕ
 number_at Little offset size bytes = little_number size (drop offset bytes)
 number_at Big offset size bytes = big_number size (drop offset bytes)
 
--- the lowest `size` bytes of a number
+-- the lowest `size` bytes of a number, in this byte order
 unfoldable pub number_bytes : Order → ℕ → ℕ → List ℕ
 number_bytes Little size n = little_bytes size n
 number_bytes Big size n = big_bytes size n
 
--- the magic number of a capture, in its byte order
+-- the magic number of a capture with this unit, in the byte order of the capture
 abbrev pub magic_of : units.Unit → ℕ
 magic_of Micro = 0xA1B2C3D4
 magic_of Nano = 0xA1B23C4D
 
--- the style that a magic number tells, where its four bytes are read as little-endian
+-- the style that a magic number gives whose four bytes are read as little-endian
 abbrev pub style_of_magic : ℕ → Option Style
 style_of_magic n =
     if nat_eq n 0xA1B2C3D4 then Some (record { order = Little; unit = Micro })
@@ -36,10 +36,11 @@ style_of_magic n =
     else if nat_eq n 0x4D3CB2A1 then Some (record { order = Big; unit = Nano })
     else None
 
+-- the style that the magic number at the front of the bytes gives, if it is one
 unfoldable pub style_at : List ℕ → Option Style
 style_at bytes = style_of_magic (number_at Little 0 4 bytes)
 
--- the byte order that the magic number tells
+-- the byte order of a style, and little-endian if there is none
 abbrev pub order_of : Option Style → Order
 order_of None = Little
 order_of (Some style) = style.order
@@ -51,6 +52,7 @@ pub record Row : Type 0 where
   pub size : ℕ
   pub refuses : ℕ → Bool
 
+-- the row of a field at this offset, with this size, which refuses these numbers
 abbrev pub row : Field → ℕ → ℕ → (ℕ → Bool) → Row
 row field offset size refuses = record { field = field; offset = offset; size = size; refuses = refuses }
 
@@ -58,11 +60,11 @@ row field offset size refuses = record { field = field; offset = offset; size = 
 abbrev pub never : ℕ → Bool
 never n = false
 
--- The magic number, which is read as little-endian. It tells the byte order of all other fields.
+-- The magic number, which is read as little-endian and gives the byte order of all other fields.
 abbrev pub magic_number : List Row
 magic_number = row Magic 0 4 (λ n. is_none (style_of_magic n)) ∷ []
 
--- the rest of the file header, which has 24 bytes
+-- the fields of the file header after its magic number, up to its 24 bytes
 abbrev pub file_header : List Row
 file_header =
     row VersionMajor 4 2 (λ n. not (nat_eq n 2))
@@ -73,7 +75,7 @@ file_header =
     ∷ row Network 20 4 (λ n. not (nat_eq (n % 65536) 1))
     ∷ []
 
--- a record's header, which has 16 bytes
+-- the fields of a record's header, which has 16 bytes
 abbrev pub record_header : List Row
 record_header =
     row TsSec 0 4 never
@@ -82,12 +84,12 @@ record_header =
     ∷ row OrigLen 12 4 never
     ∷ []
 
--- the bytes of a record whose header tells their number
+-- the n bytes of a record that follow its header
 abbrev pub packet_bytes : ℕ → List Row
 packet_bytes n = row PacketBytes 16 n never ∷ []
 
--- The first field of a table that is not whole at the end of the bytes, or whose number is refused. The bytes begin
--- at the offset `start` of the capture.
+-- The refusal by the first field of a table that the bytes do not hold wholly, or whose number is refused. The bytes
+-- begin at offset `start` of the capture.
 abbrev pub first_refused : Order → ℕ → List Row → List ℕ → Option Refusal
 first_refused order start [] bytes = None
 first_refused order start (r ∷ rows) bytes =
@@ -95,27 +97,28 @@ first_refused order start (r ∷ rows) bytes =
     else if r.refuses (number_at order r.offset r.size bytes) then Some (record { field = r.field; at = start + r.offset; short = false })
     else first_refused order start rows bytes
 
--- the same for a file header
+-- the first field of a file header that is cut off or whose number is refused
 unfoldable pub file_refusal : List ℕ → Option Refusal
 file_refusal bytes =
     option_or (first_refused Little 0 magic_number bytes) (first_refused (order_of (style_at bytes)) 0 file_header bytes)
 
--- the same for a record that begins at `start`
+-- the first field of a record that is cut off or whose number is refused; the record begins at offset `start` of the
+-- capture
 unfoldable pub record_refusal : Order → ℕ → List ℕ → Option Refusal
 record_refusal order start bytes =
     option_or (first_refused order start record_header bytes) (first_refused order start (packet_bytes (number_at order 8 4 bytes)) bytes)
 
--- a refusal that stands however the bytes go on: its field is whole
+-- a refusal that stays whatever bytes follow, since its field is whole
 abbrev pub certain : Option Refusal → Option Refusal
 certain None = None
 certain (Some refusal) = cond refusal.short None (Some refusal)
 
--- nanoseconds in one unit of the fraction
+-- how many nanoseconds one unit of the fraction has
 abbrev pub scale : units.Unit → ℕ
 scale Micro = 1000
 scale Nano = 1
 
--- the instant of a record, in nanoseconds: a fraction of a second or more is added as it stands
+-- the instant of a record in nanoseconds; a fraction of a second or more is added as it is
 abbrev pub instant : units.Unit → ℕ → ℕ → ℕ
 instant unit seconds fraction = seconds * 1000000000 + fraction * scale unit
 

@@ -4,10 +4,10 @@ use Rattle.std.specs.List.{flat_map}
 use Rattle.pcap_frames.specs.declared.pieces.KeptRecord.{KeptRecord}
 use Rattle.pcap_frames.specs.Capture.{Record}
 
--- what a record holds, apart from where it lies in memory
+-- the record that an owned one holds, apart from where it lies in memory
 abbrev pub kept : KeptRecord → Record
 kept r = record { arrival = r.arrival; orig_len = r.orig_len; bytes = r.bytes }
 
--- the pieces, one after another
+-- the bytes of all pieces, one piece after another
 abbrev pub joined : List (List ℕ) → List ℕ
 joined pieces = flat_map (λ piece. piece) pieces

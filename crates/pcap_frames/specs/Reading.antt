@@ -1,4 +1,4 @@
--- What a reader stands for.
+-- What a reader means: the bytes that it has taken, and the records that it has released.
 use Rattle.std.specs.Prelude.{◌≡◌, ℕ, ◌+◌, ◌<◌, ◌≤◌, false, cond, ◌⊎◌, List, [], ◌++◌, length, IsSome, Option, Some, None, is_none, option_to_list}
 use Rattle.avtp_base.specs.declared.refusal.Refusal.{Refusal}
 use Rattle.pcap_frames.specs.declared.style.Order.{Order}
@@ -7,14 +7,15 @@ use Rattle.pcap_frames.specs.declared.style.Style.{Style}
 use Rattle.pcap_frames.specs.Layout.{number_at, certain, file_refusal, record_refusal}
 use Rattle.pcap_frames.specs.Capture.{Record, IsCapture, IsRefused, record_of, style_of}
 
--- A reader: the style, where the file header was accepted; the offset of what is being read, and what has come of
--- it; and the refusal.
+-- A reader: the style, once the file header was accepted; the offset of what is being read, and what has come of it;
+-- and the refusal.
 pub record Reading : Type 0 where
   pub style : Option Style
   pub start : ℕ
   pub part : List ℕ
   pub refusal : Option Refusal
 
+-- a reader that has taken nothing yet
 abbrev pub nothing_read : Reading
 nothing_read = record { style = None; start = 0; part = []; refusal = None }
 
@@ -22,14 +23,15 @@ nothing_read = record { style = None; start = 0; part = []; refusal = None }
 abbrev pub taken : Reading → ℕ
 taken r = r.start + length r.part
 
--- what a record shows, apart from where it lies in memory
+-- the record that a view shows, apart from where it lies in memory
 abbrev pub shown : RecordView → Record
 shown view = record { arrival = view.arrival; orig_len = view.orig_len; bytes = view.bytes.now }
 
--- the record that the bytes spell, where they are a whole one
+-- the record that the bytes spell, if they are a whole one and nothing in it is refused
 abbrev pub whole_record : Style → ℕ → List ℕ → Option Record
 whole_record style start bytes = cond (is_none (record_refusal style.order start bytes)) (Some (record_of style bytes)) None
 
+-- the record that a reader in this state holds: what has come, if it is a whole record and nothing is refused
 abbrev pub held_by : Option Refusal → Option Style → ℕ → List ℕ → Option Record
 held_by (Some refusal) style start part = None
 held_by None None start part = None
@@ -44,43 +46,47 @@ pub record IsPart (order : Order) (start : ℕ) (part : List ℕ) : Type 0 where
   pub accepted : certain (record_refusal order start part) ≡ None
   pub within : (length part ≤ 16) ⊎ (length part ≤ 16 + number_at order 8 4 part)
 
--- the same for a file header, which is not whole yet
+-- What has come of a file header: it is the front of the capture, nothing in it is refused, and it is not whole yet.
 pub record IsHeaderPart (start : ℕ) (part : List ℕ) : Type 0 where
   pub begins : start ≡ 0
   pub accepted : certain (file_refusal part) ≡ None
   pub partial : length part < 24
 
--- what a reader keeps true of itself
+-- what is always true of a reader: a refusal is by a field that is whole; otherwise what has come is part of a file
+-- header, or of a record once there is a style
 abbrev pub IsReading : Option Refusal → Option Style → ℕ → List ℕ → Type 0
 IsReading (Some refusal) style start part = refusal.short ≡ false
 IsReading None None start part = IsHeaderPart start part
 IsReading None (Some style) start part = IsPart style.order start part
 
--- The bytes are a capture of the records, and then this part, which begins at `start`.
+-- The bytes are a capture of these records and then this part, which begins at offset `start`.
 pub record Follows (style : Style) (start : ℕ) (part bytes : List ℕ) (records : List Record) : Type 0 where
   pub front : List ℕ
   pub whole : bytes ≡ front ++ part
   pub capture : IsCapture style records front
   pub begins : length front ≡ start
 
+-- The bytes that a reader in this state has taken, and the records that it has released: if it is refused, this is the
+-- first refusal of the bytes; without a style, the bytes are what has come of the file header; otherwise they are a
+-- capture of the records and then what has come of the next.
 abbrev pub StandsFor : Option Refusal → Option Style → ℕ → List ℕ → List ℕ → List Record → Type 0
 StandsFor (Some refusal) style start part bytes records = IsRefused bytes records refusal
 StandsFor None None start part bytes records = (records ≡ []) × (bytes ≡ part)
 StandsFor None (Some style) start part bytes records = Follows style start part bytes records
 
--- The reader has taken these bytes, and of their records it has given up these, in order.
+-- The reader has taken these bytes, and of their records it has released these, in order.
 pub record HasRead (r : Reading) (bytes : List ℕ) (records : List Record) : Type 0 where
   pub style : r.style ≡ style_of bytes
   pub stands : StandsFor r.refusal r.style r.start r.part bytes records
   pub reading : IsReading r.refusal r.style r.start r.part
 
--- whatever the reader had read before, it has read these bytes too now, and no record was given up
+-- whatever the reader had read before, it has read these bytes too now, and released no record
 abbrev pub GoesOn : Reading → List ℕ → Reading → Type 0
 GoesOn old more new = (bytes : List ℕ) (records : List Record) → HasRead old bytes records → HasRead new (bytes ++ more) records
 
 -- ---- a record that is lent
 
--- the reader with these bytes taken of what is being read
+-- the reader with these bytes as what has come of what is being read
 abbrev pub with_part : Reading → List ℕ → Reading
 with_part r bytes = record r { part = bytes }
 
@@ -90,8 +96,8 @@ pub record IsNext (r : Reading) (bytes : List ℕ) : Type 0 where
   pub reading : IsReading r.refusal r.style r.start bytes
   pub whole : IsSome (held (with_part r bytes))
 
--- What lending does with the bytes of a record: whatever the reader had read before, it has read these bytes too now, and
--- given up the record that they are; and it holds none.
+-- The reader went past a record of these bytes, which was lent: whatever it had read before, it has read these bytes
+-- too now and released the record that they are, and it holds none.
 pub record Passes (old : Reading) (bytes : List ℕ) (new : Reading) : Type 0 where
   pub read : (before : List ℕ) (records : List Record) → HasRead old before records → HasRead new (before ++ bytes) (records ++ option_to_list (held (with_part old bytes)))
   pub counted : taken new ≡ taken old + length bytes

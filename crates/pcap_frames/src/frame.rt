@@ -29,7 +29,7 @@ pub struct FrameView<'a> {
     /// The source address, 48 bits.
     pub src: u64,
     pub tag: Option<Tag>,
-    /// The EtherType: after the tag where there is one.
+    /// The EtherType: after the tag if there is one.
     pub ethertype: u16,
     /// The payload's offset in the frame, 14 or 18.
     pub start: usize,
@@ -121,8 +121,8 @@ fn read_either(frame: &[u8]) -> Result<FrameView<'_>, Refusal>
     Ok(read_tagged(frame))
 }
 
-/// Reads an Ethernet frame: one tag at most, and all that follows the header as payload. Refused is only the first field of
-/// the header that does not lie wholly in the slice.
+/// Reads an Ethernet frame: at most one tag, and all that follows the header as payload. It is refused only by the
+/// first field of the header that does not lie wholly in the slice.
 #[inline(always)]
 pub fn read_frame(frame: &[u8]) -> Result<FrameView<'_>, Refusal>
     ensures exact { Reads frame_shape (frame_refusal frame.now) (frame_of frame.now) result }
@@ -198,10 +198,11 @@ fn tagged_header(frame: &FrameView<'_>, tag: Tag) -> [u8; 18]
     ]
 }
 
-/// Writes an Ethernet frame, and answers its length. `Room` comes where the slice is shorter, which is then unchanged.
+/// Writes an Ethernet frame, and answers its length. If the slice is shorter it answers `Room` and leaves the slice
+/// unchanged.
 ///
-/// The addresses are below 2^48, the tag's priority is at most 7 and its VLAN at most 4095, and without a tag the EtherType
-/// is not 0x8100, which would announce one. The view's `start` is not read.
+/// The addresses are below 2^48, the tag's priority is at most 7 and its VLAN at most 4095, and without a tag the
+/// EtherType is not 0x8100, which would announce one. The view's `start` is not read.
 pub fn write_frame(out: &mut [u8], frame: &FrameView<'_>) -> Result<usize, Room>
     requires { IsWritableFrame (frame_shape frame.now) }
     ensures written { Writes (frame_spelling (frame_shape frame.now)) out.old out.new result }

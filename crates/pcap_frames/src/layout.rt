@@ -1,4 +1,4 @@
-//! The fields of a capture: where they stand, how their numbers are spelled, and which values are refused
+//! The fields of a capture: at which offsets they are, how their numbers are spelled, and which values are refused
 //! (draft-ietf-opsawg-pcap, "PCAP Capture File Format", sections 4 and 5).
 
 ghost use Rattle.std.specs.Prelude.{◌≡◌, ◌+◌, ◌<◌, ◌≤◌, ◌^◌, ℕ, length, pos, true, false, None, Some, IfSome, IsSome};
@@ -25,12 +25,12 @@ pub const MAGIC_MICRO: u32 = 0xA1B2_C3D4;
 /// The magic number of a capture that counts nanoseconds.
 pub const MAGIC_NANO: u32 = 0xA1B2_3C4D;
 
-/// The same two numbers, where they are read in the other byte order.
+/// The two magic numbers, read in the other byte order.
 const SWAPPED_MICRO: u32 = 0xD4C3_B2A1;
 
 const SWAPPED_NANO: u32 = 0x4D3C_B2A1;
 
-/// A field that is not whole at the end of the bytes.
+/// The refusal of a field that the end of the bytes cuts off.
 fn short(field: Field, at: u64) -> Option<Refusal>
     ensures { result ≡ Some (record { field = field; at = at; short = true }) }
 {
@@ -41,7 +41,7 @@ fn short(field: Field, at: u64) -> Option<Refusal>
     })
 }
 
-/// A field whose value is refused.
+/// The refusal of a field for its value.
 fn refused(field: Field, at: u64) -> Option<Refusal>
     ensures { result ≡ Some (record { field = field; at = at; short = false }) }
 {
@@ -76,12 +76,13 @@ pub fn u32_at(order: Order, bytes: &[u8], offset: usize) -> u32
     }
 }
 
-/// The style that the magic number at the front tells.
+/// The style that the magic number at the front gives.
 #[tactic(auto, unfolding(crate::specs::Layout::style_at))]
 pub fn style_at(header: &[u8]) -> Option<Style>
     requires { 4 ≤ length header.now }
     ensures { result ≡ style_of_bytes header.now }
 {
+    // Four numbers are compared with one little-endian reading, which is the same as reading it in either byte order.
     let (order, unit) = match u32_at(Order::Little, header, 0) {
         MAGIC_MICRO => (Order::Little, Unit::Micro),
         MAGIC_NANO => (Order::Little, Unit::Nano),
@@ -92,7 +93,7 @@ pub fn style_at(header: &[u8]) -> Option<Style>
     Some(Style { order, unit })
 }
 
-/// The first field of the file header that is not whole at the end of these bytes, or whose value is refused.
+/// The first field of the file header that the end of these bytes cuts off, or whose value is refused.
 #[tactic(auto, unfolding(crate::specs::Layout::file_refusal, crate::specs::Layout::style_at))]
 pub fn file_refusal(header: &[u8]) -> Option<Refusal>
     ensures { result ≡ refusal_of_file header.now }
@@ -106,7 +107,8 @@ pub fn file_refusal(header: &[u8]) -> Option<Refusal>
     }
 }
 
-/// The same for the fields after the magic number.
+/// The first field of the file header after the magic number that the end of these bytes cuts off, or whose value is
+/// refused.
 fn rest_refusal(order: Order, header: &[u8]) -> Option<Refusal>
     ensures { result ≡ first_refused order 0 file_header header.now }
 {
@@ -132,8 +134,8 @@ fn rest_refusal(order: Order, header: &[u8]) -> Option<Refusal>
     }
 }
 
-/// The first field of a record that is not whole at the end of these bytes, or whose value is refused. The record
-/// begins at an offset of the capture.
+/// The first field of a record that the end of these bytes cuts off, or whose value is refused. The record begins at an
+/// offset of the capture.
 #[tactic(auto, unfolding(crate::specs::Layout::record_refusal))]
 pub fn record_refusal(order: Order, start: u64, bytes: &[u8]) -> Option<Refusal>
     requires { start < 2 ^ 63 }
@@ -162,7 +164,7 @@ pub fn record_refusal(order: Order, start: u64, bytes: &[u8]) -> Option<Refusal>
     None
 }
 
-/// The size of the record that the bytes begin with, where it lies whole in them and nothing in it is refused.
+/// The size of the record that the bytes begin with, if it lies whole in them and nothing in it is refused.
 #[tactic(auto, unfolding(crate::specs::Layout::record_refusal))]
 pub fn whole_size(order: Order, bytes: &[u8]) -> Option<usize>
     ensures size { IfSome result (λ size. size ≡ 16 + number_at order 8 4 bytes.now) }
@@ -181,7 +183,7 @@ pub fn whole_size(order: Order, bytes: &[u8]) -> Option<usize>
     Some(size)
 }
 
-/// A refusal that stands however the bytes go on: its field is whole.
+/// A refusal that stays whatever bytes follow, since its field is whole.
 pub fn certain(refusal: Option<Refusal>) -> Option<Refusal>
     ensures { result ≡ certain_of refusal }
 {
@@ -191,7 +193,7 @@ pub fn certain(refusal: Option<Refusal>) -> Option<Refusal>
     }
 }
 
-/// The instant of a record, in nanoseconds: the seconds and the fraction as they stand.
+/// The instant of a record, in nanoseconds: the seconds and the fraction as they are.
 pub fn arrival_of(unit: Unit, seconds: u32, fraction: u32) -> i64
     ensures instant { result ≡ pos (instant unit seconds fraction) }
     ensures time { IsRecordTime result }

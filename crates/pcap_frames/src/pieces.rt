@@ -24,11 +24,11 @@ pub struct KeptRecord {
 /// What a capture holds.
 #[derive(Debug, Drop)]
 pub struct Contents {
-    /// The style, where the file header is whole and accepted.
+    /// The style, if the file header is whole and accepted.
     pub style: Option<Style>,
     /// The whole records before the refusal, in order.
     pub records: Vec<KeptRecord>,
-    /// The first field that is not whole or that is refused.
+    /// The first field that is cut off or refused.
     pub refusal: Option<Refusal>,
 }
 

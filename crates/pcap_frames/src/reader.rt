@@ -18,16 +18,16 @@ use std::marker::Model;
 /// length, and holds one record at a time: feed a piece until all of it is taken, and look at the held record and
 /// release it after each call.
 ///
-/// A record that lies whole in a piece need not be copied: where `whole_ahead` finds one, `lend` shows it where it lies,
-/// and `pass` goes past it, in the place of `feed`, `held` and `release`.
+/// A record that lies whole in a piece need not be copied: if `whole_ahead` finds one, `lend` shows it in the piece,
+/// and `pass` goes past it, instead of `feed`, `held` and `release`.
 #[derive(Debug, Drop)]
 pub struct Reader {
     style: Option<Style>,
     /// The offset in the capture of the file header or the record that is being read.
     start: u64,
-    /// What has come of it.
+    /// What has come of it: a record's header and its bytes share this buffer.
     part: Vec<u8>,
-    /// Whether that is a whole record.
+    /// Whether `part` is a whole record.
     whole: bool,
     refusal: Option<Refusal>,
 }
@@ -66,9 +66,9 @@ impl Reader {
 
     /// Takes bytes up to the end of one record or of the piece, and answers how many.
     ///
-    /// A reader that is not refused answers `Ok(0)` exactly where the piece is empty or a whole record is held.
-    /// The refusal is the capture's first, and comes as soon as the bytes so far show it; from then on every
-    /// `feed` and every `finish` answers it.
+    /// A reader that is not refused answers `Ok(0)` exactly if the piece is empty or a whole record is held. The
+    /// refusal is the capture's first, and comes as soon as the bytes so far show it; from then on every `feed` and
+    /// every `finish` answers it, no more bytes are taken, and the piece that was given counts as taken whole.
     ///
     /// At most 2^62 bytes may be taken in all, the piece among them.
     pub fn feed(&mut self, piece: &[u8]) -> Result<usize, Refusal>
@@ -97,7 +97,7 @@ impl Reader {
         Ok(header + record)
     }
 
-    /// Takes bytes up to the end of the file header, where that is still awaited.
+    /// Takes bytes up to the end of the file header, if that is still awaited.
     fn open(&mut self, piece: &[u8]) -> Result<usize, Refusal>
         requires accepted { self.old.refusal ≡ None }
         requires bounded { taken self.old + length piece.now ≤ 2 ^ 62 }
@@ -228,7 +228,7 @@ impl Reader {
         self.style
     }
 
-    /// The record that was taken last, where it is whole and was not released.
+    /// The record that was taken last, if it is whole and was not released.
     #[tactic(auto, using(crate::proofs::Fields::record_whole))]
     pub fn held(&self) -> Option<RecordView<'_>>
         ensures exact { option_map shown result ≡ held self.now }
@@ -259,9 +259,9 @@ impl Reader {
         true
     }
 
-    /// The size of the next record, where it lies whole at the front of the piece and nothing of it was taken yet.
+    /// The size of the next record, if it lies whole at the front of the piece and nothing of it was taken yet.
     ///
-    /// None comes only where no such record lies there: the file header is still awaited, some bytes of the record were
+    /// It is None only if there is no such record: the file header is still awaited, some bytes of the record were
     /// taken, a field is refused, or the record goes on after the piece. Then the piece is to be fed.
     pub fn whole_ahead(&self, piece: &[u8]) -> Option<usize>
         ensures within { IfSome result (λ size. size ≤ length piece.now) }
@@ -276,7 +276,7 @@ impl Reader {
         layout::whole_size(style.order, piece)
     }
 
-    /// The next record, where it lies: these are its bytes, header and all.
+    /// The next record, in the piece: these are its bytes, header and all.
     pub fn lend<'a>(&self, bytes: &'a [u8]) -> RecordView<'a>
         requires { IsNext self.now bytes.now }
         ensures exact { held (with_part self.now bytes.now) ≡ Some (shown result) }
@@ -302,8 +302,8 @@ impl Reader {
 
     /// Whether the bytes so far are a whole capture: a file header and whole records.
     ///
-    /// Otherwise it answers the earlier refusal, or the field that holds the first missing byte, with `short`. It
-    /// changes nothing: bytes may follow.
+    /// Otherwise it answers the earlier refusal, or the field that holds the first missing byte, with `short`. A record
+    /// that is held counts as whole. It changes nothing: bytes may follow.
     pub fn finish(&self) -> Result<(), Refusal>
         ensures exact { (bytes : List ℕ) (records : List Record) → HasRead self.now bytes records → Holds bytes (records ++ option_to_list (held self.now)) (result_err result) }
         ensures records { (bytes : List ℕ) (records : List Record) → HasRead self.now bytes records → records ++ option_to_list (held self.now) ≡ whole_records bytes }
@@ -316,7 +316,7 @@ impl Reader {
         }
     }
 
-    /// The first refusal of the capture, where it ends with the bytes so far.
+    /// The first refusal of the capture, if it ends with the bytes so far.
     fn missing(&self) -> Option<Refusal>
         ensures { result ≡ ending self.now }
     {

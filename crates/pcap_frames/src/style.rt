@@ -14,7 +14,7 @@ pub enum Unit {
     Nano,
 }
 
-/// How a capture is spelled: its magic number tells both.
+/// How a capture is spelled: its magic number gives both.
 #[derive(Clone, Copy, Debug, PartialEq, Eq)]
 pub struct Style {
     pub order: Order,
@@ -24,7 +24,7 @@ pub struct Style {
 /// A record of a capture.
 #[derive(Clone, Copy, Debug)]
 pub struct RecordView<'a> {
-    /// When the frame was captured, in nanoseconds: seconds and fraction as they stand.
+    /// When the frame was captured, in nanoseconds: seconds and fraction as they are.
     pub arrival: i64,
     /// The length in bytes of the frame on the wire.
     pub orig_len: u32,

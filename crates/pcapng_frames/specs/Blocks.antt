@@ -20,9 +20,9 @@ use Rattle.pcapng_frames.specs.Fields.{kind_of, order_of_magic, padded, Row, row
 -- A place in a capture: what comes next there, and what the bytes before it say.
 --
 -- `order` is the byte order of the section, or None before the first; `interfaces` are those that were described in it;
--- `start` is the offset of the block, and `total` its total length. In an interface description, `interface` is what its
--- options say so far, and `left` is how many bytes of options are left. Before the trailer of a packet, `packet`
--- is the packet.
+-- `start` is the offset of the block, and `total` its total length. In an interface description, `interface` is what
+-- its options say so far, and `left` is how many bytes of options are left. Before the trailer of a packet, `packet` is
+-- the packet.
 pub record Place : Type 0 where
   pub stage : Stage
   pub order : Option Order
@@ -33,33 +33,37 @@ pub record Place : Type 0 where
   pub left : ℕ
   pub packet : Option Record
 
+-- the byte order of a section, and little-endian before the first section
 abbrev pub order_or_little : Option Order → Order
 order_or_little None = Little
 order_or_little (Some order) = order
 
--- the kind of the block at a place
+-- the kind of the block that the bytes begin with
 abbrev pub kind_at : Option Order → List ℕ → Kind
 kind_at order bytes = kind_of (number_at (order_or_little order) 0 4 bytes)
 
--- the byte order of a block: a section header has its own
+-- the byte order of the block that the bytes begin with; a section header has its own
 abbrev pub order_at : Kind → Option Order → List ℕ → Order
 order_at kind.Section order bytes = order_or_little (order_of_magic (number_at Little 8 4 bytes))
 order_at kind.Interface order bytes = order_or_little order
 order_at kind.Packet order bytes = order_or_little order
 order_at kind.Other order bytes = order_or_little order
 
+-- a block of this kind is a section header
 abbrev pub is_section : Kind → Bool
 is_section kind.Section = true
 is_section kind.Interface = false
 is_section kind.Packet = false
 is_section kind.Other = false
 
+-- a block of this kind is an interface description
 abbrev pub is_interface : Kind → Bool
 is_interface kind.Section = false
 is_interface kind.Interface = true
 is_interface kind.Packet = false
 is_interface kind.Other = false
 
+-- the fields that are judged in a block of this kind, after its type
 abbrev pub kind_rows : Kind → Order → List Interface → List ℕ → List Row
 kind_rows kind.Section order interfaces bytes =
     row ByteOrderMagic 8 12 (is_none (order_of_magic (number_at Little 8 4 bytes))) ∷ section_rows order bytes
@@ -67,65 +71,72 @@ kind_rows kind.Interface order interfaces bytes = interface_rows order (length i
 kind_rows kind.Packet order interfaces bytes = packet_rows order interfaces bytes
 kind_rows kind.Other order interfaces bytes = other_rows order bytes
 
--- the first block of a capture is no section header
+-- a block comes before the first section header and is none itself
 abbrev pub is_misplaced : Option Order → Kind → Bool
 is_misplaced order k = is_none order && not (is_section k)
 
--- the fields of a block; the first one is a section header
+-- the fields that are judged in a block; the first block of a capture has to be a section header
 abbrev pub block_rows : Kind → Option Order → List Interface → List ℕ → List Row
 block_rows k order interfaces bytes =
     row BlockType 0 4 (is_misplaced order k) ∷ kind_rows k (order_at k order bytes) interfaces bytes
 
--- the first refused field of a block that stands in these bytes
+-- the first refused field of the block that the bytes begin with, among those that the bytes hold
 unfoldable pub block_refused : Option Order → List Interface → ℕ → List ℕ → Option Refusal
 block_refused order interfaces start bytes = first_refused start (length bytes) (block_rows (kind_at order bytes) order interfaces bytes)
 
--- the same of an option, where so many bytes of options are left
+-- the first refused field of the option that the bytes begin with, among those that the bytes hold; `left` bytes of
+-- options are left
 unfoldable pub option_refused : Order → ℕ → ℕ → List ℕ → Option Refusal
 option_refused order at left bytes = first_refused at (length bytes) (option_rows (option_code order bytes) (option_length order bytes) left bytes)
 
--- the total length stands again at the end of a block
+-- the field that is judged in a trailer: it repeats the block's total length
 abbrev pub trailer_rows : Order → ℕ → List ℕ → List Row
 trailer_rows order total bytes = row BlockTrailer 0 4 (not (nat_eq (number_at order 0 4 bytes) total)) ∷ []
 
--- the same of a trailer
+-- the refusal of a trailer that the bytes hold and that does not repeat the block's total length
 unfoldable pub trailer_refused : Order → ℕ → ℕ → List ℕ → Option Refusal
 trailer_refused order at total bytes = first_refused at (length bytes) (trailer_rows order total bytes)
 
--- the first field at a place that stands in the bytes and is refused, in the order of the tables
+-- the first refused field, among those that the bytes hold, of the block, option or trailer at this place
 abbrev pub refusal_by : Stage → Place → List ℕ → Option Refusal
 refusal_by stage.Block p bytes = block_refused p.order p.interfaces p.start bytes
 refusal_by stage.Option p bytes = option_refused (order_or_little p.order) (p.start + (p.total - 4 - p.left)) p.left bytes
 refusal_by stage.Trailer p bytes = trailer_refused (order_or_little p.order) (p.start + (p.total - 4)) p.total bytes
 
+-- the first refused field, among those that the bytes hold, of what comes at this place
 unfoldable pub refusal_here : Place → List ℕ → Option Refusal
 refusal_here p bytes = refusal_by p.stage p bytes
 
--- How many bytes come before the next place. Of an interface description those are its fixed fields; of any other block
--- all before its trailer; of an option its header and its padded value, or all that are left, where it ends the options.
+-- How many bytes of a block come before the next place: of an interface description its fixed fields, of any other
+-- block all before its trailer.
 abbrev pub block_size : Kind → ℕ → ℕ
 block_size kind.Section total = 16 + (total - 20)
 block_size kind.Interface total = 16
 block_size kind.Packet total = 28 + (total - 32)
 block_size kind.Other total = 8 + (total - 12)
 
+-- how many bytes of the block that the bytes begin with come before the next place
 abbrev pub size_of_any : Option Order → List ℕ → ℕ
 size_of_any order bytes =
     let k = kind_at order bytes in
     block_size k (number_at (order_at k order bytes) 4 4 bytes)
 
+-- the bytes of the option that the bytes begin with: its header and its padded value, or all that are left if it ends
+-- the options
 abbrev pub size_of_option : Order → ℕ → List ℕ → ℕ
 size_of_option order left bytes = if nat_eq (option_code order bytes) 0 then 4 + (left - 4) else 4 + padded (option_length order bytes)
 
+-- how many bytes come before the next place, if a block, an option or a trailer comes here
 abbrev pub size_by : Stage → Place → List ℕ → ℕ
 size_by stage.Block p bytes = size_of_any p.order bytes
 size_by stage.Option p bytes = size_of_option (order_or_little p.order) p.left bytes
 size_by stage.Trailer p bytes = 4
 
+-- how many bytes come before the next place
 unfoldable pub size_here : Place → List ℕ → ℕ
 size_here p bytes = size_by p.stage p bytes
 
--- the packet of a block, where its timestamp is in range
+-- the packet of the enhanced packet block that the bytes begin with, if it has an arrival
 abbrev pub record_by : Option ℤ → Order → List ℕ → Option Record
 record_by None order bytes = None
 record_by (Some arrival) order bytes = Some (record {
@@ -134,8 +145,8 @@ record_by (Some arrival) order bytes = Some (record {
   bytes = take (number_at order 20 4 bytes) (drop 28 bytes);
 })
 
--- the place after the fixed fields of an interface description or the body of another block: an option, where so many
--- bytes of options are left, or the trailer
+-- the place after the fixed fields of an interface description, the body of another block or an option: an option if
+-- bytes of options are left, otherwise the trailer
 abbrev pub in_block : Place → Option Order → List Interface → Option Interface → ℕ → ℕ → Option Record → Place
 in_block p order interfaces interface total left packet = record {
   stage = if nat_eq left 0 then stage.Trailer else stage.Option;
@@ -148,6 +159,7 @@ in_block p order interfaces interface total left packet = record {
   packet = packet;
 }
 
+-- the place after the fixed fields of an interface description, or after the body of a block of another kind
 abbrev pub after_block : Kind → Place → ℕ → List ℕ → Place
 after_block kind.Section p total bytes = in_block p (Some (order_at kind.Section p.order bytes)) [] None total 0 None
 after_block kind.Interface p total bytes = in_block p p.order p.interfaces (Some microseconds) total (total - 20) None
@@ -156,17 +168,18 @@ after_block kind.Packet p total bytes =
     in_block p p.order p.interfaces None total 0 (record_by (packet_arrival order p.interfaces bytes) order bytes)
 after_block kind.Other p total bytes = in_block p p.order p.interfaces None total 0 None
 
+-- the place after the fixed fields or the body of the block that the bytes begin with
 abbrev pub after_any : Place → List ℕ → Place
 after_any p bytes =
     let k = kind_at p.order bytes in
     after_block k p (number_at (order_at k p.order bytes) 4 4 bytes) bytes
 
--- what an interface's options say after one more
+-- an interface after one more of its options
 abbrev pub described : Order → ℕ → Option Interface → List ℕ → Option Interface
 described order code None bytes = None
 described order code (Some interface) bytes = Some (with_option order code interface bytes)
 
--- the place after a block's trailer: an interface that was described is the section's next one
+-- the place after a block's trailer; an interface that was described becomes the next of its section
 abbrev pub after_trailer : Place → Place
 after_trailer p = record {
   stage = stage.Block;
@@ -179,6 +192,7 @@ after_trailer p = record {
   packet = None;
 }
 
+-- the next place, if a block, an option or a trailer comes here
 abbrev pub next_by : Stage → Place → List ℕ → Place
 next_by stage.Block p bytes = after_any p bytes
 next_by stage.Option p bytes =
@@ -186,26 +200,27 @@ next_by stage.Option p bytes =
     in_block p p.order p.interfaces (described order (option_code order bytes) p.interface bytes) p.total (p.left - size_by stage.Option p bytes) None
 next_by stage.Trailer p bytes = after_trailer p
 
--- the next place
+-- the place after what comes at this one
 unfoldable pub next_place : Place → List ℕ → Place
 next_place p bytes = next_by p.stage p bytes
 
--- the packet that is whole once its block's trailer is
+-- the packet that is whole after what comes here: that of the block, after its trailer
 abbrev pub packet_by : Stage → Option Record → Option Record
 packet_by stage.Block packet = None
 packet_by stage.Option packet = None
 packet_by stage.Trailer packet = packet
 
--- How the bytes of a capture end: the first refusal, and whether it is for want of bytes, so that others may stand
--- there once more bytes come.
+-- How the bytes of a capture end: the first refusal, and whether it is for want of bytes, so that more bytes may change
+-- it.
 pub record Ending : Type 0 where
   pub refusal : Refusal
   pub cut : Bool
 
+-- an ending for want of bytes, by this field
 abbrev pub short_at : Field → ℕ → Ending
 short_at field at = record { refusal = record { field = field; at = at; short = true }; cut = true }
 
--- the bytes end inside a block, of which these stand
+-- how a capture ends within a block, of which it has these bytes
 abbrev pub cut_block : Place → List ℕ → Ending
 cut_block p bytes =
     if nat_lt (length bytes) 4 then short_at BlockType p.start
@@ -215,12 +230,13 @@ cut_block p bytes =
     else short_at BlockLength (p.start + 4))
     else short_at BlockBody (p.start + 8)
 
+-- how a capture ends within the block, option or trailer at this place, of which it has these bytes
 abbrev pub cut_by : Stage → Place → List ℕ → Ending
 cut_by stage.Block p bytes = cut_block p bytes
 cut_by stage.Option p bytes = short_at BlockBody (p.start + 8)
 cut_by stage.Trailer p bytes = short_at BlockBody (p.start + 8)
 
--- the end of a capture after a whole block, or before the first
+-- a capture that ends here is whole: a section was begun, a block may come next, and no byte is left
 abbrev pub ends_at : Stage → Option Order → ℕ → ℕ → Bool
 ends_at stage.Block (Some order) start zero = true
 ends_at stage.Block (Some order) start (suc n) = false
@@ -233,21 +249,24 @@ pub record Contents : Type 0 where
   pub records : List Record
   pub ending : Option Ending
 
+-- no packets, and this ending
 abbrev pub ends : Option Ending → Contents
 ends ending = record { records = []; ending = ending }
 
+-- one packet, or none, and then the rest
 abbrev pub and_then : Option Record → Contents → Contents
 and_then packet rest = record { records = option_to_list packet ++ rest.records; ending = rest.ending }
 
--- where the bytes end before the next place
+-- what bytes hold that end before the next place: no packet, and no refusal if a capture that ends here is whole
 abbrev pub cut_short : Place → List ℕ → Contents
 cut_short p bytes = if ends_at p.stage p.order p.start (length bytes) then ends None else ends (Some (cut_by p.stage p bytes))
 
+-- no packets and this refusal, or the rest if there is no refusal
 abbrev pub refused_or : Option Refusal → Contents → Contents
 refused_or (Some refusal) rest = ends (Some (record { refusal = refusal; cut = false }))
 refused_or None rest = rest
 
--- what the bytes from a place on hold, of so many places at most
+-- what the bytes from a place on hold, in at most n places
 abbrev pub contents_from : ℕ → Place → List ℕ → Contents
 contents_from zero p bytes = ends None
 contents_from (suc n) p bytes =
@@ -255,7 +274,7 @@ contents_from (suc n) p bytes =
     (if nat_lt (length bytes) (size_here p bytes) then cut_short p bytes
     else and_then (packet_by p.stage p.packet) (contents_from n (next_place p bytes) (drop (size_here p bytes) bytes)))
 
--- the place before the first block
+-- the place before the first block of a capture
 abbrev pub first_place : Place
 first_place = record {
   stage = stage.Block;
@@ -268,24 +287,25 @@ first_place = record {
   packet = None;
 }
 
--- What a capture holds: its packets before the first refusal, and that refusal. Each place has at least four bytes.
+-- What a capture holds: its packets before the first refusal, and that refusal. Each place takes at least four bytes,
+-- so this number of places is enough.
 unfoldable pub contents : List ℕ → Contents
 contents bytes = contents_from (suc (length bytes)) first_place bytes
 
--- the whole packets before the first refusal, in order
+-- the whole packets of a capture before its first refusal, in order
 unfoldable pub whole_records : List ℕ → List Record
 whole_records bytes = (contents bytes).records
 
--- the refusal of an ending
+-- the refusal of an ending, if it has one
 abbrev pub refusal_of : Option Ending → Option Refusal
 refusal_of None = None
 refusal_of (Some ending) = Some ending.refusal
 
--- the first refusal
+-- the first refusal of a capture, by a field that is cut off or whose value is refused
 unfoldable pub first_refusal : List ℕ → Option Refusal
 first_refusal bytes = refusal_of (contents bytes).ending
 
--- a refusal that stands however the bytes go on
+-- the refusal of an ending, if it stays whatever bytes follow
 abbrev pub settled : Option Ending → Option Refusal
 settled None = None
 settled (Some ending) = if ending.cut then None else Some ending.refusal

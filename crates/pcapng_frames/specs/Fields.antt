@@ -1,5 +1,5 @@
--- The fields of a pcapng capture's blocks, where they stand, and which values are refused (draft-ietf-opsawg-pcapng,
--- sections 3 and 4).
+-- The fields of a pcapng capture's blocks, at which offsets they are, and which values are refused
+-- (draft-ietf-opsawg-pcapng, sections 3 and 4).
 use Rattle.std.specs.Prelude.{ℕ, ℤ, ◌+◌, ◌*◌, ◌/◌, ◌%◌, ◌^◌, Bool, not, ◌&&◌, ◌||◌, nat_lt, nat_le, nat_eq, false, if◌then◌else◌, List, [], ◌∷◌, length, slice_index, slice_index_or, Option, Some, None, is_none}
 use Rattle.std.specs.Int.{cast_signed, w64}
 use Rattle.avtp_base.specs.declared.field.Field.{Field}
@@ -13,7 +13,7 @@ use Rattle.pcapng_frames.specs.declared.block.Kind.TheVariants as kind
 use Rattle.pcapng_frames.specs.declared.interface.Interface.{Interface}
 use Rattle.pcapng_frames.specs.Interface.{microseconds, is_resolution, arrival_of}
 
--- the kind of a block, by its type
+-- the kind of a block, by its type (draft-ietf-opsawg-pcapng, section 4)
 abbrev pub kind_of : ℕ → Kind
 kind_of n =
     if nat_eq n 0x0A0D0D0A then kind.Section
@@ -21,11 +21,11 @@ kind_of n =
     else if nat_eq n 6 then kind.Packet
     else kind.Other
 
--- the byte order that a section's magic number, read as little-endian, tells
+-- the byte order that a section's magic number gives, read as little-endian
 abbrev pub order_of_magic : ℕ → Option Order
 order_of_magic n = if nat_eq n 0x1A2B3C4D then Some Little else if nat_eq n 0x4D3C2B1A then Some Big else None
 
--- the least total length of a block
+-- the least total length of a block of this kind
 abbrev pub least_size : Kind → ℕ
 least_size kind.Section = 28
 least_size kind.Interface = 20
@@ -36,23 +36,24 @@ least_size kind.Other = 12
 abbrev pub padded : ℕ → ℕ
 padded n = (n + 3) / 4 * 4
 
--- A field whose number is judged once the bytes up to `end` stand, and whether it is refused.
+-- A field whose number is judged once the bytes up to `end` have come, and whether it is refused.
 pub record Row : Type 0 where
   pub field : Field
   pub offset : ℕ
   pub end : ℕ
   pub refuses : Bool
 
+-- the row of a field at this offset, which is judged once the bytes up to `end` have come
 abbrev pub row : Field → ℕ → ℕ → Bool → Row
 row field offset end refuses = record { field = field; offset = offset; end = end; refuses = refuses }
 
--- a value that is refused
+-- the refusal of the field at byte `at` for its value
 abbrev pub refusal_at : Field → ℕ → Refusal
 refusal_at field at = record { field = field; at = at; short = false }
 
--- The first row of a table that refuses, of those whose fields stand wholly in so many bytes. A table's rows are in the
--- order in which their fields end, so that no row is judged after one that does not stand. The bytes begin at the offset
--- `start` of the capture.
+-- The first row of a table that refuses, among those whose bytes are in the first `len`. A table's rows are in the
+-- order in which their fields end, so that no row is judged after one whose bytes have not come. The bytes begin at
+-- offset `start` of the capture.
 abbrev pub first_refused : ℕ → ℕ → List Row → Option Refusal
 first_refused start len [] = None
 first_refused start len (r ∷ rows) =
@@ -60,18 +61,18 @@ first_refused start len (r ∷ rows) =
     else if r.refuses then Some (refusal_at r.field (start + r.offset))
     else first_refused start len rows
 
--- a total length that is too small, or no multiple of 4
+-- a total length is too small for a block of this kind, or no multiple of 4
 abbrev pub bad_length : Kind → ℕ → Bool
 bad_length k total = nat_lt total (least_size k) || not (nat_eq (total % 4) 0)
 
--- the fields of a section header, after its magic number
+-- the fields that are judged in a section header, after its magic number
 abbrev pub section_rows : Order → List ℕ → List Row
 section_rows order bytes =
     row BlockLength 4 12 (bad_length kind.Section (number_at order 4 4 bytes))
     ∷ row SectionVersion 12 14 (not (nat_eq (number_at order 12 2 bytes) 1))
     ∷ []
 
--- the same of an interface description, in a section that has so many interfaces
+-- the fields that are judged in an interface description, in a section that has `count` interfaces before it
 abbrev pub interface_rows : Order → ℕ → List ℕ → List Row
 interface_rows order count bytes =
     row BlockLength 4 8 (bad_length kind.Interface (number_at order 4 4 bytes))
@@ -79,19 +80,19 @@ interface_rows order count bytes =
     ∷ row LinkType 8 10 (not (nat_eq (number_at order 8 2 bytes) 1))
     ∷ []
 
--- the timestamp of a packet: its high half stands first, in either byte order
+-- the timestamp of a packet: its high half comes first, in either byte order
 unfoldable pub timestamp : Order → List ℕ → ℕ
 timestamp order bytes = number_at order 12 4 bytes * 2 ^ 32 + number_at order 16 4 bytes
 
--- the interface of a section that has this number
+-- the interface of a section with this number
 abbrev pub interface_at : List Interface → ℕ → Interface
 interface_at interfaces id = slice_index_or interfaces id microseconds
 
--- the arrival of a packet, where its timestamp is in range
+-- the arrival of a packet, if its timestamp is in range
 unfoldable pub packet_arrival : Order → List Interface → List ℕ → Option ℤ
 packet_arrival order interfaces bytes = arrival_of (interface_at interfaces (number_at order 8 4 bytes)) (timestamp order bytes)
 
--- the fields of an enhanced packet, in a section with these interfaces
+-- the fields that are judged in an enhanced packet block, in a section with these interfaces
 abbrev pub packet_rows : Order → List Interface → List ℕ → List Row
 packet_rows order interfaces bytes =
     let captured = number_at order 20 4 bytes in
@@ -102,18 +103,20 @@ packet_rows order interfaces bytes =
     ∷ row CapturedLength 20 24 (nat_lt 262144 captured || nat_lt total (32 + padded captured))
     ∷ []
 
--- a block that is passed unread
+-- the field that is judged in a block that is skipped: its total length
 abbrev pub other_rows : Order → List ℕ → List Row
 other_rows order bytes = row BlockLength 4 8 (bad_length kind.Other (number_at order 4 4 bytes)) ∷ []
 
--- The option that the bytes begin with: its code, the length of its value, and which lengths and values are refused,
--- where so many bytes are left before the block's trailer.
+-- the code of the option that the bytes begin with
 abbrev pub option_code : Order → List ℕ → ℕ
 option_code order bytes = number_at order 0 2 bytes
 
+-- the length of the value of the option that the bytes begin with
 abbrev pub option_length : Order → List ℕ → ℕ
 option_length order bytes = number_at order 2 2 bytes
 
+-- the fields that are judged in an option with this code and this length of its value, if `left` bytes of options are
+-- left before the trailer
 abbrev pub option_rows : ℕ → ℕ → ℕ → List ℕ → List Row
 option_rows code len left bytes =
     if nat_eq code 0 then [] else
@@ -123,7 +126,7 @@ option_rows code len left bytes =
     ∷ row IfTsresol 0 5 (nat_eq code 9 && not (is_resolution (slice_index bytes 4)))
     ∷ []
 
--- the interface once the option was read: of two equal options the last one counts
+-- the interface after the option that the bytes begin with: of two equal options the last one counts
 abbrev pub with_option : Order → ℕ → Interface → List ℕ → Interface
 with_option order code interface bytes =
     if nat_eq code 9 then record interface { resolution = slice_index bytes 4 }

@@ -2,15 +2,16 @@
 use Rattle.std.specs.Prelude.{ℕ, ◌-◌, ◌*◌, ◌/◌, ◌^◌, Bool, nat_lt, nat_le, ℤ, pos, ◌+ℤ◌, ◌*ℤ◌, int_lt, if◌then◌else◌, Option, Some, None}
 use Rattle.pcapng_frames.specs.declared.interface.Interface.{Interface}
 
--- an interface without options counts microseconds from the epoch
+-- the clock of an interface without options: microseconds from the epoch
 abbrev pub microseconds : Interface
 microseconds = record { resolution = 6; offset = pos 0 }
 
--- the resolutions that are read: 10^-k seconds for k up to 18, and 2^-k seconds, with the top bit set, up to 63
+-- a resolution (if_tsresol) that is read: 10^-k seconds for k up to 18, and 2^-k seconds, with the top bit set, for k
+-- up to 63
 abbrev pub is_resolution : ℕ → Bool
 is_resolution resolution = if nat_lt resolution 128 then nat_le resolution 18 else nat_le resolution 191
 
--- how many units of a timestamp are a second
+-- how many units of a timestamp a second has, by the resolution
 abbrev pub units : ℕ → ℕ
 units resolution = if nat_lt resolution 128 then 10 ^ resolution else 2 ^ (resolution - 128)
 
@@ -18,11 +19,11 @@ units resolution = if nat_lt resolution 128 then 10 ^ resolution else 2 ^ (resol
 unfoldable pub instant : Interface → ℕ → ℤ
 instant interface timestamp = interface.offset *ℤ pos 1000000000 +ℤ pos (timestamp * 1000000000 / units interface.resolution)
 
--- the first instant that is no arrival: 2^32 seconds
+-- the first instant that is too late for an arrival: 2^32 seconds
 abbrev pub arrival_limit : ℤ
 arrival_limit = pos (2 ^ 32 * 1000000000)
 
--- the arrival of a packet, where its instant is not before the epoch and below the limit
+-- the arrival of a packet, if its instant is not before the epoch and below the limit
 abbrev pub arrival_of : Interface → ℕ → Option ℤ
 arrival_of interface timestamp =
     let t = instant interface timestamp in

@@ -1,4 +1,4 @@
--- What a reader stands for.
+-- What a reader means: the bytes that it has taken, and the packets that it has released.
 use Rattle.std.specs.Prelude.{◌≡◌, ℕ, suc, ◌+◌, ◌-◌, Bool, true, false, nat_lt, if◌then◌else◌, List, [], ◌++◌, length, drop, Option, Some, None}
 use Rattle.avtp_base.specs.declared.field.Field.TheVariants.{BlockBody}
 use Rattle.avtp_base.specs.declared.refusal.Refusal.{Refusal}
@@ -8,7 +8,7 @@ use Rattle.pcapng_frames.specs.declared.block.Stage.{Stage}
 use Rattle.pcapng_frames.specs.declared.block.Stage.TheVariants as stage
 use Rattle.pcapng_frames.specs.Blocks.{Place, Contents, contents, contents_from, ends, and_then, first_place, after_trailer, short_at}
 
--- A reader: the place that it has come to; how many bytes are to be passed before it; the bytes of it that came;
+-- A reader: the place that it has come to; how many bytes are to be skipped before it; the bytes that have come there;
 -- whether the block's packet is whole; and the refusal.
 pub record Reading : Type 0 where
   pub place : Place
@@ -17,6 +17,7 @@ pub record Reading : Type 0 where
   pub whole : Bool
   pub refusal : Option Refusal
 
+-- a reader that has taken nothing yet
 abbrev pub nothing_read : Reading
 nothing_read = record { place = first_place; skip = 0; part = []; whole = false; refusal = None }
 
@@ -24,60 +25,65 @@ nothing_read = record { place = first_place; skip = 0; part = []; whole = false;
 abbrev pub contents_at : Place → List ℕ → Contents
 contents_at p bytes = contents_from (suc (length bytes)) p bytes
 
--- the same where so many bytes are passed first, and where these have come of the place
+-- what is still to come of a capture if the bytes `more` follow, of which `skip` are skipped and the others follow what
+-- has come of the place
 abbrev pub contents_past : ℕ → Place → List ℕ → List ℕ → Contents
 contents_past skip p part more =
     if nat_lt (length more) skip then ends (Some (short_at BlockBody (p.start + 8)))
     else contents_at p (part ++ drop skip more)
 
+-- what is still to come from a reader in this state if the bytes `more` follow: its refusal; or the packet that it
+-- holds and what follows that block; or what the place and the bytes hold
 abbrev pub rest_by : Option Refusal → Bool → Reading → List ℕ → Contents
 rest_by (Some refusal) whole r more = ends (Some (record { refusal = refusal; cut = false }))
 rest_by None true r more = and_then r.place.packet (contents_at (after_trailer r.place) more)
 rest_by None false r more = contents_past r.skip r.place r.part more
 
--- what is still to come of a reader, where these bytes follow
+-- what is still to come from a reader if the bytes `more` follow
 abbrev pub rest_of : Reading → List ℕ → Contents
 rest_of r more = rest_by r.refusal r.whole r more
 
--- the packets, and then what else there is
+-- these packets, and then the rest
 abbrev pub after_all : List Record → Contents → Contents
 after_all records rest = record { records = records ++ rest.records; ending = rest.ending }
 
--- The reader has taken these bytes, and of their packets it has given up these, in order: whatever follows, the bytes hold
--- these packets and what is still to come.
+-- The reader has taken these bytes, and of their packets it has released these, in order: whatever follows, the bytes
+-- hold these packets and what is still to come.
 pub record HasRead (r : Reading) (bytes : List ℕ) (records : List Record) : Type 0 where
   pub read : (more : List ℕ) → contents (bytes ++ more) ≡ after_all records (rest_of r more)
 
--- whatever the reader had read before, it has read these bytes too now, and no record was given up
+-- whatever the reader had read before, it has read these bytes too now, and released no packet
 abbrev pub GoesOn : Reading → List ℕ → Reading → Type 0
 GoesOn old more new = (bytes : List ℕ) (records : List Record) → HasRead old bytes records → HasRead new (bytes ++ more) records
 
--- the packet that the reader holds
+-- the packet that a reader in this state holds: that of the block, if it is whole and nothing is refused
 abbrev pub held_by : Option Refusal → Bool → Option Record → Option Record
 held_by (Some refusal) whole packet = None
 held_by None true packet = packet
 held_by None false packet = None
 
+-- the packet that the reader holds
 abbrev pub held : Reading → Option Record
 held r = held_by r.refusal r.whole r.place.packet
 
--- how many bytes of a block come before an option or a trailer, less those that are still to be passed
+-- how many bytes of a block come before what comes here, less those that are still to be skipped
 abbrev pub passed_by : Stage → ℕ → ℕ → ℕ → ℕ
 passed_by stage.Block skip left total = 0
 passed_by stage.Option skip left total = total - 4 - left - skip
 passed_by stage.Trailer skip left total = total - 4 - skip
 
--- how many bytes the reader has taken
+-- how many bytes a reader in this state has taken
 abbrev pub taken_by : Stage → Place → ℕ → List ℕ → ℕ
 taken_by next p skip part = p.start + passed_by next skip p.left p.total + length part
 
+-- how many bytes the reader has taken
 abbrev pub taken : Reading → ℕ
 taken r = taken_by r.place.stage r.place r.skip r.part
 
--- what a packet shows, apart from where it lies in memory
+-- the packet that a view shows, apart from where it lies in memory
 abbrev pub shown : RecordView → Record
 shown view = record { arrival = view.arrival; orig_len = view.orig_len; bytes = view.bytes.now }
 
--- the refusal comes after these packets
+-- these packets, and then this refusal
 abbrev pub refused_after : List Record → Refusal → Contents
 refused_after records refusal = record { records = records; ending = Some (record { refusal = refusal; cut = false }) }

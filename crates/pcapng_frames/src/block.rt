@@ -3,7 +3,7 @@
 use crate::interface::Interface;
 use pcap_frames::Order;
 
-/// The kinds of block that are told apart (draft-ietf-opsawg-pcapng, section 4).
+/// The kinds of block that are distinguished (draft-ietf-opsawg-pcapng, section 4).
 #[derive(Clone, Copy, Debug, PartialEq, Eq)]
 pub enum Kind {
     /// A section header, which begins a section.
@@ -12,7 +12,7 @@ pub enum Kind {
     Interface,
     /// An enhanced packet.
     Packet,
-    /// A block that is passed unread.
+    /// A block that is skipped.
     Other,
 }
 
@@ -62,7 +62,7 @@ pub struct Cursor {
     pub total: u32,
     /// How many bytes of options are left.
     pub left: u32,
-    /// How many bytes are passed before what comes next.
+    /// How many bytes are skipped before what comes next.
     pub skip: u32,
     /// The packet in the block.
     pub packet: Option<PacketHead>,

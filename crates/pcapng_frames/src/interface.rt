@@ -16,7 +16,7 @@ pub struct Interface {
 /// The nanoseconds in a second.
 const SECOND: u128 = 1_000_000_000;
 
-/// The first instant, in nanoseconds, that no arrival reaches.
+/// The first instant, in nanoseconds, that is too late for an arrival.
 const ARRIVAL_LIMIT: i128 = 4_294_967_296_000_000_000;
 
 /// Units of microseconds from the epoch.
@@ -79,7 +79,7 @@ fn instant_of(interface: Interface, timestamp: u64) -> i128
     i128::from(interface.offset) * 1_000_000_000 + nanoseconds as i128
 }
 
-/// The arrival of a packet, in nanoseconds. None where it is not a time that a capture can have.
+/// The arrival of a packet, in nanoseconds. None if it is not a time that a capture can have.
 pub fn arrival(interface: Interface, timestamp: u64) -> Option<u64>
     requires { is_resolution interface.resolution ≡ true }
     ensures exact { option_map pos result ≡ arrival_of interface timestamp }

@@ -1,4 +1,4 @@
-//! Where the fields of blocks stand (draft-ietf-opsawg-pcapng, sections 3 and 4).
+//! At which offsets the fields of blocks are (draft-ietf-opsawg-pcapng, sections 3 and 4).
 
 ghost use Rattle.std.specs.Prelude.{◌≡◌, ◌+◌, ◌<◌, ◌≤◌, ◌^◌, length, pos, IfSome};
 ghost use Rattle.std.specs.Int.{cast_signed, w64};
@@ -23,7 +23,7 @@ pub const INTERFACE_DESCRIPTION: u32 = 1;
 
 pub const ENHANCED_PACKET: u32 = 6;
 
-/// The magic number of a section, and the same read in the other byte order.
+/// The magic number of a section, as it is and read in the other byte order.
 const MAGIC: u32 = 0x1A2B_3C4D;
 
 const SWAPPED_MAGIC: u32 = 0x4D3C_2B1A;
@@ -92,7 +92,7 @@ pub fn kind_of(block_type: u32) -> Kind
     }
 }
 
-/// The byte order that a section's magic number, read as little-endian, tells.
+/// The byte order that a section's magic number, read as little-endian, gives.
 pub fn order_of_magic(magic: u32) -> Option<Order>
     ensures { result ≡ order_of_number magic }
 {
@@ -119,7 +119,7 @@ fn timestamp(order: Order, bytes: &[u8]) -> u64
     u64::from(u32_at(order, bytes, 12)) * (1 << 32) + u64::from(u32_at(order, bytes, 16))
 }
 
-/// The arrival of a packet, where its timestamp is in range.
+/// The arrival of a packet, if its timestamp is in range.
 #[tactic(auto, unfolding(crate::specs::Fields::packet_arrival), using(crate::proofs::Numbers::one_resolved))]
 pub fn packet_arrival(order: Order, interfaces: &[Interface], bytes: &[u8]) -> Option<u64>
     requires stands { 20 ≤ length bytes.now }
@@ -146,7 +146,7 @@ pub fn view(packet: PacketHead, part: &[u8]) -> RecordView<'_>
     }
 }
 
-/// The same number of nanoseconds, signed.
+/// A number of nanoseconds as a signed number.
 fn instant(nanoseconds: u64) -> i64
     requires { nanoseconds ≤ 2 ^ 62 }
     ensures exact { result ≡ pos nanoseconds }

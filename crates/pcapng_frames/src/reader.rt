@@ -27,8 +27,9 @@ const PART_ROOM: usize = 262_172;
 /// The most bytes of an option that are held: its header and the value of `if_tsoffset`.
 const TAIL_ROOM: usize = 12;
 
-/// Reads a pcapng capture (draft-ietf-opsawg-pcapng). It takes the capture's bytes in pieces of any length, and holds one
-/// packet at a time: feed a piece until all of it is taken, and look at the held packet and release it after each call.
+/// Reads a pcapng capture (draft-ietf-opsawg-pcapng). It takes the capture's bytes in pieces of any length, and holds
+/// one packet at a time: feed a piece until all of it is taken, and look at the held packet and release it after each
+/// call.
 #[derive(Debug, Drop)]
 pub struct Ng {
     cursor: Cursor,
@@ -59,7 +60,8 @@ impl Model for Ng {
 }
 
 impl Ng {
-    /// A reader that has taken nothing. It reserves the memory of one packet and of 256 interfaces, and takes no more later.
+    /// A reader that has taken nothing. It reserves the memory of one packet and of 256 interfaces, and takes no more
+    /// later.
     pub fn new(alloc: Global) -> Result<Self, NoMemory>
         ensures empty { IfOk result (λ reader. reader ≡ nothing_read) }
         ensures read { IfOk result (λ reader. HasRead reader [] []) }
@@ -85,9 +87,9 @@ impl Ng {
 
     /// Takes bytes up to the end of one packet's block or of the piece, and answers how many.
     ///
-    /// A reader that is not refused answers `Ok(0)` exactly where the piece is empty or a whole packet is held.
-    /// The refusal is the capture's first, and comes as soon as the bytes so far show it; from then on every
-    /// `feed` and every `finish` answers it.
+    /// A reader that is not refused answers `Ok(0)` exactly if the piece is empty or a whole packet is held. The
+    /// refusal is the capture's first, and comes as soon as the bytes so far show it; from then on every `feed` and
+    /// every `finish` answers it.
     ///
     /// At most 2^62 bytes may be taken in all, the piece among them.
     pub fn feed(&mut self, piece: &[u8]) -> Result<usize, Refusal>
@@ -115,7 +117,7 @@ impl Ng {
         Ok(used)
     }
 
-    /// Takes bytes up to where more is known of what comes next.
+    /// Takes bytes until more is known of what comes next.
     fn feed_place(&mut self, piece: &[u8]) -> Result<usize, Refusal>
         requires can { CanFeed self.old piece.now }
         ensures some { IfOk result (λ n. 0 < n) }
@@ -203,7 +205,7 @@ impl Ng {
         }
     }
 
-    /// Passes bytes that are not read.
+    /// Skips bytes that are not read; of a block that is skipped, nothing is held, whatever its length.
     fn pass(&mut self, piece: &[u8]) -> usize
         requires can { CanFeed self.old piece.now }
         requires some { 0 < self.old.skip }
@@ -218,7 +220,7 @@ impl Ng {
         taken
     }
 
-    /// The packet whose block lies whole in the piece, where no block has begun and nothing in it is refused.
+    /// The packet whose block lies whole in the piece, if no block has begun and nothing in it is refused.
     fn packet_ahead(&self, piece: &[u8]) -> Option<WholePacket>
         requires { self.now.place.stage ≡ stage.Block }
         ensures begins { IfSome result (λ packet. self.now.part ≡ []) }
@@ -230,7 +232,8 @@ impl Ng {
         steps::whole_packet(self.cursor.order, self.interfaces.as_slice(), piece)
     }
 
-    /// Takes the whole block of a packet.
+    /// Takes the whole block of a packet in one step. The steps from place to place, for blocks that are cut, refused
+    /// or of another kind, come to the same state.
     fn feed_packet(&mut self, packet: WholePacket, piece: &[u8]) -> usize
         requires can { CanFeed self.old piece.now }
         requires stage { self.old.place.stage ≡ stage.Block }
@@ -264,7 +267,7 @@ impl Ng {
         size
     }
 
-    /// Takes bytes up to where more is known of a block.
+    /// Takes bytes until more is known of a block.
     fn feed_block(&mut self, piece: &[u8]) -> Result<usize, Refusal>
         requires can { CanFeed self.old piece.now }
         requires stage { self.old.place.stage ≡ stage.Block }
@@ -294,7 +297,7 @@ impl Ng {
         Ok(taken)
     }
 
-    /// Takes bytes up to where more is known of an option.
+    /// Takes bytes until more is known of an option.
     fn feed_option(&mut self, piece: &[u8]) -> Result<usize, Refusal>
         requires can { CanFeed self.old piece.now }
         requires stage { self.old.place.stage ≡ stage.Option }
@@ -359,7 +362,7 @@ impl Ng {
         Ok(taken)
     }
 
-    /// The packet that was taken last, where its block is whole and it was not released.
+    /// The packet that was taken last, if its block is whole and it was not released.
     pub fn held(&self) -> Option<RecordView<'_>>
         ensures exact { option_map shown result ≡ held self.now }
         ensures time { IfSome result (λ r. IsRecordTime r.arrival) }

@@ -17,7 +17,7 @@ use crate::layout::{
 use avtp_base::{Field, Refusal};
 use pcap_frames::Order;
 
-/// A field whose value is refused.
+/// The refusal of a field for its value.
 fn refused(field: Field, at: u64) -> Option<Refusal>
     ensures { result ≡ Some (refusal_at field at) }
 {
@@ -28,7 +28,7 @@ fn refused(field: Field, at: u64) -> Option<Refusal>
     })
 }
 
-/// A part that the end of the bytes cuts off.
+/// The refusal of a part that the end of the bytes cuts off.
 pub fn short(field: Field, at: u64) -> Option<Refusal>
     ensures { result ≡ Some (short_at field at).refusal }
 {
@@ -52,7 +52,7 @@ pub fn bad_length(kind: Kind, total: u32) -> bool
     total < least || total % 4 != 0
 }
 
-/// The first refused field of a section header, after its magic number, that stands in these bytes.
+/// The first refused field of a section header, after its magic number, among those that these bytes hold.
 pub fn section_refusal(order: Order, start: u64, bytes: &[u8]) -> Option<Refusal>
     requires { start < 2 ^ 63 }
     ensures { result ≡ first_refused start (length bytes.now) (section_rows order bytes.now) }
@@ -69,7 +69,8 @@ pub fn section_refusal(order: Order, start: u64, bytes: &[u8]) -> Option<Refusal
     None
 }
 
-/// The same of an interface description, in a section that has so many interfaces.
+/// The first refused field of an interface description, among those that these bytes hold, in a section that has
+/// `count` interfaces before it.
 pub fn interface_refusal(order: Order, count: usize, start: u64, bytes: &[u8]) -> Option<Refusal>
     requires { start < 2 ^ 63 }
     ensures { result ≡ first_refused start (length bytes.now) (interface_rows order count bytes.now) }
@@ -89,7 +90,8 @@ pub fn interface_refusal(order: Order, count: usize, start: u64, bytes: &[u8]) -
     None
 }
 
-/// The same of an enhanced packet, in a section with these interfaces.
+/// The first refused field of an enhanced packet, among those that these bytes hold, in a section with these
+/// interfaces.
 pub fn packet_refusal(
     order: Order,
     interfaces: &[Interface],
@@ -130,7 +132,7 @@ pub fn packet_refusal(
     None
 }
 
-/// The same of a block that is passed unread.
+/// The refusal of a block that is skipped, by its total length.
 pub fn other_refusal(order: Order, start: u64, bytes: &[u8]) -> Option<Refusal>
     requires { start < 2 ^ 63 }
     ensures { result ≡ first_refused start (length bytes.now) (other_rows order bytes.now) }
@@ -141,7 +143,8 @@ pub fn other_refusal(order: Order, start: u64, bytes: &[u8]) -> Option<Refusal>
     None
 }
 
-/// The same of an option that begins at an offset of the capture, where so many bytes are left before the trailer.
+/// The first refused field of an option, among those that these bytes hold. The option begins at an offset of the
+/// capture, with `left` bytes left before the trailer.
 #[tactic(auto, unfolding(crate::specs::Blocks::option_refused))]
 pub fn option_refusal(order: Order, at: u64, left: u32, bytes: &[u8]) -> Option<Refusal>
     ensures { result ≡ refused_in_option order at left bytes.now }
@@ -167,7 +170,7 @@ pub fn option_refusal(order: Order, at: u64, left: u32, bytes: &[u8]) -> Option<
     }
 }
 
-/// The first refused field of a block of this kind that stands in these bytes.
+/// The first refused field of a block of this kind, among those that these bytes hold.
 fn kind_refusal(
     kind: Kind,
     order: Option<Order>,
@@ -189,7 +192,7 @@ fn kind_refusal(
     }
 }
 
-/// The same of a section header.
+/// The first refused field of a section header, among those that these bytes hold.
 fn whole_section_refusal(start: u64, bytes: &[u8]) -> Option<Refusal>
     requires { start < 2 ^ 63 }
     ensures { result ≡ first_refused start (length bytes.now) (kind_rows kind.Section (order_in kind.Section None bytes.now) [] bytes.now) }
@@ -213,7 +216,7 @@ fn misplaced(kind: Kind, order: Option<Order>) -> bool
     }
 }
 
-/// The first refused field of a block that stands in these bytes.
+/// The first refused field of a block, among those that these bytes hold.
 #[tactic(auto, unfolding(crate::specs::Blocks::block_refused))]
 pub fn block_refusal(
     order: Option<Order>,
@@ -235,7 +238,7 @@ pub fn block_refusal(
     kind_refusal(kind, order, interfaces, start, bytes)
 }
 
-/// Whether a trailer is refused: it stands, and is not the total length.
+/// Whether a trailer is refused: its bytes have come, and are not the total length.
 #[tactic(auto, unfolding(crate::specs::Blocks::trailer_refused))]
 pub fn trailer_refusal(order: Order, at: u64, total: u32, tail: &[u8]) -> Option<Refusal>
     ensures { result ≡ refused_in_trailer order at total tail.now }
@@ -246,8 +249,8 @@ pub fn trailer_refusal(order: Order, at: u64, total: u32, tail: &[u8]) -> Option
     None
 }
 
-/// What a block lacks that the end of the bytes cuts off, in a section with so many interfaces. After a whole block that
-/// is nothing.
+/// What a block lacks that the end of the bytes cuts off, in a section with `count` interfaces. After a whole block
+/// that is nothing.
 pub fn missing_of_block(
     order: Option<Order>,
     count: usize,

@@ -38,7 +38,7 @@ pub fn block_need(order: Option<Order>, part: &[u8]) -> usize
     }
 }
 
-/// The same of an enhanced packet.
+/// How many bytes of an enhanced packet are to come before more is known of it.
 fn packet_need(order: Order, part: &[u8]) -> usize
     ensures { result ≡ head_need kind.Packet order part.now }
 {
@@ -101,7 +101,7 @@ fn after_interface(cursor: Cursor, order: Order, count: usize, part: &[u8]) -> C
     }
 }
 
-/// The cursor after the front of a block that is passed unread.
+/// The cursor after the front of a block that is skipped.
 fn after_other(cursor: Cursor, order: Order, part: &[u8]) -> Cursor
     requires whole { length part.now ≡ 8 }
     requires order { order ≡ order_or cursor.order }
@@ -170,7 +170,7 @@ fn packet_head(order: Order, interfaces: &[Interface], part: &[u8]) -> Option<Pa
     })
 }
 
-/// What the fixed fields of an enhanced packet say, where none of them is refused.
+/// What the fixed fields of an enhanced packet say, if none of them is refused.
 fn accepted_head(order: Order, interfaces: &[Interface], bytes: &[u8]) -> Option<PacketHead>
     requires stands { 28 ≤ length bytes.now }
     requires resolved { AllResolved interfaces.now }
@@ -193,7 +193,7 @@ fn accepted_head(order: Order, interfaces: &[Interface], bytes: &[u8]) -> Option
     Some(head)
 }
 
-/// The enhanced packet that the bytes begin with, where its block lies whole in them and nothing in it is refused.
+/// The enhanced packet that the bytes begin with, if its block lies whole in them and nothing in it is refused.
 pub fn whole_packet(
     order: Option<Order>,
     interfaces: &[Interface],
@@ -262,8 +262,8 @@ pub fn option_need(order: Order, tail: &[u8]) -> usize
     }
 }
 
-/// How long an option is, with its header and the padding of its value. The code 0 ends the options, whatever is left of
-/// them.
+/// How long an option is, with its header and the padding of its value. The code 0 ends the options, whatever is left
+/// of them.
 #[tactic(auto, unfolding(crate::specs::Blocks::option_refused))]
 fn option_size(order: Order, at: u64, left: u32, tail: &[u8]) -> u32
     requires long { 4 ≤ length tail.now }
@@ -279,7 +279,7 @@ fn option_size(order: Order, at: u64, left: u32, tail: &[u8]) -> u32
     4 + padded(u32::from(u16_at(order, tail, 2))) as u32
 }
 
-/// What an interface's options say after one more.
+/// An interface after one more of its options.
 #[tactic(auto, unfolding(crate::specs::state::Reading::option_need))]
 fn with_option(order: Order, interface: Option<Interface>, tail: &[u8]) -> Option<Interface>
     requires long { 4 ≤ length tail.now }

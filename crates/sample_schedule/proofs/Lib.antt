@@ -1,10 +1,10 @@
+pub mod Carried
 pub mod Presentable
 pub mod OrderLemmas
 pub mod VerdictLemmas
 pub mod StageLemmas
 pub mod LawLemmas
 pub mod Judged
-pub mod CallLemmas
 pub mod NotedLemmas
 pub mod ClockLemmas
 pub mod JudgeSound

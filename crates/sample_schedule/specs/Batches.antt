@@ -1,5 +1,5 @@
 -- Samples that are presented.
-use Rattle.std.specs.Prelude.{◌≡◌, ℕ, ◌%◌, ◌^◌, ◌≤◌, ℤ, pos, ◌+ℤ◌, ◌<ℤ◌, List, length}
+use Rattle.std.specs.Prelude.{◌≡◌, ℕ, ◌%◌, ◌^◌, ◌≤◌, ◌==◌, Bool, ◌&&◌, ℤ, pos, ◌+ℤ◌, ◌<ℤ◌, List, length}
 use Rattle.time_unfold.specs.declared.line.Line.{Line}
 use Rattle.time_unfold.specs.Lines.{instant_at}
 use Rattle.time_unfold.specs.Time.{IsInstant}
@@ -16,6 +16,10 @@ pub record Presented : Type 0 where
 -- the instant of sample j of a batch
 abbrev pub sample_instant : Presented → ℕ → ℤ
 sample_instant batch j = instant_at batch.line (batch.from +ℤ pos j)
+
+-- A unit is a batch whose line has one nanosecond a sample; any other batch is samples.
+abbrev pub is_unit : Presented → Bool
+is_unit batch = batch.line.num == 1 && batch.line.den == 1
 
 -- what holds of every batch: it has 1 to 65,535 samples of equally many bytes, and all its instants are in range
 pub record IsPresentable (batch : Presented) : Type 0 where

@@ -1,4 +1,5 @@
 pub mod Batches
+pub mod Instants
 pub mod Heads
 pub mod Order
 pub mod Verdicts
@@ -8,8 +9,6 @@ pub mod Reach
 pub mod Noted
 pub mod Judge
 pub mod Laws
-pub mod Devices
-pub mod MemoryDevice
 pub mod Keys
 pub mod Waiting
 pub mod state

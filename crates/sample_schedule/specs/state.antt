@@ -1,6 +1,5 @@
 -- Kept for proofs alone: no clause of a public call rests on what lies here.
 pub mod Judge
 pub mod Keys
-pub mod MemoryDevice
 pub mod Order
 pub mod Waiting

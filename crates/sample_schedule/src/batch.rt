@@ -34,7 +34,7 @@ impl Model for Batch {
 
 impl Batch {
     ghost use Rattle.std.specs.Prelude.{◌≡◌, ◌≤◌};
-    ghost use Rattle.sample_schedule.specs.Batches.{sample_instant};
+    ghost use Rattle.sample_schedule.specs.Batches.{is_unit, sample_instant};
 
     /// The instant of sample `j`, in nanoseconds of gPTP; at the number of samples, which `j` may not pass, that of the
     /// first one after them.
@@ -43,5 +43,12 @@ impl Batch {
         ensures { result ≡ sample_instant self.now j }
     {
         self.line.at(self.from + i64::from(j))
+    }
+
+    /// Whether this is a unit of H.264, and not samples: its line has one nanosecond a sample.
+    pub fn is_unit(&self) -> bool
+        ensures { result ≡ is_unit self.now }
+    {
+        self.line.num == 1 && self.line.den == 1
     }
 }

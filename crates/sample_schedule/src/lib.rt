@@ -3,13 +3,12 @@
 
 mod accepted;
 mod batch;
-mod device;
 mod entry;
 mod head;
+mod instants;
 mod item;
 mod judge;
 pub mod laws;
-mod memory_device;
 mod noted;
 mod pending;
 mod plan;
@@ -21,11 +20,10 @@ mod waiting_room;
 mod whole;
 
 pub use batch::Batch;
-pub use device::Device;
 pub use entry::Entry;
+pub use instants::Instant;
 pub use item::{Bad, Item, Packet, Unit};
 pub use judge::Judge;
-pub use memory_device::MemoryDevice;
 pub use plan::SchedulePlan;
 pub use shown::{Reason, Shown};
 pub use time_unfold::HeadRule;

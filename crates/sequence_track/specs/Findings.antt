@@ -1,4 +1,5 @@
--- What is found in a packet of a capture, after the packets that were noted before it. These rules are this project's own.
+-- What is found in a packet of a capture, after the packets that were noted before it. These rules are this project's
+-- own.
 use Rattle.std.specs.Prelude.{ℕ, ◌+◌, ◌-◌, ◌%◌, ◌==◌, Bool, true, false, not, ◌&&◌, nat_lt, if◌then◌else◌, List, [], ◌∷◌, ◌++◌, length, map, filter, reverse, take, Option, Some, None}
 use Rattle.std.specs.Bool.{beq}
 use Rattle.std.specs.List.{list_any, prefix_len}
@@ -12,22 +13,24 @@ use Rattle.sequence_track.specs.declared.stream.StreamKey.{StreamKey}
 abbrev pub stream_of : Seen → StreamKey
 stream_of seen = record { subtype = seen.subtype; id = seen.id }
 
+-- two streams are one: subtype and stream id are equal
 abbrev pub same_stream : StreamKey → StreamKey → Bool
 same_stream a b = a.subtype == b.subtype && a.id == b.id
 
--- the streams of a list, each at its first place alone
+-- the streams of a list, each only at its first place
 abbrev pub distinct : List StreamKey → List StreamKey
 distinct [] = []
 distinct (stream ∷ streams) = stream ∷ filter (λ other. not (same_stream stream other)) (distinct streams)
 
--- how many streams are tracked
+-- how many streams are tracked at most
 abbrev pub most_streams : ℕ
 most_streams = 1024
 
--- the streams of the notes that are tracked: the first of them
+-- the streams that are tracked: the first 1,024 of the notes
 abbrev pub tracked : List Seen → List StreamKey
 tracked notes = take most_streams (distinct (map stream_of notes))
 
+-- the stream is one of those that are tracked after these notes
 abbrev pub is_tracked : StreamKey → List Seen → Bool
 is_tracked stream notes = list_any (same_stream stream) (tracked notes)
 
@@ -37,30 +40,30 @@ recent stream notes = reverse (filter (λ note. same_stream stream (stream_of no
 
 -- ---- findings, after the notes of the packet's stream, the last of them first
 
--- from one sequence number to another, modulo 256
+-- the distance from one sequence number to another, modulo 256
 abbrev pub step_from : ℕ → ℕ → ℕ
 step_from previous seq = (seq + 256 - previous) % 256
 
--- the step from the previous packet's sequence number, where it is not 1
+-- the step from the previous packet's sequence number, if it is not 1
 abbrev pub step_after : List Seen → Seen → Option ℕ
 step_after [] seen = None
 step_after (previous ∷ older) seen =
     if step_from previous.seq seen.seq == 1 then None else Some (step_from previous.seq seen.seq)
 
--- for how many of the packets, from the last one back, the media clock restart has a value
+-- how many of the packets, from the last one back, have this value of the media clock restart without a break
 abbrev pub stood : Bool → List Seen → ℕ
 stood mr notes = prefix_len (λ note. beq note.mr mr) notes
 
--- the packets for which a value of the media clock restart stands at least, once it came by a change
+-- how many packets a value of the media clock restart lasts at least, after it came by a change
 abbrev pub least_hold : ℕ
 least_hold = 8
 
--- So many packets, where a value that stood for them came by a change and is given up too early. It came by a change
--- where the stream has more packets than these.
+-- For how many packets a value of the media clock restart lasted, if it came by a change and is given up too early. It
+-- came by a change if the stream has more packets than those.
 abbrev pub early : ℕ → ℕ → Option ℕ
 early packets all = if nat_lt packets all && nat_lt packets least_hold then Some packets else None
 
--- for how many packets the previous value of the media clock restart stood, where it changes too early
+-- for how many packets the previous value of the media clock restart lasted, if it changes too early
 abbrev pub hold_after : List Seen → Seen → Option ℕ
 hold_after [] seen = None
 hold_after (previous ∷ older) seen =
@@ -69,7 +72,7 @@ hold_after (previous ∷ older) seen =
 
 -- ---- the findings
 
--- what is found in a packet of a stream that is tracked, and of one that is not
+-- what is found in a packet of a stream that is tracked
 abbrev pub tracked_findings : List Seen → Seen → Findings
 tracked_findings notes seen = record {
   reserved = seen.reserved;
@@ -79,6 +82,7 @@ tracked_findings notes seen = record {
   untracked = false;
 }
 
+-- what is found in a packet of a stream that is not tracked: whether a reserved bit is set, and nothing else
 abbrev pub untracked_findings : Seen → Findings
 untracked_findings seen = record { reserved = seen.reserved; step = None; hold = None; stamp = false; untracked = true }
 

@@ -6,7 +6,7 @@ use Rattle.sequence_track.specs.declared.stream.StreamKey.{StreamKey}
 use Rattle.sequence_track.specs.declared.stream.StreamState.{StreamState}
 use Rattle.sequence_track.specs.Findings.{same_stream, tracked, is_tracked, recent, stood, least_hold}
 
--- for how many packets a value stood, as far as it tells, where it came by a change
+-- for how many packets a value of the media clock restart lasted, up to 8, if it came by a change
 abbrev pub held_of : ℕ → ℕ → Option ℕ
 held_of packets all = if nat_lt packets all then Some (min packets least_hold) else None
 
@@ -19,7 +19,7 @@ state_of (last ∷ older) = Some (record {
   held = held_of (stood last.mr (last ∷ older)) (length (last ∷ older));
 })
 
--- what is kept of a stream after these notes: nothing of one that is not tracked
+-- what is kept of a stream after these notes; nothing if it is not tracked
 abbrev pub kept_of : List Seen → StreamKey → Option StreamState
 kept_of notes stream = if is_tracked stream notes then state_of (recent stream notes) else None
 

@@ -3,7 +3,7 @@
 ghost use Rattle.std.specs.Prelude.{◌≡◌};
 ghost use Rattle.sequence_track.specs.Findings.{untracked_findings};
 
-/// What a tracker is told of a packet.
+/// What a tracker is given of a packet.
 #[derive(Clone, Copy, Debug, PartialEq, Eq)]
 pub struct Seen {
     /// The stream id.
@@ -16,7 +16,7 @@ pub struct Seen {
     pub mr: bool,
     /// A reserved bit is set.
     pub reserved: bool,
-    /// The packet is stamped where its format says that it is not, or not stamped where it has to be.
+    /// The packet is stamped and must not be by its format, or is not stamped and must be.
     pub stamp_wrong: bool,
 }
 
@@ -25,11 +25,11 @@ pub struct Seen {
 pub struct Findings {
     /// A reserved bit is set.
     pub reserved: bool,
-    /// The sequence number minus that of the stream's previous packet, modulo 256, where this is not 1.
+    /// The sequence number minus that of the stream's previous packet, modulo 256, if this is not 1.
     pub step: Option<u8>,
-    /// For how many packets of the stream the media clock restart stood, where it changes again before it stood for 8.
+    /// For how many packets of the stream the media clock restart kept its value, if it changes again before 8.
     pub hold: Option<u32>,
-    /// The packet is stamped where its format says that it is not, or not stamped where it has to be.
+    /// The packet is stamped and must not be by its format, or is not stamped and must be.
     pub stamp: bool,
     /// The stream came after as many others as are tracked.
     pub untracked: bool,

@@ -7,7 +7,7 @@ ghost use Rattle.sequence_track.specs.declared.seen.Seen.{Seen as SeenValue};
 
 use crate::seen::{Findings, Seen};
 
-/// The packets for which a media clock restart stands at least.
+/// For how many packets at least a media clock restart keeps its value.
 const LEAST_HOLD: u32 = 8;
 
 /// A stream, apart from what is noted of it.
@@ -36,7 +36,7 @@ pub struct StreamState {
     seq: u8,
     /// The media clock restart of the last packet.
     mr: bool,
-    /// For how many packets that has stood, at most 8, where it came by a change.
+    /// For how many packets the restart has kept its value, counted up to 8, if it came by a change.
     held: Option<u32>,
 }
 
@@ -69,7 +69,7 @@ impl StreamState {
         }
     }
 
-    /// How far the next packet's sequence number is from the last one's, where it is not the next.
+    /// How far the next packet's sequence number is from the last one's, if it is not the next.
     fn step(&self, seen: &Seen) -> Option<u8>
         ensures { (recent : List SeenValue) → state_of recent ≡ Some self.now → result ≡ step_after recent seen.now }
     {
@@ -77,7 +77,7 @@ impl StreamState {
         if step == 1 { None } else { Some(step) }
     }
 
-    /// For how many packets the media clock restart stood, where it changes again too early.
+    /// For how many packets the media clock restart kept its value, if it changes again too early.
     fn hold(&self, seen: &Seen) -> Option<u32>
         ensures { (recent : List SeenValue) → state_of recent ≡ Some self.now → result ≡ hold_after recent seen.now }
     {

@@ -11,10 +11,10 @@ use Rattle.packet_journal.specs.Packets.{IsConforming, spelling_of}
 use Rattle.talker.specs.Frames.{capture_style, ethernet, packet_bytes}
 use Rattle.talker.specs.Journal.{Stream, stream_of}
 use Rattle.talker.specs.Plan.{Expects}
-use Rattle.talker.specs.Soak.{deliveries_of, soak_plan}
+use Rattle.soak_run.specs.Soak.{deliveries_of, soak_plan}
 use Rattle.talker.specs.Timing.{arrival_of, nominal_instant}
 use Rattle.talker.proofs.DueLemmas.{stamp_is}
-use Rattle.talker.proofs.SoakLemmas.{sent_soon}
+use Rattle.soak_run.proofs.SoakLemmas.{sent_soon}
 use Rattle.talker.proofs.StreamLemmas.{IsStream, packets_in, writable_frame}
 use Rattle.talker.proofs.TalkLemmas.{plan_keeps}
 use Rattle.soak_run.specs.Captured.{captured, soak_input, soak_listener, soak_records, soak_stream}

@@ -5,10 +5,10 @@ use Rattle.std.specs.List.{AllByRecursion, range_with_len}
 use Rattle.std.proofs.lemmas.Int.{ints}
 use Rattle.std.proofs.lemmas.List.FromFn.{length-map-range_with_len}
 use Rattle.time_unfold.specs.Time.{IsArrival}
-use Rattle.talker.specs.Noise.{draw_after}
-use Rattle.talker.specs.Soak.{all_copies, by_arrival, copies, copies_by, copies_of, copy_of, delay_by, deliveries_of, draws_before, put_in, soak_plan}
+use Rattle.soak_run.specs.Noise.{draw_after}
+use Rattle.soak_run.specs.Soak.{all_copies, by_arrival, copies, copies_by, copies_of, copy_of, delay_by, deliveries_of, draws_before, put_in, soak_plan}
 use Rattle.talker.specs.Timing.{arrival_of}
-use Rattle.talker.proofs.SoakLemmas.{copies-more, sent_soon}
+use Rattle.soak_run.proofs.SoakLemmas.{copies-more, sent_soon}
 
 -- A delivery of one of so many packets, within 2.52 ms of when the packet is sent.
 pub record IsCopy (packets : ℕ) (delivery : ℤ × ℕ) : Type 0 where

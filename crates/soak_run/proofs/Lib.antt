@@ -1,3 +1,6 @@
+mod Sorting
+mod Arrivals
+pub mod SoakLemmas
 pub mod CountLemmas
 pub mod HearingLemmas
 pub mod RoundLemmas

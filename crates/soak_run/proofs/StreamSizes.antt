@@ -10,14 +10,14 @@ use Rattle.talker.specs.declared.fault.TalkFault.{TalkFault}
 use Rattle.talker.specs.declared.fault.TalkFault.TheVariants.{Memory}
 use Rattle.talker.specs.Faults.{fault_of}
 use Rattle.talker.specs.Frames.{stream_frames}
-use Rattle.talker.specs.Soak.{soak_plan}
+use Rattle.soak_run.specs.Soak.{soak_plan}
 use Rattle.talker.specs.Journal.{stream_of}
 use Rattle.talker.specs.Plan.{IsAudioPlan}
 use Rattle.talker.specs.Talking.{most_input}
 use Rattle.talker.proofs.StreamLemmas.{count_of, packets_in}
 use Rattle.talker.proofs.TalkLemmas.{none_late}
 use Rattle.soak_run.specs.Captured.{sample_frame, sample_frames, soak_input}
-use Rattle.talker.proofs.SoakLemmas.{range-more}
+use Rattle.soak_run.proofs.SoakLemmas.{range-more}
 
 -- one sample frame more
 pub frames_more : (n : ℕ) → sample_frames (suc n) ≡ sample_frames n ++ sample_frame n

@@ -1,3 +1,5 @@
+pub mod Noise
+pub mod Soak
 pub mod Captured
 pub mod Outcomes
 pub mod state

@@ -5,12 +5,13 @@ ghost use Rattle.presenter_ring.specs.Pipes.{ended_with};
 ghost use Rattle.listener.specs.Heard.{heard_of, shown_of};
 ghost use Rattle.talker.specs.declared.fault.TalkFault.TheVariants.{Memory};
 ghost use Rattle.talker.specs.Journal.{stream_of};
-ghost use Rattle.talker.specs.Soak.{deliveries_of};
+ghost use Rattle.soak_run.specs.Soak.{deliveries_of};
 ghost use Rattle.soak_run.specs.Captured.{captured, soak_capture, soak_listener};
 ghost use Rattle.soak_run.specs.state.Hearing.{IsDeliverable};
 ghost use Rattle.soak_run.specs.Outcomes.{outcomes, soak_counts, total};
 
 use crate::counts::SoakCounts;
+use crate::deliveries::{SOAK_PLAN, soak_deliveries};
 use crate::hearing::Hearing;
 use crate::laws::counts_add_up;
 use crate::samples::soak_input;
@@ -18,7 +19,7 @@ use avtp_base::NoMemory;
 use presenter_ring::{NoGate, Pipe, Pull, Round};
 use std::alloc::Global;
 use std::thread::Threads;
-use talker::{SOAK_PLAN, TalkFault, Talker, soak_deliveries};
+use talker::{TalkFault, Talker};
 
 /// How many items wait at most between the thread that hears the stream and the one that counts.
 const RING: u32 = 64;

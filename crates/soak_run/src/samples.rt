@@ -3,9 +3,9 @@
 ghost use Rattle.std.specs.Prelude.{◌≡◌, ◌≤◌, ◌++◌, IfOk, OnOk};
 ghost use Rattle.soak_run.specs.Captured.{sample_frame, soak_input as soak_input_of};
 
+use crate::deliveries::SOAK_PLAN;
 use avtp_base::NoMemory;
 use std::alloc::Global;
-use talker::SOAK_PLAN;
 
 /// Puts a sample frame after the others: two samples of 16 bits, of which one rises and the other falls.
 fn put_sample_frame(samples: &mut Vec<u8>, number: u32) -> Result<(), NoMemory>

@@ -19,9 +19,6 @@ pub mod Am824Lemmas
 pub mod TalkLemmas
 pub mod TurnLemmas
 pub mod LawLemmas
-pub mod SoakLemmas
-mod Sorting
-mod Arrivals
 pub mod AccessLemmas
 pub mod ListingLemmas
 pub mod LongUnits

@@ -12,8 +12,6 @@ pub mod Talking
 pub mod Turns
 pub mod Lending
 pub mod Examples
-pub mod Noise
-pub mod Soak
 pub mod AccessUnits
 pub mod Fragments
 pub mod Rows

@@ -181,7 +181,7 @@ impl TalkPlan {
 
     /// When packet `n` is sent, in nanoseconds of gPTP.
     #[inline(always)]
-    pub(crate) fn arrival(&self, n: u64) -> i64
+    pub fn arrival(&self, n: u64) -> i64
         requires plan { IsAudioPlan self.now }
         requires frames { n * self.now.count ≤ 2 ^ 28 }
         ensures { result ≡ pos (arrival_of self.now n) }

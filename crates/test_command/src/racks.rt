@@ -5,9 +5,9 @@ use crate::runs::{Ran, STREAM, run_racked, shelf_of};
 use avtp_base::Failed;
 use avtp_memory::MemorySink;
 use avtp_tool::Status;
-use device_rack::{Place, Rack};
+use device_rack::{Device, MemoryDevice, Place, Rack};
 use presenter_ring::NoGate;
-use sample_schedule::{Device, MemoryDevice, Shown};
+use sample_schedule::Shown;
 use std::alloc::Global;
 use std::sync::Arc;
 use std::sync::atomic::{AtomicU64, Ordering};
@@ -40,8 +40,8 @@ impl Drop for Noting {
 
 impl Device for Noting {
     ghost use Rattle.std.specs.Prelude.{Some};
-    ghost use Rattle.sample_schedule.specs.MemoryDevice.{failing_calls, fault_count};
-    ghost use Rattle.sample_schedule.specs.state.MemoryDevice.{HasTaken};
+    ghost use Rattle.device_rack.specs.MemoryDevice.{failing_calls, fault_count};
+    ghost use Rattle.device_rack.specs.state.MemoryDevice.{HasTaken};
 
     ghost took = { λ noting. HasTaken noting.device };
 

@@ -1,5 +1,5 @@
 -- Which sample of an audio packet its timestamp belongs to, and from which packet one without a timestamp is counted.
--- Packets are told by a number: of a talker's stream, or modulo 256.
+-- Packets have a number: that of a talker's stream, or modulo 256.
 use Rattle.std.specs.Prelude.{ℕ, ◌+◌, ◌-◌, ◌*◌, ◌%◌, ◌==◌, nat_lt, if◌then◌else◌, Option, Some, None}
 use Rattle.std.specs.Int.{div_ceil}
 use Rattle.time_unfold.specs.declared.head_rule.Distance.{Distance}
@@ -13,15 +13,15 @@ stamped_index Own = 0
 stamped_index Eight = 0
 stamped_index (Blocks dbc interval) = (interval - dbc % interval) % interval
 
--- the block count of that block, modulo 256
+-- in IEC 61883-6, the block count of the block that a packet's timestamp belongs to, modulo 256; AAF has none
 abbrev pub stamped_block : HeadRule → Option ℕ
 stamped_block Own = None
 stamped_block Eight = None
 stamped_block (Blocks dbc interval) = Some ((dbc + stamped_index (Blocks dbc interval)) % 256)
 
--- How far back the sample lies from which packet n of so many samples is counted, where it has no timestamp. In sparse
--- AAF it is the first of the last packet before it whose number is a multiple of 8. In IEC 61883-6 it is the last block
--- before the packet whose block count is a multiple of the interval, at most 7 packets back.
+-- How far before packet n, of `count` samples, the sample lies from which the packet is counted if it has no timestamp.
+-- In sparse AAF that is the first of the last packet before it whose number is a multiple of 8. In IEC 61883-6 it is
+-- the last block before the packet whose block count is a multiple of the interval, at most 7 packets back.
 abbrev pub distance : HeadRule → ℕ → ℕ → Option Distance
 distance Own n count = None
 distance Eight n count =
@@ -31,7 +31,8 @@ distance (Blocks dbc interval) n count =
     if nat_lt 7 (div_ceil (dbc % interval) count) then None else
     Some (record { packets = div_ceil (dbc % interval) count; samples = dbc % interval })
 
--- the block count, modulo 256, of the block from which a packet without a timestamp is counted
+-- in IEC 61883-6, the block count, modulo 256, of the block from which a packet without a timestamp is counted; AAF has
+-- none
 abbrev pub counted_block : HeadRule → Option ℕ
 counted_block Own = None
 counted_block Eight = None

@@ -7,25 +7,26 @@ use Rattle.time_unfold.specs.declared.stamp.Stamp.{Stamp}
 use Rattle.time_unfold.specs.declared.stamp.Want.{Want}
 use Rattle.time_unfold.specs.Time.{IsArrival}
 
--- a timestamp means an instant less than 2^31 ns after an arrival
+-- the instant of a stamp is from -2^62 to below 2^62 + 2^31 ns: less than 2^31 ns after an arrival
 pub record IsStamp (stamp : Stamp) : Type 0 where
   pub from : neg_ℤ (pos (2 ^ 62)) ≤ℤ stamp.instant
   pub to : stamp.instant <ℤ pos (2 ^ 62 + 2 ^ 31)
 
--- a packet that is at most 7 packets of its own length behind its stamp
+-- a packet with a rate, at most 65,535 samples and a possible arrival, which comes at most 7 packets of its own length
+-- after its stamp
 pub record IsWant (want : Want) : Type 0 where
   pub arrival : IsArrival want.arrival
   pub rate : 1 ≤ want.rate
   pub count : want.count ≤ 65535
   pub back : want.back ≤ 7 * want.count
 
--- the interval is one of the standard's (SYT_INTERVAL of IEC 61883-6)
+-- the interval of a rule is one of the standard (SYT_INTERVAL of IEC 61883-6)
 abbrev pub IsRule : HeadRule → Type 0
 IsRule Own = ⊤
 IsRule Eight = ⊤
 IsRule (Blocks dbc interval) = (interval ≡ 8) ⊎ ((interval ≡ 16) ⊎ (interval ≡ 32))
 
--- at most 7 packets back, of so many samples each
+-- a distance is at most 7 packets back, of `count` samples each
 pub record IsBehind (count : ℕ) (far : Distance) : Type 0 where
   pub packets : far.packets ≤ 7
   pub samples : far.samples ≤ 7 * count

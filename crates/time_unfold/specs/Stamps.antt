@@ -4,12 +4,14 @@ use Rattle.time_unfold.specs.declared.stamp.Stamp.{Stamp}
 use Rattle.time_unfold.specs.declared.stamp.Want.{Want}
 use Rattle.time_unfold.specs.Lines.{instant_at, nominal_line}
 
+-- two block counts are equal, or there is none on either side
 abbrev pub same_block : Option ℕ → Option ℕ → Bool
 same_block None None = true
 same_block None (Some block) = false
 same_block (Some block) None = false
 same_block (Some block) (Some other) = block == other
 
+-- two bits are equal
 abbrev pub same_flag : Bool → Bool → Bool
 same_flag true other = other
 same_flag false true = false
@@ -19,13 +21,14 @@ same_flag false false = true
 abbrev pub candidate : Want → Stamp → ℤ
 candidate want stamp = instant_at (nominal_line stamp.instant want.rate) (pos want.back)
 
--- That instant lies within 60 packets' time of the one at which the packet is expected: its sequence number alone
--- does not tell a stamp from the one 256 packets away.
+-- The packet's first sample, counted from the stamp, lies within 60 packets' time of the instant at which the packet is
+-- expected: its sequence number alone does not distinguish a stamp from the one 256 packets away.
 abbrev pub is_near : Want → Stamp → Bool
 is_near want stamp =
     nat_le (unsigned_abs ((want.arrival +ℤ pos want.lead) -ℤ candidate want stamp) * want.rate) (60 * want.count * 1000000000)
 
--- the stamp can be the one that is looked for
+-- the stamp can be the one that is looked for: sequence number, restart bit, rate and block count are equal, and it is
+-- near
 abbrev pub fits : Want → Stamp → Bool
 fits want stamp =
     if stamp.seq == want.seq then
@@ -33,7 +36,7 @@ fits want stamp =
     if stamp.rate == want.rate then
     if same_block stamp.block want.block then is_near want stamp else false else false else false else false
 
--- the last of a list that passes a test
+-- the last item of a list that passes a test
 abbrev pub find_last : {T : Type 0} → (T → Bool) → List T → Option T
 find_last {T} test [] = None
 find_last {T} test (x ∷ xs) = last_or (find_last test xs) (if test x then Some x else None)
@@ -42,15 +45,15 @@ find_last {T} test (x ∷ xs) = last_or (find_last test xs) (if test x then Some
     last_or None first = first
     last_or (Some y) first = Some y
 
--- the last n of a list, or all of it
+-- the last n items of a list, or all if it has fewer
 abbrev pub last_of : {T : Type 0} → ℕ → List T → List T
 last_of n xs = drop (length xs - n) xs
 
--- the stamp from which the packet is counted: the last of the list's last `room` that fits
+-- the stamp from which the packet is counted: the last one that fits among the last `room` of the list
 abbrev pub found : ℕ → Want → List Stamp → Option Stamp
 found room want stamps = find_last (fits want) (last_of room stamps)
 
--- The same without a search: a stamp of the list that fits, and behind it none does; or none does at all.
+-- the stamp is one of the list that fits, and no stamp after it fits
 pub record IsLastFit (want : Want) (stamps : List Stamp) (stamp : Stamp) : Type 0 where
   pub before : List Stamp
   pub behind : List Stamp
@@ -58,6 +61,7 @@ pub record IsLastFit (want : Want) (stamps : List Stamp) (stamp : Stamp) : Type 
   pub this_fits : fits want stamp ≡ true
   pub none_behind : All (λ other. fits want other ≡ false) behind
 
+-- the stamp is the last of the list that fits, or there is none and none of the list fits
 abbrev pub IsFound : Want → List Stamp → Option Stamp → Type 0
 IsFound want stamps None = All (λ stamp. fits want stamp ≡ false) stamps
 IsFound want stamps (Some stamp) = IsLastFit want stamps stamp

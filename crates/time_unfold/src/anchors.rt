@@ -32,7 +32,7 @@ impl Model for Anchors {
 }
 
 impl Anchors {
-    /// No stamps, with room for so many, 1 to 80. Reserves all the memory that they take.
+    /// No stamps, with room for `room` of them, 1 to 80. Reserves all the memory that they take.
     pub fn new(alloc: Global, room: u32) -> Result<Self, NoMemory>
         requires { IsRoom room }
         ensures empty { IfOk result (λ anchors. KeepsLast anchors []) }
@@ -42,8 +42,8 @@ impl Anchors {
         Ok(Anchors { stamps })
     }
 
-    /// Notes a stamp, and drops the oldest where as many are held as there is room for. Its instant is from -2^62 to below
-    /// 2^62 + 2^31 ns. Takes no memory.
+    /// Notes a stamp, and drops the oldest if there is no room for one more. Its instant is from -2^62 to below 2^62 +
+    /// 2^31 ns. Takes no memory.
     pub fn note(&mut self, stamp: Stamp)
         requires { IsStamp stamp }
         ensures noted { (stamps : List StampValue) → KeepsLast self.old stamps → KeepsLast self.new (stamps ++ stamp ∷ []) }
@@ -52,8 +52,8 @@ impl Anchors {
         self.stamps.push_back(stamp);
     }
 
-    /// The stamp from which a packet is counted that has none of its own: what `head_among` answers for all stamps that
-    /// were noted. None comes exactly where none of those that are held fits. Takes no memory.
+    /// The stamp from which a packet without one is counted: what `head_among` answers for all stamps that were noted.
+    /// It is None exactly if none of those that are held fits. Takes no memory.
     pub fn find(&self, want: &Want) -> Option<Stamp>
         requires { IsWant want.now }
         ensures value { (stamps : List StampValue) → KeepsLast self.now stamps → result ≡ found self.now.room want.now stamps }

@@ -65,10 +65,10 @@ pub fn last_fit(stamps: &[Stamp], want: &Want) -> Option<Stamp>
     None
 }
 
-/// The stamp from which a packet is counted that has none of its own: the last of the list's last `room` stamps that
-/// fits, and none exactly where none of them fits. A stamp fits that has the wanted sequence number, media clock restart
-/// bit, rate and block count, and from which the packet's first sample would be within 60 packets' time of the arrival
-/// and the lead together (sparse timestamps: IEEE 1722-2016, 7; block counts: IEC 61883-6).
+/// The stamp from which a packet without one is counted: the last one that fits among the last `room` of the list, and
+/// None exactly if none of them fits. A stamp fits if it has the wanted sequence number, media clock restart bit, rate
+/// and block count, and if the packet's first sample, counted from it, is within 60 packets' time of the arrival and
+/// the lead together (sparse timestamps: IEEE 1722-2016, 7; block counts: IEC 61883-6).
 ///
 /// The stamps are in the order in which they came, with instants from -2^62 to below 2^62 + 2^31 ns. The packet has a
 /// rate of at least 1 Hz and at most 65,535 samples, and the stamped sample is at most 7 such packets before its first.

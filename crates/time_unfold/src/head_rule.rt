@@ -8,7 +8,7 @@ ghost use Rattle.time_unfold.specs.Limits.{IsBehind, IsRule};
 /// Each eighth packet of a sparse stream is stamped (IEEE 1722-2016, 7).
 const SPARSE: u32 = 8;
 
-/// How many packets back a stamped sample is looked for at most.
+/// At most how many packets back a stamped sample is looked for.
 const FARTHEST: u32 = 7;
 
 /// Which sample of a packet its timestamp belongs to, and how a packet without one is counted from another.
@@ -16,8 +16,8 @@ const FARTHEST: u32 = 7;
 pub enum HeadRule {
     /// AAF: each packet stamps its first sample (IEEE 1722-2016, 7).
     Own,
-    /// AAF in sparse mode: the packets whose sequence number is a multiple of 8 stamp their first sample (IEEE 1722-2016,
-    /// 7).
+    /// AAF in sparse mode: the packets whose sequence number is a multiple of 8 stamp their first sample (IEEE
+    /// 1722-2016, 7).
     Eight,
     /// IEC 61883-6: the timestamp belongs to the data block whose block count is a multiple of `interval`. The first
     /// block of the packet has the count `dbc`, modulo 256.
@@ -75,9 +75,9 @@ fn block_distance(dbc: u8, interval: u32, count: u32) -> Option<Distance>
 }
 
 impl HeadRule {
-    /// The sample, counted from 0, that the timestamp of a packet belongs to: the first in AAF (IEEE 1722-2016, 7), and in
-    /// IEC 61883-6 the first block whose block count is a multiple of the interval, which is 8, 16 or 32. The packet may
-    /// have fewer samples than that.
+    /// The sample, counted from 0, that the timestamp of a packet belongs to: the first in AAF (IEEE 1722-2016, 7), and
+    /// in IEC 61883-6 the first block whose block count is a multiple of the interval, which is 8, 16 or 32. The packet
+    /// may have fewer samples than that.
     pub fn stamped_index(self) -> u32
         requires { IsRule self }
         ensures value { result ≡ stamped_index_of self }
@@ -117,11 +117,11 @@ impl HeadRule {
         }
     }
 
-    /// How far back the sample lies from which a packet without a timestamp is counted. In sparse AAF it is the first of
-    /// the last packet before it whose sequence number is a multiple of 8; in IEC 61883-6 it is the last block before the
-    /// packet whose block count is a multiple of the interval. None comes for AAF that isn't sparse, where the packet
-    /// itself has the stamped sample, and where it lies more than 7 packets back. The packet has 1 to 65,535 samples, and
-    /// the interval is 8, 16 or 32.
+    /// How far back the sample lies from which a packet without a timestamp is counted. In sparse AAF it is the first
+    /// of the last packet before it whose sequence number is a multiple of 8; in IEC 61883-6 it is the last block
+    /// before the packet whose block count is a multiple of the interval. It is None for AAF that isn't sparse, if the
+    /// packet itself has the stamped sample, and if that lies more than 7 packets back. The packet has 1 to 65,535
+    /// samples, and the interval is 8, 16 or 32.
     pub fn distance(self, seq: u8, count: u32) -> Option<Distance>
         requires rule { IsRule self }
         requires some { 1 ≤ count }

@@ -15,7 +15,7 @@ pub struct Stamp {
     pub instant: i64,
 }
 
-/// The stamp from which a packet is counted that has none of its own.
+/// The stamp that is looked for, from which a packet without one is counted.
 #[derive(Clone, Copy, Debug, PartialEq, Eq)]
 pub struct Want {
     /// The sequence number that the stamped packet has.

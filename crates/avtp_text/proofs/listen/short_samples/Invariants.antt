@@ -1,6 +1,6 @@
 use Rattle.std.proofs.Common.{◌≡◌, Ok, flat_map}
 use Rattle.std.specs.List.{range_with_len}
-use Rattle.avtp_text.specs.state.Instants.{IsInstantOf}
+use Rattle.sample_schedule.specs.Instants.{IsInstantOf}
 use Rattle.avtp_text.specs.Listen.{sample_line}
 use Rattle.avtp_text.specs.state.SampleLines.{packet_of}
 use Rattle.avtp_text.specs.Written.{PrintsPart}

@@ -1,0 +1,21 @@
+-- What a device in memory shows.
+use Rattle.std.specs.Prelude.{ℕ, Bool, List}
+use Rattle.device_rack.specs.declared.memory_device.MemoryDevice.{MemoryDevice}
+use Rattle.sample_schedule.specs.declared.shown.Shown.{Shown}
+use Rattle.device_rack.specs.Devices.{later}
+
+-- the items that the device keeps
+abbrev pub kept_items : MemoryDevice → List Shown
+kept_items device = device.items.items
+
+-- no memory was found for an item: it was taken without being kept, and so were all after it
+abbrev pub is_cut : MemoryDevice → Bool
+is_cut device = device.is_cut
+
+-- the numbers, from 1, of those of its calls still to come that fail
+abbrev pub failing_calls : MemoryDevice → List ℕ
+failing_calls device = later device.calls device.fails.items
+
+-- the number of faults so far
+abbrev pub fault_count : MemoryDevice → ℕ
+fault_count device = device.faults

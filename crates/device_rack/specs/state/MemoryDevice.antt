@@ -1,0 +1,11 @@
+-- Kept for proofs: what the code's own parts hold and do. No clause of a public call rests on it.
+-- What a device in memory shows.
+use Rattle.std.specs.Prelude.{◌≡◌, List, MatchBool}
+use mathlib.Core.List.{IsPrefix}
+use Rattle.device_rack.specs.declared.memory_device.MemoryDevice.{MemoryDevice}
+use Rattle.sample_schedule.specs.declared.shown.Shown.{Shown}
+use Rattle.device_rack.specs.MemoryDevice.{kept_items, is_cut}
+
+-- the device has taken these items: it keeps all of them, or, once it found no memory, a prefix of them
+abbrev pub HasTaken : MemoryDevice → List Shown → Type 0
+HasTaken device items = MatchBool (is_cut device) (IsPrefix (kept_items device) items) (kept_items device ≡ items)

@@ -1,0 +1,32 @@
+//! Where a listener hands what it shows.
+
+ghost use Rattle.std.specs.Prelude.{◌++◌, [], ◌∷◌, IfSome, OnOk, OnErr};
+ghost use Rattle.avtp_base.specs.Faults.{IsCounted};
+ghost use Rattle.device_rack.specs.Devices.{FailsAsTold};
+
+use avtp_base::Failed;
+use sample_schedule::Shown;
+
+/// Something that takes what a listener shows, one item after the other, and counts its faults.
+pub trait Device: Drop {
+    ghost use Rattle.std.specs.Prelude.{List, ℕ, Option};
+    ghost use Rattle.sample_schedule.specs.declared.shown.Shown.{Shown as ShownValue};
+
+    /// The device has taken these items, in this order. A new one has taken none.
+    ghost took: { Self → List ShownValue → Type 0 };
+
+    /// The number of faults so far, which stands still at the last value of a 64-bit number.
+    ghost faults: { Self → ℕ };
+
+    /// The numbers, from 1, of those of its calls still to come that fail, where the device tells them.
+    ghost failing: { Self → Option (List ℕ) };
+
+    /// Takes an item.
+    ///
+    /// `Failed` comes only where the count rose, and then the item was not taken.
+    fn take(&mut self, shown: &Shown) -> Result<(), Failed>
+        ensures took { OnOk result ((items : List ShownValue) → took self.old items → took self.new (items ++ shown.now ∷ [])) }
+        ensures refused { OnErr result ((items : List ShownValue) → took self.old items → took self.new items) }
+        ensures counted { IsCounted (faults self.old) (faults self.new) result }
+        ensures told { IfSome (failing self.old) (λ numbers. FailsAsTold numbers (failing self.new) result) };
+}

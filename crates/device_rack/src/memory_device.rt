@@ -1,0 +1,140 @@
+//! A device in memory, which fails where it is told to.
+
+ghost use Rattle.std.specs.Prelude.{◌≡◌, IfOk};
+
+use crate::device::Device;
+use avtp_base::{Bytes, Failed, NoMemory};
+use sample_schedule::{Batch, Shown};
+use std::alloc::Global;
+
+/// Keeps copies of what it takes. Its calls are numbered from 1, and those whose numbers it was given fail.
+///
+/// Where no memory is found to keep an item, the item is taken without being kept, and so is every item after it.
+#[derive(Drop)]
+pub struct MemoryDevice {
+    alloc: Global,
+    items: Vec<Shown>,
+    is_cut: bool,
+    fails: Vec<u64>,
+    calls: u64,
+    faults: u64,
+}
+
+/// A copy of a batch.
+fn copy_of_batch(alloc: Global, batch: &Batch) -> Result<Batch, NoMemory>
+    ensures { IfOk result (λ copy. copy ≡ batch.now) }
+{
+    let bytes = Vec::from_slice(alloc, batch.bytes.as_slice())?;
+    Ok(Batch {
+        frame: batch.frame,
+        seq: batch.seq,
+        line: batch.line,
+        from: batch.from,
+        count: batch.count,
+        bytes: Bytes::over(bytes),
+    })
+}
+
+/// A copy of an item.
+fn copy_of(alloc: Global, shown: &Shown) -> Result<Shown, NoMemory>
+    ensures { IfOk result (λ copy. copy ≡ shown.now) }
+{
+    match shown {
+        Shown::Present(batch) => {
+            let copy = copy_of_batch(alloc, batch)?;
+            Ok(Shown::Present(copy))
+        }
+        Shown::Flag { frame, seq, reason } => Ok(Shown::Flag {
+            frame: *frame,
+            seq: *seq,
+            reason: *reason,
+        }),
+    }
+}
+
+impl MemoryDevice {
+    ghost use Rattle.std.specs.Prelude.{◌≡◌, [], ◌∷◌, ◌++◌, ◌↔◌, List, false, IfOk, IsTrue, Contains};
+    ghost use Rattle.sample_schedule.specs.declared.shown.Shown.{Shown as ShownValue};
+    ghost use Rattle.device_rack.specs.Devices.{later};
+    ghost use Rattle.device_rack.specs.MemoryDevice.{kept_items, is_cut, failing_calls, fault_count};
+    ghost use Rattle.device_rack.specs.state.MemoryDevice.{HasTaken};
+
+    /// A device that has taken nothing, and whose calls with these numbers fail. Takes no memory.
+    pub fn over(alloc: Global, fails: Vec<u64>) -> Self
+        ensures empty { kept_items result ≡ [] }
+        ensures whole { is_cut result ≡ false }
+        ensures fails { failing_calls result ≡ later 0 fails.items }
+        ensures faults { fault_count result ≡ 0 }
+    {
+        MemoryDevice {
+            alloc,
+            items: Vec::new(alloc),
+            is_cut: false,
+            fails,
+            calls: 0,
+            faults: 0,
+        }
+    }
+
+    /// The items that were kept.
+    pub fn taken(&self) -> &[Shown]
+        ensures { result.now ≡ kept_items self.now }
+    {
+        self.items.as_slice()
+    }
+
+    /// Counts the next call, and says whether it fails.
+    fn next_fails(&mut self) -> bool
+        ensures fails { IsTrue result ↔ Contains (failing_calls self.old) 1 }
+        ensures next { failing_calls self.new ≡ later 1 (failing_calls self.old) }
+        ensures kept { kept_items self.new ≡ kept_items self.old }
+        ensures cut { is_cut self.new ≡ is_cut self.old }
+        ensures faults { fault_count self.new ≡ fault_count self.old }
+    {
+        let fails = self.fails.as_slice();
+        match self.calls.checked_add(1) {
+            Some(number) => {
+                self.calls = number;
+                fails.contains(&number)
+            }
+            None => false,
+        }
+    }
+
+    /// Keeps a copy of an item, unless no memory was found now or before.
+    fn keep(&mut self, shown: &Shown)
+        ensures taken { (items : List ShownValue) → HasTaken self.old items → HasTaken self.new (items ++ shown.now ∷ []) }
+        ensures fails { failing_calls self.new ≡ failing_calls self.old }
+        ensures faults { fault_count self.new ≡ fault_count self.old }
+    {
+        if self.is_cut {
+            return;
+        }
+        match copy_of(self.alloc, shown) {
+            Ok(copy) => self.is_cut = self.items.push(copy).is_err(),
+            Err(NoMemory) => self.is_cut = true,
+        }
+    }
+}
+
+impl Device for MemoryDevice {
+    ghost use Rattle.std.specs.Prelude.{Some};
+    ghost use Rattle.device_rack.specs.MemoryDevice.{failing_calls, fault_count};
+    ghost use Rattle.device_rack.specs.state.MemoryDevice.{HasTaken};
+
+    ghost took = { HasTaken };
+
+    ghost faults = { fault_count };
+
+    ghost failing = { λ device. Some (failing_calls device) };
+
+    /// Fails where the number of the call is among those that fail.
+    fn take(&mut self, shown: &Shown) -> Result<(), Failed> {
+        if self.next_fails() {
+            self.faults = self.faults.saturating_add(1);
+            return Err(Failed);
+        }
+        self.keep(shown);
+        Ok(())
+    }
+}

@@ -1,0 +1,17 @@
+-- The instants of a batch's samples, one after the other.
+use Rattle.std.specs.Prelude.{◌≡◌, ℕ, ◌+◌, ◌*◌, ◌^◌, ◌<◌, ◌≤◌, ℤ, pos, ◌+ℤ◌, ◌-ℤ◌, ◌*ℤ◌}
+use Rattle.sample_schedule.specs.Batches.{Presented, sample_instant}
+use Rattle.sample_schedule.specs.declared.instants.Instant.{Instant}
+
+-- what is left over of the instant of sample j, in parts of a nanosecond by the line's den
+pub record IsRestOf (batch : Presented) (j : ℕ) (instant : ℤ) (rest : ℕ) : Type 0 where
+  pub steps : (batch.from +ℤ pos j) *ℤ pos batch.line.num ≡ (instant -ℤ batch.line.base) *ℤ pos batch.line.den +ℤ pos rest
+  pub below : rest < batch.line.den
+
+-- the instant of sample j, what is left over of it, and the step from one sample to the next
+pub record IsInstantOf (i : Instant) (batch : Presented) : Type 0 where
+  pub at : i.nanoseconds ≡ sample_instant batch i.j
+  pub is_rest : IsRestOf batch i.j i.nanoseconds i.rest
+  pub is_step : i.step * batch.line.den + i.step_rest ≡ batch.line.num
+  pub below : i.step_rest < batch.line.den
+  pub small : i.step ≤ 2 ^ 60

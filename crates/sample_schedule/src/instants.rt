@@ -1,0 +1,81 @@
+//! The instants of a batch's samples, one after the other.
+
+ghost use Rattle.std.specs.Prelude.{◌≡◌, ◌+◌, ◌<◌, pos, ◌*ℤ◌};
+ghost use Rattle.std.specs.Int.{int_rem_euclid};
+ghost use Rattle.sample_schedule.specs.Batches.{sample_instant};
+ghost use Rattle.sample_schedule.specs.Instants.{IsInstantOf, IsRestOf};
+
+use crate::batch::Batch;
+
+/// The instant of sample `j` of a batch: the whole nanoseconds, and what is left over in parts of one by the line's `den`.
+/// That of the next sample is found by an addition and no division.
+#[derive(Clone, Copy)]
+pub struct Instant {
+    pub j: u32,
+    pub nanoseconds: i64,
+    rest: u64,
+    /// From one sample to the next: the whole nanoseconds, and what is left over.
+    step: u64,
+    step_rest: u64,
+}
+
+/// What is left over of the first sample's instant.
+fn first_rest(batch: &Batch) -> u64
+    ensures { pos result ≡ int_rem_euclid (batch.now.from *ℤ pos batch.now.line.num) (pos batch.now.line.den) }
+{
+    let line = batch.line;
+    let steps = i128::from(batch.from) * i128::from(line.num);
+    steps.rem_euclid(i128::from(line.den)) as u64
+}
+
+impl Instant {
+    /// That of the first sample.
+    #[inline(always)]
+    pub fn first(batch: &Batch) -> Self
+        ensures first { result.j ≡ 0 }
+        ensures is { IsInstantOf result batch.now }
+    {
+        if batch.from == 0 {
+            return Instant::starting(batch, batch.line.base, 0);
+        }
+        Instant::starting(batch, batch.instant(0), first_rest(batch))
+    }
+
+    /// That of the first sample, which is at this nanosecond.
+    #[inline(always)]
+    fn starting(batch: &Batch, nanoseconds: i64, rest: u64) -> Self
+        requires at { nanoseconds ≡ sample_instant batch.now 0 }
+        requires rest { IsRestOf batch.now 0 nanoseconds rest }
+        ensures first { result.j ≡ 0 }
+        ensures is { IsInstantOf result batch.now }
+    {
+        let line = batch.line;
+        Instant {
+            j: 0,
+            nanoseconds,
+            rest,
+            step: line.num / line.den,
+            step_rest: line.num % line.den,
+        }
+    }
+
+    /// Goes on to that of the next sample, or the first one after the batch's.
+    #[inline(always)]
+    pub fn next(&mut self, batch: &Batch)
+        requires inside { self.old.j < batch.now.count }
+        requires is { IsInstantOf self.old batch.now }
+        ensures next { self.new.j ≡ self.old.j + 1 }
+        ensures is { IsInstantOf self.new batch.now }
+    {
+        let den = batch.line.den;
+        let rest = self.rest + self.step_rest;
+        self.j += 1;
+        if rest < den {
+            self.rest = rest;
+            self.nanoseconds += self.step as i64;
+        } else {
+            self.rest = rest - den;
+            self.nanoseconds += (self.step + 1) as i64;
+        }
+    }
+}

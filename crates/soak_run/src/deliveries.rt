@@ -1,0 +1,99 @@
+//! The deliveries of a stream over a bad network.
+
+ghost use Rattle.std.specs.Prelude.{◌≡◌, ◌+◌, ◌≤◌, ◌<◌, ◌^◌, ◌++◌, ℕ, pos, suc, IfOk, OnOk};
+ghost use Rattle.soak_run.specs.Noise.{state_after};
+ghost use Rattle.talker.specs.Timing.{arrival_of};
+ghost use Rattle.soak_run.specs.Soak.{all_copies, copies as copies_of_packet, copies_by, delay_by, deliveries_of, draws_before, soak_plan};
+
+use crate::noise::Noise;
+use aaf_format::AafFormat;
+use avtp_base::NoMemory;
+use std::alloc::Global;
+use talker::{TalkKind, TalkPlan};
+
+/// The stream whose packets are delivered: sparse PCM of two channels at 48 kHz, six sample frames in a packet.
+pub const SOAK_PLAN: TalkPlan = TalkPlan {
+    kind: TalkKind::Aaf {
+        format: AafFormat::Int16,
+        sparse: true,
+    },
+    rate: 48_000,
+    channels: 2,
+    count: 6,
+    id: 0x0200_0000_0001_0001,
+    start: 1_000_000_000,
+    lead: 2_000_000,
+    restart: None,
+    jump: 1_000_000,
+    crf: None,
+};
+
+/// The step in which copies are delayed, in nanoseconds.
+const DELAY_STEP: u32 = 40_000;
+
+/// How many copies of a packet are delivered, by the number that is drawn for it.
+fn copies_drawn(draw: u32) -> u32
+    ensures exact { result ≡ copies_by draw }
+    ensures few { result ≤ 2 }
+{
+    match draw % 16 {
+        0 => 0,
+        1 => 2,
+        _ => 1,
+    }
+}
+
+/// How long a copy is on its way, in nanoseconds, by the number that is drawn for it.
+fn delay_drawn(draw: u32) -> u32
+    ensures exact { result ≡ delay_by draw }
+    ensures bound { result < 2 ^ 22 }
+{
+    draw % 64 * DELAY_STEP
+}
+
+/// When a copy of a packet arrives, in nanoseconds of gPTP, by the number that is drawn for it.
+#[tactic(auto, using(crate::proofs::SoakLemmas::sent_soon))]
+fn copy_arrival(number: u64, draw: u32) -> i64
+    requires { number < 1000000 }
+    ensures { result ≡ pos (arrival_of soak_plan number + delay_by draw) }
+{
+    SOAK_PLAN.arrival(number) + i64::from(delay_drawn(draw))
+}
+
+/// Delivers a packet, in as many copies as are drawn.
+fn deliver(noise: &mut Noise, number: u64, copies: &mut Vec<(i64, u64)>) -> Result<(), NoMemory>
+    requires { number < 1000000 }
+    ensures drawn { OnOk result ((seed : ℕ) → noise.old ≡ state_after seed (draws_before seed number) → noise.new ≡ state_after seed (draws_before seed (suc number))) }
+    ensures copied { OnOk result ((seed : ℕ) → noise.old ≡ state_after seed (draws_before seed number) → copies.new.items ≡ copies.old.items ++ copies_of_packet seed number) }
+{
+    for _ in 0..copies_drawn(noise.draw()) {
+        let arrival = copy_arrival(number, noise.draw());
+        copies.push((arrival, number))?;
+    }
+    Ok(())
+}
+
+/// The copies of so many packets, one packet after another.
+fn copies_of_all(alloc: Global, packets: u32) -> Result<Vec<(i64, u64)>, NoMemory>
+    requires { packets ≤ 1000000 }
+    ensures { IfOk result (λ copies. copies.items ≡ all_copies packets packets) }
+{
+    let mut noise = Noise::new(u64::from(packets));
+    let mut copies = Vec::new(alloc);
+    for number in 0..u64::from(packets) {
+        deliver(&mut noise, number, &mut copies)?;
+    }
+    Ok(copies)
+}
+
+/// The deliveries of the first `n` packets of the stream, at most 1,000,000, over a bad network: of each when it arrives, in
+/// nanoseconds of gPTP, and the number of its packet. They stand by arrival, then by number, then by copy. `NoMemory` comes
+/// where no memory is found.
+pub fn soak_deliveries(alloc: Global, n: u32) -> Result<Vec<(i64, u64)>, NoMemory>
+    requires { n ≤ 1000000 }
+    ensures { IfOk result (λ deliveries. deliveries.items ≡ deliveries_of n) }
+{
+    let mut deliveries = copies_of_all(alloc, n)?;
+    deliveries.sort_by_key(|delivery| delivery.0)?;
+    Ok(deliveries)
+}

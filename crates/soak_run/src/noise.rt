@@ -1,0 +1,50 @@
+//! Numbers that look as if they were drawn at random.
+
+ghost use Rattle.std.specs.Prelude.{◌≡◌, ◌<◌, ◌^◌};
+ghost use Rattle.soak_run.specs.Noise.{drawn, first_state, next_state};
+
+use std::marker::Model;
+
+/// The states are the numbers below this.
+const STATES: u64 = 1 << 31;
+
+const MULTIPLIER: u64 = 1_103_515_245;
+
+const INCREMENT: u64 = 12_345;
+
+/// A generator of numbers that look as if they were drawn at random, and are the same in each run: the linear congruential
+/// generator that the standard of C gives as an example, with 31 bits of state.
+#[derive(Debug, Drop)]
+pub struct Noise {
+    state: u64,
+}
+
+impl Model for Noise {
+    ghost use Rattle.std.specs.Prelude.{ℕ, ◌<◌};
+    ghost use Rattle.soak_run.specs.Noise.{states};
+
+    ghost Value = { ℕ };
+
+    ghost view = { λ noise. noise.state };
+
+    ghost invariant = { λ noise. noise.state < states };
+}
+
+impl Noise {
+    /// The generator with the seed `n`, modulo 2^31.
+    pub fn new(n: u64) -> Self
+        ensures { result ≡ first_state n }
+    {
+        Noise { state: n % STATES }
+    }
+
+    /// The next number, 0 to 32,767.
+    pub fn draw(&mut self) -> u32
+        ensures state { self.new ≡ next_state self.old }
+        ensures drawn { result ≡ drawn self.new }
+        ensures bound { result < 2 ^ 15 }
+    {
+        self.state = (self.state * MULTIPLIER + INCREMENT) % STATES;
+        (self.state >> 16) as u32
+    }
+}
