@@ -1,10 +1,13 @@
-//! What tests share: test vectors of AVTP packets and captures, and numbers that are drawn alike in each run.
+//! What tests share: test vectors of AVTP packets and captures, bytes as rows of tables spell them, and numbers that are drawn
+//! alike in each run.
 #![tactic(auto)]
 
 mod changes;
 mod draws;
+mod rows;
 mod vectors;
 
 pub use changes::changed;
 pub use draws::Draws;
+pub use rows::{bytes_of, refusal_text};
 pub use vectors::vector;

@@ -1,0 +1,65 @@
+//! What is read of a capture, in the words of a row.
+
+use avtp_memory::MemoryShelf;
+use capture_io::{End, Source};
+use pcap_frames::RecordView;
+use std::alloc::{AllocError, Global};
+use std::test::Fail;
+use vectors_avtp::refusal_text;
+
+/// How a capture is read: in calls of at most so many bytes, up to a limit, and with a call that fails, counted from 1.
+#[derive(Clone, Copy, Debug)]
+pub struct Way {
+    pub most: usize,
+    pub limit: u32,
+    pub fails: u64,
+}
+
+/// A shelf that has these bytes in its file `a`.
+pub fn shelf_over(alloc: Global, bytes: &[u8], way: Way) -> Result<MemoryShelf, AllocError> {
+    let mut files = Vec::new(alloc);
+    files.push((String::from_str(alloc, "a")?, bytes.to_vec(alloc)?))?;
+    let fails = vec![in alloc; way.fails]?;
+    Ok(MemoryShelf::over(alloc, files, fails).at_most(way.most.max(1)))
+}
+
+/// The arrival, the length on the wire and the number of captured bytes.
+fn record_text(alloc: Global, record: &RecordView<'_>) -> Result<String, AllocError> {
+    let bytes = record.bytes.len();
+    format!(in alloc; "{} {} {bytes}, ", record.arrival, record.orig_len)
+}
+
+fn end_text(alloc: Global, end: Option<End>) -> Result<String, AllocError> {
+    match end {
+        Some(End::Refused(refusal)) => refusal_text(alloc, refusal),
+        end => format!(in alloc; "{end:?}"),
+    }
+}
+
+/// The records of a capture, of which there are at most two, and how the reading ends.
+pub fn told(alloc: Global, capture: &[u8], way: Way) -> Result<String, Fail> {
+    let mut shelf = shelf_over(alloc, capture, way)?;
+    let Ok(mut source) = Source::open(alloc, u64::from(way.limit), &mut shelf, "a") else {
+        return Err(Fail::from("the capture cannot be opened"));
+    };
+    let mut text = String::new(alloc);
+    match source.next(&mut shelf) {
+        None => text.push_str(record_text(alloc, &source.record())?.as_str())?,
+        end => {
+            source.close(&mut shelf);
+            return Ok(end_text(alloc, end)?);
+        }
+    }
+    match source.next(&mut shelf) {
+        None => text.push_str(record_text(alloc, &source.record())?.as_str())?,
+        end => {
+            source.close(&mut shelf);
+            text.push_str(end_text(alloc, end)?.as_str())?;
+            return Ok(text);
+        }
+    }
+    let end = source.next(&mut shelf);
+    source.close(&mut shelf);
+    text.push_str(end_text(alloc, end)?.as_str())?;
+    Ok(text)
+}

@@ -1,0 +1,13 @@
+//! Tests of the packet formats: what is read of packets, and NAL units from their fragments.
+#![tactic(auto)]
+
+#[cfg(test)]
+mod assembled;
+#[cfg(test)]
+mod codes;
+#[cfg(test)]
+mod packets;
+#[cfg(test)]
+mod refusals;
+#[cfg(test)]
+mod units;

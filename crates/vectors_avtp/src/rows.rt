@@ -1,0 +1,59 @@
+//! Bytes and refusals in the words of a table's row.
+
+use crate::vectors::vector;
+use avtp_base::Refusal;
+use std::alloc::{AllocError, Global};
+use std::test::Fail;
+
+/// Where the frame of the first vector begins, and the packet in it.
+const FRAME: usize = 40;
+
+const PACKET: usize = 58;
+
+/// The bytes that a row spells. Each word goes on from those before it:
+///
+/// - `pcap`, `pcapng`, `frame`, `aaf`, `iec`, `h264` and `crf` add a vector, or the frame or the packet of the first one;
+/// - hex digits add these bytes;
+/// - `17=53ff` puts these bytes over others, from offset 17 on;
+/// - `len=47` cuts the bytes off there, or adds zeros.
+pub fn bytes_of(alloc: Global, row: &str) -> Result<Vec<u8>, Fail> {
+    let mut bytes = Vec::new(alloc);
+    for word in row.split_whitespace() {
+        match word.split_once('=') {
+            Some(("len", len)) => bytes.resize(len.parse()?, 0)?,
+            Some((at, digits)) => put(&mut bytes, at.parse()?, &hex::decode(alloc, digits)?)?,
+            None => bytes.extend_from_slice(&bytes_of_word(alloc, word)?)?,
+        }
+    }
+    Ok(bytes)
+}
+
+fn bytes_of_word(alloc: Global, word: &str) -> Result<Vec<u8>, Fail> {
+    Ok(match word {
+        "pcap" => vector(alloc, 1)?,
+        "frame" => vector(alloc, 1)?.get(FRAME..).unwrap_or(&[]).to_vec(alloc)?,
+        "aaf" => vector(alloc, 1)?
+            .get(PACKET..)
+            .unwrap_or(&[])
+            .to_vec(alloc)?,
+        "iec" => vector(alloc, 2)?,
+        "h264" => vector(alloc, 3)?,
+        "crf" => vector(alloc, 4)?,
+        "pcapng" => vector(alloc, 5)?,
+        digits => hex::decode(alloc, digits)?,
+    })
+}
+
+fn put(bytes: &mut Vec<u8>, at: usize, new: &[u8]) -> Result<(), Fail> {
+    for (k, byte) in new.iter().enumerate() {
+        let place = bytes.get_mut(at.saturating_add(k));
+        *place.ok_or("a row changes a byte that it does not have")? = *byte;
+    }
+    Ok(())
+}
+
+/// A refusal as rows spell it: `stream_data_length at 20`, with ` short` where the field is cut off.
+pub fn refusal_text(alloc: Global, refusal: Refusal) -> Result<String, AllocError> {
+    let short = if refusal.short { " short" } else { "" };
+    format!(in alloc; "{} at {}{short}", refusal.field.name(), refusal.at)
+}
