@@ -1,0 +1,112 @@
+//! Packets beside their media clock.
+
+use crate::capture::{AUDIO, Captured, Format};
+use crate::heard::{ROW, Row, check, check_rows, plan_of};
+use sample_schedule::Reason;
+use std::test::Fail;
+
+/// Two packets of the clock, 96 events apart.
+pub const TICK: Captured = Captured {
+    format: Format::Clock,
+    ..AUDIO
+};
+
+pub const TOCK: Captured = Captured {
+    format: Format::Clock,
+    arrival: 1_002_200_000,
+    seq: 1,
+    stamp: Some(1_004_000_000),
+    ..AUDIO
+};
+
+pub const FIRST: Captured = Captured {
+    arrival: 1_002_000_000,
+    stamp: Some(1_004_000_000),
+    ..AUDIO
+};
+
+pub const SECOND: Captured = Captured {
+    arrival: 1_002_125_000,
+    seq: 1,
+    stamp: Some(1_004_125_000),
+    ..AUDIO
+};
+
+const ROWS: [Row; 4] = [
+    Row {
+        name: "no look ahead",
+        look: Some(0),
+        captured: &[TICK, FIRST, SECOND, TOCK],
+        seen: &[(2, 0, Err(Reason::NoClock)), (3, 1, Err(Reason::NoClock))],
+        ..ROW
+    },
+    Row {
+        name: "the second point is known when the second packet is judged",
+        look: Some(1),
+        captured: &[TICK, FIRST, SECOND, TOCK],
+        seen: &[(2, 0, Err(Reason::NoClock)), (3, 1, Ok(1_004_125_000))],
+        ..ROW
+    },
+    Row {
+        name: "and when the first is",
+        look: Some(2),
+        captured: &[TICK, FIRST, SECOND, TOCK],
+        seen: &[(2, 0, Ok(1_004_000_000)), (3, 1, Ok(1_004_125_000))],
+        ..ROW
+    },
+    Row {
+        name: "a clock that restarts",
+        look: Some(2),
+        captured: &[
+            TICK,
+            FIRST,
+            SECOND,
+            Captured {
+                changes: &[(1, 0x88)],
+                ..TOCK
+            },
+        ],
+        seen: &[(2, 0, Err(Reason::NoClock)), (3, 1, Err(Reason::NoClock))],
+        ..ROW
+    },
+];
+
+#[test]
+fn packets_are_judged_once_the_look_ahead_is_known(rt: HostRuntime) -> Result<(), Fail> {
+    check_rows(&rt, rt.alloc(), &ROWS)
+}
+
+/// Bytes of a packet of the clock that are changed so that it gives no points, and whether it is of the clock all the same:
+/// another version, uncertain times, another type, no interval; no valid id, and another one.
+const POINTLESS: [(&[(usize, u8)], bool); 6] = [
+    (&[(1, 0x90)], true),
+    (&[(1, 0x81)], true),
+    (&[(3, 0x02)], true),
+    (&[(19, 0x00)], true),
+    (&[(1, 0x00)], false),
+    (&[(11, 0x03)], false),
+];
+
+/// Such a packet of the clock counts as one that is looked ahead to, and leaves the points around it joined.
+#[test]
+fn a_clock_packet_without_points_is_waited_for(rt: HostRuntime) -> Result<(), Fail> {
+    for row in &POINTLESS {
+        let between = Captured {
+            arrival: 1_002_100_000,
+            changes: row.0,
+            ..TOCK
+        };
+        let captured = [TICK, FIRST, between, TOCK];
+        let due = (2, 0, Ok(1_004_000_000));
+        let soon = if row.1 {
+            (2, 0, Err(Reason::NoClock))
+        } else {
+            due
+        };
+        let near = plan_of(4_096, 67_108_864, Some(1));
+        check(&rt, rt.alloc(), "one ahead", &near, &captured, &[soon])?;
+        let far = plan_of(4_096, 67_108_864, Some(2));
+        check(&rt, rt.alloc(), "two ahead", &far, &captured, &[due])?;
+    }
+    Ok(())
+}

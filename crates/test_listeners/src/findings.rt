@@ -1,0 +1,155 @@
+//! What is found in the packets of small streams.
+
+use sequence_track::{Findings, Seen, Tracker};
+use std::test::Fail;
+
+/// A packet in which nothing is wrong by itself.
+const PLAIN: Seen = Seen {
+    id: 0x0200_0000_0001_0001,
+    subtype: 0x02,
+    seq: 0,
+    mr: false,
+    reserved: false,
+    stamp_wrong: false,
+};
+
+const NOTHING: Findings = Findings {
+    reserved: false,
+    step: None,
+    hold: None,
+    stamp: false,
+    untracked: false,
+};
+
+/// The most streams that are tracked.
+const MOST: u64 = 1024;
+
+/// A packet: its sequence number, its restart bit, whether it has a reserved bit and a wrong stamp; and the step and the hold
+/// that are found.
+type Noted = (u8, bool, bool, Option<u8>, Option<u32>);
+
+/// Streams of their own, each with its packets in order.
+const STREAMS: [&[Noted]; 4] = [
+    // Each finding alone, and all together. The first change of the restart bit ends a value that came by no change; the next
+    // value stands for four packets, and the one after it for one.
+    &[
+        (0, false, false, None, None),
+        (1, true, false, None, None),
+        (2, true, true, None, None),
+        (2, true, false, Some(0), None),
+        (3, true, true, None, None),
+        (4, false, false, None, Some(4)),
+        (3, true, true, Some(255), Some(1)),
+    ],
+    // The step is counted modulo 256.
+    &[
+        (254, false, false, None, None),
+        (255, false, false, None, None),
+        (0, false, false, None, None),
+        (1, false, false, None, None),
+        (0, false, false, Some(255), None),
+        (128, false, false, Some(128), None),
+        (127, false, false, Some(255), None),
+        (1, false, false, Some(130), None),
+        (2, false, false, None, None),
+    ],
+    // A restart that stands for seven packets.
+    &[
+        (0, false, false, None, None),
+        (1, true, false, None, None),
+        (2, true, false, None, None),
+        (3, true, false, None, None),
+        (4, true, false, None, None),
+        (5, true, false, None, None),
+        (6, true, false, None, None),
+        (7, true, false, None, None),
+        (8, false, false, None, Some(7)),
+    ],
+    // One that stands for eight.
+    &[
+        (0, false, false, None, None),
+        (1, true, false, None, None),
+        (2, true, false, None, None),
+        (3, true, false, None, None),
+        (4, true, false, None, None),
+        (5, true, false, None, None),
+        (6, true, false, None, None),
+        (7, true, false, None, None),
+        (8, true, false, None, None),
+        (9, false, false, None, None),
+    ],
+];
+
+#[test]
+fn each_packet_has_the_findings_of_its_stream(rt: HostRuntime) -> Result<(), Fail> {
+    let mut tracker = Tracker::begin(rt.alloc())?;
+    for (id, stream) in STREAMS.iter().enumerate() {
+        for (seq, mr, wrong, step, hold) in stream.iter() {
+            let seen = Seen {
+                id: id as u64,
+                seq: *seq,
+                mr: *mr,
+                reserved: *wrong,
+                stamp_wrong: *wrong,
+                ..PLAIN
+            };
+            let want = Findings {
+                reserved: *wrong,
+                step: *step,
+                hold: *hold,
+                stamp: *wrong,
+                untracked: false,
+            };
+            assert_eq!(rt; tracker.note(seen), want, "stream {id}, packet {seq}");
+        }
+    }
+    Ok(())
+}
+
+/// Two streams have each id: their subtypes tell them apart. The 1,025th stream is not tracked, in any of its packets; those
+/// that are tracked stay so.
+#[test]
+fn the_first_1024_subtypes_with_ids_are_tracked(rt: HostRuntime) -> Result<(), Fail> {
+    let mut tracker = Tracker::begin(rt.alloc())?;
+    for place in 0..MOST {
+        let seen = Seen {
+            id: place / 2,
+            subtype: if place % 2 == 0 { 0x02 } else { 0x03 },
+            seq: (place % 251) as u8,
+            ..PLAIN
+        };
+        assert_eq!(rt; tracker.note(seen), NOTHING, "stream {place}");
+    }
+    assert_eq!(rt; u64::from(tracker.streams()), MOST);
+    let further = Seen {
+        id: MOST,
+        reserved: true,
+        stamp_wrong: true,
+        ..PLAIN
+    };
+    let untracked = Findings {
+        reserved: true,
+        untracked: true,
+        ..NOTHING
+    };
+    let late = Findings {
+        step: Some(2),
+        ..NOTHING
+    };
+    for (seen, want) in [
+        (further, untracked),
+        (Seen { seq: 9, ..further }, untracked),
+        (
+            Seen {
+                id: 0,
+                seq: 2,
+                ..PLAIN
+            },
+            late,
+        ),
+    ] {
+        assert_eq!(rt; tracker.note(seen), want, "{seen:?}");
+    }
+    assert_eq!(rt; u64::from(tracker.streams()), MOST);
+    Ok(())
+}
