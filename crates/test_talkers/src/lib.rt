@@ -1,0 +1,21 @@
+//! Tests of the talker: the frames of each kind of plan, the inputs that it refuses, and the deliveries over a bad network.
+#![tactic(auto)]
+
+#[cfg(test)]
+mod audio;
+#[cfg(test)]
+mod blocks;
+#[cfg(test)]
+mod clock;
+#[cfg(test)]
+mod deliveries;
+#[cfg(test)]
+mod faults;
+#[cfg(test)]
+mod frames;
+#[cfg(test)]
+mod plans;
+#[cfg(test)]
+mod vectors;
+#[cfg(test)]
+mod video;
