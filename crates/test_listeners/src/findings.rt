@@ -24,8 +24,8 @@ const NOTHING: Findings = Findings {
 /// The most streams that are tracked.
 const MOST: u64 = 1024;
 
-/// A packet: its sequence number, its restart bit, whether it has a reserved bit and a wrong stamp; and the step and the hold
-/// that are found.
+/// A packet: its sequence number, its restart bit, and whether it has both a reserved bit and a wrong stamp; and the step and
+/// the hold that are found.
 type Noted = (u8, bool, bool, Option<u8>, Option<u32>);
 
 /// Streams of their own, each with its packets in order.
@@ -84,23 +84,23 @@ const STREAMS: [&[Noted]; 4] = [
 fn each_packet_has_the_findings_of_its_stream(rt: HostRuntime) -> Result<(), Fail> {
     let mut tracker = Tracker::begin(rt.alloc())?;
     for (id, stream) in STREAMS.iter().enumerate() {
-        for (seq, mr, wrong, step, hold) in stream.iter() {
+        for noted in *stream {
             let seen = Seen {
                 id: id as u64,
-                seq: *seq,
-                mr: *mr,
-                reserved: *wrong,
-                stamp_wrong: *wrong,
+                seq: noted.0,
+                mr: noted.1,
+                reserved: noted.2,
+                stamp_wrong: noted.2,
                 ..PLAIN
             };
             let want = Findings {
-                reserved: *wrong,
-                step: *step,
-                hold: *hold,
-                stamp: *wrong,
+                reserved: noted.2,
+                step: noted.3,
+                hold: noted.4,
+                stamp: noted.2,
                 untracked: false,
             };
-            assert_eq!(rt; tracker.note(seen), want, "stream {id}, packet {seq}");
+            assert_eq!(rt; tracker.note(seen), want, "{seen:?}");
         }
     }
     Ok(())

@@ -20,7 +20,7 @@ const THIRD: Captured = Captured {
     ..AUDIO
 };
 
-const ROWS: [Row; 9] = [
+const ROWS: [Row; 10] = [
     Row {
         name: "a nanosecond before half the circle",
         captured: &[Captured {
@@ -101,6 +101,38 @@ const ROWS: [Row; 9] = [
             (2, 0, Ok(1_002_000_000)),
             (3, 1, Ok(1_002_125_000)),
             (1, 2, Ok(1_002_250_000)),
+        ],
+        ..ROW
+    },
+    Row {
+        name: "sparse packets before and after the only stamp",
+        captured: &[
+            Captured {
+                arrival: 1_000_875_000,
+                seq: 7,
+                stamp: None,
+                changes: &[(22, 0x10)],
+                ..AUDIO
+            },
+            Captured {
+                arrival: 1_001_000_000,
+                seq: 8,
+                stamp: Some(1_003_000_000),
+                changes: &[(22, 0x10)],
+                ..AUDIO
+            },
+            Captured {
+                arrival: 1_001_125_000,
+                seq: 9,
+                stamp: None,
+                changes: &[(22, 0x10)],
+                ..AUDIO
+            },
+        ],
+        seen: &[
+            (1, 7, Err(Reason::Untimed)),
+            (2, 8, Ok(1_003_000_000)),
+            (3, 9, Ok(1_003_125_000)),
         ],
         ..ROW
     },

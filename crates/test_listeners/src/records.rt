@@ -2,7 +2,7 @@
 
 use crate::heard::{Seen, heard, plan_of, seen_of};
 use avtp_base::{Field, Refusal};
-use listener::{Counts, Listener};
+use listener::{Counts, ListenFault, Listener};
 use std::alloc::Global;
 use std::test::Fail;
 use vectors_avtp::{changed, vector};
@@ -83,43 +83,60 @@ fn a_record_is_counted_whatever_it_holds(rt: HostRuntime) -> Result<(), Fail> {
     Ok(())
 }
 
-/// What is heard of a capture of one record that comes in two pieces.
-fn heard_in_two(alloc: Global, bytes: &[u8], cut: usize) -> Result<(Vec<Seen>, Counts), Fail> {
+/// What is heard of a capture that comes in pieces, up to a length and beyond it: what is seen, the counts, and the fault of
+/// the record after the first, as it is fed and at the end.
+fn heard_in_pieces(
+    alloc: Global,
+    bytes: &[u8],
+    cut: usize,
+) -> Result<(Vec<Seen>, Counts, [Option<ListenFault>; 2]), Fail> {
     if bytes.len() > 1_000 || cut > bytes.len() {
         return Err(Fail::new("a long capture"));
     }
     let mut listener = Listener::begin(alloc, plan_of(1, 24, None))?;
     let front = listener.feed(alloc, &bytes[..cut])?;
     let back = listener.feed(alloc, &bytes[cut..])?;
-    if front != cut || back != bytes.len() - cut {
-        return Err(Fail::new("bytes are left"));
+    let rest = bytes.get(front.saturating_add(back)..).unwrap_or(&[]);
+    if rest.len() > 1_000 {
+        return Err(Fail::new("a long capture"));
     }
-    match listener.next_out() {
-        None => {}
-        Some(_) => return Err(Fail::new("due before the end")),
-    }
-    listener.end()?;
+    let fault = match listener.feed(alloc, rest) {
+        Ok(_) => return Err(Fail::new("no fault")),
+        Err(fault) => fault,
+    };
+    let at_end = listener.end().err();
     let mut seen = Vec::new(alloc);
     if let Some(shown) = listener.next_out() {
         seen.push(seen_of(&shown))?;
     }
-    Ok((seen, listener.counts()))
+    Ok((seen, listener.counts(), [Some(fault), at_end]))
 }
 
+/// The first vector, and the header of a record that is longer than any.
 #[test]
 fn a_capture_may_be_cut_anywhere(rt: HostRuntime) -> Result<(), Fail> {
-    let bytes = vector(rt.alloc(), 1)?;
+    let longer = changed(vector(rt.alloc(), 1)?, &[], 106, 16)?;
+    let bytes = changed(longer, &[(114, 1), (116, 4)], 122, 0)?;
     let want = Counts {
         frames: 1,
         packets: 1,
         presented: 1,
         flagged: 0,
     };
-    for cut in 0..bytes.len() {
-        let (seen, counts) = heard_in_two(rt.alloc(), &bytes, cut)?;
+    let refused = Some(ListenFault::Refused(Refusal {
+        field: Field::InclLen,
+        at: 114,
+        short: false,
+    }));
+    for cut in 0..106usize {
+        let (seen, counts, faults) = heard_in_pieces(rt.alloc(), &bytes, cut)?;
         assert!(rt;
-            seen.as_slice() == [(1, 0, Ok(1_002_000_000))].as_slice() && counts == want,
-            "cut at {cut}: {seen:?}, {counts:?}"
+            seen.as_slice() == [(1, 0, Ok(1_002_000_000))].as_slice(),
+            "cut at {cut}: {seen:?}"
+        );
+        assert!(rt;
+            counts == want && faults == [refused; 2],
+            "cut at {cut}: {faults:?}"
         );
     }
     Ok(())

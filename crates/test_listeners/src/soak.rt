@@ -24,7 +24,7 @@ const ROWS: [Row; 7] = [
 #[test]
 fn each_delivery_has_one_outcome(rt: HostRuntime) -> Result<(), Fail> {
     for (packets, want) in ROWS {
-        let c = soak(&rt, rt.alloc(), packets)?;
+        let c = soak(&rt, rt.alloc(), packets.min(1_000_000))?;
         let counts = [
             c.delivered,
             c.presented,

@@ -1,8 +1,6 @@
 //! All frames of a plan, and what is wanted of them.
 
-ghost use Rattle.std.specs.Prelude.{◌≤◌, length};
 ghost use Rattle.talker.specs.Plan.{IsPlan};
-ghost use Rattle.talker.specs.Talking.{most_input};
 
 use crate::plans::Planned;
 use avtp_base::NoMemory;
@@ -55,7 +53,7 @@ pub fn bytes_of(alloc: Global, input: Input) -> Result<Vec<u8>, NoMemory> {
 }
 
 /// A talker of a plan.
-pub fn talker(alloc: Global, plan: TalkPlan, input: &[u8]) -> Result<Talker<'_>, Fail>
+pub fn begin(alloc: Global, plan: TalkPlan, input: &[u8]) -> Result<Talker<'_>, Fail>
     requires { IsPlan plan }
 {
     if input.len() > 1_000_000 {
@@ -149,7 +147,7 @@ fn capture_size(frames: &[Frame]) -> usize {
 fn check_row(rt: &impl Abort, alloc: Global, ethernet: &[u8], row: &Row) -> Result<(), Fail> {
     let (name, plan) = (row.name, row.plan.plan());
     let input = bytes_of(alloc, row.input)?;
-    let mut given = talker(alloc, plan, &input)?;
+    let mut given = begin(alloc, plan, &input)?;
     let frames = frames_of(alloc, &mut given)?;
     assert_eq!(rt;
         (given.packets(), given.clocks(), capture_size(&frames)),
@@ -167,7 +165,7 @@ fn check_row(rt: &impl Abort, alloc: Global, ethernet: &[u8], row: &Row) -> Resu
             frame.number
         );
     }
-    check_written(rt, name, talker(alloc, plan, &input)?, &frames)
+    check_written(rt, name, begin(alloc, plan, &input)?, &frames)
 }
 
 /// What is sent of each row's plan is as wanted.

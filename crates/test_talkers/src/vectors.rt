@@ -1,6 +1,6 @@
 //! The test vectors are what is sent.
 
-use crate::frames::{frames_of, talker};
+use crate::frames::{begin, frames_of};
 use crate::plans::Planned;
 use std::alloc::Global;
 use std::test::Fail;
@@ -8,7 +8,7 @@ use vectors_avtp::vector;
 
 /// The packet of the first frame that is sent.
 fn first_packet(alloc: Global, planned: Planned, input: &[u8]) -> Result<Vec<u8>, Fail> {
-    let mut talker = talker(alloc, planned.plan(), input)?;
+    let mut talker = begin(alloc, planned.plan(), input)?;
     let frames = frames_of(alloc, &mut talker)?;
     let frame = frames.first().ok_or("no frame")?;
     let packet = frame.bytes.get(18..).ok_or("a short frame")?;

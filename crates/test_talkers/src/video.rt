@@ -1,6 +1,6 @@
 //! Packets of H.264.
 
-use crate::frames::{Input, Row, check_rows, frames_of, talker};
+use crate::frames::{Input, Row, begin, check_rows, frames_of};
 use crate::plans::Planned;
 use std::test::Fail;
 
@@ -128,7 +128,7 @@ fn units_are_sent_whole_or_in_fragments(rt: HostRuntime) -> Result<(), Fail> {
     check_rows(&rt, rt.alloc(), &ROWS)
 }
 
-/// Units of two bytes, and the number of the access unit of each.
+/// Units of two bytes, and the number of the access unit of each, from 1.
 struct Access {
     units: &'static [u16],
     access: &'static [i64],
@@ -138,45 +138,45 @@ const ACCESS: [Access; 8] = [
     // parameter sets and a picture, and then the next picture
     Access {
         units: &[0x6742, 0x68ce, 0x6588, 0x419a],
-        access: &[0, 0, 0, 1],
+        access: &[1, 1, 1, 2],
     },
     // two slices of each picture
     Access {
         units: &[0x6588, 0x6508, 0x419a, 0x411a],
-        access: &[0, 0, 1, 1],
+        access: &[1, 1, 2, 2],
     },
     // what stands before a picture begins its access unit
     Access {
         units: &[0x419a, 0x0605, 0x419a, 0x0910, 0x6742, 0x6588],
-        access: &[0, 1, 1, 2, 2, 2],
+        access: &[1, 2, 2, 3, 3, 3],
     },
     Access {
         units: &[0x419a, 0x0e80, 0x419a, 0x1280, 0x419a],
-        access: &[0, 1, 1, 2, 2],
+        access: &[1, 2, 2, 3, 3],
     },
     // other units stand after a picture
     Access {
         units: &[0x419a, 0x0a80, 0x0b80, 0x0cff, 0x0d80, 0x1380],
-        access: &[0, 0, 0, 0, 0, 0],
+        access: &[1, 1, 1, 1, 1, 1],
     },
     // slices in data partitions
     Access {
         units: &[0x4280, 0x4380, 0x4480, 0x4280, 0x4380],
-        access: &[0, 0, 0, 1, 1],
+        access: &[1, 1, 1, 2, 2],
     },
     // the first slice of a picture, in any order of types
     Access {
         units: &[0x419a, 0x6588, 0x4288],
-        access: &[0, 1, 2],
+        access: &[1, 2, 3],
     },
     // nothing begins before a slice came
     Access {
         units: &[0x0605, 0x0910, 0x0e80, 0x6588, 0x0910],
-        access: &[0, 0, 0, 0, 1],
+        access: &[1, 1, 1, 1, 2],
     },
 ];
 
-/// An access unit is sent a second after the one before it, and the last packet of each has the marker.
+/// Access unit 1 is sent at 1 s, and each a second after the one before it. The last packet of each has the marker.
 #[test]
 fn a_picture_begins_an_access_unit(rt: HostRuntime) -> Result<(), Fail> {
     for row in &ACCESS {
@@ -185,11 +185,11 @@ fn a_picture_begins_an_access_unit(rt: HostRuntime) -> Result<(), Fail> {
             input.extend_from_slice(&[0, 0, 1])?;
             input.extend_from_slice(&unit.to_be_bytes())?;
         }
-        let mut talker = talker(rt.alloc(), Planned::Slow.plan(), &input)?;
+        let mut talker = begin(rt.alloc(), Planned::Slow.plan(), &input)?;
         let frames = frames_of(rt.alloc(), &mut talker)?;
         assert_eq!(rt; frames.len(), row.access.len(), "{:?}", row.units);
         for (place, frame) in frames.iter().enumerate() {
-            let number = frame.arrival / 1_000_000_000 - 1;
+            let number = frame.arrival / 1_000_000_000;
             assert_eq!(rt; row.access.get(place), Some(&number), "{:?}", row.units);
             let is_last = row.access.get(place + 1) != Some(&number);
             let bits = if is_last { 0x30 } else { 0x20 };
