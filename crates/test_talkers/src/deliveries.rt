@@ -21,38 +21,16 @@ fn numbers_are_drawn_from_a_seed(rt: HostRuntime) {
 }
 
 /// Of so many packets: how many copies are delivered, and from a place on the arrivals and the packets of some.
-struct Row {
-    packets: u32,
-    copies: usize,
-    place: usize,
-    some: &'static [(i64, u64)],
-}
-
-const ROWS: [Row; 6] = [
-    Row {
-        packets: 0,
-        copies: 0,
-        place: 0,
-        some: &[],
-    },
-    Row {
-        packets: 1,
-        copies: 1,
-        place: 0,
-        some: &[(1_002_480_000, 0)],
-    },
-    Row {
-        packets: 2,
-        copies: 2,
-        place: 0,
-        some: &[(1_001_320_000, 0), (1_002_125_000, 1)],
-    },
+const ROWS: [(u32, usize, usize, &[(i64, u64)]); 6] = [
+    (0, 0, 0, &[]),
+    (1, 1, 0, &[(1_002_480_000, 0)]),
+    (2, 2, 0, &[(1_001_320_000, 0), (1_002_125_000, 1)]),
     // the seventh and the tenth packet are lost, and the last is delivered twice
-    Row {
-        packets: 11,
-        copies: 10,
-        place: 0,
-        some: &[
+    (
+        11,
+        10,
+        0,
+        &[
             (1_000_960_000, 0),
             (1_001_130_000, 2),
             (1_001_220_000, 4),
@@ -64,33 +42,19 @@ const ROWS: [Row; 6] = [
             (1_002_840_000, 8),
             (1_002_995_000, 7),
         ],
-    },
+    ),
     // copies that arrive together stand by their packets' numbers
-    Row {
-        packets: 25,
-        copies: 22,
-        place: 8,
-        some: &[(1_002_440_000, 0), (1_002_440_000, 16)],
-    },
-    Row {
-        packets: 1_000,
-        copies: 1_002,
-        place: 1_001,
-        some: &[(1_126_485_000, 993)],
-    },
+    (25, 22, 8, &[(1_002_440_000, 0), (1_002_440_000, 16)]),
+    (1_000, 1_002, 1_001, &[(1_126_485_000, 993)]),
 ];
 
 #[test]
 fn copies_are_delivered_by_arrival(rt: HostRuntime) -> Result<(), Fail> {
     for row in &ROWS {
-        let deliveries = soak_deliveries(rt.alloc(), row.packets.min(1_000_000))?;
-        assert_eq!(rt; deliveries.len(), row.copies, "{} packets", row.packets);
-        let some = deliveries.get(row.place..).unwrap_or(&[]);
-        assert!(rt;
-            some.starts_with(row.some),
-            "{} packets: {some:?}",
-            row.packets
-        );
+        let deliveries = soak_deliveries(rt.alloc(), row.0.min(1_000_000))?;
+        assert_eq!(rt; deliveries.len(), row.1, "{} packets", row.0);
+        let some = deliveries.get(row.2..).unwrap_or(&[]);
+        assert!(rt; some.starts_with(row.3), "{} packets: {some:?}", row.0);
     }
     Ok(())
 }

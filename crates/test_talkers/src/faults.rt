@@ -1,6 +1,6 @@
 //! Inputs that make no stream.
 
-use crate::frames::{Input, bytes_of};
+use crate::frames::bytes_of;
 use crate::plans::Planned;
 use std::test::Fail;
 use talker::{TalkFault, Talker};
@@ -54,12 +54,7 @@ const ROWS: [Row; 16] = [
 #[test]
 fn an_input_is_refused_for_its_first_fault(rt: HostRuntime) -> Result<(), Fail> {
     for row in &ROWS {
-        let input = Input {
-            front: row.1,
-            again: &[0, 0, 1, 0x06],
-            times: row.2,
-        };
-        let bytes = bytes_of(rt.alloc(), input)?;
+        let bytes = bytes_of(rt.alloc(), (row.1, &[0, 0, 1, 0x06], row.2))?;
         if bytes.len() > 1_000_000 {
             return Err(Fail::new("a long input"));
         }

@@ -46,6 +46,27 @@ pub enum Planned {
     Slow,
 }
 
+/// A plan with some fields changed.
+macro_rules! with {
+    ($plan:ident, $($field:ident: $value:expr),+) => {
+        TalkPlan { $($field: $value,)+ ..$plan }
+    };
+}
+
+/// A format of PCM.
+macro_rules! pcm {
+    ($format:ident) => {
+        TalkKind::Aaf { format: AafFormat::$format, sparse: false }
+    };
+}
+
+/// The clock below with another rate and interval.
+macro_rules! crf {
+    ($rate:expr, $interval:expr) => {
+        Some(CrfPlan { rate: $rate, interval: $interval, ..CLOCK })
+    };
+}
+
 const PCM: TalkPlan = TalkPlan {
     kind: TalkKind::Aaf {
         format: AafFormat::Int16,
@@ -96,120 +117,31 @@ impl Planned {
     {
         match self {
             Planned::Pcm => PCM,
-            Planned::Int24 => TalkPlan {
-                kind: TalkKind::Aaf {
-                    format: AafFormat::Int24,
-                    sparse: false,
-                },
-                ..PCM
-            },
-            Planned::Int32 => TalkPlan {
-                kind: TalkKind::Aaf {
-                    format: AafFormat::Int32,
-                    sparse: false,
-                },
-                ..PCM
-            },
-            Planned::Float32 => TalkPlan {
-                kind: TalkKind::Aaf {
-                    format: AafFormat::Float32,
-                    sparse: false,
-                },
-                ..PCM
-            },
-            Planned::Pcm24000 => TalkPlan {
-                rate: 24_000,
-                ..PCM
-            },
-            Planned::Pcm44100 => TalkPlan {
-                rate: 44_100,
-                ..PCM
-            },
-            Planned::Pcm88200 => TalkPlan {
-                rate: 88_200,
-                ..PCM
-            },
-            Planned::Pcm176400 => TalkPlan {
-                rate: 176_400,
-                ..PCM
-            },
+            Planned::Int24 => with!(PCM, kind: pcm!(Int24)),
+            Planned::Int32 => with!(PCM, kind: pcm!(Int32)),
+            Planned::Float32 => with!(PCM, kind: pcm!(Float32)),
+            Planned::Pcm24000 => with!(PCM, rate: 24_000),
+            Planned::Pcm44100 => with!(PCM, rate: 44_100),
+            Planned::Pcm88200 => with!(PCM, rate: 88_200),
+            Planned::Pcm176400 => with!(PCM, rate: 176_400),
             Planned::Sparse => SPARSE,
-            Planned::Restarting => TalkPlan {
-                restart: Some(10),
-                ..SPARSE
-            },
+            Planned::Restarting => with!(SPARSE, restart: Some(10)),
             Planned::Blocks => BLOCKS,
-            Planned::Blocks44100By1 => TalkPlan {
-                rate: 44_100,
-                count: 1,
-                ..BLOCKS
-            },
-            Planned::Blocks44100By6 => TalkPlan {
-                rate: 44_100,
-                ..BLOCKS
-            },
-            Planned::Blocks48000By5 => TalkPlan { count: 5, ..BLOCKS },
-            Planned::Blocks192000By5 => TalkPlan {
-                rate: 192_000,
-                count: 5,
-                ..BLOCKS
-            },
-            Planned::Blocks192000By6 => TalkPlan {
-                rate: 192_000,
-                ..BLOCKS
-            },
-            Planned::Blocks192000By7 => TalkPlan {
-                rate: 192_000,
-                count: 7,
-                ..BLOCKS
-            },
-            Planned::Blocks192000By32 => TalkPlan {
-                rate: 192_000,
-                count: 32,
-                ..BLOCKS
-            },
-            Planned::Clocked => TalkPlan {
-                crf: Some(CLOCK),
-                ..PCM
-            },
-            Planned::Clocked44100 => TalkPlan {
-                crf: Some(CrfPlan {
-                    rate: 44_100,
-                    interval: 147,
-                    ..CLOCK
-                }),
-                ..PCM
-            },
-            Planned::Beside => TalkPlan {
-                crf: Some(CrfPlan {
-                    interval: 12,
-                    ..CLOCK
-                }),
-                ..PCM
-            },
-            Planned::RestartingClock => TalkPlan {
-                restart: Some(8),
-                crf: Some(CrfPlan {
-                    interval: 6,
-                    ..CLOCK
-                }),
-                ..PCM
-            },
-            Planned::OnClock => TalkPlan {
-                rate: 44_100,
-                crf: Some(CrfPlan {
-                    rate: 44_100,
-                    interval: 100,
-                    ..CLOCK
-                }),
-                ..PCM
-            },
+            Planned::Blocks44100By1 => with!(BLOCKS, rate: 44_100, count: 1),
+            Planned::Blocks44100By6 => with!(BLOCKS, rate: 44_100),
+            Planned::Blocks48000By5 => with!(BLOCKS, count: 5),
+            Planned::Blocks192000By5 => with!(BLOCKS, rate: 192_000, count: 5),
+            Planned::Blocks192000By6 => with!(BLOCKS, rate: 192_000),
+            Planned::Blocks192000By7 => with!(BLOCKS, rate: 192_000, count: 7),
+            Planned::Blocks192000By32 => with!(BLOCKS, rate: 192_000, count: 32),
+            Planned::Clocked => with!(PCM, crf: Some(CLOCK)),
+            Planned::Clocked44100 => with!(PCM, crf: crf!(44_100, 147)),
+            Planned::Beside => with!(PCM, crf: crf!(48_000, 12)),
+            Planned::RestartingClock => with!(PCM, restart: Some(8), crf: crf!(48_000, 6)),
+            Planned::OnClock => with!(PCM, rate: 44_100, crf: crf!(44_100, 100)),
             Planned::Video => VIDEO,
-            Planned::LastStamp => TalkPlan {
-                kind: TalkKind::H264 { last_stamp: true },
-                ..VIDEO
-            },
-            Planned::Slow => TalkPlan { rate: 1, ..VIDEO },
+            Planned::LastStamp => with!(VIDEO, kind: TalkKind::H264 { last_stamp: true }),
+            Planned::Slow => with!(VIDEO, rate: 1),
         }
     }
 }

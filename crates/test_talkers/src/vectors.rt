@@ -6,13 +6,18 @@ use std::alloc::Global;
 use std::test::Fail;
 use vectors_avtp::vector;
 
-/// The packet of the first frame that is sent.
-fn first_packet(alloc: Global, planned: Planned, input: &[u8]) -> Result<Vec<u8>, Fail> {
+/// The first frame that is sent, from a byte on.
+fn first_frame(
+    alloc: Global,
+    planned: Planned,
+    input: &[u8],
+    from: usize,
+) -> Result<Vec<u8>, Fail> {
     let mut talker = begin(alloc, planned.plan(), input)?;
     let frames = frames_of(alloc, &mut talker)?;
     let frame = frames.first().ok_or("no frame")?;
-    let packet = frame.bytes.get(18..).ok_or("a short frame")?;
-    Ok(Vec::from_slice(alloc, packet)?)
+    let bytes = frame.bytes.get(from..).ok_or("a short frame")?;
+    Ok(Vec::from_slice(alloc, bytes)?)
 }
 
 #[test]
@@ -20,16 +25,16 @@ fn the_vectors_are_sent(rt: HostRuntime) -> Result<(), Fail> {
     let alloc = rt.alloc();
     let one = vector(alloc, 1)?;
     let samples = one.get(82..).ok_or("a short vector")?;
-    let packet = first_packet(alloc, Planned::Pcm, samples)?;
-    assert!(rt; Some(packet.as_slice()) == one.get(58..), "{packet:?}");
+    let frame = first_frame(alloc, Planned::Pcm, samples, 0)?;
+    assert!(rt; Some(frame.as_slice()) == one.get(40..), "{frame:?}");
     let two = vector(alloc, 2)?;
     let blocks = two.get(32..).ok_or("a short vector")?;
-    let packet = first_packet(alloc, Planned::Blocks, blocks)?;
+    let packet = first_frame(alloc, Planned::Blocks, blocks, 18)?;
     assert_eq!(rt; packet.as_slice(), two.as_slice());
     let unit = [0, 0, 0, 1, 0x67, 0x42, 0x00, 0x0a];
-    let packet = first_packet(alloc, Planned::Video, &unit)?;
+    let packet = first_frame(alloc, Planned::Video, &unit, 18)?;
     assert_eq!(rt; packet.as_slice(), vector(alloc, 3)?.as_slice());
-    let packet = first_packet(alloc, Planned::Clocked, samples)?;
+    let packet = first_frame(alloc, Planned::Clocked, samples, 18)?;
     assert_eq!(rt; packet.as_slice(), vector(alloc, 4)?.as_slice());
     Ok(())
 }

@@ -5,51 +5,29 @@ use crate::plans::Planned;
 use std::test::Fail;
 
 /// A unit of 3,000 bytes.
-const LONG: Input = Input {
-    front: &[0, 0, 0, 1, 0x65],
-    again: &[0xff],
-    times: 2_999,
-};
+const LONG: Input = (&[0, 0, 0, 1, 0x65], &[0xff], 2_999);
 
 /// A slice of one byte has no second one that could tell the first slice of a picture.
-const SHORT: Input = Input {
-    front: &[0, 0, 1, 0x41, 0, 0, 1, 0x41, 0, 0, 1, 0x67],
-    again: &[],
-    times: 0,
-};
+const SHORT: Input = (&[0, 0, 1, 0x41, 0, 0, 1, 0x41, 0, 0, 1, 0x67], &[], 0);
 
 const ROWS: [Row; 3] = [
     Row {
         name: "a long unit is cut into fragments",
         plan: Planned::Video,
         input: LONG,
-        packets: 3,
-        clocks: 0,
-        size: 3_215,
+        sums: (3, 0, 3_215),
         frames: &[
             (
                 0,
-                1_000_000_000,
-                0,
-                0x0381_0000,
-                1_002_000_000,
-                "02010000057c20003bb94e807c85ff",
+                "1000000000 0 03810000 1002000000 02010000057c20003bb94e807c85ff",
             ),
             (
                 1,
-                1_000_000_000,
-                1,
-                0x0381_0100,
-                1_002_000_000,
-                "02010000057c20003bb94e807c05ff",
+                "1000000000 1 03810100 1002000000 02010000057c20003bb94e807c05ff",
             ),
             (
                 2,
-                1_000_000_000,
-                2,
-                0x0381_0200,
-                1_002_000_000,
-                "0201000000d130003bb94e807c45ff",
+                "1000000000 2 03810200 1002000000 0201000000d130003bb94e807c45ff",
             ),
         ],
     },
@@ -57,33 +35,13 @@ const ROWS: [Row; 3] = [
         name: "its last fragment alone is stamped",
         plan: Planned::LastStamp,
         input: LONG,
-        packets: 3,
-        clocks: 0,
-        size: 3_215,
+        sums: (3, 0, 3_215),
         frames: &[
-            (
-                0,
-                1_000_000_000,
-                0,
-                0x0380_0000,
-                0,
-                "02010000057c20003bb94e807c85ff",
-            ),
-            (
-                1,
-                1_000_000_000,
-                1,
-                0x0380_0100,
-                0,
-                "02010000057c20003bb94e807c05ff",
-            ),
+            (0, "1000000000 0 03800000 0 02010000057c20003bb94e807c85ff"),
+            (1, "1000000000 1 03800100 0 02010000057c20003bb94e807c05ff"),
             (
                 2,
-                1_000_000_000,
-                2,
-                0x0381_0200,
-                1_002_000_000,
-                "0201000000d130003bb94e807c45ff",
+                "1000000000 2 03810200 1002000000 0201000000d130003bb94e807c45ff",
             ),
         ],
     },
@@ -91,33 +49,19 @@ const ROWS: [Row; 3] = [
         name: "units of one byte",
         plan: Planned::Slow,
         input: SHORT,
-        packets: 3,
-        clocks: 0,
-        size: 213,
+        sums: (3, 0, 213),
         frames: &[
             (
                 0,
-                1_000_000_000,
-                0,
-                0x0381_0000,
-                1_002_000_000,
-                "02010000000520003bb94e8041",
+                "1000000000 0 03810000 1002000000 02010000000520003bb94e8041",
             ),
             (
                 1,
-                1_000_000_000,
-                1,
-                0x0381_0100,
-                1_002_000_000,
-                "02010000000530003bb94e8041",
+                "1000000000 1 03810100 1002000000 02010000000530003bb94e8041",
             ),
             (
                 2,
-                2_000_000_000,
-                2,
-                0x0381_0200,
-                2_002_000_000,
-                "02010000000530007754188067",
+                "2000000000 2 03810200 2002000000 02010000000530007754188067",
             ),
         ],
     },
@@ -129,51 +73,28 @@ fn units_are_sent_whole_or_in_fragments(rt: HostRuntime) -> Result<(), Fail> {
 }
 
 /// Units of two bytes, and the number of the access unit of each, from 1.
-struct Access {
-    units: &'static [u16],
-    access: &'static [i64],
-}
-
-const ACCESS: [Access; 8] = [
+const ACCESS: [(&[u16], &[i64]); 8] = [
     // parameter sets and a picture, and then the next picture
-    Access {
-        units: &[0x6742, 0x68ce, 0x6588, 0x419a],
-        access: &[1, 1, 1, 2],
-    },
+    (&[0x6742, 0x68ce, 0x6588, 0x419a], &[1, 1, 1, 2]),
     // two slices of each picture
-    Access {
-        units: &[0x6588, 0x6508, 0x419a, 0x411a],
-        access: &[1, 1, 2, 2],
-    },
+    (&[0x6588, 0x6508, 0x419a, 0x411a], &[1, 1, 2, 2]),
     // what stands before a picture begins its access unit
-    Access {
-        units: &[0x419a, 0x0605, 0x419a, 0x0910, 0x6742, 0x6588],
-        access: &[1, 2, 2, 3, 3, 3],
-    },
-    Access {
-        units: &[0x419a, 0x0e80, 0x419a, 0x1280, 0x419a],
-        access: &[1, 2, 2, 3, 3],
-    },
+    (
+        &[0x419a, 0x0605, 0x419a, 0x0910, 0x6742, 0x6588],
+        &[1, 2, 2, 3, 3, 3],
+    ),
+    (&[0x419a, 0x0e80, 0x419a, 0x1280, 0x419a], &[1, 2, 2, 3, 3]),
     // other units stand after a picture
-    Access {
-        units: &[0x419a, 0x0a80, 0x0b80, 0x0cff, 0x0d80, 0x1380],
-        access: &[1, 1, 1, 1, 1, 1],
-    },
+    (
+        &[0x419a, 0x0a80, 0x0b80, 0x0cff, 0x0d80, 0x1380],
+        &[1, 1, 1, 1, 1, 1],
+    ),
     // slices in data partitions
-    Access {
-        units: &[0x4280, 0x4380, 0x4480, 0x4280, 0x4380],
-        access: &[1, 1, 1, 2, 2],
-    },
+    (&[0x4280, 0x4380, 0x4480, 0x4280, 0x4380], &[1, 1, 1, 2, 2]),
     // the first slice of a picture, in any order of types
-    Access {
-        units: &[0x419a, 0x6588, 0x4288],
-        access: &[1, 2, 3],
-    },
+    (&[0x419a, 0x6588, 0x4288], &[1, 2, 3]),
     // nothing begins before a slice came
-    Access {
-        units: &[0x0605, 0x0910, 0x0e80, 0x6588, 0x0910],
-        access: &[1, 1, 1, 1, 2],
-    },
+    (&[0x0605, 0x0910, 0x0e80, 0x6588, 0x0910], &[1, 1, 1, 1, 2]),
 ];
 
 /// Access unit 1 is sent at 1 s, and each a second after the one before it. The last packet of each has the marker.
@@ -181,19 +102,19 @@ const ACCESS: [Access; 8] = [
 fn a_picture_begins_an_access_unit(rt: HostRuntime) -> Result<(), Fail> {
     for row in &ACCESS {
         let mut input = Vec::new(rt.alloc());
-        for unit in row.units {
+        for unit in row.0 {
             input.extend_from_slice(&[0, 0, 1])?;
             input.extend_from_slice(&unit.to_be_bytes())?;
         }
         let mut talker = begin(rt.alloc(), Planned::Slow.plan(), &input)?;
         let frames = frames_of(rt.alloc(), &mut talker)?;
-        assert_eq!(rt; frames.len(), row.access.len(), "{:?}", row.units);
+        assert_eq!(rt; frames.len(), row.1.len(), "{:?}", row.0);
         for (place, frame) in frames.iter().enumerate() {
             let number = frame.arrival / 1_000_000_000;
-            assert_eq!(rt; row.access.get(place), Some(&number), "{:?}", row.units);
-            let is_last = row.access.get(place + 1) != Some(&number);
+            assert_eq!(rt; row.1.get(place), Some(&number), "{:?}", row.0);
+            let is_last = row.1.get(place + 1) != Some(&number);
             let bits = if is_last { 0x30 } else { 0x20 };
-            assert_eq!(rt; frame.bytes.get(40), Some(&bits), "{:?}", row.units);
+            assert_eq!(rt; frame.bytes.get(40), Some(&bits), "{:?}", row.0);
         }
     }
     Ok(())
