@@ -1,72 +1,47 @@
 //! Packets beside their media clock.
 
-use crate::capture::{AUDIO, Captured, Format};
-use crate::heard::{ROW, Row, check, check_rows, plan_of};
-use sample_schedule::Reason;
+use crate::captures::{AUDIO, Captured, Format};
+use crate::hearing::{ROW, Row, check_rows, plan_of, seen_of};
 use std::test::Fail;
 
 /// Two packets of the clock, 96 events apart.
-pub const TICK: Captured = Captured {
-    format: Format::Clock,
-    ..AUDIO
-};
+pub const TICK: Captured = captured!(AUDIO, format: Format::Clock);
 
-pub const TOCK: Captured = Captured {
-    format: Format::Clock,
-    arrival: 1_002_200_000,
-    seq: 1,
-    stamp: Some(1_004_000_000),
-    ..AUDIO
-};
+pub const TOCK: Captured =
+    captured!(AUDIO, format: Format::Clock, arrival: 1_002_200_000, seq: 1, stamp: Some(1_004_000_000));
 
-pub const FIRST: Captured = Captured {
-    arrival: 1_002_000_000,
-    stamp: Some(1_004_000_000),
-    ..AUDIO
-};
+pub const FIRST: Captured = captured!(AUDIO, arrival: 1_002_000_000, stamp: Some(1_004_000_000));
 
-pub const SECOND: Captured = Captured {
-    arrival: 1_002_125_000,
-    seq: 1,
-    stamp: Some(1_004_125_000),
-    ..AUDIO
-};
+pub const SECOND: Captured =
+    captured!(AUDIO, arrival: 1_002_125_000, seq: 1, stamp: Some(1_004_125_000));
 
 const ROWS: [Row; 4] = [
     Row {
         name: "no look ahead",
         look: Some(0),
         captured: &[TICK, FIRST, SECOND, TOCK],
-        seen: &[(2, 0, Err(Reason::NoClock)), (3, 1, Err(Reason::NoClock))],
+        seen: "2/0 NoClock, 3/1 NoClock",
         ..ROW
     },
     Row {
         name: "the second point is known when the second packet is judged",
         look: Some(1),
         captured: &[TICK, FIRST, SECOND, TOCK],
-        seen: &[(2, 0, Err(Reason::NoClock)), (3, 1, Ok(1_004_125_000))],
+        seen: "2/0 NoClock, 3/1 at 1004125000",
         ..ROW
     },
     Row {
         name: "and when the first is",
         look: Some(2),
         captured: &[TICK, FIRST, SECOND, TOCK],
-        seen: &[(2, 0, Ok(1_004_000_000)), (3, 1, Ok(1_004_125_000))],
+        seen: "2/0 at 1004000000, 3/1 at 1004125000",
         ..ROW
     },
     Row {
         name: "a clock that restarts",
         look: Some(2),
-        captured: &[
-            TICK,
-            FIRST,
-            SECOND,
-            Captured {
-                changes: &[(1, 0x88)],
-                ..TOCK
-            },
-        ],
-        seen: &[(2, 0, Err(Reason::NoClock)), (3, 1, Err(Reason::NoClock))],
+        captured: &[TICK, FIRST, SECOND, captured!(TOCK, changes: &[(1, 0x88)])],
+        seen: "2/0 NoClock, 3/1 NoClock",
         ..ROW
     },
 ];
@@ -97,16 +72,16 @@ fn a_clock_packet_without_points_is_waited_for(rt: HostRuntime) -> Result<(), Fa
             ..TOCK
         };
         let captured = [TICK, FIRST, between, TOCK];
-        let due = (2, 0, Ok(1_004_000_000));
         let soon = if row.1 {
-            (2, 0, Err(Reason::NoClock))
+            "2/0 NoClock"
         } else {
-            due
+            "2/0 at 1004000000"
         };
-        let near = plan_of(4_096, 67_108_864, Some(1));
-        check(&rt, rt.alloc(), "one ahead", &near, &captured, &[soon])?;
-        let far = plan_of(4_096, 67_108_864, Some(2));
-        check(&rt, rt.alloc(), "two ahead", &far, &captured, &[due])?;
+        for (look, want) in [(1, soon), (2, "2/0 at 1004000000")] {
+            let plan = plan_of(4_096, 67_108_864, Some(look));
+            let came = seen_of(rt.alloc(), &plan, &captured)?;
+            assert!(rt; came.as_str() == want, "{:?}, {look} ahead: {came}", row.0);
+        }
     }
     Ok(())
 }

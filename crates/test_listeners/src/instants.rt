@@ -1,21 +1,21 @@
 //! The instants of all samples that are presented.
 
 use crate::blocks::{NEXT, STAMPED};
-use crate::capture::{AUDIO, Captured, capture};
+use crate::captures::{AUDIO, Captured, capture};
 use crate::clock::{FIRST, SECOND, TICK, TOCK};
-use crate::heard::{heard, plan_of};
+use crate::hearing::{heard, plan_of};
 use avtp_base::NoMemory;
 use sample_schedule::Shown;
 use std::alloc::Global;
 use std::test::Fail;
 use vectors_avtp::vector;
 
-/// Packets, and the instants of their samples, one packet after another.
+/// Packets, and the instants of each one's samples.
 struct Row {
     name: &'static str,
     look: Option<u32>,
     captured: &'static [Captured],
-    instants: &'static [i64],
+    instants: &'static [&'static str],
 }
 
 const ROWS: [Row; 4] = [
@@ -23,93 +23,50 @@ const ROWS: [Row; 4] = [
         name: "48 kHz",
         look: None,
         captured: &[AUDIO],
-        instants: &[
-            1_002_000_000,
-            1_002_020_833,
-            1_002_041_666,
-            1_002_062_500,
-            1_002_083_333,
-            1_002_104_166,
-        ],
+        instants: &["1002000000 1002020833 1002041666 1002062500 1002083333 1002104166"],
     },
     Row {
         name: "44.1 kHz",
         look: None,
-        captured: &[Captured {
-            changes: &[(17, 0x40)],
-            ..AUDIO
-        }],
-        instants: &[
-            1_002_000_000,
-            1_002_022_675,
-            1_002_045_351,
-            1_002_068_027,
-            1_002_090_702,
-            1_002_113_378,
-        ],
+        captured: &[captured!(AUDIO, changes: &[(17, 0x40)])],
+        instants: &["1002000000 1002022675 1002045351 1002068027 1002090702 1002113378"],
     },
     Row {
         name: "data blocks",
         look: None,
         captured: &[STAMPED, NEXT],
         instants: &[
-            4_999_916_666,
-            4_999_937_500,
-            4_999_958_333,
-            4_999_979_166,
-            5_000_000_000,
-            5_000_020_833,
-            5_000_041_666,
-            5_000_062_500,
-            5_000_083_333,
-            5_000_104_166,
-            5_000_125_000,
-            5_000_145_833,
+            "4999916666 4999937500 4999958333 4999979166 5000000000 5000020833",
+            "5000041666 5000062500 5000083333 5000104166 5000125000 5000145833",
         ],
     },
     Row {
         name: "a clock that takes 2 ms for 96 events of 44.1 kHz",
         look: Some(2),
         captured: &[
-            Captured {
-                changes: &[(14, 0xac), (15, 0x44)],
-                ..TICK
-            },
+            captured!(TICK, changes: &[(14, 0xac), (15, 0x44)]),
             FIRST,
             SECOND,
-            Captured {
-                changes: &[(14, 0xac), (15, 0x44)],
-                ..TOCK
-            },
+            captured!(TOCK, changes: &[(14, 0xac), (15, 0x44)]),
         ],
         instants: &[
-            1_004_000_000,
-            1_004_019_140,
-            1_004_038_281,
-            1_004_057_421,
-            1_004_076_562,
-            1_004_095_703,
-            1_004_125_000,
-            1_004_144_140,
-            1_004_163_281,
-            1_004_182_421,
-            1_004_201_562,
-            1_004_220_703,
+            "1004000000 1004019140 1004038281 1004057421 1004076562 1004095703",
+            "1004125000 1004144140 1004163281 1004182421 1004201562 1004220703",
         ],
     },
 ];
 
-/// The instants of all samples in a list.
-fn instants_of(alloc: Global, list: &[Shown]) -> Result<Vec<i64>, NoMemory> {
-    let mut instants = Vec::new(alloc);
-    for shown in list {
-        if let Shown::Present(batch) = shown {
-            for j in 0..batch.count {
-                instants.push(batch.instant(j))?;
-            }
+/// The instants of the samples in an item.
+fn instants_of(alloc: Global, shown: &Shown) -> Result<String, NoMemory> {
+    let mut text = String::new(alloc);
+    if let Shown::Present(batch) = shown {
+        for j in 0..batch.count {
+            let instant = batch.instant(j);
+            let gap = if j == 0 { "" } else { " " };
+            text.push_str(&format!(in alloc; "{gap}{instant}")?)?;
         }
     }
-    Ok(instants)
+    Ok(text)
 }
 
 /// Whether each batch has so many bytes, which are the last ones of a vector.
@@ -130,12 +87,11 @@ fn samples_are_presented_at_their_instants(rt: HostRuntime) -> Result<(), Fail> 
         let plan = plan_of(4_096, 67_108_864, row.look);
         let heard = heard(rt.alloc(), &plan, &capture(rt.alloc(), row.captured)?)?;
         let list = heard.shown.as_slice();
-        let instants = instants_of(rt.alloc(), list)?;
-        assert!(rt;
-            instants.as_slice() == row.instants,
-            "{}: {instants:?}",
-            row.name
-        );
+        assert_eq!(rt; list.len(), row.instants.len(), "{}", row.name);
+        for (shown, want) in list.iter().zip(row.instants) {
+            let instants = instants_of(rt.alloc(), shown)?;
+            assert!(rt; instants.as_str() == *want, "{}: {instants}", row.name);
+        }
         assert!(rt;
             ends_a_vector(list, &samples, 24) || ends_a_vector(list, &blocks, 48),
             "{}",

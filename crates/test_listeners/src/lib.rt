@@ -1,23 +1,30 @@
 //! Tests of what hears streams: listeners, the counts of a bad network, and the findings in a stream's packets.
 #![tactic(auto)]
 
+/// A captured packet with some fields changed.
+macro_rules! captured {
+    ($packet:ident, $($field:ident: $value:expr),+) => {
+        Captured { $($field: $value,)+ ..$packet }
+    };
+}
+
 #[cfg(test)]
 mod blocks;
 #[cfg(test)]
-mod capture;
+mod captures;
 #[cfg(test)]
 mod clock;
 #[cfg(test)]
 mod findings;
 #[cfg(test)]
-mod heard;
+mod hearing;
 #[cfg(test)]
 mod instants;
+#[cfg(test)]
+mod outcomes;
 #[cfg(test)]
 mod packets;
 #[cfg(test)]
 mod records;
-#[cfg(test)]
-mod soak;
 #[cfg(test)]
 mod units;

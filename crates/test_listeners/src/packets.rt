@@ -1,150 +1,75 @@
 //! Packets of PCM, alone and together.
 
-use crate::capture::{AUDIO, Captured};
-use crate::heard::{ROW, Row, check, check_rows, plan_of};
-use avtp_base::Field;
-use sample_schedule::Reason;
+use crate::captures::{AUDIO, Captured};
+use crate::hearing::{ROW, Row, check_rows, plan_of, seen_of};
 use std::test::Fail;
 
-const SECOND: Captured = Captured {
-    arrival: 1_000_125_000,
-    seq: 1,
-    stamp: Some(1_002_125_000),
-    ..AUDIO
-};
+const SECOND: Captured =
+    captured!(AUDIO, arrival: 1_000_125_000, seq: 1, stamp: Some(1_002_125_000));
 
-const THIRD: Captured = Captured {
-    arrival: 1_000_250_000,
-    seq: 2,
-    stamp: Some(1_002_250_000),
-    ..AUDIO
-};
+const THIRD: Captured =
+    captured!(AUDIO, arrival: 1_000_250_000, seq: 2, stamp: Some(1_002_250_000));
 
 const ROWS: [Row; 10] = [
     Row {
         name: "a nanosecond before half the circle",
-        captured: &[Captured {
-            arrival: 10_000_000_000,
-            stamp: Some(3_557_549_055),
-            ..AUDIO
-        }],
-        seen: &[(1, 0, Ok(12_147_483_647))],
+        captured: &[captured!(AUDIO, arrival: 10_000_000_000, stamp: Some(3_557_549_055))],
+        seen: "1/0 at 12147483647",
         ..ROW
     },
     Row {
         name: "half the circle",
-        captured: &[Captured {
-            arrival: 10_000_000_000,
-            stamp: Some(3_557_549_056),
-            ..AUDIO
-        }],
-        seen: &[(1, 0, Err(Reason::Late))],
+        captured: &[captured!(AUDIO, arrival: 10_000_000_000, stamp: Some(3_557_549_056))],
+        seen: "1/0 Late",
         ..ROW
     },
     Row {
         name: "across the wrap, with timestamp 112",
-        captured: &[Captured {
-            arrival: 12_884_901_000,
-            stamp: Some(12_884_902_000),
-            ..AUDIO
-        }],
-        seen: &[(1, 0, Ok(12_884_902_000))],
+        captured: &[captured!(AUDIO, arrival: 12_884_901_000, stamp: Some(12_884_902_000))],
+        seen: "1/0 at 12884902000",
         ..ROW
     },
     Row {
         name: "reserved bits, and bytes after the samples",
-        captured: &[Captured {
-            changes: &[(3, 0xfe)],
-            zeros: 12,
-            ..AUDIO
-        }],
-        seen: &[(1, 0, Ok(1_002_000_000))],
+        captured: &[captured!(AUDIO, changes: &[(3, 0xfe)], zeros: 12)],
+        seen: "1/0 at 1002000000",
         ..ROW
     },
     Row {
         name: "three copies, of which the last comes late",
         captured: &[
             AUDIO,
-            Captured {
-                arrival: 1_000_500_000,
-                ..AUDIO
-            },
-            Captured {
-                arrival: 1_003_000_000,
-                ..AUDIO
-            },
+            captured!(AUDIO, arrival: 1_000_500_000),
+            captured!(AUDIO, arrival: 1_003_000_000),
         ],
-        seen: &[
-            (2, 0, Err(Reason::Repeat)),
-            (1, 0, Ok(1_002_000_000)),
-            (3, 0, Err(Reason::Late)),
-        ],
+        seen: "2/0 Repeat, 1/0 at 1002000000, 3/0 Late",
         ..ROW
     },
     Row {
         name: "packets that overtake each other",
         captured: &[
-            Captured {
-                arrival: 1_000_000_000,
-                ..THIRD
-            },
-            Captured {
-                arrival: 1_000_000_100,
-                ..AUDIO
-            },
-            Captured {
-                arrival: 1_000_000_200,
-                ..SECOND
-            },
+            captured!(THIRD, arrival: 1_000_000_000),
+            captured!(AUDIO, arrival: 1_000_000_100),
+            captured!(SECOND, arrival: 1_000_000_200),
         ],
-        seen: &[
-            (2, 0, Ok(1_002_000_000)),
-            (3, 1, Ok(1_002_125_000)),
-            (1, 2, Ok(1_002_250_000)),
-        ],
+        seen: "2/0 at 1002000000, 3/1 at 1002125000, 1/2 at 1002250000",
         ..ROW
     },
     Row {
         name: "sparse packets before and after the only stamp",
         captured: &[
-            Captured {
-                arrival: 1_000_875_000,
-                seq: 7,
-                stamp: None,
-                changes: &[(22, 0x10)],
-                ..AUDIO
-            },
-            Captured {
-                arrival: 1_001_000_000,
-                seq: 8,
-                stamp: Some(1_003_000_000),
-                changes: &[(22, 0x10)],
-                ..AUDIO
-            },
-            Captured {
-                arrival: 1_001_125_000,
-                seq: 9,
-                stamp: None,
-                changes: &[(22, 0x10)],
-                ..AUDIO
-            },
+            captured!(AUDIO, arrival: 1_000_875_000, seq: 7, stamp: None, changes: &[(22, 0x10)]),
+            captured!(AUDIO, arrival: 1_001_000_000, seq: 8, stamp: Some(1_003_000_000), changes: &[(22, 0x10)]),
+            captured!(AUDIO, arrival: 1_001_125_000, seq: 9, stamp: None, changes: &[(22, 0x10)]),
         ],
-        seen: &[
-            (1, 7, Err(Reason::Untimed)),
-            (2, 8, Ok(1_003_000_000)),
-            (3, 9, Ok(1_003_125_000)),
-        ],
+        seen: "1/7 Untimed, 2/8 at 1003000000, 3/9 at 1003125000",
         ..ROW
     },
     Row {
         name: "a full buffer",
         buffer: 2,
         captured: &[AUDIO, SECOND, THIRD],
-        seen: &[
-            (3, 2, Err(Reason::Full)),
-            (1, 0, Ok(1_002_000_000)),
-            (2, 1, Ok(1_002_125_000)),
-        ],
+        seen: "3/2 Full, 1/0 at 1002000000, 2/1 at 1002125000",
         ..ROW
     },
     Row {
@@ -152,18 +77,14 @@ const ROWS: [Row; 10] = [
         buffer: 1,
         room: 1,
         captured: &[AUDIO],
-        seen: &[(1, 0, Err(Reason::Full))],
+        seen: "1/0 Full",
         ..ROW
     },
     Row {
         name: "a full room",
         room: 30,
         captured: &[AUDIO, SECOND, THIRD],
-        seen: &[
-            (2, 1, Err(Reason::Full)),
-            (3, 2, Err(Reason::Full)),
-            (1, 0, Ok(1_002_000_000)),
-        ],
+        seen: "2/1 Full, 3/2 Full, 1/0 at 1002000000",
         ..ROW
     },
 ];
@@ -173,45 +94,35 @@ fn packets_come_in_order_once_and_within_the_buffer(rt: HostRuntime) -> Result<(
     check_rows(&rt, rt.alloc(), &ROWS)
 }
 
-/// Bytes of a packet that are changed, and how many bytes of its frame are captured; and why the packet is flagged, or `None`
+/// Bytes of a packet that are changed, and how many bytes of its frame are captured; and why the packet is flagged, or nothing
 /// where it belongs to no stream that is heard. A packet begins at byte 18 of its frame.
-type Changed = (&'static [(usize, u8)], usize, Option<Reason>);
-
-const CHANGED: [Changed; 24] = [
-    (&[(3, 0x01)], 66, Some(Reason::Uncertain)),
-    (&[(21, 0)], 66, Some(Reason::Empty)),
-    (&[(17, 0x00)], 66, Some(Reason::NoRate)),
-    (&[(1, 0x80)], 66, Some(Reason::Untimed)),
-    (&[(0, 0x00)], 66, Some(Reason::Malformed(Field::Tag))),
-    (&[(1, 0x91)], 66, Some(Reason::Malformed(Field::Version))),
-    (&[(16, 5)], 66, Some(Reason::Malformed(Field::Format))),
-    (&[(17, 0xb0)], 66, Some(Reason::Malformed(Field::Nsr))),
-    (
-        &[(18, 0)],
-        66,
-        Some(Reason::Malformed(Field::ChannelsPerFrame)),
-    ),
-    (&[(19, 17)], 66, Some(Reason::Malformed(Field::BitDepth))),
-    (
-        &[(21, 25)],
-        66,
-        Some(Reason::Malformed(Field::StreamDataLength)),
-    ),
-    (&[], 30, Some(Reason::Malformed(Field::AvtpTimestamp))),
-    (&[], 34, Some(Reason::Malformed(Field::FormatData))),
-    (&[], 38, Some(Reason::Malformed(Field::StreamDataLength))),
-    (&[], 40, Some(Reason::Malformed(Field::FormatFlags))),
-    (&[], 65, Some(Reason::Malformed(Field::StreamDataLength))),
+const CHANGED: [(&[(usize, u8)], usize, &str); 24] = [
+    (&[(3, 0x01)], 66, "1/0 Uncertain, "),
+    (&[(21, 0)], 66, "1/0 Empty, "),
+    (&[(17, 0x00)], 66, "1/0 NoRate, "),
+    (&[(1, 0x80)], 66, "1/0 Untimed, "),
+    (&[(0, 0x00)], 66, "1/0 Malformed(Tag), "),
+    (&[(1, 0x91)], 66, "1/0 Malformed(Version), "),
+    (&[(16, 5)], 66, "1/0 Malformed(Format), "),
+    (&[(17, 0xb0)], 66, "1/0 Malformed(Nsr), "),
+    (&[(18, 0)], 66, "1/0 Malformed(ChannelsPerFrame), "),
+    (&[(19, 17)], 66, "1/0 Malformed(BitDepth), "),
+    (&[(21, 25)], 66, "1/0 Malformed(StreamDataLength), "),
+    (&[], 30, "1/0 Malformed(AvtpTimestamp), "),
+    (&[], 34, "1/0 Malformed(FormatData), "),
+    (&[], 38, "1/0 Malformed(StreamDataLength), "),
+    (&[], 40, "1/0 Malformed(FormatFlags), "),
+    (&[], 65, "1/0 Malformed(StreamDataLength), "),
     // no valid stream id, another one, and other subtypes
-    (&[(1, 0x01)], 66, None),
-    (&[(11, 0x02)], 66, None),
-    (&[(0, 0x05)], 66, None),
-    (&[(0, 0x04)], 66, None),
+    (&[(1, 0x01)], 66, ""),
+    (&[(11, 0x02)], 66, ""),
+    (&[(0, 0x05)], 66, ""),
+    (&[(0, 0x04)], 66, ""),
     // less than the first 12 bytes of a packet, or than the header of a frame
-    (&[], 29, None),
-    (&[], 18, None),
-    (&[], 17, None),
-    (&[], 0, None),
+    (&[], 29, ""),
+    (&[], 18, ""),
+    (&[], 17, ""),
+    (&[], 0, ""),
 ];
 
 /// The packet after a changed one is presented whatever becomes of that.
@@ -219,21 +130,22 @@ const CHANGED: [Changed; 24] = [
 fn a_changed_packet_is_flagged_or_passed(rt: HostRuntime) -> Result<(), Fail> {
     let plan = plan_of(4_096, 67_108_864, None);
     for row in &CHANGED {
-        let first = Captured {
-            changes: row.0,
-            len: row.1,
-            ..AUDIO
-        };
-        let captured = [first, SECOND];
-        let next = (2, 1, Ok(1_002_125_000));
-        let name = "a changed packet";
-        match row.2 {
-            Some(reason) => {
-                let seen = [(1, 0, Err(reason)), next];
-                check(&rt, rt.alloc(), name, &plan, &captured, &seen)?;
-            }
-            None => check(&rt, rt.alloc(), name, &plan, &captured, &[next])?,
-        }
+        let captured = [
+            Captured {
+                changes: row.0,
+                len: row.1,
+                ..AUDIO
+            },
+            SECOND,
+        ];
+        let came = seen_of(rt.alloc(), &plan, &captured)?;
+        let next = came.strip_prefix(row.2);
+        assert!(rt;
+            next == Some("2/1 at 1002125000"),
+            "{:?} of {}: {came}",
+            row.0,
+            row.1
+        );
     }
     Ok(())
 }

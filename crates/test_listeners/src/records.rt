@@ -1,6 +1,6 @@
 //! Captures that hold other records than packets of the stream, and captures in pieces.
 
-use crate::heard::{Seen, heard, plan_of, seen_of};
+use crate::hearing::{heard, line_of, plan_of};
 use avtp_base::{Field, Refusal};
 use listener::{Counts, ListenFault, Listener};
 use std::alloc::Global;
@@ -83,13 +83,13 @@ fn a_record_is_counted_whatever_it_holds(rt: HostRuntime) -> Result<(), Fail> {
     Ok(())
 }
 
-/// What is heard of a capture that comes in pieces, up to a length and beyond it: what is seen, the counts, and the fault of
+/// What is heard of a capture that comes in pieces, up to a length and beyond it: what is shown first, the counts, and the fault of
 /// the record after the first, as it is fed and at the end.
 fn heard_in_pieces(
     alloc: Global,
     bytes: &[u8],
     cut: usize,
-) -> Result<(Vec<Seen>, Counts, [Option<ListenFault>; 2]), Fail> {
+) -> Result<(String, Counts, [Option<ListenFault>; 2]), Fail> {
     if bytes.len() > 1_000 || cut > bytes.len() {
         return Err(Fail::new("a long capture"));
     }
@@ -105,11 +105,12 @@ fn heard_in_pieces(
         Err(fault) => fault,
     };
     let at_end = listener.end().err();
-    let mut seen = Vec::new(alloc);
-    if let Some(shown) = listener.next_out() {
-        seen.push(seen_of(&shown))?;
-    }
-    Ok((seen, listener.counts(), [Some(fault), at_end]))
+    let shown = listener.next_out().ok_or("nothing is shown")?;
+    Ok((
+        line_of(alloc, &shown)?,
+        listener.counts(),
+        [Some(fault), at_end],
+    ))
 }
 
 /// The first vector, and the header of a record that is longer than any.
@@ -131,8 +132,8 @@ fn a_capture_may_be_cut_anywhere(rt: HostRuntime) -> Result<(), Fail> {
     for cut in 0..106usize {
         let (seen, counts, faults) = heard_in_pieces(rt.alloc(), &bytes, cut)?;
         assert!(rt;
-            seen.as_slice() == [(1, 0, Ok(1_002_000_000))].as_slice(),
-            "cut at {cut}: {seen:?}"
+            seen.as_str() == "1/0 at 1002000000",
+            "cut at {cut}: {seen}"
         );
         assert!(rt;
             counts == want && faults == [refused; 2],

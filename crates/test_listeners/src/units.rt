@@ -1,64 +1,39 @@
 //! Units of H.264 and their fragments.
 
-use crate::capture::{AUDIO, Captured, Format, capture};
+use crate::captures::{AUDIO, Captured, Format, capture};
 use crate::clock::TICK;
-use crate::heard::{ROW, Row, Seen, check_rows, heard, plan_of};
-use avtp_base::{Field, NoMemory};
+use crate::hearing::{ROW, Row, check_rows, heard, plan_of};
+use avtp_base::NoMemory;
 use listener::Heard;
 use sample_schedule::{Reason, Shown};
 use std::alloc::Global;
 use std::test::Fail;
 
 /// A packet with a whole unit.
-const SINGLE: Captured = Captured {
-    format: Format::Video,
-    ..AUDIO
-};
+const SINGLE: Captured = captured!(AUDIO, format: Format::Video);
 
 /// The fragments of a unit of type 5, with two bytes of the unit in each.
-const FIRST: Captured = Captured {
-    changes: &[(28, 0x7c), (29, 0x85), (31, 1)],
-    ..SINGLE
-};
+const FIRST: Captured = captured!(SINGLE, changes: &[(28, 0x7c), (29, 0x85), (31, 1)]);
 
-const MIDDLE: Captured = Captured {
-    seq: 1,
-    changes: &[(28, 0x7c), (29, 0x05), (31, 2)],
-    ..SINGLE
-};
+const MIDDLE: Captured = captured!(SINGLE, seq: 1, changes: &[(28, 0x7c), (29, 0x05), (31, 2)]);
 
-const LAST: Captured = Captured {
-    seq: 2,
-    changes: &[(28, 0x7c), (29, 0x45), (31, 3)],
-    ..SINGLE
-};
+const LAST: Captured = captured!(SINGLE, seq: 2, changes: &[(28, 0x7c), (29, 0x45), (31, 3)]);
 
 /// The unit of these three.
 const UNIT: [u8; 7] = [0x65, 0, 1, 0, 2, 0, 3];
 
-const FIRST_UNSTAMPED: Captured = Captured {
-    stamp: None,
-    ..FIRST
-};
+const FIRST_UNSTAMPED: Captured = captured!(FIRST, stamp: None);
 
-const MIDDLE_UNSTAMPED: Captured = Captured {
-    stamp: None,
-    ..MIDDLE
-};
+const MIDDLE_UNSTAMPED: Captured = captured!(MIDDLE, stamp: None);
 
 /// All four fragments are flagged where the middle one comes twice.
-const ALL_BROKEN: &[Seen] = &[
-    (1, 0, Err(Reason::Broken)),
-    (2, 1, Err(Reason::Broken)),
-    (3, 1, Err(Reason::Broken)),
-    (4, 2, Err(Reason::Broken)),
-];
+const ALL_BROKEN: &str = "1/0 Broken, 2/1 Broken, 3/1 Broken, 4/2 Broken";
 
 const ROWS: [Row; 17] = [
     Row {
         name: "a unit",
         captured: &[FIRST, MIDDLE, LAST],
-        seen: &[(3, 2, Ok(1_002_000_000))],
+        seen: "3/2 at 1002000000",
         ..ROW
     },
     Row {
@@ -70,7 +45,7 @@ const ROWS: [Row; 17] = [
     Row {
         name: "stamped on the last fragment",
         captured: &[FIRST_UNSTAMPED, MIDDLE_UNSTAMPED, LAST],
-        seen: &[(3, 2, Ok(1_002_000_000))],
+        seen: "3/2 at 1002000000",
         ..ROW
     },
     Row {
@@ -83,122 +58,85 @@ const ROWS: [Row; 17] = [
         name: "a packet of the clock between the fragments",
         look: Some(0),
         captured: &[FIRST, TICK, MIDDLE, LAST],
-        seen: &[(4, 2, Ok(1_002_000_000))],
+        seen: "4/2 at 1002000000",
         ..ROW
     },
     Row {
         name: "the same without the clock",
         captured: &[FIRST, TICK, MIDDLE, LAST],
-        seen: &[(4, 2, Ok(1_002_000_000))],
+        seen: "4/2 at 1002000000",
         ..ROW
     },
     Row {
         name: "a fragment is missing",
         captured: &[FIRST, LAST],
-        seen: &[(1, 0, Err(Reason::Broken)), (2, 2, Err(Reason::Broken))],
+        seen: "1/0 Broken, 2/2 Broken",
         ..ROW
     },
     Row {
         name: "a fragment comes early",
         captured: &[FIRST, LAST, MIDDLE],
-        seen: &[
-            (1, 0, Err(Reason::Broken)),
-            (2, 2, Err(Reason::Broken)),
-            (3, 1, Err(Reason::Broken)),
-        ],
+        seen: "1/0 Broken, 2/2 Broken, 3/1 Broken",
         ..ROW
     },
     Row {
         name: "another time",
-        captured: &[
-            FIRST,
-            Captured {
-                seq: 1,
-                stamp: Some(1_002_000_001),
-                ..LAST
-            },
-        ],
-        seen: &[(1, 0, Err(Reason::Broken)), (2, 1, Err(Reason::Broken))],
+        captured: &[FIRST, captured!(LAST, seq: 1, stamp: Some(1_002_000_001))],
+        seen: "1/0 Broken, 2/1 Broken",
         ..ROW
     },
     Row {
         name: "a whole unit",
-        captured: &[FIRST, Captured { seq: 1, ..SINGLE }],
-        seen: &[(1, 0, Err(Reason::Broken)), (2, 1, Ok(1_002_000_000))],
+        captured: &[FIRST, captured!(SINGLE, seq: 1)],
+        seen: "1/0 Broken, 2/1 at 1002000000",
         ..ROW
     },
     Row {
         name: "another first fragment",
         captured: &[FIRST, FIRST, MIDDLE, LAST],
-        seen: &[(1, 0, Err(Reason::Broken)), (4, 2, Ok(1_002_000_000))],
+        seen: "1/0 Broken, 4/2 at 1002000000",
         ..ROW
     },
     Row {
         name: "audio",
-        captured: &[
-            FIRST,
-            Captured { seq: 9, ..AUDIO },
-            Captured { seq: 1, ..LAST },
-        ],
-        seen: &[
-            (1, 0, Err(Reason::Broken)),
-            (3, 1, Err(Reason::Broken)),
-            (2, 9, Ok(1_002_000_000)),
-        ],
+        captured: &[FIRST, captured!(AUDIO, seq: 9), captured!(LAST, seq: 1)],
+        seen: "1/0 Broken, 3/1 Broken, 2/9 at 1002000000",
         ..ROW
     },
     Row {
         name: "a fragment that is first and last",
         captured: &[
             FIRST,
-            Captured {
-                seq: 1,
-                changes: &[(28, 0x7c), (29, 0xc5)],
-                ..SINGLE
-            },
+            captured!(SINGLE, seq: 1, changes: &[(28, 0x7c), (29, 0xc5)]),
         ],
-        seen: &[
-            (1, 0, Err(Reason::Broken)),
-            (2, 1, Err(Reason::Malformed(Field::FuHeader))),
-        ],
+        seen: "1/0 Broken, 2/1 Malformed(FuHeader)",
         ..ROW
     },
     Row {
         name: "an uncertain time",
         captured: &[
             FIRST,
-            Captured {
-                seq: 1,
-                changes: &[(3, 1), (28, 0x7c), (29, 0x45)],
-                ..SINGLE
-            },
+            captured!(SINGLE, seq: 1, changes: &[(3, 1), (28, 0x7c), (29, 0x45)]),
         ],
-        seen: &[(1, 0, Err(Reason::Broken)), (2, 1, Err(Reason::Uncertain))],
+        seen: "1/0 Broken, 2/1 Uncertain",
         ..ROW
     },
     Row {
         name: "no timestamp",
-        captured: &[
-            FIRST,
-            Captured {
-                seq: 1,
-                stamp: None,
-                ..LAST
-            },
-        ],
-        seen: &[(1, 0, Err(Reason::Broken)), (2, 1, Err(Reason::Untimed))],
+        captured: &[FIRST, captured!(LAST, seq: 1, stamp: None)],
+        seen: "1/0 Broken, 2/1 Untimed",
         ..ROW
     },
     Row {
         name: "the end",
         captured: &[FIRST, MIDDLE],
-        seen: &[(1, 0, Err(Reason::Broken)), (2, 1, Err(Reason::Broken))],
+        seen: "1/0 Broken, 2/1 Broken",
         ..ROW
     },
     Row {
         name: "no first fragment",
         captured: &[MIDDLE],
-        seen: &[(1, 1, Err(Reason::Broken))],
+        seen: "1/1 Broken",
         ..ROW
     },
 ];
@@ -222,80 +160,40 @@ fn bytes_of(heard: &Heard) -> Option<&[u8]> {
 }
 
 /// Fragments with 65,529 bytes of a unit of zero bytes, and the last ones with 447 and 448.
-const LONG_FIRST: Captured = Captured {
-    changes: &[(20, 0xff), (21, 0xff), (28, 0x7c), (29, 0x85)],
-    len: 48,
-    zeros: 65_529,
-    ..SINGLE
-};
+const LONG_FIRST: Captured =
+    captured!(SINGLE, changes: &[(20, 0xff), (21, 0xff), (28, 0x7c), (29, 0x85)], len: 48, zeros: 65_529);
 
-const LONG_MIDDLE: Captured = Captured {
-    changes: &[(20, 0xff), (21, 0xff), (28, 0x7c), (29, 0x05)],
-    ..LONG_FIRST
-};
+const LONG_MIDDLE: Captured =
+    captured!(LONG_FIRST, changes: &[(20, 0xff), (21, 0xff), (28, 0x7c), (29, 0x05)]);
 
-const LONG_LAST: Captured = Captured {
-    seq: 64,
-    changes: &[(20, 0x01), (21, 0xc5), (28, 0x7c), (29, 0x45)],
-    zeros: 447,
-    ..LONG_FIRST
-};
+const LONG_LAST: Captured =
+    captured!(LONG_FIRST, seq: 64, changes: &[(20, 0x01), (21, 0xc5), (28, 0x7c), (29, 0x45)], zeros: 447);
 
-const LONGER_LAST: Captured = Captured {
-    changes: &[(20, 0x01), (21, 0xc6), (28, 0x7c), (29, 0x45)],
-    zeros: 448,
-    ..LONG_LAST
-};
+const LONGER_LAST: Captured =
+    captured!(LONG_LAST, changes: &[(20, 0x01), (21, 0xc6), (28, 0x7c), (29, 0x45)], zeros: 448);
 
-/// Fragments of a unit, with so many between the first and the last; how many bytes are presented, and how many fragments are
-/// flagged as too long.
-struct LongRow {
-    first: Captured,
-    middle: Captured,
-    middles: u16,
-    last: Captured,
-    size: Option<usize>,
-    long: usize,
-}
+/// The first, the middle and the last fragments of a unit, how many middle ones there are, how many bytes are presented, and how
+/// many fragments are flagged as too long.
+type Long = ([Captured; 3], u16, Option<usize>, usize);
 
-const LONG_ROWS: [LongRow; 3] = [
-    LongRow {
-        first: LONG_FIRST,
-        middle: LONG_MIDDLE,
-        middles: 63,
-        last: LONG_LAST,
-        size: Some(4_194_304),
-        long: 0,
-    },
-    LongRow {
-        first: LONG_FIRST,
-        middle: LONG_MIDDLE,
-        middles: 63,
-        last: LONGER_LAST,
-        size: None,
-        long: 65,
-    },
+const LONG: [Long; 3] = [
+    ([LONG_FIRST, LONG_MIDDLE, LONG_LAST], 63, Some(4_194_304), 0),
+    ([LONG_FIRST, LONG_MIDDLE, LONGER_LAST], 63, None, 65),
     // the 4,098th fragment goes on with none
-    LongRow {
-        first: FIRST,
-        middle: MIDDLE,
-        middles: 4_096,
-        last: MIDDLE,
-        size: None,
-        long: 4_097,
-    },
+    ([FIRST, MIDDLE, MIDDLE], 4_096, None, 4_097),
 ];
 
-fn fragments_of(alloc: Global, row: &LongRow) -> Result<Vec<Captured>, NoMemory> {
+fn fragments_of(alloc: Global, row: &Long) -> Result<Vec<Captured>, NoMemory> {
+    let [first, middle, last] = row.0;
     let mut rows = Vec::new(alloc);
-    rows.push(row.first)?;
-    for number in 0..row.middles {
+    rows.push(first)?;
+    for number in 0..row.1 {
         rows.push(Captured {
             seq: (number.wrapping_add(1) % 256) as u8,
-            ..row.middle
+            ..middle
         })?;
     }
-    rows.push(row.last)?;
+    rows.push(last)?;
     Ok(rows)
 }
 
@@ -309,16 +207,13 @@ fn is_long(shown: &Shown) -> bool {
 #[test]
 fn a_unit_has_at_most_4096_fragments_and_4194304_bytes(rt: HostRuntime) -> Result<(), Fail> {
     let plan = plan_of(1, 67_108_864, None);
-    for row in &LONG_ROWS {
+    for row in &LONG {
         let bytes = capture(rt.alloc(), &fragments_of(rt.alloc(), row)?)?;
         let heard = heard(rt.alloc(), &plan, &bytes)?;
-        assert_eq!(rt; bytes_of(&heard).map(|bytes| bytes.len()), row.size);
+        assert_eq!(rt; bytes_of(&heard).map(|bytes| bytes.len()), row.2);
         let list = heard.shown.as_slice();
-        assert_eq!(rt;
-            list.iter().filter(|shown| is_long(shown)).count(),
-            row.long
-        );
-        assert_eq!(rt; heard.counts.packets, u64::from(row.middles) + 2);
+        assert_eq!(rt; list.iter().filter(|shown| is_long(shown)).count(), row.3);
+        assert_eq!(rt; heard.counts.packets, u64::from(row.1) + 2);
     }
     Ok(())
 }

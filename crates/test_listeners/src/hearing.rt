@@ -3,16 +3,13 @@
 ghost use Rattle.sample_schedule.specs.Limits.{IsPlan};
 ghost use Rattle.listener.specs.Heard.{schedule_plan};
 
-use crate::capture::{Captured, capture};
+use crate::captures::{Captured, capture};
 use avtp_base::NoMemory;
 use listener::{Heard, ListenPlan, whole};
-use sample_schedule::{Reason, Shown};
+use sample_schedule::Shown;
 use std::alloc::Global;
 use std::process::Abort;
 use std::test::Fail;
-
-/// A frame's number and its packet's sequence number; and the first instant of what is presented, or why nothing is.
-pub type Seen = (u64, u8, Result<i64, Reason>);
 
 /// What a listener shows of a capture.
 #[derive(Drop)]
@@ -23,7 +20,7 @@ pub struct Row {
     /// How far a listener with the clock looks ahead; `None` listens without the clock.
     pub look: Option<u32>,
     pub captured: &'static [Captured],
-    pub seen: &'static [Seen],
+    pub seen: &'static str,
 }
 
 /// A listener without the clock, and with room for all.
@@ -33,7 +30,7 @@ pub const ROW: Row = Row {
     room: 67_108_864,
     look: None,
     captured: &[],
-    seen: &[],
+    seen: "",
 };
 
 /// A plan within its limits.
@@ -64,45 +61,36 @@ pub fn heard(alloc: Global, plan: &ListenPlan, bytes: &[u8]) -> Result<Heard, Fa
     Ok(whole(alloc, plan, bytes)?)
 }
 
-/// What is seen of an item.
-pub fn seen_of(shown: &Shown) -> Seen {
+/// An item's line: its frame's and its packet's number; and the first instant of what is presented, or why nothing is.
+pub fn line_of(alloc: Global, shown: &Shown) -> Result<String, NoMemory> {
     match shown {
-        Shown::Present(batch) => (batch.frame, batch.seq, Ok(batch.instant(0))),
-        Shown::Flag { frame, seq, reason } => (*frame, *seq, Err(*reason)),
+        Shown::Present(batch) => {
+            let (frame, seq, instant) = (batch.frame, batch.seq, batch.instant(0));
+            Ok(format!(in alloc; "{frame}/{seq} at {instant}")?)
+        }
+        Shown::Flag { frame, seq, reason } => Ok(format!(in alloc; "{frame}/{seq} {reason:?}")?),
     }
 }
 
-/// What is seen of all that is shown.
-fn all_seen(alloc: Global, list: &[Shown]) -> Result<Vec<Seen>, NoMemory> {
-    let mut seen = Vec::new(alloc);
-    for shown in list {
-        seen.push(seen_of(shown))?;
-    }
-    Ok(seen)
-}
-
-/// Of these packets this is seen.
-pub fn check(
-    rt: &impl Abort,
-    alloc: Global,
-    name: &str,
-    plan: &ListenPlan,
-    captured: &[Captured],
-    seen: &[Seen],
-) -> Result<(), Fail>
+/// The lines of all that is shown of these packets.
+pub fn seen_of(alloc: Global, plan: &ListenPlan, captured: &[Captured]) -> Result<String, Fail>
     requires { IsPlan (schedule_plan plan.now) }
 {
     let heard = heard(alloc, plan, &capture(alloc, captured)?)?;
-    let came = all_seen(alloc, heard.shown.as_slice())?;
-    assert!(rt; came.as_slice() == seen, "{name}: {came:?}");
-    Ok(())
+    let mut text = String::new(alloc);
+    for shown in heard.shown.as_slice() {
+        text.push_str(if text.is_empty() { "" } else { ", " })?;
+        text.push_str(&line_of(alloc, shown)?)?;
+    }
+    Ok(text)
 }
 
 /// Of each row's packets its list is seen.
 pub fn check_rows(rt: &impl Abort, alloc: Global, rows: &[Row]) -> Result<(), Fail> {
     for row in rows {
         let plan = plan_of(row.buffer, row.room, row.look);
-        check(rt, alloc, row.name, &plan, row.captured, row.seen)?;
+        let came = seen_of(alloc, &plan, row.captured)?;
+        assert!(rt; came.as_str() == row.seen, "{}: {came}", row.name);
     }
     Ok(())
 }
