@@ -1,4 +1,4 @@
-//! Tests of what hears streams: listeners, the counts of a bad network, and the findings in a stream's packets.
+//! Tests of what hears streams: listeners, deliveries over a bad network and their counts, and the findings in a stream's packets.
 #![tactic(auto)]
 
 /// A captured packet with some fields changed.
@@ -14,6 +14,8 @@ mod blocks;
 mod captures;
 #[cfg(test)]
 mod clock;
+#[cfg(test)]
+mod deliveries;
 #[cfg(test)]
 mod findings;
 #[cfg(test)]

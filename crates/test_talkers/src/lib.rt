@@ -1,4 +1,4 @@
-//! Tests of the talker: the frames of each kind of plan, the inputs that it refuses, and the deliveries over a bad network.
+//! Tests of the talker: the frames of each kind of plan, and the inputs that it refuses.
 #![tactic(auto)]
 
 #[cfg(test)]
@@ -7,8 +7,6 @@ mod audio;
 mod blocks;
 #[cfg(test)]
 mod clock;
-#[cfg(test)]
-mod deliveries;
 #[cfg(test)]
 mod faults;
 #[cfg(test)]

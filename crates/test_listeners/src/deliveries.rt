@@ -1,7 +1,7 @@
 //! Deliveries over a bad network, that were worked out by hand and by another program.
 
+use soak_run::{Noise, soak_deliveries};
 use std::test::Fail;
-use talker::{Noise, soak_deliveries};
 
 /// The first numbers that are drawn from a seed, which is taken modulo 2^31.
 const DRAWS: [(u64, &[u32]); 3] = [
