@@ -16,9 +16,7 @@ _avtp() {
         listen:--clock) words='' ;;
         listen:--crf-shift) words='' ;;
         listen:--ring) words='' ;;
-        listen:--raw) words='' ;;
         listen:--silence) words='zero am824' ;;
-        listen:--annexb) words='' ;;
         talk:--kind) words='aaf am824 h264' ;;
         talk:--format) words='int16 int24 int32 float32' ;;
         talk:--rate) words='8000 16000 24000 32000 44100 48000 88200 96000 176400 192000' ;;
@@ -34,6 +32,7 @@ _avtp() {
         talk:--crf-points) words='' ;;
         talk:--crf-rate) words='' ;;
         talk:--crf-pull) words='' ;;
+        soak:soak) words='' ;;
         *) words=- ;;
     esac
     if [ "$words" != - ]; then
