@@ -1,48 +1,130 @@
 //! Each call of the outside fails in turn, however little a call moves: the status is that of the fault, and the text is what
 //! was certain before it.
 
-use crate::clock::{CLOCK, late_point};
-use crate::runs::{Ran, STREAM, run_between, run_on, shelf_of};
+use crate::recipe::file_of;
+use crate::transcript::{status_of, words_of};
 use avtp_base::NoMemory;
-use avtp_memory::MemorySink;
+use avtp_memory::{MemoryShelf, MemorySink};
 use avtp_tool::Status;
-use presenter_ring::NoGate;
+use device_rack::Rack;
 use std::alloc::Global;
-use std::test::Fail;
 use std::thread::Threads;
-use vectors_avtp::{changed, vector};
 
-/// How many bytes a call moves at most.
-const PIECES: [usize; 3] = [1, 7, 65_536];
+/// How many bytes a read moves at most, and a write.
+const READS: [usize; 2] = [1, 65_536];
+
+const WRITES: [usize; 2] = [7, 65_536];
 
 /// A command that reads a capture: what it prints before it reads, what more is certain of all the capture's bytes, what the
 /// end of the capture adds, and how it ends then.
-#[derive(Drop)]
-struct Case<'a> {
-    line: &'a [&'a str],
-    capture: &'a [u8],
-    before: &'a str,
-    certain: &'a str,
-    end: &'a str,
+#[derive(Clone, Copy)]
+struct Case {
+    line: &'static str,
+    capture: &'static str,
+    before: &'static str,
+    certain: &'static str,
+    end: &'static str,
     status: Status,
 }
 
-impl Case<'_> {
-    /// What is printed, and how it ends, where this call of the shelf fails and each moves at most so many bytes. Its first
-    /// call opens the file, and its last one finds that nothing is left.
-    fn told(&self, alloc: Global, call: usize, most: usize) -> Result<(Status, String), NoMemory> {
-        let reads = self.capture.len().div_ceil(most.max(1));
-        let fault = "read fault\n";
+const SHOWN: Case = Case {
+    line: "show c.pcap",
+    capture: "V1",
+    before: "",
+    certain: "frame 1 at 1000000000 aaf id 0200000000010001 seq 0 ts 1002000000 tv 1 tu 0 mr 0 sp 0 evt 0 format int16 rate 48000 channels 2 depth 16 count 6 bytes 24\n",
+    end: "end frames 1\n",
+    status: Status::Done,
+};
+
+const HEARD: Case = Case {
+    line: "listen --buffer 8 --room 192 0200000000010001 c.pcap",
+    capture: "V1",
+    before: "capture c.pcap\n",
+    certain: "",
+    end: "\
+at 1002000000 frame 1 seq 0 sample 0 0001ffff
+at 1002020833 frame 1 seq 0 sample 1 0002fffe
+at 1002041666 frame 1 seq 0 sample 2 0003fffd
+at 1002062500 frame 1 seq 0 sample 3 0004fffc
+at 1002083333 frame 1 seq 0 sample 4 0005fffb
+at 1002104166 frame 1 seq 0 sample 5 0006fffa
+end frames 1 packets 1 presented 1 flagged 0
+",
+    status: Status::Done,
+};
+
+/// Two packets on a clock whose second point comes after them.
+const CLOCKED: Case = Case {
+    line: "listen --buffer 8 --room 192 --look 2 --clock 0200000000010002 0200000000010001 c.pcap",
+    capture: "\
+V4 capture:1000000000
+V1/58 ts:1004000000 record:1002000000
+V1/58 2=01 ts:1004125000 record:1002125000
+V4 2=01 point:1004000000 record:1002200000
+",
+    before: "capture c.pcap\n",
+    certain: "",
+    end: "\
+at 1004000000 frame 2 seq 0 sample 0 0001ffff
+at 1004020833 frame 2 seq 0 sample 1 0002fffe
+at 1004041666 frame 2 seq 0 sample 2 0003fffd
+at 1004062500 frame 2 seq 0 sample 3 0004fffc
+at 1004083333 frame 2 seq 0 sample 4 0005fffb
+at 1004104166 frame 2 seq 0 sample 5 0006fffa
+at 1004125000 frame 3 seq 1 sample 0 0001ffff
+at 1004145833 frame 3 seq 1 sample 1 0002fffe
+at 1004166666 frame 3 seq 1 sample 2 0003fffd
+at 1004187500 frame 3 seq 1 sample 3 0004fffc
+at 1004208333 frame 3 seq 1 sample 4 0005fffb
+at 1004229166 frame 3 seq 1 sample 5 0006fffa
+end frames 4 packets 2 presented 2 flagged 0
+",
+    status: Status::Done,
+};
+
+const CHECKED: Case = Case {
+    line: "check c.pcap",
+    capture: "V1 32=4e 36=4e 61=fe zeros:12",
+    before: "capture c.pcap\n",
+    certain: "finding frame 1 id 0200000000010001 reserved\n",
+    end: "end frames 1 streams 1 findings 1\n",
+    status: Status::Findings,
+};
+
+/// The same capture as pcapng.
+const SHOWN_NG: Case = Case {
+    capture: "V5",
+    ..SHOWN
+};
+
+const HEARD_NG: Case = Case {
+    capture: "V5",
+    ..HEARD
+};
+
+impl Case {
+    /// What is printed, and how it ends, where this call of the shelf fails and the capture takes so many reads. The first
+    /// call opens the file, and the last one finds that nothing is left.
+    fn told(&self, alloc: Global, call: usize, reads: usize) -> Result<(Status, String), NoMemory> {
+        let Case {
+            before,
+            certain,
+            ..
+        } = self;
         if call == 1 {
-            return Ok((Status::ReadFault, String::from_str(alloc, fault)?));
+            return Ok((Status::ReadFault, String::from_str(alloc, "read fault\n")?));
         }
-        if call <= 1 + reads {
-            let text = format!(in alloc; "{}{fault}", self.before)?;
-            return Ok((Status::ReadFault, text));
+        if call <= reads.saturating_add(1) {
+            return Ok((
+                Status::ReadFault,
+                format!(in alloc; "{before}read fault\n")?,
+            ));
         }
-        if call == 2 + reads {
-            let text = format!(in alloc; "{}{}{fault}", self.before, self.certain)?;
-            return Ok((Status::ReadFault, text));
+        if call == reads.saturating_add(2) {
+            return Ok((
+                Status::ReadFault,
+                format!(in alloc; "{before}{certain}read fault\n")?,
+            ));
         }
         Ok((self.status, self.whole(alloc)?))
     }
@@ -51,181 +133,102 @@ impl Case<'_> {
     fn whole(&self, alloc: Global) -> Result<String, NoMemory> {
         Ok(format!(in alloc; "{}{}{}", self.before, self.certain, self.end)?)
     }
-
-    /// The run where this call of the shelf fails.
-    fn without_a_call<T: Threads + Sync>(
-        &self,
-        rt: &T,
-        alloc: Global,
-        call: usize,
-        most: usize,
-    ) -> Result<Ran, NoMemory> {
-        let capture = Vec::from_slice(alloc, self.capture)?;
-        let shelf = shelf_of(alloc, "c.pcap", capture, &[call as u64])?;
-        run_on(rt, alloc, self.line, &mut shelf.at_most(most.max(1)), &[])
-    }
-
-    /// The run where this call of the sink fails.
-    fn without_a_write<T: Threads + Sync>(
-        &self,
-        rt: &T,
-        alloc: Global,
-        call: usize,
-        most: usize,
-    ) -> Result<Ran, NoMemory> {
-        let capture = Vec::from_slice(alloc, self.capture)?;
-        let mut shelf = shelf_of(alloc, "c.pcap", capture, &[])?;
-        let fails = Vec::from_slice(alloc, &[call as u64])?;
-        let sink = MemorySink::over(alloc, fails).at_most(most.max(1));
-        run_between(rt, alloc, self.line, &mut shelf, sink, &NoGate)
-    }
 }
 
-/// Runs a command once for each call of the shelf and of the sink that it makes, and that one fails; and once more, where none
-/// does. Answers the first call that ends otherwise than it should, and how much it moves.
-fn first_wrong<T: Threads + Sync>(
+/// How a run ended, what it printed, and the file that it made.
+#[derive(Drop)]
+struct Outcome {
+    status: Status,
+    text: Vec<u8>,
+    made: Option<Vec<u8>>,
+}
+
+/// The run of a command over a file where a call of the shelf and one of the sink fail, and each moves at most so many bytes.
+fn ended<T: Threads + Sync>(
     rt: &T,
     alloc: Global,
-    case: &Case<'_>,
-) -> Result<Option<(usize, usize)>, NoMemory> {
-    for most in PIECES {
-        let reads = case.capture.len().div_ceil(most.max(1));
-        for call in 1..=reads.saturating_add(3) {
-            let ran = case.without_a_call(rt, alloc, call, most)?;
-            let (status, text) = case.told(alloc, call, most)?;
-            if ran.status != status || ran.text.as_slice() != text.as_bytes() {
-                return Ok(Some((call, most)));
+    line: &str,
+    file: (&str, &[u8]),
+    calls: (usize, usize),
+    most: usize,
+) -> Result<Outcome, NoMemory> {
+    let mut files = Vec::new(alloc);
+    files.push((
+        String::from_str(alloc, file.0)?,
+        Vec::from_slice(alloc, file.1)?,
+    ))?;
+    let fails = Vec::from_slice(alloc, &[calls.0 as u64])?;
+    let mut shelf = MemoryShelf::over(alloc, files, fails).at_most(most.max(1));
+    let fails = Vec::from_slice(alloc, &[calls.1 as u64])?;
+    let mut sink = MemorySink::over(alloc, fails).at_most(most.max(1));
+    let mut rack = Rack::over(Vec::new(alloc));
+    let words = words_of(alloc, line)?;
+    let status = status_of(rt, alloc, &words, &mut shelf, &mut sink, &mut rack);
+    let text = Vec::from_slice(alloc, sink.bytes())?;
+    let made = match shelf.file("c.pcap") {
+        Some(bytes) => Some(Vec::from_slice(alloc, bytes)?),
+        None => None,
+    };
+    Ok(Outcome { status, text, made })
+}
+
+#[test]
+fn a_failing_read_ends_the_run_after_what_was_certain(rt: HostRuntime) -> Result<(), NoMemory> {
+    let alloc = rt.alloc();
+    for case in [SHOWN, HEARD, CLOCKED, CHECKED, SHOWN_NG, HEARD_NG] {
+        let capture = file_of(alloc, case.capture)?;
+        for most in READS {
+            let reads = capture.len().div_ceil(most.max(1));
+            for call in 1..=reads.saturating_add(3) {
+                let file = ("c.pcap", capture.as_slice());
+                let ran = ended(&rt, alloc, case.line, file, (call, 0), most)?;
+                let (status, text) = case.told(alloc, call, reads)?;
+                let line = case.line;
+                assert_eq!(rt; ran.status, status, "{line}: call {call} of {most} bytes");
+                assert!(rt;
+                    ran.text.as_slice() == text.as_bytes(),
+                    "{line}: call {call} of {most} bytes"
+                );
             }
         }
     }
-    Ok(None)
+    Ok(())
 }
 
-/// The same of the calls of the sink: what was written before the one that fails is a prefix of the whole text, and no shorter
-/// than where an earlier call fails.
-fn first_wrong_write<T: Threads + Sync>(
-    rt: &T,
-    alloc: Global,
-    case: &Case<'_>,
-) -> Result<Option<(usize, usize)>, NoMemory> {
-    let whole = case.whole(alloc)?;
-    for most in PIECES {
-        let mut written = 0;
-        for call in 1..=whole.len().saturating_add(1) {
-            let ran = case.without_a_write(rt, alloc, call, most)?;
-            if ran.status == case.status && ran.text.as_slice() == whole.as_bytes() {
-                break;
+/// What was written is a prefix of the whole text, and no shorter than where an earlier call fails.
+#[test]
+fn a_failing_write_leaves_a_prefix_of_the_text(rt: HostRuntime) -> Result<(), NoMemory> {
+    let alloc = rt.alloc();
+    for case in [SHOWN, HEARD, CHECKED] {
+        let capture = file_of(alloc, case.capture)?;
+        let whole = case.whole(alloc)?;
+        for most in WRITES {
+            let mut written = 0;
+            for call in 1..=whole.len().saturating_add(1) {
+                let file = ("c.pcap", capture.as_slice());
+                let ran = ended(&rt, alloc, case.line, file, (0, call), most)?;
+                let line = case.line;
+                assert!(rt;
+                    whole.as_bytes().starts_with(&ran.text),
+                    "{line}: call {call} of {most} bytes"
+                );
+                assert!(rt;
+                    written <= ran.text.len(),
+                    "{line}: call {call} of {most} bytes"
+                );
+                written = ran.text.len();
+                if ran.status == case.status {
+                    break;
+                }
+                assert_eq!(rt;
+                    ran.status,
+                    Status::WriteFault,
+                    "{line}: call {call} of {most} bytes"
+                );
             }
-            let within = written <= ran.text.len() && ran.text.len() < whole.len();
-            if ran.status != Status::WriteFault
-                || !within
-                || !whole.as_bytes().starts_with(&ran.text)
-            {
-                return Ok(Some((call, most)));
-            }
-            written = ran.text.len();
+            assert_eq!(rt; written, whole.len());
         }
     }
-    Ok(None)
-}
-
-/// The lines of the first vector's samples where the first of them stands at this nanosecond of a second, in this frame.
-fn samples(alloc: Global, first: u64, frame: u64, seq: u8) -> Result<String, NoMemory> {
-    let words = [
-        "0001ffff", "0002fffe", "0003fffd", "0004fffc", "0005fffb", "0006fffa",
-    ];
-    let mut text = String::new(alloc);
-    for (sample, word) in (0u64..).zip(words) {
-        let at = first.saturating_add(sample.saturating_mul(62_500) / 3);
-        let line = format!(in alloc; "at {at} frame {frame} seq {seq} sample {sample} {word}\n")?;
-        text.push_str(line.as_str())?;
-    }
-    Ok(text)
-}
-
-/// Whether each failing call of the shelf and of the sink ends the run as it should.
-fn each_is_told<T: Threads + Sync>(
-    rt: &T,
-    alloc: Global,
-    case: &Case<'_>,
-) -> Result<bool, NoMemory> {
-    Ok(first_wrong(rt, alloc, case)?.is_none() && first_wrong_write(rt, alloc, case)?.is_none())
-}
-
-/// One packet that is heard.
-#[test]
-fn listening(rt: HostRuntime) -> Result<(), Fail> {
-    let plain = vector(rt.alloc(), 1)?;
-    let heard = format!(in rt.alloc();
-        "{}end frames 1 packets 1 presented 1 flagged 0\n",
-        samples(rt.alloc(), 1_002_000_000, 1, 0)?
-    )?;
-    let case = Case {
-        line: &["listen", "--buffer", "8", "--room", "192", STREAM, "c.pcap"],
-        capture: &plain,
-        before: "capture c.pcap\n",
-        certain: "",
-        end: heard.as_str(),
-        status: Status::Done,
-    };
-    assert!(rt; each_is_told(&rt, rt.alloc(), &case)?);
-    Ok(())
-}
-
-/// Two packets that are heard on a clock whose second point comes after them.
-#[test]
-fn listening_on_a_clock(rt: HostRuntime) -> Result<(), Fail> {
-    let late = late_point(rt.alloc(), 0x80, 48_000)?;
-    let clocked = format!(in rt.alloc();
-        "{}{}end frames 4 packets 2 presented 2 flagged 0\n",
-        samples(rt.alloc(), 1_004_000_000, 2, 0)?,
-        samples(rt.alloc(), 1_004_125_000, 3, 1)?
-    )?;
-    let case = Case {
-        line: &[
-            "listen", "--buffer", "8", "--room", "192", "--look", "2", "--clock", CLOCK, STREAM,
-            "c.pcap",
-        ],
-        capture: &late,
-        before: "capture c.pcap\n",
-        certain: "",
-        end: clocked.as_str(),
-        status: Status::Done,
-    };
-    assert!(rt; each_is_told(&rt, rt.alloc(), &case)?);
-    Ok(())
-}
-
-/// A packet with a reserved bit, and with bytes that trail it, is checked.
-#[test]
-fn checking(rt: HostRuntime) -> Result<(), Fail> {
-    let reserved = [(32, 78), (36, 78), (61, 0xFE)];
-    let trailed = changed(vector(rt.alloc(), 1)?, &reserved, 106, 12)?;
-    let case = Case {
-        line: &["check", "c.pcap"],
-        capture: &trailed,
-        before: "capture c.pcap\n",
-        certain: "finding frame 1 id 0200000000010001 reserved\n",
-        end: "end frames 1 streams 1 findings 1\n",
-        status: Status::Findings,
-    };
-    assert!(rt; each_is_told(&rt, rt.alloc(), &case)?);
-    Ok(())
-}
-
-/// A packet is shown.
-#[test]
-fn showing(rt: HostRuntime) -> Result<(), Fail> {
-    let plain = vector(rt.alloc(), 1)?;
-    let case = Case {
-        line: &["show", "c.pcap"],
-        capture: &plain,
-        before: "",
-        certain: "frame 1 at 1000000000 aaf id 0200000000010001 seq 0 ts 1002000000 tv 1 tu 0 mr 0 sp 0 evt 0 format int16 rate 48000 channels 2 depth 16 count 6 bytes 24\n",
-        end: "end frames 1\n",
-        status: Status::Done,
-    };
-    assert!(rt; each_is_told(&rt, rt.alloc(), &case)?);
     Ok(())
 }
 
@@ -233,43 +236,47 @@ fn showing(rt: HostRuntime) -> Result<(), Fail> {
 /// the run ends, and how many bytes the capture has, if it was made. The calls are one to open the input, those that read it
 /// and the one that finds its end, one to make the capture, and those that write it.
 fn made(call: usize, most: usize) -> (Status, Option<usize>) {
-    let reads = 24usize.div_ceil(most.max(1));
+    let create = 24usize.div_ceil(most.max(1)).saturating_add(3);
     let writes = 106usize.div_ceil(most.max(1));
-    let made = reads.saturating_add(3);
-    if call < made {
+    if call < create {
         return (Status::ReadFault, None);
     }
-    if call == made {
+    let done = call.saturating_sub(create);
+    if done == 0 {
         return (Status::WriteFault, None);
     }
-    let written = (call - made - 1).saturating_mul(most).min(106);
-    if call - made <= writes {
+    if done <= writes {
+        let written = done.saturating_sub(1).saturating_mul(most).min(106);
         return (Status::WriteFault, Some(written));
     }
     (Status::Done, Some(106))
 }
 
-/// A capture of one packet is made.
 #[test]
-fn writing(rt: HostRuntime) -> Result<(), Fail> {
-    let whole = vector(rt.alloc(), 1)?;
-    let line = ["talk", "a.raw", "c.pcap"];
-    for most in PIECES {
+fn a_failing_call_of_talk_leaves_a_prefix_of_the_capture(rt: HostRuntime) -> Result<(), NoMemory> {
+    let alloc = rt.alloc();
+    let whole = file_of(alloc, "V1")?;
+    let samples = file_of(alloc, "V1/82")?;
+    for most in [1, 7, 65_536] {
         for call in 1..=140 {
-            let samples = Vec::from_slice(rt.alloc(), whole.get(82..).unwrap_or(&[]))?;
-            let shelf = shelf_of(rt.alloc(), "a.raw", samples, &[call as u64])?;
-            let mut shelf = shelf.at_most(most.max(1));
-            let ran = run_on(&rt, rt.alloc(), &line, &mut shelf, &[])?;
+            let file = ("a.raw", samples.as_slice());
+            let ran = ended(&rt, alloc, "talk a.raw c.pcap", file, (call, 0), most)?;
             let (status, size) = made(call, most);
             let text = match status {
                 Status::ReadFault => "read fault\n",
                 Status::WriteFault => "",
                 _ => "talk packets 1 clock 0\n",
             };
-            assert_eq!(rt; ran.status, status, "call {call} of {most}");
-            assert_eq!(rt; ran.text.as_slice(), text.as_bytes());
-            let made = size.map(|size| whole.get(..size).unwrap_or(&[]));
-            assert!(rt; shelf.file("c.pcap") == made, "call {call} of {most}");
+            assert_eq!(rt; ran.status, status, "call {call} of {most} bytes");
+            assert!(rt;
+                ran.text.as_slice() == text.as_bytes(),
+                "call {call} of {most} bytes"
+            );
+            let stated = size.map(|size| whole.get(..size).unwrap_or(&[]));
+            assert!(rt;
+                ran.made.as_deref() == stated,
+                "call {call} of {most} bytes"
+            );
         }
     }
     Ok(())

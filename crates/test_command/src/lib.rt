@@ -1,31 +1,23 @@
-//! Tests of the command: worked rows over captures in memory.
+//! Tests of the command: transcripts of runs over files in memory.
 #![tactic(auto)]
 
 #[cfg(test)]
-mod am824;
-#[cfg(test)]
 mod check;
 #[cfg(test)]
-mod clock;
+mod devices;
 #[cfg(test)]
 mod faults;
-#[cfg(test)]
-mod files;
 #[cfg(test)]
 mod listen;
 #[cfg(test)]
 mod losses;
 #[cfg(test)]
-mod pcapng;
-#[cfg(test)]
-mod racks;
+mod recipe;
 #[cfg(test)]
 mod rings;
 #[cfg(test)]
-mod runs;
-#[cfg(test)]
 mod show;
 #[cfg(test)]
-mod soak;
-#[cfg(test)]
 mod talk;
+#[cfg(test)]
+mod transcript;

@@ -1,273 +1,56 @@
-//! The command `listen`, from its words and the capture's bytes to its text and status.
+//! The command `listen`.
 
-use crate::runs::{Ran, STREAM, run_over};
+use crate::transcript::{follow, words_of};
 use avtp_base::NoMemory;
-use avtp_tool::Status;
-use std::alloc::{AllocError, Global};
-use std::test::Fail;
-use std::thread::Threads;
-use vectors_avtp::{changed, vector};
+use avtp_tool::{DeviceWord, device_word};
+use device_rack::Silence;
 
-/// The sample frames of the first vector, and their instants behind the first at 48 kHz.
-const SAMPLES: [(u64, &str); 6] = [
-    (0, "0001ffff"),
-    (20_833, "0002fffe"),
-    (41_666, "0003fffd"),
-    (62_500, "0004fffc"),
-    (83_333, "0005fffb"),
-    (104_166, "0006fffa"),
-];
-
-/// The lines of a packet that holds the vector's samples.
-pub fn lines(alloc: Global, first: u64, frame: u64, seq: u8) -> Result<String, AllocError> {
-    let mut text = String::new(alloc);
-    for (j, (offset, bytes)) in SAMPLES.iter().enumerate() {
-        let instant = first.saturating_add(*offset);
-        let line = format!(in alloc; "at {instant} frame {frame} seq {seq} sample {j} {bytes}\n")?;
-        text.push_str(&line)?;
-    }
-    Ok(text)
-}
-
-/// A packet of the vector's samples with another sequence number and timestamp, and when it was captured, in seconds
-/// and nanoseconds.
-#[derive(Clone, Copy, Drop)]
-pub struct Sent {
-    seq: u8,
-    timestamp: u32,
-    seconds: u32,
-    nanoseconds: u32,
-}
-
-pub fn packet(seq: u8, timestamp: u32, seconds: u32, nanoseconds: u32) -> Sent {
-    Sent {
-        seq,
-        timestamp,
-        seconds,
-        nanoseconds,
-    }
-}
-
-/// The vector's record with the packet in it.
-fn record_of(alloc: Global, sent: Sent) -> Result<Vec<u8>, NoMemory> {
-    let [s0, s1, s2, s3] = sent.seconds.to_le_bytes();
-    let [n0, n1, n2, n3] = sent.nanoseconds.to_le_bytes();
-    let [t0, t1, t2, t3] = sent.timestamp.to_be_bytes();
-    let changes = [
-        (24, s0),
-        (25, s1),
-        (26, s2),
-        (27, s3),
-        (28, n0),
-        (29, n1),
-        (30, n2),
-        (31, n3),
-        (60, sent.seq),
-        (70, t0),
-        (71, t1),
-        (72, t2),
-        (73, t3),
-    ];
-    changed(vector(alloc, 1)?, &changes, 106, 0)
-}
-
-/// The vector's file header, and a record of each packet.
-pub fn capture_of(alloc: Global, packets: &[Sent]) -> Result<Vec<u8>, NoMemory> {
-    let mut capture = changed(vector(alloc, 1)?, &[], 24, 0)?;
-    for sent in packets {
-        let whole = record_of(alloc, *sent)?;
-        if let Some(record) = whole.get(24..) {
-            capture.extend_from_slice(record)?;
-        }
-    }
-    Ok(capture)
-}
-
-/// What `listen` says of the packets.
-fn hear<T: Threads + Sync>(
-    rt: &T,
-    alloc: Global,
-    options: &[&str],
-    packets: &[Sent],
-) -> Result<Ran, NoMemory> {
-    let mut line = Vec::new(alloc);
-    line.push("listen")?;
-    line.extend_from_slice(options)?;
-    line.push(STREAM)?;
-    line.push("c.pcap")?;
-    run_over(rt, alloc, &line, capture_of(alloc, packets)?, &[], &[])
-}
-
-/// One packet on either side of half a circle of the timestamp, and across its wrap.
-#[test]
-fn timestamps(rt: HostRuntime) -> Result<(), Fail> {
-    let before = lines(rt.alloc(), 12_147_483_647, 1, 0)?;
-    let across = lines(rt.alloc(), 12_884_902_000, 1, 0)?;
-    let one = "end frames 1 packets 1 presented 1 flagged 0\n";
-    let text = format!(in rt.alloc(); "capture c.pcap\n{before}{one}")?;
-    let ran = hear(&rt, rt.alloc(), &[], &[packet(0, 3_557_549_055, 10, 0)])?;
-    assert_eq!(rt; ran.text.as_slice(), text.as_bytes());
-    let late =
-        "capture c.pcap\nflag frame 1 seq 0 late\nend frames 1 packets 1 presented 0 flagged 1\n";
-    let ran = hear(&rt, rt.alloc(), &[], &[packet(0, 3_557_549_056, 10, 0)])?;
-    assert_eq!(rt; ran.text.as_slice(), late.as_bytes());
-    let text = format!(in rt.alloc(); "capture c.pcap\n{across}{one}")?;
-    let ran = hear(&rt, rt.alloc(), &[], &[packet(0, 112, 12, 884_901_000)])?;
-    assert_eq!(rt; ran.text.as_slice(), text.as_bytes());
-    Ok(())
-}
-
-/// A packet that came three times.
-#[test]
-fn repeats(rt: HostRuntime) -> Result<(), Fail> {
-    let packets = [
-        packet(0, 1_002_000_000, 1, 0),
-        packet(0, 1_002_000_000, 1, 500_000),
-        packet(0, 1_002_000_000, 1, 3_000_000),
-    ];
-    let once = lines(rt.alloc(), 1_002_000_000, 1, 0)?;
-    let text = format!(in rt.alloc();
-        "capture c.pcap\nflag frame 2 seq 0 repeat\n{once}flag frame 3 seq 0 late\nend frames 3 packets 3 presented 1 flagged 2\n"
-    )?;
-    let ran = hear(&rt, rt.alloc(), &[], &packets)?;
-    assert_eq!(rt; ran.text.as_slice(), text.as_bytes());
-    Ok(())
-}
-
-/// Packets that overtook each other.
-#[test]
-fn orders(rt: HostRuntime) -> Result<(), Fail> {
-    let packets = [
-        packet(2, 1_002_250_000, 1, 0),
-        packet(0, 1_002_000_000, 1, 100),
-        packet(1, 1_002_125_000, 1, 200),
-    ];
-    let second = lines(rt.alloc(), 1_002_000_000, 2, 0)?;
-    let third = lines(rt.alloc(), 1_002_125_000, 3, 1)?;
-    let first = lines(rt.alloc(), 1_002_250_000, 1, 2)?;
-    let text = format!(in rt.alloc();
-        "capture c.pcap\n{second}{third}{first}end frames 3 packets 3 presented 3 flagged 0\n"
-    )?;
-    let ran = hear(&rt, rt.alloc(), &[], &packets)?;
-    assert_eq!(rt; ran.text.as_slice(), text.as_bytes());
-    Ok(())
-}
-
-/// The buffer and its room are full.
-#[test]
-fn full_buffers(rt: HostRuntime) -> Result<(), Fail> {
-    let packets = [
-        packet(0, 1_002_000_000, 1, 0),
-        packet(1, 1_002_125_000, 1, 125_000),
-        packet(2, 1_002_250_000, 1, 250_000),
-    ];
-    let first = lines(rt.alloc(), 1_002_000_000, 1, 0)?;
-    let second = lines(rt.alloc(), 1_002_125_000, 2, 1)?;
-    let text = format!(in rt.alloc();
-        "capture c.pcap\nflag frame 3 seq 2 full\n{first}{second}end frames 3 packets 3 presented 2 flagged 1\n"
-    )?;
-    let ran = hear(&rt, rt.alloc(), &["--buffer", "2"], &packets)?;
-    assert_eq!(rt; ran.text.as_slice(), text.as_bytes());
-    let text = format!(in rt.alloc();
-        "capture c.pcap\nflag frame 2 seq 1 full\nflag frame 3 seq 2 full\n{first}end frames 3 packets 3 presented 1 flagged 2\n"
-    )?;
-    let ran = hear(&rt, rt.alloc(), &["--room", "30"], &packets)?;
-    assert_eq!(rt; ran.text.as_slice(), text.as_bytes());
-    Ok(())
-}
-
-/// The vector, whole, changed, cut and with bytes behind it.
-#[test]
-fn captures(rt: HostRuntime) -> Result<(), Fail> {
-    let samples = lines(rt.alloc(), 1_002_000_000, 1, 0)?;
-    let whole = format!(in rt.alloc();
-        "capture c.pcap\n{samples}end frames 1 packets 1 presented 1 flagged 0\n"
-    )?;
-    let behind = format!(in rt.alloc();
-        "capture c.pcap\n{samples}capture refused: ts_sec at 106 short\n"
-    )?;
-    let channels =
-        "capture c.pcap\nflag frame 1 seq 0 malformed channels_per_frame\nend frames 1 packets 1 presented 0 flagged 1\n";
-    let none = "capture c.pcap\nend frames 1 packets 0 presented 0 flagged 0\n";
-    let cut = "capture c.pcap\ncapture refused: packet_bytes at 40 short\n";
-    let cases: [(&[(usize, u8)], usize, usize, Status, &str); 7] = [
-        (&[], 106, 0, Status::Done, whole.as_str()),
-        // Reserved bits are set, and twelve bytes follow the packet.
-        (
-            &[(61, 0xfe), (32, 78), (36, 78)],
-            106,
-            12,
-            Status::Done,
-            whole.as_str(),
-        ),
-        (&[], 106, 1, Status::Refused, behind.as_str()),
-        (&[], 105, 0, Status::Refused, cut),
-        (&[(75, 0x50), (76, 0)], 106, 0, Status::Done, channels),
-        // The stream id is not valid; and another subtype.
-        (&[(59, 0x01)], 106, 0, Status::Done, none),
-        (&[(58, 0x6e)], 106, 0, Status::Done, none),
-    ];
-    for (changes, len, zeros, status, text) in cases {
-        let capture = changed(vector(rt.alloc(), 1)?, changes, len, zeros)?;
-        let ran = run_over(
-            &rt,
-            rt.alloc(),
-            &["listen", STREAM, "c.pcap"],
-            capture,
-            &[],
-            &[],
-        )?;
-        assert_eq!(rt; ran.text.as_slice(), text.as_bytes());
-        assert_eq!(rt; ran.status, status);
-    }
-    Ok(())
-}
-
-/// Other words on the vector.
-#[test]
-fn words(rt: HostRuntime) -> Result<(), Fail> {
-    let full =
-        "capture c.pcap\nflag frame 1 seq 0 full\nend frames 1 packets 1 presented 0 flagged 1\n";
-    let none = "capture c.pcap\nend frames 1 packets 0 presented 0 flagged 0\n";
-    let cases: [(&[&str], Status, &str); 4] = [
-        (
-            &["listen", "--buffer", "1", "--room", "1", STREAM, "c.pcap"],
-            Status::Done,
-            full,
-        ),
-        (
-            &["listen", "0200000000010002", "c.pcap"],
-            Status::Done,
-            none,
-        ),
-        (&["listen", "02", "c.pcap"], Status::Words, "words: 2\n"),
-        (
-            &["listen", STREAM, "d.pcap"],
-            Status::ReadFault,
-            "read fault\n",
-        ),
-    ];
-    for (line, status, text) in cases {
-        let ran = run_over(&rt, rt.alloc(), line, vector(rt.alloc(), 1)?, &[], &[])?;
-        assert_eq!(rt; ran.text.as_slice(), text.as_bytes());
-        assert_eq!(rt; ran.status, status);
-    }
-    Ok(())
-}
-
-/// Samples at 44.1 kHz stand at their exact instants, each rounded down once.
-#[test]
-fn another_rate(rt: HostRuntime) -> Result<(), Fail> {
-    let capture = changed(vector(rt.alloc(), 1)?, &[(75, 0x40)], 106, 0)?;
-    let ran = run_over(
-        &rt,
-        rt.alloc(),
-        &["listen", STREAM, "c.pcap"],
-        capture,
-        &[],
-        &[],
-    )?;
-    let text = "\
+const CAPTURES: &str = "\
+< c.pcap V1
+$ listen 0200000000010001 c.pcap
+capture c.pcap
+at 1002000000 frame 1 seq 0 sample 0 0001ffff
+at 1002020833 frame 1 seq 0 sample 1 0002fffe
+at 1002041666 frame 1 seq 0 sample 2 0003fffd
+at 1002062500 frame 1 seq 0 sample 3 0004fffc
+at 1002083333 frame 1 seq 0 sample 4 0005fffb
+at 1002104166 frame 1 seq 0 sample 5 0006fffa
+end frames 1 packets 1 presented 1 flagged 0
+$ listen 0200000000010002 c.pcap
+capture c.pcap
+end frames 1 packets 0 presented 0 flagged 0
+$ listen --limit 106 0200000000010001 c.pcap
+capture c.pcap
+...
+end frames 1 packets 1 presented 1 flagged 0
+$ listen --limit 105 0200000000010001 c.pcap
+capture c.pcap
+limit 105
+[7]
+$ listen --buffer 1 --room 1 0200000000010001 c.pcap
+capture c.pcap
+flag frame 1 seq 0 full
+end frames 1 packets 1 presented 0 flagged 1
+$ listen 02 c.pcap
+words: 2
+[2]
+$ listen --look 65 0200000000010001 c.pcap
+words: 3
+[2]
+$ listen --silence zero 0200000000010001 c.pcap
+words: 1
+[2]
+! shelf 1
+$ listen 0200000000010001 c.pcap
+read fault
+[4]
+! shelf 3
+$ listen 0200000000010001 c.pcap
+capture c.pcap
+read fault
+[4]
+< c.pcap V1 75=40
+$ listen 0200000000010001 c.pcap
 capture c.pcap
 at 1002000000 frame 1 seq 0 sample 0 0001ffff
 at 1002022675 frame 1 seq 0 sample 1 0002fffe
@@ -276,41 +59,457 @@ at 1002068027 frame 1 seq 0 sample 3 0004fffc
 at 1002090702 frame 1 seq 0 sample 4 0005fffb
 at 1002113378 frame 1 seq 0 sample 5 0006fffa
 end frames 1 packets 1 presented 1 flagged 0
+< c.pcap V1 61=fe 32=4e 36=4e zeros:12
+$ listen 0200000000010001 c.pcap
+capture c.pcap
+at 1002000000 frame 1 seq 0 sample 0 0001ffff
+at 1002020833 frame 1 seq 0 sample 1 0002fffe
+at 1002041666 frame 1 seq 0 sample 2 0003fffd
+at 1002062500 frame 1 seq 0 sample 3 0004fffc
+at 1002083333 frame 1 seq 0 sample 4 0005fffb
+at 1002104166 frame 1 seq 0 sample 5 0006fffa
+end frames 1 packets 1 presented 1 flagged 0
+< c.pcap V1 zeros:1
+$ listen 0200000000010001 c.pcap
+capture c.pcap
+at 1002000000 frame 1 seq 0 sample 0 0001ffff
+...
+at 1002104166 frame 1 seq 0 sample 5 0006fffa
+capture refused: ts_sec at 106 short
+[3]
+< c.pcap V1 ..105
+$ listen 0200000000010001 c.pcap
+capture c.pcap
+capture refused: packet_bytes at 40 short
+[3]
+< c.pcap V1 75=5000
+$ listen 0200000000010001 c.pcap
+capture c.pcap
+flag frame 1 seq 0 malformed channels_per_frame
+end frames 1 packets 1 presented 0 flagged 1
+< c.pcap V1 59=01
+$ listen 0200000000010001 c.pcap
+capture c.pcap
+end frames 1 packets 0 presented 0 flagged 0
+< c.pcap V1 58=6e
+$ listen 0200000000010001 c.pcap
+capture c.pcap
+end frames 1 packets 0 presented 0 flagged 0
 ";
-    assert_eq!(rt; ran.text.as_slice(), text.as_bytes());
-    assert_eq!(rt; ran.status, Status::Done);
-    Ok(())
+
+#[test]
+fn a_capture_is_heard_up_to_its_end_its_limit_or_its_first_refusal(
+    rt: HostRuntime,
+) -> Result<(), NoMemory> {
+    follow(&rt, rt.alloc(), CAPTURES)
 }
 
-/// One sample frame of 1,023 channels of four bytes, whose line is longer than a piece of digits.
+const FILES: &str = "\
+< c.pcap V1
+< b.pcap V1 0=00
+$ listen 0200000000010001 c.pcap c.pcap
+capture c.pcap
+...
+end frames 1 packets 1 presented 1 flagged 0
+capture c.pcap
+at 1002000000 frame 1 seq 0 sample 0 0001ffff
+...
+end frames 1 packets 1 presented 1 flagged 0
+$ listen 0200000000010001 c.pcap d.pcap
+capture c.pcap
+...
+end frames 1 packets 1 presented 1 flagged 0
+read fault
+[4]
+$ listen 0200000000010001 d.pcap c.pcap
+read fault
+[4]
+$ listen 0200000000010001 c.pcap b.pcap
+capture c.pcap
+...
+end frames 1 packets 1 presented 1 flagged 0
+capture b.pcap
+capture refused: magic at 0
+[3]
+! shelf 3
+$ listen 0200000000010001 b.pcap c.pcap
+capture b.pcap
+capture refused: magic at 0
+[3]
+";
+
 #[test]
-fn widest_sample(rt: HostRuntime) -> Result<(), Fail> {
-    let alloc = rt.alloc();
-    // 32-bit samples, 1,023 channels, 4,092 bytes; the record has 18 + 24 + 4,092 bytes.
-    let wide = [
-        (32, 0x26),
-        (33, 0x10),
-        (36, 0x26),
-        (37, 0x10),
-        (74, 2),
-        (75, 0x53),
-        (76, 0xff),
-        (77, 32),
-        (78, 0x0f),
-        (79, 0xfc),
-    ];
-    let mut capture = changed(vector(alloc, 1)?, &wide, 82, 0)?;
-    let mut digits = String::new(alloc);
-    for n in 0..4_092u32 {
-        let byte = (n % 251) as u8;
-        capture.push(byte)?;
-        digits.push_str(&format!(in alloc; "{byte:02x}")?)?;
-    }
-    let ran = run_over(&rt, alloc, &["listen", STREAM, "c.pcap"], capture, &[], &[])?;
-    let text = format!(in alloc;
-        "capture c.pcap\nat 1002000000 frame 1 seq 0 sample 0 {digits}\nend frames 1 packets 1 presented 1 flagged 0\n"
-    )?;
-    assert_eq!(rt; ran.text.as_slice(), text.as_bytes());
-    assert_eq!(rt; ran.status, Status::Done);
+fn captures_are_heard_one_after_the_other_up_to_the_first_fault(
+    rt: HostRuntime,
+) -> Result<(), NoMemory> {
+    follow(&rt, rt.alloc(), FILES)
+}
+
+const TIMESTAMPS: &str = "\
+< c.pcap V1/58 ts:3557549055 capture:10000000000
+$ listen 0200000000010001 c.pcap
+capture c.pcap
+at 12147483647 frame 1 seq 0 sample 0 0001ffff
+...
+at 12147587813 frame 1 seq 0 sample 5 0006fffa
+end frames 1 packets 1 presented 1 flagged 0
+< c.pcap V1/58 ts:3557549056 capture:10000000000
+$ listen 0200000000010001 c.pcap
+capture c.pcap
+flag frame 1 seq 0 late
+end frames 1 packets 1 presented 0 flagged 1
+< c.pcap V1/58 ts:112 capture:12884901000
+$ listen 0200000000010001 c.pcap
+capture c.pcap
+at 12884902000 frame 1 seq 0 sample 0 0001ffff
+...
+at 12885006166 frame 1 seq 0 sample 5 0006fffa
+end frames 1 packets 1 presented 1 flagged 0
+";
+
+#[test]
+fn a_timestamp_is_unfolded_to_the_half_circle_around_the_arrival(
+    rt: HostRuntime,
+) -> Result<(), NoMemory> {
+    follow(&rt, rt.alloc(), TIMESTAMPS)
+}
+
+const SEVERAL: &str = "\
+< c.pcap V1
++ c.pcap V1/58 record:1000500000
++ c.pcap V1/58 record:1003000000
+$ listen 0200000000010001 c.pcap
+capture c.pcap
+flag frame 2 seq 0 repeat
+at 1002000000 frame 1 seq 0 sample 0 0001ffff
+at 1002020833 frame 1 seq 0 sample 1 0002fffe
+at 1002041666 frame 1 seq 0 sample 2 0003fffd
+at 1002062500 frame 1 seq 0 sample 3 0004fffc
+at 1002083333 frame 1 seq 0 sample 4 0005fffb
+at 1002104166 frame 1 seq 0 sample 5 0006fffa
+flag frame 3 seq 0 late
+end frames 3 packets 3 presented 1 flagged 2
+< c.pcap V1/58 2=02 ts:1002250000 capture:1000000000
++ c.pcap V1/58 2=00 ts:1002000000 record:1000000100
++ c.pcap V1/58 2=01 ts:1002125000 record:1000000200
+$ listen 0200000000010001 c.pcap
+capture c.pcap
+at 1002000000 frame 2 seq 0 sample 0 0001ffff
+...
+at 1002104166 frame 2 seq 0 sample 5 0006fffa
+at 1002125000 frame 3 seq 1 sample 0 0001ffff
+...
+at 1002229166 frame 3 seq 1 sample 5 0006fffa
+at 1002250000 frame 1 seq 2 sample 0 0001ffff
+...
+at 1002354166 frame 1 seq 2 sample 5 0006fffa
+end frames 3 packets 3 presented 3 flagged 0
+< c.pcap V1
++ c.pcap V1/58 2=01 ts:1002125000 record:1000125000
++ c.pcap V1/58 2=02 ts:1002250000 record:1000250000
+$ listen --buffer 2 0200000000010001 c.pcap
+capture c.pcap
+flag frame 3 seq 2 full
+at 1002000000 frame 1 seq 0 sample 0 0001ffff
+...
+at 1002125000 frame 2 seq 1 sample 0 0001ffff
+...
+at 1002229166 frame 2 seq 1 sample 5 0006fffa
+end frames 3 packets 3 presented 2 flagged 1
+$ listen --room 30 0200000000010001 c.pcap
+capture c.pcap
+flag frame 2 seq 1 full
+flag frame 3 seq 2 full
+at 1002000000 frame 1 seq 0 sample 0 0001ffff
+...
+at 1002104166 frame 1 seq 0 sample 5 0006fffa
+end frames 3 packets 3 presented 1 flagged 2
+";
+
+#[test]
+fn packets_are_presented_in_order_once_and_as_far_as_there_is_room(
+    rt: HostRuntime,
+) -> Result<(), NoMemory> {
+    follow(&rt, rt.alloc(), SEVERAL)
+}
+
+/// The fifth of the six blocks of the first packet is stamped with 5 s, and none of the second.
+const BLOCKS: &str = "\
+< c.pcap V2 27=0c ts:705032704 capture:4997916666
++ c.pcap V2 1=8001 27=12 ts:0 record:4998041666
+$ listen 0200000000010001 c.pcap
+capture c.pcap
+at 4999916666 frame 1 seq 0 sample 0 4000000040000000
+at 4999937500 frame 1 seq 0 sample 1 4000000040000000
+at 4999958333 frame 1 seq 0 sample 2 4000000040000000
+at 4999979166 frame 1 seq 0 sample 3 4000000040000000
+at 5000000000 frame 1 seq 0 sample 4 4000000040000000
+at 5000020833 frame 1 seq 0 sample 5 4000000040000000
+at 5000041666 frame 2 seq 1 sample 0 4000000040000000
+at 5000062500 frame 2 seq 1 sample 1 4000000040000000
+at 5000083333 frame 2 seq 1 sample 2 4000000040000000
+at 5000104166 frame 2 seq 1 sample 3 4000000040000000
+at 5000125000 frame 2 seq 1 sample 4 4000000040000000
+at 5000145833 frame 2 seq 1 sample 5 4000000040000000
+end frames 2 packets 2 presented 2 flagged 0
+@ c.pcap 1
+$ listen 0200000000010001 c.pcap
+capture c.pcap
+flag frame 1 seq 1 untimed
+end frames 1 packets 1 presented 0 flagged 1
+< c.pcap V2 21=08 29=ff ..32 capture:1000000000
+$ listen 0200000000010001 c.pcap
+capture c.pcap
+flag frame 1 seq 0 empty
+end frames 1 packets 1 presented 0 flagged 1
+";
+
+#[test]
+fn blocks_are_counted_from_the_stamped_one(rt: HostRuntime) -> Result<(), NoMemory> {
+    follow(&rt, rt.alloc(), BLOCKS)
+}
+
+/// The packets 0 to 3 are the first fragment of a NAL unit, a middle one, that again, and the last.
+const FRAGMENTS: &str = "\
+< c.pcap V3 28=7c85 capture:1000000000
++ c.pcap V3 2=01 28=7c05 record:1000000000
++ c.pcap V3 2=01 28=7c05 record:1000000000
++ c.pcap V3 2=02 28=7c45 record:1000000000
+$ listen 0200000000010001 c.pcap
+capture c.pcap
+flag frame 1 seq 0 broken
+flag frame 2 seq 1 broken
+flag frame 3 seq 1 broken
+flag frame 4 seq 2 broken
+end frames 4 packets 4 presented 0 flagged 4
+@ c.pcap 0 1 3
+$ listen 0200000000010001 c.pcap
+capture c.pcap
+at 1002000000 frame 3 seq 2 sample 0 65000a000a000a
+end frames 3 packets 3 presented 1 flagged 0
+< c.pcap V3 1=80 28=7c85 ts:0 capture:1000000000
++ c.pcap V3 1=80 2=01 28=7c05 ts:0 record:1000000000
++ c.pcap V3 1=80 2=01 28=7c05 ts:0 record:1000000000
++ c.pcap V3 2=02 28=7c45 record:1000000000
+$ listen 0200000000010001 c.pcap
+capture c.pcap
+flag frame 1 seq 0 broken
+flag frame 2 seq 1 broken
+flag frame 3 seq 1 broken
+flag frame 4 seq 2 broken
+end frames 4 packets 4 presented 0 flagged 4
+@ c.pcap 0 1 3
+$ listen 0200000000010001 c.pcap
+capture c.pcap
+at 1002000000 frame 3 seq 2 sample 0 65000a000a000a
+end frames 3 packets 3 presented 1 flagged 0
+< c.pcap V3 28=7cc5 capture:1000000000
+$ listen 0200000000010001 c.pcap
+capture c.pcap
+flag frame 1 seq 0 malformed fu_header
+end frames 1 packets 1 presented 0 flagged 1
+< c.pcap V3 28=7c85 capture:1000000000
++ c.pcap V3 2=01 28=7c45 ts:1002000001 record:1000000000
+$ listen 0200000000010001 c.pcap
+capture c.pcap
+flag frame 1 seq 0 broken
+flag frame 2 seq 1 broken
+end frames 2 packets 2 presented 0 flagged 2
+< c.pcap V3 28=7c85 capture:1000000000
++ c.pcap V3 1=80 2=01 28=7c45 ts:0 record:1000000000
+$ listen 0200000000010001 c.pcap
+capture c.pcap
+flag frame 1 seq 0 broken
+flag frame 2 seq 1 untimed
+end frames 2 packets 2 presented 0 flagged 2
+";
+
+#[test]
+fn a_nal_unit_is_heard_only_of_all_its_fragments(rt: HostRuntime) -> Result<(), NoMemory> {
+    follow(&rt, rt.alloc(), FRAGMENTS)
+}
+
+/// A point of the clock comes after the packets that it covers. The spacing at 44.1 kHz is 19,140.625 ns.
+const CLOCKS: &str = "\
+< c.pcap V4 capture:1000000000
++ c.pcap V1/58 ts:1004000000 record:1002000000
++ c.pcap V1/58 2=01 ts:1004125000 record:1002125000
++ c.pcap V4 2=01 point:1004000000 record:1002200000
+$ listen --look 0 --clock 0200000000010002 0200000000010001 c.pcap
+capture c.pcap
+flag frame 2 seq 0 noclock
+flag frame 3 seq 1 noclock
+end frames 4 packets 2 presented 0 flagged 2
+$ listen --look 1 --clock 0200000000010002 0200000000010001 c.pcap
+capture c.pcap
+flag frame 2 seq 0 noclock
+at 1004125000 frame 3 seq 1 sample 0 0001ffff
+at 1004145833 frame 3 seq 1 sample 1 0002fffe
+...
+end frames 4 packets 2 presented 1 flagged 1
+$ listen --look 2 --clock 0200000000010002 0200000000010001 c.pcap
+capture c.pcap
+at 1004000000 frame 2 seq 0 sample 0 0001ffff
+at 1004020833 frame 2 seq 0 sample 1 0002fffe
+...
+at 1004125000 frame 3 seq 1 sample 0 0001ffff
+...
+end frames 4 packets 2 presented 2 flagged 0
+< c.pcap V4 capture:1000000000
++ c.pcap V1/58 ts:1004000000 record:1002000000
++ c.pcap V1/58 2=01 ts:1004125000 record:1002125000
++ c.pcap V4 1=88 2=01 point:1004000000 record:1002200000
+$ listen --look 2 --clock 0200000000010002 0200000000010001 c.pcap
+capture c.pcap
+flag frame 2 seq 0 noclock
+flag frame 3 seq 1 noclock
+end frames 4 packets 2 presented 0 flagged 2
+< c.pcap V4 12=0000ac44 capture:1000000000
++ c.pcap V1/58 ts:1004000000 record:1002000000
++ c.pcap V1/58 2=01 ts:1004125000 record:1002125000
++ c.pcap V4 2=01 12=0000ac44 point:1004000000 record:1002200000
+$ listen --look 2 --clock 0200000000010002 0200000000010001 c.pcap
+capture c.pcap
+at 1004000000 frame 2 seq 0 sample 0 0001ffff
+at 1004019140 frame 2 seq 0 sample 1 0002fffe
+at 1004038281 frame 2 seq 0 sample 2 0003fffd
+at 1004057421 frame 2 seq 0 sample 3 0004fffc
+at 1004076562 frame 2 seq 0 sample 4 0005fffb
+at 1004095703 frame 2 seq 0 sample 5 0006fffa
+at 1004125000 frame 3 seq 1 sample 0 0001ffff
+at 1004144140 frame 3 seq 1 sample 1 0002fffe
+at 1004163281 frame 3 seq 1 sample 2 0003fffd
+at 1004182421 frame 3 seq 1 sample 3 0004fffc
+at 1004201562 frame 3 seq 1 sample 4 0005fffb
+at 1004220703 frame 3 seq 1 sample 5 0006fffa
+end frames 4 packets 2 presented 2 flagged 0
+";
+
+#[test]
+fn samples_follow_the_points_that_the_look_ahead_reaches(rt: HostRuntime) -> Result<(), NoMemory> {
+    follow(&rt, rt.alloc(), CLOCKS)
+}
+
+/// The frames of the items that a device took are the digits of a number. In the last run each packet makes the one before it
+/// due, and the limit cuts the third.
+const RACKS: &str = "\
+< one.pcap V1
+! devices 1 0 0
+$ listen 0200000000010001 one.pcap
+capture one.pcap
+at 1002000000 frame 1 seq 0 sample 0 0001ffff
+...
+end frames 1 packets 1 presented 1 flagged 0
+device fault
+[8]
+= 0 1 1
+! devices 1 1 1
+$ show one.pcap
+frame 1 at 1000000000 aaf *
+end frames 1
+= 0 0 0
+< three.pcap V1
++ three.pcap V1/58 record:1000500000
++ three.pcap V1/58 record:1003000000
+! devices 0 2 0
+$ listen 0200000000010001 three.pcap
+capture three.pcap
+flag frame 2 seq 0 repeat
+at 1002000000 frame 1 seq 0 sample 0 0001ffff
+...
+flag frame 3 seq 0 late
+end frames 3 packets 3 presented 1 flagged 2
+device fault
+[8]
+= 213 2 213
+< c.pcap V1
++ c.pcap V1/58 2=01 ts:1002125000 record:1000125000
+$ listen 0200000000010001 c.pcap
+capture c.pcap
+...
+end frames 2 packets 2 presented 2 flagged 0
+= 12 12 12
+! devices 2 1 0
+$ listen 0200000000010001 c.pcap
+capture c.pcap
+...
+end frames 2 packets 2 presented 2 flagged 0
+device fault
+[8]
+= 1 0 12
+! devices 0 3 0
+$ listen 0200000000010001 c.pcap c.pcap
+capture c.pcap
+...
+end frames 2 packets 2 presented 2 flagged 0
+capture c.pcap
+...
+end frames 2 packets 2 presented 2 flagged 0
+device fault
+[8]
+= 1212 12 1212
+! devices 1 0 0
+$ listen 0200000000010001 c.pcap d.pcap
+capture c.pcap
+...
+end frames 2 packets 2 presented 2 flagged 0
+read fault
+[4]
+= 0 12 12
+! sink 1
+$ listen 0200000000010001 c.pcap
+[5]
+= 0 0 0
+! sink 2
+$ listen 0200000000010001 c.pcap
+capture c.pcap
+...
+at 1002104166 frame 1 seq 0 sample 5 0006fffa
+[5]
+= 1 1 1
++ c.pcap x00
+! devices 2 0 0
+$ listen 0200000000010001 c.pcap
+capture c.pcap
+...
+at 1002229166 frame 2 seq 1 sample 5 0006fffa
+capture refused: ts_sec at 188 short
+[3]
+= 1 12 12
+< c.pcap V1
++ c.pcap V1/58 2=01 ts:2002000000 record:2000000000
++ c.pcap V1/58 2=02 ts:3002000000 record:3000000000
+! devices 0 1 0
+$ listen --limit 269 0200000000010001 c.pcap
+capture c.pcap
+at 1002000000 frame 1 seq 0 sample 0 0001ffff
+...
+at 1002104166 frame 1 seq 0 sample 5 0006fffa
+limit 269
+[7]
+= 1 0 1
+";
+
+#[test]
+fn each_device_takes_what_is_presented_until_it_fails(rt: HostRuntime) -> Result<(), NoMemory> {
+    follow(&rt, rt.alloc(), RACKS)
+}
+
+#[test]
+fn the_words_name_the_device_of_raw_audio_before_that_of_h264(
+    rt: HostRuntime,
+) -> Result<(), NoMemory> {
+    let line = "listen --annexb y --raw x --silence am824 0200000000010001 c.pcap";
+    let words = words_of(rt.alloc(), line)?;
+    let raw = DeviceWord::Raw {
+        word: 4,
+        silence: Silence::Am824,
+    };
+    assert_eq!(rt; device_word(&words, 0), Some(raw));
+    assert_eq!(rt;
+        device_word(&words, 1),
+        Some(DeviceWord::AnnexB { word: 2 })
+    );
+    assert_eq!(rt; device_word(&words, 2), None);
     Ok(())
 }

@@ -1,7 +1,7 @@
 //! The two threads of `listen`, and the ring between them.
 
-use crate::listen::{capture_of, packet};
-use crate::runs::{STREAM, run_between, shelf_of, talked, words_of};
+use crate::recipe::bytes_of;
+use crate::transcript::{Bench, words_of};
 use avtp_base::{Failed, NoMemory, OpenFault, Shelf, Sink, Slot};
 use avtp_memory::{MemoryShelf, MemorySink};
 use avtp_tool::{Status, run};
@@ -10,7 +10,6 @@ use presenter_ring::{Gate, NoGate, Side};
 use std::alloc::Global;
 use std::sync::Arc;
 use std::sync::atomic::{AtomicBool, AtomicU64, Ordering};
-use std::test::Fail;
 
 /// Counts the steps of each side, and those that do not have the next number.
 #[derive(Drop)]
@@ -32,39 +31,40 @@ impl Gate for Counting {
     }
 }
 
-/// The capture of 1,000 packets, of which each is pushed and popped once, whatever room the ring has, and the text is the same.
+/// A shelf of one file.
+fn shelf_of(alloc: Global, bytes: Vec<u8>) -> Result<MemoryShelf, NoMemory> {
+    let mut files = Vec::new(alloc);
+    files.push((String::from_str(alloc, "c.pcap")?, bytes))?;
+    Ok(MemoryShelf::over(alloc, files, Vec::new(alloc)))
+}
+
 #[test]
-fn counting_gate(rt: HostRuntime) -> Result<(), Fail> {
-    let capture = talked(&rt, rt.alloc(), &[], 24_000)?;
-    let mut shelf = shelf_of(rt.alloc(), "c.pcap", capture, &[])?;
-    let mut first: Option<Vec<u8>> = None;
+fn each_item_is_pushed_and_popped_once_whatever_room_the_ring_has(
+    rt: HostRuntime,
+) -> Result<(), NoMemory> {
+    let alloc = rt.alloc();
+    let mut bench = Bench::new(alloc);
+    bench.put("a.raw", bytes_of(alloc, "noise:24000")?)?;
+    let _ = bench.run(&rt, "talk a.raw c.pcap")?;
+    let whole = bench.run(&rt, "listen 0200000000010001 c.pcap")?;
+    let capture = Vec::from_slice(alloc, bench.file("c.pcap"))?;
+    let mut shelf = shelf_of(alloc, capture)?;
     for ring in ["1", "2", "64", "256"] {
         let gate = Counting {
             pushes: AtomicU64::new(0),
             pops: AtomicU64::new(0),
             gaps: AtomicU64::new(0),
         };
-        let ran = run_between(
-            &rt,
-            rt.alloc(),
-            &["listen", "--ring", ring, STREAM, "c.pcap"],
-            &mut shelf,
-            MemorySink::over(rt.alloc(), Vec::new(rt.alloc())),
-            &gate,
-        )?;
-        assert_eq!(rt; ran.status, Status::Done);
-        assert!(rt;
-            ran.text.as_slice().ends_with(
-                b"\nend frames 1000 packets 1000 presented 1000 flagged 0\n"
-            )
-        );
-        assert_eq!(rt; gate.pushes.load(Ordering::SeqCst), 1_000);
-        assert_eq!(rt; gate.pops.load(Ordering::SeqCst), 1_000);
-        assert_eq!(rt; gate.gaps.load(Ordering::SeqCst), 0);
-        if let Some(text) = &first {
-            assert!(rt; text.as_slice() == ran.text.as_slice());
-        }
-        first = Some(ran.text);
+        let line = format!(in alloc; "listen --ring {ring} 0200000000010001 c.pcap")?;
+        let words = words_of(alloc, &line)?;
+        let mut sink = MemorySink::over(alloc, Vec::new(alloc));
+        let mut rack = Rack::over(Vec::new(alloc));
+        let status = run(&rt, alloc, &words, &mut shelf, &mut sink, &gate, &mut rack);
+        assert_eq!(rt; status, Status::Done, "{line}");
+        assert!(rt; sink.bytes() == whole.as_bytes(), "{line}");
+        assert_eq!(rt; gate.pushes.load(Ordering::SeqCst), 1_000, "{line}");
+        assert_eq!(rt; gate.pops.load(Ordering::SeqCst), 1_000, "{line}");
+        assert_eq!(rt; gate.gaps.load(Ordering::SeqCst), 0, "{line}");
     }
     Ok(())
 }
@@ -160,22 +160,24 @@ impl Sink for MeetingSink {
 }
 
 /// The vector's samples in packets of which each came a second after the one before it.
-fn seconds_apart(alloc: Global, count: u32) -> Result<Vec<u8>, NoMemory> {
-    let mut packets = Vec::new(alloc);
+fn seconds_apart(alloc: Global, count: u8) -> Result<Vec<u8>, NoMemory> {
+    let mut capture = bytes_of(alloc, "V1 ..24")?;
     for n in 0..count {
-        let seconds = n.saturating_add(1);
-        let due = seconds.wrapping_mul(1_000_000_000).wrapping_add(2_000_000);
-        packets.push(packet((n % 256) as u8, due, seconds, 0))?;
+        let second = u32::from(n).wrapping_add(1);
+        let due = second.wrapping_mul(1_000_000_000).wrapping_add(2_000_000);
+        let steps = format!(in alloc; "V1/58 2={n:02x} ts:{due} record:{second}000000000")?;
+        capture.extend_from_slice(&bytes_of(alloc, &steps)?)?;
     }
-    capture_of(alloc, &packets)
+    Ok(capture)
 }
 
-/// Packets come one a second, so that each makes the one before it due: while one thread reads, the other writes. They are more
-/// than the ring has room for, so that at the latest in the second round both have something to do.
+/// Packets come one a second, so that each makes the one before it due. They are more than the ring has room for, so that at the
+/// latest in the second round both have something to do.
 #[test]
-fn two_threads(rt: HostRuntime) -> Result<(), Fail> {
+fn one_thread_reads_while_the_other_writes(rt: HostRuntime) -> Result<(), NoMemory> {
+    let alloc = rt.alloc();
     let meeting = Arc::new(
-        rt.alloc(),
+        alloc,
         Meeting {
             reading: AtomicBool::new(false),
             writing: AtomicBool::new(false),
@@ -183,33 +185,23 @@ fn two_threads(rt: HostRuntime) -> Result<(), Fail> {
         },
     )?;
     // The first read has the file header and a part of the first record, and each one after it completes a record.
-    let capture = seconds_apart(rt.alloc(), 16)?;
     let mut shelf = MeetingShelf {
-        shelf: shelf_of(rt.alloc(), "c.pcap", capture, &[])?.at_most(82),
+        shelf: shelf_of(alloc, seconds_apart(alloc, 16)?)?.at_most(82),
         meeting: meeting.clone()?,
         reads: 0,
     };
     let mut sink = MeetingSink {
-        sink: MemorySink::over(rt.alloc(), Vec::new(rt.alloc())),
+        sink: MemorySink::over(alloc, Vec::new(alloc)),
         meeting: meeting.clone()?,
     };
-    let words = words_of(rt.alloc(), &["listen", "--ring", "4", STREAM, "c.pcap"])?;
-    let mut rack = Rack::over(Vec::new(rt.alloc()));
+    let words = words_of(alloc, "listen --ring 4 0200000000010001 c.pcap")?;
+    let mut rack = Rack::over(Vec::new(alloc));
     let status = run(
-        &rt,
-        rt.alloc(),
-        &words,
-        &mut shelf,
-        &mut sink,
-        &NoGate,
-        &mut rack,
+        &rt, alloc, &words, &mut shelf, &mut sink, &NoGate, &mut rack,
     );
     assert_eq!(rt; status, Status::Done);
     assert!(rt; meeting.met.load(Ordering::SeqCst));
-    assert!(rt;
-        sink.sink
-            .bytes()
-            .ends_with(b"\nend frames 16 packets 16 presented 16 flagged 0\n")
-    );
+    let end = b"\nend frames 16 packets 16 presented 16 flagged 0\n";
+    assert!(rt; sink.sink.bytes().ends_with(end));
     Ok(())
 }

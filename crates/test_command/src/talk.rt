@@ -1,229 +1,294 @@
-//! The command `talk`, from its words and samples to its capture, text and status.
+//! The commands `talk` and `soak`.
 
-use crate::runs::{STREAM, noise, run_over, talk_over};
+use crate::recipe::bytes_of;
+use crate::transcript::{Bench, follow};
 use avtp_base::NoMemory;
-use avtp_tool::Status;
-use std::alloc::Global;
-use std::test::Fail;
-use vectors_avtp::vector;
 
-/// The last bytes of the first vector: of these the last 24 are its samples.
-fn tail(alloc: Global, len: usize) -> Result<Vec<u8>, NoMemory> {
-    let vector = vector(alloc, 1)?;
-    let from = vector.len().saturating_sub(len);
-    Ok(Vec::from_slice(alloc, vector.get(from..).unwrap_or(&[]))?)
+const VECTORS: &str = "\
+< a.raw V1/82
+$ talk a.raw c.pcap
+talk packets 1 clock 0
+? c.pcap V1
+$ talk --crf 0200000000010002 a.raw c.pcap
+talk packets 1 clock 1
+? c.pcap V4 capture:1000000000 V1/24
+< a.raw
+$ talk a.raw c.pcap
+talk packets 0 clock 0
+? c.pcap V1 ..24
+< a.raw x40000000*12
+$ talk --kind am824 a.raw c.pcap
+talk packets 1 clock 0
+? c.pcap V2 capture:1000000000
+< a.raw x40000000*2
+$ talk --kind am824 a.raw c.pcap
+talk packets 1 clock 0
+? c.pcap V2 capture:1000000000
+< a.264 x000000016742000a
+$ talk --kind h264 a.264 c.pcap
+talk packets 1 clock 0
+? c.pcap V3 capture:1000000000
+$ listen 0200000000010001 c.pcap
+capture c.pcap
+at 1002000000 frame 1 seq 0 sample 0 6742000a
+end frames 1 packets 1 presented 1 flagged 0
+";
+
+#[test]
+fn the_vectors_are_what_is_talked(rt: HostRuntime) -> Result<(), NoMemory> {
+    follow(&rt, rt.alloc(), VECTORS)
 }
 
-/// The samples of the first vector make that vector, and no samples make its file header.
+const REFUSED: &str = "\
+< a.raw V1/103
+$ talk a.raw c.pcap
+talk input: frames
+[9]
+$ talk --format int24 a.raw c.pcap
+talk input: frames
+[9]
+$ talk --channels 500 a.raw c.pcap
+words: 1
+[2]
+$ talk --crf 0200000000010002 --crf-rate 44100 a.raw c.pcap
+words: 1
+[2]
+$ talk a.raw a.raw
+words: 1
+[2]
+$ talk b.raw c.pcap
+read fault
+[4]
+< a.raw x40000000*3
+$ talk --kind am824 a.raw c.pcap
+talk input: frames
+[9]
+< a.264 x010203
+$ talk --kind h264 a.264 c.pcap
+talk input: start_code
+[9]
+< a.264 x0000011c01
+$ talk --kind h264 a.264 c.pcap
+talk input: nal_type
+[9]
+$ show c.pcap
+read fault
+[4]
+";
+
 #[test]
-fn makes_the_vector(rt: HostRuntime) -> Result<(), Fail> {
-    let cases: [(usize, usize, &str); 2] = [
-        (24, 106, "talk packets 1 clock 0\n"),
-        (0, 24, "talk packets 0 clock 0\n"),
-    ];
-    for (len, size, text) in cases {
-        let samples = tail(rt.alloc(), len)?;
-        let (ran, made) = talk_over(
-            &rt,
-            rt.alloc(),
-            &["talk", "a.raw", "c.pcap"],
-            samples,
-            &[],
-            &[],
-        )?;
-        assert_eq!(rt; ran.status, Status::Done);
-        assert_eq!(rt; ran.text.as_slice(), text.as_bytes());
-        assert!(rt; made.as_deref() == vector(rt.alloc(), 1)?.get(..size));
-    }
-    Ok(())
+fn words_and_inputs_that_make_no_capture_leave_none(rt: HostRuntime) -> Result<(), NoMemory> {
+    follow(&rt, rt.alloc(), REFUSED)
 }
 
-/// Words and inputs that make no capture leave none behind.
+/// Sample 5 of packet 999 is 5,999 sample frames behind 1.002 s, and that of packet 3,999 is 23,999 behind.
+const HEARD: &str = "\
+< a.raw noise:24000
+$ talk a.raw c.pcap
+talk packets 1000 clock 0
+$ listen 0200000000010001 c.pcap
+capture c.pcap
+at 1002000000 frame 1 seq 0 sample 0 00010203
+...
+at 1126979166 frame 1000 seq 231 sample 5 *
+end frames 1000 packets 1000 presented 1000 flagged 0
+< a.raw zeros:192000
+$ talk --kind am824 a.raw c.pcap
+talk packets 4000 clock 0
+$ listen 0200000000010001 c.pcap
+capture c.pcap
+...
+at 1501979166 frame 4000 seq 159 sample 5 0000000000000000
+end frames 4000 packets 4000 presented 4000 flagged 0
+< a.264 x0000000165 xff*2999
+$ talk --kind h264 --last-stamp a.264 c.pcap
+talk packets 3 clock 0
+$ show c.pcap
+frame 1 at 1000000000 h264 id 0200000000010001 seq 0 ts 0 tv 0 tu 0 mr 0 ptv 1 pt 1002000000 marker 0 nal 5 part first bytes 1404
+frame 2 at 1000000000 h264 id 0200000000010001 seq 1 ts 0 tv 0 tu 0 mr 0 ptv 1 pt 1002000000 marker 0 nal 5 part middle bytes 1404
+frame 3 at 1000000000 h264 id 0200000000010001 seq 2 ts 1002000000 tv 1 tu 0 mr 0 ptv 1 pt 1002000000 marker 1 nal 5 part last bytes 209
+end frames 3
+$ listen 0200000000010001 c.pcap
+capture c.pcap
+at 1002000000 frame 3 seq 2 sample 0 65ffff*
+end frames 3 packets 3 presented 1 flagged 0
+";
+
 #[test]
-fn refuses(rt: HostRuntime) -> Result<(), Fail> {
-    let frames = "talk input: frames\n";
-    // The points of a clock of 44.1 kHz each 96 events stand at no whole sample frames of 48 kHz.
-    let uneven: &[&str] = &[
-        "talk",
-        "--crf",
-        "0200000000010002",
-        "--crf-rate",
-        "44100",
-        "a.raw",
-        "c.pcap",
-    ];
-    let cases: [(&[&str], Status, &str); 6] = [
-        (uneven, Status::Words, "words: 1\n"),
-        (&["talk", "a.raw", "c.pcap"], Status::TalkInput, frames),
-        (
-            &["talk", "--format", "int24", "a.raw", "c.pcap"],
-            Status::TalkInput,
-            frames,
-        ),
-        (
-            &["talk", "--channels", "500", "a.raw", "c.pcap"],
-            Status::Words,
-            "words: 1\n",
-        ),
-        (&["talk", "a.raw", "a.raw"], Status::Words, "words: 1\n"),
-        (
-            &["talk", "b.raw", "c.pcap"],
-            Status::ReadFault,
-            "read fault\n",
-        ),
-    ];
-    for (line, status, text) in cases {
-        let (ran, made) = talk_over(&rt, rt.alloc(), line, tail(rt.alloc(), 3)?, &[], &[])?;
-        assert_eq!(rt; ran.status, status);
-        assert_eq!(rt; ran.text.as_slice(), text.as_bytes());
-        assert!(rt; made.is_none());
-    }
-    Ok(())
+fn what_is_talked_is_heard_whole(rt: HostRuntime) -> Result<(), NoMemory> {
+    follow(&rt, rt.alloc(), HEARD)
 }
 
-/// Where a later write of the capture fails, what stands is the beginning of the capture.
+/// A second of stereo at 48 kHz. The packets before the clock's second point are on no line of it.
+const CLOCKS: &str = "\
+< a.raw noise:192000
+$ talk --crf 0200000000010002 a.raw c.pcap
+talk packets 8000 clock 500
+# c.pcap 687024
+$ listen 0200000000010001 c.pcap
+capture c.pcap
+...
+end frames 8500 packets 8000 presented 8000 flagged 0
+$ listen --clock 0200000000010002 0200000000010001 c.pcap
+capture c.pcap
+flag frame 2 seq 0 noclock
+...
+flag frame 17 seq 15 noclock
+at 1004000000 frame 19 seq 16 sample 0 *
+...
+end frames 8500 packets 8000 presented 7984 flagged 16
+";
+
 #[test]
-fn fails_within_the_capture(rt: HostRuntime) -> Result<(), Fail> {
-    let line = ["talk", "a.raw", "c.pcap"];
-    let (_, whole) = talk_over(&rt, rt.alloc(), &line, noise(rt.alloc(), 24_000)?, &[], &[])?;
-    let (ran, made) = talk_over(
-        &rt,
-        rt.alloc(),
-        &line,
-        noise(rt.alloc(), 24_000)?,
-        &[6],
-        &[],
-    )?;
-    let whole = whole.ok_or("no capture")?;
-    let made = made.ok_or("no capture")?;
-    assert_eq!(rt; ran.status, Status::WriteFault);
-    assert_eq!(rt; ran.text.len(), 0);
-    assert!(rt; made.len() > 60_000);
-    assert!(rt; made.len() < whole.len());
-    assert!(rt; whole.starts_with(&made));
-    Ok(())
+fn a_second_beside_a_clock_is_heard_on_it_from_the_second_point_on(
+    rt: HostRuntime,
+) -> Result<(), NoMemory> {
+    follow(&rt, rt.alloc(), CLOCKS)
 }
 
-/// A thousand packets are heard as they were made, each at its instant.
+const OTHER_CLOCKS: &str = "\
+< a.raw noise:192000
+$ talk --crf 0200000000010002 --crf-rate 44100 --crf-interval 147 a.raw c.pcap
+talk packets 8000 clock 300
+# c.pcap 674624
+$ listen --clock 0200000000010002 0200000000010001 c.pcap
+capture c.pcap
+flag frame 2 seq 0 noclock
+...
+flag frame 28 seq 26 noclock
+at *
+...
+end frames 8300 packets 8000 presented 7973 flagged 27
+";
+
 #[test]
-fn is_heard_whole(rt: HostRuntime) -> Result<(), Fail> {
-    let samples = noise(rt.alloc(), 24_000)?;
-    let (ran, made) = talk_over(
-        &rt,
-        rt.alloc(),
-        &["talk", "a.raw", "c.pcap"],
-        samples,
-        &[],
-        &[],
-    )?;
-    assert_eq!(rt;
-        ran.text.as_slice(),
-        "talk packets 1000 clock 0\n".as_bytes()
-    );
-    let made = made.ok_or("no capture")?;
-    let line = ["listen", STREAM, "c.pcap"];
-    let heard = run_over(&rt, rt.alloc(), &line, made, &[], &[])?;
-    assert_eq!(rt; heard.status, Status::Done);
-    let end = "end frames 1000 packets 1000 presented 1000 flagged 0\n";
-    assert!(rt; heard.text.ends_with(end.as_bytes()));
-    // Sample 5 of packet 999 is 5,999 samples behind 1.002 s.
-    let last = "\nat 1126979166 frame 1000 seq 231 sample 5 ";
-    assert!(rt; String::from_utf8(heard.text).is_ok_and(|text| text.contains(last)));
-    Ok(())
+fn a_second_beside_a_clock_of_another_rate_is_heard_on_it(rt: HostRuntime) -> Result<(), NoMemory> {
+    follow(&rt, rt.alloc(), OTHER_CLOCKS)
+}
+
+/// Sparse streams are known from the next stamped packet on. A stamp of 256 packets before is of no use.
+const SPARSE: &str = "\
+< a.raw noise:384
+$ talk --sparse a.raw c.pcap
+talk packets 16 clock 0
+@ c.pcap 1 2 3 4 5 6 7 8 9 10 11 12 13 14 15
+$ listen 0200000000010001 c.pcap
+capture c.pcap
+flag frame 1 seq 1 untimed
+flag frame 2 seq 2 untimed
+flag frame 3 seq 3 untimed
+flag frame 4 seq 4 untimed
+flag frame 5 seq 5 untimed
+flag frame 6 seq 6 untimed
+flag frame 7 seq 7 untimed
+at 1003000000 frame 8 seq 8 sample 0 *
+...
+at 1003125000 frame 9 seq 9 sample 0 *
+...
+end frames 15 packets 15 presented 8 flagged 7
+< a.raw noise:6192
+$ talk --sparse a.raw c.pcap
+talk packets 258 clock 0
+@ c.pcap 0 257
+$ listen 0200000000010001 c.pcap
+capture c.pcap
+at 1002000000 frame 1 seq 0 sample 0 *
+...
+flag frame 2 seq 1 untimed
+end frames 2 packets 2 presented 1 flagged 1
+< a.raw noise:480
+$ talk --sparse --restart 10 a.raw c.pcap
+talk packets 20 clock 0
+$ listen 0200000000010001 c.pcap
+capture c.pcap
+...
+flag frame 11 seq 10 untimed
+...
+flag frame 16 seq 15 untimed
+...
+at 1005000000 frame 17 seq 16 sample 0 *
+...
+end frames 20 packets 20 presented 14 flagged 6
+";
+
+#[test]
+fn a_sparse_stream_is_known_from_a_stamp_of_its_own_run_on(
+    rt: HostRuntime,
+) -> Result<(), NoMemory> {
+    follow(&rt, rt.alloc(), SPARSE)
+}
+
+/// Of one packet the only copy comes 0.48 ms after its presentation time; of two, the second comes exactly at its own.
+const SOAKS: &str = "\
+$ soak 0
+soak 0 delivered 0 presented 0 late 0 repeat 0 untimed 0 full 0
+$ soak 1
+soak 1 delivered 1 presented 0 late 1 repeat 0 untimed 0 full 0
+$ soak 2
+soak 2 delivered 2 presented 2 late 0 repeat 0 untimed 0 full 0
+$ soak 1000
+soak 1000 delivered 1002 presented 727 late 171 repeat 42 untimed 62 full 0
+$ soak 1000001
+words: 2
+[2]
+$ frob
+words: 1
+[2]
+";
+
+#[test]
+fn a_soak_counts_what_comes_of_its_packets(rt: HostRuntime) -> Result<(), NoMemory> {
+    follow(&rt, rt.alloc(), SOAKS)
 }
 
 const RATES: [&str; 10] = [
     "8000", "16000", "24000", "32000", "44100", "48000", "88200", "96000", "176400", "192000",
 ];
 
-/// Formats, their depth in bits, and the bytes of six stereo sample frames.
-const FORMATS: [(&str, usize, usize); 4] = [
-    ("int16", 16, 24),
-    ("int24", 24, 36),
-    ("int32", 32, 48),
-    ("float32", 32, 48),
+/// Formats, and their depth and the bytes of six stereo sample frames.
+const FORMATS: [(&str, &str); 4] = [
+    ("int16", "depth 16 count 6 bytes 24"),
+    ("int24", "depth 24 count 6 bytes 36"),
+    ("int32", "depth 32 count 6 bytes 48"),
+    ("float32", "depth 32 count 6 bytes 48"),
 ];
 
-/// What is made in each format and at each rate is shown as it was asked for.
 #[test]
-fn shows_what_was_asked_for(rt: HostRuntime) -> Result<(), Fail> {
-    for (format, depth, size) in FORMATS {
+fn a_packet_of_each_format_and_rate_is_shown_as_it_was_asked_for(
+    rt: HostRuntime,
+) -> Result<(), NoMemory> {
+    let alloc = rt.alloc();
+    for (format, size) in FORMATS {
         for rate in RATES {
-            let line = [
-                "talk", "--rate", rate, "--format", format, "a.raw", "c.pcap",
-            ];
-            let samples = noise(rt.alloc(), size)?;
-            let (_, made) = talk_over(&rt, rt.alloc(), &line, samples, &[], &[])?;
-            let made = made.ok_or("no capture")?;
-            let shown = run_over(&rt, rt.alloc(), &["show", "c.pcap"], made, &[], &[])?;
-            let text = format!(in rt.alloc();
-                "frame 1 at 1000000000 aaf id 0200000000010001 seq 0 ts 1002000000 tv 1 tu 0 mr 0 sp 0 evt 0 format {format} rate {rate} channels 2 depth {depth} count 6 bytes {size}\nend frames 1\n"
+            let mut bench = Bench::new(alloc);
+            bench.put("a.raw", bytes_of(alloc, "noise:24")?)?;
+            let line = format!(in alloc; "talk --rate {rate} --format {format} a.raw c.pcap")?;
+            let _ = bench.run(&rt, &line)?;
+            let text = bench.run(&rt, "show c.pcap")?;
+            let shown = format!(in alloc;
+                " format {format} rate {rate} channels 2 {size}\nend frames 1\n"
             )?;
-            assert_eq!(rt; shown.text.as_slice(), text.as_bytes());
+            assert!(rt; text.ends_with(shown.as_str()), "{line}: {text}");
         }
     }
     Ok(())
 }
 
-/// A NAL unit that fits a packet makes the vector's packet; a longer one is cut into fragments, of which the last alone is
-/// stamped where that is asked. Both are heard as the units that they were.
 #[test]
-fn byte_streams(rt: HostRuntime) -> Result<(), Fail> {
-    let unit = [0, 0, 0, 1, 0x67, 0x42, 0, 0x0A];
-    let line = ["talk", "--kind", "h264", "a.raw", "c.pcap"];
-    let samples = Vec::from_slice(rt.alloc(), &unit)?;
-    let (ran, made) = talk_over(&rt, rt.alloc(), &line, samples, &[], &[])?;
-    assert_eq!(rt; ran.text.as_slice(), "talk packets 1 clock 0\n".as_bytes());
-    let made = made.ok_or("no capture")?;
-    assert_eq!(rt; made.len(), 90);
-    assert!(rt; made.get(58..) == Some(vector(rt.alloc(), 3)?.as_slice()));
-    let hearing = ["listen", STREAM, "c.pcap"];
-    let heard = run_over(&rt, rt.alloc(), &hearing, made, &[], &[])?;
-    let text = "\
-capture c.pcap
-at 1002000000 frame 1 seq 0 sample 0 6742000a
-end frames 1 packets 1 presented 1 flagged 0
-";
-    assert_eq!(rt; heard.text.as_slice(), text.as_bytes());
-
-    let mut unit = Vec::from_slice(rt.alloc(), &[0, 0, 0, 1, 0x65])?;
-    for _ in 0..2_999 {
-        unit.push(0xFF)?;
-    }
-    let line = ["talk", "--kind", "h264", "--last-stamp", "a.raw", "c.pcap"];
-    let (ran, made) = talk_over(&rt, rt.alloc(), &line, unit, &[], &[])?;
-    assert_eq!(rt; ran.text.as_slice(), "talk packets 3 clock 0\n".as_bytes());
-    let made = made.ok_or("no capture")?;
-    let copy = Vec::from_slice(rt.alloc(), &made)?;
-    let heard = run_over(&rt, rt.alloc(), &hearing, copy, &[], &[])?;
-    let start = b"capture c.pcap\nat 1002000000 frame 3 seq 2 sample 0 65ffff";
-    let end = b"ffff\nend frames 3 packets 3 presented 1 flagged 0\n";
-    assert!(rt; heard.text.starts_with(start) && heard.text.ends_with(end));
-    let shown = run_over(&rt, rt.alloc(), &["show", "c.pcap"], made, &[], &[])?;
-    let text = "\
-frame 1 at 1000000000 h264 id 0200000000010001 seq 0 ts 0 tv 0 tu 0 mr 0 ptv 1 pt 1002000000 marker 0 nal 5 part first bytes 1404
-frame 2 at 1000000000 h264 id 0200000000010001 seq 1 ts 0 tv 0 tu 0 mr 0 ptv 1 pt 1002000000 marker 0 nal 5 part middle bytes 1404
-frame 3 at 1000000000 h264 id 0200000000010001 seq 2 ts 1002000000 tv 1 tu 0 mr 0 ptv 1 pt 1002000000 marker 1 nal 5 part last bytes 209
-end frames 3
-";
-    assert_eq!(rt; shown.text.as_slice(), text.as_bytes());
-    Ok(())
-}
-
-/// Bytes that are no byte stream of H.264 that can be sent make no capture.
-#[test]
-fn refused_byte_streams(rt: HostRuntime) -> Result<(), Fail> {
-    let cases: [(&[u8], &str); 2] = [
-        (&[1, 2, 3], "talk input: start_code\n"),
-        (&[0, 0, 1, 0x1C, 1], "talk input: nal_type\n"),
-    ];
-    for (bytes, text) in cases {
-        let line = ["talk", "--kind", "h264", "a.raw", "c.pcap"];
-        let samples = Vec::from_slice(rt.alloc(), bytes)?;
-        let (ran, made) = talk_over(&rt, rt.alloc(), &line, samples, &[], &[])?;
-        assert_eq!(rt; ran.status, Status::TalkInput);
-        assert_eq!(rt; ran.text.as_slice(), text.as_bytes());
-        assert!(rt; made.is_none());
-    }
+fn a_sample_longer_than_a_piece_of_digits_is_printed_whole(
+    rt: HostRuntime,
+) -> Result<(), NoMemory> {
+    let alloc = rt.alloc();
+    let mut bench = Bench::new(alloc);
+    // One sample frame of 1,023 channels of 32 bits: 4,092 bytes, in a record of 4,134.
+    let wide = "V1 32=2610 36=2610 74=0253ff20 78=0ffc ..82 noise:4092";
+    let capture = bytes_of(alloc, wide)?;
+    let digits = hex::encode(alloc, capture.get(82..).unwrap_or(&[]))?;
+    bench.put("c.pcap", capture)?;
+    let text = bench.run(&rt, "listen 0200000000010001 c.pcap")?;
+    let stated = format!(in alloc;
+        "capture c.pcap\nat 1002000000 frame 1 seq 0 sample 0 {digits}\nend frames 1 packets 1 presented 1 flagged 0\n"
+    )?;
+    assert_eq!(rt; text.as_str(), stated.as_str());
     Ok(())
 }

@@ -1,7 +1,8 @@
 //! The vectors, byte for byte.
 
-ghost use Rattle.std.specs.Prelude.{◌≡◌, ◌≤◌, ◌<◌, length, IfOk};
-ghost use Rattle.vectors_avtp.specs.Vectors.{size_of};
+ghost use Rattle.std.specs.Prelude.{◌≡◌, ◌≤◌, ◌<◌, IfOk};
+ghost use Rattle.hex.specs.Hex.{encode_lower};
+ghost use Rattle.vectors_avtp.specs.Vectors.{published};
 
 use avtp_base::NoMemory;
 use std::alloc::Global;
@@ -55,10 +56,11 @@ const V5: [u8; 160] = [
 /// The vector of this number, 1 to 5.
 ///
 /// `NoMemory` comes where no memory is found.
+#[tactic(auto, unfolding(hex::proofs::OnLiterals::hex_on_literals))]
 pub fn vector(alloc: Global, n: u32) -> Result<Vec<u8>, NoMemory>
     requires first { 0 < n }
     requires last { n ≤ 5 }
-    ensures { IfOk result (λ bytes. length bytes.items ≡ size_of n) }
+    ensures { IfOk result (λ bytes. encode_lower bytes.items ≡ published n) }
 {
     let bytes: &[u8] = match n {
         1 => &V1,

@@ -1,0 +1,139 @@
+//! A command as a line of text.
+
+use avtp_words::{Command, Crf, Listen, Offence, Silence, Talk, parse};
+use std::alloc::{AllocError, Global};
+use std::fmt::Display;
+
+/// A word of a row: `_` is a space, and quotes are left out, so that `''` is an empty word.
+fn word_of(alloc: Global, spelled: &str) -> Result<String, AllocError> {
+    let mut word = String::new(alloc);
+    for letter in spelled.chars() {
+        match letter {
+            '_' => word.push(' ')?,
+            '\'' => {}
+            _ => word.push(letter)?,
+        }
+    }
+    Ok(word)
+}
+
+/// What the words of a row ask for, or the position of the offence.
+pub fn answer(alloc: Global, line: &str) -> Result<String, AllocError> {
+    let mut words = Vec::new(alloc);
+    for spelled in line.split_ascii_whitespace() {
+        words.push(word_of(alloc, spelled)?)?;
+    }
+    match parse(&words) {
+        Ok(command) => told(alloc, command),
+        Err(Offence { position }) => format!(in alloc; "{position}"),
+    }
+}
+
+/// The command's name, the options that are not at their default, and the names.
+fn told(alloc: Global, command: Command<'_>) -> Result<String, AllocError> {
+    let mut text = String::new(alloc);
+    match command {
+        Command::Show { limit, file } => {
+            text.push_str("show")?;
+            add(&mut text, "limit", limit, LIMIT)?;
+            add_name(&mut text, file)?;
+        }
+        Command::Check { limit, files } => {
+            text.push_str("check")?;
+            add(&mut text, "limit", limit, LIMIT)?;
+            add_names(&mut text, files)?;
+        }
+        Command::Listen(asked) => add_listen(&mut text, &asked)?,
+        Command::Talk(asked) => add_talk(&mut text, &asked)?,
+        Command::Soak { packets } => write!(text, "soak {packets}")?,
+    }
+    Ok(text)
+}
+
+const LIMIT: u64 = 1_099_511_627_776;
+
+fn add<T: Display + PartialEq + Copy>(
+    text: &mut String,
+    option: &str,
+    value: T,
+    default: T,
+) -> Result<(), AllocError> {
+    if value == default {
+        return Ok(());
+    }
+    write!(text, " {option} {value}")
+}
+
+fn add_name(text: &mut String, name: &str) -> Result<(), AllocError> {
+    write!(text, " ({name})")
+}
+
+fn add_names(text: &mut String, names: &[String]) -> Result<(), AllocError> {
+    for name in names {
+        add_name(text, name.as_str())?;
+    }
+    Ok(())
+}
+
+fn add_listen(text: &mut String, asked: &Listen<'_>) -> Result<(), AllocError> {
+    write!(text, "listen {:016x}", asked.stream)?;
+    add(text, "limit", asked.limit, LIMIT)?;
+    add(text, "buffer", asked.buffer, 4_096)?;
+    add(text, "room", asked.room, 67_108_864)?;
+    add(text, "look", asked.look, 0)?;
+    add(text, "lead", asked.lead, 2_000_000)?;
+    if let Some(clock) = asked.clock {
+        write!(text, " clock {clock:016x}")?;
+    }
+    add(text, "shift", asked.shift, 0)?;
+    add(text, "ring", asked.ring, 64)?;
+    add_devices(text, asked)?;
+    add_names(text, asked.files)
+}
+
+/// The files that are written, each with the place of its name among the words, from 0.
+fn add_devices(text: &mut String, asked: &Listen<'_>) -> Result<(), AllocError> {
+    if let Some(raw) = asked.raw {
+        let silence = match raw.silence {
+            Silence::Zero => "zero",
+            Silence::Am824 => "am824",
+        };
+        write!(text, " {silence} raw {}", raw.file.place)?;
+        add_name(text, raw.file.name)?;
+    }
+    if let Some(file) = asked.annexb {
+        write!(text, " annexb {}", file.place)?;
+        add_name(text, file.name)?;
+    }
+    Ok(())
+}
+
+fn add_talk(text: &mut String, asked: &Talk<'_>) -> Result<(), AllocError> {
+    write!(text, "talk {:?}", asked.kind)?;
+    add(text, "rate", asked.rate, 48_000)?;
+    add(text, "channels", asked.channels, 2)?;
+    add(text, "count", asked.count, 6)?;
+    if asked.id != 0x0200_0000_0001_0001 {
+        write!(text, " id {:016x}", asked.id)?;
+    }
+    add(text, "start", asked.start, 1_000_000_000)?;
+    add(text, "lead", asked.lead, 2_000_000)?;
+    if let Some(restart) = asked.restart {
+        write!(text, " restart {restart}")?;
+    }
+    add(text, "jump", asked.jump, 1_000_000)?;
+    if let Some(crf) = asked.crf {
+        add_crf(text, &crf, asked.rate)?;
+    }
+    add_name(text, asked.input)?;
+    add_name(text, asked.output)
+}
+
+/// The media clock, whose rate is the stream's where none is asked for.
+fn add_crf(text: &mut String, crf: &Crf, rate: u32) -> Result<(), AllocError> {
+    write!(text, " crf {:016x}", crf.id)?;
+    add(text, "crf-rate", crf.rate, rate)?;
+    add(text, "pull", crf.pull, 0)?;
+    add(text, "interval", crf.interval, 96)?;
+    add(text, "points", crf.points, 1)
+}
