@@ -100,8 +100,8 @@ struct MeetingShelf {
 }
 
 impl Shelf for MeetingShelf {
-    ghost use Rattle.avtp_memory.specs.MemoryFiles.{told_of_live};
-    ghost use Rattle.avtp_memory.specs.MemoryShelf.{state_of};
+    ghost use Rattle.avtp_memory.specs.state.MemoryFiles.{told_of_live};
+    ghost use Rattle.avtp_memory.specs.state.MemoryShelf.{state_of};
 
     ghost state = { λ meeting. state_of meeting.shelf };
 
