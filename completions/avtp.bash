@@ -51,3 +51,12 @@ _avtp() {
     fi
 }
 complete -o filenames -F _avtp avtp
+_avtp_report() {
+    local cur=${COMP_WORDS[COMP_CWORD]}
+    if [ "${cur#-}" != "$cur" ]; then
+        COMPREPLY=($(compgen -W '--html --help --version' -- "$cur"))
+    else
+        COMPREPLY=($(compgen -f -- "$cur"))
+    fi
+}
+complete -o filenames -F _avtp_report avtp-report

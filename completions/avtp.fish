@@ -35,3 +35,6 @@ complete -c avtp -n '__fish_seen_subcommand_from talk' -l crf-rate -x -d 'the ba
 complete -c avtp -n '__fish_seen_subcommand_from talk' -l crf-pull -x -d 'the code of the factor of the base frequency (IEEE 1722, 10): 1, 1000/1001, 1001/1000, 24/25, 25/24, 1/8'
 complete -c avtp -n '__fish_seen_subcommand_from talk' -l last-stamp -d 'timestamp only the last packet of each NAL unit; for h264 alone'
 complete -c avtp -n '__fish_seen_subcommand_from soak' -f
+complete -c avtp-report -l html -rF -d 'write the page to OUT'
+complete -c avtp-report -l help -d 'say what it does'
+complete -c avtp-report -l version -d 'say its version'

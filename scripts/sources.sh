@@ -1,6 +1,6 @@
-# For scripts that have set `top`: where the program stands, the sum of the sources, and whether a proved program is of them.
+# For scripts that have set `top`: where the programs stand, the sum of the sources, and whether a proved program is of them.
 
-# The proved program of this name.
+# The proved program of this name, avtp or avtp-report.
 program_of() {
     crate=$(printf '%s' "$1" | tr - _)
     echo "$top/crates/$crate/out/$crate"

@@ -1,0 +1,168 @@
+//! The pictures of a stream: lines from the least to the greatest value of each stretch of time.
+
+use crate::units::Signed;
+use std::io::{self, Write};
+use stream_report::{Column, Range, Spread, Stream};
+
+/// A picture is so wide and high, in units of its own.
+const WIDTH: u64 = 1000;
+
+const HEIGHT: u64 = 100;
+
+/// What a picture shows of a column.
+#[derive(Clone, Copy)]
+pub enum Shown {
+    Lead,
+    Distance,
+}
+
+/// The values at the lower and the upper edge of a picture.
+#[derive(Clone, Copy)]
+struct Scale {
+    low: i64,
+    high: i64,
+}
+
+/// Two decimals of a place in a picture.
+#[derive(Clone, Copy)]
+struct Place(u64);
+
+impl std::fmt::Display for Place {
+    fn fmt<W: std::fmt::Write>(&self, f: &mut std::fmt::Formatter<W>) -> std::fmt::Result {
+        let Place(hundredths) = *self;
+        let whole = hundredths / 10;
+        let rest = hundredths % 10;
+        write!(f, "{whole}.{rest}")
+    }
+}
+
+/// Writes a picture of a stream, over the capture's time.
+pub fn write_chart<W: Write>(
+    out: &mut W,
+    stream: &Stream,
+    shown: Shown,
+    duration: u64,
+) -> io::Result<()> {
+    let (spread, name, style) = match shown {
+        Shown::Lead => (&stream.leads, "Lead", "lead"),
+        Shown::Distance => (&stream.distances, "Arrival distance", "gap"),
+    };
+    let Some(scale) = scale_of(spread) else {
+        return Ok(());
+    };
+    let high = Signed(scale.high);
+    let low = Signed(scale.low);
+    writeln!(
+        out,
+        "<figure><figcaption><span>{name}</span><span>{low} to {high}</span></figcaption>"
+    )?;
+    write!(
+        out,
+        "<svg viewBox=\"0 0 {WIDTH} {HEIGHT}\" preserveAspectRatio=\"none\" role=\"img\" aria-label=\"{name}\">"
+    )?;
+    write_rules(out, scale)?;
+    write_losses(out, stream, duration)?;
+    write!(out, "<path class=\"{style}\" d=\"")?;
+    for column in stream.trace.columns().iter() {
+        write_column(out, stream, column, shown, scale, duration)?;
+    }
+    writeln!(out, "\"/></svg>")?;
+    let end = Signed(i64::try_from(duration).unwrap_or(i64::MAX));
+    writeln!(
+        out,
+        "<figcaption class=\"foot\"><span>0 s</span><span>{end}</span></figcaption></figure>"
+    )
+}
+
+/// The scale of most values: from the 1st percentile to the 99th, and a quarter as much below and above. Values outside are drawn at
+/// the edge.
+fn scale_of(spread: &Spread) -> Option<Scale> {
+    let low = spread.percentile(1)?;
+    let high = spread.percentile(99)?;
+    let part = high.saturating_sub(low) / 4;
+    let part = part
+        .max(low.saturating_abs().max(high.saturating_abs()) / 50)
+        .max(500);
+    Some(Scale {
+        low: low
+            .saturating_sub(part)
+            .max(spread.least.saturating_sub(part)),
+        high: high
+            .saturating_add(part)
+            .min(spread.greatest.saturating_add(part)),
+    })
+}
+
+/// How far down a value is, in tenths of the picture's unit.
+fn down(scale: Scale, value: i64) -> Place {
+    let all = u128::from(scale.high.abs_diff(scale.low)).max(1);
+    let value = value.max(scale.low).min(scale.high);
+    let part = u128::from(scale.high.abs_diff(value));
+    let tenths = part
+        .saturating_mul(u128::from(HEIGHT * 10))
+        .checked_div(all);
+    Place(u64::try_from(tenths.unwrap_or(0)).unwrap_or(0))
+}
+
+/// How far right a time is, in tenths of the picture's unit.
+fn right(since: u64, duration: u64) -> Place {
+    let tenths = u128::from(since)
+        .saturating_mul(u128::from(WIDTH * 10))
+        .checked_div(u128::from(duration))
+        .unwrap_or(0);
+    Place(u64::try_from(tenths).unwrap_or(0).min(WIDTH * 10))
+}
+
+/// Where a column begins, in nanoseconds.
+fn begin_of(stream: &Stream, column: &Column) -> u64 {
+    column.slot.saturating_mul(stream.trace.width())
+}
+
+/// Three lines across, and one at 0 where that is shown.
+fn write_rules<W: Write>(out: &mut W, scale: Scale) -> io::Result<()> {
+    write!(
+        out,
+        "<path class=\"rule\" d=\"M0 25H{WIDTH}M0 50H{WIDTH}M0 75H{WIDTH}"
+    )?;
+    if scale.low < 0 && scale.high > 0 {
+        let zero = down(scale, 0);
+        write!(out, "M0 {zero}H{WIDTH}M0 {zero}H{WIDTH}")?;
+    }
+    write!(out, "\"/>")
+}
+
+/// A line from top to bottom wherever packets are missing.
+fn write_losses<W: Write>(out: &mut W, stream: &Stream, duration: u64) -> io::Result<()> {
+    if stream.lost.count == 0 {
+        return Ok(());
+    }
+    write!(out, "<path class=\"loss\" d=\"")?;
+    for column in stream.trace.columns().iter() {
+        if column.lost > 0 {
+            let x = right(begin_of(stream, column), duration);
+            write!(out, "M{x} 0V{HEIGHT}")?;
+        }
+    }
+    write!(out, "\"/>")
+}
+
+fn write_column<W: Write>(
+    out: &mut W,
+    stream: &Stream,
+    column: &Column,
+    shown: Shown,
+    scale: Scale,
+    duration: u64,
+) -> io::Result<()> {
+    let range = match shown {
+        Shown::Lead => column.lead,
+        Shown::Distance => column.distance,
+    };
+    let Some(Range { least, greatest }) = range else {
+        return Ok(());
+    };
+    let x = right(begin_of(stream, column), duration);
+    let top = down(scale, greatest);
+    let bottom = down(scale, least);
+    write!(out, "M{x} {top}V{bottom}")
+}

@@ -1,0 +1,185 @@
+//! The streams of a capture, and what else it holds.
+
+use avtp_base::{Field, NoMemory};
+use avtp_header::{ETHERTYPE, peek};
+use avtp_packet::{Packet, read_packet, reserved, stamp_is_wrong, stream_of};
+use pcap_frames::{FrameView, RecordView, read_frame};
+use std::alloc::Global;
+use std::collections::HashMap;
+use stream_report::{
+    At, Facts, Noted, Other, Others, Sender, Stream, StreamKey, aaf_facts, crf_facts, h264_facts,
+    iec_facts, other_frame, unread_format,
+};
+
+/// The most streams that are told apart.
+pub const MOST_STREAMS: usize = 1024;
+
+/// What is counted of captures, one after the other as one.
+#[derive(Drop)]
+pub struct Report {
+    alloc: Global,
+    places: HashMap<StreamKey, usize>,
+    /// In the order in which they were first seen.
+    pub streams: Vec<Stream>,
+    pub others: Others,
+    /// The frames of all files.
+    pub frames: u64,
+    /// When the first frame arrived.
+    first_arrival: Option<i64>,
+    /// How long after the first frame the last one came, in nanoseconds.
+    pub duration: u64,
+}
+
+/// Where and when a frame came.
+#[derive(Clone, Copy)]
+struct Came {
+    at: At,
+    arrival: i64,
+    since: u64,
+}
+
+impl Report {
+    pub fn new(alloc: Global) -> Self {
+        Report {
+            alloc,
+            places: HashMap::new(alloc),
+            streams: Vec::new(alloc),
+            others: Others::new(alloc),
+            frames: 0,
+            first_arrival: None,
+            duration: 0,
+        }
+    }
+
+    /// Counts a record of a capture. After `NoMemory` the report is not to be used.
+    pub fn note(&mut self, at: At, record: &RecordView<'_>) -> Result<(), NoMemory> {
+        self.frames = self.frames.saturating_add(1);
+        let begin = self.first_arrival.unwrap_or(record.arrival);
+        self.first_arrival = Some(begin);
+        let since = u64::try_from(record.arrival.saturating_sub(begin)).unwrap_or(0);
+        self.duration = self.duration.max(since);
+        let came = Came {
+            at,
+            arrival: record.arrival,
+            since,
+        };
+        match read_frame(record.bytes) {
+            Err(refusal) => self.others.note(Other::Malformed(refusal.field)),
+            Ok(frame) if frame.ethertype == ETHERTYPE => self.note_frame(came, &frame),
+            Ok(frame) => self.others.note(other_frame(&frame)),
+        }
+    }
+
+    /// Counts a frame that holds an AVTP packet.
+    fn note_frame(&mut self, came: Came, frame: &FrameView<'_>) -> Result<(), NoMemory> {
+        match read_packet(frame.payload) {
+            Ok(packet) => self.note_packet(came, frame, &packet),
+            Err(refusal) => self.note_refused(came, frame, refusal.field),
+        }
+    }
+
+    fn note_packet(
+        &mut self,
+        came: Came,
+        frame: &FrameView<'_>,
+        packet: &Packet<'_>,
+    ) -> Result<(), NoMemory> {
+        let (Some(place), Some(facts)) = (stream_of(packet), facts_of(packet)) else {
+            return self.others.note(Other::Subtype(subtype_in(frame)));
+        };
+        if !place.sv {
+            return self.others.note(Other::NoStream(place.subtype));
+        }
+        let key = StreamKey {
+            subtype: place.subtype,
+            id: place.id,
+        };
+        let noted = Noted {
+            at: came.at,
+            arrival: came.arrival,
+            since: came.since,
+            sender: sender_of(frame),
+            seq: place.seq,
+            facts,
+            reserved: reserved(packet),
+            stamp_wrong: stamp_is_wrong(packet),
+        };
+        match self.stream(key, noted.sender, came.at)? {
+            Some(stream) => stream.note(&noted),
+            None => self.others.note(Other::Untracked),
+        }
+    }
+
+    /// Counts a packet that is refused at this field.
+    fn note_refused(
+        &mut self,
+        came: Came,
+        frame: &FrameView<'_>,
+        field: Field,
+    ) -> Result<(), NoMemory> {
+        let Some(peeked) = peek(frame.payload) else {
+            return self.others.note(Other::Malformed(field));
+        };
+        if let Some(other) = unread_format(peeked.subtype, field, frame.payload) {
+            return self.others.note(other);
+        }
+        if !peeked.sv {
+            return self.others.note(Other::Malformed(field));
+        }
+        let key = StreamKey {
+            subtype: peeked.subtype,
+            id: peeked.stream_id,
+        };
+        match self.stream(key, sender_of(frame), came.at)? {
+            Some(stream) => stream.note_malformed(came.at, field),
+            None => self.others.note(Other::Untracked),
+        }
+    }
+
+    /// The stream of this key, which begins here where it is new. `None` comes where as many others are told apart.
+    fn stream(
+        &mut self,
+        key: StreamKey,
+        sender: Sender,
+        at: At,
+    ) -> Result<Option<&mut Stream>, NoMemory> {
+        let known = self.places.get(&key).copied();
+        let place = match known {
+            Some(place) => place,
+            None => {
+                let place = self.streams.len();
+                if place >= MOST_STREAMS {
+                    return Ok(None);
+                }
+                self.streams
+                    .push(Stream::new(self.alloc, key, sender, at)?)?;
+                self.places.insert(key, place)?;
+                place
+            }
+        };
+        Ok(self.streams.get_mut(place))
+    }
+}
+
+/// The facts of a packet. `None` comes for one of a format that is not read.
+fn facts_of(packet: &Packet<'_>) -> Option<Facts> {
+    match packet {
+        Packet::Aaf(view) => Some(aaf_facts(view)),
+        Packet::Iec(view) => Some(iec_facts(view)),
+        Packet::H264(view) => Some(h264_facts(view)),
+        Packet::Crf(view) => Some(crf_facts(view)),
+        Packet::Other(_) => None,
+    }
+}
+
+fn subtype_in(frame: &FrameView<'_>) -> u8 {
+    frame.payload.first().copied().unwrap_or(0)
+}
+
+fn sender_of(frame: &FrameView<'_>) -> Sender {
+    Sender {
+        source: frame.src,
+        destination: frame.dst,
+        tag: frame.tag,
+    }
+}

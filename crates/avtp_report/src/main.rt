@@ -1,0 +1,207 @@
+//! `avtp-report`: what is wrong with each AVTP stream of captures, as a table, and as a page that can be sent to somebody.
+#![tactic(auto)]
+
+mod cells;
+mod chart;
+mod gather;
+mod named;
+mod page;
+mod reading;
+mod said;
+mod style;
+mod table;
+mod units;
+mod words;
+
+use crate::page::write_page;
+use crate::reading::{Ending, Reading, read_files};
+use crate::table::write_table;
+use crate::words::{Words, read_words};
+use avtp_base::NoMemory;
+use std::alloc::Global;
+use std::io::{BufWriter, ErrorKind, Write};
+use std::process::ExitCode;
+use std::{env, fs, io};
+use stream_report::{Verdict, verdicts_of};
+
+/// How a run ends, as the command `avtp` does.
+#[derive(Clone, Copy)]
+enum Status {
+    Done,
+    Found,
+    Words,
+    Refused,
+    ReadFault,
+    WriteFault,
+    Memory,
+}
+
+impl Status {
+    fn code(self) -> u8 {
+        match self {
+            Status::Done => 0,
+            Status::Found => 1,
+            Status::Words => 2,
+            Status::Refused => 3,
+            Status::ReadFault => 4,
+            Status::WriteFault => 5,
+            Status::Memory => 6,
+        }
+    }
+}
+
+const USAGE: &str = "usage: avtp-report [--html OUT] FILE..";
+
+const HELP: &str = "usage: avtp-report [--html OUT] FILE..
+
+Tells of each AVTP stream (IEEE 1722) in the captures FILE.., which are read as one, what
+is counted of it, and what is wrong with it. With --html the same is written to OUT as one
+page with pictures. pcap and pcapng captures are read; /dev/stdin is one, too.
+
+It ends with 0, or 1 where something is wrong with a stream, 2 where these words are no
+command line, 3 where a capture is refused, 4 where a file cannot be read, 5 where the
+table or OUT cannot be written, and 6 where no memory is found.
+";
+
+/// The version of this program and of `avtp`.
+const VERSION: &str = "avtp-report 0.9.0";
+
+fn main(rt: HostRuntime) -> ExitCode {
+    ExitCode::from(run(&rt).code())
+}
+
+/// Does what the words behind the program's name ask for.
+fn run(rt: &HostRuntime) -> Status {
+    let words = match words_of(rt) {
+        Ok(words) => words,
+        Err(status) => return status,
+    };
+    match read_words(&words) {
+        Words::Help => print_status(print!(rt; "{HELP}")),
+        Words::Version => print_status(println!(rt; "{VERSION}")),
+        Words::Report { html } => report(rt, &words, html),
+        Words::Faulty => {
+            let _ = eprintln!(rt; "{USAGE}");
+            Status::Words
+        }
+    }
+}
+
+/// The words behind the program's name. Words that are no text are a faulty command line.
+fn words_of(rt: &HostRuntime) -> Result<Vec<String>, Status> {
+    let arguments = match env::args(rt) {
+        Ok(arguments) => arguments,
+        Err(error) if error.kind() == ErrorKind::OutOfMemory => return Err(Status::Memory),
+        Err(_) => return Err(Status::Words),
+    };
+    arguments
+        .skip(1)
+        .collect(rt.alloc())
+        .map_err(|_| Status::Memory)
+}
+
+fn print_status(written: io::Result<()>) -> Status {
+    match written {
+        Ok(()) => Status::Done,
+        Err(error) => written_status(&error),
+    }
+}
+
+fn written_status(error: &io::Error) -> Status {
+    if error.kind() == ErrorKind::OutOfMemory {
+        Status::Memory
+    } else {
+        Status::WriteFault
+    }
+}
+
+/// Reads the captures and writes what is told of them.
+fn report(rt: &HostRuntime, words: &[String], html: Option<usize>) -> Status {
+    let alloc = rt.alloc();
+    let Ok(reading) = read_files(rt, alloc, words) else {
+        return Status::Memory;
+    };
+    let Ok(verdicts) = all_verdicts(alloc, &reading) else {
+        return Status::Memory;
+    };
+    let order = worst_first(alloc, &verdicts);
+    let Ok(order) = order else {
+        return Status::Memory;
+    };
+    let told = Told {
+        reading: &reading,
+        verdicts: &verdicts,
+        order: &order,
+    };
+    if let Err(error) = print_table(rt, &told) {
+        return written_status(&error);
+    }
+    if let Some(name) = html.and_then(|place| words.get(place)) {
+        if let Err(error) = make_page(rt, name.as_str(), &told) {
+            let _ = eprintln!(rt; "avtp-report: {name}: {error}");
+            return written_status(&error);
+        }
+    }
+    ended(&told)
+}
+
+/// All that is told of the captures.
+#[derive(Clone, Copy)]
+pub struct Told<'a> {
+    pub reading: &'a Reading,
+    /// The verdicts on each stream.
+    pub verdicts: &'a Vec<Vec<Verdict>>,
+    /// The places of the streams, the worst first.
+    pub order: &'a Vec<usize>,
+}
+
+fn all_verdicts(alloc: Global, reading: &Reading) -> Result<Vec<Vec<Verdict>>, NoMemory> {
+    let mut all = Vec::new(alloc);
+    for stream in reading.report.streams.iter() {
+        all.push(verdicts_of(alloc, stream)?)?;
+    }
+    Ok(all)
+}
+
+/// The places of the streams, by their worst verdict; those with none come last, and the others as they came.
+fn worst_first(alloc: Global, verdicts: &[Vec<Verdict>]) -> Result<Vec<usize>, NoMemory> {
+    let mut order = Vec::new(alloc);
+    for (place, of) in verdicts.iter().enumerate() {
+        let rank = of.first().map_or(u8::MAX, |verdict| verdict.rank());
+        order.push((rank, place))?;
+    }
+    order.sort()?;
+    let mut places = Vec::new(alloc);
+    for (_, place) in order.iter() {
+        places.push(*place)?;
+    }
+    Ok(places)
+}
+
+fn print_table(rt: &HostRuntime, told: &Told<'_>) -> io::Result<()> {
+    let mut out = BufWriter::new(rt.alloc(), io::writer(rt))?;
+    write_table(rt.alloc(), &mut out, told)?;
+    out.flush()
+}
+
+fn make_page(rt: &HostRuntime, name: &str, told: &Told<'_>) -> io::Result<()> {
+    let mut out = BufWriter::new(rt.alloc(), fs::create(rt, name)?)?;
+    write_page(rt.alloc(), &mut out, told)?;
+    out.flush()
+}
+
+/// How a run ends whose table and page were written.
+fn ended(told: &Told<'_>) -> Status {
+    for file in told.reading.files.iter() {
+        match file.ending {
+            Ending::Whole => {}
+            Ending::Refused(_) => return Status::Refused,
+            Ending::Fault => return Status::ReadFault,
+        }
+    }
+    if told.verdicts.iter().all(|of| of.is_empty()) {
+        Status::Done
+    } else {
+        Status::Found
+    }
+}

@@ -1,0 +1,148 @@
+//! The captures that are read, one after the other.
+
+ghost use Rattle.std.specs.Prelude.{IsSome};
+ghost use Rattle.capture_io.specs.Source.{slot_of};
+
+use crate::gather::Report;
+use crate::words::is_capture;
+use avtp_base::{FileShelf, NoMemory, OpenFault, Refusal, Shelf};
+use capture_io::{End, Source};
+use std::alloc::Global;
+use std::fs;
+use stream_report::At;
+
+/// How the reading of a file ended.
+#[derive(Clone, Copy, PartialEq, Eq)]
+pub enum Ending {
+    Whole,
+    Refused(Refusal),
+    Fault,
+}
+
+/// A capture that was read.
+#[derive(Drop)]
+pub struct File {
+    pub name: String,
+    /// Its frames, as far as it was read.
+    pub frames: u64,
+    pub ending: Ending,
+}
+
+/// What was read.
+#[derive(Drop)]
+pub struct Reading {
+    pub files: Vec<File>,
+    pub report: Report,
+}
+
+/// The most bytes of a file that are read.
+const LIMIT: u64 = 1 << 62;
+
+/// Reads the captures that the words name. The first that is not read to its end is the last, and standard error says why.
+pub fn read_files(rt: &HostRuntime, alloc: Global, words: &[String]) -> Result<Reading, NoMemory> {
+    let mut files = Vec::new(alloc);
+    let mut report = Report::new(alloc);
+    let mut shelf = FileShelf::new(alloc, rt);
+    for (place, word) in words.iter().enumerate() {
+        if !is_capture(words, place) {
+            continue;
+        }
+        let number = u32::try_from(files.len())
+            .unwrap_or(u32::MAX)
+            .saturating_add(1);
+        let read = read_file(alloc, &mut shelf, word.as_str(), number, &mut report)?;
+        let ending = read.ending;
+        files.push(File {
+            name: word.clone()?,
+            frames: read.frames,
+            ending,
+        })?;
+        if ending != Ending::Whole {
+            say_why(rt, word.as_str(), ending);
+            break;
+        }
+    }
+    Ok(Reading { files, report })
+}
+
+/// Says why a file was not read to its end.
+fn say_why(rt: &HostRuntime, name: &str, ending: Ending) {
+    let _ = match ending {
+        Ending::Whole => Ok(()),
+        Ending::Refused(refusal) => {
+            let field = refusal.field.name();
+            let at = refusal.at;
+            let short = if refusal.short { " short" } else { "" };
+            eprintln!(rt; "avtp-report: {name}: capture refused: {field} at {at}{short}")
+        }
+        Ending::Fault => match fs::open(rt, name) {
+            Ok(_) => eprintln!(rt; "avtp-report: {name}: read fault"),
+            Err(error) => eprintln!(rt; "avtp-report: {name}: {error}"),
+        },
+    };
+}
+
+/// How much of a file was read.
+#[derive(Clone, Copy)]
+struct Read {
+    frames: u64,
+    ending: Ending,
+}
+
+/// Reads a capture into the report.
+fn read_file<F: Shelf>(
+    alloc: Global,
+    shelf: &mut F,
+    name: &str,
+    number: u32,
+    report: &mut Report,
+) -> Result<Read, NoMemory> {
+    let mut source = match Source::open(alloc, LIMIT, shelf, name) {
+        Ok(source) => source,
+        Err(OpenFault::Memory) => return Err(NoMemory),
+        Err(_) => {
+            return Ok(Read {
+                frames: 0,
+                ending: Ending::Fault,
+            });
+        }
+    };
+    let read = read_records(&mut source, shelf, number, report);
+    source.close(shelf);
+    read
+}
+
+/// Reads the records of an open capture into the report.
+fn read_records<F: Shelf>(
+    source: &mut Source,
+    shelf: &mut F,
+    number: u32,
+    report: &mut Report,
+) -> Result<Read, NoMemory>
+    requires { IsSome ((F.state shelf.old).slots (slot_of source.old)) }
+    ensures { IsSome ((F.state shelf.new).slots (slot_of source.new)) }
+{
+    let mut frames: u64 = 0;
+    loop {
+        if let Some(end) = source.next(shelf) {
+            return Ok(Read {
+                frames,
+                ending: ending_of(end),
+            });
+        }
+        frames = frames.saturating_add(1);
+        let at = At {
+            file: number,
+            frame: frames,
+        };
+        report.note(at, &source.record())?;
+    }
+}
+
+fn ending_of(end: End) -> Ending {
+    match end {
+        End::Whole => Ending::Whole,
+        End::Refused(refusal) => Ending::Refused(refusal),
+        End::ReadFault | End::Limit => Ending::Fault,
+    }
+}

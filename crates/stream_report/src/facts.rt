@@ -1,0 +1,216 @@
+//! What a report notes of a packet.
+
+use crate::pace::Stamp;
+use crate::rate::Rate;
+use aaf_format::{AafFormat, AafView, rate_of};
+use avtp_header::{StreamHeader, subtype};
+use crf_format::{CrfView, point};
+use cvf_format::CvfView;
+use iec61883_format::{IecView, anchor_index, rate_of_fdf, syt_interval};
+
+/// The format of a stream's packets.
+#[derive(Clone, Copy, PartialEq, Eq)]
+pub enum Format {
+    /// PCM of AAF. The depth is as it stands: 0 means all bits.
+    Aaf {
+        format: AafFormat,
+        rate: Option<u32>,
+        channels: u16,
+        depth: u8,
+        sparse: bool,
+    },
+    /// AM824 blocks of IEC 61883-6, each of so many quadlets. A packet of no data tells no rate.
+    Iec {
+        rate: Option<u32>,
+        quadlets: u16,
+    },
+    /// H.264.
+    H264,
+    /// A media clock: the type of its events, its base frequency and the code of its factor, the events between two timestamps
+    /// and the timestamps of a packet.
+    Crf {
+        kind: u8,
+        base: u32,
+        pull: u8,
+        interval: u16,
+        points: u32,
+    },
+    /// No packet was read yet: those that came were refused.
+    Unknown,
+}
+
+/// The labels of a packet's AM824 quadlets.
+#[derive(Clone, Copy)]
+pub struct Labels {
+    /// Those other than 0x40.
+    pub other: u32,
+    /// Those that IEC 61883-6 keeps for later, and the first of them.
+    pub reserved: u32,
+    pub first_reserved: u8,
+}
+
+/// What a report notes of a packet.
+#[derive(Clone, Copy)]
+pub struct Facts {
+    pub format: Format,
+    pub rate: Option<Rate>,
+    /// Its sample frames, data blocks, or events of a media clock; 0 for H.264.
+    pub count: u32,
+    /// The event that its timestamp belongs to, counted from its first.
+    pub anchor: u32,
+    pub stamp: Option<Stamp>,
+    pub mr: bool,
+    pub tu: bool,
+    /// The block count, modulo 256, of its first data block.
+    pub dbc: Option<u8>,
+    pub labels: Labels,
+}
+
+const NO_LABELS: Labels = Labels {
+    other: 0,
+    reserved: 0,
+    first_reserved: 0,
+};
+
+/// The facts of a packet with the common header.
+fn header_facts(header: &StreamHeader, format: Format) -> Facts {
+    Facts {
+        format,
+        rate: None,
+        count: 0,
+        anchor: 0,
+        stamp: header.tv.then_some(Stamp::Short(header.timestamp)),
+        mr: header.mr,
+        tu: header.tu,
+        dbc: None,
+        labels: NO_LABELS,
+    }
+}
+
+/// The facts of a packet of PCM.
+pub fn aaf_facts(view: &AafView<'_>) -> Facts {
+    let rate = rate_of(view.nsr);
+    let format = Format::Aaf {
+        format: view.format,
+        rate,
+        channels: view.channels,
+        depth: view.depth,
+        sparse: view.sparse,
+    };
+    let mut facts = header_facts(&view.header, format);
+    facts.rate = rate.map(Rate::of);
+    facts.count = view.count;
+    facts
+}
+
+/// The facts of a packet of AM824.
+pub fn iec_facts(view: &IecView<'_>) -> Facts {
+    let rate = rate_of_fdf(view.cip.fdf);
+    let format = Format::Iec {
+        rate,
+        quadlets: view.cip.dbs,
+    };
+    let mut facts = header_facts(&view.header, format);
+    facts.rate = rate.map(Rate::of);
+    facts.count = view.count;
+    facts.anchor = anchor_of(view);
+    facts.dbc = Some(view.cip.dbc);
+    if view.count > 0 {
+        facts.labels = labels_in(view.payload);
+    }
+    facts
+}
+
+fn anchor_of(view: &IecView<'_>) -> u32 {
+    match syt_interval(view.cip.fdf) {
+        Some(interval) => anchor_index(view.cip.dbc, interval),
+        None => 0,
+    }
+}
+
+/// The facts of a packet of H.264.
+pub fn h264_facts(view: &CvfView<'_>) -> Facts {
+    header_facts(&view.header, Format::H264)
+}
+
+/// The facts of a packet of a media clock.
+pub fn crf_facts(view: &CrfView<'_>) -> Facts {
+    let points = u32::try_from(view.payload.len() / 8).unwrap_or(u32::MAX);
+    let format = Format::Crf {
+        kind: view.kind,
+        base: view.base_frequency,
+        pull: view.pull,
+        interval: view.interval,
+        points,
+    };
+    Facts {
+        format,
+        rate: Rate::of_clock(view.base_frequency, view.pull),
+        count: points.saturating_mul(u32::from(view.interval)),
+        anchor: 0,
+        stamp: first_point(view),
+        mr: view.mr,
+        tu: view.tu,
+        dbc: None,
+        labels: NO_LABELS,
+    }
+}
+
+fn first_point(view: &CrfView<'_>) -> Option<Stamp> {
+    if view.payload.len() < 8 {
+        return None;
+    }
+    Some(Stamp::Long(point(view, 0)))
+}
+
+/// The labels of quadlets, one after the other.
+fn labels_in(quadlets: &[u8]) -> Labels {
+    let mut labels = NO_LABELS;
+    for (place, byte) in quadlets.iter().enumerate() {
+        if place % 4 == 0 && *byte != PLAIN_LABEL {
+            labels.other = labels.other.saturating_add(1);
+            if is_reserved_label(*byte) {
+                if labels.reserved == 0 {
+                    labels.first_reserved = *byte;
+                }
+                labels.reserved = labels.reserved.saturating_add(1);
+            }
+        }
+    }
+    labels
+}
+
+/// The label of linear audio of 24 bits (IEC 61883-6).
+const PLAIN_LABEL: u8 = 0x40;
+
+/// IEC 61883-6 gives these labels no meaning yet.
+fn is_reserved_label(label: u8) -> bool {
+    matches!(label, 0x44..=0x47 | 0x5c..=0x7f | 0x84..=0x87 | 0x90..=0xbf | 0xf0..=0xff)
+}
+
+/// What a subtype of AVTP is called (IEEE 1722-2016, table 6).
+pub fn subtype_name(code: u8) -> Option<&'static str> {
+    Some(match code {
+        subtype::IEC_61883 => "iec",
+        subtype::AAF => "aaf",
+        subtype::CVF => "cvf",
+        subtype::CRF => "crf",
+        0x01 => "MMA",
+        0x05 => "TSCF",
+        0x06 => "SVF",
+        0x07 => "RVF",
+        0x6e => "AEF continuous",
+        0x6f => "vendor stream",
+        0x7f => "experimental stream",
+        0x82 => "NTSCF",
+        0xec => "ESCF",
+        0xed => "EECF",
+        0xee => "AEF discrete",
+        0xfa => "ADP",
+        0xfb => "AECP",
+        0xfc => "ACMP",
+        0xfe => "MAAP",
+        0xff => "experimental control",
+        _ => return None,
+    })
+}

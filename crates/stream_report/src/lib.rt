@@ -1,0 +1,29 @@
+//! What is counted of each AVTP stream of a capture, and what is wrong with it.
+#![tactic(auto)]
+
+mod facts;
+mod limits;
+mod others;
+mod pace;
+mod rate;
+mod sequence;
+mod spread;
+mod stream;
+mod tally;
+mod trace;
+mod trend;
+mod verdict;
+mod verdicts;
+
+pub use facts::{Facts, Format, Labels, aaf_facts, crf_facts, h264_facts, iec_facts, subtype_name};
+pub use others::{Other, OtherCount, Others, other_frame, unread_format};
+pub use pace::{Advance, Miss, Misses, Pace, Stamp, Stamped};
+pub use rate::Rate;
+pub use sequence::{Place, Window};
+pub use spread::Spread;
+pub use stream::{FieldCount, Noted, Sender, Stream, StreamKey};
+pub use tally::{At, Tally};
+pub use trace::{Column, Range, Trace};
+pub use trend::Trend;
+pub use verdict::{ClockGuess, Verdict};
+pub use verdicts::{Class, class_of, drift_of, verdicts_of};

@@ -1,0 +1,283 @@
+//! Whether the timestamps of a stream advance as its packets do.
+
+use crate::rate::Rate;
+use crate::tally::At;
+
+/// A timestamp may be off by this part of its packet's time, and by this part of the time since the one before: a talker rounds,
+/// and its media clock is not of nominal speed.
+const PART_OF_PACKET: u64 = 8;
+
+const PART_OF_ADVANCE: u64 = 1024;
+
+/// Of a stream without a rate, whose packets share a timestamp or follow at a distance that is not told, this is the most that
+/// timestamps may advance by, in nanoseconds.
+const MOST_ADVANCE: i64 = 1_000_000_000;
+
+/// A timestamp of 32 or 64 bits.
+#[derive(Clone, Copy)]
+pub enum Stamp {
+    /// AVTP's: nanoseconds modulo 2^32.
+    Short(u32),
+    /// A media clock's: nanoseconds.
+    Long(u64),
+}
+
+impl Stamp {
+    /// How far it is from another, modulo 2^32 or 2^64.
+    fn since(self, other: Stamp) -> i64 {
+        match (self, other) {
+            (Stamp::Short(now), Stamp::Short(then)) => {
+                i64::from(now.wrapping_sub(then).cast_signed())
+            }
+            (Stamp::Long(now), Stamp::Long(then)) => now.wrapping_sub(then).cast_signed(),
+            _ => 0,
+        }
+    }
+
+    /// The same with its bytes in the other order.
+    fn swapped(self) -> Stamp {
+        match self {
+            Stamp::Short(stamp) => Stamp::Short(stamp.swap_bytes()),
+            Stamp::Long(stamp) => Stamp::Long(stamp.swap_bytes()),
+        }
+    }
+
+    /// A difference of two leads, the nearest to 0 of those that it may be.
+    pub fn wrapped(self, difference: i64) -> i64 {
+        match self {
+            Stamp::Short(_) => {
+                let low = difference.cast_unsigned() & 0xffff_ffff;
+                i64::from(u32::try_from(low).unwrap_or(0).cast_signed())
+            }
+            Stamp::Long(_) => difference,
+        }
+    }
+
+    /// How long after an arrival it lies, modulo 2^32 or 2^64.
+    pub fn lead(self, arrival: i64) -> i64 {
+        let arrival = arrival.cast_unsigned();
+        match self {
+            Stamp::Short(_) => {
+                let low = u32::try_from(arrival & 0xffff_ffff).unwrap_or(0);
+                self.since(Stamp::Short(low))
+            }
+            Stamp::Long(_) => self.since(Stamp::Long(arrival)),
+        }
+    }
+}
+
+/// A packet with a timestamp.
+#[derive(Clone, Copy)]
+pub struct Stamped {
+    pub at: At,
+    pub stamp: Stamp,
+    /// The number of its first event in the stream, missing packets counted as well.
+    pub first: u64,
+    /// The event, counted from its first, that the timestamp belongs to by the standard.
+    pub anchor: u32,
+    /// Its events.
+    pub count: u32,
+}
+
+/// A timestamp that did not advance as it should.
+#[derive(Clone, Copy)]
+pub struct Miss {
+    pub at: At,
+    /// By how many nanoseconds it should have advanced, and by how many it did.
+    pub wanted: u64,
+    pub found: i64,
+}
+
+/// The timestamps that did not advance as they should.
+#[derive(Clone, Copy)]
+pub struct Misses {
+    pub count: u64,
+    pub first: Option<Miss>,
+    pub second: Option<Miss>,
+    /// The first timestamp is off those that follow: the first comparison missed.
+    pub at_begin: bool,
+}
+
+impl Misses {
+    const NONE: Misses = Misses {
+        count: 0,
+        first: None,
+        second: None,
+        at_begin: false,
+    };
+
+    fn note(&mut self, miss: Miss, is_first: bool) {
+        self.count = self.count.saturating_add(1);
+        self.at_begin = self.at_begin || is_first;
+        if self.first.is_none() {
+            self.first = Some(miss);
+        } else if self.second.is_none() {
+            self.second = Some(miss);
+        }
+    }
+}
+
+/// How the timestamps of a stream advance: as they stand, and with their bytes swapped.
+#[derive(Clone, Copy)]
+pub struct Pace {
+    last: Option<Stamped>,
+    /// How many timestamps were compared with the one before.
+    pub compared: u64,
+    /// By the event that a timestamp belongs to by the standard.
+    pub by_anchor: Misses,
+    /// By the first event of each packet, as some talkers stamp.
+    pub by_first: Misses,
+    /// Like `by_anchor` and `by_first`, with swapped bytes.
+    pub swapped_by_anchor: Misses,
+    pub swapped_by_first: Misses,
+    /// Over timestamps that advanced as they should: the time by the nominal rate, and by the timestamps.
+    pub nominal: u64,
+    pub told: u64,
+}
+
+/// How a timestamp compares with the one before.
+#[derive(Clone, Copy, PartialEq, Eq)]
+pub enum Advance {
+    /// It was the first, or not to be compared.
+    Begun,
+    /// It advanced as it should.
+    Even,
+    /// It did not.
+    Missed,
+}
+
+impl Pace {
+    pub const NONE: Pace = Pace {
+        last: None,
+        compared: 0,
+        by_anchor: Misses::NONE,
+        by_first: Misses::NONE,
+        swapped_by_anchor: Misses::NONE,
+        swapped_by_first: Misses::NONE,
+        nominal: 0,
+        told: 0,
+    };
+
+    /// The next timestamp is not compared with those before, as after a restart of the media clock.
+    pub fn restart(&mut self) {
+        self.last = None;
+    }
+
+    /// The misses of the better reading of the timestamps as they stand.
+    pub fn misses(&self) -> &Misses {
+        better(&self.by_anchor, &self.by_first)
+    }
+
+    /// The same, were their bytes swapped.
+    pub fn swapped_misses(&self) -> &Misses {
+        better(&self.swapped_by_anchor, &self.swapped_by_first)
+    }
+
+    /// By how much the first timestamp that missed should have advanced, in the reading of which fewer would miss were their
+    /// bytes swapped.
+    pub fn wanted(&self) -> u64 {
+        let misses = if self.swapped_by_first.count < self.swapped_by_anchor.count {
+            &self.by_first
+        } else {
+            &self.by_anchor
+        };
+        misses.first.map_or(0, |miss| miss.wanted)
+    }
+
+    /// By how many parts of 10^9 the media runs faster than nominal, by the timestamps.
+    pub fn media_rate(&self) -> Option<i128> {
+        i128::from(self.nominal)
+            .saturating_sub(i128::from(self.told))
+            .saturating_mul(1_000_000_000)
+            .checked_div(i128::from(self.told))
+    }
+
+    /// Notes a timestamp that follows the one that was noted before.
+    pub fn note(&mut self, stamped: Stamped, rate: Option<Rate>) -> Advance {
+        let Some(last) = self.last.replace(stamped) else {
+            return Advance::Begun;
+        };
+        let is_first = self.compared == 0;
+        self.compared = self.compared.saturating_add(1);
+        let Some(rate) = rate else {
+            return self.note_unpaced(last, stamped, is_first);
+        };
+        let slack = rate.time_of(u64::from(last.count)) / PART_OF_PACKET;
+        let events = stamped.first.saturating_sub(last.first);
+        let by_first = rate.time_of(events);
+        let by_anchor = rate.time_of(
+            events
+                .saturating_add(u64::from(stamped.anchor))
+                .saturating_sub(u64::from(last.anchor)),
+        );
+        let plain = stamped.stamp.since(last.stamp);
+        let swapped = stamped.stamp.swapped().since(last.stamp.swapped());
+        let even = self
+            .by_anchor
+            .compare(stamped.at, by_anchor, plain, slack, is_first);
+        let even_first = self
+            .by_first
+            .compare(stamped.at, by_first, plain, slack, is_first);
+        let _ = self
+            .swapped_by_anchor
+            .compare(stamped.at, by_anchor, swapped, slack, is_first);
+        let _ = self
+            .swapped_by_first
+            .compare(stamped.at, by_first, swapped, slack, is_first);
+        if even || even_first {
+            let wanted = if even { by_anchor } else { by_first };
+            self.nominal = self.nominal.saturating_add(wanted);
+            self.told = self.told.saturating_add(plain.unsigned_abs());
+            Advance::Even
+        } else {
+            Advance::Missed
+        }
+    }
+
+    /// Notes a timestamp of a stream without a rate: it may stay or advance, and not by too much.
+    fn note_unpaced(&mut self, last: Stamped, stamped: Stamped, is_first: bool) -> Advance {
+        let plain = stamped.stamp.since(last.stamp);
+        let swapped = stamped.stamp.swapped().since(last.stamp.swapped());
+        if !is_advance(swapped) {
+            let miss = Miss {
+                at: stamped.at,
+                wanted: 0,
+                found: swapped,
+            };
+            self.swapped_by_anchor.note(miss, is_first);
+            self.swapped_by_first.note(miss, is_first);
+        }
+        if is_advance(plain) {
+            return Advance::Even;
+        }
+        let miss = Miss {
+            at: stamped.at,
+            wanted: 0,
+            found: plain,
+        };
+        self.by_anchor.note(miss, is_first);
+        self.by_first.note(miss, is_first);
+        Advance::Missed
+    }
+}
+
+fn is_advance(found: i64) -> bool {
+    found >= 0 && found <= MOST_ADVANCE
+}
+
+fn better<'a>(one: &'a Misses, other: &'a Misses) -> &'a Misses {
+    if other.count < one.count { other } else { one }
+}
+
+impl Misses {
+    /// Whether a timestamp advanced as it should; if not, it is noted.
+    fn compare(&mut self, at: At, wanted: u64, found: i64, slack: u64, is_first: bool) -> bool {
+        let slack = slack.saturating_add(wanted / PART_OF_ADVANCE);
+        let wanted_signed = i64::try_from(wanted).unwrap_or(i64::MAX);
+        if found.abs_diff(wanted_signed) <= slack {
+            return true;
+        }
+        self.note(Miss { at, wanted, found }, is_first);
+        false
+    }
+}

@@ -1,0 +1,50 @@
+//! How many events a second a stream tells, and how long they take.
+
+/// Events a second, as a fraction: sample frames, data blocks or events of a media clock.
+#[derive(Clone, Copy)]
+pub struct Rate {
+    pub events: u64,
+    pub seconds: u64,
+}
+
+/// The nanoseconds of a second.
+const SECOND: u64 = 1_000_000_000;
+
+impl Rate {
+    /// So many events each second.
+    pub fn of(events: u32) -> Rate {
+        Rate {
+            events: u64::from(events),
+            seconds: 1,
+        }
+    }
+
+    /// The rate of a media clock, whose base frequency is multiplied by the factor that the code `pull` names (IEEE
+    /// 1722-2016, 10.4.11). `None` comes for a reserved code.
+    pub fn of_clock(base: u32, pull: u8) -> Option<Rate> {
+        let (up, down) = match pull {
+            0 => (1, 1),
+            1 => (1000, 1001),
+            2 => (1001, 1000),
+            3 => (24, 25),
+            4 => (25, 24),
+            5 => (1, 8),
+            _ => return None,
+        };
+        Some(Rate {
+            events: u64::from(base).saturating_mul(up),
+            seconds: down,
+        })
+    }
+
+    /// The nanoseconds of so many events, rounded down. A rate of 0 takes no time.
+    pub fn time_of(self, events: u64) -> u64 {
+        let nanoseconds = SECOND.saturating_mul(self.seconds);
+        if let Some(product) = events.checked_mul(nanoseconds) {
+            return product.checked_div(self.events).unwrap_or(0);
+        }
+        let product = u128::from(events).saturating_mul(u128::from(nanoseconds));
+        let time = product.checked_div(u128::from(self.events)).unwrap_or(0);
+        u64::try_from(time).unwrap_or(u64::MAX)
+    }
+}

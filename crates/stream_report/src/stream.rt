@@ -1,0 +1,509 @@
+//! One stream, and what is counted of it.
+
+use crate::facts::{Facts, Format};
+use crate::limits::{LEAST_STEP, LEAST_UNEVEN};
+use crate::pace::{Advance, Pace, Stamp, Stamped};
+use crate::rate::Rate;
+use crate::sequence::{Place, Window};
+use crate::spread::Spread;
+use crate::tally::{At, Tally};
+use crate::trace::{Column, Range, Trace};
+use crate::trend::Trend;
+use avtp_base::{Field, NoMemory};
+use pcap_frames::Tag;
+use std::alloc::Global;
+
+/// A stream: its packets have one subtype and one stream id.
+#[derive(Clone, Copy, PartialEq, Eq, Hash)]
+pub struct StreamKey {
+    /// The subtype of its packets (IEEE 1722-2016, table 6).
+    pub subtype: u8,
+    pub id: u64,
+}
+
+/// Who sends a stream, and where to: what stands before the AVTP packet of a frame.
+#[derive(Clone, Copy, PartialEq, Eq)]
+pub struct Sender {
+    /// The source and the destination address, 48 bits each.
+    pub source: u64,
+    pub destination: u64,
+    pub tag: Option<Tag>,
+}
+
+/// A packet of a stream, as it is noted.
+#[derive(Clone, Copy)]
+pub struct Noted {
+    pub at: At,
+    /// In nanoseconds of the capture's clock.
+    pub arrival: i64,
+    /// How long after the capture's first frame it arrived, in nanoseconds.
+    pub since: u64,
+    pub sender: Sender,
+    pub seq: u8,
+    pub facts: Facts,
+    /// A reserved bit is set.
+    pub reserved: bool,
+    /// It has a timestamp where none belongs, or none where one belongs.
+    pub stamp_wrong: bool,
+}
+
+/// How often packets were refused by a field.
+#[derive(Clone, Copy)]
+pub struct FieldCount {
+    pub field: Field,
+    pub count: u64,
+}
+
+/// What is kept of the newest packet.
+#[derive(Clone, Copy)]
+struct Last {
+    count: u32,
+    dbc: Option<u8>,
+    mr: bool,
+    /// For how many packets `mr` has stood, where it came by a change.
+    held: Option<u64>,
+}
+
+/// A media clock restart stands for this many packets at least (IEEE 1722-2016, 4.4.4).
+const LEAST_HOLD: u64 = 8;
+
+/// A stream in which so many packets' times have passed since the last packet has gone on, whatever its sequence numbers say.
+const LONG_PAUSE: u64 = 64;
+
+/// What is counted of a stream.
+#[derive(Drop)]
+pub struct Stream {
+    pub key: StreamKey,
+    pub sender: Sender,
+    pub first: At,
+    pub format: Format,
+    pub rate: Option<Rate>,
+    /// The events of its first packet that has any.
+    pub count: u32,
+    /// The time of that packet by the nominal rate, in nanoseconds; 0 where it is not known.
+    pub packet_time: u64,
+    /// Its packets that are not refused.
+    pub packets: u64,
+    /// When the first and the last of these arrived.
+    pub first_arrival: i64,
+    pub last_arrival: i64,
+    /// Packets that are missing, and the most in a row. It counts at most 191 in a row.
+    pub lost: Tally,
+    pub most_lost: u64,
+    pub repeated: Tally,
+    pub reordered: Tally,
+    /// The time from each packet to the next in the capture, in nanoseconds.
+    pub distances: Spread,
+    /// Timestamp minus arrival, in nanoseconds: modulo 2^32, from -2^31 on, but of a media clock whole.
+    pub leads: Spread,
+    /// Of these the ones below 0.
+    pub late: Tally,
+    pub pace: Pace,
+    pub trend: Trend,
+    /// The packets right after the one before whose arrival was compared with that one's time, and those that were uneven.
+    pub compared: u64,
+    pub uneven: Tally,
+    pub restarts: Tally,
+    pub flapping: Tally,
+    pub uncertain: Tally,
+    pub missing: Tally,
+    pub unwanted: Tally,
+    pub reserved: Tally,
+    /// Block counts that do not continue.
+    pub blocks: Tally,
+    /// Quadlets with a label other than 0x40, and those with a label of no meaning.
+    pub labels: Tally,
+    pub reserved_labels: Tally,
+    pub first_label: u8,
+    pub malformed: Tally,
+    pub fields: Vec<FieldCount>,
+    /// Packets of another sender, and of another format, than the first.
+    pub senders: Tally,
+    pub formats: Tally,
+    pub trace: Trace,
+    window: Option<Window>,
+    last: Option<Last>,
+    /// The events of all packets that followed each other before the newest.
+    events: u64,
+    last_lead: Option<i64>,
+}
+
+/// How a packet follows those before it.
+#[derive(Clone, Copy, PartialEq, Eq)]
+enum Step {
+    First,
+    Next,
+    /// So many are missing before it.
+    After(u64),
+    Late,
+    Repeat,
+}
+
+impl Stream {
+    /// A stream of which nothing is counted yet. Its first packet stands there.
+    pub fn new(alloc: Global, key: StreamKey, sender: Sender, first: At) -> Result<Self, NoMemory> {
+        Ok(Stream {
+            key,
+            sender,
+            first,
+            format: Format::Unknown,
+            rate: None,
+            count: 0,
+            packet_time: 0,
+            packets: 0,
+            first_arrival: 0,
+            last_arrival: 0,
+            lost: Tally::NONE,
+            most_lost: 0,
+            repeated: Tally::NONE,
+            reordered: Tally::NONE,
+            distances: Spread::new(alloc)?,
+            leads: Spread::new(alloc)?,
+            late: Tally::NONE,
+            pace: Pace::NONE,
+            trend: Trend::NONE,
+            compared: 0,
+            uneven: Tally::NONE,
+            restarts: Tally::NONE,
+            flapping: Tally::NONE,
+            uncertain: Tally::NONE,
+            missing: Tally::NONE,
+            unwanted: Tally::NONE,
+            reserved: Tally::NONE,
+            blocks: Tally::NONE,
+            labels: Tally::NONE,
+            reserved_labels: Tally::NONE,
+            first_label: 0,
+            malformed: Tally::NONE,
+            fields: Vec::new(alloc),
+            senders: Tally::NONE,
+            formats: Tally::NONE,
+            trace: Trace::new(alloc),
+            window: None,
+            last: None,
+            events: 0,
+            last_lead: None,
+        })
+    }
+
+    /// Counts a packet that its format refuses at this field.
+    pub fn note_malformed(&mut self, at: At, field: Field) -> Result<(), NoMemory> {
+        self.malformed.note(at);
+        for known in self.fields.iter_mut() {
+            if known.field == field {
+                known.count = known.count.saturating_add(1);
+                return Ok(());
+            }
+        }
+        self.fields.push(FieldCount { field, count: 1 })?;
+        Ok(())
+    }
+
+    /// Counts a packet.
+    pub fn note(&mut self, noted: &Noted) -> Result<(), NoMemory> {
+        let distance = self.note_arrival(noted.arrival);
+        self.note_kind(noted);
+        let step = self.step(noted.seq, distance);
+        let lost = self.note_step(noted.at, step);
+        if step != Step::Repeat && step != Step::Late {
+            self.note_order(noted, step, distance);
+        }
+        let lead = if step == Step::Repeat {
+            None
+        } else {
+            self.note_lead(noted)
+        };
+        let column = Column {
+            slot: 0,
+            lead: lead.map(Range::of),
+            distance: distance.map(Range::of),
+            lost,
+        };
+        self.trace.note(noted.since, column)
+    }
+
+    /// Counts its arrival, and answers how long it came after the packet before.
+    fn note_arrival(&mut self, arrival: i64) -> Option<i64> {
+        let before = self.last_arrival;
+        self.last_arrival = arrival;
+        self.packets = self.packets.saturating_add(1);
+        if self.packets == 1 {
+            self.first_arrival = arrival;
+            return None;
+        }
+        let distance = arrival.saturating_sub(before);
+        self.distances.note(distance);
+        Some(distance)
+    }
+
+    /// Counts what is told of a packet by itself.
+    fn note_kind(&mut self, noted: &Noted) {
+        let at = noted.at;
+        if noted.sender != self.sender {
+            self.senders.note(at);
+        }
+        if self.packets == 1 {
+            self.format = noted.facts.format;
+        } else if is_change(&self.format, &noted.facts.format) {
+            self.formats.note(at);
+        }
+        if self.packet_time == 0 {
+            self.note_time(&noted.facts);
+        }
+        if noted.reserved {
+            self.reserved.note(at);
+        }
+        if noted.facts.tu {
+            self.uncertain.note(at);
+        }
+        let labels = noted.facts.labels;
+        if self.reserved_labels.count == 0 {
+            self.first_label = labels.first_reserved;
+        }
+        self.labels.add(u64::from(labels.other), at);
+        self.reserved_labels.add(u64::from(labels.reserved), at);
+    }
+
+    /// Keeps the rate and the events of the first packet that has them.
+    fn note_time(&mut self, facts: &Facts) {
+        if self.rate.is_none() {
+            self.rate = facts.rate;
+        }
+        if self.count == 0 {
+            self.count = facts.count;
+        }
+        if let Some(rate) = self.rate {
+            self.packet_time = rate.time_of(u64::from(self.count));
+        }
+    }
+
+    /// How a packet with this number follows those before, and the number is noted.
+    fn step(&mut self, seq: u8, distance: Option<i64>) -> Step {
+        let pause = self.packet_time.saturating_mul(LONG_PAUSE);
+        let Some(window) = &mut self.window else {
+            self.window = Some(Window::first(seq));
+            return Step::First;
+        };
+        let paused = pause > 0 && distance.unwrap_or(0).unsigned_abs() >= pause;
+        match window.place(seq) {
+            Place::Ahead { missing } => {
+                window.pass(seq);
+                after(u64::from(missing))
+            }
+            _ if paused => {
+                let missing = window.ahead(seq).saturating_sub(1);
+                window.pass(seq);
+                after(missing)
+            }
+            Place::Late => {
+                window.fill(seq);
+                Step::Late
+            }
+            Place::Repeat => Step::Repeat,
+        }
+    }
+
+    /// Counts losses, repeats and disorder, and answers how many are missing before this packet.
+    fn note_step(&mut self, at: At, step: Step) -> u64 {
+        match step {
+            Step::First | Step::Next => 0,
+            Step::After(missing) => {
+                self.lost.add(missing, at);
+                self.most_lost = self.most_lost.max(missing);
+                missing
+            }
+            Step::Late => {
+                self.lost.take_back();
+                self.reordered.note(at);
+                0
+            }
+            Step::Repeat => {
+                self.repeated.note(at);
+                0
+            }
+        }
+    }
+
+    /// Counts what is told of a packet and the one before it in the stream.
+    fn note_order(&mut self, noted: &Noted, step: Step, distance: Option<i64>) {
+        let missing = match step {
+            Step::After(missing) => missing,
+            _ => 0,
+        };
+        let last = self.last;
+        let restarted = self.note_restart(noted, last, missing);
+        let steady = self.note_block_count(noted, last, step);
+        if step == Step::Next && !restarted {
+            self.note_evenness(noted.at, last, distance);
+        }
+        self.events = self
+            .events
+            .saturating_add(last.map_or(0, |last| u64::from(last.count)));
+        if step != Step::Next || restarted || !steady {
+            self.pace.restart();
+        }
+        if steady {
+            self.note_stamp(noted, restarted);
+        }
+    }
+
+    /// Counts a restart of the media clock, and keeps the packet as the last. Answers whether it is one.
+    fn note_restart(&mut self, noted: &Noted, last: Option<Last>, missing: u64) -> bool {
+        let mr = noted.facts.mr;
+        let restarted = last.is_some_and(|last| last.mr != mr);
+        let held = last.and_then(|last| last.held);
+        if restarted {
+            self.restarts.note(noted.at);
+            if held.is_some_and(|held| held.saturating_add(missing) < LEAST_HOLD) {
+                self.flapping.note(noted.at);
+            }
+        }
+        self.last = Some(Last {
+            count: noted.facts.count,
+            dbc: noted.facts.dbc,
+            mr,
+            held: if restarted {
+                Some(1)
+            } else {
+                held.map(|held| held.saturating_add(missing).saturating_add(1))
+            },
+        });
+        restarted
+    }
+
+    /// Counts a block count that does not continue. Answers whether it does, as far as that is known.
+    fn note_block_count(&mut self, noted: &Noted, last: Option<Last>, step: Step) -> bool {
+        if step != Step::Next {
+            return true;
+        }
+        let Some(last) = last else {
+            return true;
+        };
+        let (Some(before), Some(now)) = (last.dbc, noted.facts.dbc) else {
+            return true;
+        };
+        let low = u8::try_from(last.count % 256).unwrap_or(0);
+        if before.wrapping_add(low) == now {
+            return true;
+        }
+        self.blocks.note(noted.at);
+        false
+    }
+
+    /// Counts an arrival that is off the time of the packet before.
+    fn note_evenness(&mut self, at: At, last: Option<Last>, distance: Option<i64>) {
+        let (Some(rate), Some(last), Some(distance)) = (self.rate, last, distance) else {
+            return;
+        };
+        let time = rate.time_of(u64::from(last.count));
+        let wanted = i64::try_from(time).unwrap_or(i64::MAX);
+        self.compared = self.compared.saturating_add(1);
+        if distance.abs_diff(wanted) > (time / 2).max(LEAST_UNEVEN) {
+            self.uneven.note(at);
+        }
+    }
+
+    /// Counts a timestamp that is missing or unwanted, and compares one with the one before.
+    fn note_stamp(&mut self, noted: &Noted, restarted: bool) {
+        let facts = &noted.facts;
+        if noted.stamp_wrong {
+            match facts.stamp {
+                Some(_) => self.unwanted.note(noted.at),
+                None => self.missing.note(noted.at),
+            }
+        }
+        let Some(stamp) = facts.stamp else {
+            return;
+        };
+        if facts.tu {
+            return;
+        }
+        let stamped = Stamped {
+            at: noted.at,
+            stamp,
+            first: self.events,
+            anchor: facts.anchor,
+            count: facts.count,
+        };
+        let advance = self.pace.note(stamped, self.rate);
+        self.note_trend(noted, stamp, advance == Advance::Missed || restarted);
+    }
+
+    /// Adds a timestamp to the line of the drift, by the lead of its packet's first event. Where the timestamps step, the line
+    /// goes on as it was.
+    fn note_trend(&mut self, noted: &Noted, stamp: Stamp, steps: bool) {
+        let before_anchor = match self.rate {
+            Some(rate) => rate.time_of(u64::from(noted.facts.anchor)),
+            None => 0,
+        };
+        let lead = stamp
+            .lead(noted.arrival)
+            .saturating_sub(i64::try_from(before_anchor).unwrap_or(0));
+        let change = match self.last_lead {
+            Some(before) => stamp.wrapped(lead.saturating_sub(before)),
+            None => 0,
+        };
+        let steps = steps || change.unsigned_abs() > LEAST_STEP;
+        let change = if steps { 0 } else { change };
+        self.last_lead = Some(lead);
+        let since = noted.arrival.saturating_sub(self.first_arrival);
+        self.trend.note(u64::try_from(since).unwrap_or(0), change);
+    }
+
+    /// Counts the lead of a packet, where it has one.
+    fn note_lead(&mut self, noted: &Noted) -> Option<i64> {
+        let stamp = noted.facts.stamp?;
+        if noted.facts.tu {
+            return None;
+        }
+        let lead = stamp.lead(noted.arrival);
+        self.leads.note(lead);
+        if lead < 0 {
+            self.late.note(noted.at);
+        }
+        Some(lead)
+    }
+}
+
+/// The step to a packet before which so many are missing.
+fn after(missing: u64) -> Step {
+    if missing == 0 {
+        Step::Next
+    } else {
+        Step::After(missing)
+    }
+}
+
+/// Whether a packet has another format than the stream. A packet of no data tells no rate, and a media clock's packet may have
+/// fewer timestamps.
+fn is_change(was: &Format, now: &Format) -> bool {
+    match (*was, *now) {
+        (
+            Format::Iec { rate, quadlets },
+            Format::Iec {
+                rate: now_rate,
+                quadlets: now_quadlets,
+            },
+        ) => {
+            let rates_differ = rate.is_some() && now_rate.is_some() && rate != now_rate;
+            rates_differ || quadlets != now_quadlets
+        }
+        (
+            Format::Crf {
+                kind,
+                base,
+                pull,
+                interval,
+                points: _,
+            },
+            Format::Crf {
+                kind: now_kind,
+                base: now_base,
+                pull: now_pull,
+                interval: now_interval,
+                points: _,
+            },
+        ) => (kind, base, pull, interval) != (now_kind, now_base, now_pull, now_interval),
+        (was, now) => was != now,
+    }
+}

@@ -1,0 +1,47 @@
+//! How often something was seen, and where first.
+
+/// Where a frame stands: the number of its file, and its own in it, both from 1.
+#[derive(Clone, Copy, PartialEq, Eq)]
+pub struct At {
+    pub file: u32,
+    pub frame: u64,
+}
+
+/// How often something was seen, and the frame in which it was seen first.
+#[derive(Clone, Copy)]
+pub struct Tally {
+    pub count: u64,
+    /// The first frame; none while the count is 0.
+    pub first: Option<At>,
+}
+
+impl Tally {
+    pub const NONE: Tally = Tally {
+        count: 0,
+        first: None,
+    };
+
+    /// Counts one more, in this frame.
+    pub fn note(&mut self, at: At) {
+        self.add(1, at);
+    }
+
+    /// Counts so many more, in this frame.
+    pub fn add(&mut self, more: u64, at: At) {
+        if more == 0 {
+            return;
+        }
+        self.count = self.count.saturating_add(more);
+        if self.first.is_none() {
+            self.first = Some(at);
+        }
+    }
+
+    /// Takes back one that was counted too early, as a packet that was only late.
+    pub fn take_back(&mut self) {
+        self.count = self.count.saturating_sub(1);
+        if self.count == 0 {
+            self.first = None;
+        }
+    }
+}

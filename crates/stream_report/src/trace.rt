@@ -1,0 +1,128 @@
+//! What the pictures of a stream are drawn from: the lead and the arrival distance over time, thinned as it grows.
+
+use avtp_base::NoMemory;
+use std::alloc::Global;
+use std::mem;
+
+/// The most columns of a stream. Where one more is wanted, each two are made one.
+const MOST_COLUMNS: usize = 512;
+
+/// The first columns are 2^16 ns wide, some 66 microseconds.
+const FIRST_SHIFT: u32 = 16;
+
+/// The widest columns are 2^62 ns wide.
+const LAST_SHIFT: u32 = 62;
+
+/// The least and the greatest of some values.
+#[derive(Clone, Copy)]
+pub struct Range {
+    pub least: i64,
+    pub greatest: i64,
+}
+
+impl Range {
+    pub fn of(value: i64) -> Range {
+        Range {
+            least: value,
+            greatest: value,
+        }
+    }
+
+    /// The range of both.
+    pub fn with(self, other: Range) -> Range {
+        Range {
+            least: self.least.min(other.least),
+            greatest: self.greatest.max(other.greatest),
+        }
+    }
+}
+
+fn either(one: Option<Range>, other: Option<Range>) -> Option<Range> {
+    match (one, other) {
+        (Some(one), Some(other)) => Some(one.with(other)),
+        (one, None) => one,
+        (None, other) => other,
+    }
+}
+
+/// The packets of a stretch of time.
+#[derive(Clone, Copy)]
+pub struct Column {
+    /// The number of the stretch: it begins at `slot` times the columns' width after the capture's first packet.
+    pub slot: u64,
+    pub lead: Option<Range>,
+    pub distance: Option<Range>,
+    /// The packets that are missing before one of these.
+    pub lost: u64,
+}
+
+impl Column {
+    fn join(&mut self, other: &Column) {
+        self.lead = either(self.lead, other.lead);
+        self.distance = either(self.distance, other.distance);
+        self.lost = self.lost.saturating_add(other.lost);
+    }
+}
+
+/// A stream over time. Each value lies within the range of its column, so no peak is thinned out.
+#[derive(Drop)]
+pub struct Trace {
+    columns: Vec<Column>,
+    shift: u32,
+}
+
+impl Trace {
+    pub fn new(alloc: Global) -> Self {
+        Trace {
+            columns: Vec::new(alloc),
+            shift: FIRST_SHIFT,
+        }
+    }
+
+    /// The columns, in order of time.
+    pub fn columns(&self) -> &[Column] {
+        self.columns.as_slice()
+    }
+
+    /// The width of a column, in nanoseconds.
+    pub fn width(&self) -> u64 {
+        1u64.checked_shl(self.shift).unwrap_or(u64::MAX)
+    }
+
+    /// Notes what a packet adds, which came so many nanoseconds after the capture's first.
+    pub fn note(&mut self, since: u64, mut added: Column) -> Result<(), NoMemory> {
+        for _ in FIRST_SHIFT..LAST_SHIFT {
+            if self.columns.len() < MOST_COLUMNS {
+                break;
+            }
+            self.halve()?;
+        }
+        added.slot = since.checked_shr(self.shift).unwrap_or(0);
+        self.add(added)
+    }
+
+    /// Makes columns twice as wide.
+    fn halve(&mut self) -> Result<(), NoMemory> {
+        let alloc = *self.columns.allocator();
+        let old = mem::replace(&mut self.columns, Vec::with_capacity(alloc, MOST_COLUMNS)?);
+        self.shift = self.shift.saturating_add(1);
+        for column in old.iter() {
+            let mut wider = *column;
+            wider.slot /= 2;
+            self.add(wider)?;
+        }
+        Ok(())
+    }
+
+    /// Adds a column behind the others, or to the last.
+    fn add(&mut self, column: Column) -> Result<(), NoMemory> {
+        if let Some(last) = self.columns.last_mut() {
+            if last.slot >= column.slot {
+                last.join(&column);
+                return Ok(());
+            }
+        }
+        self.columns.push(column)?;
+        Ok(())
+    }
+}

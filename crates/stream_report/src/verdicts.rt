@@ -1,0 +1,287 @@
+//! The verdicts on a stream.
+
+use crate::limits::{
+    CLASS_A, CLASS_B, DRIFT_PART, FEW, LEAST_DRIFT, LEAST_DRIFT_TIME, MOST_LEAD, MOST_TRANSIT,
+    TAI_AHEAD, UNEVEN_PART,
+};
+use crate::stream::Stream;
+use crate::tally::Tally;
+use crate::verdict::{ClockGuess, Verdict};
+use avtp_base::NoMemory;
+use avtp_header::subtype;
+use std::alloc::Global;
+
+/// The class whose max transit time a stream's leads keep.
+#[derive(Clone, Copy, PartialEq, Eq)]
+pub enum Class {
+    /// 2 ms.
+    A,
+    /// 50 ms.
+    B,
+    /// Longer.
+    Longer,
+    /// Most presentation times are past, or far away: the lead is no transit time.
+    Unknown,
+}
+
+/// The class that the median of the leads keeps. `None` comes where no packet is stamped.
+pub fn class_of(stream: &Stream) -> Option<Class> {
+    let median = stream.leads.percentile(50)?;
+    Some(match median {
+        0..=CLASS_A => Class::A,
+        0..=CLASS_B => Class::B,
+        0..=MOST_LEAD => Class::Longer,
+        _ => Class::Unknown,
+    })
+}
+
+/// What is wrong with a stream, the worst first.
+pub fn verdicts_of(alloc: Global, stream: &Stream) -> Result<Vec<Verdict>, NoMemory> {
+    let mut verdicts = Vec::new(alloc);
+    let order = order_verdict(stream);
+    let in_order = order.is_none();
+    add(&mut verdicts, order)?;
+    if in_order {
+        let clocks = clocks_verdict(stream);
+        let near = clocks.is_none();
+        add(&mut verdicts, clocks)?;
+        if near {
+            add(&mut verdicts, late_verdict(stream))?;
+        }
+        add(&mut verdicts, first_stamp_verdict(stream))?;
+        add(&mut verdicts, steps_verdict(stream))?;
+        add(&mut verdicts, drift_verdict(stream))?;
+    }
+    add(&mut verdicts, malformed_verdict(stream))?;
+    add(&mut verdicts, lost_verdict(stream))?;
+    add(&mut verdicts, jitter_verdict(stream))?;
+    add(&mut verdicts, labels_verdict(stream))?;
+    add(
+        &mut verdicts,
+        counted(stream.senders, |packets| Verdict::Senders { packets }),
+    )?;
+    add(
+        &mut verdicts,
+        counted(stream.blocks, |packets| Verdict::Blocks { packets }),
+    )?;
+    add(
+        &mut verdicts,
+        counted(stream.repeated, |packets| Verdict::Repeated { packets }),
+    )?;
+    add(
+        &mut verdicts,
+        counted(stream.reordered, |packets| Verdict::Reordered { packets }),
+    )?;
+    add(
+        &mut verdicts,
+        counted(stream.flapping, |restarts| Verdict::Flapping { restarts }),
+    )?;
+    add(
+        &mut verdicts,
+        counted(stream.missing, |packets| Verdict::Missing { packets }),
+    )?;
+    add(
+        &mut verdicts,
+        counted(stream.unwanted, |packets| Verdict::Unwanted { packets }),
+    )?;
+    add(
+        &mut verdicts,
+        counted(stream.formats, |packets| Verdict::Formats { packets }),
+    )?;
+    add(
+        &mut verdicts,
+        counted(stream.reserved, |packets| Verdict::Reserved { packets }),
+    )?;
+    add(
+        &mut verdicts,
+        counted(stream.uncertain, |packets| Verdict::Uncertain { packets }),
+    )?;
+    verdicts.sort_by_key(|verdict| verdict.rank())?;
+    Ok(verdicts)
+}
+
+fn add(verdicts: &mut Vec<Verdict>, verdict: Option<Verdict>) -> Result<(), NoMemory> {
+    if let Some(verdict) = verdict {
+        verdicts.push(verdict)?;
+    }
+    Ok(())
+}
+
+/// Whether so many are more than one in so many of all.
+fn is_more(some: u64, of: u64, part: u64) -> bool {
+    some.saturating_mul(part) > of
+}
+
+/// Most timestamps do not advance as their packets do.
+fn order_verdict(stream: &Stream) -> Option<Verdict> {
+    let pace = &stream.pace;
+    let compared = pace.compared;
+    let off = pace.misses().count;
+    if compared == 0 || !is_more(off, compared, 2) {
+        return None;
+    }
+    let wanted = pace.wanted();
+    if is_more(pace.swapped_misses().count, compared, FEW) {
+        Some(Verdict::NotInOrder {
+            off,
+            compared,
+            wanted,
+        })
+    } else {
+        Some(Verdict::Swapped {
+            off,
+            compared,
+            wanted,
+        })
+    }
+}
+
+/// Presentation times are far from arrivals. A media clock's timestamps are those of its events, which may be past.
+fn clocks_verdict(stream: &Stream) -> Option<Verdict> {
+    let lead = stream.leads.percentile(50)?;
+    let exact = stream.key.subtype == subtype::CRF;
+    let least = if exact { -MOST_LEAD } else { 0 };
+    if lead >= least && lead <= MOST_LEAD {
+        return None;
+    }
+    Some(Verdict::Clocks {
+        lead,
+        guess: guess_of(lead, exact),
+        exact,
+    })
+}
+
+/// What a lead says of the clocks.
+fn guess_of(lead: i64, exact: bool) -> ClockGuess {
+    if is_transit(lead, TAI_AHEAD, exact) {
+        ClockGuess::CaptureBehind
+    } else if is_transit(lead, -TAI_AHEAD, exact) {
+        ClockGuess::CaptureAhead
+    } else {
+        ClockGuess::Apart
+    }
+}
+
+/// Whether the lead is a transit time where the clocks are so far apart.
+fn is_transit(lead: i64, apart: i64, exact: bool) -> bool {
+    let rest = lead.saturating_sub(apart);
+    let rest = if exact { rest } else { near_zero(rest) };
+    rest >= 0 && rest <= MOST_TRANSIT
+}
+
+/// The nearest to 0 of the numbers that differ from this by a multiple of 2^32.
+fn near_zero(number: i64) -> i64 {
+    let low = number.cast_unsigned() & 0xffff_ffff;
+    i64::from(u32::try_from(low).unwrap_or(0).cast_signed())
+}
+
+/// Some packets came after their presentation time, more than timestamps are off.
+fn late_verdict(stream: &Stream) -> Option<Verdict> {
+    let explained = stream.pace.misses().count;
+    if stream.key.subtype == subtype::CRF || stream.late.count <= explained {
+        return None;
+    }
+    Some(Verdict::Late {
+        packets: stream.late,
+        stamped: stream.leads.count,
+        most: stream.leads.least.unsigned_abs(),
+    })
+}
+
+fn first_stamp_verdict(stream: &Stream) -> Option<Verdict> {
+    let misses = stream.pace.misses();
+    let first = misses.first?;
+    if !misses.at_begin {
+        return None;
+    }
+    Some(Verdict::FirstStamp {
+        found: first.found,
+        wanted: first.wanted,
+    })
+}
+
+/// Some timestamps, the first two apart, do not advance as their packets do.
+fn steps_verdict(stream: &Stream) -> Option<Verdict> {
+    let misses = stream.pace.misses();
+    let first = if misses.at_begin {
+        misses.second
+    } else {
+        misses.first
+    };
+    Some(Verdict::Steps {
+        off: misses.count.saturating_sub(u64::from(misses.at_begin)),
+        compared: stream.pace.compared,
+        first: first?,
+    })
+}
+
+/// The drift of timestamps against arrivals, in parts of 10^9. `None` comes where too little time tells it.
+pub fn drift_of(stream: &Stream) -> Option<i64> {
+    if stream.trend.time() < LEAST_DRIFT_TIME {
+        return None;
+    }
+    stream.trend.drift()
+}
+
+/// The leads drift, and the drift is more than jitter.
+fn drift_verdict(stream: &Stream) -> Option<Verdict> {
+    let trend = &stream.trend;
+    let parts = drift_of(stream)?;
+    let time = trend.time();
+    let change = u128::from(parts.unsigned_abs())
+        .saturating_mul(u128::from(time))
+        .checked_div(1_000_000_000)?;
+    let is_drift = parts.unsigned_abs() >= LEAST_DRIFT
+        && change.saturating_mul(u128::from(DRIFT_PART)) >= u128::from(trend.spread());
+    is_drift.then_some(Verdict::Drift { parts })
+}
+
+fn malformed_verdict(stream: &Stream) -> Option<Verdict> {
+    let mut most = *stream.fields.first()?;
+    for field in stream.fields.iter() {
+        if field.count > most.count {
+            most = *field;
+        }
+    }
+    Some(Verdict::Malformed {
+        packets: stream.malformed,
+        field: most.field,
+    })
+}
+
+fn lost_verdict(stream: &Stream) -> Option<Verdict> {
+    let packets = stream.lost;
+    let most = stream.most_lost;
+    (packets.count > 0).then_some(Verdict::Lost { packets, most })
+}
+
+fn jitter_verdict(stream: &Stream) -> Option<Verdict> {
+    let packets = stream.uneven;
+    let compared = stream.compared;
+    if !is_more(packets.count, compared, UNEVEN_PART) {
+        return None;
+    }
+    let half = i64::try_from(stream.packet_time / 2).unwrap_or(i64::MAX);
+    let bursts = stream.distances.percentile(50)? < half;
+    Some(Verdict::Jitter {
+        packets,
+        compared,
+        bursts,
+    })
+}
+
+fn labels_verdict(stream: &Stream) -> Option<Verdict> {
+    let quadlets = stream.reserved_labels;
+    let label = stream.first_label;
+    (quadlets.count > 0).then_some(Verdict::Labels { quadlets, label })
+}
+
+/// A verdict where something was counted.
+fn counted<F: FnOnce(Tally) -> Verdict>(tally: Tally, verdict: F) -> Option<Verdict>
+    requires { F.IsAlwaysCallable verdict }
+{
+    if tally.count == 0 {
+        return None;
+    }
+    Some(verdict(tally))
+}
