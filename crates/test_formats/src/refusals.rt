@@ -21,8 +21,8 @@ fn answer(alloc: Global, packet: &[u8]) -> Result<String, Fail> {
 
 /// Packets on both sides of each row's edge: the first and the last value that is refused, and the nearest that are read.
 const REFUSALS: &str = "\
- => subtype at 0 short
 01 => read
+ => subtype at 0 short
 05 => read
 6e => read
 aaf 1=91 => version at 1
