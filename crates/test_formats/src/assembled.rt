@@ -5,7 +5,7 @@ ghost use Rattle.std.specs.Prelude.{◌≡◌, ◌≤◌, length, IfSome};
 use cvf_format::{Assembler, Lost, Mark, NalPart, Piece, Pushed, read_cvf};
 use std::alloc::Global;
 use std::test::Fail;
-use vectors_avtp::bytes_of;
+use vectors_avtp::{bytes_of, row_of};
 
 /// Pushes a packet, whose instant is its own timestamp, if it may be pushed.
 fn push(assembler: &mut Assembler, frame: u64, packet: &[u8]) -> Option<Pushed>
@@ -62,53 +62,32 @@ fn outcome(
 
 /// Packets and cuts, which are counted from 1, and what becomes of each. `7c85`, `7c05` and `7c45` begin the first, a middle and
 /// the last fragment of a unit of the first byte `65`.
-const ROWS: [(&str, &str); 17] = [
-    ("28=65000a", "Whole 65000a0a; "),
-    (
-        "2=00 28=7c850102, 2=01 28=7c050304, 2=02 28=7c450506, 2=03 28=7c45",
-        "Held ; Held ; Whole 65010203040506; Lost(Broken) ; ",
-    ),
-    (
-        "1=8000 28=7c850102, 1=8001 28=7c050304, 1=8102 28=7c450506",
-        "Held ; Held ; Whole 65010203040506; ",
-    ),
-    // A repeat breaks the unit, and what comes after it has no beginning.
-    (
-        "2=00 28=7c85, 2=01 28=7c05, 2=01 28=7c05, 2=02 28=7c45",
-        "Held ; Held ; -1 -2 Lost(Broken) ; Lost(Broken) ; ",
-    ),
-    (
-        "1=8000 28=7c85, 1=8001 28=7c05, 1=8001 28=7c05, 1=8102 28=7c45",
-        "Held ; Held ; -1 -2 Lost(Broken) ; Lost(Broken) ; ",
-    ),
-    // What goes on with a fragment, and what does not.
-    ("2=ff 28=7c85, 2=00 28=7c45", "Held ; Whole 65000a000a; "),
-    ("2=ff 28=7c85, 2=00 28=7c05", "Held ; Held ; "),
-    ("2=ff 28=7c85, 1=8000 28=7c05", "Held ; Held ; "),
-    (
-        "2=ff 28=7c85, 2=00 15=81 28=7c45",
-        "Held ; -1 Lost(Broken) ; ",
-    ),
-    (
-        "2=ff 28=7c85, 2=00 15=7f 28=7c05",
-        "Held ; -1 Lost(Broken) ; ",
-    ),
-    ("2=ff 28=7c85, 2=ff 28=7c45", "Held ; -1 Lost(Broken) ; "),
-    ("2=ff 28=7c85, 2=01 28=7c45", "Held ; -1 Lost(Broken) ; "),
-    ("2=ff 28=7c85, 2=00 28=7c41", "Held ; -1 Lost(Broken) ; "),
-    ("2=ff 28=7c85, 2=00 28=5c45", "Held ; -1 Lost(Broken) ; "),
-    ("2=ff 28=7c85, 2=00 28=7c85", "Held ; -1 Held ; "),
-    ("2=ff 28=7c85, 2=00 28=65", "Held ; -1 Whole 6542000a; "),
-    // Nothing goes on over a cut.
-    (
-        "cut, 2=00 28=7c85, 2=01 28=7c05, cut, 2=02 28=7c45, 2=03 28=65",
-        "; Held ; Held ; -2 -3 ; Lost(Broken) ; Whole 6542000a; ",
-    ),
-];
+const ROWS: &str = "\
+28=65000a => Whole 65000a0a;
+2=00 28=7c850102, 2=01 28=7c050304, 2=02 28=7c450506, 2=03 28=7c45 => Held ; Held ; Whole 65010203040506; Lost(Broken) ;
+1=8000 28=7c850102, 1=8001 28=7c050304, 1=8102 28=7c450506 => Held ; Held ; Whole 65010203040506;
+// A repeat breaks the unit, and what comes after it has no beginning.
+2=00 28=7c85, 2=01 28=7c05, 2=01 28=7c05, 2=02 28=7c45 => Held ; Held ; -1 -2 Lost(Broken) ; Lost(Broken) ;
+1=8000 28=7c85, 1=8001 28=7c05, 1=8001 28=7c05, 1=8102 28=7c45 => Held ; Held ; -1 -2 Lost(Broken) ; Lost(Broken) ;
+// What goes on with a fragment, and what does not.
+2=ff 28=7c85, 2=00 28=7c45 => Held ; Whole 65000a000a;
+2=ff 28=7c85, 2=00 28=7c05 => Held ; Held ;
+2=ff 28=7c85, 1=8000 28=7c05 => Held ; Held ;
+2=ff 28=7c85, 2=00 15=81 28=7c45 => Held ; -1 Lost(Broken) ;
+2=ff 28=7c85, 2=00 15=7f 28=7c05 => Held ; -1 Lost(Broken) ;
+2=ff 28=7c85, 2=ff 28=7c45 => Held ; -1 Lost(Broken) ;
+2=ff 28=7c85, 2=01 28=7c45 => Held ; -1 Lost(Broken) ;
+2=ff 28=7c85, 2=00 28=7c41 => Held ; -1 Lost(Broken) ;
+2=ff 28=7c85, 2=00 28=5c45 => Held ; -1 Lost(Broken) ;
+2=ff 28=7c85, 2=00 28=7c85 => Held ; -1 Held ;
+2=ff 28=7c85, 2=00 28=65 => Held ; -1 Whole 6542000a;
+// Nothing goes on over a cut.
+cut, 2=00 28=7c85, 2=01 28=7c05, cut, 2=02 28=7c45, 2=03 28=65 => ; Held ; Held ; -2 -3 ; Lost(Broken) ; Whole 6542000a;";
 
 #[test]
 fn a_unit_is_whole_if_its_fragments_go_on_with_each_other(rt: HostRuntime) -> Result<(), Fail> {
-    for (row, wanted) in ROWS {
+    for line in ROWS.lines().filter(|line| !line.starts_with("//")) {
+        let (row, wanted) = row_of(line)?;
         let mut assembler = Assembler::new(rt.alloc())?;
         let mut found = String::new(rt.alloc());
         for (before, words) in row.split(", ").enumerate() {
@@ -116,7 +95,7 @@ fn a_unit_is_whole_if_its_fragments_go_on_with_each_other(rt: HostRuntime) -> Re
             found.push_str(outcome(rt.alloc(), &mut assembler, frame, words)?.as_str())?;
             found.push_str("; ")?;
         }
-        assert_eq!(rt; found.as_str(), wanted, "{row}");
+        assert!(rt; found.trim() == wanted, "{row}: {found}");
     }
     Ok(())
 }

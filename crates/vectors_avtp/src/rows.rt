@@ -52,6 +52,12 @@ fn put(bytes: &mut Vec<u8>, at: usize, new: &[u8]) -> Result<(), Fail> {
     Ok(())
 }
 
+/// The two sides of a table's line, `bytes => what is wanted`.
+pub fn row_of(line: &str) -> Result<(&str, &str), Fail> {
+    let (row, wanted) = line.split_once("=>").ok_or("a line without a row")?;
+    Ok((row.trim(), wanted.trim()))
+}
+
 /// A refusal as rows spell it: `stream_data_length at 20`, with ` short` where the field is cut off.
 pub fn refusal_text(alloc: Global, refusal: Refusal) -> Result<String, AllocError> {
     let short = if refusal.short { " short" } else { "" };
