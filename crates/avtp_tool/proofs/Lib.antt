@@ -22,3 +22,4 @@ pub mod Talked
 pub mod TalkRun
 pub mod HearFiles
 pub mod Ended
+pub mod Promised

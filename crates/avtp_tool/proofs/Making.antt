@@ -9,7 +9,7 @@ use Rattle.avtp_base.specs.Files.{Files, Slots, KeepsFiles, PutsFile}
 use Rattle.avtp_base.specs.States.{Asks, ShelfState, WasAsked}
 use Rattle.avtp_base.proofs.Files.{KeepsFiles-refl, KeepsFiles-puts, KeepsFiles-trans}
 use Rattle.capture_io.specs.Writing.{IsWriting, KeepsSlotsBut, MakesPrefix, PutsPrefix, Writing}
-use Rattle.avtp_tool.specs.Made.{KeepsFilesBut}
+use Rattle.avtp_tool.specs.Made.{KeepsFilesBut, KeepsSlotsFor}
 use Rattle.avtp_tool.specs.state.Made.{CountsWriting, IsWritingPart, Makes, MakesFile, unmade_as}
 use Rattle.avtp_tool.specs.Outcome.{AsksFor, is_done}
 use Rattle.avtp_tool.specs.state.Outcome.{IsDone}
@@ -36,6 +36,10 @@ files_still (Some name) (Some files) = λ other differs. refl
 
 slots_still : (files : Option Files) (slots : Slots) (name : List ℕ) → KeepsSlotsBut files slots slots name
 slots_still files slots name = record { same = λ j. refl; left = λ told j differs. refl }
+
+pub slots_here : (output : Option (List ℕ)) (files : Option Files) (slots : Slots) → KeepsSlotsFor output files slots slots
+slots_here None files slots = λ j. refl
+slots_here (Some name) files slots = slots_still files slots name
 
 -- ---- a file that was made, or not
 

@@ -12,4 +12,5 @@ pub mod Talk
 pub mod Soak
 pub mod DeviceWords
 pub mod Run
+pub mod HasRun
 pub mod state

@@ -1,0 +1,194 @@
+-- A run that did what the words ask for, and whose text was then written, keeps what the command promises.
+use Rattle.std.proofs.Common.{◌≡◌, ◌≢◌, ℕ, ℤ, List, [], Option, Some, None, Result, Ok, Err, Bool, true, false, inl, inr, refl, sym, ap, subst, ◌∙◌, arith}
+use Rattle.std.specs.Prelude.{IfOk, IsSome}
+use Rattle.avtp_base.specs.declared.failed.Failed.{Failed}
+use Rattle.avtp_base.specs.Faults.{IsCounted}
+use Rattle.avtp_base.specs.Files.{Files, KeepsFiles}
+use Rattle.avtp_base.specs.States.{Asks, ShelfState, SinkState}
+use Rattle.avtp_base.proofs.Files.{KeepsFiles-refl}
+use Rattle.avtp_base.proofs.Told.{Appends-nil, Keeps-refl}
+use Rattle.avtp_text.specs.Notices.{words_line}
+use Rattle.avtp_text.specs.Written.{Grows, written}
+use Rattle.avtp_text.proofs.Growth.{grows_further}
+use Rattle.avtp_text.proofs.Printing.{prefix_none}
+use Rattle.packet_journal.specs.Packets.{PacketJournal}
+use Rattle.sample_schedule.specs.declared.shown.Shown.{Shown}
+use Rattle.avtp_words.specs.Grammar.{output_of, Listening, Request, talk, Talking}
+use Rattle.avtp_tool.specs.declared.status.Status.{Status}
+use Rattle.avtp_tool.specs.declared.status.Status.TheVariants as status
+use Rattle.avtp_tool.specs.HasRun.{HasCauses, HasRun, HearsFile, LeavesFiles, ReadsAll, RefusesWords, Reports, TellsFailed}
+use Rattle.avtp_tool.specs.Listen.{HasHeadline}
+use Rattle.avtp_tool.specs.Run.{came_for, is_listening, names_of, Outcome, status_for, yield_for}
+use Rattle.avtp_tool.specs.Yield.{Yield}
+use Rattle.avtp_tool.specs.state.Made.{Makes}
+use Rattle.avtp_tool.specs.state.Outcome.{EndsWith, Finishes}
+use Rattle.avtp_tool.specs.state.Run.{MakesFrom, MakesOf, Runs}
+use Rattle.avtp_tool.specs.state.Yield.{Gives}
+use Rattle.talker.specs.Frames.{capture}
+use Rattle.avtp_tool.specs.Talk.{talk_plan}
+use Rattle.avtp_tool.proofs.Complete.{complete_of, has_headline, outcome_here}
+use Rattle.avtp_tool.proofs.Ended.{asks_nothing, asks_same, ended_as, ends_prefix, ends_whole, not_ended, offence_ends, quiet_if, quiet_not, through_to, untouched_by}
+use Rattle.avtp_tool.proofs.Finished.{flushed, gains_prefix, rose_later}
+use Rattle.avtp_tool.proofs.Making.{files_still, slots_here}
+
+-- ---- what is printed
+
+headline_of : (request : Request) (files : Files) (failed : Bool) (yields : Yield) (asked : Listening) (name bytes : List ℕ) (shift : ℤ) (p : PacketJournal)
+    → yields ≡ yield_for request files failed → HearsFile request files asked name bytes shift p → HasHeadline asked name shift p bytes yields
+headline_of request files failed yields asked name bytes shift p whole hears =
+    let same : yields ≡ yield_for (Rattle.avtp_words.specs.Grammar.listen asked) files failed = whole ∙ ap (λ (q : Request). yield_for q files failed) hears.listens in
+    subst (HasHeadline asked name shift p bytes) (sym same)
+      (has_headline asked files failed hears.earlier hears.later name bytes shift p hears.named hears.done hears.told hears.fits hears.hears)
+
+reports_of : {request : Request} {handed : List Shown → Type 0} {failed : Bool} {shelf shelf' : ShelfState} {out mid out' : SinkState} {w w1 w2 : List ℕ} {r : Result Status Failed} {ended : Status}
+    → w ≡ [] → Runs request handed failed shelf shelf' out mid w w1 r → Finishes mid out' w1 w2 r ended → Grows out.held out'.held
+    → (files : Files) → shelf.files ≡ Some files → IsSome shelf'.files → Reports request files failed handed shelf shelf' out out' ended
+reports_of {request} {handed} {failed} {shelf} {shelf'} {out} {mid} {out'} {w} {w1} {w2} {r} {ended} none runs finishes grown files told some =
+    let tells = runs.tells files told some in
+    record {
+      came = tells.came;
+      reached = tells.ended;
+      yields = tells.yields;
+      outcome = tells.outcome;
+      whole = λ memory write.
+        let done = finishes.whole write in
+        let all = subst (λ (q : Result Status Failed). IfOk q (λ s. s ≢ status.Memory → s ≢ status.WriteFault
+            → (s ≡ tells.ended) × Gives handed (written out.held w) (written mid.held w1) tells.yields × Asks tells.came shelf shelf')) done.0 tells.whole memory write in
+        (all.0, flushed _ _ _ _ _ _ none done.1 all.1.text finishes.kept, all.1.items, all.2);
+      written = gains_prefix _ _ _ _ _ tells.yields.text none tells.part.text finishes.kept grown;
+      items = tells.part.front;
+      first = tells.part.first;
+      given = tells.part.items;
+      complete = λ quiet. complete_of request files _ failed tells.came tells.ended tells.yields (quiet_not _ _ quiet) tells.outcome;
+      headline = λ quiet asked name bytes shift p hears.
+        headline_of request files failed tells.yields asked name bytes shift p
+          (complete_of request files _ failed tells.came tells.ended tells.yields (quiet_not _ _ quiet) tells.outcome).2 hears;
+    }
+
+-- ---- the files
+
+makes_talk : (request : Request) (f g : Option Files) (r : Result Status Failed) (asked : Talking) (all : Files) (told : Option (List ℕ)) → request ≡ talk asked → f ≡ Some all → all asked.input ≡ told
+    → ((every : Files) → f ≡ Some every → MakesOf request every f g r) → MakesFrom asked told f g r
+makes_talk request f g r asked all told same tells has makes =
+    subst (λ (t : Option (List ℕ)). MakesFrom asked t f g r) has (subst (λ (q : Request). MakesOf q all f g r) same (makes all tells))
+
+leaves_of : {request : Request} {handed : List Shown → Type 0} {failed : Bool} {shelf shelf' : ShelfState} {out mid out' : SinkState} {w w1 w2 : List ℕ} {r : Result Status Failed} {ended : Status}
+    → Runs request handed failed shelf shelf' out mid w w1 r → Finishes mid out' w1 w2 r ended → LeavesFiles request shelf.files shelf'.files ended
+leaves_of {request} {shelf = shelf} {shelf' = shelf'} {r = r} {ended = ended} runs finishes = record {
+  made = λ is asked all bytes same told has. (makes_talk request shelf.files shelf'.files r asked all (Some bytes) same told has runs.makes).done (ended_as status.Done (λ e. cc) finishes is);
+  begun = λ asked all bytes same told has. (makes_talk request shelf.files shelf'.files r asked all (Some bytes) same told has runs.makes).part;
+  missing = λ asked all same told none. makes_talk request shelf.files shelf'.files r asked all None same told none runs.makes;
+  untouched = λ done write memory. untouched_by request shelf.files shelf'.files r ended (finishes.whole write).0 done write memory runs.makes runs.files;
+  others = runs.files;
+}
+
+-- ---- the command
+
+pub has_run : {request : Request} {handed : List Shown → Type 0} {still : Type 0} {failed : Bool} {shelf shelf' : ShelfState} {out mid out' : SinkState} {w w1 w2 : List ℕ} {r : Result Status Failed} {ended : Status}
+    → w ≡ [] → Runs request handed failed shelf shelf' out mid w w1 r → Finishes mid out' w1 w2 r ended → (is_listening request ≡ false → still)
+    → HasRun request handed still failed shelf shelf' out out' ended
+has_run {request} {handed} {still} {failed} {shelf} {shelf'} {out} {mid} {out'} {w} {w1} {w2} {r} {ended} none runs finishes silent =
+    let grown = grows_further _ _ _ runs.sink.grows finishes.grows in
+    record {
+      reports = reports_of none runs finishes grown;
+      grows = grown;
+      leaves = leaves_of runs finishes;
+      slots = runs.slots;
+      names = asks_same (names_of request) (through_to finishes) runs.asks;
+      devices = record {
+        fault = λ is. runs.devices.fault (ended_as status.DeviceFault (λ e. cc) finishes is);
+        quiet = λ listens is. runs.devices.quiet listens (ended_as status.Done (λ e. cc) finishes is);
+      };
+      silent = silent;
+      causes = record {
+        read = λ is. runs.counts.fault (ended_as status.ReadFault (λ e. cc) finishes is);
+        not_read = λ fault write memory. quiet_if ended (finishes.whole write).0 fault memory write runs.counts.quiet;
+        write = λ is. elim (finishes.fault is) [
+          | inl err ↦ inl (rose_later _ _ _ r err runs.sink.counted finishes.never_falls)
+          | inr other ↦ elim other [
+            | inl failed ↦ inr (runs.writing.failed failed)
+            | inr rose ↦ inl (omega (arith, rose, runs.sink.counted.never_falls))
+            ]
+          ];
+        not_write = λ write. (
+          finishes.quiet write ∙ (subst (λ (q : Result Status Failed). IsCounted out.faults mid.faults q) (finishes.whole write).0 runs.sink.counted).ok,
+          runs.writing.other (not_ended ended status.WriteFault (finishes.whole write).0 write),
+        );
+        no_output = runs.writing.unwritten;
+        reading = runs.counts.never_falls;
+        writing = runs.writing.never_falls;
+      };
+      not_words = λ is. runs.no_words (ended_as status.Words (λ e. cc) finishes is);
+    }
+
+-- no memory was found for the text, so nothing was done
+pub no_memory : (request : Request) (handed : List Shown → Type 0) (still : Type 0) (failed : Bool) (shelf : ShelfState) (out : SinkState) → handed [] → still
+    → HasRun request handed still failed shelf shelf out out status.Memory
+no_memory request handed still failed shelf out nothing kept = record {
+  reports = λ files told some. record {
+    came = came_for request files;
+    reached = status_for request files failed;
+    yields = yield_for request files failed;
+    outcome = outcome_here request files _ failed;
+    whole = λ memory write. absurd (memory refl);
+    written = prefix_none _ _ _ (Keeps-refl _);
+    items = [];
+    first = (_, refl);
+    given = nothing;
+    complete = λ quiet. (refl, refl, refl);
+    headline = λ quiet asked name bytes shift p hears. headline_of request files failed (yield_for request files failed) asked name bytes shift p refl hears;
+  };
+  grows = record { more = []; appends = Appends-nil out.held };
+  leaves = record {
+    made = λ is asked all bytes same told has. absurd cc;
+    begun = λ asked all bytes same told has. inl (KeepsFiles-refl shelf.files);
+    missing = λ asked all same told none. KeepsFiles-refl shelf.files;
+    untouched = λ done write memory. absurd (memory refl);
+    others = files_still (output_of request) shelf.files;
+  };
+  slots = slots_here (output_of request) shelf.files shelf.slots;
+  names = asks_nothing (names_of request) shelf (λ e. cc);
+  devices = record { fault = λ is. absurd cc; quiet = λ listens is. absurd cc };
+  silent = λ deaf. kept;
+  causes = record {
+    read = λ is. absurd cc;
+    not_read = λ fault write memory. refl;
+    write = λ is. absurd cc;
+    not_write = λ write. (refl, refl);
+    no_output = λ none. refl;
+    reading = omega arith;
+    writing = omega arith;
+  };
+  not_words = λ is. cc;
+}
+
+-- words that are no command line were told, and the text was written
+pub refuses_words : {position : ℕ} {still : Type 0} {out mid out' : SinkState} {w w1 w2 : List ℕ} {r : Result Status Failed} {ended : Status}
+    → w ≡ [] → still → EndsWith status.Words out mid w w1 r (words_line position) → Finishes mid out' w1 w2 r ended → RefusesWords position still out out' ended
+refuses_words {position} {still} {out} {mid} {out'} {w} {w1} {w2} {r} {ended} none kept ends finishes =
+    let grown = grows_further _ _ _ ends.sink.grows finishes.grows in
+    record {
+      whole = λ memory write. let done = finishes.whole write in let all = ends_whole ended done.0 ends in (all.0, flushed _ _ _ _ _ _ none done.1 all.1 finishes.kept);
+      written = gains_prefix _ _ _ _ _ (words_line position) none (ends_prefix r ends) finishes.kept grown;
+      grows = grown;
+      kept = kept;
+      write = λ is. elim (finishes.fault is) [
+        | inl err ↦ rose_later _ _ _ r err ends.sink.counted finishes.never_falls
+        | inr other ↦ elim other [
+          | inl failed ↦ absurd (offence_ends status.WriteFault (λ e. cc) ends failed)
+          | inr rose ↦ omega (arith, rose, ends.sink.counted.never_falls)
+          ]
+        ];
+      not_write = λ write. finishes.quiet write ∙ (subst (λ (q : Result Status Failed). IsCounted out.faults mid.faults q) (finishes.whole write).0 ends.sink.counted).ok;
+    }
+
+-- no memory was found to tell them
+pub tells_nothing : (position : ℕ) (still : Type 0) (out : SinkState) → still → RefusesWords position still out out status.Memory
+tells_nothing position still out kept = record {
+  whole = λ memory write. absurd (memory refl);
+  written = prefix_none _ _ _ (Keeps-refl _);
+  grows = record { more = []; appends = Appends-nil out.held };
+  kept = kept;
+  write = λ is. absurd cc;
+  not_write = λ write. refl;
+}

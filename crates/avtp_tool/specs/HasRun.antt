@@ -1,0 +1,129 @@
+-- What the command promises: a record for words that are a command line, and one for words that are not.
+use Rattle.std.specs.Prelude.{◌≡◌, ◌≢◌, ◌≤◌, ◌⊎◌, ◌++◌, ◌∷◌, ℕ, ℤ, List, length, Option, Some, None, IsSome, Bool, true, false}
+use mathlib.Core.List.{IsPrefix}
+use Rattle.avtp_base.specs.Faults.{IsQuiet, Rose}
+use Rattle.avtp_base.specs.Files.{Files, KeepsFiles, PutsFile}
+use Rattle.avtp_base.specs.States.{Asks, ShelfState, SinkState}
+use Rattle.avtp_base.specs.Told.{Appends}
+use Rattle.capture_io.specs.Formats.{records_in}
+use Rattle.capture_io.specs.Writing.{MakesPrefix}
+use Rattle.packet_journal.specs.Packets.{PacketJournal}
+use Rattle.sample_schedule.specs.declared.shown.Shown.{Shown}
+use Rattle.listener.specs.Laws.{HearsTalker}
+use Rattle.talker.specs.Frames.{capture}
+use Rattle.avtp_text.specs.Notices.{words_line}
+use Rattle.avtp_text.specs.Written.{AppendsPrefix, Grows}
+use Rattle.avtp_words.specs.Grammar.{files_of, listen, Listening, output_of, Request, talk, Talking}
+use Rattle.avtp_tool.specs.declared.status.Status.{Status}
+use Rattle.avtp_tool.specs.declared.status.Status.TheVariants as status
+use Rattle.avtp_tool.specs.Listen.{HasHeadline, listen_status, plan_of}
+use Rattle.avtp_tool.specs.Made.{KeepsFilesBut, KeepsSlotsFor}
+use Rattle.avtp_tool.specs.Outcome.{AsksFor, IsOneMissing}
+use Rattle.avtp_tool.specs.Run.{came_for, is_listening, is_through, names_of, Outcome, status_for, yield_for}
+use Rattle.avtp_tool.specs.Talk.{talk_plan}
+use Rattle.avtp_tool.specs.Yield.{Yield}
+
+-- ---- what is printed and handed on
+
+-- no fault of reading came
+abbrev pub ReadsAll : ShelfState → ShelfState → Type 0
+ReadsAll shelf shelf' = IsQuiet shelf.reading_faults shelf'.reading_faults
+
+-- A capture of this name, which `listen` reads whole, after others that were read without a fault or a refusal, has what a
+-- listener hears of a talker that keeps the rules, whatever was lost, repeated or reordered.
+pub record HearsFile (request : Request) (files : Files) (asked : Listening) (name bytes : List ℕ) (shift : ℤ) (p : PacketJournal) : Type 0 where
+  pub listens : request ≡ listen asked
+  pub earlier : List (List ℕ)
+  pub later : List (List ℕ)
+  pub named : asked.files ≡ earlier ++ name ∷ later
+  pub done : listen_status asked files earlier ≡ status.Done
+  pub told : files name ≡ Some bytes
+  pub fits : length bytes ≤ asked.limit
+  pub hears : HearsTalker shift p (plan_of asked) (records_in bytes)
+
+-- What was printed, handed on and asked for over these files.
+pub record Reports (request : Request) (files : Files) (failed : Bool) (handed : List Shown → Type 0) (shelf shelf' : ShelfState)
+    (out out' : SinkState) (ended : Status) : Type 0 where
+  -- the names of the files to which the run came, the status that this reading comes to, and what it yields
+  pub came : List (List ℕ)
+  pub reached : Status
+  pub yields : Yield
+  pub outcome : Outcome request files (Rose shelf.reading_faults shelf'.reading_faults) failed came reached yields
+  -- Unless memory or a write failed, the run ends with that status, all of the text was written, each item was handed on, and
+  -- the shelf was asked for these names alone.
+  pub whole : ended ≢ status.Memory → ended ≢ status.WriteFault →
+      (ended ≡ reached) × Appends out.held out'.held yields.text × handed yields.items × Asks came shelf shelf'
+  -- In any case a first part of the text was written, and the first of the items were handed on.
+  pub written : AppendsPrefix out.held out'.held yields.text
+  pub items : List Shown
+  pub first : IsPrefix items yields.items
+  pub given : handed items
+  -- If no fault of reading came, that is the whole report of these files.
+  pub complete : ReadsAll shelf shelf' →
+      (came ≡ came_for request files) × (reached ≡ status_for request files failed) × (yields ≡ yield_for request files failed)
+  -- What `listen` yields of a talker that keeps the rules, of each file with a journal of its own.
+  pub headline : ReadsAll shelf shelf' → (asked : Listening) (name bytes : List ℕ) (shift : ℤ) (p : PacketJournal) →
+      HearsFile request files asked name bytes shift p → HasHeadline asked name shift p bytes yields
+
+-- ---- what is written
+
+-- What a run left of the files. `talk` makes one, and no other command any.
+pub record LeavesFiles (request : Request) (files files' : Option Files) (ended : Status) : Type 0 where
+  -- If all was done, the output of `talk` is the capture of its input.
+  pub made : ended ≡ status.Done → (asked : Talking) (all : Files) (bytes : List ℕ) → request ≡ talk asked → files ≡ Some all → all asked.input ≡ Some bytes →
+      PutsFile files files' asked.output (capture (talk_plan asked) bytes)
+  -- However the run ends, the output is as it was or a first part of that capture.
+  pub begun : (asked : Talking) (all : Files) (bytes : List ℕ) → request ≡ talk asked → files ≡ Some all → all asked.input ≡ Some bytes →
+      MakesPrefix files files' asked.output (capture (talk_plan asked) bytes)
+  pub missing : (asked : Talking) (all : Files) → request ≡ talk asked → files ≡ Some all → all asked.input ≡ None → KeepsFiles files files'
+  -- A run that ends with a fault of the input, a refusal or a limit leaves all as it was.
+  pub untouched : ended ≢ status.Done → ended ≢ status.WriteFault → ended ≢ status.Memory → KeepsFiles files files'
+  pub others : KeepsFilesBut (output_of request) files files'
+
+-- ---- why a run ended with a fault
+
+-- A run ends with a device's fault exactly if it is of `listen`, all else was done, and a device failed in it.
+pub record TellsFailed (request : Request) (failed : Bool) (ended : Status) : Type 0 where
+  pub fault : ended ≡ status.DeviceFault → (is_listening request ≡ true) × (failed ≡ true)
+  pub quiet : is_listening request ≡ true → ended ≡ status.Done → failed ≡ false
+
+-- A fault of reading or writing is the outside's: it is counted there, or the file is missing.
+pub record HasCauses (request : Request) (shelf shelf' : ShelfState) (out out' : SinkState) (ended : Status) : Type 0 where
+  pub read : ended ≡ status.ReadFault → Rose shelf.reading_faults shelf'.reading_faults ⊎ IsOneMissing (files_of request) shelf.files
+  pub not_read : ended ≢ status.ReadFault → ended ≢ status.WriteFault → ended ≢ status.Memory → shelf'.reading_faults ≡ shelf.reading_faults
+  pub write : ended ≡ status.WriteFault → Rose out.faults out'.faults ⊎ Rose shelf.writing_faults shelf'.writing_faults
+  pub not_write : ended ≢ status.WriteFault → (out'.faults ≡ out.faults) × (shelf'.writing_faults ≡ shelf.writing_faults)
+  pub no_output : output_of request ≡ None → shelf'.writing_faults ≡ shelf.writing_faults
+  pub reading : shelf.reading_faults ≤ shelf'.reading_faults
+  pub writing : shelf.writing_faults ≤ shelf'.writing_faults
+
+-- ---- the command
+
+-- What a run did that the words ask for. `handed items` says that the devices were handed these items and no other, `still` that
+-- they are as they were, and `failed` whether a device failed.
+pub record HasRun (request : Request) (handed : List Shown → Type 0) (still : Type 0) (failed : Bool) (shelf shelf' : ShelfState)
+    (out out' : SinkState) (ended : Status) : Type 0 where
+  -- what is printed and handed on, if the shelf tells its files
+  pub reports : (files : Files) → shelf.files ≡ Some files → IsSome shelf'.files → Reports request files failed handed shelf shelf' out out' ended
+  -- what the sink held stays
+  pub grows : Grows out.held out'.held
+  pub leaves : LeavesFiles request shelf.files shelf'.files ended
+  -- each file that was opened is closed
+  pub slots : KeepsSlotsFor (output_of request) shelf'.files shelf.slots shelf'.slots
+  -- the names of the words are asked for, in their order, all of them if all was done, and no other
+  pub names : AsksFor (names_of request) shelf shelf' (is_through ended ≡ true)
+  pub devices : TellsFailed request failed ended
+  -- `listen` alone touches the devices
+  pub silent : is_listening request ≡ false → still
+  pub causes : HasCauses request shelf shelf' out out' ended
+  pub not_words : ended ≢ status.Words
+
+-- What a run did whose words are no command line: it says which word is the first that cannot stand there, and does nothing else.
+-- `still` says that the shelf and the devices are as they were.
+pub record RefusesWords (position : ℕ) (still : Type 0) (out out' : SinkState) (ended : Status) : Type 0 where
+  pub whole : ended ≢ status.Memory → ended ≢ status.WriteFault → (ended ≡ status.Words) × Appends out.held out'.held (words_line position)
+  pub written : AppendsPrefix out.held out'.held (words_line position)
+  pub grows : Grows out.held out'.held
+  pub kept : still
+  pub write : ended ≡ status.WriteFault → Rose out.faults out'.faults
+  pub not_write : ended ≢ status.WriteFault → out'.faults ≡ out.faults
