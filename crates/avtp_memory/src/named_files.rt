@@ -25,7 +25,7 @@ impl NamedFiles {
         }
     }
 
-    /// The bytes of the file with the name, where there is one.
+    /// The bytes of the file with the name, if there is one.
     pub fn bytes_of(&self, name: &str) -> &[u8]
         requires { IsSome (bytes_under self.now.entries.items name.now) }
         ensures { bytes_under self.now.entries.items name.now ≡ Some result.now }
@@ -65,7 +65,7 @@ impl NamedFiles {
         keep_within(&mut file.1, room, piece)
     }
 
-    /// Empties the file with the name, or adds an empty one, with memory for so many bytes.
+    /// Empties the file with the name, or adds an empty one, with memory for `room` bytes.
     pub fn empty(&mut self, alloc: Global, name: &str, room: usize) -> Result<(), NoMemory>
         ensures ok { OnOk result (SetsFile self.old.entries.items self.new.entries.items name.now []) }
         ensures roomy { OnOk result (room ≤ capacity_under self.new.entries.items name.now) }

@@ -58,7 +58,7 @@ pub fn copy_from(bytes: &[u8], place: usize, most: usize, buf: &mut [u8]) -> usi
     moved
 }
 
-// What stands from a place on, which may lie past the end.
+// The bytes from a place on, which may be past the end.
 fn rest_of(bytes: &[u8], place: usize) -> &[u8]
     ensures { result.now ≡ drop place bytes.now }
 {

@@ -19,7 +19,7 @@ impl QuietShelf {
     ghost use Rattle.avtp_memory.specs.NamedFiles.{bytes_under};
     ghost use Rattle.avtp_memory.specs.QuietShelf.{kept_files, keeps_all, room_of, slots_of, asked_of};
 
-    /// A shelf of these files, each under its name, with room for so many bytes in each file that is made. Of two files
+    /// A shelf of these files, each under its name, with room for `room` bytes in each file that is made. Of two files
     /// of one name the first counts.
     pub fn over(alloc: Global, files: Vec<(String, Vec<u8>)>, room: usize) -> Self
         ensures files { kept_files result ≡ bytes_under files.items }

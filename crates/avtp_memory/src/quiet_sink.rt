@@ -19,7 +19,7 @@ impl QuietSink {
     ghost use Rattle.std.specs.Prelude.{◌≡◌, [], IfOk, IsTrue};
     ghost use Rattle.avtp_memory.specs.QuietSink.{kept, keeps_all, room_of};
 
-    /// An empty sink with room for so many bytes, for which the memory is reserved.
+    /// An empty sink that keeps `room` bytes, for which memory is reserved.
     pub fn over(alloc: Global, room: usize) -> Result<Self, NoMemory>
         ensures empty { IfOk result (λ sink. kept sink ≡ []) }
         ensures all { IfOk result (λ sink. IsTrue (keeps_all sink)) }

@@ -21,7 +21,7 @@ pub fn keep_within(bytes: &mut Vec<u8>, room: usize, piece: &[u8]) -> bool
     false
 }
 
-/// Empties the bytes, with memory for so many.
+/// Empties the bytes, and reserves memory for `room` of them.
 pub fn empty_with_room(bytes: &mut Vec<u8>, room: usize) -> Result<(), NoMemory>
     ensures empty { OnOk result (bytes.new.items ≡ []) }
     ensures roomy { OnOk result (room ≤ vec_capacity bytes.new) }

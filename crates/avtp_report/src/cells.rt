@@ -1,4 +1,4 @@
-//! What stands in the columns of the table.
+//! The cells of the table.
 
 use crate::named::{InWords, class_name, kind_of};
 use crate::units::{Address, Micros, Thousandths};
@@ -152,7 +152,7 @@ pub const HEADINGS: [Heading; 34] = [
     },
 ];
 
-/// What stands where something is not known.
+/// The cell of a value that is not known.
 const NONE: &str = "-";
 
 /// The cells of a stream's row.
@@ -230,7 +230,7 @@ fn add_rates(alloc: Global, cells: &mut Vec<String>, stream: &Stream) -> Result<
     add_rate(alloc, cells, 1, i128::from(stream.packet_time))
 }
 
-/// Adds how often something comes a second, of which so many took so many nanoseconds.
+/// Adds a rate in events a second, given a number of events and the nanoseconds they took.
 fn add_rate(
     alloc: Global,
     cells: &mut Vec<String>,

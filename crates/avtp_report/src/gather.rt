@@ -136,7 +136,7 @@ impl Report {
         }
     }
 
-    /// The stream of this key, which begins here where it is new. `None` comes where as many others are told apart.
+    /// The stream of this key, which begins here if it is new. `None` if the most streams are tracked already.
     fn stream(
         &mut self,
         key: StreamKey,

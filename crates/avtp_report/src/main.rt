@@ -70,7 +70,7 @@ fn main(rt: HostRuntime) -> ExitCode {
     ExitCode::from(run(&rt).code())
 }
 
-/// Does what the words behind the program's name ask for.
+/// Does what the arguments ask for.
 fn run(rt: &HostRuntime) -> Status {
     let words = match words_of(rt) {
         Ok(words) => words,
@@ -87,7 +87,7 @@ fn run(rt: &HostRuntime) -> Status {
     }
 }
 
-/// The words behind the program's name. Words that are no text are a faulty command line.
+/// The arguments. Arguments that are not UTF-8 are a bad command line.
 fn words_of(rt: &HostRuntime) -> Result<Vec<String>, Status> {
     let arguments = match env::args(rt) {
         Ok(arguments) => arguments,

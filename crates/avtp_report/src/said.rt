@@ -38,7 +38,7 @@ impl fmt::Display for Said {
     }
 }
 
-/// Where a frame stands.
+/// Which frame, of which file.
 #[derive(Clone, Copy)]
 struct Place {
     word: &'static str,
@@ -146,7 +146,7 @@ impl Said {
     }
 }
 
-/// What is counted, and the words behind the number of packets.
+/// What is counted, and the words after the number of packets.
 fn plain(verdict: Verdict) -> (Tally, &'static str) {
     match verdict {
         Verdict::Senders { packets } => (packets, "of another sender, VLAN or destination"),

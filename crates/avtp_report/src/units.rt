@@ -74,7 +74,7 @@ impl fmt::Display for Span {
     }
 }
 
-/// Writes so many thousandths of a unit, with at most three decimals.
+/// Writes a number of thousandths as units, with at most three decimals.
 fn write_decimals<W: fmt::Write>(
     f: &mut fmt::Formatter<W>,
     thousandths: u64,

@@ -1,6 +1,6 @@
 //! The words of a command line.
 
-/// What the words behind the program's name ask for.
+/// What the arguments ask for.
 #[derive(Clone, Copy)]
 pub enum Words {
     Help,

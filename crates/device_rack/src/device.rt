@@ -15,7 +15,7 @@ pub trait Device: Drop {
     /// The device has taken these items, in this order. A new one has taken none.
     ghost took: { Self → List ShownValue → Type 0 };
 
-    /// The number of faults so far, which stands still at the last value of a 64-bit number.
+    /// The number of faults so far, which stops at the greatest 64-bit number.
     ghost faults: { Self → ℕ };
 
     /// The numbers, from 1, of those of its calls still to come that fail, where the device tells them.

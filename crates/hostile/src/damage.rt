@@ -43,7 +43,7 @@ fn flip(draws: &mut Draws, bytes: &mut [u8], most: usize) {
     }
 }
 
-/// Puts equal bytes behind others until there are so many.
+/// Appends equal bytes up to a length.
 fn lengthen(draws: &mut Draws, bytes: &mut Vec<u8>, size: usize) -> Result<(), NoMemory> {
     let byte = if draws.one_in(2) { 0 } else { 255 };
     for _ in bytes.len()..size {

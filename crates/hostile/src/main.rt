@@ -39,7 +39,7 @@ fn main(rt: HostRuntime) -> ExitCode {
     }
 }
 
-/// What the words behind the program's name ask for.
+/// What the arguments ask for.
 fn read_words(rt: &HostRuntime) -> Option<Asked> {
     let words: Vec<String> = env::args(rt).ok()?.skip(1).collect(rt.alloc()).ok()?;
     let first = words.get(2).map_or("1", |word| word.as_str());

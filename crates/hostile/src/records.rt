@@ -23,7 +23,7 @@ struct Style {
 pub const LONGEST: usize = 262_144;
 
 impl Record {
-    /// The same once more.
+    /// A copy.
     pub fn copied(&self, alloc: Global) -> Result<Record, NoMemory> {
         let frame = Vec::from_slice(alloc, &self.frame)?;
         Ok(Record { at: self.at, frame })
@@ -31,7 +31,7 @@ impl Record {
 }
 
 impl Style {
-    /// Puts numbers behind others.
+    /// Appends numbers.
     fn add(self, bytes: &mut Vec<u8>, numbers: &[u32]) -> Result<(), NoMemory> {
         for number in numbers {
             let four = if self.big {
@@ -111,7 +111,7 @@ pub fn spelled(alloc: Global, draws: &mut Draws, records: &[Record]) -> Result<V
     Ok(bytes)
 }
 
-/// The records of a capture of `talk`, at most so many.
+/// The first records of a capture of `talk`.
 pub fn records_of(alloc: Global, capture: &[u8], most: usize) -> Result<Vec<Record>, NoMemory> {
     let mut records = Vec::new(alloc);
     let mut rest = capture.get(24..).unwrap_or(&[]);

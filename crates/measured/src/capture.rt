@@ -97,7 +97,7 @@ fn record(n: u32, streams: u32) -> Option<[u8; 82]>
     Some(record)
 }
 
-/// The capture of so many packets, of so many streams.
+/// A capture of a number of packets, of a number of streams.
 pub fn capture(alloc: Global, streams: u32, packets: u32) -> Option<Vec<u8>>
     requires some { 1 ≤ streams }
     requires most { streams ≤ 65536 }

@@ -14,7 +14,7 @@ const MOST: usize = 65_528;
 /// The packets that a clock keeps.
 const WINDOW: u32 = 64;
 
-/// Asks a clock whose window is full of packets of 1 to 8,191 timestamps, so many times, where samples near its newest
+/// Asks a clock whose window is full of packets of 1 to 8,191 timestamps, a number of times, where samples near its newest
 /// timestamps stand. Answers how many do.
 pub fn lines(alloc: Global, timestamps: u32, count: u32) -> Option<u64>
     requires some { 1 ≤ timestamps }
@@ -36,7 +36,7 @@ pub fn lines(alloc: Global, timestamps: u32, count: u32) -> Option<u64>
     Some(found)
 }
 
-/// So many timestamps, after so many before them.
+/// A number of timestamps, after others before them.
 fn timestamps_of(alloc: Global, before: u32, count: u32) -> Option<Vec<u8>>
     requires most { before + count ≤ 2 ^ 31 }
 {

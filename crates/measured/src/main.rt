@@ -1,10 +1,10 @@
 //! Parts of the library by themselves, so that `bench/run` can measure them: `measured rounds CAPACITY ITEMS` hands items
 //! through a ring from one thread to another, and `measured lines TIMESTAMPS LOOK-UPS` asks a media clock whose window is full
-//! of packets of so many timestamps. Both print how many items or lines they had. `measured judge ORDER WAITING LOOK CLOCK
-//! ITEMS` judges so many packets, which come in an order of their instants (rising, falling, random, middle or equal), with a
-//! look-ahead and with a clock or none. `measured listener STREAMS PACKETS` feeds a listener with a capture of so many packets
-//! of so many streams, of which it listens to one. These print how many packets are presented, and in how many nanoseconds.
-//! `measured samples BATCHES TIMES` prints the samples of so many batches several times, to a sink that keeps nothing, and tells
+//! of packets of that number of timestamps. Both print how many items or lines they had. `measured judge ORDER WAITING LOOK CLOCK
+//! ITEMS` judges packets, which come in an order of their instants (rising, falling, random, middle or equal), with a
+//! look-ahead and with a clock or none. `measured listener STREAMS PACKETS` feeds a listener with a capture of this many
+//! streams and packets, and it listens to one. These print how many packets are presented, and in how many nanoseconds.
+//! `measured samples BATCHES TIMES` prints the samples of a number of batches several times, to a sink that keeps nothing, and tells
 //! how many bytes of text that is, and in how many nanoseconds.
 #![tactic(auto)]
 
@@ -43,7 +43,7 @@ fn main(rt: HostRuntime) -> ExitCode {
     }
 }
 
-/// The words behind the program's name.
+/// The arguments.
 fn words_of(rt: &HostRuntime) -> Option<Vec<String>> {
     env::args(rt).ok()?.skip(1).collect(rt.alloc()).ok()
 }

@@ -31,7 +31,7 @@ impl Sink for Counter {
     }
 }
 
-/// Prints so many batches of six samples of four bytes each, several times. They are made before the time begins. Answers how
+/// Prints batches of six samples of four bytes each, several times. They are made before the time begins. Answers how
 /// many bytes of text there were.
 pub fn samples<C: Clock>(clock: &C, alloc: Global, count: u32, times: u32) -> Option<Timed> {
     let batches = batches(alloc, count)?;
@@ -49,7 +49,7 @@ pub fn samples<C: Clock>(clock: &C, alloc: Global, count: u32, times: u32) -> Op
     })
 }
 
-/// What is presented of so many packets that come in the order of their instants.
+/// What is presented of packets that come in the order of their instants.
 fn batches(alloc: Global, count: u32) -> Option<Vec<Shown>> {
     let stream = Stream {
         order: Order::Rising,

@@ -121,7 +121,7 @@ impl Stream {
         })
     }
 
-    /// Puts the packet of the clock that precedes packet n behind others, where there is one.
+    /// Appends the packet of the clock that precedes packet n, if there is one.
     fn put_clock_packet(
         &self,
         alloc: Global,

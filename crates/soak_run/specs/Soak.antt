@@ -51,13 +51,13 @@ copy_of seed n k = (pos (arrival_of soak_plan n + delay_by (draw_after seed (dra
 abbrev pub copies : ℕ → ℕ → List (ℤ × ℕ)
 copies seed n = map (copy_of seed n) (range_with_len 0 (copies_of seed n))
 
--- the copies of so many packets, one packet after another
+-- the copies of the first n packets, one packet after another
 abbrev pub all_copies : ℕ → ℕ → List (ℤ × ℕ)
 all_copies seed packets = flat_map (copies seed) (range_with_len 0 packets)
 
 -- ---- as they arrive
 
--- a copy, behind those at the front that arrive earlier
+-- a copy, after those that arrive earlier
 abbrev pub put_in : ℤ × ℕ → List (ℤ × ℕ) → List (ℤ × ℕ)
 put_in copy [] = copy ∷ []
 put_in copy (next ∷ rest) = if int_lt next.0 copy.0 then next ∷ put_in copy rest else copy ∷ next ∷ rest
@@ -67,7 +67,7 @@ abbrev pub by_arrival : List (ℤ × ℕ) → List (ℤ × ℕ)
 by_arrival [] = []
 by_arrival (copy ∷ rest) = put_in copy (by_arrival rest)
 
--- The deliveries of so many packets, by arrival, then by packet, then by copy. The noise has the number of packets as its
+-- The deliveries of n packets, by arrival, then by packet, then by copy. The noise has the number of packets as its
 -- seed.
 abbrev pub deliveries_of : ℕ → List (ℤ × ℕ)
 deliveries_of packets = by_arrival (all_copies packets packets)

@@ -11,7 +11,7 @@ use iec61883_format::{IecView, anchor_index, rate_of_fdf, syt_interval};
 /// The format of a stream's packets.
 #[derive(Clone, Copy, PartialEq, Eq)]
 pub enum Format {
-    /// PCM of AAF. The depth is as it stands: 0 means all bits.
+    /// PCM of AAF. The depth is the field `bit_depth`: 0 means all bits.
     Aaf {
         format: AafFormat,
         rate: Option<u32>,
@@ -19,7 +19,7 @@ pub enum Format {
         depth: u8,
         sparse: bool,
     },
-    /// AM824 blocks of IEC 61883-6, each of so many quadlets. A packet of no data tells no rate.
+    /// AM824 blocks of IEC 61883-6 and the quadlets of each. A packet without data tells no rate.
     Iec {
         rate: Option<u32>,
         quadlets: u16,

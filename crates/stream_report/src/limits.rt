@@ -31,7 +31,7 @@ pub const DRIFT_PART: u64 = 4;
 /// which the timestamps of a capture without the help of hardware are off themselves.
 pub const LEAST_UNEVEN: u64 = 50_000;
 
-/// More than one uneven arrival in so many is jitter.
+/// More than one uneven arrival in this many is jitter.
 pub const UNEVEN_PART: u64 = 100;
 
 /// A lead that changes by more than this from one packet to the next, 100 ms, is a step of the timestamps and no drift.

@@ -37,7 +37,7 @@ impl Rate {
         })
     }
 
-    /// The nanoseconds of so many events, rounded down. A rate of 0 takes no time.
+    /// The duration of a number of events in nanoseconds, rounded down. At a rate of 0 it is 0.
     pub fn time_of(self, events: u64) -> u64 {
         let nanoseconds = SECOND.saturating_mul(self.seconds);
         if let Some(product) = events.checked_mul(nanoseconds) {

@@ -1,4 +1,4 @@
-//! Where a packet stands among those of its stream, by its sequence number.
+//! The place of a packet among those of its stream, by its sequence number.
 
 ghost use Rattle.std.specs.Prelude.{◌≡◌, ◌+◌, ◌-◌, ◌≤◌, ◌<◌, ◌⊎◌};
 ghost use Rattle.stream_report.specs.Sequence.{ahead_of};
@@ -14,10 +14,10 @@ pub struct Window {
     pub came: u64,
 }
 
-/// Where a packet stands.
+/// The place of a packet.
 #[derive(Clone, Copy)]
 pub enum Place {
-    /// Right after the newest packet, or ahead of it with so many missing between.
+    /// Right after the newest packet, or ahead of it with packets missing between.
     Ahead { missing: u8 },
     /// Before the newest packet, where none had come: it is late, and was counted as missing.
     Late,
@@ -36,7 +36,7 @@ impl Window {
         }
     }
 
-    /// Where a packet with this number stands.
+    /// The place of a packet with this number.
     pub fn place(&self, seq: u8) -> Place
         ensures ahead { let ahead = ahead_of self.now.newest seq in 1 ≤ ahead → ahead ≤ 192 → result ≡ Place.Ahead (ahead - 1) }
         ensures behind { 192 < ahead_of self.now.newest seq → (result ≡ Place.Late) ⊎ (result ≡ Place.Repeat) }
@@ -63,7 +63,7 @@ impl Window {
         u64::from(seq.wrapping_sub(self.newest).wrapping_sub(1)).saturating_add(1)
     }
 
-    /// Notes a packet that stands ahead.
+    /// Notes a packet that is ahead.
     pub fn pass(&mut self, seq: u8)
         ensures { self.new.newest ≡ seq }
     {

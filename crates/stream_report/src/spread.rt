@@ -91,8 +91,7 @@ impl Spread {
         self.greatest = self.greatest.max(value);
     }
 
-    /// A value that is at least as great as so many hundredths of all, and above the least such by no more than a bucket's
-    /// width. `None` comes where there is no value.
+    /// The percentile, rounded up to the greatest value of its bucket. `None` if no value was noted.
     pub fn percentile(&self, hundredths: u64) -> Option<i64>
         ensures none { IsNone result ↔ (self.now.count ≡ 0) }
         ensures most { IfSome result (λ value. value ≤ℤ self.now.greatest) }

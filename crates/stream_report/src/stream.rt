@@ -21,7 +21,7 @@ pub struct StreamKey {
     pub id: u64,
 }
 
-/// Who sends a stream, and where to: what stands before the AVTP packet of a frame.
+/// Who sends a stream, and where to: the Ethernet header.
 #[derive(Clone, Copy, PartialEq, Eq)]
 pub struct Sender {
     /// The source and the destination address, 48 bits each.
@@ -64,10 +64,10 @@ struct Last {
     held: Option<u64>,
 }
 
-/// A media clock restart stands for this many packets at least (IEEE 1722-2016, 4.4.4).
+/// A media clock restart is held for at least this many packets (IEEE 1722-2016, 4.4.4).
 const LEAST_HOLD: u64 = 8;
 
-/// A stream in which so many packets' times have passed since the last packet has gone on, whatever its sequence numbers say.
+/// After this many packets' times without a packet a stream has gone on, whatever its sequence numbers say.
 const LONG_PAUSE: u64 = 64;
 
 /// What is counted of a stream.
@@ -140,7 +140,7 @@ enum Step {
 }
 
 impl Stream {
-    /// A stream of which nothing is counted yet. Its first packet stands there.
+    /// A stream of which nothing is counted yet, given its first packet.
     pub fn new(alloc: Global, key: StreamKey, sender: Sender, first: At) -> Result<Self, NoMemory> {
         Ok(Stream {
             key,
@@ -465,7 +465,7 @@ impl Stream {
     }
 }
 
-/// The step to a packet before which so many are missing.
+/// The step to a packet, given how many are missing before it.
 fn after(missing: u64) -> Step {
     if missing == 0 {
         Step::Next

@@ -1,6 +1,6 @@
 //! How often something was seen, and where first.
 
-/// Where a frame stands: the number of its file, and its own in it, both from 1.
+/// Which frame: the number of its file, and its number in the file, both from 1.
 #[derive(Clone, Copy, PartialEq, Eq)]
 pub struct At {
     pub file: u32,
@@ -26,7 +26,7 @@ impl Tally {
         self.add(1, at);
     }
 
-    /// Counts so many more, in this frame.
+    /// Adds to the count, in this frame.
     pub fn add(&mut self, more: u64, at: At) {
         if more == 0 {
             return;

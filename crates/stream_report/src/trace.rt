@@ -89,7 +89,7 @@ impl Trace {
         1u64.checked_shl(self.shift).unwrap_or(u64::MAX)
     }
 
-    /// Notes what a packet adds, which came so many nanoseconds after the capture's first.
+    /// Notes a packet, given the nanoseconds from the capture's first packet to it.
     pub fn note(&mut self, since: u64, mut added: Column) -> Result<(), NoMemory> {
         for _ in FIRST_SHIFT..LAST_SHIFT {
             if self.columns.len() < MOST_COLUMNS {
@@ -114,7 +114,7 @@ impl Trace {
         Ok(())
     }
 
-    /// Adds a column behind the others, or to the last.
+    /// Adds a new last column, or adds to the last one.
     fn add(&mut self, column: Column) -> Result<(), NoMemory> {
         if let Some(last) = self.columns.last_mut() {
             if last.slot >= column.slot {

@@ -92,7 +92,7 @@ pub enum Verdict {
     Unwanted {
         packets: Tally,
     },
-    /// Timestamps drift against their arrivals by so many parts of 10^9.
+    /// Timestamps drift against their arrivals, in parts of 10^9.
     Drift {
         parts: i64,
     },

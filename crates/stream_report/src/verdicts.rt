@@ -107,7 +107,7 @@ fn add(verdicts: &mut Vec<Verdict>, verdict: Option<Verdict>) -> Result<(), NoMe
     Ok(())
 }
 
-/// Whether so many are more than one in so many of all.
+/// Whether `some` is more than one in `part` of all.
 fn is_more(some: u64, of: u64, part: u64) -> bool {
     some.saturating_mul(part) > of
 }
