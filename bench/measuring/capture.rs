@@ -1,11 +1,12 @@
 //! Makes the captures that `bench/run` measures with, of AAF packets of one stream: 16-bit stereo at 48 kHz, six sample
 //! frames each. Packet n arrives at 1 s + n * 125 us, has the sequence number n mod 256, and is due 2 ms after its arrival.
 //!
-//! - `capture OUT COUNT`: so many packets, in little-endian nanoseconds.
-//! - `capture OUT COUNT STREAMS`: the same, of so many streams in turn, whose packets have numbers of their own.
-//! - `capture OUT COUNT STYLE`: the same in `le-ns`, `le-us`, `be-ns` or `be-us`. Half of the packets are damaged, of every
-//!   2,048 the latter 1,024 are sparse, which leaves one timestamp in eight, and one in 16 comes twice. Then come a frame of
-//!   the greatest length and a record that is cut off.
+//! - `capture OUT COUNT`: COUNT packets, in little-endian nanoseconds.
+//! - `capture OUT COUNT ng`: these packets as a pcapng capture, in nanoseconds.
+//! - `capture OUT COUNT STREAMS`: packets of STREAMS streams in turn, each with sequence numbers of its own.
+//! - `capture OUT COUNT STYLE`: packets in `le-ns`, `le-us`, `be-ns` or `be-us`. Half of them are damaged, of every 2,048 the
+//!   latter 1,024 are sparse, which leaves one timestamp in eight, and one in 16 comes twice. Then come a frame of the
+//!   greatest length and a record that is cut off.
 
 #[path = "../yardsticks/packets.rs"]
 mod packets;
@@ -64,12 +65,39 @@ fn damaged(mut frame: [u8; 66], noise: &mut u64) -> Vec<u8> {
     frame[..len].to_vec()
 }
 
+/// A section header, an interface in nanoseconds, and an enhanced packet block for each packet.
+fn write_pcapng(path: &str, count: u64) -> io::Result<()> {
+    let mut out = BufWriter::new(File::create(path)?);
+    for number in [0x0a0d_0d0a_u32, 28, 0x1a2b_3c4d, 1, u32::MAX, u32::MAX, 28] {
+        out.write_all(&number.to_le_bytes())?;
+    }
+    for number in [1_u32, 32, 1, LONGEST as u32, 9 | 1 << 16, 9, 0, 32] {
+        out.write_all(&number.to_le_bytes())?;
+    }
+    for n in 0..count {
+        let frame = packet(n);
+        let time = 1_000_000_000 + n * 125_000;
+        let len = frame.len() as u32;
+        let block = 32 + len.next_multiple_of(4);
+        for number in [6, block, 0, (time >> 32) as u32, time as u32, len, len] {
+            out.write_all(&number.to_le_bytes())?;
+        }
+        out.write_all(&frame)?;
+        out.write_all(&[0; 3][..(block - 32 - len) as usize])?;
+        out.write_all(&block.to_le_bytes())?;
+    }
+    out.flush()
+}
+
 fn main() -> io::Result<()> {
     let words: Vec<String> = env::args().skip(1).collect();
     let [path, count, style @ ..] = words.as_slice() else {
         return Err(Error::other("capture OUT COUNT [STREAMS or STYLE]"));
     };
     let count: u64 = count.parse().map_err(Error::other)?;
+    if style.first().is_some_and(|style| style == "ng") {
+        return write_pcapng(path, count);
+    }
     let streams: Option<u64> = style.first().and_then(|word| word.parse().ok());
     let style = style.first().filter(|_| streams.is_none());
     let mut capture = Capture {

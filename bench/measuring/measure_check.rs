@@ -1,10 +1,11 @@
-//! `measure_check AVTP PACKETS STREAMS CAPTURE ..`: runs `avtp check` and `avtp show` in turn, to nothing, on captures of so many
-//! packets of so many streams, which have no findings. Prints, for the best run of each, seconds and the ratio.
+//! `measure_check AVTP REPORT PACKETS [STREAMS CAPTURE] ..`: runs `avtp check`, `avtp show` and `avtp-report` in turn, to nothing,
+//! on captures of that many packets and streams, which have no findings. Prints a row of `check` beside `show` and of the
+//! report beside `check`, for their best runs.
 
-mod machine;
+mod row;
 mod runner;
 
-use machine::machine;
+use row::Row;
 use runner::{Runner, best_of};
 use std::env;
 use std::io::{self, Error};
@@ -13,28 +14,30 @@ const ROUNDS: usize = 20;
 
 fn main() -> io::Result<()> {
     let words: Vec<String> = env::args().skip(1).collect();
-    let [avtp, packets, captures @ ..] = words.as_slice() else {
-        return Err(Error::other("measure_check AVTP PACKETS [STREAMS CAPTURE] .."));
+    let [avtp, report, packets, captures @ ..] = words.as_slice() else {
+        return Err(Error::other("measure_check AVTP REPORT PACKETS [STREAMS CAPTURE] .."));
     };
-    println!("{packets} packets, {}.\n", machine(ROUNDS)?);
-    println!("| streams | seconds of `avtp check` | of `avtp show` | ratio | largest resident memory of `avtp check`, KiB |");
-    println!("|---|---|---|---|---|");
+    let count: f64 = packets.parse().map_err(Error::other)?;
     for pair in captures.chunks_exact(2) {
+        let streams = &pair[0];
         let mut runners = [
-            Runner::new("`avtp check`", avtp, &["check", &pair[1]], None),
-            Runner::new("`avtp show`", avtp, &["show", &pair[1]], None),
+            Runner::new(&format!("`check`, streams: {streams}, beside `show`"), avtp, &["check", &pair[1]], None),
+            Runner::new("`show`", avtp, &["show", &pair[1]], None),
+            Runner::new(&format!("`avtp-report`, streams: {streams}, beside `check`"), report, &[&pair[1]], None),
         ];
         best_of(ROUNDS, &mut runners)?;
-        let [check, show] = &runners;
-        println!(
-            "| {} | {:.3} | {:.3} | {:.2} | {} |",
-            pair[0],
-            check.seconds,
-            show.seconds,
-            check.seconds / show.seconds,
-            check.kib
-        );
+        let [check, show, report] = &runners;
+        for (runner, beside) in [(check, show), (report, check)] {
+            let row = Row {
+                what: &runner.name,
+                seconds: runner.seconds,
+                count,
+                things: "packets",
+                yardstick: Some(beside.seconds),
+                kib: Some(runner.kib),
+            };
+            row.print();
+        }
     }
-    println!();
     Ok(())
 }

@@ -1,12 +1,13 @@
-//! `measure_judge MEASURED YARDSTICK`: runs `measured judge` and its yardstick in turn, on packets in several orders, and prints
-//! for the best run of each how many nanoseconds a packet takes.
+//! `measure_judge MEASURED YARDSTICK`: runs `measured judge` and its yardstick in turn, on packets in several orders, and prints a row
+//! of each order, for the best runs.
 
-mod machine;
+mod row;
 mod timed;
 
+use row::Row;
 use std::env;
 use std::io::{self, Error};
-use timed::{Timed, best_of_both, print_machine};
+use timed::{Timed, best_of_both};
 
 const ITEMS: &str = "400000";
 
@@ -30,17 +31,18 @@ fn main() -> io::Result<()> {
         return Err(Error::other("measure_judge MEASURED YARDSTICK"));
     };
     let judges = [(measured, Some("judge")), (yardstick, None)].map(|(program, mode)| Timed { program, mode });
-    let items: f64 = ITEMS.parse().map_err(Error::other)?;
-    print_machine()?;
-    println!("| {ITEMS} packets | ns a packet | without contracts | ratio | times the usual one |");
-    println!("|---|---|---|---|---|");
-    let mut usual = None;
     for (name, [order, waiting, look, clock]) in CASES {
         let (best, _) = best_of_both(judges, &[order, waiting, look, clock, ITEMS])?;
-        let [ours, theirs] = best.map(|nanoseconds| nanoseconds / items);
-        let usual = usual.get_or_insert(ours);
-        println!("| {name} | {ours:.0} | {theirs:.0} | {:.2} | {:.1} |", theirs / ours, ours / *usual);
+        let [ours, theirs] = best.map(|nanoseconds| nanoseconds / 1e9);
+        let row = Row {
+            what: &format!("a judge alone, {name}"),
+            seconds: ours,
+            count: ITEMS.parse().map_err(Error::other)?,
+            things: "packets",
+            yardstick: Some(theirs),
+            kib: None,
+        };
+        row.print();
     }
-    println!();
     Ok(())
 }

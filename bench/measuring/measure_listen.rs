@@ -1,24 +1,16 @@
 //! `measure_listen ROUNDS AVTP TWO ONE PACKETS TEXT STREAM CAPTURE`: runs `avtp listen` with rings of 64 and of 256 items in turn
-//! with its yardsticks, TWO of two threads that are joined in rounds and ONE of one thread, so many times. They print to
-//! nothing, and where TEXT is not empty to that file too. Prints the best times and the largest resident memory of each, and
-//! the ratios.
+//! with its yardsticks, TWO of two threads that are joined in rounds and ONE of one thread. They print to nothing, and to the
+//! file TEXT too if it is not empty. Prints rows of `listen` beside each yardstick, for the best of ROUNDS runs.
 
-mod machine;
+mod row;
 mod runner;
 
-use machine::machine;
+use row::Row;
 use runner::{Runner, best_of};
 use std::env;
-use std::fs;
 use std::io::{self, Error};
 
 const USAGE: &str = "measure_listen ROUNDS AVTP TWO ONE PACKETS TEXT STREAM CAPTURE";
-
-/// The head of the table.
-const HEAD: &str = "\
-| | seconds | of processor time | packets a second | largest resident memory, KiB \
-| of the throughput of two threads | of one thread |
-|---|---|---|---|---|---|---|";
 
 const RINGS: [&str; 2] = ["64", "256"];
 
@@ -44,7 +36,7 @@ impl Asked<'_> {
             let words = ["listen", "--ring", ring, self.stream, self.capture];
             runners.extend([
                 Runner::new(
-                    &format!("`avtp listen --ring {ring}`, to {to}"),
+                    &format!("`listen --ring {ring}`, to {to}"),
                     self.avtp,
                     &words,
                     output,
@@ -68,30 +60,22 @@ impl Asked<'_> {
     }
 }
 
-/// A row of the table, with the throughput over those of the yardsticks, as far as they are of the same ring and sink.
-fn print_row(runner: &Runner, packets: f64, yardsticks: [Option<&Runner>; 2]) {
-    let [two, one] = yardsticks.map(|yardstick| match yardstick {
-        Some(yardstick) => format!("{:.2}", yardstick.seconds / runner.seconds),
-        None => String::new(),
-    });
-    println!(
-        "| {} | {:.3} | {:.3} | {:.0} | {} | {two} | {one} |",
-        runner.name,
-        runner.seconds,
-        runner.processor_seconds,
-        packets / runner.seconds,
-        runner.kib
-    );
-}
-
-/// The rows of the runners to one sink.
-fn print_rows(runners: &[Runner], packets: f64) {
+/// Rows of `listen` to one sink: with each ring beside the yardstick of two threads, and then of one. `more` ends each name.
+fn print_rows(runners: &[Runner], packets: f64, more: &str) {
     let [pairs @ .., one] = runners else { return };
     for pair in pairs.chunks_exact(2) {
-        print_row(&pair[0], packets, [Some(&pair[1]), Some(one)]);
-        print_row(&pair[1], packets, [None, Some(one)]);
+        for (beside, yardstick) in [("two threads", &pair[1]), ("one thread", one)] {
+            let row = Row {
+                what: &format!("{}, beside {beside}{more}", pair[0].name),
+                seconds: pair[0].seconds,
+                count: packets,
+                things: "packets",
+                yardstick: Some(yardstick.seconds),
+                kib: Some(pair[0].kib),
+            };
+            row.print();
+        }
     }
-    print_row(one, packets, [None, None]);
 }
 
 fn main() -> io::Result<()> {
@@ -108,7 +92,6 @@ fn main() -> io::Result<()> {
         stream,
         capture,
     };
-    let machine = machine(rounds)?;
     let mut to_nothing = asked.runners(None);
     let mut to_a_file = if text.is_empty() {
         Vec::new()
@@ -120,12 +103,9 @@ fn main() -> io::Result<()> {
         best_of(1, &mut to_a_file)?;
     }
 
-    let megabytes = fs::metadata(capture)?.len() as f64 / 1e6;
-    println!("{packets} packets, {megabytes:.1} MB. {machine}.\n");
-    println!("{HEAD}");
     let packets = packets.parse().map_err(Error::other)?;
-    print_rows(&to_nothing, packets);
-    print_rows(&to_a_file, packets);
-    println!();
+    let more = if rounds == 1 { format!(", {packets} packets") } else { String::new() };
+    print_rows(&to_nothing, packets, &more);
+    print_rows(&to_a_file, packets, &more);
     Ok(())
 }

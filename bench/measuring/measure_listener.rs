@@ -1,13 +1,13 @@
-//! `measure_listener MEASURED YARDSTICK PACKETS`: runs `measured listener` and its yardstick in turn, on captures of so many packets
-//! of one stream, and of a hundred of which one is wanted, and prints for the best run of each how many packets of the capture
-//! it takes a second.
+//! `measure_listener MEASURED YARDSTICK PACKETS`: runs `measured listener` and its yardstick in turn, on captures of that many packets
+//! of one stream, and of a hundred of which one is wanted, and prints a row of each, for the best runs.
 
-mod machine;
+mod row;
 mod timed;
 
+use row::Row;
 use std::env;
 use std::io::{self, Error};
-use timed::{Timed, best_of_both, print_machine};
+use timed::{Timed, best_of_both};
 
 fn main() -> io::Result<()> {
     let words: Vec<String> = env::args().skip(1).collect();
@@ -15,15 +15,18 @@ fn main() -> io::Result<()> {
         return Err(Error::other("measure_listener MEASURED YARDSTICK PACKETS"));
     };
     let listeners = [(measured, Some("listener")), (yardstick, None)].map(|(program, mode)| Timed { program, mode });
-    let count: f64 = packets.parse().map_err(Error::other)?;
-    print_machine()?;
-    println!("| {packets} packets | presented | packets a second | without contracts | ratio |");
-    println!("|---|---|---|---|---|");
-    for (name, streams) in [("of one stream", "1"), ("of a hundred, one is wanted", "100")] {
-        let (best, presented) = best_of_both(listeners, &[streams, packets])?;
-        let [ours, theirs] = best.map(|nanoseconds| count * 1e9 / nanoseconds);
-        println!("| {name} | {presented} | {ours:.0} | {theirs:.0} | {:.2} |", ours / theirs);
+    for (name, streams) in [("one stream", "1"), ("one stream of a hundred", "100")] {
+        let (best, _) = best_of_both(listeners, &[streams, packets])?;
+        let [ours, theirs] = best.map(|nanoseconds| nanoseconds / 1e9);
+        let row = Row {
+            what: &format!("a listener alone, from memory, {name}"),
+            seconds: ours,
+            count: packets.parse().map_err(Error::other)?,
+            things: "packets",
+            yardstick: Some(theirs),
+            kib: None,
+        };
+        row.print();
     }
-    println!("\nAt least 0.8 is aimed at.\n");
     Ok(())
 }

@@ -1,7 +1,6 @@
 //! Runs a mode of `measured` and its yardstick in turn. Both say how many packets they presented, or how many bytes they
 //! printed, and in how many nanoseconds, so that making the packets is not measured.
 
-use crate::machine::machine;
 use std::io::{self, Error};
 use std::process::Command;
 
@@ -43,10 +42,4 @@ pub fn best_of_both(programs: [Timed; 2], words: &[&str]) -> io::Result<([f64; 2
         }
     }
     Ok((best.map(|nanoseconds| nanoseconds as f64), presented[0]))
-}
-
-/// Says on what machine the runs are.
-pub fn print_machine() -> io::Result<()> {
-    println!("{}.\n", machine(ROUNDS)?);
-    Ok(())
 }
