@@ -6,13 +6,13 @@ use Rattle.std.proofs.lemmas.Int.{ints, by_lt_z}
 use Rattle.std.proofs.lemmas.List.Sums.{sum_by-cons}
 use Rattle.slab.specs.Slab.{Slab, Updates, get, slab_len}
 use Rattle.sample_schedule.specs.declared.accepted.Accepted.{Accepted}
-use Rattle.sample_schedule.specs.declared.sorted_keys.Key.{Key}
-use Rattle.sample_schedule.specs.state.Keys.{is_key, put_key}
+use Rattle.sorted_keys.specs.declared.key.Key.{Key}
+use Rattle.sorted_keys.specs.Keys.{is_key, put_key}
 use Rattle.sample_schedule.specs.Order.{put_behind}
 use Rattle.sample_schedule.specs.state.Order.{starts_due}
 use Rattle.sample_schedule.specs.Verdicts.{is_copy, total_bytes}
 use Rattle.sample_schedule.specs.state.Waiting.{HaveOwnSlots, IsKey, IsWaiting, batch_of, held}
-use Rattle.sample_schedule.proofs.BlockLemmas.{all-put_key, length-put}
+use Rattle.sorted_keys.proofs.BlockLemmas.{all-put_key, length-put}
 use Rattle.sample_schedule.proofs.LawLemmas.{bytes-put_behind}
 use Rattle.sample_schedule.proofs.OrderLemmas.{lt_true, lt_false}
 

@@ -11,5 +11,4 @@ pub mod JudgeSound
 pub mod JudgeLemmas
 pub mod GivenLemmas
 pub mod Growing
-pub mod BlockLemmas
 pub mod Keys

@@ -1,5 +1,5 @@
 -- Accepted items, by their first instants.
-use Rattle.std.proofs.Common.{◌≡◌, ℕ, suc, ◌+◌, Bool, true, false, cond, ◌||◌, ℤ, ◌≤ℤ◌, ◌<ℤ◌, List, [], ◌∷◌, ◌++◌, length, filter, refl, ap, ◌∙◌, arith, fold}
+use Rattle.std.proofs.Common.{◌≡◌, ℕ, suc, ◌+◌, Bool, true, false, cond, ◌||◌, ℤ, ◌≤ℤ◌, List, [], ◌∷◌, ◌++◌, length, filter, refl, ap, ◌∙◌, arith, fold}
 use Rattle.std.specs.Prelude.{int_lt, int_le}
 use Rattle.std.specs.List.{AllByRecursion, list_any, sum_by}
 use Rattle.std.proofs.lemmas.Int.{ints, by_lt_z}
@@ -10,18 +10,7 @@ use Rattle.sample_schedule.specs.Order.{between, by_instant, due_of, left_of, pu
 use Rattle.sample_schedule.specs.Verdicts.{total_bytes}
 
 -- ---- tests
-
-pub lt_true : (a b : ℤ) → a <ℤ b → int_lt a b ≡ true
-lt_true a b h = grind (arith, ints)
-
-pub lt_false : (a b : ℤ) → b ≤ℤ a → int_lt a b ≡ false
-lt_false a b h = grind (arith, ints)
-
-pub le_true : (a b : ℤ) → a ≤ℤ b → int_le a b ≡ true
-le_true a b h = grind (arith, ints)
-
-pub le_false : (a b : ℤ) → b <ℤ a → int_le a b ≡ false
-le_false a b h = grind (arith, ints)
+pub use Rattle.sorted_keys.proofs.Comparing.{le_false, le_true, lt_false, lt_true}
 
 -- ---- what holds of all
 

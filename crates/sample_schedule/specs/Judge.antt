@@ -1,5 +1,5 @@
 -- A judge, which is given a stream of entries one at a time and shows what is certain of it.
-use Rattle.std.specs.Prelude.{◌≡◌, ℕ, ◌+◌, ◌*◌, ◌≤◌, Bool, true, false, if◌then◌else◌, ℤ, ◌<ℤ◌, ◌<◌, List, [], ◌∷◌, ◌++◌, length, take, drop, map, Option, None, Some}
+use Rattle.std.specs.Prelude.{◌≡◌, ℕ, ◌+◌, ◌*◌, ◌≤◌, Bool, true, false, if◌then◌else◌, ℤ, ◌<ℤ◌, List, [], ◌∷◌, ◌++◌, length, take, drop, map, Option, None, Some}
 use Rattle.std.specs.List.{AllByRecursion}
 use Rattle.std.specs.Option.{option_to_list}
 use Rattle.sample_schedule.specs.declared.accepted.Accepted.{Accepted}

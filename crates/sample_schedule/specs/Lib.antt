@@ -9,6 +9,5 @@ pub mod Reach
 pub mod Noted
 pub mod Judge
 pub mod Laws
-pub mod Keys
 pub mod Waiting
 pub mod state

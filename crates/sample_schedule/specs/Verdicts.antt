@@ -1,5 +1,5 @@
 -- The verdict of an item: it is accepted, or it has a reason why not.
-use Rattle.std.specs.Prelude.{◌≡◌, ℕ, ◌+◌, ◌==◌, nat_lt, nat_le, Bool, true, false, if◌then◌else◌, ℤ, pos, ◌+ℤ◌, int_lt, int_le, List, length, sum_by, Option, Some, None, option_map, Result, Ok, Err}
+use Rattle.std.specs.Prelude.{◌≡◌, ℕ, ◌+◌, ◌==◌, nat_lt, nat_le, Bool, true, false, if◌then◌else◌, ℤ, pos, ◌+ℤ◌, int_lt, List, length, sum_by, Option, Some, None, option_map, Result, Ok, Err}
 use Rattle.std.specs.List.{filter_map, list_any}
 use Rattle.clock_track.specs.declared.clock_row.ClockRow.{ClockRow}
 use Rattle.clock_track.specs.Pairs.{Spot}
@@ -19,6 +19,7 @@ use Rattle.sample_schedule.specs.declared.shown.Reason.TheVariants.{Uncertain, E
 use Rattle.sample_schedule.specs.Batches.{Presented, sample_instant}
 use Rattle.sample_schedule.specs.Order.{standing}
 use Rattle.sample_schedule.specs.Heads.{head_of}
+pub use Rattle.sorted_keys.specs.Keys.{same_instant}
 
 -- ---- where the samples of an item are
 
@@ -94,10 +95,6 @@ first_instant batch = sample_instant batch 0
 -- the bytes of accepted batches together
 abbrev pub total_bytes : List Accepted → ℕ
 total_bytes accepted = sum_by (λ a. length a.batch.bytes) accepted
-
--- two instants are equal
-abbrev pub same_instant : ℤ → ℤ → Bool
-same_instant x y = if int_le x y then int_le y x else false
 
 -- an accepted item counts as another copy of the packet with this first instant and sequence number
 abbrev pub is_copy : ℤ → ℕ → Accepted → Bool

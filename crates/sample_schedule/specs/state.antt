@@ -1,5 +1,4 @@
 -- Kept for proofs alone: no clause of a public call rests on what lies here.
 pub mod Judge
-pub mod Keys
 pub mod Order
 pub mod Waiting

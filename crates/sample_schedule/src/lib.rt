@@ -13,7 +13,6 @@ mod noted;
 mod pending;
 mod plan;
 mod shown;
-mod sorted_keys;
 mod timing;
 mod verdicts;
 mod waiting_room;

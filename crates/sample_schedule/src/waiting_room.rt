@@ -9,9 +9,9 @@ ghost use Rattle.sample_schedule.specs.Verdicts.{is_copy as is_copy_of, is_full 
 
 use crate::accepted::Accepted;
 use crate::plan::SchedulePlan;
-use crate::sorted_keys::{Key, SortedKeys};
 use avtp_base::NoMemory;
 use slab::Slab;
+use sorted_keys::{Key, SortedKeys};
 use std::alloc::Global;
 use std::marker::Model;
 

@@ -4,7 +4,7 @@ use Rattle.std.specs.Prelude.{◌≡◌, ◌≢◌, ⊤, ℕ, List, [], ◌∷�
 use Rattle.std.specs.List.{AllByRecursion, filter_map}
 use Rattle.slab.specs.Slab.{Slab, get, slab_len}
 use Rattle.sample_schedule.specs.declared.accepted.Accepted.{Accepted}
-use Rattle.sample_schedule.specs.declared.sorted_keys.Key.{Key}
+use Rattle.sorted_keys.specs.declared.key.Key.{Key}
 use Rattle.sample_schedule.specs.Verdicts.{total_bytes}
 
 abbrev pub batch_of : Slab Accepted → Key → Option Accepted

@@ -1,7 +1,7 @@
 -- The key is put behind those that are not later.
 use Rattle.std.proofs.Common.{◌+◌, ℕ, ap, rules, sym, ◌∙◌, subst, length, w64, to_z, of_z, arith}
 use Rattle.std.proofs.lemmas.Int.{ints}
-use Rattle.sample_schedule.specs.declared.sorted_keys.Key.{Key}
+use Rattle.sorted_keys.specs.declared.key.Key.{Key}
 use Rattle.sample_schedule.specs.Order.{put_behind}
 use Rattle.sample_schedule.specs.Waiting.{Held}
 use Rattle.sample_schedule.specs.state.Waiting.{IsWaiting}

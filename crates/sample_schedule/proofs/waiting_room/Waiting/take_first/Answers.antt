@@ -1,6 +1,6 @@
 -- The first key stands for the first batch.
 use Rattle.std.proofs.Common.{◌-◌, ℕ, List, ap, sym, ◌∙◌, subst}
-use Rattle.sample_schedule.specs.declared.sorted_keys.Key.{Key}
+use Rattle.sorted_keys.specs.declared.key.Key.{Key}
 use Rattle.sample_schedule.specs.Waiting.{Held}
 use Rattle.sample_schedule.specs.state.Waiting.{IsWaiting, held}
 use Rattle.sample_schedule.proofs.Keys.{take-list, take-waiting}

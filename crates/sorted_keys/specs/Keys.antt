@@ -1,0 +1,21 @@
+-- Sorted keys.
+use Rattle.std.specs.Prelude.{ℕ, ◌==◌, Bool, false, if◌then◌else◌, ℤ, int_le, int_lt, List, [], ◌∷◌}
+use Rattle.sorted_keys.specs.declared.key.Key.{Key}
+
+-- two instants are one
+abbrev pub same_instant : ℤ → ℤ → Bool
+same_instant x y = if int_le x y then int_le y x else false
+
+-- the sorted list of keys, and how many keys fit in the memory that is reserved
+pub record KeyList : Type 0 where
+  pub list : List Key
+  pub room : ℕ
+
+-- a list of keys by instant with one more, after all that are not later
+abbrev pub put_key : List Key → Key → List Key
+put_key [] key = key ∷ []
+put_key (other ∷ rest) key = if int_lt key.instant other.instant then key ∷ other ∷ rest else other ∷ put_key rest key
+
+-- the key is of this instant and this sequence number
+abbrev pub is_key : ℤ → ℕ → Key → Bool
+is_key instant seq key = if same_instant key.instant instant then key.seq == seq else false

@@ -1,0 +1,178 @@
+//! A block of sorted keys.
+
+ghost use Rattle.std.specs.Prelude.{◌≡◌, ◌+◌, ◌<◌, ◌≤◌, ◌++◌, [], insert, length, nat_le, slice_get, IfNone, IfOk};
+ghost use Rattle.std.specs.List.{list_any};
+ghost use Rattle.std.specs.Option.{option_to_list};
+ghost use Rattle.std.specs.VecDeque.{deque_capacity};
+ghost use Rattle.sorted_keys.specs.Keys.{is_key, put_key};
+ghost use Rattle.sorted_keys.specs.state.Keys.{IsPlace, KeysAreInOrder, starts_before as starts_before_of, starts_by as starts_by_of};
+
+use crate::key::Key;
+use avtp_base::NoMemory;
+use std::alloc::Global;
+use std::collections::VecDeque;
+use std::marker::Model;
+
+/// A block with this many keys is split in halves, so all blocks but the first are at least half full, and `with_room`
+/// can reserve them all.
+pub const FULL: usize = 512;
+
+pub const HALF: usize = FULL / 2;
+
+/// How many of the keys, in their order, are not later than an instant.
+fn place_behind(keys: &VecDeque<Key>, instant: i64) -> usize
+    requires { KeysAreInOrder keys.now.items }
+    ensures { IsPlace instant keys.now.items result }
+{
+    let Some(last) = keys.back() else {
+        return 0;
+    };
+    if instant < last.instant {
+        keys.partition_point(|key| key.instant <= instant)
+    } else {
+        // Most packets come in the order of their instants.
+        keys.len()
+    }
+}
+
+fn insert_key(keys: &mut VecDeque<Key>, place: usize, key: Key)
+    requires place { place ≤ length keys.old.items }
+    requires room { length keys.old.items < deque_capacity keys.old }
+    ensures items { keys.new.items ≡ insert keys.old.items place key }
+    ensures capacity { deque_capacity keys.old ≤ deque_capacity keys.new }
+{
+    let Ok(()) = keys.insert(place, key) else {
+        unreachable!()
+    };
+}
+
+/// Moves all keys after the first `count` to the front of others, which have room.
+fn move_behind(keys: &mut VecDeque<Key>, count: usize, others: &mut VecDeque<Key>)
+    requires count { count ≤ length keys.old.items }
+    requires room { length keys.old.items + length others.old.items ≤ count + deque_capacity others.old }
+    ensures all { keys.new.items ++ others.new.items ≡ keys.old.items ++ others.old.items }
+    ensures left { length keys.new.items ≡ count }
+    ensures capacity { deque_capacity keys.new ≡ deque_capacity keys.old }
+    ensures others_capacity { deque_capacity others.new ≡ deque_capacity others.old }
+{
+    while keys.len() > count {
+        match keys.pop_back() {
+            Some(last) => {
+                let Ok(()) = others.push_front(last) else {
+                    unreachable!()
+                };
+            }
+            None => unreachable!(),
+        }
+    }
+}
+
+/// At most 512 keys, sorted.
+#[derive(Drop)]
+pub struct Block {
+    keys: VecDeque<Key>,
+}
+
+impl Model for Block {
+    ghost use Rattle.std.specs.Prelude.{List, ◌≤◌};
+    ghost use Rattle.std.specs.VecDeque.{deque_capacity};
+    ghost use Rattle.sorted_keys.specs.declared.key.Key.{Key as KeyValue};
+    ghost use Rattle.sorted_keys.specs.state.Keys.{KeysAreInOrder};
+
+    ghost Value = { List KeyValue };
+
+    ghost view = { λ block. block.keys.items };
+
+    ghost invariant = { λ block. (512 ≤ deque_capacity block.keys) × KeysAreInOrder block.keys.items };
+}
+
+impl Block {
+    pub fn new(alloc: Global) -> Result<Self, NoMemory>
+        ensures { IfOk result (λ block. block ≡ []) }
+    {
+        let keys = VecDeque::with_capacity(alloc, FULL)?;
+        Ok(Block { keys })
+    }
+
+    pub fn is_full(&self) -> bool
+        ensures { result ≡ nat_le 512 (length self.now) }
+    {
+        self.keys.len() >= FULL
+    }
+
+    pub fn is_empty(&self) -> bool
+        ensures { result ≡ nat_le (length self.now) 0 }
+    {
+        self.keys.is_empty()
+    }
+
+    pub fn first(&self) -> Option<Key>
+        ensures { result ≡ slice_get self.now 0 }
+    {
+        self.keys.front().copied()
+    }
+
+    /// The first key is not later than an instant, or there is none.
+    pub fn starts_by(&self, instant: i64) -> bool
+        ensures { result ≡ starts_by_of instant self.now }
+    {
+        match self.keys.front() {
+            Some(first) => first.instant <= instant,
+            None => true,
+        }
+    }
+
+    /// The first key is earlier than an instant.
+    pub fn starts_before(&self, instant: i64) -> bool
+        ensures { result ≡ starts_before_of instant self.now }
+    {
+        match self.keys.front() {
+            Some(first) => first.instant < instant,
+            None => false,
+        }
+    }
+
+    /// Puts a key after those that are not later.
+    pub fn put(&mut self, key: Key)
+        requires { length self.old < 512 }
+        ensures { self.new ≡ put_key self.old key }
+    {
+        let place = place_behind(&self.keys, key.instant);
+        insert_key(&mut self.keys, place, key);
+    }
+
+    /// One of the keys has the instant and the sequence number.
+    pub fn has(&self, instant: i64, seq: u8) -> bool
+        ensures { result ≡ list_any (is_key instant seq) self.now }
+    {
+        let mut end = place_behind(&self.keys, instant);
+        while end > 0 {
+            let key = self.keys[end - 1];
+            if key.instant != instant {
+                return false;
+            }
+            if key.seq == seq {
+                return true;
+            }
+            end -= 1;
+        }
+        false
+    }
+
+    pub fn take_first(&mut self) -> Option<Key>
+        ensures taken { self.old ≡ option_to_list result ++ self.new }
+        ensures none { IfNone result (self.old ≡ []) }
+    {
+        self.keys.pop_front()
+    }
+
+    /// Moves the upper half of the keys into a block that has none.
+    pub fn split(&mut self, upper: &mut Block)
+        requires full { length self.old ≡ 512 }
+        requires empty { upper.old ≡ [] }
+        ensures all { self.new ++ upper.new ≡ self.old }
+        ensures half { length self.new ≡ 256 }
+    {
+        move_behind(&mut self.keys, HALF, &mut upper.keys);
+    }
+}

@@ -1,0 +1,94 @@
+//! Blocks of sorted keys.
+
+ghost use Rattle.std.specs.Prelude.{◌≡◌, ◌+◌, ◌^◌, ◌<◌, ◌≤◌, [], insert, length, slice_index_or, IfOk, IfSome};
+ghost use Rattle.std.specs.List.{AllByRecursion};
+ghost use Rattle.std.specs.Option.{option_to_list};
+ghost use Rattle.std.specs.Vec.{vec_capacity, vec_len};
+ghost use Rattle.std.specs.VecDeque.{deque_capacity};
+ghost use Rattle.sorted_keys.specs.Keys.{put_key};
+ghost use Rattle.sorted_keys.specs.state.Keys.{AreBlocks, AreBlocksBut, AreTaken, IsBlockFor, all_keys};
+
+use crate::block::Block;
+use crate::key::Key;
+use avtp_base::NoMemory;
+use std::alloc::Global;
+use std::collections::VecDeque;
+
+/// The place of the block into which a key of an instant goes.
+pub fn block_for(blocks: &VecDeque<Block>, instant: i64) -> usize
+    requires { AreBlocks blocks.now.items }
+    ensures { IsBlockFor instant blocks.now.items result }
+{
+    blocks
+        .partition_point(|block| block.starts_by(instant))
+        .saturating_sub(1)
+}
+
+/// Puts a key into its block, and answers the place of the block, which may be full then.
+pub fn put_into(blocks: &mut VecDeque<Block>, key: Key) -> usize
+    requires { AreBlocks blocks.old.items }
+    ensures all { all_keys blocks.new.items ≡ put_key (all_keys blocks.old.items) key }
+    ensures blocks { AreBlocksBut result blocks.new.items }
+    ensures count { length blocks.new.items ≡ length blocks.old.items }
+    ensures capacity { deque_capacity blocks.new ≡ deque_capacity blocks.old }
+{
+    let place = block_for(blocks, key.instant);
+    blocks[place].put(key);
+    place
+}
+
+pub fn insert_block(blocks: &mut VecDeque<Block>, place: usize, block: Block)
+    requires place { place ≤ length blocks.old.items }
+    requires room { length blocks.old.items < deque_capacity blocks.old }
+    ensures items { blocks.new.items ≡ insert blocks.old.items place block }
+    ensures capacity { deque_capacity blocks.old ≤ deque_capacity blocks.new }
+{
+    let Ok(()) = blocks.insert(place, block) else {
+        unreachable!()
+    };
+}
+
+/// Splits a full block, into one that has no keys.
+pub fn split(blocks: &mut VecDeque<Block>, place: usize, mut upper: Block)
+    requires blocks { AreBlocksBut place blocks.old.items }
+    requires full { length (slice_index_or blocks.old.items place []) ≡ 512 }
+    requires empty { upper ≡ [] }
+    requires room { length blocks.old.items < deque_capacity blocks.old }
+    ensures all { all_keys blocks.new.items ≡ all_keys blocks.old.items }
+    ensures blocks { AreBlocks blocks.new.items }
+    ensures count { length blocks.new.items ≡ length blocks.old.items + 1 }
+    ensures capacity { deque_capacity blocks.old ≤ deque_capacity blocks.new }
+{
+    blocks[place].split(&mut upper);
+    insert_block(blocks, place + 1, upper);
+}
+
+/// Takes the first block, if it has no keys and others follow.
+pub fn take_empty(blocks: &mut VecDeque<Block>) -> Option<Block>
+    requires { AreTaken blocks.old.items }
+    ensures all { all_keys blocks.new.items ≡ all_keys blocks.old.items }
+    ensures blocks { AreBlocks blocks.new.items }
+    ensures empty { IfSome result (λ block. block ≡ []) }
+    ensures count { length blocks.new.items + length (option_to_list result) ≡ length blocks.old.items }
+    ensures capacity { deque_capacity blocks.new ≡ deque_capacity blocks.old }
+{
+    if blocks.len() > 1 && blocks[0].is_empty() {
+        blocks.pop_front()
+    } else {
+        None
+    }
+}
+
+/// Blocks with no keys, with room for one more.
+pub fn spare_blocks(alloc: Global, count: usize) -> Result<Vec<Block>, NoMemory>
+    requires { count < 2 ^ 32 }
+    ensures spare { IfOk result (λ spare. AllByRecursion (λ block. block ≡ []) spare.items) }
+    ensures count { IfOk result (λ spare. vec_len spare ≡ count) }
+    ensures capacity { IfOk result (λ spare. count + 1 ≤ vec_capacity spare) }
+{
+    let mut spare = Vec::with_capacity(alloc, count + 1)?;
+    for i in 0..count {
+        spare.push(Block::new(alloc)?)?;
+    }
+    Ok(spare)
+}

@@ -1,0 +1,9 @@
+//! Keys of what waits.
+
+/// The key of a batch: the instant of its first sample, its sequence number, and the slot in which it is kept.
+#[derive(Clone, Copy)]
+pub struct Key {
+    pub instant: i64,
+    pub seq: u8,
+    pub slot: usize,
+}

@@ -1,0 +1,102 @@
+//! Keys of what waits, sorted.
+
+ghost use Rattle.std.specs.Prelude.{◌≡◌, ◌<◌, ◌≤◌, ◌++◌, [], length, slice_get, IfNone, IfOk};
+ghost use Rattle.std.specs.List.{list_any};
+ghost use Rattle.std.specs.Option.{option_to_list};
+ghost use Rattle.sorted_keys.specs.Keys.{is_key, put_key};
+
+use crate::block::{Block, HALF};
+use crate::blocks::{block_for, insert_block, put_into, spare_blocks, split, take_empty};
+use crate::key::Key;
+use avtp_base::NoMemory;
+use std::alloc::Global;
+use std::collections::VecDeque;
+use std::marker::Model;
+
+/// Keys by instant, and then as they came. They are kept in blocks of fewer than 512, so that one that comes out of
+/// order moves few others.
+#[derive(Drop)]
+pub struct SortedKeys {
+    blocks: VecDeque<Block>,
+    /// Blocks with no keys.
+    spare: Vec<Block>,
+}
+
+impl Model for SortedKeys {
+    ghost use Rattle.std.specs.Prelude.{◌+◌, length, min, vec_capacity};
+    ghost use Rattle.std.specs.VecDeque.{deque_capacity};
+    ghost use Rattle.sorted_keys.specs.Keys.{KeyList};
+    ghost use Rattle.sorted_keys.specs.state.Keys.{HaveRoom, all_keys, room_of};
+
+    ghost Value = { KeyList };
+
+    ghost view = { λ keys. record { list = all_keys keys.blocks.items; room = room_of (length keys.blocks.items + length keys.spare.items) } };
+
+    ghost invariant = { λ keys. HaveRoom keys.blocks.items keys.spare.items (min (deque_capacity keys.blocks) (vec_capacity keys.spare)) };
+}
+
+impl SortedKeys {
+    /// No keys. Reserves the memory for this many.
+    pub fn with_room(alloc: Global, keys: u32) -> Result<Self, NoMemory>
+        ensures none { IfOk result (λ sorted. sorted.list ≡ []) }
+        ensures room { IfOk result (λ sorted. keys ≤ sorted.room) }
+    {
+        let count = (keys as usize).div_ceil(HALF);
+        let mut blocks = VecDeque::with_capacity(alloc, count + 1)?;
+        let spare = spare_blocks(alloc, count)?;
+        insert_block(&mut blocks, 0, Block::new(alloc)?);
+        Ok(SortedKeys { blocks, spare })
+    }
+
+    /// One of the keys has the instant and the sequence number.
+    pub fn has(&self, instant: i64, seq: u8) -> bool
+        ensures { result ≡ list_any (is_key instant seq) self.now.list }
+    {
+        let mut end = block_for(&self.blocks, instant) + 1;
+        while end > 0 {
+            let block = &self.blocks[end - 1];
+            if block.has(instant, seq) {
+                return true;
+            }
+            if block.starts_before(instant) {
+                return false;
+            }
+            end -= 1;
+        }
+        false
+    }
+
+    /// Puts a key after those that are not later. Takes no memory.
+    pub fn put(&mut self, key: Key)
+        requires { length self.old.list < self.old.room }
+        ensures list { self.new.list ≡ put_key self.old.list key }
+        ensures room { self.new.room ≡ self.old.room }
+    {
+        let place = put_into(&mut self.blocks, key);
+        if self.blocks[place].is_full() {
+            let Some(upper) = self.spare.pop() else {
+                unreachable!()
+            };
+            split(&mut self.blocks, place, upper);
+        }
+    }
+
+    pub fn first(&self) -> Option<Key>
+        ensures { result ≡ slice_get self.now.list 0 }
+    {
+        self.blocks[0].first()
+    }
+
+    /// Takes the first key.
+    pub fn take_first(&mut self) -> Option<Key>
+        ensures taken { self.old.list ≡ option_to_list result ++ self.new.list }
+        ensures none { IfNone result (self.old.list ≡ []) }
+        ensures room { self.new.room ≡ self.old.room }
+    {
+        let first = self.blocks[0].take_first();
+        if let Some(empty) = take_empty(&mut self.blocks) {
+            self.spare.push_reserved(empty);
+        }
+        first
+    }
+}
