@@ -44,7 +44,7 @@ fn device_of(asked: &Listen<'_>, n: u32) -> Option<DeviceWord>
     match (asked.raw, n) {
         (Some(raw), 0) => Some(DeviceWord::Raw {
             word: raw.file.place,
-            silence: silence(raw.silence),
+            silence: raw_silence(raw.silence),
         }),
         (Some(_), 1) | (None, 0) => annexb,
         _ => None,
@@ -52,7 +52,7 @@ fn device_of(asked: &Listen<'_>, n: u32) -> Option<DeviceWord>
 }
 
 /// What silence is made of, as a device has it.
-fn silence(asked: avtp_words::Silence) -> Silence
+pub fn raw_silence(asked: avtp_words::Silence) -> Silence
     ensures { result ≡ silence_as asked }
 {
     match asked {

@@ -20,6 +20,6 @@ mod status;
 mod talk;
 
 pub use command::run;
-pub use device_words::{DeviceWord, device_word};
+pub use device_words::{DeviceWord, device_word, raw_silence};
 pub use law::pcapng_reports;
 pub use status::Status;

@@ -1,6 +1,7 @@
 pub mod CallLemmas
 pub mod Carried
 pub mod Handed
+pub mod OneMore
 pub mod Outputs
 pub mod Silences
 pub mod Taken

@@ -1,6 +1,8 @@
 pub mod Devices
 pub mod MemoryDevice
 pub mod Handed
+pub mod Outlets
+pub mod OutputFiles
 pub mod Laws
 pub mod Output
 pub mod Racks

@@ -12,6 +12,8 @@ mod listen;
 #[cfg(test)]
 mod losses;
 #[cfg(test)]
+mod program;
+#[cfg(test)]
 mod recipe;
 #[cfg(test)]
 mod rings;

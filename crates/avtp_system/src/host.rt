@@ -1,0 +1,39 @@
+//! The system that a program is started on.
+
+use crate::system::System;
+use avtp_base::{FileSink, NoMemory};
+use avtp_tool::Status;
+use std::env;
+use std::io::ErrorKind;
+
+/// The system that the program was started on. It tells no arguments.
+#[derive(Drop)]
+pub struct Host {
+    pub rt: HostRuntime,
+}
+
+impl System<FileSink<HostRuntime>> for Host {
+    ghost use Rattle.std.specs.Prelude.{[], None};
+
+    ghost told = { λ host. None };
+
+    ghost path = { λ host file. [] };
+
+    fn words(&self) -> Result<Vec<String>, Status> {
+        let arguments = match env::args(&self.rt) {
+            Ok(arguments) => arguments,
+            Err(error) if error.kind() == ErrorKind::OutOfMemory => return Err(Status::Memory),
+            Err(_) => return Err(Status::Words),
+        };
+        arguments
+            .skip(1)
+            .collect(self.rt.alloc())
+            .map_err(|_| Status::Memory)
+    }
+
+    fn file(&self, name: &str, apart: Vec<String>) -> Result<FileSink<HostRuntime>, NoMemory> {
+        let name = String::from_str(self.rt.alloc(), name)?;
+        drop(apart);
+        Ok(FileSink::named(self.rt, name))
+    }
+}

@@ -1,0 +1,112 @@
+//! A program over any system.
+
+ghost use Rattle.std.specs.Prelude.{◌≡◌, IfOk, IfSome, IsSome};
+ghost use Rattle.avtp_words.specs.Grammar.{IsCommandLine, listen as listen_request, listening_of, named_file, named_raw, Request};
+ghost use Rattle.avtp_words.specs.Word.{texts};
+ghost use Rattle.avtp_system.specs.Program.{AreAsked, HasEnded, WritesRaw, WritesUnits};
+
+use crate::system::System;
+use avtp_base::{NoMemory, Shelf, Sink};
+use avtp_tool::{Status, raw_silence, run};
+use avtp_words::{Command, DeviceFile, Listen, RawFile, parse};
+use device_rack::{AnnexBDevice, OutputFiles, RawDevice};
+use presenter_ring::NoGate;
+use std::alloc::Global;
+use std::thread::Threads;
+
+/// Does what the arguments ask for, over these files and this text, and answers how that ended.
+pub fn run_over<T: Threads + Sync, S: Sink + Drop + Send, Y: System<S>, F: Shelf, O: Sink>(
+    threads: &T,
+    alloc: Global,
+    system: &Y,
+    shelf: &mut F,
+    out: &mut O,
+) -> Status
+    ensures { IfSome (Y.told system.now) (λ arguments. HasEnded (Y.path system.now) S.state arguments (shelf.new ≡ shelf.old) ((shelf.new ≡ shelf.old) × (out.new ≡ out.old))
+        (F.state shelf.old) (F.state shelf.new) (O.state out.old) (O.state out.new) result) }
+{
+    let words = match system.words() {
+        Ok(words) => words,
+        Err(status) => return status,
+    };
+    match outputs_for(alloc, system, &words) {
+        Ok(mut outputs) => run(threads, alloc, &words, shelf, out, &NoGate, &mut outputs),
+        Err(NoMemory) => Status::Memory,
+    }
+}
+
+/// The devices that the words ask for.
+fn outputs_for<S: Sink + Drop, Y: System<S>>(
+    alloc: Global,
+    system: &Y,
+    words: &[String],
+) -> Result<OutputFiles<S>, NoMemory>
+    ensures { IsSome (Y.told system.now) → IfOk result (λ outputs. (request : Request) → IsCommandLine (texts words.now) request → AreAsked (Y.path system.now) S.state request outputs) }
+{
+    let Ok(command) = parse(words) else {
+        return Ok(OutputFiles::over(None, None));
+    };
+    match command {
+        Command::Listen(asked) => outputs_of(alloc, system, &asked),
+        _ => Ok(OutputFiles::over(None, None)),
+    }
+}
+
+/// The devices that `listen` is asked for.
+fn outputs_of<S: Sink + Drop, Y: System<S>>(
+    alloc: Global,
+    system: &Y,
+    asked: &Listen<'_>,
+) -> Result<OutputFiles<S>, NoMemory>
+    ensures { IsSome (Y.told system.now) → IfOk result (λ outputs. AreAsked (Y.path system.now) S.state (listen_request (listening_of asked.now)) outputs) }
+{
+    let raw = match asked.raw {
+        Some(raw) => Some(raw_device(alloc, system, asked, raw)?),
+        None => None,
+    };
+    let units = match asked.annexb {
+        Some(file) => Some(units_device(alloc, system, asked, file)?),
+        None => None,
+    };
+    Ok(OutputFiles::over(raw, units))
+}
+
+fn raw_device<S: Sink + Drop, Y: System<S>>(
+    alloc: Global,
+    system: &Y,
+    asked: &Listen<'_>,
+    raw: RawFile<'_>,
+) -> Result<RawDevice<S>, NoMemory>
+    ensures { IsSome (Y.told system.now) → IfOk result (λ device. WritesRaw (Y.path system.now) S.state (named_raw raw.entry) device) }
+{
+    let file = system.file(raw.file.name, other_files(alloc, asked, raw.file.name)?)?;
+    Ok(RawDevice::over(file, raw_silence(raw.silence)))
+}
+
+fn units_device<S: Sink + Drop, Y: System<S>>(
+    alloc: Global,
+    system: &Y,
+    asked: &Listen<'_>,
+    units: DeviceFile<'_>,
+) -> Result<AnnexBDevice<S>, NoMemory>
+    ensures { IsSome (Y.told system.now) → IfOk result (λ device. WritesUnits (Y.path system.now) S.state (named_file units.entry) device) }
+{
+    let file = system.file(units.name, other_files(alloc, asked, units.name)?)?;
+    Ok(AnnexBDevice::over(file))
+}
+
+/// The files of `listen` beside the one of this name: its captures, and what its other device writes.
+fn other_files(alloc: Global, asked: &Listen<'_>, name: &str) -> Result<Vec<String>, NoMemory> {
+    let mut others = Vec::new(alloc);
+    for file in asked.files {
+        others.push(file.clone()?)?;
+    }
+    for device in [asked.raw.map(|raw| raw.file), asked.annexb] {
+        if let Some(file) = device
+            && file.name != name
+        {
+            others.push(String::from_str(alloc, file.name)?)?;
+        }
+    }
+    Ok(others)
+}

@@ -1,0 +1,82 @@
+//! The devices of a program: a file of raw samples and one of units, or one of these, or none.
+
+ghost use Rattle.std.specs.Prelude.{◌≡◌, ◌≤◌};
+ghost use Rattle.device_rack.specs.Outlets.{Both, IsHandedTo, failed_in};
+ghost use Rattle.device_rack.specs.OutputFiles.{AreLive};
+
+use crate::annex_b::AnnexBDevice;
+use crate::device::Device;
+use crate::devices::Devices;
+use crate::outlet::Outlet;
+use crate::raw::RawDevice;
+use avtp_base::Sink;
+use sample_schedule::Shown;
+
+/// At most one device of each kind that writes a file.
+#[derive(Drop)]
+pub struct OutputFiles<S> {
+    raw: Option<Outlet<RawDevice<S>>>,
+    units: Option<Outlet<AnnexBDevice<S>>>,
+}
+
+impl<S: Sink + Drop> OutputFiles<S> {
+    ghost use Rattle.device_rack.specs.OutputFiles.{AreLive, raw_outlet, units_outlet};
+
+    /// These devices, which are live.
+    pub fn over(raw: Option<RawDevice<S>>, units: Option<AnnexBDevice<S>>) -> Self
+        ensures raw { AreLive raw (raw_outlet result) }
+        ensures units { AreLive units (units_outlet result) }
+    {
+        OutputFiles {
+            raw: live(raw),
+            units: live(units),
+        }
+    }
+}
+
+impl<S: Sink + Drop> Devices for OutputFiles<S> {
+    ghost use Rattle.device_rack.specs.OutputFiles.{AreOutput, failures_of};
+
+    ghost handed = { λ begun now items. AreOutput S.state items begun now };
+
+    ghost failures = { λ outputs. failures_of outputs };
+
+    fn hand_on(&mut self, shown: &Shown) {
+        hand(&mut self.raw, shown);
+        hand(&mut self.units, shown);
+    }
+
+    fn count_failed(&self) -> u32 {
+        count(&self.raw) + count(&self.units)
+    }
+}
+
+/// The device, live, if there is one.
+fn live<D: Device>(device: Option<D>) -> Option<Outlet<D>>
+    ensures { AreLive device result }
+{
+    match device {
+        Some(device) => Some(Outlet::over(device)),
+        None => None,
+    }
+}
+
+/// Hands an item to the device, if there is one that is live.
+fn hand<D: Device>(outlet: &mut Option<Outlet<D>>, shown: &Shown)
+    ensures { Both (IsHandedTo D.took D.faults D.failing shown.now) outlet.old outlet.new }
+{
+    if let Some(outlet) = outlet {
+        outlet.hand(shown);
+    }
+}
+
+/// 1 for a device that has failed.
+fn count<D: Device>(outlet: &Option<Outlet<D>>) -> u32
+    ensures count { result ≡ failed_in outlet.now }
+    ensures most { result ≤ 1 }
+{
+    match outlet {
+        Some(outlet) if !outlet.is_live() => 1,
+        _ => 0,
+    }
+}
