@@ -2,7 +2,7 @@
 
 use avtp_header::StreamHeader;
 
-/// How a sample is spelled, highest byte first.
+/// The format of a sample; its highest byte comes first.
 #[derive(Clone, Copy, Debug, PartialEq, Eq)]
 pub enum AafFormat {
     Float32,
@@ -16,15 +16,15 @@ pub enum AafFormat {
 pub struct AafView<'a> {
     pub header: StreamHeader,
     pub format: AafFormat,
-    /// The code of the nominal sample rate, 0 to 10; 0 is a rate that the user knows.
+    /// The code of the nominal sample rate (nsr), 0 to 10; 0 means user-specified.
     pub nsr: u8,
     /// The channels of each sample frame, 1 to 1023.
     pub channels: u16,
     /// The bits of a sample that are used; 0 means all.
     pub depth: u8,
-    /// The talker stamps one packet in eight.
+    /// Sparse timestamp mode: one packet in eight has a timestamp.
     pub sparse: bool,
-    /// The event field, 0 to 15, of the upper layer.
+    /// The event field (evt), 0 to 15, whose meaning the upper layer defines.
     pub evt: u8,
     /// The number of sample frames.
     pub count: u32,

@@ -11,12 +11,12 @@ pub fn one_packet()
     ensures { (bytes : List ℕ) → IsSpelledOnce (aaf_refusal bytes) (λ (v : Aaf). SpellsAaf bytes v) }
 {}
 
-/// The spelling of a packet spells it with every reserved bit 0, whatever follows.
+/// The bytes written for a packet spell that packet with every reserved bit 0, whatever follows them.
 pub fn packet_again()
     ensures { (v : Aaf) (trail : List ℕ) → IsWritableAaf v → Fits aaf_layout v → SpellsAaf (aaf_spelling v ++ trail) (plain_aaf v) }
 {}
 
-/// Bytes that spell a packet with no reserved bit set, and nothing after it, are its spelling.
+/// Bytes that spell a packet with no reserved bit set, and nothing after it, are the bytes written for it.
 pub fn one_spelling()
     ensures { (bytes : List ℕ) (v : Aaf) → AreBytes bytes → SpellsAaf bytes v → v.reserved ≡ false
         → length bytes ≡ 24 + v.header.data_length → bytes ≡ aaf_spelling v }

@@ -1,4 +1,4 @@
-//! PCM packets are read.
+//! Reads PCM packets.
 
 ghost use Rattle.std.specs.Prelude.{◌≡◌, ◌+◌, ◌*◌, ◌≤◌, ◌<◌, ◌==◌, length, Option, Some, None, IfOk, IsOkAnd};
 ghost use Rattle.avtp_base.specs.Octets.{bits, is_set};
@@ -12,8 +12,8 @@ use avtp_base::rows::refused;
 use avtp_base::{Field, Refusal};
 use avtp_header::{StreamHeader, exceeds, read_header_of, subtype};
 
-/// The sample rate in Hz that the code of a nominal sample rate names. `None` comes for 0, a rate that the user knows,
-/// and for codes above 10, which are reserved.
+/// The sample rate in Hz of a nominal sample rate code. `None` for 0, which means user-specified, and for codes above
+/// 10, which are reserved.
 pub fn rate_of(nsr: u8) -> Option<u32>
     ensures { result ≡ rate_of_code nsr }
 {
@@ -127,10 +127,10 @@ fn read_packet(pdu: &[u8]) -> Result<AafView<'_>, Refusal>
 
 /// Reads a PCM packet.
 ///
-/// Refused is the first of these, in this order: a field of the stream header that does not lie wholly in the slice; a
-/// subtype other than AAF; a version other than 0; a format that is not PCM; a reserved code of the sample rate; no
-/// channels; a bit depth of more than a sample's width; a stated length of more than what follows the header; one that
-/// is no multiple of a sample frame. Reserved bits may be set, and what follows the stated length is ignored.
+/// Refuses the first of these that applies, in this order: a field of the stream header that the slice cuts off; a
+/// subtype other than AAF; a version other than 0; a format that is not PCM; a reserved sample rate code; 0 channels; a
+/// bit depth above the width of a sample; a stated length beyond the end of the slice; one that is no multiple of a
+/// sample frame. Accepts set reserved bits, and ignores what follows the stated length.
 #[inline(always)]
 pub fn read_aaf(pdu: &[u8]) -> Result<AafView<'_>, Refusal>
     ensures exact { Reads aaf_shape (aaf_refusal pdu.now) (aaf_of pdu.now) result }

@@ -1,4 +1,4 @@
-//! PCM packets are written.
+//! Writes PCM packets.
 
 ghost use Rattle.std.specs.Prelude.{◌≡◌, ◌+◌, ◌*◌, ◌^◌, ◌≤◌, ◌<◌, ◌++◌, List, ℕ, take, IfOk};
 ghost use Rattle.avtp_base.specs.Octets.{flag};
@@ -39,11 +39,11 @@ fn format_flags(view: &AafView<'_>) -> u16
     u16::from(view.sparse) << 12 | u16::from(view.evt) << 8
 }
 
-/// Writes a PCM packet, with every reserved bit 0, and answers its length. If the slice is shorter it answers `Room`
+/// Writes a PCM packet, with every reserved bit 0, and returns its length. If the slice is shorter, it returns `Room`
 /// and leaves the slice unchanged.
 ///
-/// The view is one that `read_aaf` could give: its subtype is AAF, its rate code at most 10, its channels 1 to 1023,
-/// its depth at most a sample's width, its event field at most 15, and `count` and `data_length` are those of the
+/// The view must be one that `read_aaf` could return: its subtype is AAF, its rate code at most 10, its channels 1 to
+/// 1023, its depth at most a sample's width, its event field at most 15, and `count` and `data_length` are those of the
 /// payload. The header's format bits and `reserved` are not read.
 pub fn write_aaf(out: &mut [u8], view: &AafView<'_>) -> Result<usize, Room>
     requires { IsWritableAaf (aaf_shape view.now) }

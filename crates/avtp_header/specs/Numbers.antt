@@ -1,4 +1,4 @@
--- The numbers by which frames and packets say what they are.
+-- The numbers that identify AVTP frames and the formats of AVTP packets.
 use Rattle.std.specs.Prelude.{ℕ}
 
 -- the EtherType of AVTP (IEEE 1722-2016, 4.2)

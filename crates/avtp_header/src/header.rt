@@ -22,7 +22,7 @@ pub struct StreamHeader {
     pub sv: bool,
     /// The media clock restart: it toggles when the source of the media clock changes.
     pub mr: bool,
-    /// The two bits that each format gives a meaning of its own, 0 to 3.
+    /// The two bits whose meaning each format defines, 0 to 3.
     pub format_bits: u8,
     /// The timestamp is valid.
     pub tv: bool,

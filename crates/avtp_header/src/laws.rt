@@ -12,13 +12,13 @@ pub fn one_header()
     ensures { (bytes : List ℕ) → IsSpelledOnce (header_refusal bytes) (λ (h : StreamHeader). SpellsHeader bytes h) }
 {}
 
-/// The spelling of a header spells it, whatever follows.
+/// The bytes written for a header spell that header, whatever follows them.
 pub fn header_again()
     ensures { (h : StreamHeader) (trail : List ℕ) → Fits header_layout h → SpellsHeader (spelling header_layout h ++ trail) h }
 {}
 
-/// Bytes that begin with a header, and have zeros in the bits that belong to each format, begin with the header's
-/// spelling.
+/// Bytes that begin with a header, with zeros in the bits that each format defines, begin with the bytes written for
+/// that header.
 pub fn one_spelling()
     ensures { (bytes : List ℕ) (h : StreamHeader) → AreBytes bytes → SpellsHeader bytes h → 24 ≤ length bytes
         → any_set (reserved_ranges header_layout) bytes ≡ false → bytes ≡ spelling header_layout h ++ drop 24 bytes }

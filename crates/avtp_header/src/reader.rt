@@ -1,4 +1,4 @@
-//! Stream headers are read.
+//! Reads stream headers.
 
 ghost use Rattle.std.specs.Prelude.{◌≡◌, ◌↔◌, ◌+◌, ◌≤◌, ◌<◌, ◌∷◌, [], length, not, ◌==◌, IsSome, IsNone, IfOk, IfSome, IsOkAnd};
 ghost use Rattle.avtp_base.specs.declared.field.Field.TheVariants.{Subtype};
@@ -60,7 +60,7 @@ fn fields(pdu: &[u8]) -> StreamHeader
     }
 }
 
-/// A stated length is more than what a packet of `len` bytes holds after its header.
+/// Whether a stated length is more than a packet of `len` bytes holds after its header.
 pub fn exceeds(header: usize, stated: u16, len: usize) -> bool
     requires { header ≤ len }
     ensures { result ≡ is_exceeded header stated len }
@@ -68,8 +68,8 @@ pub fn exceeds(header: usize, stated: u16, len: usize) -> bool
     usize::from(stated) > len - header
 }
 
-/// Reads a stream header, of any subtype. Refused are, in this order, the first field that does not lie wholly in the
-/// slice, and a version other than 0.
+/// Reads a stream header of any subtype. Refuses the first field that the slice cuts off, and otherwise a version other
+/// than 0.
 #[inline(always)]
 pub fn read_stream_header(pdu: &[u8]) -> Result<StreamHeader, Refusal>
     ensures exact { Reads (λ h. h) (header_refusal pdu.now) (header_of pdu.now) result }
@@ -92,8 +92,8 @@ fn read_any(pdu: &[u8]) -> Result<StreamHeader, Refusal>
     Ok(fields(pdu))
 }
 
-/// Reads the stream header of a packet of one format: as `read_stream_header`, and a subtype that is not the format's
-/// is refused before the version.
+/// Like `read_stream_header`, for packets of one format: also refuses any other subtype, before it looks at the
+/// version.
 #[inline(always)]
 pub fn read_header_of(subtype: u8, pdu: &[u8]) -> Result<StreamHeader, Refusal>
     ensures { Reads (λ h. h) (kind_refusal subtype pdu.now) (header_of pdu.now) result }
@@ -110,7 +110,7 @@ pub fn read_header_of(subtype: u8, pdu: &[u8]) -> Result<StreamHeader, Refusal>
     Ok(fields(pdu))
 }
 
-/// The first fields of a packet, and `None` if it has fewer than the 12 bytes that hold them.
+/// The first fields of a packet, or `None` if it has fewer than the 12 bytes that hold them.
 pub fn peek(pdu: &[u8]) -> Option<Peeked>
     ensures none { IsNone result ↔ (length pdu.now < 12) }
     ensures fields { IfSome result (λ peeked. peeked ≡ peeked_of pdu.now) }

@@ -1,4 +1,4 @@
-//! Stream headers are written.
+//! Writes stream headers.
 
 ghost use Rattle.std.specs.Prelude.{◌≡◌, ◌≤◌, ◌<◌, ◌++◌, ◌∷◌, List, ℕ, [], take, IfOk};
 ghost use Rattle.avtp_base.specs.Layout.{Fits, spelling};
@@ -10,7 +10,7 @@ use crate::header::StreamHeader;
 use avtp_base::Room;
 use avtp_base::octets::write_front;
 
-/// The 24 bytes of a header, with what a format puts into its own bits.
+/// The 24 bytes of a header, with a format's own bits filled in.
 pub fn header_bytes(
     header: &StreamHeader,
     format_bits: u8,
@@ -58,8 +58,8 @@ pub fn header_bytes(
     ]
 }
 
-/// Writes a stream header, with zeros in the bits that are left to each format, and answers its 24 bytes. If the slice
-/// is shorter it answers `Room` and leaves the slice unchanged. The format bits are 0 to 3.
+/// Writes a stream header, with zeros in the bits that each format defines, and returns its length, 24. If the slice is
+/// shorter, it returns `Room` and leaves the slice unchanged. The format bits are 0 to 3.
 pub fn write_stream_header(out: &mut [u8], header: &StreamHeader) -> Result<usize, Room>
     requires { header.now.format_bits ≤ 3 }
     ensures written { Writes (spelling header_layout header.now) out.old out.new result }

@@ -9,8 +9,8 @@ use Rattle.cvf_format.specs.Cvf.{Cvf}
 use Rattle.iec61883_format.specs.Iec.{Iec, anchor_index, syt_interval}
 use Rattle.avtp_packet.specs.Packet.{AnyPacket, OfAaf, OfCrf, OfH264, OfIec, OfOther}
 
--- A packet with `count` samples is stamped and must not be, or is not stamped and must be. A packet of no samples may
--- do either.
+-- A packet with `count` samples has a timestamp that it must not have, or lacks one that it must have. A packet of no
+-- samples may do either.
 abbrev pub is_off : ℕ → Bool → Bool → Bool
 is_off count stamped must = nat_lt 0 count && not (beq stamped must)
 
@@ -18,17 +18,18 @@ is_off count stamped must = nat_lt 0 count && not (beq stamped must)
 abbrev pub must_stamp_aaf : Aaf → Bool
 must_stamp_aaf v = if v.sparse then v.header.seq % 8 == 0 else true
 
--- a PCM packet is stamped and must not be, or is not stamped and must be
+-- a PCM packet has a timestamp that it must not have, or lacks one that it must have
 abbrev pub aaf_is_off : Aaf → Bool
 aaf_is_off v = is_off v.count v.header.tv (must_stamp_aaf v)
 
--- An AM824 packet with this SYT_INTERVAL is stamped and must not be, or is not stamped and must be: it must if it has
--- the data block to which a timestamp belongs. A packet of no data has no interval and no block, and may do either.
+-- An AM824 packet with this SYT_INTERVAL has a timestamp that it must not have, or lacks one that it must have: it must
+-- have one if it has the data block to which a timestamp belongs. A packet of no data has no interval and no block, and
+-- may do either.
 abbrev pub iec_is_off_by : Option ℕ → Iec → Bool
 iec_is_off_by None v = false
 iec_is_off_by (Some interval) v = is_off v.count v.header.tv (nat_lt (anchor_index v.cip.dbc interval) v.count)
 
--- an AM824 packet is stamped and must not be, or is not stamped and must be
+-- an AM824 packet has a timestamp that it must not have, or lacks one that it must have
 abbrev pub iec_is_off : Iec → Bool
 iec_is_off v = iec_is_off_by (syt_interval v.cip.fdf) v
 
@@ -39,11 +40,12 @@ ends_unit First = false
 ends_unit Middle = false
 ends_unit Last = true
 
--- an H.264 packet ends a NAL unit and is not stamped, which it must be; other packets may be stamped or not
+-- an H.264 packet ends a NAL unit and lacks a timestamp, which it must have; other packets may have one or not
 abbrev pub h264_is_off : Cvf → Bool
 h264_is_off v = ends_unit v.part && not v.header.tv
 
--- a packet is stamped and must not be, or is not stamped and must be; there is no rule for a clock reference packet
+-- a packet has a timestamp that it must not have, or lacks one that it must have; there is no rule for a clock
+-- reference packet
 abbrev pub stamp_is_off : AnyPacket → Bool
 stamp_is_off (OfIec v) = iec_is_off v
 stamp_is_off (OfAaf v) = aaf_is_off v

@@ -26,14 +26,14 @@ pub enum Packet<'a> {
     H264(CvfView<'a>),
     /// Timestamps of a media clock (IEEE 1722-2016, 10).
     Crf(CrfView<'a>),
-    /// A packet of another subtype, which is this.
+    /// A packet of another subtype: this one.
     Other(u8),
 }
 
 /// Reads a packet by the format that its subtype names.
 ///
-/// It is refused by `subtype`, short, exactly if it has no byte, and otherwise exactly as its format refuses it. A
-/// packet of another subtype is never refused. A clock reference packet has at least one timestamp.
+/// An empty slice is refused by `subtype`, short. Any other slice is refused exactly if its format refuses it. A packet
+/// of another subtype is never refused. A clock reference packet has at least one timestamp.
 #[inline(always)]
 pub fn read_packet(pdu: &[u8]) -> Result<Packet<'_>, Refusal>
     ensures exact { Reads packet_shape (packet_refusal pdu.now) (packet_of pdu.now) result }

@@ -53,7 +53,8 @@ pub fn stream_of(packet: &Packet<'_>) -> Option<PacketStream>
     })
 }
 
-/// A reserved bit of the packet is set. Those of packets of another format are not known, and count as not set.
+/// Whether a reserved bit of the packet is set. `false` for packets of another format, whose reserved bits are not
+/// known.
 pub fn reserved(packet: &Packet<'_>) -> bool
     ensures { result ≡ has_reserved (packet_shape packet.now) }
 {

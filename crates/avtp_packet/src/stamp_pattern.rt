@@ -37,7 +37,7 @@ fn h264_is_off(view: &CvfView<'_>) -> bool
     matches!(view.part, NalPart::Single | NalPart::Last) && !view.header.tv
 }
 
-/// The packet has a timestamp and its format wants none, or has none and its format wants one.
+/// Whether the packet has a timestamp that its format does not want, or lacks one that it wants.
 ///
 /// PCM must be stamped in every packet, sparse PCM in exactly those whose sequence number is a multiple of 8, and AM824
 /// in exactly those that have a data block whose block count is a multiple of SYT_INTERVAL; packets without samples may

@@ -1,4 +1,4 @@
--- The grammar of the command line, and the first word that leaves it.
+-- The grammar of the command line, and the first word that breaks it.
 use Rattle.std.specs.Prelude.{◌≡◌, ◌≢◌, ℕ, ℤ, pos, ◌+◌, ◌*◌, ◌/◌, ◌%◌, ◌≤◌, ◌↔◌, ⊤, All, Bool, IsTrue, Contains, List, [], ◌∷◌, ◌++◌, drop, flat_map, length, codes, Option, None, Some, IsSomeAnd, IfSome, option_map, slice_get}
 use Rattle.std.specs.List.{find}
 use Rattle.std.specs.Str.{bytes_eq}
@@ -313,7 +313,7 @@ SaysKind words settings (Aaf format sparse) = SaysAaf words settings format spar
 SaysKind words settings Am824 = value_in (codes "--kind") settings ≡ Some (codes "am824")
 SaysKind words settings (H264 last_stamp) = SaysVideo words settings last_stamp
 
--- Words ask for this media clock beside a stream of `rate` sample frames a second. Its base frequency is the stream's
+-- Words ask for this media clock with a stream of `rate` sample frames a second. Its base frequency is the stream's
 -- rate if no other is given.
 pub record SaysCrf (settings : List Setting) (rate : ℕ) (crf : Crf) : Type 0 where
   pub id : IsGivenIdIf (codes "--crf") settings (Some crf.id)
@@ -411,34 +411,34 @@ lacking (H264 last_stamp) =
     codes "--crf-rate" ∷
     codes "--crf-pull" ∷ []
 
--- the options that say more of a restart
+-- the options of `talk` that need `--restart`
 abbrev pub of_restart : List (List ℕ)
 of_restart = codes "--jump" ∷ []
 
--- the options that say more of a media clock
+-- the options of `talk` that need `--crf`
 abbrev pub of_clock : List (List ℕ)
 of_clock = codes "--crf-interval" ∷ codes "--crf-points" ∷ codes "--crf-rate" ∷ codes "--crf-pull" ∷ []
 
--- Of the options of `talk` the words have none that the kind lacks, and none without the one that it needs.
+-- Each option of `talk` among the words is one that the kind has, and comes with the option that it needs.
 pub record FitsOptions (kind : Kind) (words : List (List ℕ)) : Type 0 where
   pub kind_has : Lacks words (lacking kind)
   pub restart : Need words (codes "--restart") of_restart
   pub clock : Need words (codes "--crf") of_clock
 
--- What several of the words after `talk` together must keep: the file written is another than the one read, the stream
--- fits its kind and its clock the stream, and the options fit one another.
+-- The rules over several words after `talk`: the file written differs from the one read, the stream fits its kind, the
+-- clock fits the stream, and the options fit one another.
 pub record KeepsRules (words : List (List ℕ)) (asked : Talking) : Type 0 where
   pub apart : asked.input ≢ asked.output
   pub fits : FitsKind asked.kind asked
   pub clock : FitsClock asked.crf asked.rate asked.count asked.restart
   pub options : FitsOptions asked.kind words
 
--- the options that say more of raw audio
+-- the options of `listen` that need `--raw`
 abbrev pub of_raw : List (List ℕ)
 of_raw = codes "--silence" ∷ []
 
--- What several of the words after `listen` together must keep: what silence is made of is said of raw audio alone, and each
--- file that is written has another name than each that is read, and than the other.
+-- The rules over several words after `listen`: `--silence` needs raw audio, and each file that is written has a
+-- different name from each that is read, and from the other.
 pub record KeepsNames (words : List (List ℕ)) (asked : Listening) : Type 0 where
   pub silence : Need words (codes "--raw") of_raw
   pub new_raw : IfSome asked.raw (λ raw. Contains asked.files raw.file.name → ⊥)
@@ -463,7 +463,7 @@ pub record IsLine (words : List (List ℕ)) : Type 0 where
   pub names : List (List ℕ)
   pub line : IsOf form words settings names
 
--- the words begin a line of L: some may follow that make them one
+-- the words begin a line of L: with some words after them they are one
 pub record Begins (L : List (List ℕ) → Type 0) (words : List (List ℕ)) : Type 0 where
   pub more : List (List ℕ)
   pub whole : L (words ++ more)
@@ -484,8 +484,8 @@ pub record StopsAt (L : List (List ℕ) → Type 0) (words : List (List ℕ)) (p
 
 -- The position of what is wrong with the words, from 1.
 pub data IsOffence (words : List (List ℕ)) (position : ℕ) : Type 0 where
-  -- That of the first word that is wrong: the words before it begin a line, and with it they begin none. If a
-  -- word is missing it is one past the last.
+  -- The position of the first wrong word: the words before it begin a line, and with it they begin none. If a word is
+  -- missing, the position is one past the last word.
   of_a_word : (place : ℕ) → position ≡ place + 1 → StopsAt IsLine words place → IsOffence words position
-  -- That of the command: no word is wrong by itself, and a rule over several of them fails.
+  -- The position of the command: no word is wrong by itself, but a rule over several words fails.
   of_a_rule : position ≡ 1 → IsLine words → ((request : Request) → IsCommandLine words request → ⊥) → IsOffence words position

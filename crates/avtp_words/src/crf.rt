@@ -1,4 +1,4 @@
-//! The media clock that `talk` sends beside a stream.
+//! The media clock that `talk` sends with a stream.
 
 ghost use Rattle.std.specs.Prelude.{◌≡◌, ◌*◌, ◌/◌, ◌%◌, ◌≤◌, ◌<◌, ◌↔◌, ◌^◌, IsTrue};
 ghost use Rattle.clock_track.specs.Pairs.{pull_down as pull_down_of, pull_up as pull_up_of};
@@ -13,8 +13,8 @@ use crate::limits::{
 use crate::value::{byte_after, id_if, short_number_after, small_number_after};
 use clock_track::{pull_down, pull_up};
 
-/// A media clock beside a stream (IEEE 1722-2016, 10). Its points are at whole sample frames of the stream, and if the
-/// stream restarts, each run of it is a multiple of 8 whole packets of the clock.
+/// A media clock that is sent with a stream (IEEE 1722-2016, 10). Its points are at whole sample frames of the stream,
+/// and if the stream restarts, each run of it is a multiple of 8 whole packets of the clock.
 #[derive(Clone, Copy, Debug, PartialEq, Eq)]
 pub struct Crf {
     /// The stream ID of the clock.
@@ -29,7 +29,7 @@ pub struct Crf {
     pub points: u8,
 }
 
-/// The clock that options ask for beside a stream of `rate` sample frames a second.
+/// The clock that the options ask for, with a stream of `rate` sample frames a second.
 pub fn crf_after(options: &[String], rate: u32) -> Option<Crf>
     ensures { IsReadClock (texts options.now) rate result }
 {

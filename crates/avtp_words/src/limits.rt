@@ -87,7 +87,7 @@ pub const RING: OptionRow = OptionRow {
 
 pub const RING_DEFAULT: u32 = 64;
 
-/// The file that the samples that are presented are written to as raw audio. If it is not given, they are not.
+/// The file to which presented samples are written as raw audio. If it is not given, they are not written.
 pub const RAW: OptionRow = OptionRow {
     name: "--raw",
     takes: Takes::Name,
@@ -99,10 +99,10 @@ pub const SILENCE: OptionRow = OptionRow {
     takes: Takes::Silence,
 };
 
-/// The options that say more of raw audio.
+/// The options that need `--raw`.
 pub const RAW_OPTIONS: [OptionRow; 1] = [SILENCE];
 
-/// The file that the units of H.264 are written to as a byte stream. If it is not given, they are not.
+/// The file to which presented H.264 units are written as a byte stream. If it is not given, they are not written.
 pub const ANNEXB: OptionRow = OptionRow {
     name: "--annexb",
     takes: Takes::Name,
@@ -169,7 +169,7 @@ pub const H264_LACKS: [OptionRow; 11] = [
     CRF_PULL,
 ];
 
-/// The options that say more of a restart, and of a media clock.
+/// The options that need `--restart`, and those that need `--crf`.
 pub const RESTART_OPTIONS: [OptionRow; 1] = [JUMP];
 
 pub const CLOCK_OPTIONS: [OptionRow; 4] = [CRF_INTERVAL, CRF_POINTS, CRF_RATE, CRF_PULL];
@@ -254,7 +254,7 @@ pub const LAST_STAMP: OptionRow = OptionRow {
     takes: Takes::Nothing,
 };
 
-/// The packets after which the media clock restarts, again and again. If it is not given, there is no restart.
+/// The number of packets from one media clock restart to the next. If it is not given, there is no restart.
 pub const RESTART: OptionRow = OptionRow {
     name: "--restart",
     takes: Takes::Number {
@@ -274,7 +274,7 @@ pub const JUMP: OptionRow = OptionRow {
 
 pub const JUMP_DEFAULT: u32 = 1_000_000;
 
-/// The stream ID of the media clock that is sent beside the stream. If it is not given, no clock is sent.
+/// The stream ID of the media clock that is sent with the stream. If it is not given, no clock is sent.
 pub const CRF: OptionRow = OptionRow {
     name: "--crf",
     takes: Takes::Id,

@@ -38,9 +38,9 @@ pub struct Listen<'a> {
     pub shift: i64,
     /// How many items the queue holds between the thread that judges and the one that presents, 1 to 256.
     pub ring: u32,
-    /// The file that the samples that are presented are written to as raw audio, if one is asked for.
+    /// The file to which presented samples are written as raw audio, if one is asked for.
     pub raw: Option<RawFile<'a>>,
-    /// The file that the units of H.264 are written to as a byte stream, if one is asked for.
+    /// The file to which presented H.264 units are written as a byte stream, if one is asked for.
     pub annexb: Option<DeviceFile<'a>>,
     /// The names of the captures, in order, at least one.
     pub files: &'a [String],
@@ -62,7 +62,7 @@ pub fn read_listen(words: &[String]) -> Result<Command<'_>, Offence>
     }
 }
 
-/// What the words after `listen` say one by one.
+/// What the words after `listen` ask for, each by itself.
 fn read_words(words: &[String]) -> Result<Listen<'_>, Offence>
     ensures ok { IfOk result (λ asked. SaysListen (codes "listen" ∷ texts words.now) (listening_of asked)) }
     ensures err { IfErr result (λ offence. IsOffence (codes "listen" ∷ texts words.now) offence.position) }
@@ -77,7 +77,7 @@ fn read_words(words: &[String]) -> Result<Listen<'_>, Offence>
     Ok(read_options(&words[..place], stream, &words[place + 1..]))
 }
 
-/// What the options of `listen` give, each by itself.
+/// The values of the options of `listen`, each by itself.
 fn read_options<'a>(options: &'a [String], stream: u64, files: &'a [String]) -> Listen<'a>
     ensures stream { result.stream ≡ stream }
     ensures files { result.files.now ≡ files.now }
@@ -100,7 +100,7 @@ fn read_options<'a>(options: &'a [String], stream: u64, files: &'a [String]) -> 
 }
 
 impl<'a> Listen<'a> {
-    /// Whether the words after `listen`, which ask for this, keep the rules over several of them.
+    /// Whether the words after `listen`, which ask for this, keep the rules over several words.
     fn keeps_names(&self, words: &[String]) -> bool
         ensures { IsTrue result ↔ KeepsNames (texts words.now) (listening_of self.now) }
     {

@@ -18,7 +18,7 @@ use crate::value::format_of;
 pub enum Takes {
     /// A number, from the first to the second.
     Number { low: u64, high: u64 },
-    /// A number that may be below 0, at most so far from it.
+    /// A number that may be negative, at most this far from 0.
     Signed { most: u32 },
     /// A stream id.
     Id,
@@ -67,7 +67,7 @@ pub struct OptionRow {
     pub takes: Takes,
 }
 
-/// Whether a word begins as an option does, and as no name does.
+/// Whether a word begins with a dash, as options do and names do not.
 pub fn begins_with_dash(word: &str) -> bool
     ensures { IsTrue result ↔ BeginsWithDash word.now }
 {
@@ -132,8 +132,8 @@ pub fn have_needed(words: &[String], needed: &str, options: &[OptionRow]) -> boo
     contains(words, needed) || lacks(words, options)
 }
 
-/// How many words from a place on are the value of an option: 0 if it takes no value, else 1. None comes if there is no
-/// value there.
+/// How many words at a place are the value of an option: 0 if it takes no value, else 1. `None` if the word there is no
+/// such value.
 fn value_len(words: &[String], place: usize, takes: Takes) -> Option<usize>
     ensures some { IfSome result (IsTakenAt takes (texts words.now) place) }
     ensures none { IfNone result (LacksValue takes (texts words.now) place) }

@@ -30,8 +30,8 @@ use iec61883_format::{rate_of_fdf, syt_interval};
 /// What a stream is made of.
 #[derive(Clone, Copy, Debug, PartialEq, Eq)]
 pub enum Kind {
-    /// PCM in the AVTP audio format (IEEE 1722-2016, 7). The format says how a sample is spelled, in the input and in
-    /// the packets; in a sparse stream one packet in eight is stamped, and not each.
+    /// PCM in the AVTP audio format (IEEE 1722-2016, 7). The format is that of the samples in the input and in the
+    /// packets; in a sparse stream only one packet in eight has a timestamp.
     Aaf { format: AafFormat, sparse: bool },
     /// AM824 (IEC 61883-6): the input is quadlets as they are sent.
     Am824,
@@ -47,10 +47,10 @@ pub struct Talk<'a> {
     pub kind: Kind,
     /// The sample rate in Hz, one of those that the kind names; of H.264 the access units in a second, 1 to 240.
     pub rate: u32,
-    /// The channels of each sample frame, 1 to 1023, of AM824 at most 256. In H.264 they have no meaning, nor has the count.
+    /// The channels of each sample frame, 1 to 1023, of AM824 at most 256. H.264 uses neither this nor the count.
     pub channels: u16,
-    /// The sample frames of a packet, or data blocks of AM824: at least 1, of AM824 at least an eighth of SYT_INTERVAL,
-    /// and of at most 1,476 bytes together, of AM824 of at most 1,468.
+    /// The sample frames of a packet, or its data blocks for AM824. At least 1, with at most 1,476 bytes together; for
+    /// AM824 at least an eighth of SYT_INTERVAL, with at most 1,468 bytes.
     pub count: u32,
     /// The stream ID.
     pub id: u64,
@@ -59,11 +59,11 @@ pub struct Talk<'a> {
     /// The max transit time, in nanoseconds, 1 to 1,000,000,000: how long before its first presentation time a packet
     /// is sent.
     pub lead: u32,
-    /// The packets after which the media clock restarts, again and again, 8 to 1,000,000,000.
+    /// The number of packets from one media clock restart to the next, 8 to 1,000,000,000.
     pub restart: Option<u32>,
     /// How far each restart sets presentation times forward, in nanoseconds, 4 to 1,000,000,000.
     pub jump: u32,
-    /// The media clock that is sent beside the stream, if one is asked for.
+    /// The media clock that is sent with the stream, if one is asked for.
     pub crf: Option<Crf>,
     /// The file of raw samples, or of an H.264 byte stream.
     pub input: &'a str,
@@ -76,9 +76,9 @@ const TALK_OPERANDS: [Operand; 2] = [Operand::Name, Operand::Name];
 /// The codes that name a nominal sample rate.
 const RATE_CODES: [u8; 10] = [1, 2, 3, 4, 5, 6, 7, 8, 9, 10];
 
-/// The words after `talk`. If no word is wrong by itself and a rule over several of them fails, the offence is that of
-/// the command. If a word is missing too, that is what is told. That H.264 has at most 240 access units a second is
-/// such a rule, since the kind can come after the rate.
+/// The words after `talk`. If a word is missing, that is the offence. If only a rule over several words fails, the
+/// offence is at the command. The limit of 240 access units a second for H.264 is such a rule, because the kind can
+/// come after the rate.
 pub fn read_talk(words: &[String]) -> Result<Command<'_>, Offence>
     ensures ok { IfOk result (λ command. IsCommandLine (codes "talk" ∷ texts words.now) (request_of command)) }
     ensures err { IfErr result (λ offence. IsOffence (codes "talk" ∷ texts words.now) offence.position) }
@@ -91,7 +91,7 @@ pub fn read_talk(words: &[String]) -> Result<Command<'_>, Offence>
     }
 }
 
-/// What the words after `talk` say one by one.
+/// What the words after `talk` ask for, each by itself.
 fn read_words(words: &[String]) -> Result<Talk<'_>, Offence>
     ensures ok { IfOk result (λ asked. SaysTalk (codes "talk" ∷ texts words.now) (talking_of asked)) }
     ensures err { IfErr result (λ offence. IsOffence (codes "talk" ∷ texts words.now) offence.position) }
@@ -109,7 +109,7 @@ fn read_words(words: &[String]) -> Result<Talk<'_>, Offence>
     Ok(read_options(&words[..place], kind, input, output))
 }
 
-/// What the options of `talk` give besides the kind, each by itself.
+/// The values of the options of `talk` other than the kind, each by itself.
 fn read_options<'a>(options: &[String], kind: Kind, input: &'a str, output: &'a str) -> Talk<'a>
     ensures kind { result.kind ≡ kind }
     ensures input { result.input.now ≡ input.now }
@@ -133,8 +133,7 @@ fn read_options<'a>(options: &[String], kind: Kind, input: &'a str, output: &'a 
     }
 }
 
-/// The kind of the stream, which is sparse if it is AAF and that is asked, and stamped in last fragments alone if it is
-/// H.264 and that is asked.
+/// The kind of the stream, with `--sparse` for AAF and `--last-stamp` for H.264.
 fn kind_after(options: &[String], sparse: bool, last_stamp: bool) -> Kind
     ensures { IsReadKind (texts options.now) sparse last_stamp result }
 {
@@ -157,7 +156,7 @@ fn start_after(options: &[String]) -> i64
 }
 
 impl<'a> Talk<'a> {
-    /// Whether the words after `talk`, which ask for this, keep the rules over several of them.
+    /// Whether the words after `talk`, which ask for this, keep the rules over several words.
     fn keeps_rules(&self, words: &[String]) -> bool
         requires { ClockIsWithin self.now.crf self.now.rate }
         ensures { IsTrue result ↔ KeepsRules (texts words.now) (talking_of self.now) }
@@ -168,7 +167,7 @@ impl<'a> Talk<'a> {
             && self.kind.fits_options(words)
     }
 
-    /// Whether the stream can be of its kind.
+    /// Whether the rate, the channels and the count fit the kind of the stream.
     fn fits_kind(&self) -> bool
         ensures { IsTrue result ↔ FitsKind self.now.kind (talking_of self.now) }
     {
@@ -207,7 +206,7 @@ impl Kind {
         }
     }
 
-    /// Whether the words after `talk` have none of the options that the kind lacks, and none without the one that it needs.
+    /// Whether each option after `talk` is one that the kind has, and comes with the option that it needs.
     fn fits_options(self, words: &[String]) -> bool
         ensures { IsTrue result ↔ FitsOptions self (texts words.now) }
     {
@@ -253,7 +252,7 @@ fn suits_blocks(rate: u32, count: u32) -> bool
     has_suiting(&FDF_CODES, rate, count)
 }
 
-/// Whether one of these codes suits them.
+/// Whether one of these codes has this rate and such an interval.
 fn has_suiting(codes: &[u8], rate: u32, count: u32) -> bool
     ensures { result ≡ list_any (λ fdf. suits_of rate count fdf) codes.now }
 {

@@ -1,4 +1,4 @@
-//! What the options of a command give: the value of one, or else a fixed one.
+//! The values of a command's options, or their defaults.
 
 ghost use Rattle.std.specs.Prelude.{◌≡◌, ◌^◌, IfSome, IfNone};
 ghost use Rattle.avtp_words.specs.Options.{format_name};

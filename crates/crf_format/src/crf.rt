@@ -13,8 +13,8 @@ pub struct CrfView<'a> {
     pub tu: bool,
     /// The sequence number.
     pub seq: u8,
-    /// What the clock's events are: 0 for what the user defines, 1 for audio samples, 2 for video frames, 3 for video
-    /// lines, 4 for machine cycles.
+    /// What the clock's events are: 0 means user-specified, 1 audio samples, 2 video frames, 3 video lines, 4 machine
+    /// cycles.
     pub kind: u8,
     pub stream_id: u64,
     /// The code of the factor that `base_frequency` is multiplied by: 0 for 1, 1 for 1000/1001, 2 for 1001/1000, 3 for

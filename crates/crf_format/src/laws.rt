@@ -11,12 +11,12 @@ pub fn one_packet()
     ensures { (bytes : List ℕ) → IsSpelledOnce (crf_refusal bytes) (λ (v : Crf). SpellsCrf bytes v) }
 {}
 
-/// The spelling of a packet spells it with every reserved bit 0, whatever follows.
+/// The bytes written for a packet spell that packet with every reserved bit 0, whatever follows them.
 pub fn packet_again()
     ensures { (v : Crf) (trail : List ℕ) → IsWritableCrf v → Fits crf_layout v → SpellsCrf (crf_spelling v ++ trail) (plain_crf v) }
 {}
 
-/// Bytes that spell a packet with no reserved bit set, and nothing after it, are its spelling.
+/// Bytes that spell a packet with no reserved bit set, and nothing after it, are the bytes written for it.
 pub fn one_spelling()
     ensures { (bytes : List ℕ) (v : Crf) → AreBytes bytes → SpellsCrf bytes v → v.reserved ≡ false
         → length bytes ≡ 20 + length v.payload → bytes ≡ crf_spelling v }

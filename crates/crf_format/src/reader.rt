@@ -1,4 +1,4 @@
-//! Packets of the clock reference format are read.
+//! Reads packets of the clock reference format.
 
 ghost use Rattle.std.specs.Prelude.{◌≡◌, ◌+◌, ◌*◌, ◌≤◌, ◌<◌, length, Option, Some, None, IfNone, IfOk, IsOkAnd};
 ghost use Rattle.avtp_base.specs.Octets.{bits};
@@ -44,7 +44,7 @@ fn refused_by_kind(pdu: &[u8]) -> Option<Refusal>
     None
 }
 
-/// The number that follows the three bits of the pull.
+/// The base frequency, which follows the three bits of the pull.
 #[tactic(auto, unfolding(avtp_base::specs::Octets::bits))]
 fn base_frequency(pdu: &[u8]) -> u32
     requires { 20 ≤ length pdu.now }
@@ -53,7 +53,8 @@ fn base_frequency(pdu: &[u8]) -> u32
     u32_at(pdu, 12) % (1 << 29)
 }
 
-/// A stated length is not one or more timestamps, or is more than what `len` bytes hold after the header.
+/// Whether a stated length is not that of one or more whole timestamps, or is more than `len` bytes hold after the
+/// header.
 fn misses_timestamps(stated: u16, len: usize) -> bool
     requires { 20 ≤ len }
     ensures { result ≡ is_missed stated len }
@@ -120,10 +121,10 @@ fn read_packet(pdu: &[u8]) -> Result<CrfView<'_>, Refusal>
 
 /// Reads a packet of the clock reference format, of any type.
 ///
-/// Refused is the first of these, in this order: a field of the header that does not lie wholly in the slice; a subtype
-/// other than CRF; a version other than 0; a reserved code of the pull; a base frequency of 0; a stated length that is
-/// 0, no multiple of a timestamp, or more than what follows the header; an interval of 0. The reserved bit may be set,
-/// and what follows the stated length is ignored.
+/// Refuses the first of these that applies, in this order: a field of the header that the slice cuts off; a subtype
+/// other than CRF; a version other than 0; a reserved pull code; a base frequency of 0; a stated length that is 0, no
+/// multiple of a timestamp, or beyond the end of the slice; an interval of 0. Accepts a set reserved bit, and ignores
+/// what follows the stated length.
 #[inline(always)]
 pub fn read_crf(pdu: &[u8]) -> Result<CrfView<'_>, Refusal>
     ensures exact { Reads crf_shape (crf_refusal pdu.now) (crf_of pdu.now) result }

@@ -17,8 +17,8 @@ three_zeros = 0 ∷ 0 ∷ 0 ∷ []
 abbrev pub IsEnd : List ℕ → ℕ → Type 0
 IsEnd bytes at = OccursAt bytes start_code at ⊎ OccursAt bytes three_zeros at ⊎ (at ≡ length bytes)
 
--- The bytes from `from` up to `to` are a NAL unit: it begins after a start code, goes to the first place from there on
--- at which a unit may end, and is without the zero bytes before that place. It has at least one byte.
+-- The bytes from `from` up to `to` are a NAL unit: it begins after a start code and ends at the first place after that
+-- where a unit may end, without the zero bytes before that place. It has at least one byte.
 pub record IsUnit (bytes : List ℕ) (from to end : ℕ) : Type 0 where
   pub behind : 3 ≤ from
   pub code : OccursAt bytes start_code (from - 3)

@@ -1,5 +1,5 @@
--- Each packet is settled once, in order: it is given up, or lost when it comes, or in a unit that is whole, or it
--- waits.
+-- Each packet is settled once, in order: a later event gives it up, it is lost when it comes, it is in a complete unit,
+-- or it waits.
 use Rattle.std.specs.Prelude.{List, [], ◌∷◌, ◌++◌}
 use Rattle.cvf_format.specs.declared.piece.Piece.{Piece}
 use Rattle.cvf_format.specs.declared.piece.Piece.TheVariants.{Whole, Held, Lost}
@@ -11,8 +11,8 @@ packets [] = []
 packets (cut ∷ events) = packets events
 packets (packet fragment ∷ events) = fragment ∷ packets events
 
--- the packets that a packet settles by what becomes of it: all of its unit if it makes it whole, none if it is held,
--- itself if it is lost
+-- the packets that a packet settles: all packets of its unit if it completes the unit, none if it waits, and itself if
+-- it is lost
 abbrev pub settled_as : Piece → Fragment → List Fragment → List Fragment
 settled_as Whole fragment stretch = stretch
 settled_as Held fragment stretch = []

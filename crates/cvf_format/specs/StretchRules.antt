@@ -4,16 +4,16 @@ use Rattle.std.specs.List.{All}
 use Rattle.std.specs.Option.{IfSome}
 use Rattle.cvf_format.specs.Stretches.{Fragment, Event, packet, begins, goes_on, completes, sequence_numbers}
 
--- A packet goes on with the unit of the one before it: that one did not complete it, both carry the same first byte of
--- the unit, and the sequence number is the next one.
+-- A packet continues the unit of the packet before it: that packet did not complete the unit, both carry the same first
+-- byte of the unit, and the sequence number is the next one.
 pub record GoesOn (before after : Fragment) : Type 0 where
   pub incomplete : completes before.part ≡ false
   pub part : goes_on after.part ≡ true
   pub nal : after.nal ≡ before.nal
   pub seq : after.mark.seq ≡ (before.mark.seq + 1) % sequence_numbers
 
--- Packets are a stretch: the first begins a unit, each other goes on with the unit of the one before it, and all that
--- are stamped have one instant.
+-- Packets are a stretch: the first begins a unit, each other one continues the unit of the packet before it, and all
+-- that have a timestamp have the same instant.
 pub record IsStretch (packets : List Fragment) : Type 0 where
   pub some : packets ≢ []
   pub first : (first : Fragment) (rest : List Fragment) → packets ≡ first ∷ rest → begins first.part ≡ true

@@ -32,7 +32,7 @@ pub record Fragment : Type 0 where
   pub part : NalPart
   pub body : List ℕ
 
--- a packet, or a cut between two packets that no NAL unit goes on over
+-- a packet, or a cut between two packets, over which no NAL unit continues
 pub data Event : Type 0 where
   packet : Fragment → Event
   cut : Event
@@ -58,7 +58,7 @@ begins First = true
 begins Middle = false
 begins Last = false
 
--- a packet goes on with a NAL unit: it carries a middle or last fragment
+-- a packet continues a NAL unit: it carries a middle or last fragment
 abbrev pub goes_on : NalPart → Bool
 goes_on Single = false
 goes_on First = false
@@ -72,7 +72,7 @@ completes First = false
 completes Middle = false
 completes Last = true
 
--- a packet goes on with the unit of the packet before it
+-- a packet continues the unit of the packet before it
 abbrev pub follows : Fragment → Fragment → Bool
 follows before after =
     not (completes before.part)
@@ -80,7 +80,7 @@ follows before after =
     && (after.nal == before.nal)
     && (after.mark.seq == (before.mark.seq + 1) % sequence_numbers)
 
--- each packet, after this first one, goes on with the unit of the one before it
+-- each packet, after this first one, continues the unit of the packet before it
 abbrev pub are_linked : Fragment → List Fragment → Bool
 are_linked before [] = true
 are_linked before (after ∷ rest) = follows before after && are_linked after rest
@@ -89,13 +89,13 @@ are_linked before (after ∷ rest) = follows before after && are_linked after re
 abbrev pub stamps : List Fragment → List ℤ
 stamps fragments = filter_map (λ (f : Fragment). f.instant) fragments
 
--- all instants of a list are one and the same
+-- all instants of a list are equal
 abbrev pub all_equal : List ℤ → Bool
 all_equal [] = true
 all_equal (instant ∷ rest) = list_all (int_eq instant) rest
 
--- Adjacent packets are a stretch: the first begins a unit, each other goes on with it, and all that are stamped have
--- one instant.
+-- Adjacent packets are a stretch: the first begins a unit, each other one continues it, and all that have a timestamp
+-- have the same instant.
 unfoldable pub is_stretch : List Fragment → Bool
 is_stretch [] = false
 is_stretch (first ∷ rest) = begins first.part && are_linked first rest && all_equal (stamps (first ∷ rest))
@@ -140,11 +140,11 @@ waiting stretch = if is_within stretch && not (is_complete stretch) then stretch
 abbrev pub held : List Event → List Fragment
 held events = waiting (last_stretch events)
 
--- the last packet of a stretch is the first with which it is longer than the limits
+-- the stretch exceeds the limits, but did not before its last packet
 abbrev pub is_passed : List Fragment → Bool
 is_passed stretch = not (is_within stretch) && is_within (before_last stretch)
 
--- what becomes of the last packet of a stretch, and of a packet that belongs to none, as far as is known when it comes
+-- what becomes of the last packet of a stretch, or of a packet that is in none, as far as is known when it comes
 abbrev pub piece_of : List Fragment → Piece
 piece_of [] = variant.Lost Broken
 piece_of (first ∷ rest) =
@@ -155,7 +155,7 @@ piece_of (first ∷ rest) =
 abbrev pub piece : List Event → Piece
 piece events = piece_of (last_stretch events)
 
--- the last packet of a stretch went on with the unit of those before it, within the limits
+-- the last packet of a stretch continued the unit of the packets before it, within the limits
 abbrev pub is_joined : List Fragment → Bool
 is_joined stretch = nat_lt 1 (length stretch) && is_within stretch
 
@@ -163,8 +163,7 @@ is_joined stretch = nat_lt 1 (length stretch) && is_within stretch
 abbrev pub given_up : List Event → List Fragment
 given_up events = if is_joined (last_stretch events) then [] else held (before_last events)
 
--- Why the last packet of a stretch gave up those that waited: it makes their unit too long, or it did not go on with
--- it.
+-- Why the last packet of a stretch gave up those that waited: it made their unit too long, or did not continue it.
 abbrev pub reason_of : List Fragment → Lost
 reason_of [] = Broken
 reason_of (first ∷ rest) = if is_passed (first ∷ rest) then Long else Broken

@@ -10,7 +10,7 @@ use avtp_base::NoMemory;
 use memchr::memmem;
 use std::alloc::Global;
 
-/// What comes before each unit.
+/// The start code, which comes before each unit.
 const START_CODE: [u8; 3] = [0, 0, 1];
 
 /// The first place from `from` on at which the needle is found.
@@ -24,7 +24,7 @@ fn find_from(bytes: &[u8], needle: &[u8], from: usize) -> Option<usize>
     }
 }
 
-/// Whether a unit ends before two zero bytes: they begin a start code, or three zero bytes.
+/// Whether a unit ends at the two zero bytes at `zeros`: it does if they begin a start code or three zero bytes.
 fn ends_at(bytes: &[u8], zeros: usize) -> bool
     requires { OccursAt bytes.now (0 ∷ 0 ∷ []) zeros }
     ensures { result ≡ is_end bytes.now zeros }
@@ -49,7 +49,7 @@ fn end_of_unit(bytes: &[u8], from: usize) -> usize
     bytes.len()
 }
 
-/// A range of bytes without the zero bytes at its end; `None` if it has no others.
+/// A range of bytes without the zero bytes at its end; `None` if all its bytes are zero.
 fn without_zeros(bytes: &[u8], from: usize, end: usize) -> Option<(usize, usize)>
     requires order { from ≤ end }
     requires inside { end ≤ length bytes.now }
@@ -66,8 +66,8 @@ fn without_zeros(bytes: &[u8], from: usize, end: usize) -> Option<(usize, usize)
 }
 
 /// The first NAL unit whose start code is at `from` or after it: the place of its first byte, and the place after its
-/// last; `None` if there is none. All units are found, in order, from 0 and then from the end of the one before. `from`
-/// is at most the number of bytes.
+/// last; `None` if there is none. Called with 0, and then with the end of each unit, it finds all units in order.
+/// `from` must be at most the number of bytes.
 pub fn next_unit(bytes: &[u8], from: usize) -> Option<(usize, usize)>
     requires { from ≤ length bytes.now }
     ensures next { MatchOption result (units_from bytes.now from ≡ []) (λ unit. units_from bytes.now from ≡ unit ∷ units_from bytes.now unit.1) }
@@ -89,9 +89,9 @@ pub fn next_unit(bytes: &[u8], from: usize) -> Option<(usize, usize)>
 /// The NAL units of a byte stream, in order: of each the place of its first byte, and the place after its last.
 ///
 /// A start code is 00 00 01. A unit begins after a start code and ends before the next 00 00 01 or 00 00 00, or at the
-/// end of the bytes. Zero bytes at its end belong to none, and a unit without a byte is left out. Bytes before the
-/// first start code belong to none, nor do those after 00 00 00, up to the next start code. It answers `NoMemory` if no
-/// memory is found for the list; nothing else is allocated.
+/// end of the bytes. Zero bytes at its end are dropped, and so is a unit that has no other bytes. Bytes before the
+/// first start code belong to no unit, and neither do those from 00 00 00 to the next start code. Returns `NoMemory` if
+/// the list cannot be allocated; nothing else is allocated.
 pub fn split_annex_b(alloc: Global, bytes: &[u8]) -> Result<Vec<(usize, usize)>, NoMemory>
     ensures units { IfOk result (λ units. AreUnits bytes.now units.items) }
     ensures value { IfOk result (λ units. units.items ≡ nal_units bytes.now) }

@@ -1,4 +1,4 @@
-//! NAL units are put together from packets (RFC 6184, 5.8).
+//! Puts NAL units together from packets (RFC 6184, 5.8).
 
 ghost use Rattle.std.specs.Prelude.{◌≡◌, ◌+◌, ◌%◌, ◌≤◌, ◌<◌, ◌++◌, ◌∷◌, [], length, slice_get, List, IfOk, IsTrue, IsSome, if◌then◌else◌};
 ghost use Rattle.cvf_format.specs.Stretches.{Event, cut as cut_event, packet, given_up, lost_marks, piece as piece_after, reason, sequence_numbers, whole_unit, completes, goes_on, begins};
@@ -22,8 +22,8 @@ const MOST_FRAGMENTS: usize = 4_096;
 /// A unit is one packet, or a first fragment and those after it, each with the same first byte of the unit and the next
 /// sequence number, up to a last one. All that are stamped must have one presentation time.
 ///
-/// What becomes of a packet depends on the whole list of packets up to it, by its longest end that is one stretch; the
-/// assembler keeps that stretch alone.
+/// What becomes of a packet depends on the longest stretch of packets that ends with it, and the assembler keeps only
+/// that stretch.
 #[derive(Drop)]
 pub struct Assembler {
     /// The unit so far, or the last one that is whole.
@@ -63,7 +63,7 @@ impl Model for Assembler {
         × (most_fragments ≤ vec_capacity a.lost) };
 }
 
-/// Whether two presentation times, each of which may be unknown, do not differ.
+/// Whether two presentation times are equal, or one of them is unknown.
 fn agrees(a: Option<i64>, b: Option<i64>) -> bool
     ensures { result ≡ agree a b }
 {
@@ -128,9 +128,9 @@ impl Assembler {
 
     /// Takes a packet, with its mark and, if it is stamped, its presentation time in nanoseconds of gPTP.
     ///
-    /// A unit is whole with its last packet. A packet that does not go on with the fragments that wait gives them up,
-    /// and so does one that would make the unit longer than 4,194,304 bytes or 4,096 fragments, which is then lost too.
-    /// A packet that completes a unit must be stamped, and a body has at most 65,530 bytes. Takes no memory.
+    /// A unit is whole with its last packet. A packet that does not continue the waiting unit gives it up, and so does
+    /// one that would make the unit longer than 4,194,304 bytes or 4,096 fragments, and is then lost with it. A packet
+    /// that completes a unit must have a timestamp, and a body has at most 65,530 bytes. Allocates nothing.
     pub fn push(&mut self, mark: Mark, instant: Option<i64>, view: &CvfView<'_>) -> Pushed
         requires body { length view.now.body.now ≤ longest_body }
         requires stamped { IsTrue (completes view.now.part) → IsSome instant }
@@ -147,8 +147,8 @@ impl Assembler {
         self.push_packet(mark, instant, view)
     }
 
-    /// The mark of fragment `i` of those that were given up by the last packet or cut, counted from 0 in the order in
-    /// which they came; `i` is below their number.
+    /// The mark of fragment `i`, from 0, of those that the last packet or cut gave up, in the order in which they came.
+    /// `i` must be below their number.
     pub fn lost_mark(&self, i: u32) -> Mark
         requires { i < length self.now.lost }
         ensures { (events : List Event) → StandsFor self.now events → slice_get (lost_marks events) i ≡ Some result }
@@ -156,8 +156,8 @@ impl Assembler {
         self.lost[i as usize]
     }
 
-    /// A cut: no unit goes on from the packets before to those after. Gives up the fragments that wait, and answers how
-    /// many these are. Takes no memory.
+    /// Marks a cut, over which no unit continues. Gives up the waiting fragments and returns their number. Allocates
+    /// nothing.
     pub fn cut(&mut self) -> u32
         ensures stands { (events : List Event) → StandsFor self.old events → StandsFor self.new (events ++ cut_event ∷ []) }
         ensures lost { (events : List Event) → StandsFor self.old events → result ≡ length (given_up (events ++ cut_event ∷ [])) }
@@ -173,8 +173,8 @@ impl Assembler {
         self.shown()
     }
 
-    /// The size of the unit that this packet would make whole, and 0 if it would make none, so that memory for the unit
-    /// can be found before the packet is pushed. What `push` asks of a packet holds here too.
+    /// The size of the unit that this packet would complete, or 0 if it would complete none, so that the caller can
+    /// reserve memory before it pushes the packet. The packet must meet the requirements of `push`.
     pub fn unit_with(&self, mark: Mark, instant: Option<i64>, view: &CvfView<'_>) -> usize
         requires { length view.now.body.now ≤ longest_body }
         ensures { (events : List Event) → StandsFor self.now events
@@ -208,7 +208,7 @@ impl Assembler {
         &[]
     }
 
-    /// Takes a packet: it begins a unit, or goes on with the one that waits, or is lost with it.
+    /// Takes a packet, which begins a unit, continues the waiting one, or is lost with it.
     fn push_packet(&mut self, mark: Mark, instant: Option<i64>, view: &CvfView<'_>) -> Pushed
         requires { length view.now.body.now ≤ longest_body }
         ensures pushed { (events : List Event) → StandsFor self.old events
@@ -227,7 +227,7 @@ impl Assembler {
         self.go_on(mark, instant, view)
     }
 
-    /// Gives up all that waits, and answers how many these are.
+    /// Gives up all waiting fragments and returns their number.
     fn give_up(&mut self) -> u32
         ensures left { self.new ≡ gave_up self.old }
         ensures count { result ≡ length self.old.held }
@@ -238,7 +238,7 @@ impl Assembler {
         self.lost.len() as u32
     }
 
-    /// Whether a packet goes on with what waits.
+    /// Whether a packet continues the waiting unit.
     #[tactic(auto, unfolding(crate::specs::state::Assembly::goes_on_here))]
     fn goes_on_with(&self, mark: Mark, instant: Option<i64>, view: &CvfView<'_>) -> bool
         ensures { result ≡ goes_on_here self.now (fragment_of mark instant view.now) }
@@ -303,7 +303,7 @@ impl Assembler {
         Piece::Held
     }
 
-    /// Begins a unit, after what waited was given up.
+    /// Begins a unit, after the waiting one was given up.
     fn begin(&mut self, mark: Mark, instant: Option<i64>, view: &CvfView<'_>) -> Pushed
         requires { length view.now.body.now ≤ longest_body }
         ensures left { self.new ≡ with_first self.old (fragment_of mark instant view.now) }
@@ -323,7 +323,7 @@ impl Assembler {
         }
     }
 
-    /// Goes on with the unit, for which there must be room.
+    /// Continues the unit, for which there must be room.
     fn go_on(&mut self, mark: Mark, instant: Option<i64>, view: &CvfView<'_>) -> Pushed
         requires bytes { length self.old.bytes + length view.now.body.now ≤ LONGEST_UNIT }
         requires fragments { length self.old.held < MOST_FRAGMENTS }
@@ -342,7 +342,7 @@ impl Assembler {
         }
     }
 
-    /// Gives up what waits, and the packet with it.
+    /// Gives up the waiting unit, and the packet with it.
     fn lose(&mut self, why: Lost) -> Pushed
         ensures left { self.new ≡ gave_up self.old }
         ensures pushed { result ≡ record { lost = length self.old.held; why = why; piece = lost_for why } }

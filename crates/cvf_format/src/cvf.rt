@@ -29,9 +29,9 @@ pub struct CvfView<'a> {
     pub ptv: bool,
     /// The packet is the last of its access unit.
     pub marker: bool,
-    /// The event field, 0 to 15, of the upper layer.
+    /// The event field (evt), 0 to 15, whose meaning the upper layer defines.
     pub evt: u8,
-    /// The timestamp of the H.264 payload, like the header's in nanoseconds of gPTP modulo 2^32.
+    /// The H.264 timestamp, in nanoseconds of gPTP modulo 2^32 like the header's.
     pub h264_timestamp: u32,
     /// The first byte of the NAL unit: F in one bit, NRI in two, and the type, 1 to 23, in five. All fragments of a
     /// unit carry the same, in their two headers.

@@ -1,4 +1,4 @@
-//! H.264 packets are read.
+//! Reads H.264 packets.
 
 ghost use Rattle.std.specs.Prelude.{◌≡◌, ◌+◌, ◌≤◌, [], length, IsTrue, IfOk, IsOkAnd};
 ghost use Rattle.avtp_base.specs.Octets.{any_set, bits};
@@ -145,11 +145,11 @@ fn read_packet(pdu: &[u8]) -> Result<CvfView<'_>, Refusal>
 
 /// Reads a packet.
 ///
-/// Refused is the first of these, in this order: a field of the stream header that does not lie wholly in the slice; a
-/// subtype other than CVF; a version other than 0; a format that is not an RFC's; a format subtype that is not H.264; a
-/// stated length of fewer than 5 bytes, or of more than what follows the stream header; a NAL type that is neither that
-/// of a single unit, 1 to 23, nor FU-A; a fragment without an FU header; one that is both first and last, or whose type
-/// is not 1 to 23. A body may be empty. Reserved bits may be set, and what follows the stated length is ignored.
+/// Refuses the first of these that applies, in this order: a field of the stream header that the slice cuts off; a
+/// subtype other than CVF; a version other than 0; a format other than that of RFC payloads; a format subtype other
+/// than H.264; a stated length below 5, or beyond the end of the slice; a NAL type that is neither that of a single
+/// unit, 1 to 23, nor FU-A; a fragment without an FU header; one that is both first and last, or whose type is not 1 to
+/// 23. A body may be empty. Accepts set reserved bits, and ignores what follows the stated length.
 #[inline(always)]
 pub fn read_cvf(pdu: &[u8]) -> Result<CvfView<'_>, Refusal>
     ensures exact { Reads cvf_shape (cvf_refusal pdu.now) (cvf_of pdu.now) result }

@@ -1,4 +1,4 @@
-//! H.264 packets are written.
+//! Writes H.264 packets.
 
 ghost use Rattle.std.specs.Prelude.{◌≡◌, ◌+◌, ◌-◌, ◌*◌, ◌^◌, ◌≤◌, ◌<◌, ◌++◌, List, ℕ, take, IfOk};
 ghost use Rattle.avtp_base.specs.Octets.{flag};
@@ -51,12 +51,12 @@ fn packet_header(view: &CvfView<'_>) -> [u8; 30]
     bytes
 }
 
-/// Writes a packet, with every reserved bit 0, and answers its length. If the slice is shorter it answers `Room` and
+/// Writes a packet, with every reserved bit 0, and returns its length. If the slice is shorter, it returns `Room` and
 /// leaves the slice unchanged.
 ///
-/// The view is one that `read_cvf` could give: its subtype is CVF, its event field at most 15, the type of its NAL unit
-/// 1 to 23, and `data_length` is that of the part's headers and the body: 5 more than a whole unit's body, and 6 more
-/// than a fragment's. The header's format bits and `reserved` are not read.
+/// The view must be one that `read_cvf` could return: its subtype is CVF, its event field at most 15, the type of its
+/// NAL unit 1 to 23, and `data_length` is that of the part's headers and the body: 5 more than a whole unit's body, and
+/// 6 more than a fragment's. The header's format bits and `reserved` are not read.
 pub fn write_cvf(out: &mut [u8], view: &CvfView<'_>) -> Result<usize, Room>
     requires { IsWritableCvf (cvf_shape view.now) }
     ensures written { Writes (cvf_spelling (cvf_shape view.now)) out.old out.new result }

@@ -8,7 +8,7 @@ use std::alloc::Global;
 use std::thread::Threads;
 use vectors_avtp::vector;
 
-/// What talkers are asked for. All have one stream id, and one id of their media clocks.
+/// The arguments of the talkers. All have the same stream id, and the same id of their media clocks.
 pub const TALKS: [&str; 9] = [
     "--kind aaf",
     "--sparse --restart 8",
@@ -24,7 +24,7 @@ pub const TALKS: [&str; 9] = [
 /// The most records of a stream.
 const MOST: usize = 160;
 
-/// What the talkers are given, and the records of their streams and of the vectors.
+/// The inputs of the talkers, and the records of their streams and of the vectors.
 #[derive(Drop)]
 pub struct Bases {
     input: Vec<u8>,
@@ -44,7 +44,7 @@ impl Bases {
         Ok(Bases { input, streams })
     }
 
-    /// Up to 40 records of a stream that stand beside each other.
+    /// Up to 40 consecutive records of a stream.
     pub fn records(&self, alloc: Global, draws: &mut Draws) -> Result<Vec<Record>, NoMemory> {
         let mut records = Vec::new(alloc);
         if let Some(stream) = self.streams.get(draws.below(self.streams.len())) {
@@ -56,7 +56,7 @@ impl Bases {
         Ok(records)
     }
 
-    /// A part of what the talkers are given.
+    /// A part of the talkers' inputs.
     pub fn samples(&self, alloc: Global, draws: &mut Draws) -> Result<Vec<u8>, NoMemory> {
         let size = draws.below(self.input.len());
         let part = self.input.get(..size - size % 24).unwrap_or(&[]);

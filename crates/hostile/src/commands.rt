@@ -18,7 +18,7 @@ const OUT: &str = "out";
 /// What a run gave.
 #[derive(PartialEq, Eq, Drop)]
 struct Report {
-    /// The command, what it printed, the size of the file that it made, where it made one, and the status.
+    /// The command, what it printed, the size of the file that it made, if any, and the status.
     text: String,
     made: Vec<u8>,
 }
@@ -26,7 +26,7 @@ struct Report {
 /// What is wrong with a command over a file.
 #[derive(Clone, Copy, Debug)]
 pub enum Wrong {
-    /// Its text is not of the grammar, or not with its status.
+    /// Its text does not follow the grammar, or does not fit its status.
     Text,
     /// A second run over the same files gives something else.
     SecondRun,
@@ -73,7 +73,7 @@ fn shelf_of(alloc: Global, file: &[u8]) -> Result<MemoryShelf, NoMemory> {
     Ok(MemoryShelf::over(alloc, files, Vec::new(alloc)))
 }
 
-/// Runs a command line three times over a file, the last time in pieces of one byte, and tells what is wrong.
+/// Runs a command line three times over a file, the last time in pieces of one byte, and returns what is wrong.
 pub fn wrong_with<T: Threads + Sync>(
     rt: &T,
     alloc: Global,

@@ -34,7 +34,7 @@ fn put(bytes: &mut [u8], at: usize, new: &[u8]) {
     }
 }
 
-/// Turns one bit of the first `most` bytes around.
+/// Flips one bit of the first `most` bytes.
 fn flip(draws: &mut Draws, bytes: &mut [u8], most: usize) {
     let at = draws.below(most.min(bytes.len()));
     let bit = 1 << draws.below(8);
@@ -52,7 +52,7 @@ fn lengthen(draws: &mut Draws, bytes: &mut Vec<u8>, size: usize) -> Result<(), N
     Ok(())
 }
 
-/// A time so much before or after another one, by one of these.
+/// A time that is one of these amounts before or after another one.
 fn moved(draws: &mut Draws, time: u64, by: &[u64]) -> u64 {
     let by = draws.pick(by);
     if draws.one_in(2) {
@@ -125,7 +125,7 @@ fn damage_records(
     Ok(())
 }
 
-/// Damages bytes without regard to what they are.
+/// Damages any bytes, whatever they mean.
 pub fn damage_bytes(draws: &mut Draws, bytes: &mut Vec<u8>) -> Result<(), NoMemory> {
     let at = draws.below(bytes.len());
     let more = draws.below(64);

@@ -19,7 +19,7 @@ impl Draws {
         }
     }
 
-    /// A number below `n`, and 0 where there is none.
+    /// A number below `n`, or 0 if `n` is 0.
     pub fn below(&mut self, n: usize) -> usize
         ensures { result < max n 1 }
     {

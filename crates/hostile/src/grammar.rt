@@ -3,7 +3,7 @@
 use avtp_base::NoMemory;
 use std::alloc::Global;
 
-/// The rules: what stands for each word in capital letters. It may have such words of later rules.
+/// The rules: the pattern for each word in capital letters, which may use the words of later rules.
 const RULES: [(&str, &str); 23] = [
     ("TEXT", "^(?:SHOW|CHECK|LISTEN|TALK)\n$"),
     (

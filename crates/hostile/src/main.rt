@@ -1,7 +1,8 @@
-//! `hostile SEED COUNT` damages so many captures and runs every command over each, in this process: the text is of the grammar
-//! and goes with the status, a second run gives the same, and so does one that is given its file in pieces of one byte. A line
-//! tells of each command that is wrong, and the last one how many there were; the program ends with 0 where none was. `hostile
-//! SEED COUNT FIRST` begins at another number than 1: a capture is made of the seed and its number alone.
+//! `hostile SEED COUNT` damages COUNT captures and runs every command over each, in this process. The text must follow
+//! the grammar and fit the status; a second run must give the same, and so must one that reads its file in pieces of
+//! one byte. The program prints a line for each command that is wrong, and at the end how many there were. It ends with
+//! 0 if none was. `hostile SEED COUNT FIRST` begins at FIRST instead of 1: a capture depends on the seed and its number
+//! alone.
 #![tactic(auto)]
 
 mod bases;
@@ -50,7 +51,7 @@ fn read_words(rt: &HostRuntime) -> Option<Asked> {
     })
 }
 
-/// Makes all captures, and answers how many commands were wrong.
+/// Makes all captures, and returns how many commands were wrong.
 fn run_all<T: Threads + Sync>(rt: &HostRuntime, threads: &T) -> Option<u64> {
     let alloc = rt.alloc();
     let Asked { seed, count, first } = read_words(rt)?;

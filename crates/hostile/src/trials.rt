@@ -28,14 +28,15 @@ const LISTENS: [&str; 12] = [
     "ffffffffffffffff",
 ];
 
-/// A command line with which something is wrong.
+/// A command line, and what is wrong with its run.
 #[derive(Drop)]
 pub struct Found {
     pub line: String,
     pub wrong: Wrong,
 }
 
-/// Runs each command over a damaged capture, or `talk` over damaged samples, and tells with which something is wrong.
+/// Runs each command over a damaged capture, or `talk` over damaged samples, and returns those with which something is
+/// wrong.
 pub fn try_commands<T: Threads + Sync>(
     rt: &T,
     alloc: Global,

@@ -154,7 +154,7 @@ first_quadlet_rows bytes =
     row Sph 26 (not (bits 26 5 1 bytes == 0)) ∷ []
 
 -- the rows of the second quadlet of the CIP header, after those of the first: QI_2 is not 2, FMT is not audio, or FDF
--- names neither a rate nor no data
+-- is neither that of a rate nor that of no data
 abbrev pub second_quadlet_rows : List ℕ → List Row
 second_quadlet_rows bytes =
     row Qi2 28 (not (bits 28 0 2 bytes == second_mark)) ∷
@@ -179,7 +179,7 @@ cip_refusal bytes =
     or_else (first_row (first_quadlet_rows bytes))
     (or_else (first_row (second_quadlet_rows bytes)) (first_row (block_rows bytes)))
 
--- why bytes are no IEC 61883-6 packet that is accepted
+-- why bytes are refused as an IEC 61883-6 packet
 abbrev pub iec_refusal : List ℕ → Option Refusal
 iec_refusal bytes =
     or_else (kind_refusal iec_subtype bytes) (or_else (first_row (carrier_rows bytes)) (cip_refusal bytes))

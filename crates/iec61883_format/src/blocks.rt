@@ -5,8 +5,8 @@ ghost use Rattle.iec61883_format.specs.Iec.{IsSytInterval, anchor_index as index
 
 use time_unfold::HeadRule;
 
-/// The sample rate in Hz that the code FDF names (IEC 61883-6). `None` comes for codes above 6, 255 among them, which a
-/// packet of no data has.
+/// The sample rate in Hz of an FDF (IEC 61883-6). `None` for codes above 6, among them 255, the FDF of a packet of no
+/// data.
 pub fn rate_of_fdf(fdf: u8) -> Option<u32>
     ensures exact { result ≡ rate_of fdf }
     ensures none { IsNone result ↔ (6 < fdf) }
@@ -23,8 +23,7 @@ pub fn rate_of_fdf(fdf: u8) -> Option<u32>
     })
 }
 
-/// SYT_INTERVAL, at the rate that the code FDF names: one in this many data blocks has a timestamp (IEC 61883-6).
-/// `None` comes for codes above 6.
+/// The SYT_INTERVAL of an FDF: one in this many data blocks has a timestamp (IEC 61883-6). `None` for codes above 6.
 pub fn syt_interval(fdf: u8) -> Option<u32>
     ensures exact { result ≡ interval_of fdf }
     ensures none { IsNone result ↔ (6 < fdf) }

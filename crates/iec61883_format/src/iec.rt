@@ -21,7 +21,8 @@ pub struct Cip {
 /// An IEC 61883-6 packet.
 #[derive(Clone, Copy, Debug)]
 pub struct IecView<'a> {
-    /// Of its format bits the higher is reserved, and the lower says that `gateway_info` is valid.
+    /// The stream header. The higher of its two format bits is reserved; the lower one means that `gateway_info` is
+    /// valid.
     pub header: StreamHeader,
     pub gateway_info: u32,
     /// The channel of the bus, 0 to 63; 31 for a stream that comes from none.

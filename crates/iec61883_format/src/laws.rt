@@ -11,12 +11,12 @@ pub fn one_packet()
     ensures { (bytes : List ℕ) → IsSpelledOnce (iec_refusal bytes) (λ (v : Iec). SpellsIec bytes v) }
 {}
 
-/// The spelling of a packet spells it with every reserved bit 0, whatever follows.
+/// The bytes written for a packet spell that packet with every reserved bit 0, whatever follows them.
 pub fn packet_again()
     ensures { (v : Iec) (trail : List ℕ) → IsWritableIec v → Fits iec_layout v → SpellsIec (iec_spelling v ++ trail) (plain_iec v) }
 {}
 
-/// Bytes that spell a packet with no reserved bit set, and nothing after it, are its spelling.
+/// Bytes that spell a packet with no reserved bit set, and nothing after it, are the bytes written for it.
 pub fn one_spelling()
     ensures { (bytes : List ℕ) (v : Iec) → AreBytes bytes → SpellsIec bytes v → v.reserved ≡ false
         → length bytes ≡ 24 + v.header.data_length → bytes ≡ iec_spelling v }

@@ -1,4 +1,4 @@
-//! IEC 61883-6 packets are read.
+//! Reads IEC 61883-6 packets.
 
 ghost use Rattle.std.specs.Prelude.{◌≡◌, ◌+◌, ◌-◌, ◌*◌, ◌≤◌, ◌<◌, ◌==◌, length, Option, Some, None, IfNone, IfOk, IsOkAnd};
 ghost use Rattle.avtp_base.specs.Octets.{bits};
@@ -165,12 +165,12 @@ fn read_packet(pdu: &[u8]) -> Result<IecView<'_>, Refusal>
 
 /// Reads an IEC 61883-6 packet.
 ///
-/// Refused is the first of these, in this order: a field of the stream header that does not lie wholly in the slice; a
-/// subtype other than IEC 61883; a version other than 0; a tag other than 1; a stated length of less than a CIP header,
-/// or of more than what follows the stream header; of the CIP header `qi_1` other than 0, `fn`, `qpc` or `sph` other
-/// than 0, `qi_2` other than 2, another format than audio, an FDF that names neither a rate nor no data; a stated
-/// length after the CIP header that is no multiple of a data block, unless there is no data. Reserved bits may be set,
-/// and what follows the stated length is ignored.
+/// Refuses the first of these that applies, in this order: a field of the stream header that the slice cuts off; a
+/// subtype other than IEC 61883; a version other than 0; a tag other than 1; a stated length below that of a CIP
+/// header, or beyond the end of the slice; in the CIP header `qi_1` other than 0, `fn`, `qpc` or `sph` other than 0,
+/// `qi_2` other than 2, a format other than audio, an FDF that is neither that of a rate nor 255; data that is no
+/// multiple of a data block, unless the packet is one of no data. Accepts set reserved bits, and ignores what follows
+/// the stated length.
 #[inline(always)]
 pub fn read_iec(pdu: &[u8]) -> Result<IecView<'_>, Refusal>
     ensures exact { Reads iec_shape (iec_refusal pdu.now) (iec_of pdu.now) result }

@@ -1,4 +1,4 @@
-//! IEC 61883-6 packets are written.
+//! Writes IEC 61883-6 packets.
 
 ghost use Rattle.std.specs.Prelude.{◌≡◌, ◌+◌, ◌*◌, ◌^◌, ◌≤◌, ◌<◌, ◌++◌, List, ℕ, take, IfOk};
 ghost use Rattle.avtp_base.specs.Layout.{Fits, spelling};
@@ -11,7 +11,7 @@ use avtp_base::Room;
 use avtp_base::octets::write_front;
 use avtp_header::header_bytes;
 
-/// The byte DBS of data blocks of this many quadlets.
+/// The DBS byte for data blocks of this many quadlets.
 fn dbs_byte(dbs: u16) -> u8
     requires { dbs ≤ 256 }
     ensures { result ≡ byte_of_quadlets dbs }
@@ -65,12 +65,12 @@ fn whole_header(view: &IecView<'_>) -> [u8; 32]
     bytes
 }
 
-/// Writes an IEC 61883-6 packet, with every reserved bit 0, and answers its length. If the slice is shorter it answers
+/// Writes an IEC 61883-6 packet, with every reserved bit 0, and returns its length. If the slice is shorter, it returns
 /// `Room` and leaves the slice unchanged.
 ///
-/// The view is one that `read_iec` could give: its subtype is IEC 61883, its channel and SID at most 63, its codes at
-/// most 15, its data blocks of 1 to 256 quadlets, its FDF at most 6 or 255, and `count` and `data_length` are those of
-/// the payload. The higher format bit of the header and `reserved` are not read.
+/// The view must be one that `read_iec` could return: its subtype is IEC 61883, its channel and SID at most 63, its
+/// codes at most 15, its data blocks of 1 to 256 quadlets, its FDF at most 6 or 255, and `count` and `data_length` are
+/// those of the payload. The higher format bit of the header and `reserved` are not read.
 pub fn write_iec(out: &mut [u8], view: &IecView<'_>) -> Result<usize, Room>
     requires { IsWritableIec (iec_shape view.now) }
     ensures written { Writes (iec_spelling (iec_shape view.now)) out.old out.new result }

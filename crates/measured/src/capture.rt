@@ -34,7 +34,7 @@ fn arrival(n: u32) -> i64
     (due(n) - 2_000_000) as i64
 }
 
-/// Packet n of all.
+/// Packet n, counted over all streams.
 fn packet(n: u32, streams: u32) -> Option<[u8; 48]>
     requires some { 1 ≤ streams }
     requires most { streams ≤ 65536 }
@@ -86,7 +86,7 @@ fn frame(packet: &[u8; 48]) -> Option<[u8; 66]> {
     Some(frame)
 }
 
-/// The record of packet n of all.
+/// The record of packet n, counted over all streams.
 fn record(n: u32, streams: u32) -> Option<[u8; 82]>
     requires some { 1 ≤ streams }
     requires most { streams ≤ 65536 }

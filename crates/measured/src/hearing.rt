@@ -27,7 +27,7 @@ const PIECE: usize = 65_536;
 /// The most bytes of a capture.
 const MOST: usize = 1 << 40;
 
-/// Listens to the first of several streams in a capture, which is made before the time begins.
+/// Listens to the first of several streams in a capture, which is made before the clock starts.
 pub fn hear<C: Clock>(clock: &C, alloc: Global, streams: u32, packets: u32) -> Option<Timed>
     requires some { 1 ≤ streams }
     requires most { streams ≤ 65536 }

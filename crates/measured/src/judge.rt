@@ -11,7 +11,7 @@ use std::alloc::Global;
 use std::collections::VecDeque;
 use std::time::{Clock, Instant};
 
-/// Judges packets of a stream, with a look-ahead of 0 to 64 entries. The entries are made before the time begins.
+/// Judges packets of a stream, with a look-ahead of 0 to 64 entries. The entries are made before the clock starts.
 pub fn judge<C: Clock>(
     clock: &C,
     alloc: Global,

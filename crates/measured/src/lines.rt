@@ -14,8 +14,8 @@ const MOST: usize = 65_528;
 /// The packets that a clock keeps.
 const WINDOW: u32 = 64;
 
-/// Asks a clock whose window is full of packets of 1 to 8,191 timestamps, a number of times, where samples near its newest
-/// timestamps stand. Answers how many do.
+/// Looks up the lines of `count` samples near the newest timestamps of a clock whose window is full of packets of 1 to
+/// 8,191 timestamps. Returns how many have a line.
 pub fn lines(alloc: Global, timestamps: u32, count: u32) -> Option<u64>
     requires some { 1 ≤ timestamps }
     requires most { timestamps ≤ 8191 }

@@ -61,7 +61,7 @@ impl Presenter for Counted {
     }
 }
 
-/// Hands items over through a ring of a capacity of 1 to 256, and answers how many came.
+/// Hands items over through a ring of a capacity of 1 to 256, and returns how many came.
 pub fn rounds<T: Threads + Sync>(rt: &T, alloc: Global, capacity: u32, count: u32) -> Option<u64>
     requires some { 1 ≤ capacity }
     requires most { capacity ≤ 256 }

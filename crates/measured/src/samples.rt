@@ -31,8 +31,8 @@ impl Sink for Counter {
     }
 }
 
-/// Prints batches of six samples of four bytes each, several times. They are made before the time begins. Answers how
-/// many bytes of text there were.
+/// Prints batches of six samples of four bytes each, several times. They are made before the clock starts. Returns the
+/// number of bytes of text.
 pub fn samples<C: Clock>(clock: &C, alloc: Global, count: u32, times: u32) -> Option<Timed> {
     let batches = batches(alloc, count)?;
     let mut text = Text::new(alloc).ok()?;

@@ -30,7 +30,7 @@ pub struct Stream {
     pub clock: bool,
 }
 
-/// A number of 16 bits for each of 16 bits, all different, without order.
+/// A permutation of the 16-bit numbers without apparent order.
 fn scrambled(n: u32) -> u32 {
     let first = n.wrapping_mul(40_503) % 65_536;
     let second = (first ^ (first >> 8)).wrapping_mul(46_387) % 65_536;
@@ -140,7 +140,7 @@ impl Stream {
         Ok(())
     }
 
-    /// So many packets, and those of the clock.
+    /// This many packets, and those of the clock.
     pub fn entries(&self, alloc: Global, count: u32) -> Result<Vec<Entry>, NoMemory>
         requires some { 1 ≤ self.now.waiting }
         requires most { self.now.waiting ≤ 65536 }

@@ -6,7 +6,7 @@ use Rattle.stream_journal.specs.Delivered.{AreNear, IsDelivered}
 use Rattle.packet_journal.specs.Deliveries.{Delivery, deliveries}
 use Rattle.packet_journal.specs.Packets.{PacketJournal, spelling_of}
 
--- the bytes are those of a packet, and then a trail that belongs to no field
+-- the bytes are those of a packet, and then trailing bytes that belong to no field
 pub record Spells (packet bytes : List ℕ) : Type 0 where
   pub trail : List ℕ
   pub whole : bytes ≡ packet ++ trail

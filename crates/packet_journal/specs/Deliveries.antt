@@ -57,7 +57,7 @@ pub record Delivery : Type 0 where
   pub seq : ℕ
   pub packet : List ℕ
 
--- what a listener has of a record that is delivered, given the record's number in the capture
+-- the delivery that a listener gets from a record, given the record's number in the capture
 abbrev pub delivery : ℕ → Record → Delivery
 delivery frame r = record {
   frame = frame;

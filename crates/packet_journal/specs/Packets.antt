@@ -18,7 +18,7 @@ pub data PacketView : Type 0 where
   Am824Data : Iec → PacketView
   H264Data : Cvf → PacketView
 
--- A talker's stream and clock, with the packets that it sent, whose times are `times`.
+-- A talker's stream and its clock, with the packets that it sent; `times` is the journal of their times.
 pub record PacketJournal : Type 0 where
   pub times : Journal
   pub stream : ℕ
@@ -29,7 +29,7 @@ pub record PacketJournal : Type 0 where
 -- ---- which packets belong to which times
 
 -- The header of packet n of a stream (IEEE 1722-2016, 4.4.4): the low 8 bits of the packet's number, the low 32 bits of
--- its timestamp if it has one, a certain time, and the journal's restart bit.
+-- its timestamp if it has one, tu 0, and the journal's restart bit.
 pub record IsHeader (j : Journal) (stream n : ℕ) (h : StreamHeader) : Type 0 where
   pub valid_id : h.sv ≡ true
   pub id : h.stream_id ≡ stream
@@ -91,8 +91,8 @@ IsPacket (H264 part) j stream n (H264Data v) = IsCvfPacket j (part n) stream n v
 abbrev pub audio_sample_type : ℕ
 audio_sample_type = 1
 
--- Packet m of a clock (IEEE 1722-2016, 10): of the type for audio samples, with certain times, the clock's base frequency,
--- pull and interval, and the packet's restart bit. What listeners add to its timestamps makes them its points.
+-- Packet m of a clock (IEEE 1722-2016, 10): of the type for audio samples, with tu 0, the clock's base frequency, pull
+-- and interval, and the packet's restart bit. What listeners add to its timestamps makes them its points.
 pub record IsClockPacket (c : ClockJournal) (shift : ℤ) (id m : ℕ) (v : Crf) : Type 0 where
   pub writable : IsWritableCrf v
   pub fits : Fits crf_layout v

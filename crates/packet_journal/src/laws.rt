@@ -9,7 +9,7 @@ ghost use Rattle.packet_journal.specs.Delivered.{Delivers, IsClockCopyOf, IsCopy
 ghost use Rattle.packet_journal.specs.Carried.{AllCarry, AllCarryFrom, Carries, CarriesClock, IsReadKind};
 ghost use Rattle.packet_journal.specs.Laws.{IsClockReadAs, IsReadAs};
 
-/// What a listener reads of a copy of a packet is the packet that was sent, whatever trail the copy has.
+/// What a listener reads of a copy of a packet is the packet that was sent, whatever trailing bytes the copy has.
 pub fn copies_are_read()
     ensures packet { (shift : ℤ) (p : PacketJournal) (lead n : ℕ) (d : Delivery) → IsConforming shift p → IsCopyOf p lead n d → IsReadAs (p.packet n) d.packet }
     ensures clock { (shift : ℤ) (p : PacketJournal) (m : ℕ) (d : Delivery) → IsConforming shift p → IsClockCopyOf p m d → IsClockReadAs (p.clock_packet m) d.packet }

@@ -43,14 +43,13 @@ pub record IsDrained (pipe : Pipe) : Type 0 where
   pub ended : IsSome (ended_with pipe)
   pub empty : waiting_in pipe ≡ []
 
--- What is still to be done if the receiver can give `left` more items: to push those that are not in the ring yet, and
--- to present each. It falls in every round but a drained one.
+-- The work that is left if the receiver can give `left` more items: a push for each item that is not in the ring yet,
+-- and a presentation for each item. Every round but a drained one reduces it.
 abbrev pub work : ℕ → Pipe → ℕ
 work left pipe = 2 * (left + length (hand_of pipe.front)) + length (ring_of pipe)
 
--- What rounds did. The meanings of a receiver are the items that it gave and how many it can still give at most, and
--- that of a presenter is the items that it was handed. What waited and then what was given are, in this order, what was
--- presented and then what waits.
+-- What rounds did, by the items that the receiver gave and the presenter was handed. The items that waited before,
+-- followed by those that were given, are those that were presented, followed by those that wait now.
 pub record HasMoved {R P : Type 0} (gave : R → R → List Shown → Type 0) (left : R → ℕ) (handed : P → P → List Shown → Type 0) (receiver receiver' : R) (presenter presenter' : P) (before after : Pipe) : Type 0 where
   pub given : List Shown
   pub presented : List Shown
@@ -68,8 +67,8 @@ pub record IsRound {R P : Type 0} (gave : R → R → List Shown → Type 0) (le
   pub through_ring : 0 < known_free_of before → popped_by after ≡ popped_by before ++ moved.presented
   pub steps : (IsDrained after → ⊥) → length (pushed_by before) < length (pushed_by after) + length moved.presented
 
--- A pipe whose receiver had not ended has the answer with which it ended now, if it did. Once it has ended, it is not called
--- again.
+-- If the receiver ended in this round, the pipe has the answer with which it ended. A receiver that has ended is not
+-- called again.
 pub record EndsWith {R : Type 0} (ended : R → Option Pull) (receiver receiver' : R) (before after : Pipe) : Type 0 where
   pub ends : ended_with before ≡ None → ended_with after ≡ ended receiver'
   pub stays : IsSome (ended_with before) → (ended_with after ≡ ended_with before) × (receiver' ≡ receiver)

@@ -1,4 +1,4 @@
--- What an answer of a receiver says.
+-- What a receiver's answer means.
 use Rattle.std.specs.Prelude.{List, [], ◌∷◌, Option, Some, None}
 use Rattle.sample_schedule.specs.declared.shown.Shown.{Shown}
 use Rattle.presenter_ring.specs.declared.ending.Ending.{Ending}

@@ -9,7 +9,7 @@ use avtp_base::Failed;
 use rtrb::Consumer;
 use sample_schedule::Shown;
 
-/// The end of the ring that is popped from.
+/// The consumer's end of the ring.
 #[derive(Drop)]
 pub struct Back {
     pub consumer: Consumer<Shown>,
@@ -24,7 +24,7 @@ impl Back {
     ghost use Rattle.rtrb.specs.Ring.{received, known_items};
     ghost use Rattle.presenter_ring.specs.state.Backs.{HasPresented, IsOneMore, IsIdle};
 
-    /// Pops one item and presents it. Says whether there was one.
+    /// Pops one item and presents it. Returns whether there was one.
     fn present_next<P: Presenter, G: Gate>(
         &mut self,
         presenter: &mut P,
@@ -47,7 +47,7 @@ impl Back {
         }
     }
 
-    /// The presenter's turn of a round: pops and presents what is found, at most `most` items, until one fails.
+    /// The presenter's turn in a round: pops and presents at most `most` items, until the ring is empty or one fails.
     pub fn take_turn<P: Presenter, G: Gate>(
         &mut self,
         presenter: &mut P,

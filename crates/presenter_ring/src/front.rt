@@ -10,7 +10,7 @@ use crate::receiver::{Pull, Receiver};
 use rtrb::{Producer, PushError};
 use sample_schedule::Shown;
 
-/// The end of the ring that is pushed to, the item that found no free slot, and how the receiver ended.
+/// The producer's end of the ring, the item that found no free slot, and how the receiver ended.
 #[derive(Drop)]
 pub struct Front {
     pub producer: Producer<Shown>,
@@ -30,7 +30,7 @@ impl Front {
     ghost use Rattle.presenter_ring.specs.Fronts.{ended_of};
     ghost use Rattle.presenter_ring.specs.state.Fronts.{HasFed, IsStuck, Pushes, Takes};
 
-    /// The item in hand, or if there is none the next one of the receiver, which may end instead.
+    /// The item in hand, or else the receiver's next one, unless the receiver ends.
     #[inline(always)]
     fn next_item<R: Receiver>(&mut self, receiver: &mut R) -> Option<Shown>
         requires live { ended_of self.old ≡ None → R.ended receiver.old ≡ None }
@@ -56,7 +56,7 @@ impl Front {
         }
     }
 
-    /// Pushes an item, or keeps it in hand if no slot is free. Says whether one was.
+    /// Pushes an item, or keeps it in hand if no slot is free. Returns whether it was pushed.
     #[inline(always)]
     fn push<G: Gate>(&mut self, shown: Shown, gate: &G) -> bool
         requires empty { self.old.hand ≡ None }
@@ -77,7 +77,7 @@ impl Front {
         }
     }
 
-    /// Pushes one item, which is pulled if none is in hand, and says whether there was one that found a free slot.
+    /// Pushes the item in hand, or else one that it pulls. Returns whether an item was pushed.
     #[inline(always)]
     fn push_next<R: Receiver, G: Gate>(&mut self, receiver: &mut R, gate: &G) -> bool
         requires live { ended_of self.old ≡ None → R.ended receiver.old ≡ None }
@@ -93,7 +93,7 @@ impl Front {
         }
     }
 
-    /// The receiver's turn of a round: pulls and pushes while a free slot is found, at most `most` items.
+    /// The receiver's turn in a round: pulls and pushes at most `most` items, while it finds a free slot.
     pub fn take_turn<R: Receiver, G: Gate>(&mut self, receiver: &mut R, gate: &G, most: usize)
         requires some { 0 < most }
         requires live { ended_of self.old ≡ None → R.ended receiver.old ≡ None }

@@ -1,4 +1,4 @@
-//! What sees each step of a ring.
+//! Observers of the steps of a ring.
 
 /// The side of a ring on which a step is made.
 #[derive(Clone, Copy, Debug, PartialEq, Eq)]
@@ -9,7 +9,7 @@ pub enum Side {
     Pop,
 }
 
-/// Something that is called after each push and each pop. The steps of each side are numbered from 1.
+/// Is called after each push and each pop. The steps of each side are numbered from 1.
 pub trait Gate: Sync {
     fn step(&self, side: Side, number: u64);
 }

@@ -1,4 +1,4 @@
-//! What a receiver gives, through a ring, to a presenter in another thread.
+//! Hands the items of a receiver, through a ring, to a presenter in another thread.
 #![tactic(auto)]
 
 mod back;

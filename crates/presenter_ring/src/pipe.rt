@@ -19,14 +19,14 @@ use std::thread::Threads;
 pub enum Round {
     /// More is to come.
     More,
-    /// The receiver has ended, and the presenter was handed all that it gave.
+    /// The receiver has ended, and the presenter was handed every item.
     Drained,
     /// The presenter failed.
     PresentFault,
 }
 
-/// A ring between a receiver and a presenter, with the item that was pulled and found no free slot. It goes on in
-/// rounds, in in each of which both take their turns, in two threads.
+/// A ring between a receiver and a presenter, and the item that was pulled but found no free slot. It works in rounds;
+/// in each, both sides take their turns, in two threads.
 #[derive(Drop)]
 pub struct Pipe {
     front: Front,
@@ -50,7 +50,7 @@ impl Pipe {
     ghost use Rattle.presenter_ring.specs.state.Pipes.{IsStill, HasStepped, KeepsRing};
     ghost use Rattle.presenter_ring.specs.Pulls.{items_of};
 
-    /// An empty pipe whose ring has room for 1 to 256 items. `NoMemory` comes if no memory is found for it.
+    /// An empty pipe whose ring has room for 1 to 256 items. `NoMemory` if it cannot be allocated.
     pub fn begin(alloc: Global, capacity: u32) -> Result<Self, NoMemory>
         requires some { 1 ≤ capacity }
         requires most { capacity ≤ 256 }
@@ -74,7 +74,7 @@ impl Pipe {
         })
     }
 
-    /// The answer with which the receiver ended, once it has. It never is an item.
+    /// The answer with which the receiver ended, once it has. It is never an item.
     pub fn ended(&self) -> Option<Pull>
         ensures answer { result ≡ ended_with self.now }
         ensures no_item { IfSome result (λ pull. items_of pull ≡ []) }
@@ -85,7 +85,7 @@ impl Pipe {
         }
     }
 
-    /// Both sides take their turns. Says whether an item was pushed or popped.
+    /// Both sides take their turns. Returns whether an item was pushed or popped.
     fn take_turns<T: Threads + Sync, R: Receiver, P: Presenter, G: Gate>(
         &mut self,
         rt: &T,
@@ -137,8 +137,8 @@ impl Pipe {
         }
     }
 
-    /// Both sides take their turns. If nothing was pushed or popped, though an item is in hand, the ring is empty and
-    /// its producer knew no free slot, so the item is presented past the ring.
+    /// Both sides take their turns. If an item is in hand and yet nothing was pushed or popped, the ring is empty and
+    /// its producer knew of no free slot, so the item is presented past the ring.
     fn advance<T: Threads + Sync, R: Receiver, P: Presenter, G: Gate>(
         &mut self,
         rt: &T,
@@ -171,12 +171,12 @@ impl Pipe {
             && self.back.consumer.cached_slots() == 0
     }
 
-    /// Goes on by one round: the receiver's side pulls items and pushes them while it finds a free slot, at most as
-    /// many as the ring has room for, and keeps one in hand if it finds none; the presenter's side pops and presents as
-    /// many at most, until one fails. Each takes its turn in a thread of its own. The gate is called after each push
-    /// and each pop.
+    /// Runs one round. The receiver's side pulls items and pushes them while it finds a free slot, at most as many as
+    /// the ring has room for, and keeps the one that finds no slot in hand. The presenter's side pops and presents at
+    /// most as many, until one fails. Each side takes its turn in a thread of its own. The gate is called after each
+    /// push and each pop.
     ///
-    /// Needs a receiver that has not ended if `ended` is `None`, and at most 2^62 items in all.
+    /// If `ended` is `None`, the receiver must not have ended. All items together must be at most 2^62.
     pub fn round<T: Threads + Sync, R: Receiver, P: Presenter, G: Gate>(
         &mut self,
         rt: &T,

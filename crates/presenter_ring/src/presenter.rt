@@ -6,18 +6,18 @@ ghost use Rattle.avtp_base.specs.Faults.{IsCounted};
 use avtp_base::Failed;
 use sample_schedule::Shown;
 
-/// Something that is handed items, one after the other, and counts its faults.
+/// Takes items one at a time, and counts its faults.
 pub trait Presenter: Send {
     ghost use Rattle.std.specs.Prelude.{List, ℕ};
     ghost use Rattle.sample_schedule.specs.declared.shown.Shown.{Shown as ShownValue};
 
-    /// From how the first was on, the presenter was handed these items, in this order, and so became the second.
+    /// The first became the second when it was handed these items, in this order.
     ghost handed: { Self → Self → List ShownValue → Type 0 };
 
     /// The number of faults so far, which stays at the last value of a 64-bit number.
     ghost faults: { Self → ℕ };
 
-    /// Presents an item. `Failed` comes only if the count rose; the item counts as handed over even then.
+    /// Presents an item. Returns `Failed` only if the count rose; even then the item counts as handed over.
     fn present(&mut self, shown: Shown) -> Result<(), Failed>
         ensures handed { (begun : Self) (items : List ShownValue) → handed begun self.old items → handed begun self.new (items ++ shown ∷ []) }
         ensures counted { IsCounted (faults self.old) (faults self.new) result };

@@ -6,7 +6,7 @@ ghost use Rattle.presenter_ring.specs.Pulls.{items_of, ending_of};
 use avtp_base::Refusal;
 use sample_schedule::Shown;
 
-/// What a receiver answers: the next item, or why none will come.
+/// A receiver's answer: the next item, or why there will be none.
 #[derive(Debug, Drop)]
 pub enum Pull {
     /// The next item.
@@ -23,15 +23,14 @@ pub enum Pull {
     Memory,
 }
 
-/// Something that gives items, one after another, until it ends. What it gave is said of two values, one from which on
-/// items were given and one that it became, since a side that borrows what it works on keeps no account of how that was
-/// at first.
+/// Gives items, one after another, until it ends. `gave` relates two of its states, an earlier and a later one, because
+/// a side that borrows the receiver does not keep its first state.
 pub trait Receiver: Send {
     ghost use Rattle.std.specs.Prelude.{List, ℕ, Option};
     ghost use Rattle.sample_schedule.specs.declared.shown.Shown.{Shown as ShownValue};
     ghost use Rattle.presenter_ring.specs.declared.receiver.Pull.{Pull as PullValue};
 
-    /// From how the first was on, the receiver gave these items, in this order, and so became the second.
+    /// The first became the second when it gave these items, in this order.
     ghost gave: { Self → Self → List ShownValue → Type 0 };
 
     /// The most items that it can still give.
@@ -40,7 +39,7 @@ pub trait Receiver: Send {
     /// The answer with which it ended, once it has.
     ghost ended: { Self → Option PullValue };
 
-    /// Gives the next item. Needs that the receiver has not ended, which any other answer says it has.
+    /// Gives the next item. Any other answer means that the receiver has ended, and then it must not be called again.
     fn next(&mut self) -> Pull
         requires { ended self.old ≡ None }
         ensures gave { (begun : Self) (items : List ShownValue) → gave begun self.old items → gave begun self.new (items ++ items_of result) }

@@ -1,4 +1,4 @@
--- What is found in a packet of a capture, after the packets that were noted before it. These rules are this project's
+-- The findings in a packet of a capture, given the packets that were noted before it. These rules are this project's
 -- own.
 use Rattle.std.specs.Prelude.{ℕ, ◌+◌, ◌-◌, ◌%◌, ◌==◌, Bool, true, false, not, ◌&&◌, nat_lt, if◌then◌else◌, List, [], ◌∷◌, ◌++◌, length, map, filter, reverse, take, Option, Some, None}
 use Rattle.std.specs.Bool.{beq}
@@ -13,20 +13,20 @@ use Rattle.sequence_track.specs.declared.stream.StreamKey.{StreamKey}
 abbrev pub stream_of : Seen → StreamKey
 stream_of seen = record { subtype = seen.subtype; id = seen.id }
 
--- two streams are one: subtype and stream id are equal
+-- the two are the same stream: subtype and stream id are equal
 abbrev pub same_stream : StreamKey → StreamKey → Bool
 same_stream a b = a.subtype == b.subtype && a.id == b.id
 
--- the streams of a list, each only at its first place
+-- the streams of a list, each only where it comes first
 abbrev pub distinct : List StreamKey → List StreamKey
 distinct [] = []
 distinct (stream ∷ streams) = stream ∷ filter (λ other. not (same_stream stream other)) (distinct streams)
 
--- how many streams are tracked at most
+-- the greatest number of streams that are tracked
 abbrev pub most_streams : ℕ
 most_streams = 1024
 
--- the streams that are tracked: the first 1,024 of the notes
+-- the streams that are tracked: the first 1,024 that were noted
 abbrev pub tracked : List Seen → List StreamKey
 tracked notes = take most_streams (distinct (map stream_of notes))
 
@@ -34,7 +34,7 @@ tracked notes = take most_streams (distinct (map stream_of notes))
 abbrev pub is_tracked : StreamKey → List Seen → Bool
 is_tracked stream notes = list_any (same_stream stream) (tracked notes)
 
--- the notes of a stream, the last of them first
+-- the notes of a stream, newest first
 abbrev pub recent : StreamKey → List Seen → List Seen
 recent stream notes = reverse (filter (λ note. same_stream stream (stream_of note)) notes)
 
@@ -50,16 +50,16 @@ step_after [] seen = None
 step_after (previous ∷ older) seen =
     if step_from previous.seq seen.seq == 1 then None else Some (step_from previous.seq seen.seq)
 
--- how many of the packets, from the last one back, have this value of the media clock restart without a break
+-- how many of the newest packets have this value of the media clock restart, without a break
 abbrev pub stood : Bool → List Seen → ℕ
 stood mr notes = prefix_len (λ note. beq note.mr mr) notes
 
--- how many packets a value of the media clock restart lasts at least, after it came by a change
+-- the least number of packets for which a value of the media clock restart must last after a change
 abbrev pub least_hold : ℕ
 least_hold = 8
 
--- For how many packets a value of the media clock restart lasted, if it came by a change and is given up too early. It
--- came by a change if the stream has more packets than those.
+-- For how many packets a value of the media clock restart lasted, if it came by a change and changes again too early.
+-- It came by a change if the stream has older packets, too.
 abbrev pub early : ℕ → ℕ → Option ℕ
 early packets all = if nat_lt packets all && nat_lt packets least_hold then Some packets else None
 
@@ -72,7 +72,7 @@ hold_after (previous ∷ older) seen =
 
 -- ---- the findings
 
--- what is found in a packet of a stream that is tracked
+-- the findings in a packet of a stream that is tracked
 abbrev pub tracked_findings : List Seen → Seen → Findings
 tracked_findings notes seen = record {
   reserved = seen.reserved;
@@ -82,11 +82,11 @@ tracked_findings notes seen = record {
   untracked = false;
 }
 
--- what is found in a packet of a stream that is not tracked: whether a reserved bit is set, and nothing else
+-- the findings in a packet of a stream that is not tracked: whether a reserved bit is set, and nothing else
 abbrev pub untracked_findings : Seen → Findings
 untracked_findings seen = record { reserved = seen.reserved; step = None; hold = None; stamp = false; untracked = true }
 
--- what is found in a packet after these notes
+-- the findings in a packet after these notes
 abbrev pub findings : List Seen → Seen → Findings
 findings notes seen =
     if is_tracked (stream_of seen) (notes ++ seen ∷ [])

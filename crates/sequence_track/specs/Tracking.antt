@@ -10,7 +10,7 @@ use Rattle.sequence_track.specs.Findings.{same_stream, tracked, is_tracked, rece
 abbrev pub held_of : ℕ → ℕ → Option ℕ
 held_of packets all = if nat_lt packets all then Some (min packets least_hold) else None
 
--- what is kept of a stream with these notes, the last of them first
+-- the state that is kept for a stream with these notes, newest first
 abbrev pub state_of : List Seen → Option StreamState
 state_of [] = None
 state_of (last ∷ older) = Some (record {
@@ -19,11 +19,11 @@ state_of (last ∷ older) = Some (record {
   held = held_of (stood last.mr (last ∷ older)) (length (last ∷ older));
 })
 
--- what is kept of a stream after these notes; nothing if it is not tracked
+-- the state that is kept for a stream after these notes; none if it is not tracked
 abbrev pub kept_of : List Seen → StreamKey → Option StreamState
 kept_of notes stream = if is_tracked stream notes then state_of (recent stream notes) else None
 
--- A tracker, which shows what it keeps of each stream, has noted these packets so far.
+-- A tracker, seen as the state that it keeps for each stream, has noted these packets so far.
 pub record StandsFor (tracker : List (StreamKey × StreamState)) (notes : List Seen) : Type 0 where
   pub states : (stream : StreamKey) → lookup (same_stream stream) tracker ≡ kept_of notes stream
   pub count : length tracker ≡ length (tracked notes)

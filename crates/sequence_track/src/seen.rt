@@ -1,9 +1,9 @@
-//! What is noted of a packet, and what is found in it.
+//! What a tracker notes of a packet, and what it finds in it.
 
 ghost use Rattle.std.specs.Prelude.{◌≡◌};
 ghost use Rattle.sequence_track.specs.Findings.{untracked_findings};
 
-/// What a tracker is given of a packet.
+/// The facts of a packet that a tracker needs.
 #[derive(Clone, Copy, Debug, PartialEq, Eq)]
 pub struct Seen {
     /// The stream id.
@@ -16,11 +16,11 @@ pub struct Seen {
     pub mr: bool,
     /// A reserved bit is set.
     pub reserved: bool,
-    /// The packet is stamped and must not be by its format, or is not stamped and must be.
+    /// The packet has a timestamp that its format does not want, or lacks one that it wants.
     pub stamp_wrong: bool,
 }
 
-/// What is found in a packet.
+/// The findings in a packet.
 #[derive(Clone, Copy, Debug, PartialEq, Eq)]
 pub struct Findings {
     /// A reserved bit is set.
@@ -29,14 +29,14 @@ pub struct Findings {
     pub step: Option<u8>,
     /// For how many packets of the stream the media clock restart kept its value, if it changes again before 8.
     pub hold: Option<u32>,
-    /// The packet is stamped and must not be by its format, or is not stamped and must be.
+    /// The packet has a timestamp that its format does not want, or lacks one that it wants.
     pub stamp: bool,
-    /// The stream came after as many others as are tracked.
+    /// The stream is not tracked, because 1,024 others are.
     pub untracked: bool,
 }
 
 impl Findings {
-    /// What is found in a packet of a stream that is not tracked.
+    /// The findings in a packet of a stream that is not tracked.
     pub(crate) fn of_untracked(seen: &Seen) -> Self
         ensures { result ≡ untracked_findings seen.now }
     {

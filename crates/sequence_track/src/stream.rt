@@ -1,4 +1,4 @@
-//! A stream, and what is kept of it.
+//! A stream, and the state that is kept for it.
 
 ghost use Rattle.std.specs.Prelude.{◌≡◌, ◌∷◌, [], List, Some};
 ghost use Rattle.sequence_track.specs.Findings.{hold_after, step_after, stream_of, tracked_findings};
@@ -7,10 +7,10 @@ ghost use Rattle.sequence_track.specs.declared.seen.Seen.{Seen as SeenValue};
 
 use crate::seen::{Findings, Seen};
 
-/// For how many packets at least a media clock restart keeps its value.
+/// The least number of packets for which a media clock restart must keep its value.
 const LEAST_HOLD: u32 = 8;
 
-/// A stream, apart from what is noted of it.
+/// What identifies a stream.
 #[derive(Clone, Copy, Debug, PartialEq, Eq, Hash)]
 pub struct StreamKey {
     pub subtype: u8,
@@ -29,7 +29,7 @@ impl Seen {
     }
 }
 
-/// What is kept of a stream that has a packet.
+/// The state of a stream after at least one packet.
 #[derive(Clone, Copy, Debug)]
 pub struct StreamState {
     /// The sequence number of the last packet.
@@ -41,7 +41,7 @@ pub struct StreamState {
 }
 
 impl StreamState {
-    /// The state of a stream with its first packet.
+    /// The state of a stream after its first packet.
     pub fn first(seen: &Seen) -> Self
         ensures { Some result ≡ state_of (seen.now ∷ []) }
     {
@@ -52,7 +52,7 @@ impl StreamState {
         }
     }
 
-    /// The state with one more packet.
+    /// The state after one more packet.
     pub fn after(&self, seen: &Seen) -> Self
         ensures { (recent : List SeenValue) → state_of recent ≡ Some self.now → state_of (seen.now ∷ recent) ≡ Some result }
     {
@@ -69,7 +69,7 @@ impl StreamState {
         }
     }
 
-    /// How far the next packet's sequence number is from the last one's, if it is not the next.
+    /// The step from the last sequence number to the next packet's, if it is not 1.
     fn step(&self, seen: &Seen) -> Option<u8>
         ensures { (recent : List SeenValue) → state_of recent ≡ Some self.now → result ≡ step_after recent seen.now }
     {
@@ -90,7 +90,7 @@ impl StreamState {
         }
     }
 
-    /// What is found in the next packet.
+    /// The findings in the next packet.
     pub fn findings(&self, seen: &Seen) -> Findings
         ensures { (recent : List SeenValue) → state_of recent ≡ Some self.now → result ≡ tracked_findings recent seen.now }
     {
@@ -104,7 +104,7 @@ impl StreamState {
     }
 }
 
-/// What is found in the first packet of a stream.
+/// The findings in the first packet of a stream.
 pub fn first_findings(seen: &Seen) -> Findings
     ensures { result ≡ tracked_findings [] seen.now }
 {

@@ -15,7 +15,7 @@ use std::marker::Model;
 /// The most streams that are tracked.
 const MOST_STREAMS: usize = 1024;
 
-/// What is kept of the first 1,024 streams.
+/// The state of the first 1,024 streams.
 #[derive(Drop)]
 pub struct Tracker {
     streams: HashMap<StreamKey, StreamState>,
@@ -45,7 +45,7 @@ impl Tracker {
         Ok(Tracker { streams })
     }
 
-    /// Notes a packet that has a valid stream id, and answers what is found in it. Takes no memory.
+    /// Notes a packet that has a valid stream id, and returns the findings in it. Allocates nothing.
     pub fn note(&mut self, seen: Seen) -> Findings
         ensures noted { (notes : List SeenValue) → StandsFor self.old notes → StandsFor self.new (notes ++ seen ∷ []) }
         ensures found { (notes : List SeenValue) → StandsFor self.old notes → result ≡ findings notes seen }

@@ -1,5 +1,5 @@
--- Numbers that look as if they were drawn at random, and are the same in each run: the linear congruential generator that
--- the standard of C gives as an example, with one more bit of its state (own).
+-- Pseudo-random numbers, the same in each run: the linear congruential generator that the C standard gives as an example,
+-- with one more bit of its state (this project's own).
 use Rattle.std.specs.Prelude.{ℕ, zero, suc, ◌+◌, ◌*◌, ◌/◌, ◌%◌, ◌^◌}
 
 -- the states are the numbers below this

@@ -1,4 +1,4 @@
--- What becomes of the deliveries, counted (own).
+-- What becomes of the deliveries, counted.
 use Rattle.std.specs.Prelude.{ℕ, ◌+◌, Bool, true, false, List, length, count_by}
 use Rattle.sample_schedule.specs.declared.shown.Reason.TheVariants.{Full, Late, Repeat, Untimed}
 use Rattle.sample_schedule.specs.declared.shown.Shown.{Shown}
@@ -25,7 +25,7 @@ abbrev pub is_untimed : Shown → Bool
 is_untimed (Flag frame seq Untimed) = true
 is_untimed shown = false
 
--- an item is flagged since the buffer is full
+-- an item is flagged because the buffer is full
 abbrev pub is_full : Shown → Bool
 is_full (Flag frame seq Full) = true
 is_full shown = false

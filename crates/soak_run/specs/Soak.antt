@@ -1,4 +1,5 @@
--- The deliveries of a stream over a bad network: packets are lost, copied and late, as the noise has it (own).
+-- The deliveries of a stream over a bad network: which packets are lost, copied or late is drawn. The network is this
+-- project's own.
 use Rattle.std.specs.Prelude.{ℕ, ℤ, pos, zero, suc, ◌+◌, ◌*◌, ◌%◌, ◌==◌, true, int_lt, if◌then◌else◌, List, [], ◌∷◌, map, None}
 use Rattle.std.specs.List.{flat_map, range_with_len}
 use Rattle.aaf_format.specs.declared.aaf.AafFormat.TheVariants.{Int16}
@@ -57,12 +58,12 @@ all_copies seed packets = flat_map (copies seed) (range_with_len 0 packets)
 
 -- ---- as they arrive
 
--- a copy, after those that arrive earlier
+-- a sorted list with one more copy, which comes after those that arrive earlier
 abbrev pub put_in : ℤ × ℕ → List (ℤ × ℕ) → List (ℤ × ℕ)
 put_in copy [] = copy ∷ []
 put_in copy (next ∷ rest) = if int_lt next.0 copy.0 then next ∷ put_in copy rest else copy ∷ next ∷ rest
 
--- copies by arrival; those that arrive together stand as before
+-- copies sorted by arrival; those that arrive together keep their order
 abbrev pub by_arrival : List (ℤ × ℕ) → List (ℤ × ℕ)
 by_arrival [] = []
 by_arrival (copy ∷ rest) = put_in copy (by_arrival rest)

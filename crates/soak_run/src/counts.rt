@@ -8,8 +8,8 @@ use avtp_base::Failed;
 use presenter_ring::Presenter;
 use sample_schedule::{Reason, Shown};
 
-/// What becomes of the packets of a stream that are delivered. As a presenter it counts what it is handed, each number
-/// up to the largest of 64 bits, since it may be handed any number of items; no count of `soak` comes so far.
+/// What becomes of the delivered packets of a stream. As a presenter it counts what it is handed. Each count stops at
+/// 2^64 - 1, because a presenter may be handed any number of items; no count of `soak` gets that far.
 #[derive(Clone, Copy, Debug, PartialEq, Eq)]
 pub struct SoakCounts {
     /// The deliveries: packets that arrive; one that arrives twice counts twice.
@@ -27,7 +27,7 @@ pub struct SoakCounts {
 }
 
 impl SoakCounts {
-    /// None of this many deliveries was shown yet.
+    /// The counts for this many deliveries, before any is shown.
     pub(crate) fn of(delivered: u64) -> Self
         ensures { result ≡ outcomes delivered [] }
     {

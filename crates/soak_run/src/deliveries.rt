@@ -86,9 +86,9 @@ fn copies_of_all(alloc: Global, packets: u32) -> Result<Vec<(i64, u64)>, NoMemor
     Ok(copies)
 }
 
-/// The deliveries of the first `n` packets of the stream, at most 1,000,000, over a bad network: of each when it arrives, in
-/// nanoseconds of gPTP, and the number of its packet. They stand by arrival, then by number, then by copy. `NoMemory` comes
-/// where no memory is found.
+/// The deliveries of the first `n` packets of the stream, at most 1,000,000, over a bad network: for each its arrival,
+/// in nanoseconds of gPTP, and the number of its packet. They are sorted by arrival, then by number, then by copy.
+/// `NoMemory` if the list cannot be allocated.
 pub fn soak_deliveries(alloc: Global, n: u32) -> Result<Vec<(i64, u64)>, NoMemory>
     requires { n ≤ 1000000 }
     ensures { IfOk result (λ deliveries. deliveries.items ≡ deliveries_of n) }

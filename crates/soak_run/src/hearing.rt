@@ -24,14 +24,14 @@ const SOAK_LISTENER: ListenPlan = ListenPlan {
     shift: 0,
 };
 
-/// How far the hearing of deliveries has come.
+/// How far a hearing has come.
 #[derive(Clone, Copy, Debug, PartialEq, Eq)]
 pub enum Stage {
-    /// Deliveries are given to the listener, and what is due of them is shown.
+    /// Deliveries are still being given to the listener, and what is due is shown.
     Giving,
-    /// All were given, and the rest is shown.
+    /// All deliveries were given, and the rest is being shown.
     Showing,
-    /// All was shown.
+    /// Everything was shown.
     Ended,
     /// No memory was found for a delivery.
     NoMemory,
@@ -60,7 +60,7 @@ fn deliver(
     Ok(())
 }
 
-/// Packets of a talker that are delivered, the listener that is given them, and how far it was.
+/// The packets of a talker that are delivered, the listener that hears them, and how far it has come.
 #[derive(Drop)]
 pub struct Hearing<'a> {
     pub alloc: Global,
@@ -84,7 +84,7 @@ impl<'a> Hearing<'a> {
     ghost use Rattle.soak_run.specs.state.Hearing.{left_of, pull_at, steps_left};
     ghost use Rattle.soak_run.specs.state.Showing.{HasShown};
 
-    /// The hearing of deliveries of which none was given yet.
+    /// A hearing before the first delivery is given.
     pub fn begin(
         alloc: Global,
         talker: Talker<'a>,
@@ -108,7 +108,8 @@ impl<'a> Hearing<'a> {
         })
     }
 
-    /// Gives the next delivery to the listener, or closes it if all were given. Nothing is due of those before.
+    /// Gives the next delivery to the listener, or closes the listener if all were given. Nothing that was given before
+    /// may still be due.
     fn go_on(&mut self) -> Result<(), NoMemory>
         requires giving { self.old.stage ≡ Stage.Giving }
         requires idle { IsIdle self.old.listener }

@@ -10,8 +10,8 @@ ghost use Rattle.soak_run.specs.Outcomes.{soak_counts, soak_shown, total};
 
 use cvf_format::laws::packet_again;
 
-/// The deliveries make a capture that reads back as their records, so what is shown of these is what a listener shows
-/// that is fed with the capture's bytes.
+/// The capture of the deliveries reads back as their records, so a listener that reads the capture's bytes shows what
+/// is shown of the records.
 pub fn capture_is_heard()
     ensures records { (packets : ℕ) → packets ≤ 1000000 → whole_records (soak_capture packets) ≡ soak_records packets }
     ensures refusal { (packets : ℕ) → packets ≤ 1000000 → first_refusal (soak_capture packets) ≡ None }
@@ -25,7 +25,7 @@ pub fn deliveries_are_heard()
     packet_again();
 }
 
-/// So what is shown of them keeps the headline.
+/// What is shown of the deliveries keeps the headline.
 pub fn deliveries_keep_headline()
     ensures { (packets : ℕ) → packets ≤ 1000000 → KeepsHeadline (pos 0) (soak_stream packets).journal soak_listener (soak_records packets) (soak_shown packets) }
 {

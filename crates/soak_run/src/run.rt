@@ -53,7 +53,7 @@ fn hear<T: Threads + Sync>(
     }
 }
 
-/// Whether a pipe's receiver ended since it had given all.
+/// Whether a pipe's receiver ended because it had given everything.
 fn is_over(pipe: &Pipe) -> bool
     ensures { result ≡ true → ended_with pipe.now ≡ Some Pull.Done }
 {
@@ -63,22 +63,22 @@ fn is_over(pipe: &Pipe) -> bool
     }
 }
 
-/// A stream without another fault has none but want of memory.
+/// The only fault that this stream can have is lack of memory.
 fn want_of_memory(_fault: TalkFault) -> NoMemory
     requires { _fault ≡ Memory }
 {
     NoMemory
 }
 
-/// Sends `packets` packets over a bad network, at most 1,000,000, has a listener hear what arrives, and answers what
-/// became of it. `NoMemory` comes if no memory is found.
+/// Sends `packets` packets over a bad network, at most 1,000,000, has a listener hear what arrives, and returns what
+/// became of it. `NoMemory` if memory cannot be allocated.
 ///
-/// The stream is sparse PCM of two channels at 48 kHz, with six sample frames in a packet. One packet in 16 is lost and one
-/// comes twice, and each copy comes up to 2.52 ms late. The listener looks 32 items ahead, and is given the deliveries as the
-/// records of a capture, in the order in which they arrive. Each of them has one outcome, so the counts add up.
+/// The stream is sparse PCM of two channels at 48 kHz, with six sample frames in a packet. One packet in 16 is lost and
+/// one comes twice, and each copy comes up to 2.52 ms late. The listener looks 32 items ahead, and hears the deliveries
+/// in the order in which they arrive, as the records of a capture. Each delivery has one outcome, so the counts add up.
 ///
 /// One thread talks and hears, and another counts what is shown, with a ring between them. The counts do not depend on
-/// what the two saw of each other.
+/// how the threads interleave.
 pub fn soak<T: Threads + Sync>(rt: &T, alloc: Global, packets: u32) -> Result<SoakCounts, NoMemory>
     requires { packets ≤ 1000000 }
     ensures exact { IfOk result (λ counts. counts ≡ soak_counts packets) }

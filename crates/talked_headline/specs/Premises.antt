@@ -19,8 +19,8 @@ use Rattle.talker.specs.Units.{sent_units}
 abbrev pub captured : TalkPlan → List ℕ → List ℕ → List Record
 captured plan input places = whole_records (capture_of (frames_at plan input places))
 
--- The plan is one of audio and talked of the input, and the listener listens to its stream, with its clock or without
--- one. The listener's lead lets it tell packets without a timestamp apart.
+-- The plan is one of audio and sends this input, and the listener listens to its stream, with its clock or without one.
+-- The listener's lead lets it tell packets without a timestamp apart.
 pub record ListensTo (plan : TalkPlan) (input : List ℕ) (listen : ListenPlan) : Type 0 where
   pub talked : IsAudioPlan plan
   pub id : plan.id < 2 ^ 64
@@ -42,9 +42,9 @@ pub record HasRoomFor (plan : TalkPlan) (input : List ℕ) (listen : ListenPlan)
 
 -- ---- H.264
 
--- The plan is one of H.264 and talked of the input, and the listener listens to its stream. If the plan stamps the last
--- fragments of units alone, adjacent captured fragments are of packets at most 254 apart, unless both are stamped.
--- Nothing is asked of the listener's lead.
+-- The plan is one of H.264 and sends this input, and the listener listens to its stream. If the plan stamps the last
+-- fragments of units alone, adjacent captured fragments are of packets at most 254 apart, unless both are stamped. The
+-- listener may have any lead.
 pub record ListensToVideo (plan : TalkPlan) (input places : List ℕ) (listen : ListenPlan) : Type 0 where
   pub last_stamp : Bool
   pub kind : plan.kind ≡ H264 last_stamp

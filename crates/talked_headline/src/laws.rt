@@ -20,8 +20,8 @@ use talker::laws::{
     capture_delivers, journal_conforms, losses_are_delivered, packets_are_sent_in_time,
 };
 
-/// Whatever a capture loses, repeats or reorders of the frames of a plan of audio, those of its clock among them, it meets the whole premise of
-/// the headline, for listeners with the clock and without.
+/// A capture of the frames of an audio plan and of its clock meets the whole premise of the headline, whatever it
+/// loses, repeats or reorders, for listeners with the clock and without.
 pub fn talked_is_heard()
     ensures { (plan : TalkPlan) (input places : List ℕ) (listen : ListenPlan) → ListensTo plan input listen → HearsTalker (pos 0) (journal plan input) listen (captured plan input places) }
 {
@@ -29,8 +29,8 @@ pub fn talked_is_heard()
     losses_are_delivered();
 }
 
-/// So what a listener shows of it keeps the headline, and nothing is asked but that the plan is talked and the listener
-/// listens to it.
+/// What a listener shows of such a capture keeps the headline, if the plan is talked and the listener listens to its
+/// stream.
 pub fn talked_keeps_headline()
     ensures { (plan : TalkPlan) (input places : List ℕ) (listen : ListenPlan) → ListensTo plan input listen
         → KeepsHeadline (pos 0) (journal plan input) listen (captured plan input places) (shown_of listen (captured plan input places)) }
@@ -39,8 +39,8 @@ pub fn talked_keeps_headline()
     headline_holds();
 }
 
-/// The first packet that is captured of a plan of audio must be presented, if it is stamped and has room, whatever
-/// comes after it: it is welcome at place 0, so the headline says something of each such capture.
+/// The first captured packet of an audio plan must be presented if it has a timestamp and there is room, whatever comes
+/// after it. So the headline says something about each such capture.
 pub fn talked_is_welcome()
     ensures { (plan : TalkPlan) (input places : List ℕ) (listen : ListenPlan) (n : ℕ) → ListensTo plan input listen → HasRoomFor plan input listen n
         → (made : MadeItem) × IsWelcome (journal plan input) listen (captured plan input (n ∷ places)) 0 n made }
@@ -69,8 +69,8 @@ pub fn talked_again_is_further()
     second_copy_is_further();
 }
 
-/// Whatever a capture loses, repeats or reorders of a plan of H.264, it meets the whole premise of the headline, too.
-/// If the plan stamps the last fragments of units alone, adjacent captured fragments have to be of packets that are at
+/// A capture of an H.264 plan meets the whole premise of the headline, too, whatever it loses, repeats or reorders. If
+/// the plan stamps the last fragments of units alone, adjacent captured fragments have to be of packets that are at
 /// most 254 apart.
 pub fn talked_video_is_heard()
     ensures { (plan : TalkPlan) (input places : List ℕ) (listen : ListenPlan) → ListensToVideo plan input places listen → HearsTalker (pos 0) (journal plan input) listen (captured plan input places) }
@@ -79,8 +79,8 @@ pub fn talked_video_is_heard()
     losses_are_delivered();
 }
 
-/// So what a listener shows of it keeps the headline: each unit that is presented is one of the plan's units, whole, with its
-/// bytes and at its instant.
+/// What a listener shows of such a capture keeps the headline: each unit that is presented is one of the plan's units,
+/// whole, with its bytes and at its instant.
 pub fn talked_video_keeps_headline()
     ensures { (plan : TalkPlan) (input places : List ℕ) (listen : ListenPlan) → ListensToVideo plan input places listen
         → KeepsHeadline (pos 0) (journal plan input) listen (captured plan input places) (shown_of listen (captured plan input places)) }

@@ -1,5 +1,5 @@
--- Instants: whole nanoseconds of gPTP (IEEE 802.1AS). A packet's timestamp has the low 32 bits of one
--- (IEEE 1722-2016, 4.4.4, avtp_timestamp).
+-- Instants: whole nanoseconds of gPTP (IEEE 802.1AS). A packet's timestamp is the low 32 bits of an instant (IEEE
+-- 1722-2016, 4.4.4, avtp_timestamp).
 use Rattle.std.specs.Prelude.{◌≡◌, ℕ, ◌^◌, ℤ, pos, neg_ℤ, ◌+ℤ◌, ◌-ℤ◌, ◌≤ℤ◌, ◌<ℤ◌}
 use Rattle.std.specs.Int.{int_rem_euclid}
 

@@ -1,4 +1,4 @@
-//! The stamps from which packets are counted, of a stream that goes on.
+//! The stamps from which the packets of a running stream are counted.
 
 ghost use Rattle.std.specs.Prelude.{◌≡◌, ◌++◌, ◌∷◌, [], IfOk, IfSome, List};
 ghost use Rattle.time_unfold.specs.declared.stamp.Stamp.{Stamp as StampValue};
@@ -32,7 +32,7 @@ impl Model for Anchors {
 }
 
 impl Anchors {
-    /// No stamps, with room for `room` of them, 1 to 80. Reserves all the memory that they take.
+    /// An empty window with room for `room` stamps, 1 to 80. Reserves all its memory.
     pub fn new(alloc: Global, room: u32) -> Result<Self, NoMemory>
         requires { IsRoom room }
         ensures empty { IfOk result (λ anchors. KeepsLast anchors []) }
@@ -43,7 +43,7 @@ impl Anchors {
     }
 
     /// Notes a stamp, and drops the oldest if there is no room for one more. Its instant is from -2^62 to below 2^62 +
-    /// 2^31 ns. Takes no memory.
+    /// 2^31 ns. Allocates nothing.
     pub fn note(&mut self, stamp: Stamp)
         requires { IsStamp stamp }
         ensures noted { (stamps : List StampValue) → KeepsLast self.old stamps → KeepsLast self.new (stamps ++ stamp ∷ []) }
@@ -52,8 +52,8 @@ impl Anchors {
         self.stamps.push_back(stamp);
     }
 
-    /// The stamp from which a packet without one is counted: what `head_among` answers for all stamps that were noted.
-    /// It is None exactly if none of those that are held fits. Takes no memory.
+    /// The stamp from which a packet without one is counted: what `head_among` returns for all stamps that were noted.
+    /// `None` exactly if none of the held ones fits. Allocates nothing.
     pub fn find(&self, want: &Want) -> Option<Stamp>
         requires { IsWant want.now }
         ensures value { (stamps : List StampValue) → KeepsLast self.now stamps → result ≡ found self.now.room want.now stamps }

@@ -1,4 +1,4 @@
-//! The stamp from which a packet is counted that has none of its own.
+//! The stamp from which a packet without one is counted.
 
 ghost use Rattle.std.specs.Prelude.{◌≡◌, ◌≤◌, ◌*◌, All, IfSome};
 ghost use Rattle.time_unfold.specs.Limits.{IsStamp, IsWant};

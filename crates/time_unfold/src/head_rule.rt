@@ -33,7 +33,7 @@ pub struct Head {
     pub first: i64,
 }
 
-/// How far back the stamped sample lies from which a packet is counted.
+/// How far back the stamped sample is from which a packet is counted.
 #[derive(Clone, Copy, Debug, PartialEq, Eq)]
 pub struct Distance {
     /// The number of packets.

@@ -1,4 +1,4 @@
-//! Numbers that look as if they were drawn at random, the same in each run.
+//! Pseudo-random numbers, the same in each run.
 
 ghost use Rattle.std.specs.Prelude.{◌<◌, max};
 

@@ -1,5 +1,5 @@
-//! What tests share: test vectors of AVTP packets and captures, bytes as rows of tables spell them, and numbers that are drawn
-//! alike in each run.
+//! What tests share: test vectors of AVTP packets and captures, bytes as rows of tables spell them, and pseudo-random
+//! numbers that are the same in each run.
 #![tactic(auto)]
 
 mod changes;

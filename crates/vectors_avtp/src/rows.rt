@@ -58,7 +58,7 @@ pub fn row_of(line: &str) -> Result<(&str, &str), Fail> {
     Ok((row.trim(), wanted.trim()))
 }
 
-/// A refusal as rows spell it: `stream_data_length at 20`, with ` short` where the field is cut off.
+/// A refusal as rows spell it: `stream_data_length at 20`, with ` short` if the field is cut off.
 pub fn refusal_text(alloc: Global, refusal: Refusal) -> Result<String, AllocError> {
     let short = if refusal.short { " short" } else { "" };
     format!(in alloc; "{} at {}{short}", refusal.field.name(), refusal.at)

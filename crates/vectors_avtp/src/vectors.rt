@@ -53,9 +53,9 @@ const V5: [u8; 160] = [
     0xff, 0xfc, 0x00, 0x05, 0xff, 0xfb, 0x00, 0x06, 0xff, 0xfa, 0x00, 0x00, 0x64, 0x00, 0x00, 0x00,
 ];
 
-/// The vector of this number, 1 to 5.
+/// The vector with this number, 1 to 5.
 ///
-/// `NoMemory` comes where no memory is found.
+/// `NoMemory` if it cannot be allocated.
 #[tactic(auto, unfolding(hex::proofs::OnLiterals::hex_on_literals))]
 pub fn vector(alloc: Global, n: u32) -> Result<Vec<u8>, NoMemory>
     requires first { 0 < n }
