@@ -1,7 +1,7 @@
 -- The lines of `talk`.
 use Rattle.std.specs.Prelude.{List, ℕ, ◌++◌, codes, decimal}
-use Rattle.talker.specs.declared.fault.TalkFault.{TalkFault}
-use Rattle.talker.specs.declared.fault.TalkFault.TheVariants.{Frames, StartCode, NalType, Packets, Arrival, Memory}
+use Rattle.talk_plan.specs.declared.fault.TalkFault.{TalkFault}
+use Rattle.talk_plan.specs.declared.fault.TalkFault.TheVariants.{Frames, StartCode, NalType, Packets, Arrival, Memory}
 use Rattle.avtp_text.specs.Pieces.{newline}
 
 -- how a fault of the input is named

@@ -3,9 +3,10 @@ use Rattle.std.proofs.Common.{◌≡◌, ℕ, ◌<◌, ◌*◌, ℤ, pos, negsuc
 use Rattle.std.specs.Prelude.{◌^◌, neg_ℤ, unsigned_abs, codes, IsErrAnd, IsSome, IsSomeAnd, MatchOption, option_map}
 use Rattle.std.proofs.lemmas.Int.{ints}
 use Rattle.iec61883_format.specs.Iec.{block_size, rate_of_fdf, syt_interval}
-use Rattle.talker.specs.declared.plan.TalkPlan.{TalkPlan}
-use Rattle.talker.specs.Plan.{FitsBlocks, FitsPacket, HasClock, HasRate, HasWholeRuns, IsAudioKind, IsAudioPlan, IsPlanOf, IsVideoPlan, Restarts, fdf_of, rate_code, spacing_of}
-use Rattle.talker.proofs.LawLemmas.{named_blocks, named_fdf, named_rate}
+use Rattle.talk_plan.specs.declared.plan.TalkPlan.{TalkPlan}
+use Rattle.talk_plan.specs.Plan.{FitsBlocks, FitsPacket, HasClock, HasRate, HasWholeRuns, IsAudioKind, IsAudioPlan, IsPlanOf, IsVideoPlan, Restarts, fdf_of, rate_code, spacing_of}
+use Rattle.talker.proofs.LawLemmas.{named_blocks}
+use Rattle.talk_plan.proofs.RateLemmas.{named_fdf, named_rate}
 use Rattle.avtp_words.specs.declared.command.Command.{Command}
 use Rattle.avtp_words.specs.declared.command.Offence.{Offence}
 use Rattle.avtp_words.specs.declared.crf.Crf.{Crf}

@@ -10,10 +10,10 @@ use Rattle.packet_journal.specs.Packets.{PacketJournal}
 use Rattle.listener.specs.Heard.{counts_of, shown_of}
 use Rattle.listener.specs.Laws.{HearsTalker}
 use Rattle.listener.proofs.TrueHeadline.{headline}
-use Rattle.talker.specs.declared.fault.TalkFault.{TalkFault}
-use Rattle.talker.specs.declared.plan.TalkPlan.{TalkPlan}
+use Rattle.talk_plan.specs.declared.fault.TalkFault.{TalkFault}
+use Rattle.talk_plan.specs.declared.plan.TalkPlan.{TalkPlan}
 use Rattle.talker.specs.Faults.{fault_of}
-use Rattle.talker.specs.Talking.{most_input}
+use Rattle.talk_plan.specs.Plan.{most_input}
 use Rattle.capture_io.specs.declared.end.End.{End}
 use Rattle.capture_io.specs.declared.end.End.TheVariants as end
 use Rattle.capture_io.specs.Ends.{at_end, EndsAt, end_of}

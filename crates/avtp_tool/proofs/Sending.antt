@@ -13,7 +13,7 @@ use Rattle.std.proofs.lemmas.List.Folds.{flat_map-map}
 use Rattle.std.proofs.lemmas.Option.{get_or_from_slice_get, slice_get_within}
 use Rattle.pcap_frames.specs.Capture.{header_spelling, record_spelling}
 use Rattle.pcap_frames.specs.Layout as layout
-use Rattle.talker.specs.declared.plan.TalkPlan.{TalkPlan}
+use Rattle.talk_plan.specs.declared.plan.TalkPlan.{TalkPlan}
 use Rattle.talker.specs.Frames.{SentFrame, capture, capture_style, frames, record_of}
 
 -- the bytes of a frame's record

@@ -16,7 +16,7 @@ use Rattle.capture_io.specs.Ends.{CountsStop}
 use Rattle.capture_io.specs.Reads.{OnlyReads}
 use Rattle.capture_io.specs.Writing.{KeepsSlotsBut}
 use Rattle.talker.specs.Frames.{capture}
-use Rattle.talker.specs.Talking.{most_input}
+use Rattle.talk_plan.specs.Plan.{most_input}
 use Rattle.avtp_text.specs.Written.{written}
 use Rattle.avtp_words.specs.Grammar.{talk, Talking}
 use Rattle.avtp_tool.specs.declared.status.Status.{Status}

@@ -7,11 +7,11 @@ use Rattle.avtp_base.specs.declared.failed.OpenFault.TheVariants as open_fault
 use Rattle.avtp_base.specs.Faults.{IsOpenCounted, Rose}
 use Rattle.avtp_base.specs.Files.{Files}
 use Rattle.avtp_base.specs.States.{SinkState}
-use Rattle.talker.specs.declared.fault.TalkFault.{TalkFault}
+use Rattle.talk_plan.specs.declared.fault.TalkFault.{TalkFault}
 use Rattle.talker.specs.declared.fault.TalkFault.TheVariants as fault
-use Rattle.talker.specs.declared.plan.TalkPlan.{TalkPlan}
+use Rattle.talk_plan.specs.declared.plan.TalkPlan.{TalkPlan}
 use Rattle.talker.specs.Faults.{fault_of}
-use Rattle.talker.specs.Talking.{most_input}
+use Rattle.talk_plan.specs.Plan.{most_input}
 use Rattle.avtp_text.specs.Notices.{read_fault_line}
 use Rattle.avtp_text.specs.Written.{written}
 use Rattle.avtp_text.proofs.Printing.{prefix_none}

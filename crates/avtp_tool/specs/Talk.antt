@@ -1,16 +1,16 @@
 -- What `talk` prints and how it ends.
 use Rattle.std.specs.Prelude.{◌≡◌, ℕ, ◌≤◌, ◌<◌, nat_le, List, length, Option, Some, None, option_map, if◌then◌else◌}
-use Rattle.talker.specs.declared.fault.TalkFault.{TalkFault}
-use Rattle.talker.specs.declared.plan.CrfPlan.{CrfPlan}
-use Rattle.talker.specs.declared.plan.TalkKind.{TalkKind}
-use Rattle.talker.specs.declared.plan.TalkKind.TheVariants.{Aaf, Am824, H264}
+use Rattle.talk_plan.specs.declared.fault.TalkFault.{TalkFault}
+use Rattle.talk_plan.specs.declared.plan.CrfPlan.{CrfPlan}
+use Rattle.talk_plan.specs.declared.plan.TalkKind.{TalkKind}
+use Rattle.talk_plan.specs.declared.plan.TalkKind.TheVariants.{Aaf, Am824, H264}
 use Rattle.avtp_words.specs.declared.crf.Crf.{Crf}
 use Rattle.avtp_words.specs.declared.talk.Kind.{Kind}
 use Rattle.avtp_words.specs.declared.talk.Kind.TheVariants as words
-use Rattle.talker.specs.declared.plan.TalkPlan.{TalkPlan}
+use Rattle.talk_plan.specs.declared.plan.TalkPlan.{TalkPlan}
 use Rattle.talker.specs.Faults.{fault_of}
 use Rattle.talker.specs.Frames.{clock_frames, stream_frames}
-use Rattle.talker.specs.Talking.{most_input}
+use Rattle.talk_plan.specs.Plan.{most_input}
 use Rattle.avtp_words.specs.Grammar.{Talking}
 use Rattle.avtp_text.specs.Notices.{limit_line, read_fault_line}
 use Rattle.avtp_text.specs.Talk.{talk_input_line, talk_line}

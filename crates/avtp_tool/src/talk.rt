@@ -2,8 +2,7 @@
 
 ghost use Rattle.std.specs.Prelude.{◌≡◌, ◌≤◌, ◌<◌, false, Option, option_map, Ok, Some, length};
 ghost use Rattle.talker.specs.Frames.{capture};
-ghost use Rattle.talker.specs.Plan.{IsPlan};
-ghost use Rattle.talker.specs.Talking.{most_input};
+ghost use Rattle.talk_plan.specs.Plan.{IsPlan, most_input};
 ghost use Rattle.avtp_words.specs.Grammar.{talk as talk_request, talking_of};
 ghost use Rattle.avtp_text.specs.Talk.{talk_input_line, talk_line};
 ghost use Rattle.avtp_text.specs.Notices.{limit_line};

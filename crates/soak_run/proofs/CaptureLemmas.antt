@@ -8,12 +8,13 @@ use Rattle.pcap_frames.specs.Capture.{HasSpelling}
 use Rattle.stream_journal.specs.Delivered.{AreNear, IsAudioKind, IsDelivered, IsInHalfCircle, IsWithin}
 use Rattle.packet_journal.specs.Carried.{AllCarry, Carries, IsReadKind}
 use Rattle.packet_journal.specs.Packets.{IsConforming, spelling_of}
-use Rattle.talker.specs.Frames.{capture_style, ethernet, packet_bytes}
+use Rattle.talker.specs.Frames.{capture_style}
+use Rattle.talk_plan.specs.Ethernet.{ethernet, packet_bytes}
 use Rattle.talker.specs.Journal.{Stream, stream_of}
-use Rattle.talker.specs.Plan.{Expects}
+use Rattle.talk_plan.specs.Plan.{Expects}
 use Rattle.soak_run.specs.Soak.{deliveries_of, soak_plan}
-use Rattle.talker.specs.Timing.{arrival_of, nominal_instant}
-use Rattle.talker.proofs.DueLemmas.{stamp_is}
+use Rattle.talk_plan.specs.Timing.{arrival_of, nominal_instant}
+use Rattle.talk_audio.proofs.DueLemmas.{stamp_is}
 use Rattle.soak_run.proofs.SoakLemmas.{sent_soon}
 use Rattle.talker.proofs.StreamLemmas.{IsStream, packets_in, writable_frame}
 use Rattle.talker.proofs.TalkLemmas.{plan_keeps}

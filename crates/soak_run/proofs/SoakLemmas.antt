@@ -6,7 +6,7 @@ use Rattle.std.proofs.lemmas.Grind.{flat_map-append}
 use Rattle.std.proofs.lemmas.List.FromFn.{map-range_with_len_more}
 use Rattle.soak_run.specs.Noise.{drawn, first_state, next_state, state_after}
 use Rattle.soak_run.specs.Soak.{all_copies, copies, copies_by, copies_of, copy_of, delay_by, draws_before, soak_plan}
-use Rattle.talker.specs.Timing.{arrival_of, nominal_instant}
+use Rattle.talk_plan.specs.Timing.{arrival_of, nominal_instant}
 
 -- so many copies of a packet were delivered after some others
 pub record Delivering (seed number count noise : ℕ) (old new : List (ℤ × ℕ)) : Type 0 where

@@ -6,14 +6,13 @@ use Rattle.std.specs.Int.{div_ceil}
 use Rattle.std.proofs.lemmas.Int.{ints}
 use Rattle.std.proofs.lemmas.List.{append-nil}
 use Rattle.std.proofs.lemmas.Grind.{flat_map-append}
-use Rattle.talker.specs.declared.fault.TalkFault.{TalkFault}
-use Rattle.talker.specs.declared.fault.TalkFault.TheVariants.{Memory}
+use Rattle.talk_plan.specs.declared.fault.TalkFault.{TalkFault}
+use Rattle.talk_plan.specs.declared.fault.TalkFault.TheVariants.{Memory}
 use Rattle.talker.specs.Faults.{fault_of}
 use Rattle.talker.specs.Frames.{stream_frames}
 use Rattle.soak_run.specs.Soak.{soak_plan}
 use Rattle.talker.specs.Journal.{stream_of}
-use Rattle.talker.specs.Plan.{IsAudioPlan}
-use Rattle.talker.specs.Talking.{most_input}
+use Rattle.talk_plan.specs.Plan.{IsAudioPlan, most_input}
 use Rattle.talker.proofs.StreamLemmas.{count_of, packets_in}
 use Rattle.talker.proofs.TalkLemmas.{none_late}
 use Rattle.soak_run.specs.Captured.{sample_frame, sample_frames, soak_input}

@@ -3,10 +3,10 @@
 use Rattle.std.specs.Prelude.{ℕ, ℤ, pos, zero, suc, ◌+◌, ◌*◌, ◌%◌, ◌==◌, true, int_lt, if◌then◌else◌, List, [], ◌∷◌, map, None}
 use Rattle.std.specs.List.{flat_map, range_with_len}
 use Rattle.aaf_format.specs.declared.aaf.AafFormat.TheVariants.{Int16}
-use Rattle.talker.specs.declared.plan.TalkKind.TheVariants.{Aaf}
-use Rattle.talker.specs.declared.plan.TalkPlan.{TalkPlan}
+use Rattle.talk_plan.specs.declared.plan.TalkKind.TheVariants.{Aaf}
+use Rattle.talk_plan.specs.declared.plan.TalkPlan.{TalkPlan}
 use Rattle.soak_run.specs.Noise.{draw_after}
-use Rattle.talker.specs.Timing.{arrival_of}
+use Rattle.talk_plan.specs.Timing.{arrival_of}
 
 -- the stream: sparse PCM
 abbrev pub soak_plan : TalkPlan

@@ -2,7 +2,7 @@
 
 ghost use Rattle.std.specs.Prelude.{◌≡◌, ◌+◌, ◌≤◌, ◌<◌, ◌^◌, ◌++◌, ℕ, pos, suc, IfOk, OnOk};
 ghost use Rattle.soak_run.specs.Noise.{state_after};
-ghost use Rattle.talker.specs.Timing.{arrival_of};
+ghost use Rattle.talk_plan.specs.Timing.{arrival_of};
 ghost use Rattle.soak_run.specs.Soak.{all_copies, copies as copies_of_packet, copies_by, delay_by, deliveries_of, draws_before, soak_plan};
 
 use crate::noise::Noise;

@@ -3,7 +3,7 @@
 ghost use Rattle.std.specs.Prelude.{◌≡◌, ◌≤◌, ◌^◌, All, IfOk, Some, length, map, true};
 ghost use Rattle.presenter_ring.specs.Pipes.{ended_with};
 ghost use Rattle.listener.specs.Heard.{heard_of, shown_of};
-ghost use Rattle.talker.specs.declared.fault.TalkFault.TheVariants.{Memory};
+ghost use Rattle.talk_plan.specs.declared.fault.TalkFault.TheVariants.{Memory};
 ghost use Rattle.talker.specs.Journal.{stream_of};
 ghost use Rattle.soak_run.specs.Soak.{deliveries_of};
 ghost use Rattle.soak_run.specs.Captured.{captured, soak_capture, soak_listener};

@@ -13,18 +13,17 @@ use Rattle.packet_journal.specs.Delivered.{IsCopyOf}
 use Rattle.packet_journal.specs.Packets.{PacketJournal, PacketView, H264Data, carried, part_of}
 use Rattle.packet_journal.specs.Units.{AreUnit, first_byte, unit_bytes}
 use Rattle.listener.specs.Laws.{AreCopiesFrom}
-use Rattle.talker.specs.declared.plan.TalkKind.TheVariants.{H264}
-use Rattle.talker.specs.declared.plan.TalkPlan.{TalkPlan}
-use Rattle.talker.specs.AccessUnits.{access_unit, nal_in, unit_at}
-use Rattle.talker.specs.Fragments.{Place, next_place, packets_at, part_at, place_of}
+use Rattle.talk_plan.specs.declared.plan.TalkKind.TheVariants.{H264}
+use Rattle.talk_plan.specs.declared.plan.TalkPlan.{TalkPlan}
+use Rattle.talk_video.specs.AccessUnits.{access_unit, nal_in, unit_at}
+use Rattle.talk_video.specs.Fragments.{Place, next_place, packets_at, part_at, place_of}
 use Rattle.talker.specs.Frames.{SentFrame, frames, frames_at, record_of}
 use Rattle.talker.specs.Journal.{journal}
-use Rattle.talker.specs.Units.{sent_units}
-use Rattle.talker.specs.Video.{access_instant, cvf_packet, video_due}
-use Rattle.talker.proofs.SizeLemmas.{cvf_length}
-use Rattle.talker.proofs.UnitLaws.{place_is}
-use Rattle.talker.proofs.VideoParts.{packet_short}
-use Rattle.talker.proofs.VideoRules.{part_tells}
+use Rattle.talk_video.specs.Units.{sent_units}
+use Rattle.talk_video.specs.Video.{access_instant, cvf_packet, video_due}
+use Rattle.talk_video.proofs.VideoParts.{cvf_length, packet_short}
+use Rattle.talk_video.proofs.UnitLaws.{place_is}
+use Rattle.talk_video.proofs.VideoRules.{part_tells}
 use Rattle.talked_headline.specs.Premises.{part_sent}
 
 -- ---- one unit of a byte stream

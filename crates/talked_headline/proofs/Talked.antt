@@ -7,13 +7,13 @@ use Rattle.stream_journal.specs.Delivered.{IsAudioKind as IsAudioStream}
 use Rattle.packet_journal.specs.Carried.{AllCarry, Carries, IsReadKind}
 use Rattle.packet_journal.specs.Deliveries.{belongs, deliveries, delivery, stream_kinds}
 use Rattle.packet_journal.specs.Packets.{PacketJournal}
-use Rattle.talker.specs.declared.plan.TalkKind.{TalkKind}
-use Rattle.talker.specs.declared.plan.TalkKind.TheVariants.{Aaf, Am824, H264}
-use Rattle.talker.specs.declared.plan.TalkPlan.{TalkPlan}
-use Rattle.talker.specs.Audio.{Audio, audio_by}
+use Rattle.talk_plan.specs.declared.plan.TalkKind.{TalkKind}
+use Rattle.talk_plan.specs.declared.plan.TalkKind.TheVariants.{Aaf, Am824, H264}
+use Rattle.talk_plan.specs.declared.plan.TalkPlan.{TalkPlan}
+use Rattle.talk_audio.specs.Audio.{Audio, audio_by}
 use Rattle.talker.specs.Frames.{SentFrame, frames, frames_at, record_of}
 use Rattle.talker.specs.Journal.{journal, stream_by}
-use Rattle.talker.specs.Plan.{Expects, IsAudioKind, IsAudioPlan, IsPlan, IsPlanOf, IsVideoPlan}
+use Rattle.talk_plan.specs.Plan.{Expects, IsAudioKind, IsAudioPlan, IsPlan, IsPlanOf, IsVideoPlan}
 
 -- ---- the journal of a plan
 

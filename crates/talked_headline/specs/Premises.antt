@@ -6,14 +6,13 @@ use Rattle.packet_journal.specs.Packets.{carried, part_of}
 use Rattle.packet_journal.specs.Units.{AreUnit, unit_bytes}
 use Rattle.listener.specs.declared.plan.ListenPlan.{ListenPlan}
 use Rattle.listener.specs.Laws.{FollowsClock}
-use Rattle.talker.specs.declared.plan.TalkKind.TheVariants.{H264}
-use Rattle.talker.specs.declared.plan.TalkPlan.{TalkPlan}
-use Rattle.talker.specs.Fragments.{part_at, place_of}
+use Rattle.talk_plan.specs.declared.plan.TalkKind.TheVariants.{H264}
+use Rattle.talk_plan.specs.declared.plan.TalkPlan.{TalkPlan}
+use Rattle.talk_video.specs.Fragments.{part_at, place_of}
 use Rattle.talker.specs.Frames.{StaysNear, capture_of, frames_at}
 use Rattle.talker.specs.Journal.{journal}
-use Rattle.talker.specs.Plan.{Expects, IsAudioPlan, IsVideoPlan}
-use Rattle.talker.specs.Talking.{most_input}
-use Rattle.talker.specs.Units.{sent_units}
+use Rattle.talk_plan.specs.Plan.{Expects, IsAudioPlan, IsVideoPlan, most_input}
+use Rattle.talk_video.specs.Units.{sent_units}
 
 -- the records of a capture that has the plan's frames of these places, in this order
 abbrev pub captured : TalkPlan → List ℕ → List ℕ → List Record

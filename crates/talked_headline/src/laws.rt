@@ -8,7 +8,7 @@ ghost use Rattle.listener.specs.Headline.{KeepsHeadline};
 ghost use Rattle.listener.specs.Heard.{shown_of};
 ghost use Rattle.listener.specs.Items.{MadeItem};
 ghost use Rattle.listener.specs.Laws.{HearsTalker, IsFurther, IsWelcome};
-ghost use Rattle.talker.specs.declared.plan.TalkPlan.{TalkPlan};
+ghost use Rattle.talk_plan.specs.declared.plan.TalkPlan.{TalkPlan};
 ghost use Rattle.talker.specs.Journal.{journal};
 ghost use Rattle.talked_headline.specs.Premises.{HasRoomFor, HasRoomForUnit, ListensTo, ListensToVideo, captured};
 

@@ -1,46 +1,33 @@
 -- A stream of audio keeps all that streams keep, whatever its format.
-use Rattle.std.proofs.Common.{◌≡◌, ℕ, suc, ◌+◌, ◌*◌, ◌^◌, ◌%◌, ◌<◌, ◌≤◌, Bool, true, false, List, [], ◌∷◌, length, Option, Some, None, is_some, pos, refl, sym, ap, ◌∙◌, arith}
+use Rattle.std.proofs.Common.{◌≡◌, ℕ, suc, ◌+◌, ◌*◌, ◌^◌, ◌%◌, ◌<◌, ◌≤◌, Bool, true, false, List, [], ◌∷◌, length, Option, Some, None, is_some, pos, refl, sym}
+use Rattle.std.proofs.Common.{ap, ◌∙◌, arith}
 use Rattle.std.specs.Prelude.{◌==◌, if◌then◌else◌}
 use Rattle.std.proofs.Math.Nat.{le-mul_of_pos_right, mul-le-mul_right, mul_assoc}
 use Rattle.stream_journal.specs.Conforming.{Conforms, HoldsEight, IsApart, IsAudio, is_stamped}
 use Rattle.stream_journal.specs.Delivered.{AreNear, IsDelivered, IsInHalfCircle, IsWithin}
 use Rattle.stream_journal.specs.Journal.{Kind, rule_of}
 use Rattle.time_unfold.specs.Heads.{stamped_index}
-use Rattle.packet_journal.specs.Carried.{IsReadKind}
-use Rattle.packet_journal.specs.Packets.{IsConforming, IsPacket}
-use Rattle.talker.specs.declared.plan.CrfPlan.{CrfPlan}
-use Rattle.talker.specs.declared.plan.TalkPlan.{TalkPlan}
-use Rattle.talker.specs.Audio.{Audio}
-use Rattle.talker.specs.Frames.{packet_bytes}
-use Rattle.talker.specs.Journal.{Stream, audio_journal, audio_times, due_in, nominal_times, packets_of, samples_in, stream_by}
-use Rattle.talker.specs.Clock.{stamped_instant}
-use Rattle.talker.specs.Packets.{stamp_of}
-use Rattle.talker.specs.Plan.{Expects, IsAhead, IsNearLead, IsAudioPlan}
-use Rattle.talker.specs.Talking.{most_input}
-use Rattle.talker.specs.Timing.{arrival_of, event_of, first_instant, mr_of, nominal_instant}
-use Rattle.talker.proofs.ClockLemmas.{early_by, most_early, most_late, stamped_near}
-use Rattle.talker.proofs.ClockPackets.{clock_early, clock_fits, clock_packet_is, clock_rises}
-use Rattle.talker.proofs.ClockRules.{clock_is}
-use Rattle.talker.proofs.ClockStamps.{clock_agrees}
-use Rattle.talker.proofs.DueLemmas.{IsKindOf, due_near, head_due, stamp_is}
-use Rattle.talker.proofs.RateLemmas.{rate_from, rate_range}
-use Rattle.talker.proofs.RunLemmas.{new_bit}
-use Rattle.talker.proofs.SampleLemmas.{begun_within, samples_whole}
+use Rattle.packet_journal.specs.Packets.{IsConforming}
+use Rattle.talk_plan.specs.declared.plan.CrfPlan.{CrfPlan}
+use Rattle.talk_plan.specs.declared.plan.TalkPlan.{TalkPlan}
+use Rattle.talk_audio.specs.Audio.{Audio}
+use Rattle.talker.specs.Journal.{Stream, stream_by}
+use Rattle.talk_audio.specs.Journal.{audio_journal, audio_times, due_in, nominal_times, packets_of, samples_in}
+use Rattle.talk_plan.specs.Stamps.{stamped_instant}
+use Rattle.talk_audio.specs.Packets.{stamp_of}
+use Rattle.talk_plan.specs.Plan.{Expects, IsAhead, IsNearLead, IsAudioPlan, most_input}
+use Rattle.talk_plan.specs.Timing.{arrival_of, event_of, first_instant, mr_of, nominal_instant}
+use Rattle.talk_plan.proofs.StampLemmas.{early_by, most_early, most_late, stamped_near}
+use Rattle.talk_clock.proofs.ClockPackets.{clock_early, clock_fits, clock_packet_is, clock_rises}
+use Rattle.talk_clock.proofs.ClockRules.{clock_is}
+use Rattle.talk_audio.proofs.ClockStamps.{clock_agrees}
+use Rattle.talk_audio.proofs.DueLemmas.{IsKindOf, due_near, head_due, stamp_is}
+use Rattle.talk_plan.proofs.RateLemmas.{rate_from, rate_range}
+use Rattle.talk_plan.proofs.RunLemmas.{new_bit}
+use Rattle.talk_audio.proofs.SampleLemmas.{begun_within, samples_whole}
 use Rattle.talker.proofs.StreamLemmas.{IsStream}
-use Rattle.talker.proofs.TimingLemmas.{apart, in_time, rising, short_offset, sum_of, lead_within}
-
--- What a format keeps, with the bytes of the headers of its frames.
-pub record IsFormatOf (plan : TalkPlan) (a : Audio) (headers : ℕ) : Type 0 where
-  pub some : 0 < a.frame
-  pub size : headers + plan.count * a.frame ≤ 1518
-  pub silence : length a.silence ≡ plan.count * a.frame
-  pub kind : IsKindOf plan a.kind
-  pub read : IsReadKind a.kind
-  pub bytes : (n : ℕ) (samples : List ℕ) → length samples ≡ plan.count * a.frame → length (packet_bytes (a.packet n samples)) ≡ headers + plan.count * a.frame
-  pub packet : (packets n : ℕ) (samples : List ℕ) → plan.id < 2 ^ 64 → length samples ≡ plan.count * a.frame
-      → IsPacket a.kind (audio_times a.kind plan packets) plan.id n (a.packet n samples)
-  -- a listener has to know when packets without a timestamp come
-  pub leads : (lead n : ℕ) → Expects plan lead → is_stamped (rule_of a.kind n) n plan.count ≡ false → IsNearLead plan lead
+use Rattle.talk_plan.proofs.TimingLemmas.{apart, in_time, rising, short_offset, sum_of, lead_within}
+use Rattle.talk_audio.proofs.DueLemmas.{IsFormatOf}
 
 abbrev pub stream_in : Audio → TalkPlan → List ℕ → Stream
 stream_in a plan input = stream_by (Some a) plan input
@@ -48,7 +35,8 @@ stream_in a plan input = stream_by (Some a) plan input
 -- ---- packet n of an input that is not too long
 
 -- its events can be counted
-pub timely : (plan : TalkPlan) (a : Audio) (headers : ℕ) (input : List ℕ) (n : ℕ) → IsAudioPlan plan → IsFormatOf plan a headers → length input ≤ most_input → n < packets_of a plan input
+pub timely : (plan : TalkPlan) (a : Audio) (headers : ℕ) (input : List ℕ) (n : ℕ) → IsAudioPlan plan → IsFormatOf plan a headers → length input ≤ most_input
+    → n < packets_of a plan input
     → n * plan.count ≤ 268435456
 timely plan a headers input n p is limit h =
     let begins : n * (plan.count * a.frame) < length input = begun_within a.frame plan.count n input is.some p.some_count h in
@@ -56,7 +44,8 @@ timely plan a headers input n p is limit h =
     omega (arith, mul_assoc n plan.count a.frame)
 
 -- a sample frame of it is soon after its first
-soon : (plan : TalkPlan) (n i : ℕ) → IsAudioPlan plan → i < plan.count → (first_instant plan n ≤ nominal_instant plan n i) × (nominal_instant plan n i ≤ first_instant plan n + 184500001)
+soon : (plan : TalkPlan) (n i : ℕ) → IsAudioPlan plan → i < plan.count
+    → (first_instant plan n ≤ nominal_instant plan n i) × (nominal_instant plan n i ≤ first_instant plan n + 184500001)
 unfolding nominal_instant
 soon plan n i p within =
     let least = rate_from plan p in
@@ -68,7 +57,8 @@ soon plan n i p within =
 -- ---- the rules
 
 -- packets are due near their nominal first instants
-apart_by : (due next x y rate time : ℕ) → due ≤ x + 1 → y ≤ next + 3 → 4 * (x * rate) + time + 16 * rate ≤ 4 * (y * rate) → 4 * (due * rate) + time ≤ 4 * (next * rate)
+apart_by : (due next x y rate time : ℕ) → due ≤ x + 1 → y ≤ next + 3 → 4 * (x * rate) + time + 16 * rate ≤ 4 * (y * rate)
+    → 4 * (due * rate) + time ≤ 4 * (next * rate)
 apart_by due next x y rate time from to far =
     let least : due * rate ≤ (x + 1) * rate = mul-le-mul_right rate from in
     let most : y * rate ≤ (next + 3) * rate = mul-le-mul_right rate to in
@@ -79,7 +69,8 @@ spaced : (kind : Kind) (plan : TalkPlan) (packets n : ℕ) → IsAudioPlan plan 
 spaced kind plan packets n p k =
     let here = due_near kind plan packets n p k in
     let next = due_near kind plan packets (suc n) p k in
-    apart_by (due_in (nominal_times kind plan packets) n) (due_in (nominal_times kind plan packets) (suc n)) (first_instant plan n) (first_instant plan (suc n)) plan.rate
+    apart_by (due_in (nominal_times kind plan packets) n) (due_in (nominal_times kind plan packets) (suc n)) (first_instant plan n)
+    (first_instant plan (suc n)) plan.rate
     (3 * (plan.count * 1000000000)) (omega (arith, here.from, most_late plan.crf)) (omega (arith, next.to, most_early plan.crf)) (apart plan n p)
 
 pub some_by : (b : Bool) (instant : ℕ) → is_some (if b then Some instant else None) ≡ b
@@ -119,14 +110,16 @@ stamped kind plan n instant k h =
     let is = stamp_by kind plan n instant (is_stamped (rule_of kind n) n plan.count) refl h in
     record { within = k.within n is.0; same = is.1 }
 
-due_within : (plan : TalkPlan) (a : Audio) (headers packets : ℕ) (input : List ℕ) (n : ℕ) → IsAudioPlan plan → IsFormatOf plan a headers → length input ≤ most_input → n < packets_of a plan input
+due_within : (plan : TalkPlan) (a : Audio) (headers packets : ℕ) (input : List ℕ) (n : ℕ) → IsAudioPlan plan → IsFormatOf plan a headers
+    → length input ≤ most_input → n < packets_of a plan input
     → due_in (nominal_times a.kind plan packets) n ≤ 2 ^ 62
 due_within plan a headers packets input n p is limit h =
     let near = due_near a.kind plan packets n p is.kind in
     let most = in_time plan n 0 p (timely plan a headers input n p is limit h) p.some_count in
     omega (arith, near.from, p.lead, most_late plan.crf)
 
-stamp_within : (plan : TalkPlan) (a : Audio) (headers : ℕ) (input : List ℕ) (n instant : ℕ) → IsAudioPlan plan → IsFormatOf plan a headers → length input ≤ most_input → n < packets_of a plan input
+stamp_within : (plan : TalkPlan) (a : Audio) (headers : ℕ) (input : List ℕ) (n instant : ℕ) → IsAudioPlan plan → IsFormatOf plan a headers
+    → length input ≤ most_input → n < packets_of a plan input
     → stamp_of a.kind plan n ≡ Some instant → instant ≤ 2 ^ 62
 stamp_within plan a headers input n instant p is limit h e =
     let stamp = stamped a.kind plan n instant is.kind e in
@@ -148,7 +141,8 @@ times_conform plan a headers input p is limit =
       clock = clock_is plan packets p (λ n h. timely plan a headers input n p is limit h);
     }
 
-audio_conforms : (plan : TalkPlan) (a : Audio) (headers : ℕ) (input : List ℕ) → IsAudioPlan plan → IsFormatOf plan a headers → length input ≤ most_input → plan.id < 2 ^ 64
+audio_conforms : (plan : TalkPlan) (a : Audio) (headers : ℕ) (input : List ℕ) → IsAudioPlan plan → IsFormatOf plan a headers → length input ≤ most_input
+    → plan.id < 2 ^ 64
     → IsConforming (pos 0) (audio_journal a plan input)
 audio_conforms plan a headers input p is limit id = record {
   times = times_conform plan a headers input p is limit;
@@ -172,15 +166,18 @@ near_due : (kind : Kind) (plan : TalkPlan) (packets lead n : ℕ) → IsAudioPla
 near_due kind plan packets lead n p k near =
     let range = rate_range plan p in
     let due = due_near kind plan packets n p k in
-    let found = near_by (arrival_of plan n) lead plan.lead (first_instant plan n) (due_in (nominal_times kind plan packets) n) plan.rate (plan.count * 1000000000)
-    (lead_within plan n) (omega (arith, due.from, most_late plan.crf)) (omega (arith, due.to, most_early plan.crf)) (omega (arith, range.most, p.some_count)) near.from near.to in
+    let found = near_by (arrival_of plan n) lead plan.lead (first_instant plan n) (due_in (nominal_times kind plan packets) n) plan.rate
+    (plan.count * 1000000000)
+    (lead_within plan n) (omega (arith, due.from, most_late plan.crf)) (omega (arith, due.to, most_early plan.crf)) (omega (arith, range.most, p.some_count))
+    near.from near.to in
     record { from = found.0; to = found.1 }
 
 unstamped : (kind : Kind) (plan : TalkPlan) (n : ℕ) (b : Bool) → is_stamped (rule_of kind n) n plan.count ≡ b → stamp_of kind plan n ≡ None → b ≡ false
 unstamped kind plan n true e none = let some : stamp_of kind plan n ≡ Some (stamped_instant plan n (stamped_index (rule_of kind n))) = rw e refl in absurd cc
 unstamped kind plan n false e none = refl
 
-in_circle : (kind : Kind) (plan : TalkPlan) (n instant : ℕ) → IsAudioPlan plan → IsKindOf plan kind → stamp_of kind plan n ≡ Some instant → IsInHalfCircle instant (arrival_of plan n)
+in_circle : (kind : Kind) (plan : TalkPlan) (n instant : ℕ) → IsAudioPlan plan → IsKindOf plan kind → stamp_of kind plan n ≡ Some instant
+    → IsInHalfCircle instant (arrival_of plan n)
 in_circle kind plan n instant p k e =
     let stamp = stamped kind plan n instant k e in
     let near = soon plan n (stamped_index (rule_of kind n)) p stamp.within in
@@ -190,7 +187,8 @@ in_circle kind plan n instant p k e =
       to = omega (arith, stamp.same, lead_within plan n, near.0, by.early, most_early plan.crf);
     }
 
-on_time : (plan : TalkPlan) (a : Audio) (headers : ℕ) (input : List ℕ) (lead n : ℕ) → IsAudioPlan plan → IsFormatOf plan a headers → length input ≤ most_input → Expects plan lead
+on_time : (plan : TalkPlan) (a : Audio) (headers : ℕ) (input : List ℕ) (lead n : ℕ) → IsAudioPlan plan → IsFormatOf plan a headers → length input ≤ most_input
+    → Expects plan lead
     → n < packets_of a plan input → IsDelivered (audio_times a.kind plan (packets_of a plan input)) lead (record { number = n; arrival = arrival_of plan n })
 on_time plan a headers input lead n p is limit expects h =
     let most = in_time plan n 0 p (timely plan a headers input n p is limit h) p.some_count in
@@ -220,7 +218,8 @@ sent_early kind plan packets n p k ready =
 
 -- ---- all of it
 
-pub audio_stream : (plan : TalkPlan) (a : Audio) (headers : ℕ) (input : List ℕ) → IsAudioPlan plan → IsFormatOf plan a headers → length input ≤ most_input → IsStream plan (stream_in a plan input)
+pub audio_stream : (plan : TalkPlan) (a : Audio) (headers : ℕ) (input : List ℕ) → IsAudioPlan plan → IsFormatOf plan a headers → length input ≤ most_input
+    → IsStream plan (stream_in a plan input)
 audio_stream plan a headers input p is limit = record {
   rising = λ n. rising plan n p;
   early = λ n ready h. sent_early a.kind plan (packets_of a plan input) n p is.kind ready;

@@ -1,8 +1,7 @@
 -- The frames of a plan, in the order in which they are sent.
 use Rattle.std.proofs.Common.{◌≡◌, ℕ, zero, suc, ◌+◌, ◌<◌, ◌≤◌, Bool, true, false, List, [], ◌∷◌, ◌++◌, length, map, Some, refl, ap, ◌∙◌, arith}
-use Rattle.std.specs.Prelude.{int_le, slice_get}
+use Rattle.std.specs.Prelude.{int_le, slice_get, if◌then◌else◌}
 use Rattle.std.specs.List.{AllByRecursion, list_any, range_with_len}
-use Rattle.std.specs.Prelude.{if◌then◌else◌}
 use Rattle.talker.specs.Frames.{SentFrame, by_arrival, put_in}
 
 -- frames that are numbered, none of which arrives before the one in front of it, are in order
@@ -56,7 +55,8 @@ pub none_of : (test : SentFrame → Bool) (xs : List SentFrame) → AllByRecursi
 none_of test [] all = refl
 none_of test (x ∷ xs) all = rw all.0 (none_of test xs all.1)
 
-length_by : (f x : SentFrame) (xs : List SentFrame) (b : Bool) → length (put_in f xs) ≡ suc (length xs) → length (if b then f ∷ x ∷ xs else x ∷ put_in f xs) ≡ suc (suc (length xs))
+length_by : (f x : SentFrame) (xs : List SentFrame) (b : Bool) → length (put_in f xs) ≡ suc (length xs)
+    → length (if b then f ∷ x ∷ xs else x ∷ put_in f xs) ≡ suc (suc (length xs))
 length_by f x xs true e = refl
 length_by f x xs false e = ap suc e
 

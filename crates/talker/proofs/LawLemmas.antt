@@ -1,49 +1,34 @@
 -- What the laws of plans rest on.
-use Rattle.std.proofs.Common.{◌≡◌, ℕ, ◌+◌, ◌*◌, ◌/◌, ◌^◌, ◌<◌, ◌≤◌, Bool, true, false, List, [], ◌∷◌, map, length, Option, Some, None, nat_abs, ◌≤ℤ◌, refl, ap, subst, sym, ◌-◌, ◌%◌, ◌∙◌, arith}
+use Rattle.std.proofs.Common.{◌≡◌, ℕ, ◌+◌, ◌*◌, ◌/◌, ◌^◌, ◌<◌, ◌≤◌, Bool, true, false, List, [], ◌∷◌, map, length, Option, Some, None, nat_abs, ◌≤ℤ◌, refl, ap}
+use Rattle.std.proofs.Common.{subst, sym, ◌-◌, ◌%◌, ◌∙◌, arith}
 use Rattle.std.proofs.Math.Nat.{mod-eq-sub-div-mul, sub-zero, zero-div}
 use Rattle.std.specs.Prelude.{if◌then◌else◌, int_le, pos, slice_get, IsSome, IsSomeAnd}
 use Rattle.std.specs.List.{AllByRecursion, filter_map, range_with_len}
-use Rattle.std.proofs.lemmas.Bool.Decides.{nat_tests}
 use Rattle.std.proofs.lemmas.Int.{ints}
 use Rattle.aaf_format.specs.declared.aaf.AafFormat.{AafFormat}
-use Rattle.aaf_format.specs.Aaf.{SpellsAaf, aaf_spelling, frame_size, rate_of}
+use Rattle.aaf_format.specs.Aaf.{SpellsAaf, aaf_spelling, frame_size}
 use Rattle.iec61883_format.specs.Iec.{SpellsIec, block_size, iec_spelling, rate_of_fdf, syt_interval}
 use Rattle.pcap_frames.specs.Capture.{HasSpelling}
 use Rattle.packet_journal.specs.Carried.{AllCarry}
 use Rattle.stream_journal.specs.Journal.{Journal}
-use Rattle.talker.specs.declared.plan.TalkKind.{TalkKind}
-use Rattle.talker.specs.declared.plan.TalkKind.TheVariants.{Aaf, Am824, H264}
-use Rattle.talker.specs.declared.plan.TalkPlan.{TalkPlan}
-use Rattle.talker.specs.Frames.{RiseByArrival, SentFrame, StaysNear, StaysNearBy, by_arrival, capture_style, frames, frames_at, packet_numbers, put_in, record_of, records, stream_frames}
+use Rattle.talk_plan.specs.declared.plan.TalkKind.{TalkKind}
+use Rattle.talk_plan.specs.declared.plan.TalkKind.TheVariants.{Aaf, Am824, H264}
+use Rattle.talk_plan.specs.declared.plan.TalkPlan.{TalkPlan}
+use Rattle.talker.specs.Frames.{RiseByArrival, SentFrame, StaysNear, StaysNearBy, by_arrival, capture_style, frames, frames_at, packet_numbers, put_in}
+use Rattle.talker.specs.Frames.{record_of, records, stream_frames}
 use Rattle.talker.specs.Journal.{journal, stream_of}
-use Rattle.talker.specs.Packets.{aaf_packet, iec_packet}
-use Rattle.talker.specs.Plan.{Expects, FitsBlocks, IsAhead, HasRate, IsAudioKind, IsAudioPlan, IsPlan, IsPlanOf, fdf_of, interval_of, rate_code}
-use Rattle.talker.specs.Talking.{most_input}
-use Rattle.talker.specs.Timing.{arrival_of, event_of, first_packet, nominal_instant, nominal_offset, run_of}
-use Rattle.talker.proofs.Am824Lemmas.{blocks_again, some_interval}
-use Rattle.talker.proofs.PcmLemmas.{packet_again}
-use Rattle.talker.proofs.RateLemmas.{known_fdf}
+use Rattle.talk_audio.specs.Packets.{aaf_packet, iec_packet}
+use Rattle.talk_plan.specs.Plan.{Expects, FitsBlocks, IsAhead, HasRate, IsAudioKind, IsAudioPlan, IsPlan, IsPlanOf, fdf_of, interval_of, rate_code, most_input}
+use Rattle.talk_plan.specs.Timing.{arrival_of, event_of, first_packet, nominal_instant, nominal_offset, run_of}
+use Rattle.talk_audio.proofs.Am824Lemmas.{blocks_again}
+use Rattle.talk_plan.proofs.RateLemmas.{named_fdf, named_interval, stated_interval}
+use Rattle.talk_audio.proofs.PcmLemmas.{packet_again}
 use Rattle.talker.proofs.StreamLemmas.{AreCarried, all_carried, all_frames, at_number, frames_in, next_near, numbers_of, packets_in, some_carried, spelled}
 use Rattle.talker.proofs.TalkLemmas.{frames_alone, plan_keeps}
 
-pub named_rate : (rate code : ℕ) → rate_of code ≡ Some rate → rate_code rate ≡ Some code
-named_rate rate code h = grind (arith, nat_tests)
-
-pub named_fdf : (rate fdf : ℕ) → rate_of_fdf fdf ≡ Some rate → fdf_of rate ≡ Some fdf
-named_fdf rate fdf h = grind (arith, nat_tests)
-
-pub named_interval : (rate fdf interval : ℕ) → fdf_of rate ≡ Some fdf → syt_interval fdf ≡ Some interval → interval_of rate ≡ interval
-named_interval rate fdf interval e f = rw (e, f) refl
-
-stated_by : (rate fdf : ℕ) (interval : Option ℕ) → fdf_of rate ≡ Some fdf → syt_interval fdf ≡ interval → IsSome interval → syt_interval fdf ≡ Some (interval_of rate)
-stated_by rate fdf None e f some = absurd cc
-stated_by rate fdf (Some interval) e f some = f ∙ ap (λ (i : ℕ). Some i) (sym (named_interval rate fdf interval e f))
-
-pub stated_interval : (rate fdf : ℕ) → fdf_of rate ≡ Some fdf → syt_interval fdf ≡ Some (interval_of rate)
-stated_interval rate fdf e = stated_by rate fdf (syt_interval fdf) e refl (some_interval fdf (known_fdf rate fdf e).few)
-
 -- what a packet of AM824 holds, by the code of its rate
-pub named_blocks : (plan : TalkPlan) (fdf interval : ℕ) → rate_of_fdf fdf ≡ Some plan.rate → syt_interval fdf ≡ Some interval → plan.channels ≤ 256 → interval ≤ 8 * plan.count
+pub named_blocks : (plan : TalkPlan) (fdf interval : ℕ) → rate_of_fdf fdf ≡ Some plan.rate → syt_interval fdf ≡ Some interval → plan.channels ≤ 256
+    → interval ≤ 8 * plan.count
     → plan.count * block_size plan.channels ≤ 1468 → FitsBlocks plan
 named_blocks plan fdf interval named stated quadlets some size =
     let same = named_interval plan.rate fdf interval (named_fdf plan.rate fdf named) stated in
@@ -60,9 +45,11 @@ paced plan n e =
     let first : first_packet plan (run_of plan n) ≡ 0 = rw e refl in
     let jumps : run_of plan n * plan.jump ≡ 0 * plan.jump = ap (λ (k : ℕ). k * plan.jump) run in
     let before : nominal_offset plan.rate (first_packet plan (run_of plan n) * plan.count) ≡ 0 =
-    ap (λ (k : ℕ). nominal_offset plan.rate (k * plan.count)) first ∙ ap (λ (k : ℕ). k / plan.rate) (let z : 0 * plan.count * 1000000000 ≡ 0 = omega arith in z) ∙ zero-div plan.rate in
+    ap (λ (k : ℕ). nominal_offset plan.rate (k * plan.count)) first
+    ∙ ap (λ (k : ℕ). k / plan.rate) (let z : 0 * plan.count * 1000000000 ≡ 0 = omega arith in z) ∙ zero-div plan.rate in
     let within : nominal_offset plan.rate (event_of plan n 0) ≡ nominal_offset plan.rate (n * plan.count) =
-    ap (λ (k : ℕ). nominal_offset plan.rate ((n - k) * plan.count + 0)) first ∙ ap (λ (k : ℕ). nominal_offset plan.rate k) (let z : (n - 0) * plan.count + 0 ≡ n * plan.count = rw sub-zero (omega arith) in z) in
+    ap (λ (k : ℕ). nominal_offset plan.rate ((n - k) * plan.count + 0)) first
+    ∙ ap (λ (k : ℕ). nominal_offset plan.rate k) (let z : (n - 0) * plan.count + 0 ≡ n * plan.count = rw sub-zero (omega arith) in z) in
     omega (arith, paced_by plan n, jumps, before, within)
 
 pub paced_restarting : (plan : TalkPlan) (packets n : ℕ) → plan.restart ≡ Some packets
@@ -75,7 +62,8 @@ paced_restarting plan packets n e =
     ap (λ (k : ℕ). nominal_offset plan.rate (k * plan.count)) first in
     let inside : n - first_packet plan (run_of plan n) ≡ n % packets = ap (λ (k : ℕ). n - k) first ∙ sym (mod-eq-sub-div-mul n packets) in
     let within : nominal_offset plan.rate (event_of plan n 0) ≡ nominal_offset plan.rate (n % packets * plan.count) =
-    ap (λ (k : ℕ). nominal_offset plan.rate (k * plan.count + 0)) inside ∙ ap (λ (k : ℕ). nominal_offset plan.rate k) (let z : n % packets * plan.count + 0 ≡ n % packets * plan.count = omega arith in z) in
+    ap (λ (k : ℕ). nominal_offset plan.rate (k * plan.count + 0)) inside
+    ∙ ap (λ (k : ℕ). nominal_offset plan.rate k) (let z : n % packets * plan.count + 0 ≡ n % packets * plan.count = omega arith in z) in
     omega (arith, paced_by plan n, jumps, before, within)
 
 -- ---- by arrival
@@ -110,7 +98,8 @@ all_rise (f ∷ frames) = put_rises f (by_arrival frames) (all_rise frames)
 -- ---- captures
 
 -- what is captured of the frames, and of some of them, can be spelled
-pub records_spelled : (plan : TalkPlan) (input : List ℕ) → IsPlan plan → length input ≤ most_input → AllByRecursion (HasSpelling capture_style) (records plan input)
+pub records_spelled : (plan : TalkPlan) (input : List ℕ) → IsPlan plan → length input ≤ most_input
+    → AllByRecursion (HasSpelling capture_style) (records plan input)
 records_spelled plan input p limit =
     let s = stream_of plan input in
     spelled plan s (frames plan input) (plan_keeps plan input p limit) (all_frames s)
@@ -150,7 +139,8 @@ pub audio_near : (plan : TalkPlan) (input : List ℕ) (given : List SentFrame) �
 audio_near plan input given p = near_as plan.kind (journal plan input).times (packet_numbers given) p.kind
 
 -- packets of H.264 that are captured in their order are near
-near_by : (kind : TalkKind) (plan : TalkPlan) (input : List ℕ) → plan.kind ≡ kind → IsPlanOf kind plan → length input ≤ most_input → StaysNearBy kind (journal plan input).times (packet_numbers (frames plan input))
+near_by : (kind : TalkKind) (plan : TalkPlan) (input : List ℕ) → plan.kind ≡ kind → IsPlanOf kind plan → length input ≤ most_input
+    → StaysNearBy kind (journal plan input).times (packet_numbers (frames plan input))
 near_by (Aaf format sparse) plan input e p limit = tt
 near_by Am824 plan input e p limit = tt
 near_by (H264 false) plan input e p limit = tt
@@ -163,14 +153,16 @@ pub whole_near : (plan : TalkPlan) (input : List ℕ) → IsPlan plan → length
 whole_near plan input p limit = near_by plan.kind plan input refl p limit
 
 -- each packet is sent before it is due
-pub stream_in_time : (plan : TalkPlan) (input : List ℕ) (n : ℕ) → IsPlan plan → IsAhead plan.crf plan.lead → length input ≤ most_input → n < (journal plan input).times.packets
+pub stream_in_time : (plan : TalkPlan) (input : List ℕ) (n : ℕ) → IsPlan plan → IsAhead plan.crf plan.lead → length input ≤ most_input
+    → n < (journal plan input).times.packets
     → IsSomeAnd (slice_get (stream_frames plan input) n) (λ f. f.arrival ≤ℤ pos ((journal plan input).times.due n))
 stream_in_time plan input n p ready limit h =
     let s = stream_of plan input in
     let soon = (plan_keeps plan input p limit).early n ready h in
     rw (at_number s n h) (omega (arith, ints, soon))
 
-pub sent_in_time : (plan : TalkPlan) (input : List ℕ) (n : ℕ) → IsPlan plan → plan.crf ≡ None → length input ≤ most_input → n < (journal plan input).times.packets
+pub sent_in_time : (plan : TalkPlan) (input : List ℕ) (n : ℕ) → IsPlan plan → plan.crf ≡ None → length input ≤ most_input
+    → n < (journal plan input).times.packets
     → IsSomeAnd (slice_get (frames plan input) n) (λ f. f.arrival ≤ℤ pos ((journal plan input).times.due n))
 sent_in_time plan input n p none limit h =
     let ready : IsAhead plan.crf plan.lead = rw none tt in
@@ -178,25 +170,31 @@ sent_in_time plan input n p none limit h =
 
 -- ---- packets
 
-read_by : (plan : TalkPlan) (format : AafFormat) (sparse : Bool) (n : ℕ) (samples : List ℕ) (code : Option ℕ) → IsAudioPlan plan → plan.kind ≡ Aaf format sparse → rate_code plan.rate ≡ code → IsSome code
+read_by : (plan : TalkPlan) (format : AafFormat) (sparse : Bool) (n : ℕ) (samples : List ℕ) (code : Option ℕ) → IsAudioPlan plan
+    → plan.kind ≡ Aaf format sparse → rate_code plan.rate ≡ code → IsSome code
     → plan.id < 2 ^ 64 → length samples ≡ plan.count * frame_size plan.channels format
     → SpellsAaf (aaf_spelling (aaf_packet format sparse plan n samples)) (aaf_packet format sparse plan n samples)
 read_by plan format sparse n samples None p kind e some id size = absurd cc
 read_by plan format sparse n samples (Some code) p kind e some id size =
-    packet_again (record { format = format; sparse = sparse; steady = false; code = code; headers = [] }) plan n samples p (record { kind = kind; code = e }) id size
+    packet_again (record { format = format; sparse = sparse; steady = false; code = code; headers = [] }) plan n samples p (record { kind = kind; code = e })
+    id size
 
-pub packet_read : (plan : TalkPlan) (format : AafFormat) (sparse : Bool) (n : ℕ) (samples : List ℕ) → IsAudioPlan plan → plan.kind ≡ Aaf format sparse → plan.id < 2 ^ 64
+pub packet_read : (plan : TalkPlan) (format : AafFormat) (sparse : Bool) (n : ℕ) (samples : List ℕ) → IsAudioPlan plan → plan.kind ≡ Aaf format sparse
+    → plan.id < 2 ^ 64
     → length samples ≡ plan.count * frame_size plan.channels format
     → SpellsAaf (aaf_spelling (aaf_packet format sparse plan n samples)) (aaf_packet format sparse plan n samples)
 packet_read plan format sparse n samples p kind id size = read_by plan format sparse n samples (rate_code plan.rate) p kind refl (rw kind at p.rate) id size
 
-blocks_by : (plan : TalkPlan) (n : ℕ) (blocks : List ℕ) (fdf : Option ℕ) → IsAudioPlan plan → plan.kind ≡ Am824 → fdf_of plan.rate ≡ fdf → IsSome fdf → plan.id < 2 ^ 64
+blocks_by : (plan : TalkPlan) (n : ℕ) (blocks : List ℕ) (fdf : Option ℕ) → IsAudioPlan plan → plan.kind ≡ Am824 → fdf_of plan.rate ≡ fdf → IsSome fdf
+    → plan.id < 2 ^ 64
     → length blocks ≡ plan.count * block_size plan.channels → SpellsIec (iec_spelling (iec_packet plan n blocks)) (iec_packet plan n blocks)
 blocks_by plan n blocks None p kind e some id size = absurd cc
 blocks_by plan n blocks (Some fdf) p kind e some id size =
-    blocks_again (record { fdf = fdf; interval = interval_of plan.rate }) plan n blocks p (record { kind = kind; code = e; interval = stated_interval plan.rate fdf e }) id size
+    blocks_again (record { fdf = fdf; interval = interval_of plan.rate }) plan n blocks p
+    (record { kind = kind; code = e; interval = stated_interval plan.rate fdf e }) id size
 
-pub blocks_read : (plan : TalkPlan) (n : ℕ) (blocks : List ℕ) → IsAudioPlan plan → plan.kind ≡ Am824 → plan.id < 2 ^ 64 → length blocks ≡ plan.count * block_size plan.channels
+pub blocks_read : (plan : TalkPlan) (n : ℕ) (blocks : List ℕ) → IsAudioPlan plan → plan.kind ≡ Am824 → plan.id < 2 ^ 64
+    → length blocks ≡ plan.count * block_size plan.channels
     → SpellsIec (iec_spelling (iec_packet plan n blocks)) (iec_packet plan n blocks)
 blocks_read plan n blocks p kind id size =
     blocks_by plan n blocks (fdf_of plan.rate) p kind refl (subst (λ (kind : TalkKind). HasRate kind plan.rate) kind p.rate) id size

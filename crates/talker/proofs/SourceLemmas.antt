@@ -2,29 +2,32 @@
 use Rattle.std.proofs.Common.{◌≡◌, inl, inr, ℕ, ◌+◌, ◌*◌, ◌^◌, ◌<◌, ◌≤◌, Bool, true, false, not, List, [], ◌∷◌, ◌++◌, length, refl, sym, ap, subst, ◌∙◌, arith}
 use Rattle.std.proofs.lemmas.Bool.{cases_lt}
 use Rattle.cvf_format.specs.AnnexB.{nal_units}
-use Rattle.talker.specs.declared.audio.AudioStream.{AudioStream}
-use Rattle.talker.specs.declared.fault.TalkFault.TheVariants.{Arrival, NalType, Packets, StartCode}
-use Rattle.talker.specs.declared.plan.TalkKind.{TalkKind}
-use Rattle.talker.specs.declared.plan.TalkKind.TheVariants.{H264}
-use Rattle.talker.specs.declared.plan.TalkPlan.{TalkPlan}
+use Rattle.talk_audio.specs.declared.audio.AudioStream.{AudioStream}
+use Rattle.talk_plan.specs.declared.fault.TalkFault.TheVariants.{Arrival, NalType, Packets, StartCode}
+use Rattle.talk_plan.specs.declared.plan.TalkKind.{TalkKind}
+use Rattle.talk_plan.specs.declared.plan.TalkKind.TheVariants.{H264}
+use Rattle.talk_plan.specs.declared.plan.TalkPlan.{TalkPlan}
 use Rattle.talker.specs.declared.source.Source.{Source}
 use Rattle.talker.specs.declared.source.Source.TheVariants.{Audio as OfAudio, Video as OfVideo}
-use Rattle.talker.specs.declared.video.VideoStream.{VideoStream}
-use Rattle.talker.specs.Audio.{audio_by}
-use Rattle.talker.specs.state.Clock.{AreFew}
+use Rattle.talk_video.specs.declared.video.VideoStream.{VideoStream}
+use Rattle.talk_audio.specs.Audio.{audio_by}
+use Rattle.talk_clock.specs.Clock.{AreFew}
 use Rattle.talker.specs.Faults.{arrives_too_late, fault_of, faults_by}
-use Rattle.talker.specs.Frames.{packet_bytes}
-use Rattle.talker.specs.Journal.{Stream, samples_in, stream_of, video_stream}
-use Rattle.talker.specs.Plan.{IsPlan, IsPlanOf, IsVideoPlan}
-use Rattle.talker.specs.Rows.{first_of, row}
-use Rattle.talker.specs.Talking.{most_input}
-use Rattle.talker.specs.state.Talking.{IsAudio, IsSource, IsVideo, audio_of, headers_of, packets_of, samples_size, stream_in}
-use Rattle.talker.specs.Units.{has_long_access_unit, has_other_type, has_start_code, units_fault}
+use Rattle.talk_plan.specs.Ethernet.{packet_bytes}
+use Rattle.talker.specs.Journal.{Stream, stream_of, video_stream}
+use Rattle.talk_audio.specs.Journal.{samples_in}
+use Rattle.talk_plan.specs.Plan.{IsPlan, IsPlanOf, IsVideoPlan, most_input}
+use Rattle.talk_plan.specs.Rows.{first_of, row}
+use Rattle.talk_audio.specs.Streams.{IsAudio, audio_of, headers_of, packets_of, samples_size}
+use Rattle.talker.specs.state.Talking.{IsSource, stream_in}
+use Rattle.talk_video.specs.Streams.{IsVideo}
+use Rattle.talk_video.specs.Units.{has_long_access_unit, has_other_type, has_start_code, units_fault}
 use Rattle.talker.proofs.AudioLemmas.{timely}
-use Rattle.talker.proofs.SampleLemmas.{samples_whole}
+use Rattle.talk_audio.proofs.SampleLemmas.{samples_whole}
 use Rattle.talker.proofs.StreamLemmas.{packets_in}
-use Rattle.talker.proofs.TalkLemmas.{format_of, none_late, plan_keeps, stream_is, video_is}
-use Rattle.talker.proofs.VideoRules.{all_sent}
+use Rattle.talk_audio.proofs.FormatLemmas.{format_of}
+use Rattle.talker.proofs.TalkLemmas.{none_late, plan_keeps, stream_is, video_is}
+use Rattle.talk_video.proofs.VideoRules.{all_sent}
 
 -- ---- audio
 
@@ -32,12 +35,14 @@ pub audio_packets : (s : AudioStream) (input : List ℕ) → IsAudio s → packe
 audio_packets s input is = ap packets_in (stream_is s input is)
 
 -- its sample frames can be counted
-pub audio_few : (s : AudioStream) (input : List ℕ) (packets : ℕ) → IsAudio s → length input ≤ most_input → packets ≡ packets_in (stream_of s.plan input) → AreFew s.plan packets
+pub audio_few : (s : AudioStream) (input : List ℕ) (packets : ℕ) → IsAudio s → length input ≤ most_input → packets ≡ packets_in (stream_of s.plan input)
+    → AreFew s.plan packets
 audio_few s input packets is limit e n h =
     timely s.plan (audio_of s) (headers_of s) input n is.plan (format_of s is) limit (omega (arith, audio_packets s input is))
 
 -- the length of its frames
-pub audio_size : (s : AudioStream) (input : List ℕ) (n : ℕ) → IsAudio s → length (packet_bytes ((stream_of s.plan input).journal.packet n)) ≡ headers_of s + samples_size s
+pub audio_size : (s : AudioStream) (input : List ℕ) (n : ℕ) → IsAudio s
+    → length (packet_bytes ((stream_of s.plan input).journal.packet n)) ≡ headers_of s + samples_size s
 audio_size s input n is =
     let a = audio_of s in
     ap (λ (stream : Stream). length (packet_bytes (stream.journal.packet n))) (stream_is s input is)
@@ -52,14 +57,16 @@ pub video_packets : (v : VideoStream) → IsVideo v → v.packets ≡ packets_in
 video_packets v is = is.packets ∙ sym (ap packets_in (video_stream_is v is))
 
 none_more : (a b c late : Bool) → late ≡ false
-    → first_of ((row StartCode (not a) ∷ row NalType b ∷ row Packets c ∷ []) ++ row Arrival late ∷ []) ≡ first_of (row StartCode (not a) ∷ row NalType b ∷ row Packets c ∷ [])
+    → first_of ((row StartCode (not a) ∷ row NalType b ∷ row Packets c ∷ []) ++ row Arrival late ∷ [])
+    ≡ first_of (row StartCode (not a) ∷ row NalType b ∷ row Packets c ∷ [])
 none_more false b c late e = refl
 none_more true true c late e = refl
 none_more true false true late e = refl
 none_more true false false late e = rw e refl
 
 -- no packet arrives too late for a capture
-pub video_fault : (plan : TalkPlan) (input : List ℕ) (last_stamp : Bool) → IsVideoPlan plan → plan.kind ≡ H264 last_stamp → length input ≤ most_input → fault_of plan input ≡ units_fault input
+pub video_fault : (plan : TalkPlan) (input : List ℕ) (last_stamp : Bool) → IsVideoPlan plan → plan.kind ≡ H264 last_stamp → length input ≤ most_input
+    → fault_of plan input ≡ units_fault input
 unfolding fault_of units_fault
 video_fault plan input last_stamp p kind limit =
     let plan_is : IsPlan plan = subst (λ (k : TalkKind). IsPlanOf k plan) (sym kind) p in
@@ -78,7 +85,8 @@ video_early v n is h =
 pub few_packets : (source : Source) → IsSource source → packets_in (stream_in source) ≤ 2 ^ 29
 few_packets (OfAudio s input) is =
     elim (cases_lt (2 ^ 29) (packets_in (stream_of s.plan input.now))) [
-      | inl more ↦ absurd (let few = audio_few s input.now (packets_in (stream_of s.plan input.now)) is.0 is.1 refl (2 ^ 29) more in omega (arith, few, is.0.plan.some_count))
+      | inl more ↦ absurd (let few = audio_few s input.now (packets_in (stream_of s.plan input.now)) is.0 is.1 refl (2 ^ 29)
+          more in omega (arith, few, is.0.plan.some_count))
       | inr few ↦ few
     ]
 few_packets (OfVideo v) is = omega (arith, is.few, video_packets v is)

@@ -1,5 +1,6 @@
 -- What every stream keeps, and what follows of its frames and their captures.
-use Rattle.std.proofs.Common.{◌≡◌, ◌⊎◌, inl, inr, ℕ, zero, suc, ◌+◌, ◌-◌, ◌*◌, ◌^◌, ◌<◌, ◌≤◌, true, false, List, [], ◌∷◌, ◌++◌, map, length, Option, Some, None, pos, refl, sym, subst, ap, ◌∙◌, arith}
+use Rattle.std.proofs.Common.{◌≡◌, ◌⊎◌, inl, inr, ℕ, zero, suc, ◌+◌, ◌-◌, ◌*◌, ◌^◌, ◌<◌, ◌≤◌, true, false, List, [], ◌∷◌, ◌++◌, map, length, Option, Some, None}
+use Rattle.std.proofs.Common.{pos, refl, sym, subst, ap, ◌∙◌, arith}
 use Rattle.std.specs.Prelude.{int_le, slice_get, IfSome}
 use Rattle.std.specs.List.{AllByRecursion, cons_option, filter_map, list_any, range_with_len}
 use Rattle.std.proofs.Math.Nat.{mod-one}
@@ -16,12 +17,17 @@ use Rattle.packet_journal.specs.Carried.{AllCarry, AllCarryFrom, Carries, Carrie
 use Rattle.packet_journal.specs.Delivered.{OfClock, OfStream, Origin, stream_numbers}
 use Rattle.stream_journal.specs.Journal.{Journal}
 use Rattle.packet_journal.specs.Packets.{IsConforming, PacketJournal, PacketView, spelling_of}
-use Rattle.talker.specs.declared.plan.TalkPlan.{TalkPlan}
-use Rattle.talker.specs.Frames.{SentFrame, StaysNearBy, by_arrival, capture_style, clock_bytes, clock_frame_of, ethernet, frame_of, numbered_clock, numbered_frames, packet_bytes, packet_numbers, record_of}
+use Rattle.talk_plan.specs.declared.plan.TalkPlan.{TalkPlan}
+use Rattle.talker.specs.Frames.{SentFrame, StaysNearBy, by_arrival, capture_style, clock_frame_of, frame_of, numbered_clock, numbered_frames, packet_numbers}
+use Rattle.talker.specs.Frames.{record_of}
+use Rattle.talk_clock.specs.Clock.{clock_bytes}
+use Rattle.talk_plan.specs.Ethernet.{ethernet, packet_bytes}
 use Rattle.talker.specs.state.Frames.{left_of}
 use Rattle.talker.specs.Journal.{Stream}
-use Rattle.talker.specs.Plan.{Expects, IsAhead, IsAudioKind}
-use Rattle.talker.proofs.FrameLemmas.{AllLater, NotBefore, all_of, comes_first, each, each_from, in_order, length_sorted, none_of, numbered, sorted_all, stays_first}
+use Rattle.talk_plan.specs.Plan.{Expects, IsAhead, IsAudioKind}
+use Rattle.talker.proofs.FrameLemmas.{AllLater, NotBefore, all_of, comes_first, each, each_from, in_order, length_sorted, none_of, numbered, sorted_all}
+use Rattle.talker.proofs.FrameLemmas.{stays_first}
+use Rattle.talk_plan.proofs.TimingLemmas.{rises}
 
 abbrev pub packets_in : Stream → ℕ
 packets_in s = s.journal.times.packets
@@ -177,7 +183,8 @@ spelled plan s (f ∷ given) is all = (spells plan s f is all.0, spelled plan s 
 
 -- ---- its captures
 
-carried : (plan : TalkPlan) (s : Stream) (lead n : ℕ) → IsStream plan s → Expects plan lead → n < packets_in s → Carries s.journal lead n (record_of (frame_of s n))
+carried : (plan : TalkPlan) (s : Stream) (lead n : ℕ) → IsStream plan s → Expects plan lead → n < packets_in s
+    → Carries s.journal lead n (record_of (frame_of s n))
 unfolding packet_bytes
 carried plan s lead n is expects h =
     let packet : List ℕ = spelling_of (s.journal.packet n) in
@@ -221,7 +228,8 @@ pub record AreCarried (j : PacketJournal) (lead : ℕ) (given : List SentFrame) 
   pub carry : AllCarryFrom j lead origins (map record_of given)
   pub numbers : stream_numbers origins ≡ packet_numbers given
 
-one_more : (plan : TalkPlan) (s : Stream) (lead : ℕ) (f : SentFrame) (given : List SentFrame) → IsStream plan s → Expects plan lead → IsFrameOf s f → AreCarried s.journal lead given → AreCarried s.journal lead (f ∷ given)
+one_more : (plan : TalkPlan) (s : Stream) (lead : ℕ) (f : SentFrame) (given : List SentFrame) → IsStream plan s → Expects plan lead → IsFrameOf s f
+    → AreCarried s.journal lead given → AreCarried s.journal lead (f ∷ given)
 one_more plan s lead f given is expects (inl of) rest =
     subst (λ (f : SentFrame). AreCarried s.journal lead (f ∷ given)) (sym of.same) (record {
       origins = OfStream of.number ∷ rest.origins;
@@ -253,23 +261,12 @@ next_near j a (suc (suc n)) = ((λ first second unstamped. (omega arith, omega a
 
 -- ---- one frame after another
 
-rises_by : (g : ℕ → ℕ) → ((k : ℕ) → g k ≤ g (k + 1)) → (a k d : ℕ) → a + d ≡ k → g a ≤ g k
-rises_by g rises a k zero e = let same : a ≡ k = omega arith in rw same (omega arith)
-rises_by g rises a k (suc d) e =
-    let step = rises_by g rises a (a + d) d refl in
-    let next = rises (a + d) in
-    let place : a + d + 1 ≡ k = omega arith in
-    let same : g (a + d + 1) ≡ g k = ap g place in
-    omega arith
-
-pub rises : (g : ℕ → ℕ) → ((k : ℕ) → g k ≤ g (k + 1)) → (a k : ℕ) → a ≤ k → g a ≤ g k
-rises g each a k h = rises_by g each a k (k - a) (omega arith)
-
 unrolled : (f : ℕ → SentFrame) (a n : ℕ) → a < n → map f (range_with_len a (n - a)) ≡ f a ∷ map f (range_with_len (a + 1) (n - (a + 1)))
 unrolled f a n h = let more : n - a ≡ suc (n - (a + 1)) = omega arith in rw more refl
 
 -- a packet of the clock comes first
-pub clock_first : (plan : TalkPlan) (s : Stream) (a b : ℕ) → IsStream plan s → a < clocks_in s → ((k : ℕ) → b ≤ k → k < packets_in s → s.clock_arrival a ≤ s.arrival k)
+pub clock_first : (plan : TalkPlan) (s : Stream) (a b : ℕ) → IsStream plan s → a < clocks_in s
+    → ((k : ℕ) → b ≤ k → k < packets_in s → s.clock_arrival a ≤ s.arrival k)
     → left_of s a b ≡ clock_frame_of s a ∷ left_of s (a + 1) b
 clock_first plan s a b is h sooner =
     let f = clock_frame_of s a in
@@ -285,7 +282,8 @@ clock_first plan s a b is h sooner =
     (stays_first f (clocks ++ packets) (all_of (λ g. int_le f.arrival g.arrival ≡ true) clocks packets later others))
 
 -- or one of the stream
-pub packet_first : (plan : TalkPlan) (s : Stream) (a b : ℕ) → IsStream plan s → b < packets_in s → ((m : ℕ) → a ≤ m → m < clocks_in s → s.arrival b < s.clock_arrival m)
+pub packet_first : (plan : TalkPlan) (s : Stream) (a b : ℕ) → IsStream plan s → b < packets_in s
+    → ((m : ℕ) → a ≤ m → m < clocks_in s → s.arrival b < s.clock_arrival m)
     → left_of s a b ≡ frame_of s b ∷ left_of s a (b + 1)
 packet_first plan s a b is h sooner =
     let f = frame_of s b in

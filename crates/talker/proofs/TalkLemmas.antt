@@ -1,97 +1,45 @@
 -- The stream of each plan is one that keeps what streams keep.
-use Rattle.std.proofs.Common.{sym, ◌≡◌, inl, inr, pos, ℕ, zero, suc, ◌+◌, ◌-◌, ◌*◌, ◌<◌, ◌≤◌, ◌^◌, Bool, true, false, List, [], ◌∷◌, length, take, drop, min, Option, Some, None, refl, subst, ap, ◌∙◌, arith}
+use Rattle.std.proofs.Common.{sym, ◌≡◌, inl, inr, pos, ℕ, zero, suc, ◌+◌, ◌-◌, ◌*◌, ◌<◌, ◌≤◌, ◌^◌, Bool, true, false, List, [], ◌∷◌, length, drop, min, Option}
+use Rattle.std.proofs.Common.{Some, None, refl, subst, ap, ◌∙◌, arith}
 use Rattle.std.specs.Prelude.{IsSome, slice_get}
 use Rattle.std.proofs.lemmas.Bool.{cases_lt}
 use Rattle.pcap_frames.specs.Capture.{HasSpelling}
-use Rattle.aaf_format.specs.declared.aaf.AafFormat.{AafFormat}
-use Rattle.aaf_format.specs.Aaf.{frame_size}
-use Rattle.iec61883_format.specs.Iec.{block_size, syt_interval}
 use Rattle.stream_journal.specs.Journal.{head_of}
-use Rattle.talker.specs.declared.audio.AudioStream.{AudioStream}
-use Rattle.talker.specs.declared.audio.Format.{Format}
-use Rattle.talker.specs.declared.audio.Format.TheVariants.{Am824 as OfAm824, Pcm as OfPcm}
-use Rattle.talker.specs.declared.plan.TalkKind.{TalkKind}
-use Rattle.talker.specs.declared.plan.TalkKind.TheVariants.{Aaf, Am824, H264}
-use Rattle.talker.specs.declared.plan.TalkPlan.{TalkPlan}
-use Rattle.talker.specs.declared.clock.ClockStream.{ClockStream}
-use Rattle.talker.specs.declared.plan.CrfPlan.{CrfPlan}
-use Rattle.talker.specs.Audio.{Audio, audio_by}
-use Rattle.talker.specs.Clock.{clock_arrival, clock_by, clock_packet, clock_packets}
+use Rattle.talk_audio.specs.declared.audio.AudioStream.{AudioStream}
+use Rattle.talk_plan.specs.declared.plan.TalkKind.{TalkKind}
+use Rattle.talk_plan.specs.declared.plan.TalkKind.TheVariants.{Aaf, Am824, H264}
+use Rattle.talk_plan.specs.declared.plan.TalkPlan.{TalkPlan}
+use Rattle.talk_clock.specs.declared.clock.ClockStream.{ClockStream}
+use Rattle.talk_plan.specs.declared.plan.CrfPlan.{CrfPlan}
+use Rattle.talk_audio.specs.Audio.{Audio, audio_by}
+use Rattle.talk_clock.specs.Clock.{clock_arrival, clock_by, clock_packet, clock_packets, clock_bytes, clock_arrival_by, clock_packet_by}
 use Rattle.crf_format.specs.Crf.{Crf}
 use Rattle.talker.specs.Faults.{arrives_too_late}
-use Rattle.talker.specs.Frames.{SentFrame, capture_style, clock_bytes, clock_frame_of, frame_of, frames, numbered_clock, record_of, stream_frames}
+use Rattle.talker.specs.Frames.{SentFrame, capture_style, clock_frame_of, frame_of, frames, numbered_clock, record_of, stream_frames}
 use Rattle.talker.specs.state.Frames.{left_of}
-use Rattle.talker.specs.Journal.{Stream, clock_arrival_by, clock_packet_by, journal, samples_in, stamps_last, stream_by, stream_of, video_stream}
-use Rattle.talker.specs.Packets.{aaf_packet}
-use Rattle.talker.specs.Plan.{FitsBlocks, FitsPacket, IsAudioKind, IsAudioPlan, IsPlan, IsPlanOf, IsVideoPlan, fdf_of, rate_code}
-use Rattle.talker.specs.Talking.{Talking, gone_on, most_input}
-use Rattle.talker.specs.state.Talking.{IsAudio, IsClockFirst, IsClockIn, IsClockOf, IsFormat, IsSource, audio_in, audio_of, headers_by, headers_of, input_in, packets_of, plan_in, samples_size, stream_in as stream_in_source}
-use Rattle.talker.specs.Units.{sent_units}
-use Rattle.talker.specs.Timing.{run_of}
+use Rattle.talker.specs.Journal.{Stream, journal, stamps_last, stream_by, stream_of, video_stream}
+use Rattle.talk_plan.specs.Plan.{IsAudioKind, IsAudioPlan, IsPlan, IsPlanOf, IsVideoPlan, most_input}
+use Rattle.talker.specs.Talking.{Talking, gone_on}
+use Rattle.talk_audio.specs.Streams.{IsAudio, audio_of, headers_of, packets_of}
+use Rattle.talker.specs.state.Talking.{IsClockFirst, IsSource, input_in, plan_in, stream_in as stream_in_source}
+use Rattle.talk_clock.specs.Streams.{IsClockIn, IsClockOf, IsClockStream}
+use Rattle.talk_video.specs.Units.{sent_units}
+use Rattle.talk_plan.specs.Timing.{run_of}
 use Rattle.talker.specs.declared.source.Source.{Source}
 use Rattle.talker.specs.declared.source.Source.TheVariants.{Audio as OfAudio, Video as OfVideo}
-use Rattle.talker.proofs.Am824Lemmas.{am824_format, some_interval}
-use Rattle.talker.proofs.AudioLemmas.{IsFormatOf, audio_stream, stream_in}
-use Rattle.talker.proofs.DueLemmas.{has_head}
-use Rattle.talker.proofs.PcmLemmas.{both_headers, has_both, pcm_format}
-use Rattle.talker.proofs.RateLemmas.{known_fdf}
-use Rattle.talker.proofs.SampleLemmas.{whole_samples}
-use Rattle.talker.proofs.StreamLemmas.{IsStream, clock_at_number, clock_first, clock_has_spelling, clocks_in, frames_of, in_turn, never_late, packet_first, packets_in, rises}
+use Rattle.talk_audio.proofs.FormatLemmas.{format_of, audio_found, has_format}
+use Rattle.talker.proofs.AudioLemmas.{audio_stream, stream_in}
+use Rattle.talk_audio.proofs.DueLemmas.{has_head}
+use Rattle.talker.proofs.StreamLemmas.{IsStream, clock_at_number, clock_first, clock_has_spelling, clocks_in, frames_of, in_turn, never_late, packet_first}
+use Rattle.talker.proofs.StreamLemmas.{packets_in}
+use Rattle.talk_plan.proofs.TimingLemmas.{rises}
 use Rattle.talker.proofs.VideoLemmas.{video_stream_keeps}
-use Rattle.talker.proofs.VideoRules.{sent_are}
+use Rattle.talk_video.proofs.VideoRules.{sent_are}
 
 -- ---- a plan, with its format
 
-format_by : (format : Format) (plan : TalkPlan) → IsAudioPlan plan → IsFormat format plan → IsFormatOf plan (audio_in format plan) (headers_by format)
-format_by (OfPcm f) plan p is = pcm_format f plan p is.format
-format_by (OfAm824 f) plan p is = am824_format f plan p is
-
-pub format_of : (s : AudioStream) → IsAudio s → IsFormatOf s.plan (audio_of s) (headers_of s)
-format_of s is = format_by s.format s.plan is.plan is.format
-
-audio_is : (format : Format) (plan : TalkPlan) → IsFormat format plan → audio_by plan.kind plan ≡ Some (audio_in format plan)
-audio_is (OfPcm f) plan is = rw is.format.kind refl
-audio_is (OfAm824 f) plan is = rw is.kind refl
-
-pub audio_found : (s : AudioStream) → IsAudio s → audio_by s.plan.kind s.plan ≡ Some (audio_of s)
-audio_found s is = audio_is s.format s.plan is.format
-
 pub stream_is : (s : AudioStream) (input : List ℕ) → IsAudio s → stream_of s.plan input ≡ stream_in (audio_of s) s.plan input
 stream_is s input is = rw (audio_found s is) refl
-
--- a plan that is talked has a format
-pub record HasFormat (plan : TalkPlan) : Type 0 where
-  pub stream : AudioStream
-  pub audio : IsAudio stream
-  pub plan_is : stream.plan ≡ plan
-
-pcm_by : (plan : TalkPlan) (format : AafFormat) (sparse : Bool) (code : Option ℕ) → IsAudioPlan plan → plan.kind ≡ Aaf format sparse → rate_code plan.rate ≡ code → IsSome code → HasFormat plan
-pcm_by plan format sparse None p kind e some = absurd cc
-pcm_by plan format sparse (Some code) p kind e some = record {
-  stream = record { plan = plan; format = OfPcm (record { format = format; sparse = sparse; steady = false; code = code; headers = both_headers (aaf_packet format sparse plan 0 []) }); size = plan.count * frame_size plan.channels format };
-  audio = record { plan = p; format = record { format = record { kind = kind; code = e }; headers = has_both (aaf_packet format sparse plan 0 []); steady = λ t. absurd cc }; size = refl; fits = subst (λ (k : TalkKind). FitsPacket k plan) kind p.fits };
-  plan_is = refl;
-}
-
-interval_by : (plan : TalkPlan) (fdf : ℕ) (interval : Option ℕ) → IsAudioPlan plan → plan.kind ≡ Am824 → fdf_of plan.rate ≡ Some fdf → syt_interval fdf ≡ interval → IsSome interval → HasFormat plan
-interval_by plan fdf None p kind e f some = absurd cc
-interval_by plan fdf (Some interval) p kind e f some = record {
-  stream = record { plan = plan; format = OfAm824 (record { fdf = fdf; interval = interval }); size = plan.count * block_size plan.channels };
-  audio = record { plan = p; format = record { kind = kind; code = e; interval = f }; size = refl; fits = (let fits : FitsBlocks plan = subst (λ (k : TalkKind). FitsPacket k plan) kind p.fits in omega (arith, fits.size)) };
-  plan_is = refl;
-}
-
-am824_by : (plan : TalkPlan) (fdf : Option ℕ) → IsAudioPlan plan → plan.kind ≡ Am824 → fdf_of plan.rate ≡ fdf → IsSome fdf → HasFormat plan
-am824_by plan None p kind e some = absurd cc
-am824_by plan (Some fdf) p kind e some = interval_by plan fdf (syt_interval fdf) p kind e refl (some_interval fdf (known_fdf plan.rate fdf e).few)
-
-has_by : (plan : TalkPlan) (kind : TalkKind) → plan.kind ≡ kind → IsAudioKind kind → IsAudioPlan plan → HasFormat plan
-has_by plan (Aaf format sparse) e talked p = pcm_by plan format sparse (rate_code plan.rate) p e refl (rw e at p.rate)
-has_by plan Am824 e talked p = am824_by plan (fdf_of plan.rate) p e refl (rw e at p.rate)
-has_by plan (H264 last_stamp) e talked p = absurd talked
-
-pub has_format : (plan : TalkPlan) → IsAudioPlan plan → HasFormat plan
-has_format plan p = has_by plan plan.kind refl p.kind p
 
 -- ---- so its stream keeps what streams keep
 
@@ -104,17 +52,20 @@ audio_keeps plan input p limit =
     subst (λ (plan : TalkPlan). IsStream plan (stream_of plan input)) has.plan_is (stream_keeps has.stream input has.audio limit)
 
 -- the stream of a plan of H.264
-pub video_is : (plan : TalkPlan) (input : List ℕ) (last_stamp : Bool) → plan.kind ≡ H264 last_stamp → stream_of plan input ≡ video_stream last_stamp plan input (sent_units input)
+pub video_is : (plan : TalkPlan) (input : List ℕ) (last_stamp : Bool) → plan.kind ≡ H264 last_stamp
+    → stream_of plan input ≡ video_stream last_stamp plan input (sent_units input)
 video_is plan input last_stamp kind =
     ap (λ (k : TalkKind). stream_by (audio_by k plan) plan input) kind
     ∙ ap (λ (k : TalkKind). video_stream (stamps_last k) plan input (sent_units input)) kind
 
-video_keeps : (plan : TalkPlan) (input : List ℕ) (last_stamp : Bool) → IsVideoPlan plan → plan.kind ≡ H264 last_stamp → length input ≤ most_input → IsStream plan (stream_of plan input)
+video_keeps : (plan : TalkPlan) (input : List ℕ) (last_stamp : Bool) → IsVideoPlan plan → plan.kind ≡ H264 last_stamp → length input ≤ most_input
+    → IsStream plan (stream_of plan input)
 video_keeps plan input last_stamp p kind limit =
     subst (λ (s : Stream). IsStream plan s) (sym (video_is plan input last_stamp kind))
     (video_stream_keeps last_stamp plan input (sent_units input) p kind (sent_are input) limit)
 
-keeps_by : (kind : TalkKind) (plan : TalkPlan) (input : List ℕ) → plan.kind ≡ kind → IsPlanOf kind plan → length input ≤ most_input → IsStream plan (stream_of plan input)
+keeps_by : (kind : TalkKind) (plan : TalkPlan) (input : List ℕ) → plan.kind ≡ kind → IsPlanOf kind plan → length input ≤ most_input
+    → IsStream plan (stream_of plan input)
 keeps_by (Aaf format sparse) plan input e p limit = audio_keeps plan input p limit
 keeps_by Am824 plan input e p limit = audio_keeps plan input p limit
 keeps_by (H264 last_stamp) plan input e p limit = video_keeps plan input last_stamp p e limit
@@ -144,7 +95,8 @@ clocked_plan plan crf p e = clocked_by plan.kind plan crf e p
 
 -- ---- packets of audio have heads
 
-pub plan_heads : (plan : TalkPlan) (input : List ℕ) (n : ℕ) → IsAudioPlan plan → 7 ≤ n → run_of plan (n - 7) ≡ run_of plan n → IsSome (head_of (journal plan input).times n)
+pub plan_heads : (plan : TalkPlan) (input : List ℕ) (n : ℕ) → IsAudioPlan plan → 7 ≤ n → run_of plan (n - 7) ≡ run_of plan n
+    → IsSome (head_of (journal plan input).times n)
 plan_heads plan input n p behind same =
     let has = has_format plan p in
     let s = has.stream in
@@ -160,7 +112,8 @@ pub none_late : (plan : TalkPlan) (input : List ℕ) → IsPlan plan → length 
 none_late plan input p limit = never_late plan (stream_of plan input) (plan_keeps plan input p limit)
 
 -- without a media clock they are those of the stream
-no_clock_by : (audio : Option Audio) (crf : Option CrfPlan) (plan : TalkPlan) (input : List ℕ) → plan.crf ≡ crf → crf ≡ None → numbered_clock (stream_by audio plan input) ≡ []
+no_clock_by : (audio : Option Audio) (crf : Option CrfPlan) (plan : TalkPlan) (input : List ℕ) → plan.crf ≡ crf → crf ≡ None
+    → numbered_clock (stream_by audio plan input) ≡ []
 no_clock_by None crf plan input e none = rw (e, none) refl
 no_clock_by (Some a) crf plan input e none = rw (e, none) refl
 
@@ -170,11 +123,6 @@ frames_alone plan input p none limit =
 
 pub went_on : (t : Talking) → t.given < length (frames t.plan t.input) → record t { given = t.given + 1 } ≡ gone_on t
 went_on t h = let one : t.given + 1 ≡ min (t.given + 1) (length (frames t.plan t.input)) = omega arith in ap (λ (k : ℕ). record t { given = k }) one
-
--- the samples of a packet that the input has wholly
-pub whole_of : (s : AudioStream) (input : List ℕ) (n : ℕ) → IsAudio s → samples_size s ≤ length (drop (n * samples_size s) input)
-    → take (samples_size s) (drop (n * samples_size s) input) ≡ samples_in (audio_of s) s.plan input n
-whole_of s input n is whole = whole_samples (audio_of s).silence (audio_of s).frame s.plan.count n input (format_of s is).silence whole
 
 -- ---- the clock beside a stream
 
@@ -210,7 +158,8 @@ source_is source is = is_of (plan_in source) (input_in source) (source_plan sour
 crf_is : (c : ClockStream) (plan : TalkPlan) (packets : ℕ) → IsClockIn c plan packets → plan.crf ≡ Some c.crf
 crf_is c plan packets is = ap (λ (plan : TalkPlan). plan.crf) (sym is.plan_is) ∙ is.clock.clock
 
-clocks_in_is : (c : ClockStream) (plan : TalkPlan) (packets : ℕ) → IsClockIn c plan packets → (clock_by plan.crf plan packets).packets ≡ clock_packets c.crf c.plan c.stream
+clocks_in_is : (c : ClockStream) (plan : TalkPlan) (packets : ℕ) → IsClockIn c plan packets
+    → (clock_by plan.crf plan packets).packets ≡ clock_packets c.crf c.plan c.stream
 clocks_in_is c plan packets is =
     let F : Option CrfPlan → TalkPlan → ℕ → ℕ = λ o plan n. (clock_by o plan n).packets in
     ap (λ (o : Option CrfPlan). F o plan packets) (crf_is c plan packets is)
@@ -222,7 +171,8 @@ arrival_in_is c plan packets m is =
     ap (λ (o : Option CrfPlan). clock_arrival_by o plan m) (crf_is c plan packets is)
     ∙ ap (λ (plan : TalkPlan). clock_arrival_by (Some c.crf) plan m) (sym is.plan_is)
 
-packet_in_is : (c : ClockStream) (plan : TalkPlan) (packets m : ℕ) → IsClockIn c plan packets → clock_packet_by plan.crf plan packets m ≡ clock_packet c.crf c.plan c.stream m
+packet_in_is : (c : ClockStream) (plan : TalkPlan) (packets m : ℕ) → IsClockIn c plan packets
+    → clock_packet_by plan.crf plan packets m ≡ clock_packet c.crf c.plan c.stream m
 packet_in_is c plan packets m is =
     ap (λ (o : Option CrfPlan). clock_packet_by o plan packets m) (crf_is c plan packets is)
     ∙ ap (λ (plan : TalkPlan). clock_packet_by (Some c.crf) plan packets m) (sym is.plan_is)
@@ -230,6 +180,7 @@ packet_in_is c plan packets m is =
 
 -- the clock of a talker stands beside the stream
 pub record IsBeside (c : ClockStream) (s : Stream) : Type 0 where
+  pub clock : IsClockStream c
   pub count : clocks_in s ≡ clock_packets c.crf c.plan c.stream
   pub arrival : (m : ℕ) → s.clock_arrival m ≡ clock_arrival c.crf c.plan m
   pub packet : (m : ℕ) → s.journal.clock_packet m ≡ clock_packet c.crf c.plan c.stream m
@@ -238,6 +189,7 @@ pub beside : (c : ClockStream) (plan : TalkPlan) (s : Stream) (packets : ℕ) �
 beside c plan s packets of e clock =
     let there : IsClockIn c plan (packets_in s) = subst (λ (n : ℕ). IsClockIn c plan n) e clock in
     record {
+      clock = there.clock;
       count = of.clock.packets ∙ clocks_in_is c plan (packets_in s) there;
       arrival = λ m. of.clock.arrival m ∙ arrival_in_is c plan (packets_in s) m there;
       packet = λ m. of.clock.packet m ∙ packet_in_is c plan (packets_in s) m there;
@@ -251,7 +203,8 @@ none_sent plan s of e = of.clock.packets ∙ ap (λ (o : Option CrfPlan). (clock
 pub record IsClockSent (s : Stream) (c : ClockStream) (m : ℕ) : Type 0 where
   pub early : clock_arrival c.crf c.plan m < 2 ^ 32 * 1000000000
   pub frame : slice_get (numbered_clock s) m ≡ Some (clock_frame_of s m)
-  pub same : clock_frame_of s m ≡ record { arrival = pos (clock_arrival c.crf c.plan m); number = m; clock = true; bytes = clock_bytes (clock_packet c.crf c.plan c.stream m) }
+  pub same : clock_frame_of s m
+      ≡ record { arrival = pos (clock_arrival c.crf c.plan m); number = m; clock = true; bytes = clock_bytes (clock_packet c.crf c.plan c.stream m) }
   pub fits : HasSpelling capture_style (record_of (clock_frame_of s m))
   pub size : length (clock_bytes (clock_packet c.crf c.plan c.stream m)) ≤ 1518
 
@@ -270,7 +223,8 @@ clock_sent_as plan s c m of by known =
 
 -- ---- which frame comes next
 
-pub sooner : (clock : Option ClockStream) (plan : TalkPlan) (s : Stream) (packets a b : ℕ) → IsOf plan s → packets ≡ packets_in s → IsClockOf clock plan packets → IsClockFirst clock s a b
+pub sooner : (clock : Option ClockStream) (plan : TalkPlan) (s : Stream) (packets a b : ℕ) → IsOf plan s → packets ≡ packets_in s
+    → IsClockOf clock plan packets → IsClockFirst clock s a b
     → (a < clocks_in s) × ((k : ℕ) → b ≤ k → k < packets_in s → s.clock_arrival a ≤ s.arrival k)
 sooner None plan s packets a b of e clock first = absurd first
 sooner (Some c) plan s packets a b of e clock first =
@@ -284,7 +238,8 @@ sooner (Some c) plan s packets a b of e clock first =
       ]),
     )
 
-pub later : (clock : Option ClockStream) (plan : TalkPlan) (s : Stream) (packets a b : ℕ) → IsOf plan s → packets ≡ packets_in s → IsClockOf clock plan packets → ¬ IsClockFirst clock s a b → b < packets
+pub later : (clock : Option ClockStream) (plan : TalkPlan) (s : Stream) (packets a b : ℕ) → IsOf plan s → packets ≡ packets_in s → IsClockOf clock plan packets
+    → ¬ IsClockFirst clock s a b → b < packets
     → (m : ℕ) → a ≤ m → m < clocks_in s → s.arrival b < s.clock_arrival m
 later None plan s packets a b of e clock other more m from known = absurd (let none = none_sent plan s of clock in omega (arith, none, known))
 later (Some c) plan s packets a b of e clock other more m from known =
@@ -297,7 +252,8 @@ later (Some c) plan s packets a b of e clock other more m from known =
       | inr not ↦ absurd (other (omega (arith, count, known), inr (omega (arith, arrival, not))))
     ]
 
-pub ended : (clock : Option ClockStream) (plan : TalkPlan) (s : Stream) (packets a b : ℕ) → IsOf plan s → packets ≡ packets_in s → IsClockOf clock plan packets → ¬ IsClockFirst clock s a b → b ≡ packets
+pub ended : (clock : Option ClockStream) (plan : TalkPlan) (s : Stream) (packets a b : ℕ) → IsOf plan s → packets ≡ packets_in s → IsClockOf clock plan packets
+    → ¬ IsClockFirst clock s a b → b ≡ packets
     → a ≤ clocks_in s → a ≡ clocks_in s
 ended None plan s packets a b of e clock other at most = let none = none_sent plan s of clock in omega (arith, none, most)
 ended (Some c) plan s packets a b of e clock other at most =
@@ -330,12 +286,14 @@ first_is (x ∷ xs) (suc k) f rest e =
     let more : suc k + 1 ≡ suc (k + 1) = omega arith in
     record { at = is.at; next = rw more is.next; below = (let below = is.below in omega arith) }
 
-pub clock_step : (plan : TalkPlan) (s : Stream) (a b : ℕ) → IsOf plan s → a < clocks_in s → ((k : ℕ) → b ≤ k → k < packets_in s → s.clock_arrival a ≤ s.arrival k)
+pub clock_step : (plan : TalkPlan) (s : Stream) (a b : ℕ) → IsOf plan s → a < clocks_in s
+    → ((k : ℕ) → b ≤ k → k < packets_in s → s.clock_arrival a ≤ s.arrival k)
     → drop (a + b) (frames_of s) ≡ left_of s a b → IsFirst (frames_of s) (a + b) (clock_frame_of s a) (left_of s (a + 1) b)
 clock_step plan s a b of more soon left =
     first_is (frames_of s) (a + b) (clock_frame_of s a) (left_of s (a + 1) b) (left ∙ clock_first plan s a b of.keeps more soon)
 
-pub packet_step : (plan : TalkPlan) (s : Stream) (a b : ℕ) → IsOf plan s → b < packets_in s → ((m : ℕ) → a ≤ m → m < clocks_in s → s.arrival b < s.clock_arrival m)
+pub packet_step : (plan : TalkPlan) (s : Stream) (a b : ℕ) → IsOf plan s → b < packets_in s
+    → ((m : ℕ) → a ≤ m → m < clocks_in s → s.arrival b < s.clock_arrival m)
     → drop (a + b) (frames_of s) ≡ left_of s a b → IsFirst (frames_of s) (a + b) (frame_of s b) (left_of s a (b + 1))
 packet_step plan s a b of more soon left =
     first_is (frames_of s) (a + b) (frame_of s b) (left_of s a (b + 1)) (left ∙ packet_first plan s a b of.keeps more soon)

@@ -1,36 +1,41 @@
 -- What is sent next, and which packet's frame it is.
-use Rattle.std.proofs.Common.{◌≡◌, ◌⊎◌, inl, inr, ℕ, ℤ, pos, ◌+◌, ◌*◌, ◌^◌, ◌<◌, ◌≤◌, Bool, true, false, List, length, drop, Option, Some, None, refl, sym, ap, subst, ◌∙◌, arith}
+use Rattle.std.proofs.Common.{◌≡◌, ◌⊎◌, inl, inr, ℕ, ℤ, pos, ◌+◌, ◌*◌, ◌^◌, ◌<◌, ◌≤◌, Bool, true, false, List, length, drop, Option, Some, None, refl, sym, ap}
+use Rattle.std.proofs.Common.{subst, ◌∙◌, arith}
 use Rattle.std.specs.Prelude.{slice_get, option_map, IfSome}
 use Rattle.std.proofs.lemmas.Bool.{cases_lt}
 use Rattle.std.proofs.lemmas.Int.{ints}
 use Rattle.std.proofs.lemmas.Option.{slice_get_past}
 use Rattle.pcap_frames.specs.Capture.{HasSpelling}
 use Rattle.crf_format.specs.Crf.{Crf}
-use Rattle.talker.specs.declared.clock.ClockStream.{ClockStream}
-use Rattle.talker.specs.declared.plan.TalkPlan.{TalkPlan}
+use Rattle.talk_clock.specs.declared.clock.ClockStream.{ClockStream}
+use Rattle.talk_plan.specs.declared.plan.TalkPlan.{TalkPlan}
 use Rattle.talker.specs.declared.source.Source.{Source}
 use Rattle.talker.specs.declared.turn.Turn.{Turn}
-use Rattle.talker.specs.state.Clock.{clock_frame_size}
-use Rattle.talker.specs.Frames.{SentFrame, capture_style, clock_bytes, clock_frame_of, frame_of, frames, record_of}
+use Rattle.talk_clock.specs.Clock.{clock_frame_size, clock_bytes}
+use Rattle.talker.specs.Frames.{SentFrame, capture_style, clock_frame_of, frame_of, frames, record_of}
 use Rattle.talker.specs.state.Frames.{left_of}
 use Rattle.talker.specs.Journal.{Stream, stream_of}
 use Rattle.talker.specs.Talking.{Talking}
-use Rattle.talker.specs.state.Talking.{IsClockIn, IsClockOf, IsSource, plan_in, stream_in}
+use Rattle.talk_clock.specs.Streams.{IsClockIn, IsClockOf}
+use Rattle.talker.specs.state.Talking.{IsSource, plan_in, stream_in}
 use Rattle.talker.specs.Turns.{IsTurn, frame_in, turn_of}
 use Rattle.talker.specs.state.Turns.{SendsPacket, frame_by, packets_by, turn_frame}
-use Rattle.talker.proofs.ClockPackets.{clock_size}
-use Rattle.talker.proofs.StreamLemmas.{IsFrameOf, all_frames, at_place, clock_has_spelling, clocks_in, count_all, frames_of, has_spelling, packets_in, rises}
+use Rattle.talk_clock.proofs.ClockPackets.{clock_size}
+use Rattle.talker.proofs.StreamLemmas.{IsFrameOf, all_frames, at_place, clock_has_spelling, clocks_in, count_all, frames_of, has_spelling, packets_in}
+use Rattle.talk_plan.proofs.TimingLemmas.{rises}
 use Rattle.talker.proofs.TalkLemmas.{IsBeside, IsFirst, IsOf, beside, clock_step, packet_step, source_is}
 
 -- ---- the clock that a talker has
 
-pub beside_is : (source : Source) (clock : Option ClockStream) (c : ClockStream) (packets : ℕ) → clock ≡ Some c → IsSource source → packets ≡ packets_in (stream_in source) → IsClockOf clock (plan_in source) packets
+pub beside_is : (source : Source) (clock : Option ClockStream) (c : ClockStream) (packets : ℕ) → clock ≡ Some c → IsSource source
+    → packets ≡ packets_in (stream_in source) → IsClockOf clock (plan_in source) packets
     → IsBeside c (stream_in source)
 beside_is source clock c packets e is count of =
     let there : IsClockIn c (plan_in source) packets = subst (λ (o : Option ClockStream). IsClockOf o (plan_in source) packets) e of in
     beside c (plan_in source) (stream_in source) packets (source_is source is) count there
 
-pub clock_sized : (s : Stream) (c : ClockStream) (m : ℕ) → IsBeside c s → length (clock_bytes (s.journal.clock_packet m)) ≡ clock_frame_size c.crf c.plan c.stream m
+pub clock_sized : (s : Stream) (c : ClockStream) (m : ℕ) → IsBeside c s
+    → length (clock_bytes (s.journal.clock_packet m)) ≡ clock_frame_size c.crf c.plan c.stream m
 clock_sized s c m by = ap (λ (v : Crf). length (clock_bytes v)) (by.packet m) ∙ clock_size c.crf c.plan c.stream m
 
 -- ---- the frame of a packet
@@ -43,7 +48,8 @@ framed_by false s n arrival e = rw e refl
 pub framed : (s : Stream) (turn : Turn) → SendsPacket s turn → frame_in turn (turn_frame s turn).bytes ≡ turn_frame s turn
 framed s turn is = framed_by turn.clock s turn.number turn.arrival is.arrival
 
-fits_by : (clock : Bool) (plan : TalkPlan) (s : Stream) (n : ℕ) → IsOf plan s → n < packets_by clock s → HasSpelling capture_style (record_of (frame_by clock s n))
+fits_by : (clock : Bool) (plan : TalkPlan) (s : Stream) (n : ℕ) → IsOf plan s → n < packets_by clock s
+    → HasSpelling capture_style (record_of (frame_by clock s n))
 fits_by true plan s m of known = clock_has_spelling plan s m of.keeps known
 fits_by false plan s n of known = has_spelling plan s n of.keeps known
 
@@ -98,7 +104,8 @@ pub frame_next : (t : Talking) (turn : Turn) → IsTurn t turn → HasFrame (sli
 frame_next t turn is = framed_as (slice_get (frames t.plan t.input) t.given) turn is.next
 
 turned : (s : Stream) (turn : Turn) → SendsPacket s turn → turn_of (turn_frame s turn) ≡ turn
-turned s turn is = ap turn_of (sym (framed s turn is)) ∙ ap (λ (k : ℕ). record { arrival = turn.arrival; number = turn.number; clock = turn.clock; size = k }) (sym is.size)
+turned s turn is = ap turn_of (sym (framed s turn is)) ∙ ap (λ (k : ℕ). record { arrival = turn.arrival; number = turn.number; clock = turn.clock; size = k })
+    (sym is.size)
 
 pub is_turn : (t : Talking) (turn : Turn) → IsOf t.plan (stream_of t.plan t.input) → SendsPacket (stream_of t.plan t.input) turn
     → slice_get (frames t.plan t.input) t.given ≡ Some (turn_frame (stream_of t.plan t.input) turn) → IsTurn t turn
@@ -162,14 +169,23 @@ pub record IsPacketStep (s : Stream) (a b : ℕ) : Type 0 where
   pub step : IsFirst (frames_of s) (a + b) (frame_of s b) (left_of s a (b + 1))
 
 -- a frame that is left is the first of the clock's or of the stream's
-step_of : (plan : TalkPlan) (s : Stream) (a b : ℕ) (f : SentFrame) → IsOf plan s → a ≤ clocks_in s → b ≤ packets_in s → drop (a + b) (frames_of s) ≡ left_of s a b → slice_get (frames_of s) (a + b) ≡ Some f
+step_of : (plan : TalkPlan) (s : Stream) (a b : ℕ) (f : SentFrame) → IsOf plan s → a ≤ clocks_in s → b ≤ packets_in s
+    → drop (a + b) (frames_of s) ≡ left_of s a b → slice_get (frames_of s) (a + b) ≡ Some f
     → IsClockStep s a b ⊎ IsPacketStep s a b
 step_of plan s a b f of clocks packets left at =
     elim (cases_lt a (clocks_in s)) [
       | inl clock ↦ (elim (cases_lt b (packets_in s)) [
         | inl packet ↦ (elim (cases_lt (s.arrival b) (s.clock_arrival a)) [
-          | inl before ↦ inr (record { more = packet; step = packet_step plan s a b of packet (λ m from below. let rise = rises s.clock_arrival of.keeps.clock_rising a m from in omega (arith, rise, before)) left })
-          | inr not ↦ inl (record { more = clock; step = clock_step plan s a b of clock (λ k from below. let rise = rises s.arrival of.keeps.rising b k from in omega (arith, rise, not)) left })
+          | inl before ↦ inr (record {
+            more = packet;
+            step = packet_step plan s a b of packet
+                (λ m from below. let rise = rises s.clock_arrival of.keeps.clock_rising a m from in omega (arith, rise, before)) left;
+          })
+          | inr not ↦ inl (record {
+            more = clock;
+            step = clock_step plan s a b of clock
+                (λ k from below. let rise = rises s.arrival of.keeps.rising b k from in omega (arith, rise, not)) left;
+          })
         ])
         | inr none ↦ inl (record { more = clock; step = clock_step plan s a b of clock (λ k from below. absurd (omega (arith, none, from, below))) left })
       ])
@@ -186,7 +202,8 @@ other_clock : (f g : SentFrame) (b c : Bool) → f ≡ g → f.clock ≡ b → g
 other_clock f g b c e h k = sym h ∙ ap (λ (f : SentFrame). f.clock) e ∙ k
 
 -- which of both, its turn tells
-pub clock_turn : (plan : TalkPlan) (s : Stream) (a b : ℕ) (f : SentFrame) → IsOf plan s → a ≤ clocks_in s → b ≤ packets_in s → drop (a + b) (frames_of s) ≡ left_of s a b → slice_get (frames_of s) (a + b) ≡ Some f
+pub clock_turn : (plan : TalkPlan) (s : Stream) (a b : ℕ) (f : SentFrame) → IsOf plan s → a ≤ clocks_in s → b ≤ packets_in s
+    → drop (a + b) (frames_of s) ≡ left_of s a b → slice_get (frames_of s) (a + b) ≡ Some f
     → f.clock ≡ true → IsClockStep s a b
 clock_turn plan s a b f of clocks packets left at clock =
     elim (step_of plan s a b f of clocks packets left at) [
@@ -194,10 +211,12 @@ clock_turn plan s a b f of clocks packets left at clock =
       | inr is ↦ absurd (let no : true ≡ false = other_clock f (frame_of s b) true false (same_frame f (frame_of s b) _ at is.step.at) clock refl in cc)
     ]
 
-pub packet_turn : (plan : TalkPlan) (s : Stream) (a b : ℕ) (f : SentFrame) → IsOf plan s → a ≤ clocks_in s → b ≤ packets_in s → drop (a + b) (frames_of s) ≡ left_of s a b → slice_get (frames_of s) (a + b) ≡ Some f
+pub packet_turn : (plan : TalkPlan) (s : Stream) (a b : ℕ) (f : SentFrame) → IsOf plan s → a ≤ clocks_in s → b ≤ packets_in s
+    → drop (a + b) (frames_of s) ≡ left_of s a b → slice_get (frames_of s) (a + b) ≡ Some f
     → f.clock ≡ false → IsPacketStep s a b
 packet_turn plan s a b f of clocks packets left at clock =
     elim (step_of plan s a b f of clocks packets left at) [
-      | inl is ↦ absurd (let no : true ≡ false = other_clock (clock_frame_of s a) f true false (sym (same_frame f (clock_frame_of s a) _ at is.step.at)) refl clock in cc)
+      | inl is ↦ absurd (let no : true ≡ false = other_clock (clock_frame_of s a) f true false (sym (same_frame f (clock_frame_of s a) _ at is.step.at)) refl
+          clock in cc)
       | inr is ↦ is
     ]

@@ -2,8 +2,8 @@
 use Rattle.std.specs.Prelude.{◌≡◌, ℕ, true, pos, Some, None}
 use Rattle.aaf_format.specs.declared.aaf.AafFormat.TheVariants.{Int16}
 use Rattle.stream_journal.specs.Journal.{Journal, rule_of}
-use Rattle.talker.specs.declared.plan.TalkKind.TheVariants.{Aaf, Am824}
-use Rattle.talker.specs.declared.plan.TalkPlan.{TalkPlan}
+use Rattle.talk_plan.specs.declared.plan.TalkKind.TheVariants.{Aaf, Am824}
+use Rattle.talk_plan.specs.declared.plan.TalkPlan.{TalkPlan}
 
 -- Packets of 6 stereo sample frames of 16 bits at 48 kHz, in sparse mode, with a restart after each ten packets.
 abbrev pub restarting : TalkPlan

@@ -1,14 +1,14 @@
 -- Why a plan and its input make no stream.
 use Rattle.std.specs.Prelude.{ℕ, ◌*◌, ◌^◌, Bool, not, pos, int_le, List, [], ◌∷◌, ◌++◌, Option, Some, None}
 use Rattle.std.specs.List.{list_any}
-use Rattle.talker.specs.declared.fault.TalkFault.{TalkFault}
-use Rattle.talker.specs.declared.fault.TalkFault.TheVariants.{Frames, Arrival}
-use Rattle.talker.specs.declared.plan.TalkPlan.{TalkPlan}
-use Rattle.talker.specs.Audio.{Audio, audio_by}
-use Rattle.talker.specs.Samples.{is_whole}
+use Rattle.talk_plan.specs.declared.fault.TalkFault.{TalkFault}
+use Rattle.talk_plan.specs.declared.fault.TalkFault.TheVariants.{Frames, Arrival}
+use Rattle.talk_plan.specs.declared.plan.TalkPlan.{TalkPlan}
+use Rattle.talk_audio.specs.Audio.{Audio, audio_by}
+use Rattle.talk_audio.specs.Samples.{is_whole}
 use Rattle.talker.specs.Frames.{frames}
-use Rattle.talker.specs.Rows.{Row, first_of, row}
-use Rattle.talker.specs.Units.{unit_faults}
+use Rattle.talk_plan.specs.Rows.{Row, first_of, row}
+use Rattle.talk_video.specs.Units.{unit_faults}
 
 -- a frame would arrive at 2^32 seconds or later, which no capture can say
 abbrev pub arrives_too_late : TalkPlan → List ℕ → Bool

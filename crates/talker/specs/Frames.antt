@@ -1,23 +1,19 @@
 -- The frames of a plan, and the capture that they make.
-use Rattle.std.specs.Prelude.{ℕ, Bool, true, false, if◌then◌else◌, ℤ, pos, int_le, ◌≤ℤ◌, List, [], ◌∷◌, ◌++◌, length, map, slice_get, Some, ⊤}
+use Rattle.std.specs.Prelude.{ℕ, Bool, true, false, if◌then◌else◌, ℤ, pos, int_le, ◌≤ℤ◌, List, [], ◌∷◌, ◌++◌, length, map, slice_get, ⊤}
 use Rattle.std.specs.List.{filter_map, range_with_len}
 use Rattle.pcap_frames.specs.declared.style.Order.TheVariants.{Little}
 use Rattle.pcap_frames.specs.declared.style.Style.{Style}
 use Rattle.pcap_frames.specs.declared.style.Unit.TheVariants.{Nano}
 use Rattle.pcap_frames.specs.Capture.{Record, capture_spelling}
-use Rattle.pcap_frames.specs.Frame.{Frame, frame_spelling}
-use Rattle.avtp_header.specs.Numbers.{avtp_ethertype}
-use Rattle.aaf_format.specs.declared.aaf.AafFormat.{AafFormat}
-use Rattle.crf_format.specs.Crf.{Crf, crf_spelling}
-use Rattle.packet_journal.specs.Packets.{PacketView, Pcm, spelling_of}
 use Rattle.stream_journal.specs.Delivered.{AreNear}
 use Rattle.stream_journal.specs.Journal.{Journal}
-use Rattle.talker.specs.declared.plan.TalkKind.{TalkKind}
-use Rattle.talker.specs.declared.plan.TalkKind.TheVariants.{Aaf, Am824, H264}
-use Rattle.talker.specs.declared.plan.TalkPlan.{TalkPlan}
+use Rattle.talk_plan.specs.declared.plan.TalkKind.{TalkKind}
+use Rattle.talk_plan.specs.declared.plan.TalkKind.TheVariants.{Aaf, Am824, H264}
+use Rattle.talk_plan.specs.declared.plan.TalkPlan.{TalkPlan}
 use Rattle.talker.specs.declared.sent.Sent.{Sent}
 use Rattle.talker.specs.Journal.{Stream, journal, stream_of}
-use Rattle.talker.specs.Packets.{aaf_packet}
+use Rattle.talk_clock.specs.Clock.{clock_bytes}
+use Rattle.talk_plan.specs.Ethernet.{packet_bytes}
 
 -- A frame as it is sent: when, the number of its packet in the stream or in the clock, which of these it is, and its bytes.
 pub record SentFrame : Type 0 where
@@ -30,27 +26,7 @@ pub record SentFrame : Type 0 where
 abbrev pub sent_frame : Sent → SentFrame
 sent_frame s = record { arrival = s.arrival; number = s.number; clock = s.clock; bytes = s.bytes.now }
 
--- The frame that carries a packet of AVTP. Both addresses are administered locally; the destination is one of AVTP's
--- multicast addresses. Priority 3 and VLAN 2 are what stream reservation class A has by default (IEEE 802.1Q).
-abbrev pub ethernet : List ℕ → Frame
-ethernet packet = record {
-  dst = 0x91E0F000FE00;
-  src = 0x020000000001;
-  tag = Some (record { pcp = 3; dei = false; vid = 2 });
-  ethertype = avtp_ethertype;
-  start = 18;
-  payload = packet;
-}
-
 -- ---- the packets of the stream
-
--- the bytes of a packet's frame
-unfoldable pub packet_bytes : PacketView → List ℕ
-packet_bytes packet = frame_spelling (ethernet (spelling_of packet))
-
--- the bytes of the frame of packet n of PCM, with these samples
-abbrev pub aaf_bytes : AafFormat → Bool → TalkPlan → ℕ → List ℕ → List ℕ
-aaf_bytes format sparse plan n samples = packet_bytes (Pcm (aaf_packet format sparse plan n samples))
 
 -- the frame of packet n of a stream
 abbrev pub frame_of : Stream → ℕ → SentFrame
@@ -70,10 +46,6 @@ abbrev pub stream_frames : TalkPlan → List ℕ → List SentFrame
 stream_frames plan input = numbered_frames (stream_of plan input)
 
 -- ---- the packets of the clock
-
--- the bytes of a clock packet's frame
-unfoldable pub clock_bytes : Crf → List ℕ
-clock_bytes packet = frame_spelling (ethernet (crf_spelling packet))
 
 -- the frame of packet m of the clock
 abbrev pub clock_frame_of : Stream → ℕ → SentFrame

@@ -1,77 +1,15 @@
--- The journal of a plan: its packets in true numbers and at true instants.
-use Rattle.std.specs.Prelude.{ℕ, nat_abs, Bool, false, List, [], Option, Some, None}
-use Rattle.crf_format.specs.Crf.{Crf, crf_of}
-use Rattle.time_unfold.specs.declared.head_rule.Head.{Head}
-use Rattle.stream_journal.specs.Journal.{Journal, Kind, head_of, nominal_instant}
-use Rattle.packet_journal.specs.Packets.{PacketJournal, H264Data}
-use Rattle.talker.specs.declared.plan.CrfPlan.{CrfPlan}
-use Rattle.talker.specs.declared.plan.TalkKind.{TalkKind}
-use Rattle.talker.specs.declared.plan.TalkKind.TheVariants.{Aaf, Am824, H264}
-use Rattle.talker.specs.declared.plan.TalkPlan.{TalkPlan}
-use Rattle.talker.specs.Audio.{Audio, audio_by}
-use Rattle.talker.specs.Clock.{clock_arrival, clock_by, clock_packet}
-use Rattle.talker.specs.Fragments.{all_packets}
-use Rattle.talker.specs.Packets.{stamp_of}
-use Rattle.talker.specs.Samples.{packets_for, samples_of}
-use Rattle.talker.specs.Timing.{arrival_of, first_instant, mr_of}
-use Rattle.talker.specs.Units.{sent_units}
-use Rattle.talker.specs.Video.{cvf_packet, video_arrival, video_times}
-
--- ---- audio
-
--- the times of this many packets of a kind, as if each were due at its nominal first instant
-abbrev pub nominal_times : Kind → TalkPlan → ℕ → Journal
-nominal_times kind plan packets = record {
-  kind = kind;
-  rate = plan.rate;
-  count = plan.count;
-  packets = packets;
-  due = λ n. first_instant plan n;
-  stamp = λ n. stamp_of kind plan n;
-  mr = λ n. mr_of plan n;
-  clock = clock_by plan.crf plan packets;
-}
-
--- When packet n is due: at its first sample, counted from its head. A packet without a head is due as the journal says.
-abbrev pub due_by : Journal → ℕ → Option Head → ℕ
-due_by j n None = j.due n
-due_by j n (Some head) = nat_abs (nominal_instant j head 0)
-
--- when packet n is due, counted from its head in this journal
-abbrev pub due_in : Journal → ℕ → ℕ
-due_in j n = due_by j n (head_of j n)
-
--- the times of this many packets of audio, each due at its first sample
-abbrev pub audio_times : Kind → TalkPlan → ℕ → Journal
-audio_times kind plan packets = record (nominal_times kind plan packets) { due = λ n. due_in (nominal_times kind plan packets) n }
-
--- how many packets of a format hold the input
-abbrev pub packets_of : Audio → TalkPlan → List ℕ → ℕ
-packets_of audio plan input = packets_for audio.frame plan.count input
-
--- the samples of packet n, with silence after the last of the input
-abbrev pub samples_in : Audio → TalkPlan → List ℕ → ℕ → List ℕ
-samples_in audio plan input n = samples_of audio.silence audio.frame plan.count input n
-
--- the stream id of the clock; 0 without a clock
-abbrev pub clock_id : Option CrfPlan → ℕ
-clock_id None = 0
-clock_id (Some crf) = crf.id
-
--- packet m of the clock beside a stream of this many packets; without a clock none is sent
-abbrev pub clock_packet_by : Option CrfPlan → TalkPlan → ℕ → ℕ → Crf
-clock_packet_by None plan packets m = crf_of []
-clock_packet_by (Some crf) plan packets m = clock_packet crf plan packets m
-
--- the journal of a plan of audio: the packets that its input makes, and those of its clock
-abbrev pub audio_journal : Audio → TalkPlan → List ℕ → PacketJournal
-audio_journal audio plan input = record {
-  times = audio_times audio.kind plan (packets_of audio plan input);
-  stream = plan.id;
-  packet = λ n. audio.packet n (samples_in audio plan input n);
-  clock = clock_id plan.crf;
-  clock_packet = λ m. clock_packet_by plan.crf plan (packets_of audio plan input) m;
-}
+-- The streams of plans, and their journals.
+use Rattle.std.specs.Prelude.{ℕ, Bool, false, List, Option, Some, None}
+use Rattle.packet_journal.specs.Packets.{PacketJournal}
+use Rattle.talk_plan.specs.declared.plan.TalkKind.{TalkKind}
+use Rattle.talk_plan.specs.declared.plan.TalkKind.TheVariants.{Aaf, Am824, H264}
+use Rattle.talk_plan.specs.declared.plan.TalkPlan.{TalkPlan}
+use Rattle.talk_audio.specs.Audio.{Audio, audio_by}
+use Rattle.talk_clock.specs.Clock.{clock_arrival, clock_arrival_by}
+use Rattle.talk_plan.specs.Timing.{arrival_of}
+use Rattle.talk_video.specs.Units.{sent_units}
+use Rattle.talk_video.specs.Video.{video_arrival, video_journal}
+use Rattle.talk_audio.specs.Journal.{audio_journal}
 
 -- ---- streams
 
@@ -81,22 +19,7 @@ pub record Stream : Type 0 where
   pub arrival : ℕ → ℕ
   pub clock_arrival : ℕ → ℕ
 
--- when packet m of the clock is sent; without a clock none is
-abbrev pub clock_arrival_by : Option CrfPlan → TalkPlan → ℕ → ℕ
-clock_arrival_by None plan m = 0
-clock_arrival_by (Some crf) plan m = clock_arrival crf plan m
-
 -- ---- H.264
-
--- the journal of a plan of H.264: the packets that these units of the input make
-abbrev pub video_journal : Bool → TalkPlan → List ℕ → List (ℕ × ℕ) → PacketJournal
-video_journal last_stamp plan input units = record {
-  times = video_times last_stamp plan input units;
-  stream = plan.id;
-  packet = λ n. H264Data (cvf_packet last_stamp plan input units n);
-  clock = clock_id plan.crf;
-  clock_packet = λ m. clock_packet_by plan.crf plan (all_packets units) m;
-}
 
 -- the stream of a plan of H.264, with when each packet is sent
 abbrev pub video_stream : Bool → TalkPlan → List ℕ → List (ℕ × ℕ) → Stream

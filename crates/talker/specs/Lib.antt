@@ -1,10 +1,3 @@
-pub mod Plan
-pub mod Timing
-pub mod Beats
-pub mod Samples
-pub mod Clock
-pub mod Packets
-pub mod Audio
 pub mod Journal
 pub mod Frames
 pub mod Faults
@@ -12,9 +5,4 @@ pub mod Talking
 pub mod Turns
 pub mod Lending
 pub mod Examples
-pub mod AccessUnits
-pub mod Fragments
-pub mod Rows
-pub mod Units
-pub mod Video
 pub mod state

@@ -1,6 +1,6 @@
 -- A talker, as its contracts see it.
 use Rattle.std.specs.Prelude.{ℕ, ◌+◌, min, List, length}
-use Rattle.talker.specs.declared.plan.TalkPlan.{TalkPlan}
+use Rattle.talk_plan.specs.declared.plan.TalkPlan.{TalkPlan}
 use Rattle.talker.specs.Frames.{frames}
 
 -- A talker: what it sends of which input, and how many of all the frames it gave so far.
@@ -12,7 +12,3 @@ pub record Talking : Type 0 where
 -- the talker after one more frame was given, unless all were
 abbrev pub gone_on : Talking → Talking
 gone_on t = record t { given = min (t.given + 1) (length (frames t.plan t.input)) }
-
--- the most bytes that an input may have
-abbrev pub most_input : ℕ
-most_input = 268435456

@@ -1,23 +1,22 @@
 //! What makes the packets of a stream.
 
 ghost use Rattle.std.specs.Prelude.{◌≡◌, ◌⊎◌, ◌<◌, ◌≤◌, length, pos, false, Err, Some, None, IfOk, IfErr, IfSome, OnOk};
-ghost use Rattle.talker.specs.declared.fault.TalkFault.TheVariants.{Memory};
-ghost use Rattle.talker.specs.declared.plan.TalkKind.TheVariants.{H264};
+ghost use Rattle.talk_plan.specs.declared.fault.TalkFault.TheVariants.{Memory};
+ghost use Rattle.talk_plan.specs.declared.plan.TalkKind.TheVariants.{H264};
 ghost use Rattle.talker.specs.Faults.{fault_of};
-ghost use Rattle.talker.specs.Frames.{packet_bytes};
-ghost use Rattle.talker.specs.Plan.{IsAudioPlan, IsPlan, IsVideoPlan};
-ghost use Rattle.talker.specs.Talking.{most_input};
-ghost use Rattle.talker.specs.state.Talking.{IsClockOf, IsSource, IsSourceOf, plan_in, stream_in};
-ghost use Rattle.talker.specs.state.Turns.{SendsPacket};
+ghost use Rattle.talk_audio.specs.Streams.{IsAudio};
+ghost use Rattle.talk_plan.specs.Ethernet.{packet_bytes};
+ghost use Rattle.talk_plan.specs.Plan.{IsAudioPlan, IsPlan, IsVideoPlan, most_input};
+ghost use Rattle.talk_clock.specs.Streams.{IsClockOf};
+ghost use Rattle.talker.specs.state.Talking.{IsPacketOfSource, IsSource, IsSourceOf, plan_in, stream_in};
+ghost use Rattle.talker.specs.state.Turns.{IsTurnOf};
 
-use crate::audio::AudioStream;
-use crate::clock::ClockStream;
-use crate::fault::TalkFault;
-use crate::plan::{TalkKind, TalkPlan};
 use crate::turn::Turn;
-use crate::units::units_fault;
-use crate::video::VideoStream;
 use std::alloc::Global;
+use talk_audio::AudioStream;
+use talk_clock::ClockStream;
+use talk_plan::{TalkFault, TalkKind, TalkPlan};
+use talk_video::{VideoStream, units_fault};
 
 /// What makes the packets of a stream, of its input.
 #[derive(Debug, Drop)]
@@ -27,6 +26,20 @@ pub(crate) enum Source<'a> {
         input: &'a [u8],
     },
     Video(VideoStream<'a>),
+}
+
+/// Why an input makes no stream of audio. No packet arrives too late for a capture, since a plan ends well before.
+#[tactic(auto, using(talk_audio::proofs::FormatLemmas::audio_found, crate::proofs::TalkLemmas::none_late), unfolding(crate::specs::Faults::fault_of))]
+fn audio_fault(stream: &AudioStream, input: &[u8]) -> Option<TalkFault>
+    requires stream { IsAudio stream.now }
+    requires limit { length input.now ≤ most_input }
+    ensures { result ≡ fault_of stream.now.plan input.now }
+{
+    if stream.is_whole(input) {
+        None
+    } else {
+        Some(TalkFault::Frames)
+    }
 }
 
 impl<'a> Source<'a> {
@@ -54,7 +67,7 @@ impl<'a> Source<'a> {
         ensures only { IfErr result (λ fault. (fault_of plan input.now ≡ Some fault) ⊎ (fault ≡ Memory)) }
     {
         let stream = AudioStream::of(plan);
-        match stream.fault(input) {
+        match audio_fault(&stream, input) {
             Some(fault) => Err(fault),
             None => Ok(Source::Audio { stream, input }),
         }
@@ -107,8 +120,7 @@ impl<'a> Source<'a> {
     /// When packet `n` is sent, in nanoseconds of gPTP.
     #[inline(always)]
     pub fn arrival(&self, n: u64) -> i64
-        requires source { IsSource self.now }
-        requires known { n < (stream_in self.now).journal.times.packets }
+        requires { IsPacketOfSource self.now n }
         ensures { result ≡ pos ((stream_in self.now).arrival n) }
     {
         match self {
@@ -120,8 +132,7 @@ impl<'a> Source<'a> {
     /// The length of the frame of packet `n`.
     #[inline(always)]
     pub fn size(&self, n: u64) -> usize
-        requires source { IsSource self.now }
-        requires known { n < (stream_in self.now).journal.times.packets }
+        requires { IsPacketOfSource self.now n }
         ensures { result ≡ length (packet_bytes ((stream_in self.now).journal.packet n)) }
     {
         match self {
@@ -133,11 +144,8 @@ impl<'a> Source<'a> {
     /// The turn of packet `n`.
     #[inline(always)]
     pub fn turn(&self, n: u64) -> Turn
-        requires source { IsSource self.now }
-        requires known { n < (stream_in self.now).journal.times.packets }
-        ensures sends { SendsPacket (stream_in self.now) result }
-        ensures number { result.number ≡ n }
-        ensures stream { result.clock ≡ false }
+        requires { IsPacketOfSource self.now n }
+        ensures { IsTurnOf (stream_in self.now) false n result }
     {
         Turn {
             arrival: self.arrival(n),
@@ -150,8 +158,7 @@ impl<'a> Source<'a> {
     /// Writes the frame of packet `n`, which is sent at this arrival.
     #[inline(always)]
     pub fn write(&self, out: &mut [u8], n: u64, arrival: i64)
-        requires source { IsSource self.now }
-        requires known { n < (stream_in self.now).journal.times.packets }
+        requires packet { IsPacketOfSource self.now n }
         requires arrival { arrival ≡ pos ((stream_in self.now).arrival n) }
         requires room { length out.old ≡ length (packet_bytes ((stream_in self.now).journal.packet n)) }
         ensures { out.new ≡ packet_bytes ((stream_in self.now).journal.packet n) }

@@ -3,24 +3,24 @@
 ghost use Rattle.std.specs.Prelude.{◌≡◌, ◌<◌, ◌≤◌, ◌⊎◌, ◌↔◌, IsTrue, length, slice_get, Ok, Err, Some, None, IfOk, IfErr, take, IfSome, IfNone, OnOk, true};
 ghost use Rattle.std.specs.Option.{option_map};
 ghost use Rattle.pcap_frames.specs.Capture.{HasSpelling};
-ghost use Rattle.talker.specs.declared.fault.TalkFault.TheVariants.{Memory};
+ghost use Rattle.talk_plan.specs.declared.fault.TalkFault.TheVariants.{Memory};
 ghost use Rattle.talker.specs.Faults.{fault_of};
 ghost use Rattle.talker.specs.Frames.{capture_style, clock_frames, frames, record_of, sent_frame, stream_frames};
 ghost use Rattle.talker.specs.Journal.{stream_of};
-ghost use Rattle.talker.specs.Plan.{IsPlan};
-ghost use Rattle.talker.specs.Talking.{gone_on, most_input};
-ghost use Rattle.talker.specs.state.Talking.{IsClockFirst, IsClockOf, IsClockStream, IsSource, clocks_of, plan_in, stream_in};
+ghost use Rattle.talk_plan.specs.Plan.{IsPlan, most_input};
+ghost use Rattle.talker.specs.Talking.{gone_on};
+ghost use Rattle.talker.specs.state.Talking.{IsClockFirst, IsSource, plan_in, stream_in};
+ghost use Rattle.talk_clock.specs.Streams.{IsClockOf, IsClockStream, clocks_of};
 ghost use Rattle.talker.specs.Turns.{IsTurn, frame_in};
-ghost use Rattle.talker.specs.state.Turns.{SendsPacket, turn_frame};
+ghost use Rattle.talker.specs.state.Turns.{IsSending, IsTurnOf, SendsPacket, turn_frame};
 
-use crate::clock::ClockStream;
-use crate::fault::TalkFault;
-use crate::plan::TalkPlan;
 use crate::sent::Sent;
 use crate::source::Source;
 use crate::turn::Turn;
 use std::alloc::Global;
 use std::marker::Model;
+use talk_clock::ClockStream;
+use talk_plan::{TalkFault, TalkPlan};
 
 /// Makes the frames of a plan from its input, each on its own or one after another. The memory of one frame, and of the list of
 /// an H.264 stream's units, is taken at the beginning, and no more later: a frame is lent until the next is made, or is written
@@ -150,9 +150,7 @@ impl<'a> Talker<'a> {
     #[inline(always)]
     fn clock_turn(&self, m: u64) -> Turn
         requires { m < length (clock_frames self.now.plan self.now.input) }
-        ensures sends { SendsPacket (stream_of self.now.plan self.now.input) result }
-        ensures number { result.number ≡ m }
-        ensures clock { result.clock ≡ true }
+        ensures { IsTurnOf (stream_of self.now.plan self.now.input) true m result }
     {
         let Some(clock) = self.clock else {
             unreachable!()
@@ -245,9 +243,7 @@ fn frame_memory(alloc: Global) -> Result<Vec<u8>, TalkFault>
 /// Writes the frame of a turn.
 #[inline(always)]
 fn write_frame(source: &Source<'_>, clock: &Option<ClockStream>, turn: Turn, out: &mut [u8])
-    requires source { IsSource source.now }
-    requires clock { IsClockOf clock.now (plan_in source.now) (stream_in source.now).journal.times.packets }
-    requires sends { SendsPacket (stream_in source.now) turn }
+    requires sending { IsSending source.now clock.now turn }
     requires room { length out.old ≡ turn.size }
     ensures { out.new ≡ (turn_frame (stream_in source.now) turn).bytes }
 {
@@ -262,9 +258,7 @@ fn write_frame(source: &Source<'_>, clock: &Option<ClockStream>, turn: Turn, out
 /// Writes the frame of a turn in front.
 #[inline(always)]
 fn write_front(source: &Source<'_>, clock: &Option<ClockStream>, turn: Turn, out: &mut [u8])
-    requires source { IsSource source.now }
-    requires clock { IsClockOf clock.now (plan_in source.now) (stream_in source.now).journal.times.packets }
-    requires sends { SendsPacket (stream_in source.now) turn }
+    requires sending { IsSending source.now clock.now turn }
     requires room { length out.old ≡ 1518 }
     ensures { take turn.size out.new ≡ (turn_frame (stream_in source.now) turn).bytes }
 {

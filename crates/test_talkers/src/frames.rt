@@ -1,6 +1,6 @@
 //! All frames of a plan, and what is wanted of them.
 
-ghost use Rattle.talker.specs.Plan.{IsPlan};
+ghost use Rattle.talk_plan.specs.Plan.{IsPlan};
 
 use crate::plans::Planned;
 use avtp_base::NoMemory;

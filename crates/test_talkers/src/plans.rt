@@ -1,6 +1,6 @@
 //! The plans that are talked.
 
-ghost use Rattle.talker.specs.Plan.{IsPlan};
+ghost use Rattle.talk_plan.specs.Plan.{IsPlan};
 
 use aaf_format::AafFormat;
 use talker::{CrfPlan, TalkKind, TalkPlan};
@@ -111,7 +111,7 @@ const VIDEO: TalkPlan = TalkPlan {
 };
 
 impl Planned {
-    #[tactic(auto, unfolding(talker::specs::Plan::spacing_of))]
+    #[tactic(auto, unfolding(talk_plan::specs::Plan::spacing_of))]
     pub fn plan(self) -> TalkPlan
         ensures { IsPlan result }
     {

@@ -6,7 +6,7 @@ use Rattle.avtp_base.specs.Faults.{Rose}
 use Rattle.avtp_base.specs.Files.{Files, KeepsFiles}
 use Rattle.avtp_base.specs.States.{ShelfState, SinkState}
 use Rattle.talker.specs.Frames.{capture}
-use Rattle.talker.specs.Plan.{IsPlan}
+use Rattle.talk_plan.specs.Plan.{IsPlan}
 use Rattle.sample_schedule.specs.Limits.{IsPlan as IsSchedulePlan}
 use Rattle.listener.specs.Heard.{schedule_plan}
 use Rattle.avtp_text.specs.Written.{written}

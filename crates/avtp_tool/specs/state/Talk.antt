@@ -9,10 +9,11 @@ use Rattle.capture_io.specs.declared.end.Stop.{Stop}
 use Rattle.capture_io.specs.declared.end.Stop.TheVariants as stop
 use Rattle.capture_io.specs.Writing.{KeepsSlotsBut}
 use Rattle.pcap_frames.specs.Capture.{record_spelling}
-use Rattle.talker.specs.declared.fault.TalkFault.{TalkFault}
-use Rattle.talker.specs.declared.plan.TalkPlan.{TalkPlan}
+use Rattle.talk_plan.specs.declared.fault.TalkFault.{TalkFault}
+use Rattle.talk_plan.specs.declared.plan.TalkPlan.{TalkPlan}
 use Rattle.talker.specs.Frames.{SentFrame, capture, capture_style, frames, record_of}
-use Rattle.talker.specs.Talking.{Talking as Sending, most_input}
+use Rattle.talker.specs.Talking.{Talking as Sending}
+use Rattle.talk_plan.specs.Plan.{most_input}
 use Rattle.avtp_text.specs.Talk.{talk_input_line}
 use Rattle.avtp_tool.specs.declared.status.Status.{Status}
 use Rattle.avtp_tool.specs.declared.status.Status.TheVariants as status

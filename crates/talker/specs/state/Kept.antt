@@ -4,7 +4,8 @@ use Rattle.std.specs.Prelude.{◌≡◌, ◌+◌, ◌≤◌, drop, length}
 use Rattle.talker.specs.declared.talker.Talker.TheInside.{Inside}
 use Rattle.talker.specs.Frames.{frames}
 use Rattle.talker.specs.state.Frames.{left_of}
-use Rattle.talker.specs.state.Talking.{IsClockOf, IsSource, input_in, plan_in, stream_in}
+use Rattle.talk_clock.specs.Streams.{IsClockOf}
+use Rattle.talker.specs.state.Talking.{IsSource, input_in, plan_in, stream_in}
 
 -- It has a plan that is talked, with its clock, and memory for the longest frame; what it has still to give are the frames
 -- of the packets that it did not give.
@@ -15,5 +16,6 @@ pub record IsTalker (t : Inside) : Type 0 where
   pub clocks : t.clocks ≡ (stream_in t.source).journal.times.clock.packets
   pub given_packets : t.given_packets ≤ t.packets
   pub given_clocks : t.given_clocks ≤ t.clocks
-  pub left : drop (t.given_clocks + t.given_packets) (frames (plan_in t.source) (input_in t.source)) ≡ left_of (stream_in t.source) t.given_clocks t.given_packets
+  pub left : drop (t.given_clocks + t.given_packets) (frames (plan_in t.source) (input_in t.source))
+      ≡ left_of (stream_in t.source) t.given_clocks t.given_packets
   pub room : length t.frame.items ≡ 1518

@@ -1,9 +1,13 @@
 -- Kept for proofs: what the code's own parts hold and do. No clause of a public call rests on it.
 -- What a talker sends next, before its frame is made.
-use Rattle.std.specs.Prelude.{◌≡◌, ℕ, ◌<◌, Bool, true, false, length}
+use Rattle.std.specs.Prelude.{◌≡◌, ℕ, ◌<◌, Bool, true, false, Option, length}
 use Rattle.talker.specs.declared.turn.Turn.{Turn}
 use Rattle.talker.specs.Frames.{SentFrame, clock_frame_of, frame_of}
 use Rattle.talker.specs.Journal.{Stream}
+use Rattle.talk_clock.specs.declared.clock.ClockStream.{ClockStream}
+use Rattle.talk_clock.specs.Streams.{IsClockOf}
+use Rattle.talker.specs.declared.source.Source.{Source}
+use Rattle.talker.specs.state.Talking.{IsSource, plan_in, stream_in}
 
 -- ---- the packet that it sends
 
@@ -25,3 +29,15 @@ pub record SendsPacket (s : Stream) (turn : Turn) : Type 0 where
   pub known : turn.number < packets_by turn.clock s
   pub arrival : turn.arrival ≡ (turn_frame s turn).arrival
   pub size : turn.size ≡ length (turn_frame s turn).bytes
+
+-- it sends this packet, of the clock or of the stream
+pub record IsTurnOf (s : Stream) (clock : Bool) (number : ℕ) (turn : Turn) : Type 0 where
+  pub sends : SendsPacket s turn
+  pub number_is : turn.number ≡ number
+  pub clock_is : turn.clock ≡ clock
+
+-- it sends a packet of a source, beside which there is this clock
+pub record IsSending (source : Source) (clock : Option ClockStream) (turn : Turn) : Type 0 where
+  pub source_is : IsSource source
+  pub clock_is : IsClockOf clock (plan_in source) (stream_in source).journal.times.packets
+  pub sends : SendsPacket (stream_in source) turn

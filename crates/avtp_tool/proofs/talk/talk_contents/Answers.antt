@@ -1,5 +1,5 @@
 use Rattle.std.proofs.Common.{◌≡◌, ◌≤◌, List, ℕ, length, refl, rules}
-use Rattle.talker.specs.Talking.{most_input}
+use Rattle.talk_plan.specs.Plan.{most_input}
 use Rattle.avtp_tool.specs.declared.status.Status.TheVariants as status
 use Rattle.avtp_tool.proofs.Making.{makes_none, writes_none}
 use Rattle.avtp_tool.proofs.Outcomes.{ends_not, tells_line, undone_by}

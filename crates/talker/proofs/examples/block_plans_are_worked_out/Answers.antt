@@ -3,7 +3,7 @@ use Rattle.stream_journal.specs.Examples.{each_eighth, each_sixteenth}
 use Rattle.stream_journal.proofs.Restarted.{Each, each_below}
 use Rattle.talker.specs.Examples.{HasSameTimes, six_blocks}
 use Rattle.talker.specs.Journal.{journal}
-use Rattle.talker.specs.Timing.{nominal_instant}
+use Rattle.talk_plan.specs.Timing.{nominal_instant}
 use Rattle.talker.proofs.examples.block_plans_are_worked_out.Goals as goal
 
 abbrev IsEighth : List ℕ → ℕ → Type 0

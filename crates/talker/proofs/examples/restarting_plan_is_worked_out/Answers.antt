@@ -3,7 +3,7 @@ use Rattle.stream_journal.specs.Examples.{restarted}
 use Rattle.stream_journal.proofs.Restarted.{Each, each_below}
 use Rattle.talker.specs.Examples.{HasSameTimes, restarting}
 use Rattle.talker.specs.Journal.{journal}
-use Rattle.talker.specs.Timing.{nominal_instant}
+use Rattle.talk_plan.specs.Timing.{nominal_instant}
 use Rattle.talker.proofs.examples.restarting_plan_is_worked_out.Goals as goal
 
 abbrev IsSame : List ℕ → ℕ → Type 0

@@ -1,4 +1,4 @@
-use Rattle.talker.proofs.ClockPoints.{counted, restarted_bit, restarted_points, steady_points}
+use Rattle.talk_clock.proofs.ClockPoints.{counted, restarted_bit, restarted_points, steady_points}
 use Rattle.talker.proofs.TalkLemmas.{clocked_plan}
 use Rattle.talker.proofs.laws.clocks_are_paced.Goals as goal
 

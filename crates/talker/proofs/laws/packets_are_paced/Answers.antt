@@ -1,5 +1,5 @@
 use Rattle.std.proofs.Common.{arith}
-use Rattle.talker.specs.Video.{access_instant}
+use Rattle.talk_video.specs.Video.{access_instant}
 use Rattle.talker.proofs.LawLemmas.{paced, paced_restarting}
 use Rattle.talker.proofs.laws.packets_are_paced.Goals as goal
 

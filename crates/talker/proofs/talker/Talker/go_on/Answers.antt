@@ -14,7 +14,8 @@ invariant_of-self c =
     let s = stream_in c.self.inside.source in
     let a : ℕ = c.self.inside.given_clocks in
     let b : ℕ = c.self.inside.given_packets in
-    let is = frame_next (record { plan = plan_in c.self.inside.source; input = input_in c.self.inside.source; given = a + b }) c.args.turn (rw (← c.self.view_is) at c.requires) in
+    let is = frame_next (record { plan = plan_in c.self.inside.source; input = input_in c.self.inside.source; given = a + b }) c.args.turn
+    (rw (← c.self.view_is) at c.requires) in
     let next = clock_turn (plan_in c.self.inside.source) s a b (frame_in c.args.turn is.bytes) (source_is c.self.inside.source t.source)
     (omega (arith, t.clocks, t.given_clocks)) (omega (arith, t.packets, t.given_packets)) t.left is.next c.if-turn.true in
     record {
@@ -40,7 +41,8 @@ invariant_of-self-else-turn c =
     let s = stream_in c.self.inside.source in
     let a : ℕ = c.self.inside.given_clocks in
     let b : ℕ = c.self.inside.given_packets in
-    let is = frame_next (record { plan = plan_in c.self.inside.source; input = input_in c.self.inside.source; given = a + b }) c.args.turn (rw (← c.self.view_is) at c.requires) in
+    let is = frame_next (record { plan = plan_in c.self.inside.source; input = input_in c.self.inside.source; given = a + b }) c.args.turn
+    (rw (← c.self.view_is) at c.requires) in
     let next = packet_turn (plan_in c.self.inside.source) s a b (frame_in c.args.turn is.bytes) (source_is c.self.inside.source t.source)
     (omega (arith, t.clocks, t.given_clocks)) (omega (arith, t.packets, t.given_packets)) t.left is.next c.if-turn.false in
     record {
@@ -61,7 +63,8 @@ returns-then-turn c =
     let s = stream_in c.self.inside.source in
     let a : ℕ = c.self.inside.given_clocks in
     let b : ℕ = c.self.inside.given_packets in
-    let is = frame_next (record { plan = plan_in c.self.inside.source; input = input_in c.self.inside.source; given = a + b }) c.args.turn (rw (← c.self.view_is) at c.requires) in
+    let is = frame_next (record { plan = plan_in c.self.inside.source; input = input_in c.self.inside.source; given = a + b }) c.args.turn
+    (rw (← c.self.view_is) at c.requires) in
     let next = clock_turn plan s a b (frame_in c.args.turn is.bytes) (source_is c.self.inside.source t.source)
     (omega (arith, t.clocks, t.given_clocks)) (omega (arith, t.packets, t.given_packets)) t.left is.next c.if-turn.true in
     let order : a + 1 + b ≡ a + b + 1 = omega arith in
@@ -74,7 +77,8 @@ returns-else-turn c =
     let s = stream_in c.self.inside.source in
     let a : ℕ = c.self.inside.given_clocks in
     let b : ℕ = c.self.inside.given_packets in
-    let is = frame_next (record { plan = plan_in c.self.inside.source; input = input_in c.self.inside.source; given = a + b }) c.args.turn (rw (← c.self.view_is) at c.requires) in
+    let is = frame_next (record { plan = plan_in c.self.inside.source; input = input_in c.self.inside.source; given = a + b }) c.args.turn
+    (rw (← c.self.view_is) at c.requires) in
     let next = packet_turn plan s a b (frame_in c.args.turn is.bytes) (source_is c.self.inside.source t.source)
     (omega (arith, t.clocks, t.given_clocks)) (omega (arith, t.packets, t.given_packets)) t.left is.next c.if-turn.false in
     let order : a + (b + 1) ≡ a + b + 1 = omega arith in

@@ -6,11 +6,11 @@ use Rattle.talker.specs.state.Turns.{turn_frame}
 use Rattle.talker.proofs.StreamLemmas.{at_number, count_of, packets_in}
 use Rattle.talker.proofs.talker.Talker.packet.Goals as goal
 
-pub turn-turn-requires-clause-known : goal.turn-turn-requires-clause-known
-turn-turn-requires-clause-known c =
+pub turn-turn-requires : goal.turn-turn-requires
+turn-turn-requires c =
     let count = count_of (stream_in c.self.inside.source) in
     let known = rw (← c.self.view_is) at c.requires in
-    omega arith
+    record { source_is = c.self.invariant.source; known = omega arith }
 
 pub lend-requires : goal.lend-requires
 lend-requires c = rw (← c.self.view_is) c.turn-turn.ensures.sends
@@ -21,7 +21,8 @@ returns c =
     let count = count_of s in
     let known = rw (← c.self.view_is) at c.requires in
     let below : c.args.n < packets_in s = omega arith in
-    let at : slice_get (numbered_frames s) c.args.n ≡ Some (turn_frame s c.turn-turn.result) = rw (c.turn-turn.ensures.stream, c.turn-turn.ensures.number) (at_number s c.args.n below) in (
+    let at : slice_get (numbered_frames s) c.args.n ≡ Some (turn_frame s c.turn-turn.result) = rw (c.turn-turn.ensures.clock_is, c.turn-turn.ensures.number_is)
+    (at_number s c.args.n below) in (
       (refl, (λ _. tt), c.lend.follows.holds-at-none),
       record {
         frame = rw c.lend.ensures.frame (rw (← c.self.view_is) at);

@@ -1,0 +1,245 @@
+//! The packets of a PCM stream (IEEE 1722-2016, 7).
+
+ghost use Rattle.std.specs.Prelude.{◌≡◌, ◌+◌, ◌*◌, ◌≤◌, ◌<◌, ◌^◌, ◌++◌, [], length, pos, take, drop, Option, Some, None};
+ghost use Rattle.aaf_format.specs.Aaf.{aaf_shape, frame_size as frame_size_of};
+ghost use Rattle.talk_audio.specs.Packets.{aaf_bytes, aaf_packet, kind_of, stamp_of};
+ghost use Rattle.talk_audio.specs.state.Packets.{IsPcmPacket, front_of, patched};
+ghost use Rattle.talk_plan.specs.Places.{IsSentAt};
+ghost use Rattle.talk_plan.specs.Plan.{IsAudioPlan, rate_code as rate_code_of};
+ghost use Rattle.talk_audio.specs.Streams.{HasHeaders, IsPcm, IsPcmStream};
+
+use crate::audio::SAMPLES_LIMIT;
+use aaf_format::{AafFormat, AafView, width_of, write_aaf};
+use avtp_header::{StreamHeader, subtype};
+use talk_plan::{ETHERNET_HEADER, TalkKind, TalkPlan, write_ethernet};
+
+/// What a plan of PCM says of each packet.
+#[derive(Clone, Copy, Debug)]
+pub struct PcmFormat {
+    pub format: AafFormat,
+    /// One packet in eight is stamped, and not each.
+    pub sparse: bool,
+    /// Each packet is stamped, and the media clock never restarts.
+    pub steady: bool,
+    /// The code of the sample rate.
+    pub code: u8,
+    /// The headers of packet 0's frame, Ethernet's and the packet's, which are spelled once and written over for each
+    /// frame. Those of all frames differ from them only in the packet's first four bytes and in its timestamp, and in a
+    /// steady stream only in its sequence number and its timestamp.
+    pub headers: [u8; HEADERS],
+}
+
+/// The length of the header of a packet (IEEE 1722-2016, 7).
+pub(crate) const PCM_HEADER: usize = 24;
+
+/// The length of both headers of a frame.
+const HEADERS: usize = ETHERNET_HEADER + PCM_HEADER;
+
+/// The code of a sample rate in Hz, if AAF has one.
+fn rate_code(rate: u32) -> Option<u8>
+    ensures { result ≡ rate_code_of rate }
+{
+    Some(match rate {
+        8_000 => 1,
+        16_000 => 2,
+        32_000 => 3,
+        44_100 => 4,
+        48_000 => 5,
+        88_200 => 6,
+        96_000 => 7,
+        176_400 => 8,
+        192_000 => 9,
+        24_000 => 10,
+        _ => return None,
+    })
+}
+
+/// The first four bytes of a packet's header: its subtype, the bits that say what of it is valid, and its sequence number.
+fn front_bytes(header: &StreamHeader) -> [u8; 4]
+    ensures { result ≡ front_of header.now }
+{
+    [
+        header.subtype,
+        128 * u8::from(header.sv) + 8 * u8::from(header.mr) + u8::from(header.tv),
+        header.seq,
+        u8::from(header.tu),
+    ]
+}
+
+/// Writes bytes at an offset. The compiler knows how many they are, so that they are moved without a call.
+#[inline(always)]
+fn put_bytes<const N: usize>(out: &mut [u8], offset: usize, bytes: &[u8; N])
+    requires { offset + N ≤ length out.old }
+    ensures { out.new ≡ take offset out.old ++ (bytes.now ++ drop (offset + N) out.old) }
+{
+    let (_, behind) = out.split_at_mut(offset);
+    let Some(place) = behind.first_chunk_mut() else {
+        unreachable!()
+    };
+    *place = *bytes;
+}
+
+/// The bytes of each of two parts in which samples are moved.
+const PART: usize = 16;
+
+/// Copies samples to as many bytes. The 16 to 32 bytes of many a packet are two parts, which may overlap and are moved
+/// without a call: the compiler makes a call of a move whose length it does not know.
+#[inline(always)]
+fn copy_samples(out: &mut [u8], samples: &[u8])
+    requires { length out.old ≡ length samples.now }
+    ensures { out.new ≡ samples.now }
+{
+    match (samples.first_chunk::<PART>(), samples.last_chunk::<PART>()) {
+        (Some(first), Some(last)) if samples.len() <= 2 * PART => {
+            put_bytes(out, 0, first);
+            put_bytes(out, samples.len() - PART, last);
+        }
+        _ => out.copy_from_slice(samples),
+    }
+}
+
+impl PcmFormat {
+    /// The format of a plan of PCM.
+    pub fn of(plan: &TalkPlan, format: AafFormat, sparse: bool) -> Self
+        requires plan { IsAudioPlan plan.now }
+        requires kind { plan.now.kind ≡ TalkKind.Aaf format sparse }
+        ensures { IsPcmStream result plan.now }
+    {
+        let Some(code) = rate_code(plan.rate) else {
+            unreachable!()
+        };
+        let pcm = PcmFormat {
+            format,
+            sparse,
+            steady: !sparse && plan.restart.is_none(),
+            code,
+            headers: [0; HEADERS],
+        };
+        PcmFormat {
+            headers: pcm.first_headers(plan),
+            ..pcm
+        }
+    }
+
+    /// The headers of packet 0's frame.
+    fn first_headers(&self, plan: &TalkPlan) -> [u8; HEADERS]
+        requires plan { IsAudioPlan plan.now }
+        requires format { IsPcm self.now plan.now }
+        ensures { HasHeaders result (aaf_packet self.now.format self.now.sparse plan.now 0 []) }
+    {
+        let samples = [0; SAMPLES_LIMIT];
+        let size = plan.count as usize * self.frame_size(plan.channels);
+        let view = self.packet(plan, 0, plan.arrival(0), &samples[..size]);
+        let mut packet = [0; PCM_HEADER + SAMPLES_LIMIT];
+        let Ok(_) = write_aaf(&mut packet, &view) else {
+            unreachable!()
+        };
+        let mut headers = [0; HEADERS];
+        let (ethernet, header) = headers.split_at_mut(ETHERNET_HEADER);
+        write_ethernet(ethernet);
+        header.copy_from_slice(&packet[..PCM_HEADER]);
+        headers
+    }
+
+    /// The bytes of a sample frame.
+    pub fn frame_size(&self, channels: u16) -> usize
+        ensures { result ≡ frame_size_of channels self.now.format }
+    {
+        usize::from(channels) * width_of(self.format) as usize
+    }
+
+    /// The instant with which packet `n` is stamped, which is sent at this arrival. In sparse mode one packet in eight is
+    /// (IEEE 1722-2016, 7).
+    fn stamp(&self, plan: &TalkPlan, n: u64, arrival: i64) -> Option<u64>
+        requires { IsSentAt plan.now n arrival }
+        ensures { result ≡ stamp_of (kind_of self.now.sparse) plan.now n }
+    {
+        if self.sparse && n % 8 != 0 {
+            None
+        } else {
+            Some(plan.first_stamped_instant(n, arrival))
+        }
+    }
+
+    /// Packet `n`, which is sent at this arrival, with its samples.
+    fn packet<'a>(&self, plan: &TalkPlan, n: u64, arrival: i64, samples: &'a [u8]) -> AafView<'a>
+        requires sent { IsSentAt plan.now n arrival }
+        requires format { IsPcm self.now plan.now }
+        requires whole { length samples.now ≡ plan.now.count * frame_size_of plan.now.channels self.now.format }
+        ensures { aaf_shape result ≡ aaf_packet self.now.format self.now.sparse plan.now n samples.now }
+    {
+        AafView {
+            header: plan.header(
+                subtype::AAF,
+                self.stamp(plan, n, arrival),
+                n,
+                samples.len() as u16,
+            ),
+            format: self.format,
+            nsr: self.code,
+            channels: plan.channels,
+            depth: (8 * width_of(self.format)) as u8,
+            sparse: self.sparse,
+            evt: 0,
+            count: plan.count,
+            payload: samples,
+            reserved: false,
+        }
+    }
+
+    /// Writes the frame of packet `n`, which is sent at this arrival, with its samples.
+    #[inline(always)]
+    pub fn write(&self, plan: &TalkPlan, out: &mut [u8], n: u64, arrival: i64, samples: &[u8])
+        requires packet { IsPcmPacket self.now plan.now n arrival samples.now }
+        requires room { length out.old ≡ 42 + length samples.now }
+        ensures { out.new ≡ aaf_bytes self.now.format self.now.sparse plan.now n samples.now }
+    {
+        if self.steady {
+            let instant = plan.first_stamped_instant(n, arrival);
+            self.write_over(
+                out,
+                2,
+                &[(n % 256) as u8],
+                (instant % (1 << 32)) as u32,
+                samples,
+            );
+        } else {
+            self.write_marked(plan, out, n, arrival, samples);
+        }
+    }
+
+    /// Writes the frame of packet `n` so, of a stream that is steady or not.
+    #[cold]
+    #[inline(never)]
+    fn write_marked(&self, plan: &TalkPlan, out: &mut [u8], n: u64, arrival: i64, samples: &[u8])
+        requires packet { IsPcmPacket self.now plan.now n arrival samples.now }
+        requires room { length out.old ≡ 42 + length samples.now }
+        ensures { out.new ≡ aaf_bytes self.now.format self.now.sparse plan.now n samples.now }
+    {
+        let stamp = self.stamp(plan, n, arrival);
+        let header = plan.header(subtype::AAF, stamp, n, samples.len() as u16);
+        self.write_over(out, 0, &front_bytes(&header), header.timestamp, samples);
+    }
+
+    /// Writes a frame over the headers of packet 0's: a part of the packet's header, from this byte of it on, its timestamp, and
+    /// its samples.
+    #[inline(always)]
+    fn write_over<const N: usize>(
+        &self,
+        out: &mut [u8],
+        at: usize,
+        part: &[u8; N],
+        timestamp: u32,
+        samples: &[u8],
+    )
+        requires room { (length out.old ≡ 42 + length samples.now) × (length self.now.headers ≡ 42) }
+        requires within { at + N ≤ 12 }
+        ensures { out.new ≡ take 18 self.now.headers ++ (patched (drop 18 self.now.headers) at part.now timestamp ++ samples.now) }
+    {
+        let (headers, behind) = out.split_at_mut(out.len() - samples.len());
+        put_bytes(headers, 0, &self.headers);
+        put_bytes(headers, ETHERNET_HEADER + at, part);
+        put_bytes(headers, ETHERNET_HEADER + 12, &timestamp.to_be_bytes());
+        copy_samples(behind, samples);
+    }
+}

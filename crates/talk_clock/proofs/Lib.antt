@@ -1,0 +1,4 @@
+pub mod ClockLemmas
+pub mod ClockPoints
+pub mod ClockRules
+pub mod ClockPackets

@@ -1,0 +1,211 @@
+//! The packets of a media clock (IEEE 1722-2016, 10).
+
+ghost use Rattle.std.specs.Prelude.{◌≡◌, ◌+◌, ◌*◌, ◌/◌, ◌≤◌, ◌<◌, ◌^◌, ℕ, List, flat_map, length, pos, take, Option, Some, None};
+ghost use Rattle.byteorder.specs.Endian.{big_bytes};
+ghost use Rattle.crf_format.specs.Crf.{crf_shape, crf_spelling};
+ghost use Rattle.talk_clock.specs.Clock.{clock_arrival, clock_mr, clock_packet, clock_packets, clock_point, first_point, frame_at, points_for, points_in};
+ghost use Rattle.talk_clock.specs.Clock.{points_size, AreFew, clock_frame_size, clock_bytes};
+ghost use Rattle.talk_plan.specs.Plan.{IsAudioPlan};
+ghost use Rattle.talk_clock.specs.Streams.{IsClockOf, IsClockStream, IsPacketOfClock, IsPointOfClock};
+
+use byteorder::{BigEndian, ByteOrder};
+use crf_format::{CrfView, write_crf};
+use talk_plan::{CrfPlan, ETHERNET_HEADER, TalkPlan, write_ethernet};
+
+/// The media clock of a plan, beside a stream of `stream` packets. Its points are counted through the whole stream:
+/// point s is at sample frame s * spacing, those that fill up the last packet among them. A restart lies at a whole
+/// packet of the clock, so this agrees with counting in each run.
+#[derive(Clone, Copy, Debug)]
+pub struct ClockStream {
+    pub plan: TalkPlan,
+    pub crf: CrfPlan,
+    /// The packets of the stream.
+    pub stream: u64,
+}
+
+/// The length of the header of a clock's packet.
+const CRF_HEADER: usize = 20;
+
+/// The bytes of a timestamp.
+const TIMESTAMP: usize = 8;
+
+/// The most points of a packet.
+const POINTS_LIMIT: usize = 180;
+
+/// The type of a clock whose events are audio samples.
+const AUDIO_SAMPLE: u8 = 1;
+
+impl ClockStream {
+    /// The clock of a plan, if it has one, beside a stream of this many packets.
+    pub fn of(plan: TalkPlan, stream: u64) -> Option<Self>
+        requires plan { IsAudioPlan plan }
+        requires few { AreFew plan stream }
+        ensures { IsClockOf result plan stream }
+    {
+        match plan.crf {
+            None => None,
+            Some(crf) => Some(ClockStream { plan, crf, stream }),
+        }
+    }
+
+    /// The number of its points.
+    #[tactic(auto, using(crate::proofs::ClockLemmas::few_frames))]
+    fn points(&self) -> u64
+        requires { IsClockStream self.now }
+        ensures value { result ≡ points_for self.now.crf self.now.plan self.now.stream }
+        ensures bound { result ≤ 2 ^ 29 }
+    {
+        (self.stream * u64::from(self.plan.count)).div_ceil(self.plan.spacing(&self.crf))
+    }
+
+    /// The number of its packets.
+    pub fn packets(&self) -> u64
+        requires { IsClockStream self.now }
+        ensures { result ≡ clock_packets self.now.crf self.now.plan self.now.stream }
+    {
+        self.points().div_ceil(u64::from(self.crf.points))
+    }
+
+    /// The sample frame of the stream at which point `s` is.
+    fn frame(&self, s: u64) -> u64
+        requires { IsPointOfClock self.now s }
+        ensures { result ≡ frame_at self.now.crf self.now.plan s }
+    {
+        s * self.plan.spacing(&self.crf)
+    }
+
+    /// The first point of packet `m`.
+    fn first(&self, m: u64) -> u64
+        requires { IsPacketOfClock self.now m }
+        ensures value { result ≡ first_point self.now.crf m }
+        ensures known { result < points_for self.now.crf self.now.plan self.now.stream }
+    {
+        m * u64::from(self.crf.points)
+    }
+
+    /// The packet of the stream in which point `s` is.
+    #[tactic(auto, using(crate::proofs::ClockLemmas::point_within))]
+    fn stream_packet(&self, s: u64) -> u64
+        requires { IsPointOfClock self.now s }
+        ensures value { result ≡ frame_at self.now.crf self.now.plan s / self.now.plan.count }
+        ensures frames { result * self.now.plan.count ≤ 2 ^ 28 }
+    {
+        self.frame(s) / u64::from(self.plan.count)
+    }
+
+    /// The instant of point `s`, in nanoseconds of gPTP.
+    #[tactic(auto, using(crate::proofs::ClockLemmas::point_within), unfolding(crate::specs::Clock::clock_point))]
+    fn point(&self, s: u64) -> u64
+        requires { IsPointOfClock self.now s }
+        ensures value { result ≡ clock_point self.now.crf self.now.plan s }
+        ensures lead { self.now.plan.lead ≤ result }
+        ensures bound { result < self.now.plan.lead + 2 ^ 32 * 1000000000 }
+    {
+        let within = self.frame(s) % u64::from(self.plan.count);
+        self.plan.instant(self.stream_packet(s), within as u32)
+    }
+
+    /// When packet `m` is sent, in nanoseconds of gPTP.
+    #[cold]
+    #[inline(never)]
+    pub fn arrival(&self, m: u64) -> i64
+        requires { IsPacketOfClock self.now m }
+        ensures { result ≡ pos (clock_arrival self.now.crf self.now.plan m) }
+    {
+        (self.point(self.first(m)) - u64::from(self.plan.lead)) as i64
+    }
+
+    /// The number of points of packet `m`.
+    fn size(&self, m: u64) -> usize
+        requires { IsPacketOfClock self.now m }
+        ensures value { result ≡ points_size self.now.crf self.now.plan self.now.stream m }
+        ensures some { 1 ≤ result }
+        ensures bound { result ≤ 180 }
+    {
+        u64::from(self.crf.points).min(self.points() - self.first(m)) as usize
+    }
+
+    /// The length of the frame of packet `m`.
+    #[cold]
+    #[inline(never)]
+    pub fn frame_size(&self, m: u64) -> usize
+        requires { IsPacketOfClock self.now m }
+        ensures { result ≡ clock_frame_size self.now.crf self.now.plan self.now.stream m }
+    {
+        ETHERNET_HEADER + CRF_HEADER + TIMESTAMP * self.size(m)
+    }
+
+    /// The points of packet `m`.
+    fn write_points(&self, points: &mut [u64], m: u64)
+        requires packet { IsPacketOfClock self.now m }
+        requires room { length points.old ≡ points_size self.now.crf self.now.plan self.now.stream m }
+        ensures { points.new ≡ points_in self.now.crf self.now.plan self.now.stream m }
+    {
+        let first = self.first(m);
+        for i in 0..points.len() {
+            points[i] = self.point(first + i as u64);
+        }
+    }
+
+    /// Writes the timestamps of packet `m`.
+    fn write_timestamps(&self, out: &mut [u8], m: u64)
+        requires packet { IsPacketOfClock self.now m }
+        requires room { length out.old ≡ 8 * points_size self.now.crf self.now.plan self.now.stream m }
+        ensures { out.new ≡ flat_map (big_bytes 8) (points_in self.now.crf self.now.plan self.now.stream m) }
+    {
+        let mut points = [0; POINTS_LIMIT];
+        let points = &mut points[..self.size(m)];
+        self.write_points(points, m);
+        BigEndian::write_u64_into(points, out);
+    }
+
+    /// Packet `m`, with its timestamps.
+    fn packet<'a>(&self, m: u64, timestamps: &'a [u8]) -> CrfView<'a>
+        requires packet { IsPacketOfClock self.now m }
+        requires whole { timestamps.now ≡ flat_map (big_bytes 8) (points_in self.now.crf self.now.plan self.now.stream m) }
+        ensures { crf_shape result ≡ clock_packet self.now.crf self.now.plan self.now.stream m }
+    {
+        let first = self.stream_packet(self.first(m));
+        CrfView {
+            sv: true,
+            mr: self.plan.restart_bit(first),
+            fs: false,
+            tu: false,
+            seq: (m % 256) as u8,
+            kind: AUDIO_SAMPLE,
+            stream_id: self.crf.id,
+            pull: self.crf.pull,
+            base_frequency: self.crf.rate,
+            interval: self.crf.interval,
+            payload: timestamps,
+            reserved: false,
+        }
+    }
+
+    /// Writes packet `m`.
+    fn write_packet(&self, out: &mut [u8], m: u64)
+        requires packet { IsPacketOfClock self.now m }
+        requires room { length out.old + 18 ≡ clock_frame_size self.now.crf self.now.plan self.now.stream m }
+        ensures { out.new ≡ crf_spelling (clock_packet self.now.crf self.now.plan self.now.stream m) }
+    {
+        let mut timestamps = [0; TIMESTAMP * POINTS_LIMIT];
+        let timestamps = &mut timestamps[..TIMESTAMP * self.size(m)];
+        self.write_timestamps(timestamps, m);
+        let Ok(_) = write_crf(out, &self.packet(m, timestamps)) else {
+            unreachable!()
+        };
+    }
+
+    /// Writes the frame of packet `m`.
+    #[tactic(auto, unfolding(crate::specs::Clock::clock_bytes))]
+    #[cold]
+    #[inline(never)]
+    pub fn write(&self, out: &mut [u8], m: u64)
+        requires packet { IsPacketOfClock self.now m }
+        requires room { length out.old ≡ clock_frame_size self.now.crf self.now.plan self.now.stream m }
+        ensures { out.new ≡ clock_bytes (clock_packet self.now.crf self.now.plan self.now.stream m) }
+    {
+        write_ethernet(&mut out[..ETHERNET_HEADER]);
+        self.write_packet(&mut out[ETHERNET_HEADER..], m);
+    }
+}

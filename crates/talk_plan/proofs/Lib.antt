@@ -1,0 +1,6 @@
+pub mod RateLemmas
+pub mod RunLemmas
+pub mod TimingLemmas
+pub mod BeatLemmas
+pub mod StampLemmas
+pub mod HeaderLemmas

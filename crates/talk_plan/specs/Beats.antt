@@ -1,0 +1,59 @@
+-- The points of a media clock in one run, and the timestamps of a stream on it, as plain numbers.
+--
+-- The events of a stream are its sample frames, counted from 0 in each run. The clock has a point at event 0, and at each
+-- further `spacing` events.
+use Rattle.std.specs.Prelude.{◌≡◌, ℕ, suc, ◌+◌, ◌-◌, ◌*◌, ◌/◌, ◌%◌, ◌≤◌, nat_lt, if◌then◌else◌, pos}
+use Rattle.clock_track.specs.declared.pair.Pair.{Pair}
+use Rattle.clock_track.specs.Pairs.{spot_by}
+use Rattle.time_unfold.specs.Lines.{instant_at}
+use Rattle.talk_plan.specs.Timing.{nominal_offset}
+
+-- A stream of `rate` events a second beside a clock of up / down events a second: `spacing` events of the stream take
+-- as long as `interval` events of the clock.
+pub record Beat : Type 0 where
+  pub rate : ℕ
+  pub spacing : ℕ
+  pub interval : ℕ
+  pub up : ℕ
+  pub down : ℕ
+
+-- A beat whose rate is one of audio and whose clock has at most 250 MHz: events of both take equally long, as `Beat`
+-- says.
+pub record IsBeat (b : Beat) : Type 0 where
+  pub rate_from : 8000 ≤ b.rate
+  pub rate_to : b.rate ≤ 192000
+  pub some : 1 ≤ b.spacing
+  pub some_up : 1 ≤ b.up
+  pub same_time : b.spacing * b.up ≡ b.interval * b.rate * b.down
+  pub slow : 4 * b.up ≤ 1000000000 * b.down
+
+-- point m of a run that starts at an instant
+abbrev pub point_at : Beat → ℕ → ℕ → ℕ
+point_at b start m = start + nominal_offset b.rate (m * b.spacing)
+
+-- The instant with which event e of the run is stamped: before the second point its nominal one, and from then on as
+-- long after the last point as the period between the last two points tells.
+unfoldable pub stamped_at : Beat → ℕ → ℕ → ℕ
+stamped_at b start e =
+    if nat_lt e b.spacing then start + nominal_offset b.rate e else
+    point_at b start (e / b.spacing)
+    + e % b.spacing * (point_at b start (e / b.spacing) - point_at b start (e / b.spacing - 1)) / b.spacing
+
+-- point m and the next one, as listeners pair them
+abbrev pub pair_from : Beat → ℕ → ℕ → Pair
+pair_from b start m = record {
+  earlier = pos (point_at b start m);
+  later = pos (point_at b start (suc m));
+  interval = b.interval;
+  up = b.up;
+  down = b.down;
+}
+
+-- The run after one of `events` events starts at least 4 nanoseconds after the time that these events take.
+abbrev pub IsNextStart : Beat → ℕ → ℕ → ℕ → Type 0
+IsNextStart b start events next = start + nominal_offset b.rate events + 4 ≤ next
+
+-- by a pair, the event of the clock nearest to the instant is at the instant, to the nanosecond
+abbrev pub IsOnEvent : Pair → ℕ → ℕ → Type 0
+IsOnEvent pair rate instant =
+    instant_at (spot_by pair rate (pos instant)).line (spot_by pair rate (pos instant)).from ≡ pos instant

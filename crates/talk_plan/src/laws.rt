@@ -1,0 +1,34 @@
+//! Laws of plans and of their times. Each call is its contract, and does nothing.
+
+ghost use Rattle.std.specs.Prelude.{◌≡◌, ◌↔◌, ◌<◌, ◌≤◌, ◌+◌, ◌*◌, ◌/◌, suc, pos, ℕ, Some};
+ghost use Rattle.aaf_format.specs.Aaf.{rate_of};
+ghost use Rattle.iec61883_format.specs.Iec.{rate_of_fdf, syt_interval};
+ghost use Rattle.clock_track.specs.Pairs.{Covers, IsJoined, IsOfRate, period};
+ghost use Rattle.stream_journal.specs.Conforming.{IsSteady};
+ghost use Rattle.talk_plan.specs.Beats.{Beat, IsBeat, IsNextStart, IsOnEvent, pair_from, point_at, stamped_at};
+ghost use Rattle.talk_plan.specs.Plan.{fdf_of, interval_of, rate_code};
+
+/// The rates of plans are those that AAF, or IEC 61883-6, names, each by its code; the latter with its interval.
+pub fn rates_are_named()
+    ensures aaf { (rate code : ℕ) → rate_code rate ≡ Some code ↔ rate_of code ≡ Some rate }
+    ensures iec { (rate fdf : ℕ) → fdf_of rate ≡ Some fdf ↔ rate_of_fdf fdf ≡ Some rate }
+    ensures interval { (rate fdf : ℕ) → fdf_of rate ≡ Some fdf → syt_interval fdf ≡ Some (interval_of rate) }
+{}
+
+/// The arithmetic of a media clock and of a stream that is stamped on it, on plain numbers: adjacent points in a run
+/// are joined, and their periods differ little; a new run doesn't begin before the last point and the last period after
+/// it. The instant of an event is covered by just the pair that ends with the last point before the event, and by no
+/// pair of another run. If the clock's frequency is the stream's rate, it is that of an event of the clock.
+pub fn clocks_keep_time()
+    ensures even { (b : Beat) (start m : ℕ) → IsBeat b → IsJoined (pair_from b start m) }
+    ensures steady { (b : Beat) (start m : ℕ) → IsBeat b → IsSteady (pair_from b start m) (pair_from b start (suc m)) }
+    ensures renewed { (b : Beat) (start m next : ℕ) → IsBeat b → IsNextStart b start (suc (suc m) * b.spacing) next
+        → point_at b start (suc m) + period (pair_from b start m) ≤ next }
+    ensures one { (b : Beat) (start m e : ℕ) → IsBeat b → Covers (pair_from b start m) b.rate (pos (stamped_at b start e)) ↔ e / b.spacing ≡ suc m }
+    ensures no_earlier { (b : Beat) (start events next m e : ℕ) → IsBeat b → IsNextStart b start events next → suc (suc m) * b.spacing ≤ events
+        → ¬ Covers (pair_from b start m) b.rate (pos (stamped_at b next e)) }
+    ensures no_later { (b : Beat) (start events next m e : ℕ) → IsBeat b → IsNextStart b start events next → e < events
+        → ¬ Covers (pair_from b next m) b.rate (pos (stamped_at b start e)) }
+    ensures exact { (b : Beat) (start m e : ℕ) → IsBeat b → IsOfRate (pair_from b start m) b.rate
+        → Covers (pair_from b start m) b.rate (pos (stamped_at b start e)) → IsOnEvent (pair_from b start m) b.rate (stamped_at b start e) }
+{}

@@ -1,0 +1,208 @@
+//! When the packets of a plan are sent, and with which timestamps.
+
+ghost use Rattle.std.specs.Prelude.{◌≡◌, ◌+◌, ◌*◌, ◌/◌, ◌≤◌, ◌<◌, ◌^◌, pos, Option, Some, None};
+ghost use Rattle.talk_plan.specs.Stamps.{stamped_by, stamped_instant as stamped_instant_of};
+ghost use Rattle.talk_plan.specs.Headers.{header_of};
+ghost use Rattle.talk_plan.specs.Places.{IsFrameOf, IsPacketOf, IsSentAt};
+ghost use Rattle.talk_plan.specs.Plan.{IsAudioPlan, Restarts, spacing_of};
+ghost use Rattle.talk_plan.specs.Timing.{arrival_of, event_of, mr_of, first_packet as first_packet_of, nominal_instant, nominal_offset as nominal_offset_of};
+ghost use Rattle.talk_plan.specs.Timing.{run_of, run_start as run_start_of};
+
+use crate::plan::{CrfPlan, TalkPlan};
+use avtp_header::StreamHeader;
+use clock_track::{pull_down, pull_up};
+
+const NANOSECONDS: u64 = 1_000_000_000;
+
+/// So many of `whole` parts of a period, rounded down.
+fn part(parts: u64, period: u64, whole: u64) -> u64
+    requires { parts < whole }
+    ensures value { result ≡ parts * period / whole }
+    ensures bound { result ≤ period }
+{
+    (u128::from(parts) * u128::from(period) / u128::from(whole)) as u64
+}
+
+impl TalkPlan {
+    /// The run of packet `n`: one begins with the stream, and one with each restart.
+    #[tactic(auto, using(crate::proofs::RunLemmas::some_packets))]
+    fn run(&self, n: u64) -> u64
+        requires { Restarts self.now.restart self.now.jump }
+        ensures { result ≡ run_of self.now n }
+    {
+        match self.restart {
+            None => 0,
+            Some(packets) => n / u64::from(packets),
+        }
+    }
+
+    /// The first packet of that run.
+    #[tactic(auto, using(crate::proofs::RunLemmas::some_packets, crate::proofs::RunLemmas::begun))]
+    fn first_packet(&self, n: u64) -> u64
+        requires { IsAudioPlan self.now }
+        ensures value { result ≡ first_packet_of self.now (run_of self.now n) }
+        ensures bound { result ≤ n }
+    {
+        match self.restart {
+            None => 0,
+            Some(packets) => self.run(n) * u64::from(packets),
+        }
+    }
+
+    /// How far the restarts before packet `n` set presentation times forward, in nanoseconds.
+    #[tactic(auto, using(crate::proofs::TimingLemmas::few_jumps))]
+    fn jumps(&self, n: u64) -> u64
+        requires { IsPacketOf self.now n }
+        ensures value { result ≡ run_of self.now n * self.now.jump }
+        ensures bound { result ≤ 2 ^ 25 * 1000000000 }
+    {
+        self.run(n) * u64::from(self.jump)
+    }
+
+    /// How long a number of sample frames take, in nanoseconds. At multiples of 48 kHz one takes some thirds of a
+    /// nanosecond: a division by 3 is a multiplication, while one by a number that is not known beforehand takes ten
+    /// times as long.
+    #[tactic(auto, using(crate::proofs::RateLemmas::rate_from, crate::proofs::TimingLemmas::short_offset))]
+    fn offset(&self, frames: u64) -> u64
+        requires plan { IsAudioPlan self.now }
+        requires frames { frames ≤ 2 ^ 29 }
+        ensures value { result ≡ nominal_offset_of self.now.rate frames }
+        ensures bound { result ≤ frames * 125000 }
+    {
+        match self.rate {
+            48_000 => frames * 20_833 + frames / 3,
+            96_000 => frames * 10_416 + frames * 2 / 3,
+            192_000 => frames * 5_208 + frames / 3,
+            rate => frames * NANOSECONDS / u64::from(rate),
+        }
+    }
+
+    /// The instant of event 0 of the run of packet `n`, in nanoseconds of gPTP.
+    #[tactic(auto, using(crate::proofs::RunLemmas::in_run))]
+    fn run_start(&self, n: u64) -> u64
+        requires { IsPacketOf self.now n }
+        ensures value { result ≡ run_start_of self.now (run_of self.now n) }
+        ensures bound { result ≤ 2 ^ 63 }
+    {
+        let start = self.start as u64 + u64::from(self.lead);
+        if self.restart.is_none() {
+            return start;
+        }
+        let first = self.first_packet(n);
+        start + self.jumps(n) + self.offset(first * u64::from(self.count))
+    }
+
+    /// The event of sample frame `i` of packet `n` in the packet's run.
+    #[tactic(auto, using(crate::proofs::RunLemmas::in_run))]
+    fn event(&self, n: u64, i: u32) -> u64
+        requires { IsFrameOf self.now n i }
+        ensures value { result ≡ event_of self.now n i }
+        ensures bound { result ≤ 2 ^ 29 }
+    {
+        (n - self.first_packet(n)) * u64::from(self.count) + u64::from(i)
+    }
+
+    /// The instant of sample frame `i` of packet `n`, in nanoseconds of gPTP.
+    #[tactic(auto, using(crate::proofs::TimingLemmas::in_time), unfolding(crate::specs::Timing::nominal_instant))]
+    #[inline(always)]
+    pub fn instant(&self, n: u64, i: u32) -> u64
+        requires { IsFrameOf self.now n i }
+        ensures value { result ≡ nominal_instant self.now n i }
+        ensures lead { self.now.lead ≤ result }
+        ensures bound { result < self.now.lead + 2 ^ 32 * 1000000000 }
+    {
+        self.run_start(n) + self.offset(self.event(n, i))
+    }
+
+    /// The sample frames from one point of the plan's clock to the next.
+    pub fn spacing(&self, crf: &CrfPlan) -> u64
+        requires plan { IsAudioPlan self.now }
+        requires clock { self.now.crf ≡ Some crf.now }
+        ensures value { result ≡ spacing_of crf.now self.now.rate }
+        ensures some { 1 ≤ result }
+    {
+        u64::from(crf.interval) * u64::from(self.rate) * pull_down(crf.pull)
+            / (u64::from(crf.rate) * pull_up(crf.pull))
+    }
+
+    /// The instant with which sample frame `i` of packet `n` is stamped on the plan's clock, in nanoseconds of gPTP: so
+    /// far after the last point of the clock as the period before it tells.
+    #[cold]
+    #[inline(never)]
+    fn clocked_instant(&self, crf: &CrfPlan, n: u64, i: u32) -> u64
+        requires frame { IsFrameOf self.now n i }
+        requires clock { self.now.crf ≡ Some crf.now }
+        ensures { result ≡ stamped_by (Some crf.now) self.now n i }
+    {
+        let spacing = self.spacing(crf);
+        let event = self.event(n, i);
+        if event < spacing {
+            return self.instant(n, i);
+        }
+        let last = event / spacing;
+        let offset = self.offset(last * spacing);
+        let period = offset - self.offset((last - 1) * spacing);
+        self.run_start(n) + offset + part(event % spacing, period, spacing)
+    }
+
+    /// The instant with which sample frame `i` of packet `n` is stamped, in nanoseconds of gPTP.
+    pub fn stamped_instant(&self, n: u64, i: u32) -> u64
+        requires { IsFrameOf self.now n i }
+        ensures { result ≡ stamped_instant_of self.now n i }
+    {
+        match self.crf {
+            None => self.instant(n, i),
+            Some(crf) => self.clocked_instant(&crf, n, i),
+        }
+    }
+
+    /// The instant with which the first sample frame of packet `n` is stamped, which is sent at this arrival, in nanoseconds of
+    /// gPTP.
+    #[tactic(auto, using(crate::proofs::TimingLemmas::lead_within))]
+    pub fn first_stamped_instant(&self, n: u64, arrival: i64) -> u64
+        requires { IsSentAt self.now n arrival }
+        ensures { result ≡ stamped_instant_of self.now n 0 }
+    {
+        match self.crf {
+            None => arrival as u64 + u64::from(self.lead),
+            Some(crf) => self.clocked_instant(&crf, n, 0),
+        }
+    }
+
+    /// When packet `n` is sent, in nanoseconds of gPTP.
+    #[inline(always)]
+    pub fn arrival(&self, n: u64) -> i64
+        requires { IsPacketOf self.now n }
+        ensures { result ≡ pos (arrival_of self.now n) }
+    {
+        (self.instant(n, 0) - u64::from(self.lead)) as i64
+    }
+
+    /// The media clock restart bit of packet `n`, which toggles with each run.
+    pub fn restart_bit(&self, n: u64) -> bool
+        requires { Restarts self.now.restart self.now.jump }
+        ensures { result ≡ mr_of self.now n }
+    {
+        self.run(n) % 2 == 1
+    }
+
+    /// The stream header of packet `n` (IEEE 1722-2016, 4.4.4), which is stamped with an instant or not, before this
+    /// many bytes.
+    pub fn header(&self, subtype: u8, stamp: Option<u64>, n: u64, length: u16) -> StreamHeader
+        requires { Restarts self.now.restart self.now.jump }
+        ensures { result ≡ header_of subtype stamp self.now n length }
+    {
+        StreamHeader {
+            subtype,
+            sv: true,
+            mr: self.restart_bit(n),
+            format_bits: 0,
+            tv: stamp.is_some(),
+            seq: (n % 256) as u8,
+            tu: false,
+            stream_id: self.id,
+            timestamp: stamp.map_or(0, |instant| (instant % (1 << 32)) as u32),
+            data_length: length,
+        }
+    }
+}

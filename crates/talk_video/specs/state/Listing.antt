@@ -1,0 +1,91 @@
+-- Kept for proofs: what the code's own parts hold and do. No clause of a public call rests on it.
+-- What a walk over the NAL units of a byte stream stands for.
+use Rattle.std.specs.Prelude.{◌≡◌, ℕ, zero, suc, ◌+◌, ◌-◌, ◌<◌, ◌≤◌, Bool, false, not, ◌&&◌, ◌||◌, nat_lt, if◌then◌else◌, List, length, drop}
+use Rattle.cvf_format.specs.AnnexB.{nal_units, units_from}
+use Rattle.talk_video.specs.declared.units.NalUnit.{NalUnit}
+use Rattle.talk_video.specs.declared.units.Units.{Units}
+use Rattle.avtp_base.specs.Octets.{flag}
+use Rattle.talk_video.specs.AccessUnits.{begins, begun_before, has_slice, is_sliced, may_begin}
+use Rattle.talk_video.specs.Fragments.{packets_before, packets_for, Place, place_of}
+use Rattle.talk_video.specs.Streams.{unit_in}
+use Rattle.talk_video.specs.Units.{most_packets}
+use Rattle.talk_video.specs.declared.video.VideoStream.{VideoStream}
+use Rattle.talk_plan.specs.Plan.{most_input}
+
+-- how many packets carry the units before the access unit of the last of the units before unit i
+abbrev pub packets_behind : List ℕ → List (ℕ × ℕ) → ℕ → ℕ
+packets_behind bytes units zero = 0
+packets_behind bytes units (suc i) = if begins bytes units i then packets_before units i else packets_behind bytes units i
+
+-- the first units came, so many of them
+pub record IsWalk (bytes : List ℕ) (u : Units) : Type 0 where
+  pub known : u.number ≤ length (nal_units bytes)
+  pub rest : drop u.number (nal_units bytes) ≡ units_from bytes u.at
+  pub within : u.at ≤ length bytes
+  pub sliced : u.sliced ≡ is_sliced bytes (nal_units bytes) u.number
+  pub begun : u.begun ≡ begun_before bytes (nal_units bytes) u.number
+  pub packets : u.packets ≡ packets_before (nal_units bytes) u.number
+  pub before : u.before ≡ packets_behind bytes (nal_units bytes) u.number
+  pub few : u.number ≤ u.at
+  pub few_begun : u.begun ≤ u.at
+  pub few_packets : u.packets ≤ u.at
+  pub order : u.before ≤ u.packets
+
+-- a unit behind those that came begins a new access unit
+abbrev pub is_begun_by : List ℕ → Units → ℕ × ℕ → Bool
+is_begun_by bytes u unit = u.sliced && may_begin bytes unit
+
+-- with one unit more
+abbrev pub walked : List ℕ → Units → ℕ × ℕ → Units
+walked bytes u unit = record {
+  number = u.number + 1;
+  at = unit.1;
+  sliced = has_slice bytes unit || (u.sliced && not (is_begun_by bytes u unit));
+  begun = u.begun + flag (is_begun_by bytes u unit);
+  packets = u.packets + packets_for unit;
+  before = if is_begun_by bytes u unit then u.packets else u.before;
+}
+
+-- unit i came next
+pub record IsNext (bytes : List ℕ) (i next : ℕ) (unit : NalUnit) : Type 0 where
+  pub known : i < length (nal_units bytes)
+  pub is_unit : unit ≡ unit_in bytes i
+  pub number : next ≡ suc i
+  pub some : unit.from < unit.to
+  pub inside : unit.to ≤ length bytes
+
+-- all units came before, and nothing moved
+pub record IsEnded (bytes : List ℕ) (old new : Units) : Type 0 where
+  pub all : old.number ≡ length (nal_units bytes)
+  pub same : new ≡ old
+
+-- an access unit of the first units, so many of them, needs too many packets
+abbrev pub is_long_in : List ℕ → List (ℕ × ℕ) → ℕ → Bool
+is_long_in bytes units zero = false
+is_long_in bytes units (suc i) =
+    is_long_in bytes units i || nat_lt most_packets (packets_before units (suc i) - packets_behind bytes units (suc i))
+
+-- packet n carries a fragment of a unit of a byte stream, or all of it
+pub record IsCarried (bytes : List ℕ) (unit : NalUnit) (n : ℕ) : Type 0 where
+  pub some : unit.from < unit.to
+  pub inside : unit.to ≤ length bytes
+  pub limit : length bytes ≤ most_input
+  pub begun : unit.first ≤ n
+  pub within : n < unit.first + packets_for (unit.from, unit.to)
+
+-- what packet n carries
+abbrev pub place_in : VideoStream → ℕ → Place
+place_in v n = place_of (nal_units v.input.now) n
+
+-- the unit that packet n of a stream carries
+pub record IsUnitAt (v : VideoStream) (n : ℕ) (unit : NalUnit) : Type 0 where
+  pub value : unit ≡ unit_in v.input.now (place_in v n).unit
+  pub carried : IsCarried v.input.now unit n
+  pub few : unit.access_unit ≤ most_input
+
+-- packet n carries a fragment of such a unit, or all of it
+pub record IsFragmentAt (unit : NalUnit) (n : ℕ) : Type 0 where
+  pub some : unit.from < unit.to
+  pub limit : unit.to ≤ most_input
+  pub begun : unit.first ≤ n
+  pub within : n < unit.first + packets_for (unit.from, unit.to)

@@ -1,0 +1,267 @@
+//! The packets of an H.264 stream (IEEE 1722-2016, 8).
+
+ghost use Rattle.std.specs.Prelude.{◌≡◌, ◌+◌, ◌-◌, ◌*◌, ◌^◌, ◌<◌, ◌≤◌, nat_le, drop, length, pos, take, Option, Some, None, IfOk, IfErr};
+ghost use Rattle.cvf_format.specs.AnnexB.{nal_units};
+ghost use Rattle.cvf_format.specs.Cvf.{cvf_shape, cvf_spelling, header_size};
+ghost use Rattle.packet_journal.specs.Packets.{H264Data};
+ghost use Rattle.talk_plan.specs.declared.fault.TalkFault.TheVariants.{Memory};
+ghost use Rattle.talk_plan.specs.declared.plan.TalkKind.TheVariants.{H264};
+ghost use Rattle.talk_video.specs.Fragments.{access_unit_of, body_by, ends_access_unit as ends_access_unit_of, packets_for, part_by as part_of, rest_in};
+ghost use Rattle.talk_plan.specs.Ethernet.{packet_bytes};
+ghost use Rattle.talk_plan.specs.Plan.{IsVideoPlan, most_input};
+ghost use Rattle.talk_video.specs.state.Listing.{IsCarried, IsFragmentAt, IsUnitAt, place_in};
+ghost use Rattle.talk_video.specs.Streams.{IsPacketOfVideo, IsVideoOf, video_packet};
+ghost use Rattle.talk_video.specs.Units.{units_fault};
+ghost use Rattle.talk_video.specs.Video.{access_instant, stamp_by, video_arrival};
+
+use crate::units::{NalUnit, list_units};
+use avtp_base::octets::bits_at;
+use avtp_header::subtype;
+use cvf_format::{CvfView, NalPart, fragments, write_cvf};
+use std::alloc::Global;
+use talk_plan::{ETHERNET_HEADER, TalkFault, TalkPlan, write_ethernet};
+
+/// A plan of an H.264 stream, with the byte stream and its NAL units.
+#[derive(Debug, Drop)]
+pub struct VideoStream<'a> {
+    pub plan: TalkPlan,
+    /// A NAL unit is stamped on its last fragment alone.
+    pub last_stamp: bool,
+    pub input: &'a [u8],
+    pub units: Vec<NalUnit>,
+    /// The number of packets.
+    pub packets: u64,
+}
+
+/// The bytes of a NAL unit after its first that each of its fragments carries, but the last.
+const FULL_BODY: usize = 1398;
+
+/// The bytes of a packet that its stated length does not count.
+const UNCOUNTED: usize = 24;
+
+/// The part of a unit that its fragment `k` is, if it has this many.
+#[tactic(auto, unfolding(crate::specs::Fragments::part_by))]
+fn part_by(packets: u64, k: u64) -> NalPart
+    requires { k < packets }
+    ensures { result ≡ part_of packets k }
+{
+    if packets == 1 {
+        NalPart::Single
+    } else if k == 0 {
+        NalPart::First
+    } else if k + 1 == packets {
+        NalPart::Last
+    } else {
+        NalPart::Middle
+    }
+}
+
+/// The bytes that the stated length counts before the body: the H.264 timestamp, and the headers of the part.
+fn counted_header(part: NalPart) -> usize
+    ensures { result ≡ header_size part - 24 }
+{
+    match part {
+        NalPart::Single => 5,
+        NalPart::First | NalPart::Middle | NalPart::Last => 6,
+    }
+}
+
+/// Fragment `k` of the bytes of a unit after its first.
+fn fragment(rest: &[u8], k: usize) -> &[u8]
+    requires { k * 1398 ≤ length rest.now }
+    ensures value { result.now ≡ take 1398 (drop (k * 1398) rest.now) }
+    ensures short { length result.now ≤ 1398 }
+{
+    let behind = &rest[k * FULL_BODY..];
+    if behind.len() < FULL_BODY {
+        behind
+    } else {
+        &behind[..FULL_BODY]
+    }
+}
+
+impl NalUnit {
+    /// How many packets carry it.
+    fn packets(&self) -> u64
+        requires some { self.now.from < self.now.to }
+        requires limit { self.now.to ≤ most_input }
+        ensures { result ≡ packets_for (self.now.from, self.now.to) }
+    {
+        u64::from(fragments(self.to - self.from))
+    }
+
+    /// What of it packet `n` is.
+    fn part(&self, n: u64) -> NalPart
+        requires { IsFragmentAt self.now n }
+        ensures { result ≡ part_of (packets_for (self.now.from, self.now.to)) (n - self.now.first) }
+    {
+        part_by(self.packets(), n - self.first)
+    }
+
+    /// Its bytes after the first that packet `n` carries.
+    fn body<'a>(&self, bytes: &'a [u8], n: u64) -> &'a [u8]
+        requires { IsCarried bytes.now self.now n }
+        ensures value { result.now
+            ≡ body_by (part_of (packets_for (self.now.from, self.now.to)) (n - self.now.first)) (n - self.now.first) (rest_in bytes.now (self.now.from, self.now.to)) }
+        ensures short { length result.now ≤ 1399 }
+    {
+        let rest = &bytes[self.from + 1..self.to];
+        match self.part(n) {
+            NalPart::Single => rest,
+            NalPart::First | NalPart::Middle | NalPart::Last => {
+                fragment(rest, (n - self.first) as usize)
+            }
+        }
+    }
+}
+
+impl<'a> VideoStream<'a> {
+    /// The stream of a plan and a byte stream without a fault.
+    pub fn of(
+        alloc: Global,
+        plan: TalkPlan,
+        last_stamp: bool,
+        input: &'a [u8],
+    ) -> Result<Self, TalkFault>
+        requires plan { IsVideoPlan plan }
+        requires kind { plan.kind ≡ H264 last_stamp }
+        requires limit { length input.now ≤ most_input }
+        requires accepted { units_fault input.now ≡ None }
+        ensures made { IfOk result (IsVideoOf plan input.now) }
+        ensures only { IfErr result (λ fault. fault ≡ Memory) }
+    {
+        let (units, packets) = list_units(alloc, input)?;
+        Ok(VideoStream {
+            plan,
+            last_stamp,
+            input,
+            units,
+            packets,
+        })
+    }
+
+    /// The place of the unit that packet `n` carries, found by halves in the list of units, which has the first packet
+    /// of each.
+    fn place_of_unit(&self, n: u64) -> usize
+        requires { IsPacketOfVideo self.now n }
+        ensures value { result ≡ (place_in self.now n).unit }
+        ensures known { result < length (nal_units self.now.input.now) }
+    {
+        self.units.as_slice().partition_point(
+            |unit: &NalUnit| -> bool
+                ensures { result ≡ nat_le unit.now.first n }
+            { unit.first <= n },
+        ) - 1
+    }
+
+    /// The unit that packet `n` carries.
+    fn unit_of(&self, n: u64) -> NalUnit
+        requires { IsPacketOfVideo self.now n }
+        ensures { IsUnitAt self.now n result }
+    {
+        self.units[self.place_of_unit(n)]
+    }
+
+    /// The instant of an access unit, in nanoseconds of gPTP.
+    #[tactic(auto, unfolding(crate::specs::Video::access_instant))]
+    fn instant(&self, access_unit: u64) -> u64
+        requires plan { IsVideoPlan self.now.plan }
+        requires few { access_unit ≤ most_input }
+        ensures value { result ≡ access_instant self.now.plan access_unit }
+        ensures lead { self.now.plan.lead ≤ result }
+        ensures bound { result < self.now.plan.lead + 2 ^ 32 * 1000000000 }
+    {
+        self.plan.start as u64
+            + u64::from(self.plan.lead)
+            + access_unit * 1_000_000_000 / u64::from(self.plan.rate)
+    }
+
+    /// When packet `n` is sent, in nanoseconds of gPTP.
+    #[cold]
+    #[inline(never)]
+    pub fn arrival(&self, n: u64) -> i64
+        requires { IsPacketOfVideo self.now n }
+        ensures { result ≡ pos (video_arrival self.now.plan self.now.input.now (nal_units self.now.input.now) n) }
+    {
+        (self.instant(self.unit_of(n).access_unit) - u64::from(self.plan.lead)) as i64
+    }
+
+    /// The instant with which a part of a unit is stamped.
+    fn stamp(&self, part: NalPart, instant: u64) -> Option<u64>
+        ensures { result ≡ stamp_by self.now.last_stamp part instant }
+    {
+        match part {
+            NalPart::First | NalPart::Middle if self.last_stamp => None,
+            _ => Some(instant),
+        }
+    }
+
+    /// Packet `n`, which is of this access unit, is the last one of it.
+    fn ends_access_unit(&self, n: u64, access_unit: u64) -> bool
+        requires packet { IsPacketOfVideo self.now n }
+        requires access_unit { access_unit ≡ access_unit_of self.now.input.now (nal_units self.now.input.now) n }
+        ensures { result ≡ ends_access_unit_of self.now.input.now (nal_units self.now.input.now) n }
+    {
+        n + 1 == self.packets || self.unit_of(n + 1).access_unit != access_unit
+    }
+
+    /// Packet `n`.
+    fn packet(&self, n: u64) -> CvfView<'a>
+        requires { IsPacketOfVideo self.now n }
+        ensures { cvf_shape result ≡ video_packet self.now n }
+    {
+        let unit = self.unit_of(n);
+        let part = unit.part(n);
+        let body = unit.body(self.input, n);
+        let instant = self.instant(unit.access_unit);
+        let stamp = self.stamp(part, instant);
+        let length = (counted_header(part) + body.len()) as u16;
+        CvfView {
+            header: self.plan.header(subtype::CVF, stamp, n, length),
+            ptv: true,
+            marker: self.ends_access_unit(n, unit.access_unit),
+            evt: 0,
+            h264_timestamp: (instant % (1 << 32)) as u32,
+            nal: bits_at(self.input, unit.from, 0, 8),
+            part,
+            body,
+            reserved: false,
+        }
+    }
+
+    /// The length of the frame of packet `n`.
+    #[cold]
+    #[inline(never)]
+    pub fn frame_size(&self, n: u64) -> usize
+        requires { IsPacketOfVideo self.now n }
+        ensures { result ≡ length (packet_bytes (H264Data (video_packet self.now n))) }
+    {
+        let unit = self.unit_of(n);
+        let body = unit.body(self.input, n);
+        ETHERNET_HEADER + UNCOUNTED + counted_header(unit.part(n)) + body.len()
+    }
+
+    /// Writes packet `n`.
+    fn write_packet(&self, out: &mut [u8], n: u64)
+        requires packet { IsPacketOfVideo self.now n }
+        requires room { length out.old ≡ length (cvf_spelling (video_packet self.now n)) }
+        ensures { out.new ≡ cvf_spelling (video_packet self.now n) }
+    {
+        let Ok(_) = write_cvf(out, &self.packet(n)) else {
+            unreachable!()
+        };
+    }
+
+    /// Writes the frame of packet `n`.
+    #[tactic(auto, using(talk_plan::proofs::HeaderLemmas::bytes_size), unfolding(talk_plan::specs::Ethernet::packet_bytes))]
+    #[cold]
+    #[inline(never)]
+    pub fn write(&self, out: &mut [u8], n: u64)
+        requires packet { IsPacketOfVideo self.now n }
+        requires room { length out.old ≡ length (packet_bytes (H264Data (video_packet self.now n))) }
+        ensures { out.new ≡ packet_bytes (H264Data (video_packet self.now n)) }
+    {
+        write_ethernet(&mut out[..ETHERNET_HEADER]);
+        self.write_packet(&mut out[ETHERNET_HEADER..], n);
+    }
+}

@@ -1,8 +1,0 @@
-use Rattle.std.proofs.Common.{arith}
-use Rattle.talker.proofs.ClockLemmas.{point_within}
-use Rattle.talker.proofs.clock.ClockStream.frame.Goals as goal
-
-pub overflow_mul-result : goal.overflow_mul-result
-overflow_mul-result c =
-    let at = point_within c.args.self.now c.args.s c.requires.clock c.requires.known in
-    rw c.spacing.ensures.value (omega (arith, at.small))

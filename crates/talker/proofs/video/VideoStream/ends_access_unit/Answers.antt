@@ -1,9 +1,0 @@
-use Rattle.std.proofs.Common.{ap}
-use Rattle.talker.specs.declared.units.NalUnit.{NalUnit}
-use Rattle.talker.proofs.VideoParts.{ends_is}
-use Rattle.talker.proofs.video.VideoStream.ends_access_unit.Goals as goal
-
-pub returns-else-n-self : goal.returns-else-n-self
-returns-else-n-self c =
-    ends_is c.args.self.now c.args.n c.args.access_unit c.unit_of.result.access_unit c.requires.video c.if-n-self.false
-    (ap (λ (u : NalUnit). u.access_unit) c.unit_of.ensures.value) c.requires.access_unit
