@@ -2,8 +2,9 @@
 
 A public clause is a `requires` or an `ensures` that a caller in another crate sees: of a `pub fn`, of a method of a
 `pub trait` or of its `impl`, if the crate's root makes the module or the item public. What a `pub trait` says of its
-ghost members, and the value as which contracts see a type, count as public clauses, too. A clause rests on the
-definitions that it names, and on those that these name in turn.
+ghost members, what an `impl` says of a call in such a member (`λ old new ..`), and the value as which contracts see a
+type, count as public clauses, too. A clause rests on the definitions that it names, and on those that these name in
+turn.
 """
 import re
 from pathlib import Path
@@ -216,6 +217,8 @@ def clauses(text, items):
         body = text[trait.end() : matched(text, trait.end() - 1)]
         yield from (("", it) for it in re.findall(r"ghost \w+: \{(.*?)\};", body, re.S))
     yield from (("", it) for it in re.findall(r"ghost Value = \{([^}]*)\}", text))
+    for member in re.finditer(r"ghost (\w+) = \{ (λ old new .*?) \};", text):
+        yield f"{owner(text, member.start())}::{member.group(1)}", member.group(2)
 
 
 def sources(crate):

@@ -1,7 +1,5 @@
-pub mod Entries
 pub mod Faults
 pub mod Field
-pub mod FileShelf
 pub mod Files
 pub mod Octets
 pub mod Rows
@@ -9,4 +7,3 @@ pub mod Told
 pub mod States
 pub mod Layout
 pub mod Waiting
-pub mod state

@@ -3,7 +3,7 @@ use Rattle.std.specs.Prelude.{◌≡◌, ◌≢◌, ◌↔◌, ℕ, Bool, IsTrue
 use Rattle.std.specs.Global.{Vec, Global}
 use Rattle.avtp_memory.specs.declared.memory_files.MemoryFiles.{MemoryFiles}
 use Rattle.avtp_memory.specs.declared.open_file.OpenFile.{OpenFile}
-use Rattle.avtp_base.specs.Entries.{entry_at}
+use Rattle.avtp_files.specs.Entries.{entry_at}
 use Rattle.avtp_base.specs.Files.{Files, Open, Slots}
 use Rattle.avtp_memory.specs.NamedFiles.{bytes_under}
 use Rattle.avtp_memory.specs.Room.{kept_within, FitsRoom}

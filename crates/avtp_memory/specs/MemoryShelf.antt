@@ -1,9 +1,13 @@
 -- What a shelf in memory shows.
-use Rattle.std.specs.Prelude.{◌≡◌, ℕ, List, Contains}
+use Rattle.std.specs.Prelude.{◌≡◌, ◌↔◌, ℕ, List, Contains, Result, IfOk, IfSome, IsErr, IsErrOf, length, min}
+use Rattle.avtp_base.specs.declared.failed.Failed.{Failed}
+use Rattle.avtp_base.specs.declared.failed.OpenFault.{OpenFault}
+use Rattle.avtp_base.specs.declared.failed.OpenFault.TheVariants as open_fault
+use Rattle.avtp_files.specs.declared.shelf.Slot.{Slot}
 use Rattle.avtp_memory.specs.declared.memory_shelf.MemoryShelf.{MemoryShelf}
 use Rattle.avtp_memory.specs.Calls.{next_number}
 use Rattle.avtp_memory.specs.Asked.{StandsForNames}
-use Rattle.avtp_base.specs.Files.{Files, Slots}
+use Rattle.avtp_base.specs.Files.{Files, Slots, left_in}
 use Rattle.avtp_memory.specs.MemoryFiles.{files_in, slots_in}
 
 -- the bytes that are kept under a name
@@ -45,4 +49,31 @@ IsToFail shelf = Contains (failing_calls shelf) (next_number (calls shelf))
 pub record CountsCall (old new : MemoryShelf) : Type 0 where
   pub next : calls new ≡ next_number (calls old)
   pub fails : failing_calls new ≡ failing_calls old
+  pub most : most new ≡ most old
+
+-- ---- what a call does beside what it does on each shelf
+
+-- A file was opened or made, or not: at `Failed` exactly if the call's number is among those that fail. The call was
+-- counted.
+pub record OpensByNumber (old new : MemoryShelf) (result : Result Slot OpenFault) : Type 0 where
+  pub failed : IsErrOf result open_fault.Failed ↔ IsToFail old
+  pub call : CountsCall old new
+
+-- A read of slot k into a buffer of so many bytes: it moved as many bytes as are left, fit and are allowed, or failed,
+-- exactly if its number is among those that fail. The call was counted.
+pub record ReadsByNumber (old new : MemoryShelf) (k room : ℕ) (result : Result ℕ Failed) : Type 0 where
+  pub whole : IfOk result (λ n. IfSome (left_in (slots_of old) k) (λ left. n ≡ min (length left) (min room (most old))))
+  pub failed : IsErr result ↔ IsToFail old
+  pub call : CountsCall old new
+
+-- A write of a piece: it took as many bytes as it has and are allowed, or failed, and always if its number is among those
+-- that fail. The call was counted.
+pub record WritesByNumber (old new : MemoryShelf) (piece : List ℕ) (result : Result ℕ Failed) : Type 0 where
+  pub whole : IfOk result (λ n. n ≡ min (length piece) (most old))
+  pub failed : IsToFail old → IsErr result
+  pub call : CountsCall old new
+
+-- no call was counted, and the shelf moves bytes as before
+pub record KeepsNumber (old new : MemoryShelf) : Type 0 where
+  pub calls : calls new ≡ calls old
   pub most : most new ≡ most old

@@ -1,6 +1,8 @@
 -- What a sink in memory shows.
-use Rattle.std.specs.Prelude.{ℕ, List}
+use Rattle.std.specs.Prelude.{◌≡◌, ℕ, List, Contains, Result, IfOk, IsErr, length, min}
+use Rattle.avtp_base.specs.declared.failed.Failed.{Failed}
 use Rattle.avtp_memory.specs.declared.memory_sink.MemorySink.{MemorySink}
+use Rattle.avtp_memory.specs.Calls.{next_number}
 
 -- the bytes that were written
 abbrev pub kept : MemorySink → List ℕ
@@ -21,3 +23,12 @@ most sink = sink.most
 -- the number of faults so far
 abbrev pub fault_count : MemorySink → ℕ
 fault_count sink = sink.faults
+
+-- What a write does beside what it does on each sink: it took as many bytes as the piece has and are allowed, or failed,
+-- and always if its number is among those that fail. The call was counted, and the sink fails and takes bytes as before.
+pub record TakesByNumber (old new : MemorySink) (piece : List ℕ) (result : Result ℕ Failed) : Type 0 where
+  pub told : Contains (failing_calls old) (next_number (calls old)) → IsErr result
+  pub whole : IfOk result (λ n. n ≡ min (length piece) (most old))
+  pub next : calls new ≡ next_number (calls old)
+  pub fails : failing_calls new ≡ failing_calls old
+  pub most : most new ≡ most old

@@ -1,7 +1,8 @@
 -- What a quiet sink shows.
-use Rattle.std.specs.Prelude.{ℕ, Bool, List, Option}
+use Rattle.std.specs.Prelude.{◌≡◌, ◌↔◌, ℕ, Bool, IsTrue, List, Option, Result, Ok, length}
+use Rattle.avtp_base.specs.declared.failed.Failed.{Failed}
 use Rattle.avtp_memory.specs.declared.quiet_sink.QuietSink.{QuietSink}
-use Rattle.avtp_memory.specs.Room.{told_while}
+use Rattle.avtp_memory.specs.Room.{kept_within, told_while, FitsRoom}
 
 -- the bytes that are kept
 abbrev pub kept : QuietSink → List ℕ
@@ -18,3 +19,10 @@ keeps_all sink = sink.all
 -- what it tells: the bytes, while all of them are kept
 abbrev pub told : QuietSink → Option (List ℕ)
 told sink = told_while (keeps_all sink) (kept sink)
+
+-- What a write does beside what it does on each sink: it took the whole piece, and what fits the room is kept of it.
+pub record TakesQuietly (old new : QuietSink) (piece : List ℕ) (result : Result ℕ Failed) : Type 0 where
+  pub whole : result ≡ Ok (length piece)
+  pub kept : kept new ≡ kept_within (room_of old) (kept old) piece
+  pub all : IsTrue (keeps_all new) ↔ IsTrue (keeps_all old) × FitsRoom (room_of old) (kept old) piece
+  pub room : room_of new ≡ room_of old

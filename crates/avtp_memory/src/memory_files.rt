@@ -5,8 +5,9 @@ ghost use Rattle.avtp_memory.specs.state.OpenFile.{AreNamed, HaveRoom};
 
 use crate::named_files::NamedFiles;
 use crate::open_file::{OpenFile, advance, copy_from};
-use avtp_base::slots::Slots;
-use avtp_base::{NoMemory, OpenFault, Slot};
+use avtp_base::{NoMemory, OpenFault};
+use avtp_files::Slot;
+use avtp_files::slots::Slots;
 use std::alloc::Global;
 
 /// Files by name, and by slot those of them that are open. A file that is made has memory for so many bytes from its

@@ -5,7 +5,8 @@ ghost use Rattle.std.specs.Prelude.{◌<◌};
 use crate::asked_names::AskedNames;
 use crate::calls::Calls;
 use crate::memory_files::MemoryFiles;
-use avtp_base::{Failed, NoMemory, OpenFault, Shelf, Slot};
+use avtp_base::{Failed, NoMemory, OpenFault};
+use avtp_files::{Shelf, Slot};
 use std::alloc::Global;
 
 /// Keeps files by name. Its calls, but those of `close_file`, are numbered from 1, and those whose numbers it was
@@ -95,32 +96,26 @@ impl MemoryShelf {
 }
 
 impl Shelf for MemoryShelf {
-    ghost use Rattle.std.specs.Prelude.{◌≡◌, ◌≤◌, ◌<◌, ◌↔◌, ◌++◌, ◌∷◌, ℕ, List, true, [], None, Some, min, take, length, option_map, IsSome, IfSome, IfOk, OnOk, OnErr, IsErr, IsErrOf};
-    ghost use Rattle.std.specs.Io.KnownBytes.{ReadConsumes};
-    ghost use Rattle.avtp_base.specs.Faults.{IsCounted, IsOpenCounted};
-    ghost use Rattle.avtp_base.specs.Files.{file_of, left_in, name_in, IsMissing, KeepsFiles, KeepsOthers, KeepsSlots, KeepsOtherFiles, KeepsOthersFiles, PutsFile, IsOpened, IsMade, AppendsTo};
     ghost use Rattle.avtp_memory.specs.state.MemoryFiles.{told_of_live};
-    ghost use Rattle.avtp_memory.specs.MemoryShelf.{files_of, slots_of, asked_of, calls, most, reading_count, writing_count, IsToFail, CountsCall};
+    ghost use Rattle.avtp_memory.specs.MemoryShelf.{OpensByNumber, ReadsByNumber, WritesByNumber, KeepsNumber};
     ghost use Rattle.avtp_memory.specs.state.MemoryShelf.{state_of};
 
     ghost state = { state_of };
 
+    ghost opens = { λ old new name result. OpensByNumber old new result };
+
+    ghost makes = { λ old new name result. OpensByNumber old new result };
+
+    ghost reads = { λ old new slot room result. ReadsByNumber old new slot room result };
+
+    ghost writes = { λ old new slot piece result. WritesByNumber old new piece result };
+
+    ghost closes = { λ old new slot. KeepsNumber old new };
+
     ghost told = { λ shelf k told live. told_of_live shelf.held k live };
 
     /// Fails exactly where its number is among those that fail.
-    fn open_file(&mut self, name: &str) -> Result<Slot, OpenFault>
-        ensures opened { IfOk result (λ slot. IsOpened (Some (files_of self.old)) (slots_of self.new slot.0) name.now) }
-        ensures fresh { IfOk result (λ slot. slots_of self.old slot.0 ≡ None) }
-        ensures others { IfOk result (λ slot. KeepsOthers (slots_of self.old) (slots_of self.new) slot.0) }
-        ensures refused { OnErr result (KeepsSlots (slots_of self.old) (slots_of self.new)) }
-        ensures missing { IsErrOf result OpenFault.Missing → IsMissing (Some (files_of self.old)) name.now }
-        ensures files { KeepsFiles (Some (files_of self.old)) (Some (files_of self.new)) }
-        ensures reading { IsOpenCounted (reading_count self.old) (reading_count self.new) result }
-        ensures writing { writing_count self.new ≡ writing_count self.old }
-        ensures asked { (names : List (List ℕ)) → asked_of self.old names → asked_of self.new (names ++ name.now ∷ []) }
-        ensures failed { IsErrOf result OpenFault.Failed ↔ IsToFail self.old }
-        ensures call { CountsCall self.old self.new }
-    {
+    fn open_file(&mut self, name: &str) -> Result<Slot, OpenFault> {
         self.asked.note(name);
         if self.calls.next_fails() {
             self.reading_faults = self.reading_faults.saturating_add(1);
@@ -130,20 +125,7 @@ impl Shelf for MemoryShelf {
     }
 
     /// Fails exactly where its number is among those that fail.
-    fn create_file(&mut self, name: &str) -> Result<Slot, OpenFault>
-        ensures made { IfOk result (λ slot. IsMade (Some (files_of self.old)) (slots_of self.new slot.0) name.now) }
-        ensures fresh { IfOk result (λ slot. slots_of self.old slot.0 ≡ None) }
-        ensures others { IfOk result (λ slot. KeepsOthersFiles (slots_of self.old) (slots_of self.new) slot.0 name.now) }
-        ensures emptied { OnOk result (PutsFile (Some (files_of self.old)) (Some (files_of self.new)) name.now []) }
-        ensures refused { OnErr result (KeepsSlots (slots_of self.old) (slots_of self.new)) }
-        ensures files { OnErr result (KeepsFiles (Some (files_of self.old)) (Some (files_of self.new))) }
-        ensures not_missing { IsErrOf result OpenFault.Missing → ⊥ }
-        ensures writing { IsOpenCounted (writing_count self.old) (writing_count self.new) result }
-        ensures reading { reading_count self.new ≡ reading_count self.old }
-        ensures asked { (names : List (List ℕ)) → asked_of self.old names → asked_of self.new (names ++ name.now ∷ []) }
-        ensures failed { IsErrOf result OpenFault.Failed ↔ IsToFail self.old }
-        ensures call { CountsCall self.old self.new }
-    {
+    fn create_file(&mut self, name: &str) -> Result<Slot, OpenFault> {
         self.asked.note(name);
         if self.calls.next_fails() {
             self.writing_faults = self.writing_faults.saturating_add(1);
@@ -156,21 +138,7 @@ impl Shelf for MemoryShelf {
     }
 
     /// Fails exactly where its number is among those that fail. It moves as many bytes as are left and fit.
-    fn read(&mut self, slot: Slot, buf: &mut [u8]) -> Result<usize, Failed>
-        requires live { IsSome (slots_of self.old slot.0) }
-        requires room { 0 < length buf.old }
-        ensures within { IfOk result (λ n. n ≤ length buf.new) }
-        ensures moved { ReadConsumes (left_in (slots_of self.old) slot.0) (left_in (slots_of self.new) slot.0) result buf.new }
-        ensures whole { IfOk result (λ n. IfSome (left_in (slots_of self.old) slot.0) (λ left. n ≡ min (length left) (min (length buf.old) (most self.old)))) }
-        ensures same { option_map file_of (slots_of self.new slot.0) ≡ option_map file_of (slots_of self.old slot.0) }
-        ensures others { KeepsOthers (slots_of self.old) (slots_of self.new) slot.0 }
-        ensures files { KeepsFiles (Some (files_of self.old)) (Some (files_of self.new)) }
-        ensures reading { IsCounted (reading_count self.old) (reading_count self.new) result }
-        ensures writing { writing_count self.new ≡ writing_count self.old }
-        ensures asked { (names : List (List ℕ)) → asked_of self.old names → asked_of self.new names }
-        ensures failed { IsErr result ↔ IsToFail self.old }
-        ensures call { CountsCall self.old self.new }
-    {
+    fn read(&mut self, slot: Slot, buf: &mut [u8]) -> Result<usize, Failed> {
         if self.calls.next_fails() {
             self.reading_faults = self.reading_faults.saturating_add(1);
             return Err(Failed);
@@ -180,23 +148,7 @@ impl Shelf for MemoryShelf {
 
     /// Fails where its number is among those that fail, and where no memory is found to keep the piece. It takes
     /// the whole piece.
-    fn write(&mut self, slot: Slot, piece: &[u8]) -> Result<usize, Failed>
-        requires live { option_map (λ o. o.made) (slots_of self.old slot.0) ≡ Some true }
-        requires some { 0 < length piece.now }
-        ensures some { IfOk result (λ n. 0 < n) }
-        ensures within { IfOk result (λ n. n ≤ length piece.now) }
-        ensures whole { IfOk result (λ n. n ≡ min (length piece.now) (most self.old)) }
-        ensures appended { IfOk result (λ n. AppendsTo (Some (files_of self.old)) (Some (files_of self.new)) (name_in (slots_of self.old) slot.0) (take n piece.now)) }
-        ensures live { option_map (λ o. o.made) (slots_of self.new slot.0) ≡ Some true }
-        ensures slots { KeepsOtherFiles (slots_of self.old) (slots_of self.new) (name_in (slots_of self.old) slot.0) }
-        ensures refused { OnErr result (KeepsSlots (slots_of self.old) (slots_of self.new)) }
-        ensures files { OnErr result (KeepsFiles (Some (files_of self.old)) (Some (files_of self.new))) }
-        ensures writing { IsCounted (writing_count self.old) (writing_count self.new) result }
-        ensures reading { reading_count self.new ≡ reading_count self.old }
-        ensures asked { (names : List (List ℕ)) → asked_of self.old names → asked_of self.new names }
-        ensures failed { IsToFail self.old → IsErr result }
-        ensures call { CountsCall self.old self.new }
-    {
+    fn write(&mut self, slot: Slot, piece: &[u8]) -> Result<usize, Failed> {
         if self.calls.next_fails() {
             self.writing_faults = self.writing_faults.saturating_add(1);
             return Err(Failed);
@@ -212,17 +164,7 @@ impl Shelf for MemoryShelf {
     }
 
     /// Ends the slot. The call has no number.
-    fn close_file(&mut self, slot: Slot)
-        requires { IsSome (slots_of self.old slot.0) }
-        ensures ended { slots_of self.new slot.0 ≡ None }
-        ensures others { KeepsOthers (slots_of self.old) (slots_of self.new) slot.0 }
-        ensures files { KeepsFiles (Some (files_of self.old)) (Some (files_of self.new)) }
-        ensures reading { reading_count self.new ≡ reading_count self.old }
-        ensures writing { writing_count self.new ≡ writing_count self.old }
-        ensures asked { (names : List (List ℕ)) → asked_of self.old names → asked_of self.new names }
-        ensures calls { calls self.new ≡ calls self.old }
-        ensures most { most self.new ≡ most self.old }
-    {
+    fn close_file(&mut self, slot: Slot) {
         self.held.close(slot);
     }
 }

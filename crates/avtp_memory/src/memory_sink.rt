@@ -3,7 +3,8 @@
 ghost use Rattle.std.specs.Prelude.{◌<◌};
 
 use crate::calls::Calls;
-use avtp_base::{Failed, Sink};
+use avtp_base::Failed;
+use avtp_files::Sink;
 use std::alloc::Global;
 
 /// Keeps what is written. Its calls are numbered from 1, and those whose numbers it was given fail.
@@ -68,27 +69,15 @@ impl MemorySink {
 }
 
 impl Sink for MemorySink {
-    ghost use Rattle.std.specs.Prelude.{◌≡◌, ◌≤◌, ◌<◌, Some, min, length, Contains, IfOk, IsErr};
-    ghost use Rattle.avtp_memory.specs.Calls.{next_number};
-    ghost use Rattle.avtp_base.specs.Faults.{IsCounted};
-    ghost use Rattle.avtp_memory.specs.MemorySink.{kept, calls, failing_calls, most, fault_count};
-    ghost use Rattle.avtp_base.specs.Told.{WriteAppends};
+    ghost use Rattle.std.specs.Prelude.{Some};
+    ghost use Rattle.avtp_memory.specs.MemorySink.{kept, fault_count, TakesByNumber};
 
     ghost state = { λ sink. record { held = Some (kept sink); faults = fault_count sink } };
 
+    ghost writes = { λ old new piece result. TakesByNumber old new piece result };
+
     /// Fails where the number of the call is among those that fail, and where no memory is found to keep the piece.
-    fn write(&mut self, piece: &[u8]) -> Result<usize, Failed>
-        requires { 0 < length piece.now }
-        ensures some { IfOk result (λ n. 0 < n) }
-        ensures within { IfOk result (λ n. n ≤ length piece.now) }
-        ensures appends { WriteAppends (Some (kept self.old)) (Some (kept self.new)) result piece.now }
-        ensures counted { IsCounted (fault_count self.old) (fault_count self.new) result }
-        ensures told { Contains (failing_calls self.old) (next_number (calls self.old)) → IsErr result }
-        ensures whole { IfOk result (λ n. n ≡ min (length piece.now) (most self.old)) }
-        ensures next { calls self.new ≡ next_number (calls self.old) }
-        ensures fails { failing_calls self.new ≡ failing_calls self.old }
-        ensures most { most self.new ≡ most self.old }
-    {
+    fn write(&mut self, piece: &[u8]) -> Result<usize, Failed> {
         if self.calls.next_fails() {
             self.faults = self.faults.saturating_add(1);
             return Err(Failed);

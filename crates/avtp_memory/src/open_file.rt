@@ -1,11 +1,12 @@
 //! A file of a shelf in memory that is open.
 
 ghost use Rattle.std.specs.Prelude.{◌≡◌, ◌+◌, ◌-◌, ◌^◌, ◌<◌, ◌++◌, [], length, min, take, drop, option_map, IsSome, IfOk, IfSome, string_bytes};
-ghost use Rattle.avtp_base.specs.Entries.{entry_at, SetsEntry};
+ghost use Rattle.avtp_files.specs.Entries.{entry_at, SetsEntry};
 ghost use Rattle.avtp_memory.specs.state.OpenFile.{moved_on};
 
-use avtp_base::slots::Slots;
-use avtp_base::{NoMemory, Slot};
+use avtp_base::NoMemory;
+use avtp_files::Slot;
+use avtp_files::slots::Slots;
 use std::alloc::Global;
 
 /// A file that is open: how many of its bytes were read, and whether it was made for writing.

@@ -2,7 +2,8 @@
 
 use crate::asked_names::AskedNames;
 use crate::memory_files::MemoryFiles;
-use avtp_base::{Failed, OpenFault, Shelf, Slot};
+use avtp_base::{Failed, OpenFault};
+use avtp_files::{Shelf, Slot};
 use std::alloc::Global;
 
 /// Keeps what fits the room of each file that is written, and takes the rest without keeping it. It tells its files
@@ -44,33 +45,26 @@ impl QuietShelf {
 }
 
 impl Shelf for QuietShelf {
-    ghost use Rattle.std.specs.Prelude.{◌≡◌, ◌≤◌, ◌<◌, ◌↔◌, ◌++◌, ◌∷◌, ℕ, List, IsTrue, true, [], None, Some, Ok, min, take, length, option_map, IsSome, IfSome, IfOk, OnOk, OnErr, IsErrOf};
-    ghost use Rattle.std.specs.Io.KnownBytes.{ReadConsumes};
-    ghost use Rattle.avtp_base.specs.Faults.{IsCounted, IsOpenCounted};
-    ghost use Rattle.avtp_base.specs.Files.{file_of, left_in, name_in, IsMissing, KeepsFiles, KeepsOthers, KeepsSlots, KeepsOtherFiles, KeepsOthersFiles, PutsFile, IsOpened, IsMade, AppendsTo};
     ghost use Rattle.avtp_memory.specs.state.MemoryFiles.{told_of_live};
-    ghost use Rattle.avtp_memory.specs.QuietShelf.{files_of, kept_files, keeps_all, room_of, slots_of, asked_of, KeepsPiece};
+    ghost use Rattle.avtp_memory.specs.QuietShelf.{OpensQuietly, MakesQuietly, ReadsQuietly, WritesQuietly, KeepsKept};
     ghost use Rattle.avtp_memory.specs.state.QuietShelf.{state_of};
 
     ghost state = { state_of };
 
+    ghost opens = { λ old new name result. OpensQuietly old new name result };
+
+    ghost makes = { λ old new name result. MakesQuietly old new name result };
+
+    ghost reads = { λ old new slot room result. ReadsQuietly old new slot room result };
+
+    ghost writes = { λ old new slot piece result. WritesQuietly old new slot piece result };
+
+    ghost closes = { λ old new slot. KeepsKept old new };
+
     ghost told = { λ shelf k told live. told_of_live shelf.held k live };
 
     /// Never fails. A shelf that no longer tells its files cannot say that one is missing, and answers `Memory`.
-    fn open_file(&mut self, name: &str) -> Result<Slot, OpenFault>
-        ensures opened { IfOk result (λ slot. IsOpened (files_of self.old) (slots_of self.new slot.0) name.now) }
-        ensures fresh { IfOk result (λ slot. slots_of self.old slot.0 ≡ None) }
-        ensures others { IfOk result (λ slot. KeepsOthers (slots_of self.old) (slots_of self.new) slot.0) }
-        ensures refused { OnErr result (KeepsSlots (slots_of self.old) (slots_of self.new)) }
-        ensures missing { IsErrOf result OpenFault.Missing → IsMissing (files_of self.old) name.now }
-        ensures files { KeepsFiles (files_of self.old) (files_of self.new) }
-        ensures reading { IsOpenCounted 0 0 result }
-        ensures asked { (names : List (List ℕ)) → asked_of self.old names → asked_of self.new (names ++ name.now ∷ []) }
-        ensures found { IfOk result (λ slot. IsOpened (Some (kept_files self.old)) (slots_of self.new slot.0) name.now) }
-        ensures kept { KeepsFiles (Some (kept_files self.old)) (Some (kept_files self.new)) }
-        ensures all { keeps_all self.new ≡ keeps_all self.old }
-        ensures room { room_of self.new ≡ room_of self.old }
-    {
+    fn open_file(&mut self, name: &str) -> Result<Slot, OpenFault> {
         self.asked.note(name);
         match self.held.open(name) {
             Ok(slot) => Ok(slot),
@@ -80,21 +74,7 @@ impl Shelf for QuietShelf {
     }
 
     /// Never fails. Reserves the room of the file.
-    fn create_file(&mut self, name: &str) -> Result<Slot, OpenFault>
-        ensures made { IfOk result (λ slot. IsMade (files_of self.old) (slots_of self.new slot.0) name.now) }
-        ensures fresh { IfOk result (λ slot. slots_of self.old slot.0 ≡ None) }
-        ensures others { IfOk result (λ slot. KeepsOthersFiles (slots_of self.old) (slots_of self.new) slot.0 name.now) }
-        ensures emptied { OnOk result (PutsFile (files_of self.old) (files_of self.new) name.now []) }
-        ensures refused { OnErr result (KeepsSlots (slots_of self.old) (slots_of self.new)) }
-        ensures files { OnErr result (KeepsFiles (files_of self.old) (files_of self.new)) }
-        ensures not_missing { IsErrOf result OpenFault.Missing → ⊥ }
-        ensures writing { IsOpenCounted 0 0 result }
-        ensures asked { (names : List (List ℕ)) → asked_of self.old names → asked_of self.new (names ++ name.now ∷ []) }
-        ensures kept { OnOk result (PutsFile (Some (kept_files self.old)) (Some (kept_files self.new)) name.now []) }
-        ensures as_before { OnErr result (KeepsFiles (Some (kept_files self.old)) (Some (kept_files self.new))) }
-        ensures all { keeps_all self.new ≡ keeps_all self.old }
-        ensures room { room_of self.new ≡ room_of self.old }
-    {
+    fn create_file(&mut self, name: &str) -> Result<Slot, OpenFault> {
         self.asked.note(name);
         match self.held.create(name) {
             Ok(slot) => Ok(slot),
@@ -103,57 +83,19 @@ impl Shelf for QuietShelf {
     }
 
     /// Never fails. It moves as many bytes as are left and fit.
-    fn read(&mut self, slot: Slot, buf: &mut [u8]) -> Result<usize, Failed>
-        requires live { IsSome (slots_of self.old slot.0) }
-        requires room { 0 < length buf.old }
-        ensures within { IfOk result (λ n. n ≤ length buf.new) }
-        ensures moved { ReadConsumes (left_in (slots_of self.old) slot.0) (left_in (slots_of self.new) slot.0) result buf.new }
-        ensures same { option_map file_of (slots_of self.new slot.0) ≡ option_map file_of (slots_of self.old slot.0) }
-        ensures others { KeepsOthers (slots_of self.old) (slots_of self.new) slot.0 }
-        ensures files { KeepsFiles (files_of self.old) (files_of self.new) }
-        ensures reading { IsCounted 0 0 result }
-        ensures asked { (names : List (List ℕ)) → asked_of self.old names → asked_of self.new names }
-        ensures whole { IfSome (left_in (slots_of self.old) slot.0) (λ left. result ≡ Ok (min (length left) (length buf.old))) }
-        ensures kept { KeepsFiles (Some (kept_files self.old)) (Some (kept_files self.new)) }
-        ensures all { keeps_all self.new ≡ keeps_all self.old }
-        ensures room { room_of self.new ≡ room_of self.old }
-    {
+    fn read(&mut self, slot: Slot, buf: &mut [u8]) -> Result<usize, Failed> {
         Ok(self.held.read(slot, usize::MAX, buf))
     }
 
     /// Never fails. Takes the whole piece, and keeps what fits the room of the file.
-    fn write(&mut self, slot: Slot, piece: &[u8]) -> Result<usize, Failed>
-        requires live { option_map (λ o. o.made) (slots_of self.old slot.0) ≡ Some true }
-        requires some { 0 < length piece.now }
-        ensures some { IfOk result (λ n. 0 < n) }
-        ensures within { IfOk result (λ n. n ≤ length piece.now) }
-        ensures appended { IfOk result (λ n. AppendsTo (files_of self.old) (files_of self.new) (name_in (slots_of self.old) slot.0) (take n piece.now)) }
-        ensures live { option_map (λ o. o.made) (slots_of self.new slot.0) ≡ Some true }
-        ensures slots { KeepsOtherFiles (slots_of self.old) (slots_of self.new) (name_in (slots_of self.old) slot.0) }
-        ensures refused { OnErr result (KeepsSlots (slots_of self.old) (slots_of self.new)) }
-        ensures files { OnErr result (KeepsFiles (files_of self.old) (files_of self.new)) }
-        ensures writing { IsCounted 0 0 result }
-        ensures asked { (names : List (List ℕ)) → asked_of self.old names → asked_of self.new names }
-        ensures whole { result ≡ Ok (length piece.now) }
-        ensures kept { KeepsPiece self.old self.new (name_in (slots_of self.old) slot.0) piece.now }
-        ensures room { room_of self.new ≡ room_of self.old }
-    {
+    fn write(&mut self, slot: Slot, piece: &[u8]) -> Result<usize, Failed> {
         let fits = self.held.keep(slot, piece);
         self.all = self.all && fits;
         Ok(piece.len())
     }
 
     /// Ends the slot.
-    fn close_file(&mut self, slot: Slot)
-        requires { IsSome (slots_of self.old slot.0) }
-        ensures ended { slots_of self.new slot.0 ≡ None }
-        ensures others { KeepsOthers (slots_of self.old) (slots_of self.new) slot.0 }
-        ensures files { KeepsFiles (files_of self.old) (files_of self.new) }
-        ensures asked { (names : List (List ℕ)) → asked_of self.old names → asked_of self.new names }
-        ensures kept { KeepsFiles (Some (kept_files self.old)) (Some (kept_files self.new)) }
-        ensures all { keeps_all self.new ≡ keeps_all self.old }
-        ensures room { room_of self.new ≡ room_of self.old }
-    {
+    fn close_file(&mut self, slot: Slot) {
         self.held.close(slot);
     }
 }

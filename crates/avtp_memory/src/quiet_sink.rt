@@ -3,7 +3,8 @@
 ghost use Rattle.std.specs.Prelude.{◌≤◌, vec_capacity};
 
 use crate::room::keep_within;
-use avtp_base::{Failed, NoMemory, Sink};
+use avtp_base::{Failed, NoMemory};
+use avtp_files::Sink;
 use std::alloc::Global;
 
 /// Keeps what fits its room, and takes the rest without keeping it. It tells what it holds only while all of it fits.
@@ -42,26 +43,14 @@ impl QuietSink {
 }
 
 impl Sink for QuietSink {
-    ghost use Rattle.std.specs.Prelude.{◌≡◌, ◌≤◌, ◌<◌, ◌↔◌, IsTrue, Ok, length, IfOk};
-    ghost use Rattle.avtp_base.specs.Faults.{IsCounted};
-    ghost use Rattle.avtp_memory.specs.QuietSink.{kept, keeps_all, room_of, told};
-    ghost use Rattle.avtp_memory.specs.Room.{kept_within, FitsRoom};
-    ghost use Rattle.avtp_base.specs.Told.{WriteAppends};
+    ghost use Rattle.avtp_memory.specs.QuietSink.{told, TakesQuietly};
 
     ghost state = { λ sink. record { held = told sink; faults = 0 } };
 
+    ghost writes = { λ old new piece result. TakesQuietly old new piece result };
+
     /// Takes the whole piece, and keeps what fits of it.
-    fn write(&mut self, piece: &[u8]) -> Result<usize, Failed>
-        requires { 0 < length piece.now }
-        ensures some { IfOk result (λ n. 0 < n) }
-        ensures within { IfOk result (λ n. n ≤ length piece.now) }
-        ensures appends { WriteAppends (told self.old) (told self.new) result piece.now }
-        ensures counted { IsCounted 0 0 result }
-        ensures whole { result ≡ Ok (length piece.now) }
-        ensures kept { kept self.new ≡ kept_within (room_of self.old) (kept self.old) piece.now }
-        ensures all { IsTrue (keeps_all self.new) ↔ IsTrue (keeps_all self.old) × FitsRoom (room_of self.old) (kept self.old) piece.now }
-        ensures room { room_of self.new ≡ room_of self.old }
-    {
+    fn write(&mut self, piece: &[u8]) -> Result<usize, Failed> {
         let fits = keep_within(&mut self.bytes, self.room, piece);
         self.all = self.all && fits;
         Ok(piece.len())

@@ -5,7 +5,8 @@ ghost use Rattle.capture_io.specs.Source.{slot_of};
 
 use crate::gather::Report;
 use crate::words::is_capture;
-use avtp_base::{FileShelf, NoMemory, OpenFault, Refusal, Shelf};
+use avtp_base::{NoMemory, OpenFault, Refusal};
+use avtp_files::{FileShelf, Shelf};
 use capture_io::{End, Source};
 use std::alloc::Global;
 use std::fs;

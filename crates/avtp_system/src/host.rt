@@ -1,7 +1,8 @@
 //! The system that a program is started on.
 
 use crate::system::System;
-use avtp_base::{FileSink, NoMemory};
+use avtp_base::NoMemory;
+use avtp_files::FileSink;
 use avtp_tool::Status;
 use std::env;
 use std::io::ErrorKind;
@@ -33,7 +34,6 @@ impl System<FileSink<HostRuntime>> for Host {
 
     fn file(&self, name: &str, apart: Vec<String>) -> Result<FileSink<HostRuntime>, NoMemory> {
         let name = String::from_str(self.rt.alloc(), name)?;
-        drop(apart);
-        Ok(FileSink::named(self.rt, name))
+        Ok(FileSink::named(self.rt, name, apart))
     }
 }

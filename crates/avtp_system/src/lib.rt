@@ -13,7 +13,7 @@ pub use host::Host;
 pub use program::run_over;
 pub use system::System;
 
-use avtp_base::{FileShelf, StdSink};
+use avtp_files::{FileShelf, StdSink};
 use avtp_tool::Status;
 use std::process::ExitCode;
 use std::thread::Threads;

@@ -6,7 +6,8 @@ ghost use Rattle.avtp_words.specs.Word.{texts};
 ghost use Rattle.avtp_system.specs.Program.{AreAsked, HasEnded, WritesRaw, WritesUnits};
 
 use crate::system::System;
-use avtp_base::{NoMemory, Shelf, Sink};
+use avtp_base::NoMemory;
+use avtp_files::{Shelf, Sink};
 use avtp_tool::{Status, raw_silence, run};
 use avtp_words::{Command, DeviceFile, Listen, RawFile, parse};
 use device_rack::{AnnexBDevice, OutputFiles, RawDevice};

@@ -11,7 +11,8 @@ use crate::aaf_line::AafLine;
 use crate::line::LONGEST;
 use crate::sample_line::SampleLine;
 use aaf_format::AafView;
-use avtp_base::{Buffer, Failed, NoMemory, Output};
+use avtp_base::{Buffer, Failed, NoMemory};
+use avtp_files::Sink;
 use std::alloc::Global;
 use std::marker::Model;
 
@@ -41,7 +42,7 @@ impl Model for Text {
 
 /// Writes the bytes to the sink until it has taken all or fails, and answers how many it took.
 #[tactic(auto, using(crate::proofs::Moved::taken_none, crate::proofs::Moved::taken_more))]
-fn write_out<S: Output>(out: &mut S, bytes: &[u8]) -> usize
+fn write_out<S: Sink>(out: &mut S, bytes: &[u8]) -> usize
     ensures within { result ≤ length bytes.now }
     ensures taken { Appends (S.state out.old).held (S.state out.new).held (take result bytes.now) }
     ensures never_falls { (S.state out.old).faults ≤ (S.state out.new).faults }
@@ -50,7 +51,7 @@ fn write_out<S: Output>(out: &mut S, bytes: &[u8]) -> usize
 {
     let mut taken = 0;
     while taken < bytes.len() {
-        match out.write_some(&bytes[taken..]) {
+        match out.write(&bytes[taken..]) {
             Ok(count) => taken += count,
             Err(_) => return taken,
         }
@@ -61,7 +62,7 @@ fn write_out<S: Output>(out: &mut S, bytes: &[u8]) -> usize
 /// Writes all that waits to the sink. If the sink fails, what it has not taken still waits.
 #[tactic(auto, using(crate::proofs::Moved::written_moved, crate::proofs::Growth::grows_by))]
 #[inline(never)]
-fn flush<S: Output>(buffer: &mut Buffer, out: &mut S) -> Result<(), Failed>
+fn flush<S: Sink>(buffer: &mut Buffer, out: &mut S) -> Result<(), Failed>
     ensures written { Keeps (written (S.state out.old).held buffer.old) (written (S.state out.new).held buffer.new) }
     ensures none_waits { OnOk result (buffer.new ≡ []) }
     ensures grows { Grows (S.state out.old).held (S.state out.new).held }
@@ -79,11 +80,7 @@ fn flush<S: Output>(buffer: &mut Buffer, out: &mut S) -> Result<(), Failed>
 /// Makes room for a piece of this many bytes.
 #[tactic(auto, using(crate::proofs::Growth::grows_none))]
 #[inline(always)]
-pub(crate) fn make_room<S: Output>(
-    buffer: &mut Buffer,
-    out: &mut S,
-    len: usize,
-) -> Result<(), Failed>
+pub(crate) fn make_room<S: Sink>(buffer: &mut Buffer, out: &mut S, len: usize) -> Result<(), Failed>
     requires { len ≤ ROOM }
     ensures written { Keeps (written (S.state out.old).held buffer.old) (written (S.state out.new).held buffer.new) }
     ensures room { OnOk result (length buffer.new + len ≤ ROOM) }
@@ -110,7 +107,7 @@ impl Text {
     }
 
     /// Writes all that waits to the sink. If the sink fails, what it has not taken still waits.
-    pub fn flush<S: Output>(&mut self, out: &mut S) -> Result<(), Failed>
+    pub fn flush<S: Sink>(&mut self, out: &mut S) -> Result<(), Failed>
         ensures written { Keeps (written (S.state out.old).held self.old) (written (S.state out.new).held self.new) }
         ensures none_waits { OnOk result (self.new ≡ []) }
         ensures grows { Grows (S.state out.old).held (S.state out.new).held }
@@ -121,7 +118,7 @@ impl Text {
 
     /// Makes room for a piece of this many bytes.
     #[inline(always)]
-    pub(crate) fn make_room<S: Output>(&mut self, out: &mut S, len: usize) -> Result<(), Failed>
+    pub(crate) fn make_room<S: Sink>(&mut self, out: &mut S, len: usize) -> Result<(), Failed>
         requires { len ≤ ROOM }
         ensures written { Keeps (written (S.state out.old).held self.old) (written (S.state out.new).held self.new) }
         ensures room { OnOk result (length self.new + len ≤ ROOM) }
@@ -152,7 +149,7 @@ impl Text {
 
     /// Adds a piece of text of at most [`ROOM`] bytes, whole, or nothing if the sink fails.
     #[inline(always)]
-    pub fn print<S: Output>(&mut self, out: &mut S, piece: &[u8]) -> Result<(), Failed>
+    pub fn print<S: Sink>(&mut self, out: &mut S, piece: &[u8]) -> Result<(), Failed>
         requires { length piece.now ≤ ROOM }
         ensures { Prints (S.state out.old) (S.state out.new) self.old self.new result piece.now }
     {

@@ -6,7 +6,8 @@ ghost use Rattle.avtp_text.specs.Written.{Prints};
 
 use crate::buffer::{ROOM, Text};
 use crate::line::{LONGEST, Line};
-use avtp_base::{Failed, Output, Refusal};
+use avtp_base::{Failed, Refusal};
+use avtp_files::Sink;
 use sequence_track::Findings;
 
 /// Room for the line of a finding in a packet, in bytes.
@@ -82,7 +83,7 @@ impl Text {
     }
 
     /// Says what is found in a packet of the stream with this id, on a line for each finding.
-    pub fn findings<S: Output>(
+    pub fn findings<S: Sink>(
         &mut self,
         out: &mut S,
         number: u64,
@@ -98,7 +99,7 @@ impl Text {
 
     /// Says that a frame or its packet is malformed at a field, whose offset is in the frame.
     #[tactic(auto, unfolding(crate::specs::Check::malformed_line))]
-    pub fn finding_malformed<S: Output>(
+    pub fn finding_malformed<S: Sink>(
         &mut self,
         out: &mut S,
         number: u64,
@@ -116,7 +117,7 @@ impl Text {
     /// Says that a capture ended after `frames` records, how many streams of it are tracked, and how many findings it
     /// has.
     #[tactic(auto, unfolding(crate::specs::Check::end_check_line))]
-    pub fn end_check<S: Output>(
+    pub fn end_check<S: Sink>(
         &mut self,
         out: &mut S,
         frames: u64,

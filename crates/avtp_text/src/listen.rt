@@ -12,7 +12,8 @@ ghost use Rattle.avtp_text.specs.Written.{Prints, PrintsPart};
 use crate::buffer::{ROOM, Text, make_room};
 use crate::line::{LONGEST, Line};
 use crate::sample_line::{SHORT, SampleLine, prepend_place};
-use avtp_base::{Buffer, Failed, Output};
+use avtp_base::{Buffer, Failed};
+use avtp_files::Sink;
 use listener::Counts;
 use sample_schedule::{Batch, Instant, Reason, Shown};
 
@@ -57,7 +58,7 @@ fn prepend_reason(line: &mut Line, reason: Reason)
 
 /// Adds the line of a sample to a buffer.
 #[inline(always)]
-fn print_sample<S: Output>(
+fn print_sample<S: Sink>(
     buffer: &mut Buffer,
     line: &mut SampleLine,
     out: &mut S,
@@ -77,7 +78,7 @@ fn print_sample<S: Output>(
 
 /// Adds a sample of a batch to a buffer, by the line of the batch's packet.
 #[inline(always)]
-fn short_sample<S: Output>(
+fn short_sample<S: Sink>(
     buffer: &mut Buffer,
     line: &mut SampleLine,
     out: &mut S,
@@ -98,7 +99,7 @@ fn short_sample<S: Output>(
 }
 
 /// Adds the samples of a batch to a buffer, each of which has so few bytes that its line fits a [`Line`].
-fn short_samples<S: Output>(
+fn short_samples<S: Sink>(
     buffer: &mut Buffer,
     line: &mut SampleLine,
     out: &mut S,
@@ -130,7 +131,7 @@ fn short_samples<S: Output>(
 impl Text {
     /// Adds a text of any length. If the sink fails, a front of it was added.
     #[tactic(auto, using(crate::proofs::Printing::part_of))]
-    fn print_all<S: Output>(&mut self, out: &mut S, text: &[u8]) -> Result<(), Failed>
+    fn print_all<S: Sink>(&mut self, out: &mut S, text: &[u8]) -> Result<(), Failed>
         ensures { PrintsPart (S.state out.old) (S.state out.new) self.old self.new result text.now }
     {
         if text.len() <= ROOM {
@@ -142,7 +143,7 @@ impl Text {
     }
 
     /// Adds the hexadecimal digits of bytes, in lower case.
-    fn print_hex<S: Output>(&mut self, out: &mut S, bytes: &[u8]) -> Result<(), Failed>
+    fn print_hex<S: Sink>(&mut self, out: &mut S, bytes: &[u8]) -> Result<(), Failed>
         ensures { PrintsPart (S.state out.old) (S.state out.new) self.old self.new result (encode_lower bytes.now) }
     {
         if bytes.len() <= PIECE {
@@ -153,7 +154,7 @@ impl Text {
         self.print_hex(out, rest)
     }
 
-    fn print_hex_piece<S: Output>(&mut self, out: &mut S, bytes: &[u8]) -> Result<(), Failed>
+    fn print_hex_piece<S: Sink>(&mut self, out: &mut S, bytes: &[u8]) -> Result<(), Failed>
         requires { length bytes.now ≤ PIECE }
         ensures { Prints (S.state out.old) (S.state out.new) self.old self.new result (encode_lower bytes.now) }
     {
@@ -167,7 +168,7 @@ impl Text {
 
     /// Says which capture was opened.
     #[tactic(auto, unfolding(crate::specs::Listen::capture_line))]
-    pub fn capture<S: Output>(&mut self, out: &mut S, name: &str) -> Result<(), Failed>
+    pub fn capture<S: Sink>(&mut self, out: &mut S, name: &str) -> Result<(), Failed>
         ensures { PrintsPart (S.state out.old) (S.state out.new) self.old self.new result (capture_line name.now) }
     {
         self.print(out, b"capture ")?;
@@ -177,7 +178,7 @@ impl Text {
 
     /// Says that an item is not presented, and why.
     #[tactic(auto, unfolding(crate::specs::Listen::flag_line))]
-    pub fn flag<S: Output>(
+    pub fn flag<S: Sink>(
         &mut self,
         out: &mut S,
         frame: u64,
@@ -195,7 +196,7 @@ impl Text {
     }
 
     /// Prints sample `j` of a batch, whose bytes these are.
-    fn sample<S: Output>(
+    fn sample<S: Sink>(
         &mut self,
         out: &mut S,
         batch: &Batch,
@@ -210,7 +211,7 @@ impl Text {
     }
 
     /// Prints a sample of any length.
-    fn long_sample<S: Output>(
+    fn long_sample<S: Sink>(
         &mut self,
         out: &mut S,
         instant: i64,
@@ -230,7 +231,7 @@ impl Text {
     }
 
     /// Prints the samples of a batch, of any length.
-    fn long_samples<S: Output>(
+    fn long_samples<S: Sink>(
         &mut self,
         out: &mut S,
         batch: &Batch,
@@ -248,7 +249,7 @@ impl Text {
     }
 
     /// Prints the samples of a batch, one on each line.
-    fn batch<S: Output>(&mut self, out: &mut S, batch: &Batch) -> Result<(), Failed>
+    fn batch<S: Sink>(&mut self, out: &mut S, batch: &Batch) -> Result<(), Failed>
         ensures { PrintsPart (S.state out.old) (S.state out.new) self.old self.new result (batch_lines batch.now) }
     {
         let size = batch.bytes.as_slice().len() / batch.count as usize;
@@ -260,7 +261,7 @@ impl Text {
     }
 
     /// Prints what a schedule shows: the samples that are presented, and why an item is not.
-    pub fn shown<S: Output>(&mut self, out: &mut S, shown: &Shown) -> Result<(), Failed>
+    pub fn shown<S: Sink>(&mut self, out: &mut S, shown: &Shown) -> Result<(), Failed>
         ensures { PrintsPart (S.state out.old) (S.state out.new) self.old self.new result (shown_lines shown.now) }
     {
         match shown {
@@ -270,7 +271,7 @@ impl Text {
     }
 
     /// Prints all that a schedule shows, in its order.
-    pub fn shown_list<S: Output>(&mut self, out: &mut S, list: &[Shown]) -> Result<(), Failed>
+    pub fn shown_list<S: Sink>(&mut self, out: &mut S, list: &[Shown]) -> Result<(), Failed>
         ensures { PrintsPart (S.state out.old) (S.state out.new) self.old self.new result (list_lines list.now) }
     {
         for shown in list {
@@ -281,7 +282,7 @@ impl Text {
 
     /// Says that a capture ended, and what it held of the stream.
     #[tactic(auto, unfolding(crate::specs::Listen::end_listen_line))]
-    pub fn end_listen<S: Output>(&mut self, out: &mut S, counts: &Counts) -> Result<(), Failed>
+    pub fn end_listen<S: Sink>(&mut self, out: &mut S, counts: &Counts) -> Result<(), Failed>
         ensures { Prints (S.state out.old) (S.state out.new) self.old self.new result (end_listen_line counts.now) }
     {
         let mut line = Line::new();

@@ -5,16 +5,13 @@ ghost use Rattle.avtp_text.specs.Written.{Prints};
 
 use crate::buffer::Text;
 use crate::line::Line;
-use avtp_base::{Failed, Output, Refusal};
+use avtp_base::{Failed, Refusal};
+use avtp_files::Sink;
 
 impl Text {
     /// Says that a capture was refused at a field, whose offset is in the file.
     #[tactic(auto, unfolding(crate::specs::Notices::capture_refused_line))]
-    pub fn capture_refused<S: Output>(
-        &mut self,
-        out: &mut S,
-        refusal: Refusal,
-    ) -> Result<(), Failed>
+    pub fn capture_refused<S: Sink>(&mut self, out: &mut S, refusal: Refusal) -> Result<(), Failed>
         ensures { Prints (S.state out.old) (S.state out.new) self.old self.new result (capture_refused_line refusal) }
     {
         let mut line = Line::new();
@@ -25,7 +22,7 @@ impl Text {
 
     /// Says that a file could not be read further.
     #[tactic(auto, unfolding(crate::specs::Notices::read_fault_line))]
-    pub fn read_fault<S: Output>(&mut self, out: &mut S) -> Result<(), Failed>
+    pub fn read_fault<S: Sink>(&mut self, out: &mut S) -> Result<(), Failed>
         ensures { Prints (S.state out.old) (S.state out.new) self.old self.new result read_fault_line }
     {
         self.print(out, b"read fault\n")
@@ -33,7 +30,7 @@ impl Text {
 
     /// Says that a device failed to take what it was handed.
     #[tactic(auto, unfolding(crate::specs::Notices::device_fault_line))]
-    pub fn device_fault<S: Output>(&mut self, out: &mut S) -> Result<(), Failed>
+    pub fn device_fault<S: Sink>(&mut self, out: &mut S) -> Result<(), Failed>
         ensures { Prints (S.state out.old) (S.state out.new) self.old self.new result device_fault_line }
     {
         self.print(out, b"device fault\n")
@@ -41,7 +38,7 @@ impl Text {
 
     /// Says that a file has more than `bytes` bytes.
     #[tactic(auto, unfolding(crate::specs::Notices::limit_line))]
-    pub fn limit<S: Output>(&mut self, out: &mut S, bytes: u64) -> Result<(), Failed>
+    pub fn limit<S: Sink>(&mut self, out: &mut S, bytes: u64) -> Result<(), Failed>
         ensures { Prints (S.state out.old) (S.state out.new) self.old self.new result (limit_line bytes) }
     {
         let mut line = Line::new();
@@ -51,7 +48,7 @@ impl Text {
 
     /// Says which word of the command line, counted from 1, is the first that is wrong.
     #[tactic(auto, unfolding(crate::specs::Notices::words_line))]
-    pub fn words<S: Output>(&mut self, out: &mut S, place: u64) -> Result<(), Failed>
+    pub fn words<S: Sink>(&mut self, out: &mut S, place: u64) -> Result<(), Failed>
         ensures { Prints (S.state out.old) (S.state out.new) self.old self.new result (words_line place) }
     {
         let mut line = Line::new();

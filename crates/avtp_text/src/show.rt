@@ -13,7 +13,8 @@ ghost use Rattle.avtp_text.specs.Written.{Prints};
 use crate::buffer::Text;
 use crate::line::{LONGEST, Line};
 use aaf_format::{AafFormat, AafView};
-use avtp_base::{Failed, Output, Refusal};
+use avtp_base::{Failed, Refusal};
+use avtp_files::Sink;
 use avtp_header::StreamHeader;
 use crf_format::{CrfView, point};
 use cvf_format::{CvfView, NalPart};
@@ -147,7 +148,7 @@ fn prepend_crf(line: &mut Line, view: &CrfView<'_>)
 impl Text {
     /// Says that a frame or its packet was refused at a field, whose offset is in the frame.
     #[tactic(auto, unfolding(crate::specs::Show::refused_content))]
-    pub fn frame_refused<S: Output>(
+    pub fn frame_refused<S: Sink>(
         &mut self,
         out: &mut S,
         number: u64,
@@ -165,7 +166,7 @@ impl Text {
 
     /// Says which EtherType a frame has that is not AVTP's, and how long its payload is.
     #[tactic(auto, unfolding(crate::specs::Show::ethertype_content))]
-    pub fn frame_ethertype<S: Output>(
+    pub fn frame_ethertype<S: Sink>(
         &mut self,
         out: &mut S,
         number: u64,
@@ -183,7 +184,7 @@ impl Text {
 
     /// Says which AVTP subtype a packet has that is not read.
     #[tactic(auto, unfolding(crate::specs::Show::other_content))]
-    pub fn frame_other<S: Output>(
+    pub fn frame_other<S: Sink>(
         &mut self,
         out: &mut S,
         number: u64,
@@ -199,7 +200,7 @@ impl Text {
     }
 
     /// Says what an AAF packet holds. The rate is in Hz, and 0 if only the user knows it.
-    pub fn frame_aaf<S: Output>(
+    pub fn frame_aaf<S: Sink>(
         &mut self,
         out: &mut S,
         number: u64,
@@ -214,7 +215,7 @@ impl Text {
     }
 
     /// Says what an IEC 61883-6 packet holds.
-    pub fn frame_iec<S: Output>(
+    pub fn frame_iec<S: Sink>(
         &mut self,
         out: &mut S,
         number: u64,
@@ -230,7 +231,7 @@ impl Text {
     }
 
     /// Says what an H.264 packet holds.
-    pub fn frame_h264<S: Output>(
+    pub fn frame_h264<S: Sink>(
         &mut self,
         out: &mut S,
         number: u64,
@@ -246,7 +247,7 @@ impl Text {
     }
 
     /// Says what a CRF packet holds, which has at least one timestamp.
-    pub fn frame_crf<S: Output>(
+    pub fn frame_crf<S: Sink>(
         &mut self,
         out: &mut S,
         number: u64,
@@ -264,7 +265,7 @@ impl Text {
 
     /// Says that a capture ended after `frames` records.
     #[tactic(auto, unfolding(crate::specs::Show::end_frames_line))]
-    pub fn end_frames<S: Output>(&mut self, out: &mut S, frames: u64) -> Result<(), Failed>
+    pub fn end_frames<S: Sink>(&mut self, out: &mut S, frames: u64) -> Result<(), Failed>
         ensures { Prints (S.state out.old) (S.state out.new) self.old self.new result (end_frames_line frames) }
     {
         let mut line = Line::new();

@@ -5,7 +5,8 @@ ghost use Rattle.avtp_text.specs.Written.{Prints};
 
 use crate::buffer::Text;
 use crate::line::Line;
-use avtp_base::{Failed, Sink};
+use avtp_base::Failed;
+use avtp_files::Sink;
 use soak_run::SoakCounts;
 
 impl Text {

@@ -6,7 +6,8 @@ ghost use Rattle.avtp_text.specs.Written.{Prints};
 
 use crate::buffer::Text;
 use crate::line::{LONGEST, Line};
-use avtp_base::{Failed, Output};
+use avtp_base::Failed;
+use avtp_files::Sink;
 use talker::TalkFault;
 
 /// Puts a fault before the line.
@@ -28,7 +29,7 @@ fn prepend_fault(line: &mut Line, fault: TalkFault)
 impl Text {
     /// Says how many packets of a stream and of its media clock a capture was made of.
     #[tactic(auto, unfolding(crate::specs::Talk::talk_line))]
-    pub fn talk<S: Output>(&mut self, out: &mut S, packets: u64, clocks: u64) -> Result<(), Failed>
+    pub fn talk<S: Sink>(&mut self, out: &mut S, packets: u64, clocks: u64) -> Result<(), Failed>
         ensures { Prints (S.state out.old) (S.state out.new) self.old self.new result (talk_line packets clocks) }
     {
         let mut line = Line::new();
@@ -39,7 +40,7 @@ impl Text {
 
     /// Says why an input makes no stream.
     #[tactic(auto, unfolding(crate::specs::Talk::talk_input_line))]
-    pub fn talk_input<S: Output>(&mut self, out: &mut S, fault: TalkFault) -> Result<(), Failed>
+    pub fn talk_input<S: Sink>(&mut self, out: &mut S, fault: TalkFault) -> Result<(), Failed>
         ensures { Prints (S.state out.old) (S.state out.new) self.old self.new result (talk_input_line fault) }
     {
         let mut line = Line::new();

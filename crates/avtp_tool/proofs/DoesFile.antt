@@ -7,7 +7,8 @@ use Rattle.avtp_base.specs.States.{ShelfState, SinkState}
 use Rattle.pcap_frames.specs.Capture.{Record}
 use Rattle.capture_io.specs.declared.end.End.{End}
 use Rattle.capture_io.specs.Ends.{CountsFault}
-use Rattle.capture_io.specs.Reads.{ClosesSlot, OnlyReads, ReadsSlot, TriesOpen}
+use Rattle.avtp_files.specs.ShelfCalls.{ClosesSlot}
+use Rattle.capture_io.specs.Reads.{OnlyReads, ReadsSlot, TriesOpen}
 use Rattle.capture_io.specs.Source.{EndsAfter, HasGivenOf, OpensSource, Sourcing, slot_of}
 use Rattle.avtp_text.specs.Notices.{read_fault_line}
 use Rattle.avtp_text.specs.Written.{written}

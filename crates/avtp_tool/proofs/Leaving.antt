@@ -11,7 +11,8 @@ use Rattle.avtp_base.specs.States.{ShelfState}
 use Rattle.capture_io.specs.declared.end.End.{End}
 use Rattle.capture_io.specs.declared.end.End.TheVariants as end
 use Rattle.capture_io.specs.Ends.{CountsFault}
-use Rattle.capture_io.specs.Reads.{ClosesSlot, OnlyReads, OpensSlot, ReadsSlot}
+use Rattle.avtp_files.specs.ShelfCalls.{ClosesSlot}
+use Rattle.capture_io.specs.Reads.{OnlyReads, OpensSlot, ReadsSlot}
 use Rattle.pcap_frames.specs.Capture.{Record}
 use Rattle.avtp_base.specs.Faults.{Rose}
 use Rattle.capture_io.specs.Source.{EndsAfter, GivesNext, HasGivenOf, Sourcing, slot_of, to_do}

@@ -15,7 +15,8 @@ use crate::show::show;
 use crate::soak::soak;
 use crate::status::Status;
 use crate::talk::talk;
-use avtp_base::{Failed, OpenFault, Shelf, Sink};
+use avtp_base::{Failed, OpenFault};
+use avtp_files::{Shelf, Sink};
 use avtp_text::Text;
 use avtp_words::{Command, parse};
 use device_rack::Devices;
@@ -25,7 +26,7 @@ use std::thread::Threads;
 
 /// Does what the words ask for: reads and writes the files that they name, writes the text, hands what `listen` presents to the
 /// devices of the rack, and answers how that ended.
-pub fn run<T: Threads + Sync, F: Shelf, S: Sink, G: Gate, D: Devices + Send>(
+pub fn run<T: Threads + Sync, F: Shelf + Send, S: Sink + Send, G: Gate, D: Devices + Send>(
     rt: &T,
     alloc: Global,
     words: &[String],
@@ -49,7 +50,7 @@ pub fn run<T: Threads + Sync, F: Shelf, S: Sink, G: Gate, D: Devices + Send>(
 }
 
 /// Does what the words ask for, or says which of them is wrong.
-fn execute<T: Threads + Sync, F: Shelf, S: Sink, G: Gate, D: Devices + Send>(
+fn execute<T: Threads + Sync, F: Shelf + Send, S: Sink + Send, G: Gate, D: Devices + Send>(
     rt: &T,
     alloc: Global,
     words: &[String],

@@ -13,7 +13,8 @@ ghost use Rattle.avtp_tool.specs.state.Run.{IsListening, Runs};
 use crate::check::check;
 use crate::listen::listen;
 use crate::status::Status;
-use avtp_base::{Failed, Shelf, Sink};
+use avtp_base::Failed;
+use avtp_files::{Shelf, Sink};
 use avtp_text::Text;
 use avtp_words::Listen;
 use device_rack::Devices;
@@ -32,7 +33,7 @@ pub enum Reading<'a> {
 
 /// Reads the files in order, each to its end, and does with each what is asked for. The first that ends otherwise ends the
 /// run.
-pub fn read_files<T: Threads + Sync, F: Shelf, S: Sink, G: Gate, D: Devices + Send>(
+pub fn read_files<T: Threads + Sync, F: Shelf + Send, S: Sink + Send, G: Gate, D: Devices + Send>(
     rt: &T,
     alloc: Global,
     reading: &Reading<'_>,
@@ -59,7 +60,7 @@ pub fn read_files<T: Threads + Sync, F: Shelf, S: Sink, G: Gate, D: Devices + Se
 }
 
 /// Listens to the files in order, and says at the end of a run that was done if a device failed in it.
-pub fn hear_files<T: Threads + Sync, F: Shelf, S: Sink, G: Gate, D: Devices + Send>(
+pub fn hear_files<T: Threads + Sync, F: Shelf + Send, S: Sink + Send, G: Gate, D: Devices + Send>(
     rt: &T,
     alloc: Global,
     asked: &Listen<'_>,
@@ -105,7 +106,7 @@ fn print_device_fault<S: Sink>(text: &mut Text, out: &mut S) -> Result<Status, F
 }
 
 /// Reads a file, and does with it what is asked for.
-fn read_file<T: Threads + Sync, F: Shelf, S: Sink, G: Gate, D: Devices + Send>(
+fn read_file<T: Threads + Sync, F: Shelf + Send, S: Sink + Send, G: Gate, D: Devices + Send>(
     rt: &T,
     alloc: Global,
     reading: &Reading<'_>,

@@ -5,7 +5,8 @@ ghost use Rattle.listener.specs.Listening.{IsIdle, is_closed};
 ghost use Rattle.avtp_tool.specs.state.Hearing.{ClosesAt, GivesPull, GoesOn, IsGoing, IsAtReading, IsSoundAt, heard_at, pull_at, pull_with, reads_left};
 
 use avtp_base::NoMemory;
-use capture_io::{End, ReadSlots, Source};
+use avtp_files::Shelf;
+use capture_io::{End, Source};
 use listener::{Counts, RecordListener};
 use presenter_ring::Pull;
 use std::alloc::Global;
@@ -67,7 +68,7 @@ pub struct Hearing {
 
 impl Hearing {
     /// The next item that is shown, or if there is none how the hearing ended.
-    pub fn next<F: ReadSlots>(&mut self, shelf: &mut F) -> Pull
+    pub fn next<F: Shelf>(&mut self, shelf: &mut F) -> Pull
         requires { IsGoing (F.state shelf.old).slots self.old.source self.old.stage }
         ensures { GivesPull (F.state shelf.old) (F.state shelf.new) self.old.source self.new.source self.old.listener self.new.listener self.old.stage self.new.stage result }
     {
@@ -90,7 +91,7 @@ impl Hearing {
     }
 
     /// Reads the next record and has the listener take it, or ends the reading. Nothing is due of the records before.
-    fn read_record<F: ReadSlots>(&mut self, shelf: &mut F) -> Result<(), NoMemory>
+    fn read_record<F: Shelf>(&mut self, shelf: &mut F) -> Result<(), NoMemory>
         requires reading { IsAtReading (F.state shelf.old).slots self.old.source self.old.stage }
         requires idle { IsIdle self.old.listener }
         ensures on { GoesOn (F.state shelf.old) (F.state shelf.new) self.old.source self.new.source self.old.listener self.new.listener self.old.stage self.new.stage [] }

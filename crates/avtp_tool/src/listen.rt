@@ -19,7 +19,8 @@ use crate::presenting::Presenting;
 use crate::receiving::Receiving;
 use crate::rounds::present_all;
 use crate::status::Status;
-use avtp_base::{Failed, Shelf, Sink};
+use avtp_base::Failed;
+use avtp_files::{Shelf, Sink};
 use avtp_text::Text;
 use avtp_words::Listen;
 use capture_io::{End, Source};
@@ -47,7 +48,7 @@ fn plan(asked: &Listen<'_>) -> ListenPlan
 /// Prints of a capture what of the stream is presented, at which instants, and why the rest is not, each as soon as it
 /// is due. One thread reads and judges; another writes, and hands each item on once its text is written. Memory is
 /// taken for each packet, so if none is found, what was due before is printed.
-pub fn listen<T: Threads + Sync, F: Shelf, S: Sink, G: Gate, D: Devices + Send>(
+pub fn listen<T: Threads + Sync, F: Shelf + Send, S: Sink + Send, G: Gate, D: Devices + Send>(
     rt: &T,
     alloc: Global,
     asked: &Listen<'_>,
@@ -98,7 +99,7 @@ pub fn listen<T: Threads + Sync, F: Shelf, S: Sink, G: Gate, D: Devices + Send>(
 
 /// Prints a capture's name and what is shown of its records, as far as it can be read, each item once it is due. At most `ring`
 /// items wait between the two threads.
-fn hear_records<T: Threads + Sync, F: Shelf, S: Sink, G: Gate, D: Devices + Send>(
+fn hear_records<T: Threads + Sync, F: Shelf + Send, S: Sink + Send, G: Gate, D: Devices + Send>(
     rt: &T,
     alloc: Global,
     ring: u32,
@@ -124,7 +125,7 @@ fn hear_records<T: Threads + Sync, F: Shelf, S: Sink, G: Gate, D: Devices + Send
 }
 
 /// Prints what is shown of a capture's records, as far as it can be read.
-fn hear_items<T: Threads + Sync, F: Shelf, S: Sink, G: Gate, D: Devices + Send>(
+fn hear_items<T: Threads + Sync, F: Shelf + Send, S: Sink + Send, G: Gate, D: Devices + Send>(
     rt: &T,
     pipe: &mut Pipe,
     hearing: &mut Hearing,
@@ -150,7 +151,7 @@ fn hear_items<T: Threads + Sync, F: Shelf, S: Sink, G: Gate, D: Devices + Send>(
 }
 
 /// Has the one side receive and the other present until all is done.
-fn hear_through<T: Threads + Sync, F: Shelf, S: Sink, G: Gate, D: Devices + Send>(
+fn hear_through<T: Threads + Sync, F: Shelf + Send, S: Sink + Send, G: Gate, D: Devices + Send>(
     rt: &T,
     pipe: &mut Pipe,
     receiver: &mut Receiving<'_, F>,

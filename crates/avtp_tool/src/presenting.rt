@@ -5,7 +5,8 @@ ghost use Rattle.avtp_text.specs.Listen.{shown_lines};
 ghost use Rattle.avtp_text.specs.Written.{PrintsPart};
 ghost use Rattle.avtp_tool.specs.Yield.{HandsOn};
 
-use avtp_base::{Failed, Output, Sink};
+use avtp_base::Failed;
+use avtp_files::Sink;
 use avtp_text::Text;
 use device_rack::Devices;
 use presenter_ring::Presenter;
@@ -15,7 +16,7 @@ use sample_schedule::Shown;
 /// written. Once the sink has failed, further items are neither written nor handed on, so no text ever comes after a
 /// gap.
 #[derive(Drop)]
-pub struct Presenting<'a, S: Sink, D: Devices + Send> {
+pub struct Presenting<'a, S: Sink + Send, D: Devices + Send> {
     pub text: &'a mut Text,
     pub out: &'a mut S,
     pub rack: &'a mut D,
@@ -25,7 +26,7 @@ pub struct Presenting<'a, S: Sink, D: Devices + Send> {
     pub result: Result<(), Failed>,
 }
 
-impl<'a, S: Sink, D: Devices + Send> Presenter for Presenting<'a, S, D> {
+impl<'a, S: Sink + Send, D: Devices + Send> Presenter for Presenting<'a, S, D> {
     ghost use Rattle.std.specs.Prelude.{◌≡◌, Ok};
     ghost use Rattle.avtp_tool.specs.state.Presenting.{failures, GivesItems};
     ghost use Rattle.avtp_tool.specs.Yield.{HandsOn};
@@ -50,7 +51,7 @@ impl<'a, S: Sink, D: Devices + Send> Presenter for Presenting<'a, S, D> {
 
 /// Prints an item of this number. What waits is written out with the first item, the second, the fourth and so on, so that
 /// the first ones are seen soon, and many take few calls of the sink.
-fn print_item<S: Output>(
+fn print_item<S: Sink>(
     text: &mut Text,
     out: &mut S,
     shown: &Shown,

@@ -1,17 +1,17 @@
 //! The receiver's side of `listen`.
 
 use crate::hearing::Hearing;
-use avtp_base::Shelf;
+use avtp_files::Shelf;
 use presenter_ring::{Pull, Receiver};
 
 /// A capture that is heard, and the shelf on which it is open.
 #[derive(Drop)]
-pub struct Receiving<'a, F: Shelf> {
+pub struct Receiving<'a, F: Shelf + Send> {
     pub hearing: &'a mut Hearing,
     pub shelf: &'a mut F,
 }
 
-impl<'a, F: Shelf> Receiver for Receiving<'a, F> {
+impl<'a, F: Shelf + Send> Receiver for Receiving<'a, F> {
     ghost use Rattle.std.specs.Prelude.{◌≡◌};
     ghost use Rattle.capture_io.specs.Source.{slot_of};
     ghost use Rattle.avtp_tool.specs.state.Hearing.{Shows, ended_at, left_of};

@@ -5,7 +5,8 @@ ghost use Rattle.avtp_text.specs.Show.{frame_line};
 ghost use Rattle.avtp_text.specs.Written.{Prints};
 ghost use Rattle.avtp_tool.specs.Record.{record_content, packet_content, inside};
 
-use avtp_base::{Failed, Refusal, Sink};
+use avtp_base::{Failed, Refusal};
+use avtp_files::Sink;
 use avtp_header::ETHERTYPE;
 use avtp_packet::{Packet, read_packet};
 use avtp_text::Text;

@@ -7,7 +7,8 @@ ghost use Rattle.avtp_tool.specs.Soak.{soak_report};
 ghost use Rattle.avtp_tool.specs.state.Soak.{Says};
 
 use crate::status::Status;
-use avtp_base::{Failed, NoMemory, Sink};
+use avtp_base::{Failed, NoMemory};
+use avtp_files::Sink;
 use avtp_text::Text;
 use soak_run::SoakCounts;
 use std::alloc::Global;

@@ -4,7 +4,8 @@ use Rattle.std.specs.Prelude.{IsSome}
 use Rattle.avtp_base.specs.Files.{KeepsOthers}
 use Rattle.avtp_base.specs.States.{ShelfState, WasAsked}
 use Rattle.avtp_base.proofs.Files.{KeepsFiles-refl, KeepsFiles-trans, KeepsOthers-closed, KeepsOthers-trans}
-use Rattle.capture_io.specs.Reads.{OnlyReads, ReadsSlot, OpensSlot, ClosesSlot}
+use Rattle.avtp_files.specs.ShelfCalls.{ClosesSlot}
+use Rattle.capture_io.specs.Reads.{OnlyReads, ReadsSlot, OpensSlot}
 
 -- nothing was called
 pub only_reads_nothing : (s : ShelfState) → OnlyReads s s []

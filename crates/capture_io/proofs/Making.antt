@@ -6,7 +6,8 @@ use Rattle.avtp_base.specs.Faults.{IsCounted}
 use Rattle.avtp_base.specs.Files.{AppendsTo, Files, KeepsFiles, KeepsOtherFiles, PutsFile, name_in}
 use Rattle.avtp_base.specs.States.{ShelfState}
 use Rattle.avtp_base.proofs.Files.{KeepsOtherFiles-trans, PutsFile-appends, PutsFile-kept, named_as}
-use Rattle.capture_io.specs.Writing.{IsMadeIn, IsWriting, PutsPrefix, WritesSlot, Writing}
+use Rattle.avtp_files.specs.ShelfCalls.{IsMadeIn}
+use Rattle.capture_io.specs.Writing.{IsWriting, PutsPrefix, WritesSlot, Writing}
 
 -- ---- what is left of a slot
 

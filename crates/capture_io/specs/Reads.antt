@@ -1,11 +1,9 @@
 -- What reading leaves of a shelf: its files, its open files and its counts, and which names it asks for.
-use Rattle.std.specs.Prelude.{◌≡◌, ℕ, ◌≤◌, List, [], ◌∷◌, length, None, IfOk, IsErrOf, IsSome, OnErr, Result, option_map}
-use Rattle.std.specs.Io.KnownBytes.{ReadConsumes}
-use Rattle.avtp_base.specs.declared.failed.Failed.{Failed}
+use Rattle.std.specs.Prelude.{◌≡◌, ℕ, ◌≤◌, List, [], ◌∷◌, None, IfOk, IsErrOf, IsSome, OnErr, Result}
 use Rattle.avtp_base.specs.declared.failed.OpenFault.{OpenFault}
 use Rattle.avtp_base.specs.declared.failed.OpenFault.TheVariants as open_fault
-use Rattle.avtp_base.specs.Faults.{IsCounted, IsOpenCounted}
-use Rattle.avtp_base.specs.Files.{IsMissing, KeepsFiles, KeepsOthers, KeepsSlots, file_of, left_in}
+use Rattle.avtp_base.specs.Faults.{IsOpenCounted}
+use Rattle.avtp_base.specs.Files.{IsMissing, KeepsFiles, KeepsOthers, KeepsSlots}
 use Rattle.avtp_base.specs.States.{Asks, AsksNothing, ShelfState}
 
 -- A call that only reads: every file and every slot is as it was, and so is the count of writing faults; the count of
@@ -18,18 +16,6 @@ pub record OnlyReads (before after : ShelfState) (names : List (List ℕ)) : Typ
   pub asked : Asks names before after
 
 -- ---- while the file of one slot is open
-
--- Bytes were moved from the front of what is left in slot k to the front of the buffer, as many as the result says; or
--- none if a fault came, which was counted. The slot keeps its file, and all else is as it was.
-pub record ReadsBytes (before after : ShelfState) (k : ℕ) (result : Result ℕ Failed) (buffer : List ℕ) : Type 0 where
-  pub within : IfOk result (λ n. n ≤ length buffer)
-  pub moved : ReadConsumes (left_in before.slots k) (left_in after.slots k) result buffer
-  pub same : option_map file_of (after.slots k) ≡ option_map file_of (before.slots k)
-  pub others : KeepsOthers before.slots after.slots k
-  pub files : KeepsFiles before.files after.files
-  pub reading : IsCounted before.reading_faults after.reading_faults result
-  pub writing : after.writing_faults ≡ before.writing_faults
-  pub asked : AsksNothing before after
 
 -- The file that is open in slot k was read, and is still open there: `now` is slot k, too. All else is as it was, and
 -- no name was asked for.
@@ -60,12 +46,3 @@ pub record TriesOpen {T : Type 0} (slot : T → ℕ) (before after : ShelfState)
   pub refused : OnErr result (OnlyReads before after (name ∷ []))
   pub missing : IsErrOf result open_fault.Missing → IsMissing before.files name
   pub counted : IsOpenCounted before.reading_faults after.reading_faults result
-
--- Slot k was closed; all else is as it was.
-pub record ClosesSlot (before after : ShelfState) (k : ℕ) : Type 0 where
-  pub files : KeepsFiles before.files after.files
-  pub ended : after.slots k ≡ None
-  pub others : KeepsOthers before.slots after.slots k
-  pub reading : after.reading_faults ≡ before.reading_faults
-  pub writing : after.writing_faults ≡ before.writing_faults
-  pub asked : AsksNothing before after

@@ -4,6 +4,7 @@ use Rattle.avtp_base.specs.declared.failed.Failed.{Failed}
 use Rattle.avtp_base.specs.declared.failed.OpenFault.{OpenFault}
 use Rattle.avtp_base.specs.declared.failed.OpenFault.TheVariants as open_fault
 use Rattle.avtp_base.specs.Faults.{IsCounted, IsOpenCounted}
+use Rattle.avtp_files.specs.ShelfCalls.{IsMadeIn}
 use Rattle.avtp_base.specs.Files.{Files, Slots, file_of, left_in, name_in, KeepsFiles, KeepsOtherFiles, KeepsSlots, PutsFile}
 use Rattle.avtp_base.specs.States.{Asks, AsksNothing, ShelfState}
 
@@ -11,10 +12,6 @@ use Rattle.avtp_base.specs.States.{Asks, AsksNothing, ShelfState}
 pub record Writing : Type 0 where
   pub slot : ℕ
   pub waiting : List ℕ
-
--- slot k is live, and its file was made for writing
-abbrev pub IsMadeIn : Slots → ℕ → Type 0
-IsMadeIn slots k = option_map (λ o. o.made) (slots k) ≡ Some true
 
 -- Since the shelf was in the state `before`, the file of this name was made, and it is open in the writer's slot, which
 -- was free. The bytes are those that the file has and then those that wait. All other files are as they were, if they

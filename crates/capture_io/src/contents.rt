@@ -5,7 +5,8 @@ ghost use Rattle.capture_io.specs.state.Pieces.{IsDrained, JoinsPieces};
 
 use crate::end::Stop;
 use crate::pieces::Pieces;
-use avtp_base::{NoMemory, OpenFault, Shelf};
+use avtp_base::{NoMemory, OpenFault};
+use avtp_files::Shelf;
 use std::alloc::Global;
 
 /// What was read of a file.

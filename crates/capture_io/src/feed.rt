@@ -9,7 +9,7 @@ ghost use Rattle.capture_io.specs.state.Source.{FindsAhead, GivesUp, IsReady, Li
 use crate::capture_reader::CaptureReader;
 use crate::end::End;
 use crate::pieces::Pieces;
-use crate::read_slots::ReadSlots;
+use avtp_files::Shelf;
 use pcap_frames::RecordView;
 use std::marker::Model;
 
@@ -38,7 +38,7 @@ impl Feed {
     /// Drops the record that is held, and reads on to the next. At `None` one is held now; otherwise it answers how the
     /// reading ended. Once it has ended, each further call answers the same and reads nothing.
     #[inline(never)]
-    pub fn next<F: ReadSlots>(&mut self, shelf: &mut F) -> Option<End>
+    pub fn next<F: Shelf>(&mut self, shelf: &mut F) -> Option<End>
         requires { IsSome ((F.state shelf.old).slots (slot_of self.old)) }
         ensures { GivesNext (F.state shelf.old) (F.state shelf.new) self.old self.new result }
     {
@@ -51,7 +51,7 @@ impl Feed {
     }
 
     /// Reads on until a record is held, or the reading ends.
-    fn read_on<F: ReadSlots>(&mut self, shelf: &mut F) -> Option<End>
+    fn read_on<F: Shelf>(&mut self, shelf: &mut F) -> Option<End>
         requires { IsReady (F.state shelf.old).slots self.old }
         ensures { ReadsRecord (F.state shelf.old) (F.state shelf.new) self.old self.new result }
     {
@@ -66,7 +66,7 @@ impl Feed {
     }
 
     /// Feeds the reader what waits, or reads the next piece if nothing waits.
-    fn step<F: ReadSlots>(&mut self, shelf: &mut F) -> Option<End>
+    fn step<F: Shelf>(&mut self, shelf: &mut F) -> Option<End>
         requires { IsReady (F.state shelf.old).slots self.old }
         ensures { ReadsOn (F.state shelf.old) (F.state shelf.new) self.old self.new result }
     {
@@ -77,7 +77,7 @@ impl Feed {
     }
 
     /// Reads the next piece, when nothing waits.
-    fn read_piece<F: ReadSlots>(&mut self, shelf: &mut F) -> Option<End>
+    fn read_piece<F: Shelf>(&mut self, shelf: &mut F) -> Option<End>
         requires ready { IsReady (F.state shelf.old).slots self.old }
         requires none_waits { self.old.pieces.waiting ≡ [] }
         ensures { ReadsOn (F.state shelf.old) (F.state shelf.new) self.old self.new result }

@@ -1,10 +1,12 @@
 //! A file that is written through a buffer.
 
 ghost use Rattle.std.specs.Prelude.{◌≡◌, ◌≤◌, [], Ok, length};
-ghost use Rattle.capture_io.specs.Writing.{AddsBytes, ClosesFile, CreatesFile, FinishesFile, IsMadeIn};
+ghost use Rattle.avtp_files.specs.ShelfCalls.{IsMadeIn};
+ghost use Rattle.capture_io.specs.Writing.{AddsBytes, ClosesFile, CreatesFile, FinishesFile};
 ghost use Rattle.capture_io.specs.state.Writing.{WritesOut};
 
-use avtp_base::{Buffer, Failed, OpenFault, Shelf, Slot, Spelled};
+use avtp_base::{Buffer, Failed, OpenFault, Spelled};
+use avtp_files::{Shelf, Slot};
 use std::marker::Model;
 
 /// A file of a shelf that is made and written through a buffer.
@@ -18,6 +20,7 @@ pub struct FileWriter {
 }
 
 impl Model for FileWriter {
+    ghost use Rattle.avtp_files.specs.ShelfCalls.{IsMadeIn};
     ghost use Rattle.capture_io.specs.Writing.{Writing};
 
     ghost Value = { Writing };

@@ -8,12 +8,10 @@ mod feed;
 mod file_writer;
 mod law;
 mod pieces;
-mod read_slots;
 mod source;
 
 pub use contents::{Contents, read_contents};
 pub use end::{End, Stop};
 pub use file_writer::FileWriter;
 pub use law::classic_again;
-pub use read_slots::ReadSlots;
 pub use source::Source;

@@ -1,12 +1,12 @@
 //! A file that is read in pieces, up to a limit.
 
 ghost use Rattle.std.specs.Prelude.{◌≡◌, ◌≤◌, [], length, drop, IsSome};
+ghost use Rattle.avtp_files.specs.ShelfCalls.{ClosesSlot};
 ghost use Rattle.capture_io.specs.state.Pieces.{IsDrained, OpensPieces, ReadsPiece};
-ghost use Rattle.capture_io.specs.Reads.{ClosesSlot};
 
 use crate::end::Stop;
-use crate::read_slots::ReadSlots;
-use avtp_base::{Failed, OpenFault, Shelf, Slot};
+use avtp_base::{Failed, OpenFault};
+use avtp_files::{Shelf, Slot};
 use std::alloc::Global;
 use std::marker::Model;
 
@@ -67,14 +67,14 @@ impl Pieces {
 
     /// Reads the next piece, when no bytes wait: then bytes wait, or it answers where the reading stopped. Bytes of a
     /// piece beyond the limit are dropped, and that there are more is answered once the others were taken.
-    pub fn read<F: ReadSlots>(&mut self, shelf: &mut F) -> Option<Stop>
+    pub fn read<F: Shelf>(&mut self, shelf: &mut F) -> Option<Stop>
         requires { IsDrained (F.state shelf.old).slots self.old }
         ensures { ReadsPiece (F.state shelf.old) (F.state shelf.new) self.old self.new result }
     {
         if self.over {
             return Some(Stop::Limit);
         }
-        match shelf.read_slot(self.slot, &mut self.piece) {
+        match shelf.read(self.slot, &mut self.piece) {
             Ok(0) => Some(Stop::End),
             Ok(count) => {
                 let within = self.left.min(count as u64) as usize;

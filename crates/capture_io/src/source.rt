@@ -2,7 +2,7 @@
 
 ghost use Rattle.std.specs.Prelude.{◌≤◌, ◌^◌, IsSome};
 ghost use Rattle.capture_io.specs.Reader.{IsView};
-ghost use Rattle.capture_io.specs.Reads.{ClosesSlot};
+ghost use Rattle.avtp_files.specs.ShelfCalls.{ClosesSlot};
 ghost use Rattle.capture_io.specs.Source.{GivesNext, OpensSource, held_in, slot_of};
 ghost use Rattle.capture_io.specs.state.Source.{GivesUp, IsLending, lending};
 
@@ -10,8 +10,8 @@ use crate::capture_reader::CaptureReader;
 use crate::end::End;
 use crate::feed::Feed;
 use crate::pieces::Pieces;
-use crate::read_slots::ReadSlots;
-use avtp_base::{OpenFault, Shelf};
+use avtp_base::OpenFault;
+use avtp_files::Shelf;
 use pcap_frames::RecordView;
 use std::alloc::Global;
 use std::marker::Model;
@@ -70,7 +70,7 @@ impl Source {
     /// Drops the record that is held, and reads on to the next. At `None` one is held now; otherwise it answers how the
     /// reading ended. Once it has ended, each further call answers the same and reads nothing.
     #[inline(always)]
-    pub fn next<F: ReadSlots>(&mut self, shelf: &mut F) -> Option<End>
+    pub fn next<F: Shelf>(&mut self, shelf: &mut F) -> Option<End>
         requires { IsSome ((F.state shelf.old).slots (slot_of self.old)) }
         ensures { GivesNext (F.state shelf.old) (F.state shelf.new) self.old self.new result }
     {

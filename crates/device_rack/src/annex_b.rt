@@ -2,7 +2,8 @@
 
 use crate::device::Device;
 use crate::writing::write_unit;
-use avtp_base::{Failed, Sink};
+use avtp_base::Failed;
+use avtp_files::Sink;
 use sample_schedule::Shown;
 
 /// Writes the units that it takes to a sink, in the order in which they come, each after a start code (ITU-T H.264,

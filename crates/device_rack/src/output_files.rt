@@ -9,7 +9,7 @@ use crate::device::Device;
 use crate::devices::Devices;
 use crate::outlet::Outlet;
 use crate::raw::RawDevice;
-use avtp_base::Sink;
+use avtp_files::Sink;
 use sample_schedule::Shown;
 
 /// At most one device of each kind that writes a file.

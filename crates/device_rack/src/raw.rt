@@ -4,7 +4,8 @@ use crate::device::Device;
 use crate::previous::Previous;
 use crate::silence::Silence;
 use crate::writing::write_samples;
-use avtp_base::{Failed, Sink};
+use avtp_base::Failed;
+use avtp_files::Sink;
 use sample_schedule::Shown;
 
 /// Writes the samples that it takes to a sink, in the order in which they come, with silence for missing ones.

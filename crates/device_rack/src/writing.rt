@@ -5,24 +5,25 @@ ghost use Rattle.device_rack.specs.Output.{silence_of};
 ghost use Rattle.device_rack.specs.state.Written.{HasWritten};
 
 use crate::silence::Silence;
-use avtp_base::{Failed, Output};
+use avtp_base::Failed;
+use avtp_files::Sink;
 
 /// What comes before each unit of a byte stream.
 const START_CODE: [u8; 4] = [0, 0, 0, 1];
 
 /// Writes all the bytes. If the sink fails, it has taken a prefix of them.
-fn write_all<S: Output>(sink: &mut S, bytes: &[u8]) -> Result<(), Failed>
+fn write_all<S: Sink>(sink: &mut S, bytes: &[u8]) -> Result<(), Failed>
     ensures { HasWritten (S.state sink.old) (S.state sink.new) result bytes.now }
 {
     let mut written = 0;
     while written < bytes.len() {
-        written += sink.write_some(&bytes[written..])?;
+        written += sink.write(&bytes[written..])?;
     }
     Ok(())
 }
 
 /// Writes `count` bytes of silence, as `write_all` does.
-fn write_silence<S: Output>(sink: &mut S, silence: Silence, count: usize) -> Result<(), Failed>
+fn write_silence<S: Sink>(sink: &mut S, silence: Silence, count: usize) -> Result<(), Failed>
     ensures { HasWritten (S.state sink.old) (S.state sink.new) result (silence_of silence count) }
 {
     if count == 0 {
@@ -36,7 +37,7 @@ fn write_silence<S: Output>(sink: &mut S, silence: Silence, count: usize) -> Res
 }
 
 /// Writes samples after a number of bytes of silence, as `write_all` does.
-pub fn write_samples<S: Output>(
+pub fn write_samples<S: Sink>(
     sink: &mut S,
     silence: Silence,
     silent: usize,
@@ -49,7 +50,7 @@ pub fn write_samples<S: Output>(
 }
 
 /// Writes a unit after a start code, as `write_all` does.
-pub fn write_unit<S: Output>(sink: &mut S, bytes: &[u8]) -> Result<(), Failed>
+pub fn write_unit<S: Sink>(sink: &mut S, bytes: &[u8]) -> Result<(), Failed>
     ensures { HasWritten (S.state sink.old) (S.state sink.new) result (0 ∷ 0 ∷ 0 ∷ 1 ∷ bytes.now) }
 {
     write_all(sink, &START_CODE)?;

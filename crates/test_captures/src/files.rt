@@ -3,7 +3,8 @@
 ghost use Rattle.std.specs.Prelude.{◌≤◌, length};
 
 use crate::reading::{Way, shelf_over};
-use avtp_base::{Buffer, Failed, FileShelf, FileSink, OpenFault, Shelf, Sink, Spelled, StdSink};
+use avtp_base::{Buffer, Failed, OpenFault, Spelled};
+use avtp_files::{FileShelf, FileSink, Shelf, Sink, StdSink};
 use avtp_memory::{MemorySink, QuietShelf, QuietSink};
 use capture_io::{FileWriter, Stop, read_contents};
 use std::alloc::Global;

@@ -1,7 +1,8 @@
 //! The program over a system in memory.
 
 use crate::transcript::words_of;
-use avtp_base::{Failed, NoMemory, Sink};
+use avtp_base::{Failed, NoMemory};
+use avtp_files::Sink;
 use avtp_memory::{MemoryShelf, MemorySink};
 use avtp_system::{System, run_over};
 use avtp_tool::Status;

@@ -2,7 +2,8 @@
 
 use crate::recipe::bytes_of;
 use crate::transcript::{Bench, words_of};
-use avtp_base::{Failed, NoMemory, OpenFault, Shelf, Sink, Slot};
+use avtp_base::{Failed, NoMemory, OpenFault};
+use avtp_files::{Shelf, Sink, Slot};
 use avtp_memory::{MemoryShelf, MemorySink};
 use avtp_tool::{Status, run};
 use device_rack::Rack;

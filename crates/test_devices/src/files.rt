@@ -1,7 +1,7 @@
 //! Files of devices, and calls of them that fail.
 
 use crate::items::{PACKET, Samples, late, shown, taken, unit};
-use avtp_base::FileSink;
+use avtp_files::FileSink;
 use avtp_memory::MemorySink;
 use device_rack::{AnnexBDevice, RawDevice, Silence};
 use std::test::Fail;

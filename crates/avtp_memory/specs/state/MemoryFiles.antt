@@ -2,7 +2,7 @@
 -- What files in memory show.
 use Rattle.std.specs.Prelude.{ℕ, Some, None, option_map, option_and_then, refl, IsSome}
 use Rattle.avtp_memory.specs.declared.memory_files.MemoryFiles.{MemoryFiles}
-use Rattle.avtp_base.specs.Entries.{entry_at}
+use Rattle.avtp_files.specs.Entries.{entry_at}
 use Rattle.avtp_base.specs.Files.{name_in, left_in}
 use Rattle.avtp_memory.specs.MemoryFiles.{open_in, slots_in}
 

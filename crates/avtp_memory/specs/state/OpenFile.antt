@@ -4,7 +4,7 @@ use Rattle.std.specs.Prelude.{ℕ, ◌+◌, ◌≤◌, IsTrue, List, Option, IsS
 use Rattle.std.specs.Option.{ForSome}
 use Rattle.std.specs.Global.{Vec, Global}
 use Rattle.avtp_memory.specs.declared.open_file.OpenFile.{OpenFile}
-use Rattle.avtp_base.specs.Entries.{entry_at}
+use Rattle.avtp_files.specs.Entries.{entry_at}
 use Rattle.avtp_memory.specs.NamedFiles.{bytes_under}
 use Rattle.avtp_memory.specs.state.NamedFiles.{capacity_under}
 

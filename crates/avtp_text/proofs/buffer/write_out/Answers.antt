@@ -4,8 +4,8 @@ use Rattle.avtp_text.proofs.buffer.write_out.Goals as goal
 
 pub loop-taken-preserved : goal.loop-taken-preserved
 loop-taken-preserved g c = record {
-  within = let more = simp (length-take, length-drop) at c.in-Ok.ensures.within in omega arith;
-  took = taken_more (g.S.Output.state c.args.out.now).held (g.S.Output.state c.loop-taken.out).held (g.S.Output.state c.write_some.new.self).held
-      c.args.bytes.now c.loop-taken.taken c.in-Ok.count c.loop-taken.invariant.took c.in-Ok.ensures.appends;
+  within = let more = simp (length-take, length-drop) at c.in-Ok.ensures.does.within in omega arith;
+  took = taken_more (g.S.Sink.state c.args.out.now).held (g.S.Sink.state c.loop-taken.out).held (g.S.Sink.state c.write.new.self).held
+      c.args.bytes.now c.loop-taken.taken c.in-Ok.count c.loop-taken.invariant.took c.in-Ok.ensures.does.appends;
   quiet = search rules;
 }

@@ -5,8 +5,8 @@ use Rattle.device_rack.proofs.writing.write_all.Given as goal
 abbrev pub invariant-loop-written : goal.invariant-loop-written
 invariant-loop-written g l = record {
   within : l.written ≤ length l.bytes;
-  took : Appends (g.S.Output.state l.fn.sink).held (g.S.Output.state l.sink).held (take l.written l.bytes);
-  quiet : (g.S.Output.state l.sink).faults ≡ (g.S.Output.state l.fn.sink).faults;
+  took : Appends (g.S.Sink.state l.fn.sink).held (g.S.Sink.state l.sink).held (take l.written l.bytes);
+  quiet : (g.S.Sink.state l.sink).faults ≡ (g.S.Sink.state l.fn.sink).faults;
 }
 
 abbrev pub decreases-loop-written : goal.decreases-loop-written

@@ -6,7 +6,7 @@ use Rattle.device_rack.proofs.Writings.{HasWritten-cut, HasWritten-none, HasWrit
 use Rattle.device_rack.proofs.writing.write_silence.Goals as goal
 
 pub loop-init : goal.loop-init
-loop-init g c = HasWritten-none (g.S.Output.state c.args.sink.now) tt
+loop-init g c = HasWritten-none (g.S.Sink.state c.args.sink.now) tt
 
 pub loop-preserved : goal.loop-preserved
 loop-preserved g c =

@@ -6,7 +6,7 @@ abbrev pub invariant-loop-shown : goal.invariant-loop-shown
 invariant-loop-shown g l =
     record {
       going : pull_at l.self.stage ≡ None;
-      on : GoesOn (g.F.ReadSlots.state l.fn.shelf) (g.F.ReadSlots.state l.shelf) l.fn.self.source l.self.source l.fn.self.listener l.self.listener l.fn.self.stage l.self.stage [];
+      on : GoesOn (g.F.Shelf.state l.fn.shelf) (g.F.Shelf.state l.shelf) l.fn.self.source l.self.source l.fn.self.listener l.self.listener l.fn.self.stage l.self.stage [];
     }
 
 abbrev pub decreases-loop-shown : goal.decreases-loop-shown

@@ -12,8 +12,8 @@ pub returns : goal.returns
 returns g c =
     let ran = c.read_on-self-inside.ensures in
     let result = c.read_on-self-inside.result in
-    let before = g.F.ReadSlots.state c.args.shelf.now in
-    let after = g.F.ReadSlots.state c.read_on-self-inside.new.shelf in
+    let before = g.F.Shelf.state c.args.shelf.now in
+    let after = g.F.Shelf.state c.read_on-self-inside.new.shelf in
     let begun : Sourcing = record { pieces = c.self.inside.pieces; reader = c.self.inside.reader; ended = c.self.inside.ended } in
     let mid : Sourcing = record { pieces = c.self.inside.pieces; reader = c.release.new.self; ended = c.self.inside.ended } in
     let next : Sourcing = record { pieces = c.self-2.inside.pieces; reader = c.self-2.inside.reader; ended = c.self-2.inside.ended } in

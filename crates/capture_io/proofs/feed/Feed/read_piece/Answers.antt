@@ -8,13 +8,13 @@ use Rattle.capture_io.proofs.feed.Feed.read_piece.Goals as goal
 
 pub returns : goal.returns
 returns g c =
-    let before = (g.F.ReadSlots.state c.args.shelf.now).reading_faults in
-    let after = (g.F.ReadSlots.state c.read.new.shelf).reading_faults in
+    let before = (g.F.Shelf.state c.args.shelf.now).reading_faults in
+    let after = (g.F.Shelf.state c.read.new.shelf).reading_faults in
     let free = ap held_in c.self.view_is ∙ c.requires.ready.1 in
     let count = c.in_ok-stop.ensures.counted in
     let how = c.end.ensures ∙ ap (end_at c.in_ok-stop.stop) c.err.ensures.value in
     ended_so c.end.result refl (λ limit bytes records fed.
-    let here = subst (λ (s : Sourcing). HasFed limit bytes (remains_of (g.F.ReadSlots.state c.args.shelf.now) s) s records) (sym c.self.view_is) fed in
+    let here = subst (λ (s : Sourcing). HasFed limit bytes (remains_of (g.F.Shelf.state c.args.shelf.now) s) s records) (sym c.self.view_is) fed in
     let is = c.in_ok-stop.ensures.stopped limit bytes here.prefix here.taken in
     subst (λ (e : End). EndsAfter limit bytes (Rose before after) e records) (sym how) (stopped limit bytes _ _ records _ _ _ here free is (stop_rose before after _ count) (c.finish.ensures here.prefix records here.read)))
     (subst (λ (e : End). CountsFault None (Some e) before after) (sym how) (stop_counted before after _ _ count)) (search rules)

@@ -6,7 +6,7 @@ use Rattle.capture_io.proofs.file_writer.FileWriter.finish.Goals as goal
 pub returns : goal.returns
 returns g c =
     let wrote = c.flush-written.ensures in
-    let shut = c.close_file.ensures in
+    let shut = c.close_file.ensures.does in
     record {
       put = ok_one c.flush-written.result _ _ wrote.none_waits (λ none begun name all is. puts_all begun _ _ _ name all (wrote.kept begun name all is) none shut.files);
       closes = record {

@@ -7,7 +7,7 @@ use Rattle.capture_io.proofs.file_writer.FileWriter.flush.Goals as goal
 pub loop-self-preserved : goal.loop-self-preserved
 loop-self-preserved g c =
     let before = c.loop-self.invariant in
-    let wrote = c.in_ok-count.ensures in
+    let wrote = c.in_ok-count.ensures.does in
     let piece = c.waiting-in-loop-self.ensures in
     let slots = (g.F.Shelf.state c.loop-self.shelf).slots in
     let k : ℕ = c.loop-self.self-inside.slot.0 in

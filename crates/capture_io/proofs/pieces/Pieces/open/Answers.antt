@@ -4,7 +4,7 @@ use Rattle.capture_io.proofs.pieces.Pieces.open.Goals as goal
 
 pub returns : goal.returns
 returns g c =
-    let did = c.in_ok-slot.ensures in
+    let did = c.in_ok-slot.ensures.does in
     let count = did.reading in
     record {
       begun = λ files told. begins c.args.limit _ _ _ files _ did.opened told refl refl refl;

@@ -1,8 +1,8 @@
 -- What a shelf of real files shows.
 use Rattle.std.specs.Prelude.{None, option_map}
-use Rattle.avtp_base.specs.declared.file_shelf.RealFile.{RealFile}
-use Rattle.avtp_base.specs.declared.slots.Slots.{Slots}
-use Rattle.avtp_base.specs.Entries.{entry_at}
+use Rattle.avtp_files.specs.declared.file_shelf.RealFile.{RealFile}
+use Rattle.avtp_files.specs.declared.slots.Slots.{Slots}
+use Rattle.avtp_files.specs.Entries.{entry_at}
 use Rattle.avtp_base.specs.Files as files
 
 -- the open files of a shelf of real files, by slot; neither their names nor their contents are shown

@@ -1,10 +1,10 @@
 //! What is open, by the number of its slot.
 
 ghost use Rattle.std.specs.Prelude.{◌≡◌, ◌^◌, ◌<◌, ◌≤◌, ℕ, None, [], vec_len, IfOk, option_copied};
-ghost use Rattle.avtp_base.specs.Entries.{entry_at, SetsEntry};
+ghost use Rattle.avtp_files.specs.Entries.{entry_at, SetsEntry};
 
-use crate::failed::NoMemory;
 use crate::shelf::Slot;
+use avtp_base::NoMemory;
 use std::alloc::Global;
 
 /// Entries by slot. A slot that was freed is used again.

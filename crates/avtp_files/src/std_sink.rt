@@ -2,8 +2,8 @@
 
 ghost use Rattle.std.specs.Prelude.{◌≡◌, None};
 
-use crate::failed::Failed;
 use crate::sink::Sink;
+use avtp_base::Failed;
 
 /// Standard output. Contracts see nothing of what it holds.
 #[derive(Drop)]
@@ -12,7 +12,7 @@ pub struct StdSink<'a, R> {
     faults: u64,
 }
 
-impl<'a, R: Print + Sync> StdSink<'a, R> {
+impl<'a, R: Print> StdSink<'a, R> {
     pub fn new(rt: &'a R) -> Self
         ensures { result.faults ≡ 0 }
     {
@@ -20,7 +20,7 @@ impl<'a, R: Print + Sync> StdSink<'a, R> {
     }
 }
 
-impl<R: Print + Sync> Sink for StdSink<'_, R> {
+impl<R: Print> Sink for StdSink<'_, R> {
     ghost state = { λ sink. record { held = None; faults = sink.faults } };
 
     fn write(&mut self, piece: &[u8]) -> Result<usize, Failed> {

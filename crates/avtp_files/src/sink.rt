@@ -1,26 +1,28 @@
 //! Where text goes.
 
-ghost use Rattle.std.specs.Prelude.{◌≤◌, ◌<◌, length, IfOk};
-ghost use Rattle.avtp_base.specs.Faults.{IsCounted};
-ghost use Rattle.avtp_base.specs.Told.{WriteAppends};
+ghost use Rattle.std.specs.Prelude.{◌<◌, length};
+ghost use Rattle.avtp_files.specs.SinkCalls.{WritesPiece};
 
-use crate::failed::Failed;
+use avtp_base::Failed;
 
 /// A writer that appends bytes and counts its faults.
-pub trait Sink: Send {
+pub trait Sink {
+    ghost use Rattle.std.specs.Prelude.{ℕ, List, Result};
+    ghost use Rattle.avtp_base.specs.declared.failed.Failed.{Failed};
     ghost use Rattle.avtp_base.specs.States.{SinkState};
 
     /// The bytes that it holds, if it shows them, and its count of faults, which stops at the largest 64-bit number. A
     /// sink may stop showing its bytes, and then never shows them again.
     ghost state: { Self → SinkState };
 
+    /// What a write to this kind of sink does beside what it does to each.
+    ghost writes: { Self → Self → List ℕ → Result ℕ Failed → Type 0 } = { λ _ _ _ _. Unit {0} };
+
     /// Appends a prefix of the piece, of at least one byte, and answers its length.
     ///
     /// At `Failed` the count rose, and nothing was appended.
     fn write(&mut self, piece: &[u8]) -> Result<usize, Failed>
         requires { 0 < length piece.now }
-        ensures some { IfOk result (λ n. 0 < n) }
-        ensures within { IfOk result (λ n. n ≤ length piece.now) }
-        ensures appends { WriteAppends (state self.old).held (state self.new).held result piece.now }
-        ensures counted { IsCounted (state self.old).faults (state self.new).faults result };
+        ensures does { WritesPiece (state self.old) (state self.new) piece.now result }
+        ensures own { writes self.old self.new piece.now result };
 }

@@ -2,13 +2,14 @@
 
 ghost use Rattle.std.specs.Prelude.{◌≡◌, ◌<◌, ◌≤◌, ℕ, None, length, IsSome, IfSome};
 ghost use Rattle.std.proofs.Common.{rules};
-ghost use Rattle.avtp_base.specs.Entries.{entry_at};
-ghost use Rattle.avtp_base.specs.FileShelf.{real_slots};
-ghost use Rattle.avtp_base.specs.state.FileShelf.{real_state};
+ghost use Rattle.avtp_files.specs.Entries.{entry_at};
+ghost use Rattle.avtp_files.specs.FileShelf.{real_slots};
+ghost use Rattle.avtp_files.specs.state.FileShelf.{real_state};
 
-use crate::failed::{Failed, OpenFault};
+use crate::file_identity::{FileIdentity, STANDARD_OUTPUT, identity_of};
 use crate::shelf::{Shelf, Slot};
 use crate::slots::Slots;
+use avtp_base::{Failed, NoMemory, OpenFault};
 use std::alloc::Global;
 use std::fs;
 use std::io::{Read, Write};
@@ -22,10 +23,14 @@ pub struct RealFile<F> {
 }
 
 /// Real files, by their paths. Contracts see nothing of their contents, and a missing file counts as a fault.
+///
+/// A file that was opened for reading is never made anew, under whatever path, and neither is standard output if it is a file:
+/// `create_file` answers `Failed`, and the file is as it was.
 #[derive(Drop)]
 pub struct FileShelf<'a, R: Files> {
     rt: &'a R,
     live: Slots<RealFile<R::File>>,
+    inputs: Vec<FileIdentity>,
     reading_faults: u64,
     writing_faults: u64,
 }
@@ -39,16 +44,39 @@ impl<'a, R: Files> FileShelf<'a, R> {
         FileShelf {
             rt,
             live: Slots::new(alloc),
+            inputs: Vec::new(alloc),
             reading_faults: 0,
             writing_faults: 0,
         }
     }
+
+    /// Keeps the file of a path that was opened for reading apart from what is written.
+    fn keep_input(&mut self, name: &str) -> Result<(), NoMemory>
+        ensures live { self.new.live ≡ self.old.live }
+        ensures reading { self.new.reading_faults ≡ self.old.reading_faults }
+        ensures writing { self.new.writing_faults ≡ self.old.writing_faults }
+    {
+        if let Some(identity) = identity_of(self.rt, name)
+            && !self.inputs.contains(&identity)
+        {
+            self.inputs.push(identity)?;
+        }
+        Ok(())
+    }
+
+    /// Whether a path leads to a file that was opened for reading, or to standard output.
+    fn is_taken(&self, name: &str) -> bool {
+        match identity_of(self.rt, name) {
+            Some(identity) => {
+                self.inputs.contains(&identity)
+                    || identity_of(self.rt, STANDARD_OUTPUT) == Some(identity)
+            }
+            None => false,
+        }
+    }
 }
 
-impl<R: Files + Sync> Shelf for FileShelf<'_, R>
-where
-    R::File: Send,
-{
+impl<R: Files> Shelf for FileShelf<'_, R> {
     ghost state = { λ shelf. real_state (real_slots shelf.live) shelf.reading_faults shelf.writing_faults };
 
     ghost told = { λ shelf k files live. Prim.search rules };
@@ -61,6 +89,9 @@ where
             self.reading_faults = self.reading_faults.saturating_add(1);
             return Err(OpenFault::Failed);
         };
+        if self.keep_input(name).is_err() {
+            return Err(OpenFault::Memory);
+        }
         self.live.set(slot, Some(RealFile { file, made: false }));
         Ok(slot)
     }
@@ -69,6 +100,10 @@ where
         let Ok(slot) = self.live.free_slot() else {
             return Err(OpenFault::Memory);
         };
+        if self.is_taken(name) {
+            self.writing_faults = self.writing_faults.saturating_add(1);
+            return Err(OpenFault::Failed);
+        }
         let Ok(file) = fs::create(self.rt, name) else {
             self.writing_faults = self.writing_faults.saturating_add(1);
             return Err(OpenFault::Failed);

@@ -2,32 +2,51 @@
 
 ghost use Rattle.std.specs.Prelude.{◌≡◌, ◌≤◌, ◌<◌, None, length, IfSome};
 
-use crate::failed::Failed;
+use crate::file_identity::{STANDARD_OUTPUT, identity_of};
 use crate::sink::Sink;
+use avtp_base::Failed;
 use std::fs;
 use std::io::Write;
 use std::rt::Files;
 
 /// A real file. Contracts see nothing of what it holds.
+///
+/// A file that is kept apart is never made anew, under whatever path, and neither is standard output if it is a file: `write`
+/// answers `Failed`, and the file is as it was.
 #[derive(Drop)]
 pub struct FileSink<R: Files> {
     rt: R,
     name: String,
+    apart: Vec<String>,
     file: Option<R::File>,
     faults: u64,
 }
 
 impl<R: Files> FileSink<R> {
-    /// The file with this path. It is not made yet: the first `write` makes or empties it.
-    pub fn named(rt: R, name: String) -> Self
+    /// The file with this path, kept apart from those with other paths. It is not made yet: the first `write` makes or empties it.
+    pub fn named(rt: R, name: String, apart: Vec<String>) -> Self
         ensures { result.faults ≡ 0 }
     {
         FileSink {
             rt,
             name,
+            apart,
             file: None,
             faults: 0,
         }
+    }
+
+    /// Whether the path leads to a file that is kept apart, or to standard output.
+    fn is_taken(&self) -> bool {
+        let Some(identity) = identity_of(&self.rt, self.name.as_str()) else {
+            return false;
+        };
+        for path in &self.apart {
+            if identity_of(&self.rt, path.as_str()) == Some(identity) {
+                return true;
+            }
+        }
+        identity_of(&self.rt, STANDARD_OUTPUT) == Some(identity)
     }
 
     // Makes or empties the file if that was not done yet, and writes to it. None if that failed, or took nothing: if
@@ -38,6 +57,9 @@ impl<R: Files> FileSink<R> {
         ensures faults { self.new.faults ≡ self.old.faults }
     {
         if self.file.is_none() {
+            if self.is_taken() {
+                return None;
+            }
             self.file = fs::create(&self.rt, self.name.as_str()).ok();
         }
         let file = self.file.as_mut()?;
@@ -46,10 +68,7 @@ impl<R: Files> FileSink<R> {
     }
 }
 
-impl<R: Files + Send> Sink for FileSink<R>
-where
-    R::File: Send,
-{
+impl<R: Files> Sink for FileSink<R> {
     ghost state = { λ sink. record { held = None; faults = sink.faults } };
 
     fn write(&mut self, piece: &[u8]) -> Result<usize, Failed> {

@@ -1,0 +1,14 @@
+-- What a write to a sink does, with its result.
+use Rattle.std.specs.Prelude.{ℕ, ◌≤◌, ◌<◌, List, length, IfOk, Result}
+use Rattle.avtp_base.specs.declared.failed.Failed.{Failed}
+use Rattle.avtp_base.specs.Faults.{IsCounted}
+use Rattle.avtp_base.specs.States.{SinkState}
+use Rattle.avtp_base.specs.Told.{WriteAppends}
+
+-- A prefix of the piece of at least one byte, as long as the result says, was appended to what the sink holds, as far as
+-- it shows that; or nothing was done but to count a fault.
+pub record WritesPiece (before after : SinkState) (piece : List ℕ) (result : Result ℕ Failed) : Type 0 where
+  pub some : IfOk result (λ n. 0 < n)
+  pub within : IfOk result (λ n. n ≤ length piece)
+  pub appends : WriteAppends before.held after.held result piece
+  pub counted : IsCounted before.faults after.faults result

@@ -1,0 +1,27 @@
+//! Which file a path leads to.
+
+use std::fs;
+use std::os::unix::fs::MetadataExt;
+use std::rt::Files;
+
+/// The path of standard output.
+pub const STANDARD_OUTPUT: &str = "/dev/stdout";
+
+/// A regular file, whatever it is called: the device on which it is, and its number there.
+#[derive(Clone, Copy, Debug, PartialEq, Eq)]
+pub struct FileIdentity {
+    device: u64,
+    number: u64,
+}
+
+/// The regular file to which a path leads, through links. `None` if it leads to none, or to something else.
+pub fn identity_of<R: Files>(files: &R, path: &str) -> Option<FileIdentity> {
+    let metadata = fs::metadata(files, path).ok()?;
+    if !metadata.is_file() {
+        return None;
+    }
+    Some(FileIdentity {
+        device: metadata.dev(),
+        number: metadata.ino(),
+    })
+}

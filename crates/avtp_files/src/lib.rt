@@ -1,0 +1,16 @@
+//! Files by name and text that is written: the outside as two traits, over real files and over standard output.
+#![tactic(auto)]
+
+mod file_identity;
+mod file_shelf;
+mod file_sink;
+mod shelf;
+mod sink;
+pub mod slots;
+mod std_sink;
+
+pub use file_shelf::FileShelf;
+pub use file_sink::FileSink;
+pub use shelf::{Shelf, Slot};
+pub use sink::Sink;
+pub use std_sink::StdSink;
