@@ -105,6 +105,13 @@ spaced i down rate step h = let times : rate * (8 * step) ≤ rate * (9 * (i * 1
 pub spaced_own : (i down rate d : ℕ) → 1 ≤ down → 8 * (d * (rate * down)) ≤ 9 * (i * 1000000000 * down) → 8 * (rate * d) ≤ 9000000000 * i
 spaced_own i down rate d some h = at_most down (8 * (rate * d)) (9000000000 * i) some (omega arith)
 
+-- the same of the least spacing
+pub spaced_least : (i down rate step : ℕ) → 7 * (i * 1000000000 * down) ≤ 8 * step → 7000000000 * (i * rate * down) ≤ 8 * (rate * step)
+spaced_least i down rate step h = let times : rate * (7 * (i * 1000000000 * down)) ≤ rate * (8 * step) = mul-le-mul_left rate h in omega arith
+
+pub spaced_own_least : (i down rate d : ℕ) → 1 ≤ down → 7 * (i * 1000000000 * down) ≤ 8 * (d * (rate * down)) → 7000000000 * i ≤ 8 * (rate * d)
+spaced_own_least i down rate d some h = at_most down (7000000000 * i) (8 * (rate * d)) some (omega arith)
+
 -- ---- the nearest event
 
 scaled_reach : (x : ℤ) (i d w : ℕ) → x *ℤ pos (2 * (i * w)) +ℤ pos (d * w) ≡ (x *ℤ pos (2 * i) +ℤ pos d) *ℤ pos w
@@ -182,6 +189,7 @@ own_line p rate instant some is own =
       num = omega arith;
       some_den = is.small.some_interval;
       den = omega arith;
+      least = spaced_own_least p.interval p.down rate (period p) is.small.some_down (rw own at is.joined.least);
       spacing = spacing;
       from = event.from;
       to = let to = event.to in omega (arith, ints);
@@ -200,6 +208,7 @@ other_line p rate instant some fits is =
       num = omega arith;
       some_den = some_den p rate is.small some;
       den = omega arith;
+      least = spaced_least p.interval p.down rate (step_num p) is.joined.least;
       spacing = spacing;
       from = omega (arith, ints);
       to = omega (arith, ints);

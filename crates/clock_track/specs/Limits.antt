@@ -55,7 +55,8 @@ pub record IsClockLine (rate : ℕ) (instant : ℤ) (spot : Spot) : Type 0 where
   pub num : spot.line.num ≤ 2 ^ 60
   pub some_den : 1 ≤ spot.line.den
   pub den : spot.line.den ≤ 2 ^ 60
-  -- samples are at most 9/8 of their nominal spacing apart
+  -- samples are at least 7/8 of their nominal spacing apart, and at most 9/8
+  pub least : 7000000000 * spot.line.den ≤ 8 * (rate * spot.line.num)
   pub spacing : 8 * (rate * spot.line.num) ≤ 9000000000 * spot.line.den
   pub from : pos 0 ≤ℤ spot.from
   pub to : spot.from <ℤ pos 65535

@@ -103,9 +103,9 @@ on_line j is clock agrees n instant p q x = cases (pair.up == j.rate * pair.down
 -- ---- so many samples further on a line
 
 -- `z` nanoseconds are less than 9 packets' time, on either side; a packet's time is w / rate
-record IsClose (rate w : ℕ) (z : ℤ) : Type 0 where
-  above : (z *ℤ pos (8 * rate)) <ℤ pos (72 * w)
-  below : (neg_ℤ z *ℤ pos (8 * rate)) <ℤ pos (72 * w)
+pub record IsClose (rate w : ℕ) (z : ℤ) : Type 0 where
+  pub above : (z *ℤ pos (8 * rate)) <ℤ pos (72 * w)
+  pub below : (neg_ℤ z *ℤ pos (8 * rate)) <ℤ pos (72 * w)
 
 swapped : (z : ℤ) (a b : ℕ) → (z *ℤ pos a) *ℤ pos b ≡ (z *ℤ pos b) *ℤ pos a
 swapped z a b =
@@ -139,7 +139,7 @@ sum_times x y d =
     let f : d * (up z + down x + down y) ≡ d * (down z + up x + up y) = ap (λ (n : ℕ). d * n) e in
     omega (arith, ints)
 
-difference_times : (x y : ℤ) (d : ℕ) → (x -ℤ y) *ℤ pos d ≡ x *ℤ pos d -ℤ y *ℤ pos d
+pub difference_times : (x y : ℤ) (d : ℕ) → (x -ℤ y) *ℤ pos d ≡ x *ℤ pos d -ℤ y *ℤ pos d
 difference_times x y d =
     let z : ℤ = x -ℤ y in
     let e : up z + down x + up y ≡ down z + up x + down y = omega (arith, ints) in
@@ -181,7 +181,7 @@ close_on rate count line from first instant at some_rate slow low high some spac
     }
 
 -- by the clock, a packet's first sample is near its head
-by_clock : (j : Journal) → IsAudio j → IsClock j.clock → AgreesWithClock j → (n : ℕ) (x : ℤ) → n < j.packets → (a : IsAtByClock j n 0 x) → IsClose j.rate (j.count * 1000000000) (x -ℤ a.head.instant)
+pub by_clock : (j : Journal) → IsAudio j → IsClock j.clock → AgreesWithClock j → (n : ℕ) (x : ℤ) → n < j.packets → (a : IsAtByClock j n 0 x) → IsClose j.rate (j.count * 1000000000) (x -ℤ a.head.instant)
 by_clock j is clock agrees n x known a =
     let s = head_stamped j n a.head known a.is_head in
     let reach = reach_of j is n a.head known a.is_head in
@@ -196,7 +196,7 @@ by_clock j is clock agrees n x known a =
     close_on j.rate j.count spot.line spot.from a.head.first a.head.instant x (omega arith) (omega arith) reach.from reach.to here.den here.spacing here.at at
 
 -- and so is where the packet is due
-by_nominal : (j : Journal) → IsAudio j → (n : ℕ) (head : Head) → n < j.packets → head_of j n ≡ Some head → IsClose j.rate (j.count * 1000000000) (pos (j.due n) -ℤ head.instant)
+pub by_nominal : (j : Journal) → IsAudio j → (n : ℕ) (head : Head) → n < j.packets → head_of j n ≡ Some head → IsClose j.rate (j.count * 1000000000) (pos (j.due n) -ℤ head.instant)
 by_nominal j is n head known e =
     let reach = reach_of j is n head known e in
     let first : head.first +ℤ pos 0 ≡ pos 0 +ℤ head.first = omega (arith, ints) in

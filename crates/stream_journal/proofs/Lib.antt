@@ -14,3 +14,4 @@ pub mod TrueLines
 pub mod ByClock
 pub mod Limits
 pub mod Blocks
+pub mod NearPackets

@@ -5,3 +5,4 @@ pub mod Delivered
 pub mod Examples
 pub mod Heads
 pub mod ClockRows
+pub mod Near

@@ -16,6 +16,7 @@ ghost use Rattle.stream_journal.specs.Clocks.{ClockJournal, IsJoinedAt, Place, S
 ghost use Rattle.stream_journal.specs.Journal.{IsAt, IsAtByClock, Journal, head_of, rule_of};
 ghost use Rattle.stream_journal.specs.Conforming.{AgreesWithClock, Conforms, HoldsEight, IsApart, IsAudio, IsClock};
 ghost use Rattle.stream_journal.specs.Delivered.{Copy, IsAudioKind, IsDelivered};
+ghost use Rattle.stream_journal.specs.Near.{IsNear};
 ghost use Rattle.stream_journal.specs.Heads.{AreApart, IsCountedFrom, IsHeadOf, IsOther, IsStampOf, IsTrue, IsUnstamped, behind, wanted};
 
 /// True time: the timestamp of a copy means the instant that the talker stamped.
@@ -85,4 +86,11 @@ pub fn clock_lines_are_true()
 /// longer than what the clock can add to where a packet is due.
 pub fn packets_by_clock_are_told_apart()
     ensures { (j : Journal) (n m : ℕ) (x : ℤ) → Conforms j → IsAudioKind j.kind → n < j.packets → m < j.packets → n % 256 ≡ m % 256 → IsAt true j n 0 x → IsAt true j m 0 x → n ≡ m }
+{}
+
+/// Packets of audio whose sequence numbers are equal and whose first instants, by the clock or without, are at most 72 packets'
+/// time apart are one packet: others are 256 numbers and so 192 packets' time apart, and the clock adds less than 18 to where
+/// a packet is due.
+pub fn near_packets_are_one()
+    ensures { (j : Journal) (by_clock : Bool) (n m : ℕ) (x y : ℤ) → Conforms j → IsAudioKind j.kind → n < j.packets → m < j.packets → n % 256 ≡ m % 256 → IsAt by_clock j n 0 x → IsAt by_clock j m 0 y → IsNear j 72 x y → n ≡ m }
 {}

@@ -1,0 +1,9 @@
+pub mod Numbers
+pub mod Sorting
+pub mod Windows
+pub mod Samples
+pub mod Counting
+pub mod Known
+pub mod Standing
+pub mod Stepping
+pub mod PairLaws

@@ -1,0 +1,48 @@
+-- Where two listeners present different samples.
+use Rattle.std.specs.Prelude.{ℕ, List, length, filter, option_map, Option}
+use Rattle.std.specs.List.{filter_map}
+use Rattle.sample_schedule.specs.Batches.{Presented}
+use Rattle.listener_pair.specs.declared.difference.Difference.{Difference}
+use Rattle.listener_pair.specs.declared.difference.PairCounts.{PairCounts}
+use Rattle.listener_pair.specs.declared.difference.Way.{Way}
+use Rattle.listener_pair.specs.declared.difference.Which.{Which}
+use Rattle.listener_pair.specs.declared.difference.Which.TheVariants.{A, B}
+use Rattle.listener_pair.specs.declared.placed.Paired.{Paired}
+use Rattle.listener_pair.specs.declared.placed.Placed.{Placed}
+use Rattle.listener_pair.specs.Merged.{Sided, is_side}
+use Rattle.listener_pair.specs.Pairs.{pairs, unpaired}
+use Rattle.listener_pair.specs.Ways.{way_of}
+
+-- a way in which a batch of A and one of B differ, with the numbers of their frames and their sequence number
+abbrev pub differ_in : Presented → Presented → Way → Difference
+differ_in a b way = record { frame_a = a.frame; frame_b = b.frame; seq = a.seq; way = way }
+
+-- the difference of a batch of A and one of B, if they differ
+abbrev pub between : Presented → Presented → Option Difference
+between a b = option_map (differ_in a b) (way_of a b)
+
+-- the difference of two batches, of which the first is of this side and the other of the other
+abbrev pub difference_by : Which → Presented → Presented → Option Difference
+difference_by A x y = between x y
+difference_by B x y = between y x
+
+-- the difference of a pair, if it differs
+abbrev pub difference_of : Paired → Option Difference
+difference_of pair = difference_by pair.later.side pair.later.batch pair.earlier.batch
+
+-- The differences of a merged list: of its pairs, those that differ.
+abbrev pub differences : List Sided → List Difference
+differences list = filter_map difference_of (pairs list)
+
+-- how many batches of a side are in no pair
+abbrev pub alone : Which → List Placed → ℕ
+alone side list = length (filter (λ x. is_side side x.side) list)
+
+-- how many pairs a merged list has, how many batches of A and of B are in none, and how many pairs differ
+abbrev pub counts_of : List Sided → PairCounts
+counts_of list = record {
+  matched = length (pairs list);
+  only_a = alone A (unpaired list);
+  only_b = alone B (unpaired list);
+  differ = length (differences list);
+}

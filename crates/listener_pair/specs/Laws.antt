@@ -1,0 +1,23 @@
+-- What holds of all pairs and differences.
+use Rattle.std.specs.Prelude.{◌≡◌, ℕ, ◌+◌, ◌==◌, ◌<◌, ◌≤◌, ◌||◌, Bool, true, false, List, length, filter}
+use Rattle.sample_schedule.specs.Batches.{Presented}
+use Rattle.listener_pair.specs.declared.difference.Which.{Which}
+use Rattle.listener_pair.specs.declared.placed.Paired.{Paired}
+use Rattle.listener_pair.specs.Merged.{Sided, is_side}
+use Rattle.listener_pair.specs.Pairs.{fits, pairs}
+
+-- What holds of every pair: its batches are of two sides, the earlier among the 512 directly before the later; and they may be
+-- one packet or unit.
+pub record IsPair (pair : Paired) : Type 0 where
+  pub sides : is_side pair.later.side pair.earlier.side ≡ false
+  pub before : pair.earlier.place < pair.later.place
+  pub near : pair.later.place ≤ pair.earlier.place + 512
+  pub fits : fits pair.later.side pair.later.batch pair.earlier.batch ≡ true
+
+-- the batch at a place is in a pair
+abbrev pub is_in : ℕ → Paired → Bool
+is_in place pair = pair.earlier.place == place || pair.later.place == place
+
+-- in how many pairs of a merged list the batch at a place is
+abbrev pub times_paired : List Sided → ℕ → ℕ
+times_paired list place = length (filter (is_in place) (pairs list))

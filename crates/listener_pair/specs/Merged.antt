@@ -1,0 +1,55 @@
+-- What two listeners present, in one list.
+use Rattle.std.specs.Prelude.{◌≡◌, ℕ, Bool, true, false, ◌&&◌, ◌||◌, if◌then◌else◌, ℤ, int_lt, ◌≤ℤ◌, ⊤, List, [], ◌∷◌, ◌++◌, map}
+use Rattle.std.specs.List.{AllByRecursion, list_any}
+use Rattle.sample_schedule.specs.Batches.{Presented}
+use Rattle.sample_schedule.specs.Verdicts.{first_instant}
+use Rattle.listener_pair.specs.declared.difference.Which.{Which}
+use Rattle.listener_pair.specs.declared.difference.Which.TheVariants.{A, B}
+
+-- a batch that one of the two listeners presents
+pub record Sided : Type 0 where
+  pub side : Which
+  pub batch : Presented
+
+-- the batches, as those of one side
+abbrev pub all_of : Which → List Presented → List Sided
+all_of side batches = map (λ b. record { side = side; batch = b }) batches
+
+-- a list by first instant with one more batch, before all that are not earlier
+abbrev pub put_before : Sided → List Sided → List Sided
+put_before x [] = x ∷ []
+put_before x (y ∷ ys) = if int_lt (first_instant y.batch) (first_instant x.batch) then y ∷ put_before x ys else x ∷ y ∷ ys
+
+-- batches by first instant, and at one instant in the order in which they stood
+unfoldable pub by_instant : List Sided → List Sided
+by_instant [] = []
+by_instant (x ∷ rest) = put_before x (by_instant rest)
+
+-- The merged list of what A and B present: by first instant, at equal ones A's before B's, and then in the order of each list.
+unfoldable pub merged : List Presented → List Presented → List Sided
+merged xs ys = by_instant (all_of A xs ++ all_of B ys)
+
+-- the list is by first instant, as what a listener presents is
+abbrev pub IsInOrder : List Presented → Type 0
+IsInOrder [] = ⊤
+IsInOrder (x ∷ rest) = AllByRecursion (λ y. first_instant x ≤ℤ first_instant y) rest × IsInOrder rest
+
+-- ---- what is known of it while the two lists may go on
+
+-- whether two sides are one
+abbrev pub is_side : Which → Which → Bool
+is_side A A = true
+is_side A B = false
+is_side B A = false
+is_side B B = true
+
+-- No batch that a side presents later can come before the first of these: the side has ended, or has presented one of them.
+abbrev pub is_settled : Bool → Which → List Sided → Bool
+is_settled ended side list = ended || list_any (λ x. is_side side x.side) list
+
+-- The known part of a merged list, given which sides have ended: the batches such that on each side that may go on a batch
+-- stands at their place or after it. It stays the front of the merged list, however the two go on.
+unfoldable pub known : Bool → Bool → List Sided → List Sided
+known ended_a ended_b [] = []
+known ended_a ended_b (x ∷ rest) =
+    if is_settled ended_a A (x ∷ rest) && is_settled ended_b B (x ∷ rest) then x ∷ known ended_a ended_b rest else []

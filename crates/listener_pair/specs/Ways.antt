@@ -1,0 +1,37 @@
+-- How two batches differ.
+use Rattle.std.specs.Prelude.{ℕ, zero, suc, ◌*◌, ◌/◌, ◌==◌, Bool, if◌then◌else◌, List, length, take, drop, Option, None, Some}
+use Rattle.std.specs.Str.{bytes_eq}
+use Rattle.sample_schedule.specs.Batches.{Presented, sample_instant}
+use Rattle.sample_schedule.specs.Verdicts.{same_instant}
+use Rattle.listener_pair.specs.declared.difference.Way.{Way}
+use Rattle.listener_pair.specs.declared.difference.Way.TheVariants.{Count, At, Bytes}
+
+-- the bytes of each sample of a batch
+abbrev pub sample_size : Presented → ℕ
+sample_size batch = length batch.bytes / batch.count
+
+-- the bytes of sample j of a batch: its share
+abbrev pub sample_bytes : Presented → ℕ → List ℕ
+sample_bytes batch j = take (sample_size batch) (drop (j * sample_size batch) batch.bytes)
+
+-- how sample j of a batch of A and one of B differs: in its instant, or else in its bytes
+unfoldable pub sample_way : Presented → Presented → ℕ → Option Way
+sample_way a b j =
+    if same_instant (sample_instant a j) (sample_instant b j)
+    then (if bytes_eq (sample_bytes a j) (sample_bytes b j) then None else Some (Bytes j))
+    else Some (At j (sample_instant a j) (sample_instant b j))
+
+-- a way, or if there is none another
+abbrev pub or_way : Option Way → Option Way → Option Way
+or_way (Some way) other = Some way
+or_way None other = other
+
+-- how the least of the first n samples that differ does
+unfoldable pub first_way : Presented → Presented → ℕ → Option Way
+first_way a b zero = None
+first_way a b (suc n) = or_way (first_way a b n) (sample_way a b n)
+
+-- The way in which a batch of A and one of B differ, if they do: in the number of samples; or else, for the least sample that
+-- differs, in its instant or else in its bytes.
+unfoldable pub way_of : Presented → Presented → Option Way
+way_of a b = if a.count == b.count then first_way a b a.count else Some (Count a.count b.count)

@@ -1,0 +1,107 @@
+-- Kept for proofs: what the code's own parts hold and do. No clause of a public call rests on it.
+-- What waits for a partner, and a batch that comes.
+use Rattle.std.specs.Prelude.{◌≡◌, ℕ, suc, ◌+◌, ◌-◌, ◌^◌, ◌<◌, ◌≤◌, nat_le, min, Bool, true, false, if◌then◌else◌, List, [], ◌∷◌, ◌++◌, length, Option, None, Some, option_map, is_some, int_lt}
+use Rattle.std.specs.List.{find}
+use Rattle.std.specs.Option.{option_to_list}
+use Rattle.sample_schedule.specs.Batches.{Presented}
+use Rattle.sample_schedule.specs.Verdicts.{first_instant}
+use Rattle.listener_pair.specs.declared.difference.Difference.{Difference}
+use Rattle.listener_pair.specs.declared.difference.PairCounts.{PairCounts}
+use Rattle.listener_pair.specs.declared.difference.Which.{Which}
+use Rattle.listener_pair.specs.declared.difference.Which.TheVariants.{A, B}
+use Rattle.listener_pair.specs.declared.placed.Paired.{Paired}
+use Rattle.listener_pair.specs.declared.placed.Placed.{Placed}
+use Rattle.listener_pair.specs.Pairs.{fits, without_first}
+use Rattle.listener_pair.specs.Differences.{difference_of}
+use Rattle.listener_pair.specs.Matching.{MatchingState, wanted}
+
+-- x may be paired with one that waits on the other side
+abbrev pub takes : Placed → Placed → Bool
+takes x y = fits x.side x.batch y.batch
+
+-- what waits, without the first if it is not among the 512 before a place
+abbrev pub without_passed : ℕ → List Placed → List Placed
+without_passed place [] = []
+without_passed place (y ∷ ys) = if nat_le place (y.place + 512) then y ∷ ys else ys
+
+abbrev pub paired_with : Placed → Placed → Paired
+paired_with later earlier = record { earlier = earlier; later = later }
+
+-- x waits if it made no pair
+abbrev pub kept : Placed → Option Paired → List Placed
+kept x None = x ∷ []
+kept x (Some pair) = []
+
+-- x came to what waits on its own side and on the other before the place `next`, and made this pair or none
+pub record Enters (x : Placed) (next : ℕ) (own other own_then other_then : List Placed) (pair : Option Paired) : Type 0 where
+  pub made : pair ≡ option_map (paired_with x) (find (takes x) other)
+  pub others : other_then ≡ without_passed next (without_first (takes x) other)
+  pub owns : length (without_passed next own) < 512 → own_then ≡ without_passed next own ++ kept x pair
+
+-- x came to what waits in a matching
+abbrev pub EntersSide : Which → Placed → ℕ → MatchingState → MatchingState → Option Paired → Type 0
+EntersSide A x next old new pair = Enters x next old.waiting_a old.waiting_b new.waiting_a new.waiting_b pair
+EntersSide B x next old new pair = Enters x next old.waiting_b old.waiting_a new.waiting_b new.waiting_a pair
+
+-- a count that rises stands still at its type's end
+abbrev pub risen : ℕ → ℕ
+risen n = min (n + 1) (2 ^ 64 - 1)
+
+-- a count that rises if something is so
+abbrev pub risen_if : Bool → ℕ → ℕ
+risen_if true n = risen n
+risen_if false n = n
+
+-- a batch of a side is in no pair
+abbrev pub with_alone : Which → PairCounts → PairCounts
+with_alone A counts = record counts { only_a = risen counts.only_a }
+with_alone B counts = record counts { only_b = risen counts.only_b }
+
+-- a batch of a side was paired with one of the other
+abbrev pub with_pair : Which → Bool → PairCounts → PairCounts
+with_pair A differs counts = record counts { matched = risen counts.matched; only_b = counts.only_b - 1; differ = risen_if differs counts.differ }
+with_pair B differs counts = record counts { matched = risen counts.matched; only_a = counts.only_a - 1; differ = risen_if differs counts.differ }
+
+-- the counts once a batch of a side made this pair, or none
+abbrev pub counted : Which → Option Paired → PairCounts → PairCounts
+counted side None counts = with_alone side counts
+counted side (Some pair) counts = with_pair side (is_some (difference_of pair)) counts
+
+-- the difference of a pair, if there is one and it differs
+abbrev pub difference_by_pair : Option Paired → Option Difference
+difference_by_pair None = None
+difference_by_pair (Some pair) = difference_of pair
+
+-- ---- the next batch
+
+-- the side of the first of the next batches
+abbrev pub first_side : Option Presented → Option Presented → Option Which
+first_side None None = None
+first_side (Some a) None = Some A
+first_side None (Some b) = Some B
+first_side (Some a) (Some b) = if int_lt (first_instant b) (first_instant a) then Some B else Some A
+
+-- the side of the next batch of the known part
+abbrev pub next_side : MatchingState → Option Which
+next_side m = if is_some (wanted m) then None else first_side m.next_a m.next_b
+
+-- the next batch of a side
+abbrev pub next_of : Which → MatchingState → Option Presented
+next_of A m = m.next_a
+next_of B m = m.next_b
+
+-- how many next batches there are
+abbrev pub nexts_left : MatchingState → ℕ
+nexts_left m = length (option_to_list m.next_a) + length (option_to_list m.next_b)
+
+-- the matching without the next batch of a side
+abbrev pub without_next : Which → MatchingState → MatchingState
+without_next A m = record m { next_a = None }
+without_next B m = record m { next_b = None }
+
+-- The next batch of a side came, and made this pair or none.
+pub record Steps (side : Which) (batch : Presented) (old new : MatchingState) (pair : Option Paired) : Type 0 where
+  pub same : new ≡ record (without_next side old) { place = new.place; waiting_a = new.waiting_a; waiting_b = new.waiting_b; counts = new.counts }
+  pub place : new.place ≡ risen old.place
+  pub enters : EntersSide side (record { place = old.place; side = side; batch = batch }) new.place old new pair
+  pub counts : new.counts ≡ counted side pair old.counts

@@ -1,0 +1,39 @@
+//! Laws of pairs and differences. Each call is its contract, and does nothing.
+
+ghost use Rattle.std.specs.Prelude.{◌≡◌, ◌≤◌, ◌++◌, Bool, true, ℕ, List};
+ghost use Rattle.std.specs.List.{AllByRecursion};
+ghost use mathlib.Core.List.{IsPrefix};
+ghost use Rattle.listener_pair.specs.declared.difference.Which.TheVariants.{A, B};
+ghost use Rattle.listener_pair.specs.Differences.{differences};
+ghost use Rattle.listener_pair.specs.Laws.{IsPair, times_paired};
+ghost use Rattle.listener_pair.specs.Matching.{IsSorted, batches_of};
+ghost use Rattle.listener_pair.specs.Merged.{Sided, known, merged};
+ghost use Rattle.listener_pair.specs.Pairs.{pairs};
+
+/// What is paired of the front of a merged list stays paired, and what differs stays a difference: those of the front come
+/// first among those of the whole list.
+pub fn pairs_stay()
+    ensures pairs { (list more : List Sided) → IsPrefix (pairs list) (pairs (list ++ more)) }
+    ensures differences { (list more : List Sided) → IsPrefix (differences list) (differences (list ++ more)) }
+{}
+
+/// The known part is the front of the merged list, and all of it once both sides have ended.
+pub fn known_comes_first()
+    ensures first { (ended_a ended_b : Bool) (list : List Sided) → IsPrefix (known ended_a ended_b list) list }
+    ensures all { (list : List Sided) → known true true list ≡ list }
+{}
+
+/// The two batches of a pair are of two sides, at most 512 places apart, and may be one packet or unit.
+pub fn pairs_are_of_two_sides()
+    ensures { (list : List Sided) → AllByRecursion IsPair (pairs list) }
+{}
+
+/// Each batch is in at most one pair.
+pub fn each_batch_is_paired_once()
+    ensures { (list : List Sided) (place : ℕ) → times_paired list place ≤ 1 }
+{}
+
+/// A list in merged order is the merged list of its two sides, and so the only one.
+pub fn merged_is_the_only_one()
+    ensures { (list : List Sided) → IsSorted list → merged (batches_of A list) (batches_of B list) ≡ list }
+{}

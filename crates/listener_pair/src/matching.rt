@@ -1,0 +1,255 @@
+//! The batches of two listeners, matched as they come.
+
+ghost use Rattle.std.specs.Prelude.{◌≡◌, ◌+◌, ◌^◌, ◌<◌, ◌≤◌, ◌++◌, ◌∷◌, [], ℕ, List, length, slice_get, Option, Some, None, IfNone, IfOk, IfSome, MatchOption, is_some, option_map};
+ghost use Rattle.std.specs.Option.{option_to_list};
+ghost use Rattle.sample_schedule.specs.Batches.{Presented};
+ghost use Rattle.listener_pair.specs.Merged.{IsInOrder};
+ghost use Rattle.listener_pair.specs.Differences.{between as between_of, counts_of, difference_of as difference_of_pair, differences};
+ghost use Rattle.listener_pair.specs.Matching.{IsIdle, StandsFor, ended_by, given_to, known_of, wanted};
+ghost use Rattle.listener_pair.specs.state.Window.{EntersSide, counted as counted_by, difference_by_pair, next_of, next_side, nexts_left, without_next};
+
+use crate::difference::{Difference, PairCounts, Which};
+use crate::placed::{Paired, Placed};
+use crate::timed::Timed;
+use crate::way::way_of;
+use crate::window::{WINDOW, enter};
+use avtp_base::NoMemory;
+use sample_schedule::Batch;
+use std::alloc::Global;
+use std::collections::VecDeque;
+use std::marker::Model;
+
+/// What two listeners present, matched as it comes: it is given the batches of each, one at a time, and gives the differences of
+/// those that are pairs. A difference is given as soon as the batches are known that come before it in merged order.
+///
+/// Memory is reserved when it is made. A batch that is paired is let go, and one that is not waits while one of the 512
+/// batches after it may be its partner.
+#[derive(Drop)]
+pub struct Matching {
+    next_a: Option<Timed>,
+    next_b: Option<Timed>,
+    ended_a: bool,
+    ended_b: bool,
+    /// How many batches came in merged order.
+    place: u64,
+    waiting_a: VecDeque<Placed>,
+    waiting_b: VecDeque<Placed>,
+    counts: PairCounts,
+}
+
+impl Model for Matching {
+    ghost use Rattle.std.specs.Prelude.{◌≤◌};
+    ghost use Rattle.std.specs.VecDeque.{deque_capacity};
+    ghost use Rattle.listener_pair.specs.Matching.{MatchingState};
+
+    ghost Value = { MatchingState };
+
+    ghost view = { λ m. record { next_a = m.next_a; next_b = m.next_b; ended_a = m.ended_a; ended_b = m.ended_b; place = m.place; waiting_a = m.waiting_a.items; waiting_b = m.waiting_b.items; counts = m.counts } };
+
+    ghost invariant = { λ m. (512 ≤ deque_capacity m.waiting_a) × (512 ≤ deque_capacity m.waiting_b) };
+}
+
+impl Matching {
+    /// A matching that was given nothing. Reserves all the memory that it takes.
+    pub fn begin(alloc: Global) -> Result<Self, NoMemory>
+        ensures stands { IfOk result (StandsFor [] [] 0) }
+        ensures open { IfOk result (λ m. wanted m ≡ Some Which.A) }
+    {
+        let waiting_a = VecDeque::with_capacity(alloc, WINDOW)?;
+        let waiting_b = VecDeque::with_capacity(alloc, WINDOW)?;
+        Ok(Matching {
+            next_a: None,
+            next_b: None,
+            ended_a: false,
+            ended_b: false,
+            place: 0,
+            waiting_a,
+            waiting_b,
+            counts: PairCounts::none(),
+        })
+    }
+
+    /// The side whose next batch, or end, is needed before more is known: A where A has not ended and has no next batch, else B
+    /// in the same case, else None.
+    pub fn wants(&self) -> Option<Which>
+        ensures { result ≡ wanted self.now }
+    {
+        if !self.ended_a && self.next_a.is_none() {
+            return Some(Which::A);
+        }
+        if !self.ended_b && self.next_b.is_none() {
+            return Some(Which::B);
+        }
+        None
+    }
+
+    /// Takes the next batch of the side that is wanted. Takes no memory.
+    pub fn take(&mut self, which: Which, batch: Batch)
+        requires { wanted self.old ≡ Some which }
+        ensures given { self.new ≡ given_to which batch self.old }
+        ensures stands_a { which ≡ Which.A → (xs ys : List Presented) (given : ℕ) → StandsFor xs ys given self.old → IsInOrder (xs ++ batch ∷ []) → length xs + length ys + 1 < 2 ^ 63 → StandsFor (xs ++ batch ∷ []) ys given self.new }
+        ensures stands_b { which ≡ Which.B → (xs ys : List Presented) (given : ℕ) → StandsFor xs ys given self.old → IsInOrder (ys ++ batch ∷ []) → length xs + length ys + 1 < 2 ^ 63 → StandsFor xs (ys ++ batch ∷ []) given self.new }
+    {
+        self.put(which, Timed::over(batch));
+    }
+
+    /// Says that the side that is wanted presents no further batch. Takes no memory.
+    pub fn end(&mut self, which: Which)
+        requires { wanted self.old ≡ Some which }
+        ensures ended { self.new ≡ ended_by which self.old }
+        ensures stands { (xs ys : List Presented) (given : ℕ) → StandsFor xs ys given self.old → StandsFor xs ys given self.new }
+    {
+        match which {
+            Which::A => self.ended_a = true,
+            Which::B => self.ended_b = true,
+        }
+    }
+
+    /// The next difference of the known part of the merged list. None comes exactly if no further one is in it. Takes no memory.
+    pub fn next_difference(&mut self) -> Option<Difference>
+        ensures given { (xs ys : List Presented) (given : ℕ) → StandsFor xs ys given self.old → result ≡ slice_get (differences (known_of self.old xs ys)) given }
+        ensures stands { (xs ys : List Presented) (given : ℕ) → StandsFor xs ys given self.old → StandsFor xs ys (given + length (option_to_list result)) self.new }
+        ensures idle { IfNone result (IsIdle self.new) }
+        ensures ended { (self.new.ended_a ≡ self.old.ended_a) × (self.new.ended_b ≡ self.old.ended_b) }
+    {
+        loop {
+            let Some(side) = self.next_side() else {
+                return None;
+            };
+            let difference = self.step(side);
+            if difference.is_some() {
+                return difference;
+            }
+        }
+    }
+
+    /// The counts over the known part, once all its differences were given. A batch that is not paired yet counts as only.
+    pub fn counts(&self) -> PairCounts
+        ensures { IsIdle self.now → (xs ys : List Presented) (given : ℕ) → StandsFor xs ys given self.now → result ≡ counts_of (known_of self.now xs ys) }
+    {
+        self.counts
+    }
+
+    /// A batch is the next of a side.
+    fn put(&mut self, which: Which, batch: Timed)
+        ensures { self.new ≡ given_to which batch self.old }
+    {
+        match which {
+            Which::A => self.next_a = Some(batch),
+            Which::B => self.next_b = Some(batch),
+        }
+    }
+
+    /// The side of the next batch of the known part.
+    fn next_side(&self) -> Option<Which>
+        ensures { result ≡ next_side self.now }
+    {
+        if self.wants().is_some() {
+            return None;
+        }
+        match (&self.next_a, &self.next_b) {
+            (Some(a), Some(b)) => Some(if b.instant() < a.instant() {
+                Which::B
+            } else {
+                Which::A
+            }),
+            (Some(_), None) => Some(Which::A),
+            (None, Some(_)) => Some(Which::B),
+            (None, None) => None,
+        }
+    }
+
+    /// The next batch of a side.
+    fn take_next(&mut self, side: Which) -> Option<Timed>
+        ensures next { result ≡ next_of side self.old }
+        ensures same { self.new ≡ without_next side self.old }
+    {
+        match side {
+            Which::A => self.next_a.take(),
+            Which::B => self.next_b.take(),
+        }
+    }
+
+    /// A batch comes to those that wait.
+    fn enter(&mut self, x: Placed, next: u64) -> Option<Paired>
+        ensures enters { EntersSide x.side x next self.old self.new result }
+        ensures same { self.new ≡ record self.old { waiting_a = self.new.waiting_a; waiting_b = self.new.waiting_b } }
+    {
+        match x.side {
+            Which::A => enter(&mut self.waiting_a, &mut self.waiting_b, x, next),
+            Which::B => enter(&mut self.waiting_b, &mut self.waiting_a, x, next),
+        }
+    }
+
+    /// The next batch of the known part, which is of this side, comes. The difference of the pair that it makes, if it does and
+    /// that differs.
+    fn step(&mut self, side: Which) -> Option<Difference>
+        requires { next_side self.old ≡ Some side }
+        ensures stands { (xs ys : List Presented) (given : ℕ) → StandsFor xs ys given self.old → StandsFor xs ys (given + length (option_to_list result)) self.new }
+        ensures first { IfSome result (λ difference. (xs ys : List Presented) (given : ℕ) → StandsFor xs ys given self.old → slice_get (differences (known_of self.old xs ys)) given ≡ Some difference) }
+        ensures ended { (self.new.ended_a ≡ self.old.ended_a) × (self.new.ended_b ≡ self.old.ended_b) }
+        ensures less { nexts_left self.new < nexts_left self.old }
+    {
+        let Some(batch) = self.take_next(side) else {
+            return None;
+        };
+        let next = self.place.saturating_add(1);
+        let x = Placed {
+            place: self.place,
+            side,
+            batch,
+        };
+        self.place = next;
+        let pair = self.enter(x, next);
+        let difference = difference_by(&pair);
+        self.counts = counted(self.counts, side, &pair, difference.is_some());
+        difference
+    }
+}
+
+/// The counts with a batch of a side that made this pair, or none.
+fn counted(counts: PairCounts, side: Which, pair: &Option<Paired>, differs: bool) -> PairCounts
+    requires { differs ≡ is_some (difference_by_pair pair.now) }
+    ensures { result ≡ counted_by side pair.now counts }
+{
+    match pair {
+        None => counts.with_alone(side),
+        Some(_) => counts.with_pair(side, differs),
+    }
+}
+
+/// The difference of a pair, if there is one and it differs.
+fn difference_by(pair: &Option<Paired>) -> Option<Difference>
+    ensures { result ≡ difference_by_pair pair.now }
+{
+    match pair {
+        None => None,
+        Some(pair) => difference_of(pair),
+    }
+}
+
+/// The difference of two batches of A and B, if they differ.
+fn between(a: &Timed, b: &Timed) -> Option<Difference>
+    ensures { result ≡ between_of a.now b.now }
+{
+    let (a, b) = (a.batch(), b.batch());
+    match way_of(a, b) {
+        None => None,
+        Some(way) => Some(Difference {
+            frame_a: a.frame,
+            frame_b: b.frame,
+            seq: a.seq,
+            way,
+        }),
+    }
+}
+
+/// The difference of a pair, if it differs.
+fn difference_of(pair: &Paired) -> Option<Difference>
+    ensures { result ≡ difference_of_pair pair.now }
+{
+    match pair.later.side {
+        Which::A => between(&pair.later.batch, &pair.earlier.batch),
+        Which::B => between(&pair.earlier.batch, &pair.later.batch),
+    }
+}

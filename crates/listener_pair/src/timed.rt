@@ -1,0 +1,48 @@
+//! A batch with its first instant.
+
+use sample_schedule::Batch;
+use std::marker::Model;
+
+/// A batch, and the instant of its first sample, which is found once.
+#[derive(Drop)]
+pub struct Timed {
+    instant: i64,
+    batch: Batch,
+}
+
+impl Model for Timed {
+    ghost use Rattle.std.specs.Prelude.{◌≡◌};
+    ghost use Rattle.sample_schedule.specs.Batches.{Presented};
+    ghost use Rattle.sample_schedule.specs.Verdicts.{first_instant};
+
+    ghost Value = { Presented };
+
+    ghost view = { λ timed. timed.batch };
+
+    ghost invariant = { λ timed. timed.instant ≡ first_instant timed.batch };
+}
+
+impl Timed {
+    ghost use Rattle.std.specs.Prelude.{◌≡◌};
+    ghost use Rattle.sample_schedule.specs.Verdicts.{first_instant};
+
+    pub fn over(batch: Batch) -> Self
+        ensures { result ≡ batch }
+    {
+        let instant = batch.instant(0);
+        Timed { instant, batch }
+    }
+
+    pub fn batch(&self) -> &Batch
+        ensures { result.now ≡ self.now }
+    {
+        &self.batch
+    }
+
+    /// The instant of the first sample, in nanoseconds of gPTP.
+    pub fn instant(&self) -> i64
+        ensures { result ≡ first_instant self.now }
+    {
+        self.instant
+    }
+}

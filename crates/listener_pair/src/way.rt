@@ -1,0 +1,71 @@
+//! How two batches differ.
+
+ghost use Rattle.std.specs.Prelude.{◌≡◌, ◌<◌, ◌≤◌, ◌*◌, ◌+◌};
+ghost use Rattle.listener_pair.specs.Ways.{first_way, sample_bytes as sample_bytes_of, sample_size as sample_size_of, sample_way as sample_way_of, way_of as way};
+
+use crate::difference::Way;
+use sample_schedule::Batch;
+
+/// The bytes of a sample of a batch.
+fn sample_bytes(batch: &Batch, j: u32) -> &[u8]
+    requires { j < batch.now.count }
+    ensures { result.now ≡ sample_bytes_of batch.now j }
+{
+    let bytes = batch.bytes.as_slice();
+    let size = bytes.len() / batch.count as usize;
+    let start = j as usize * size;
+    &bytes[start..start + size]
+}
+
+/// How a sample of A and of B differs, if it does.
+#[tactic(auto, unfolding(crate::specs::Ways::sample_way))]
+fn sample_way(a: &Batch, b: &Batch, j: u32) -> Option<Way>
+    requires a { j < a.now.count }
+    requires b { j < b.now.count }
+    ensures { result ≡ sample_way_of a.now b.now j }
+{
+    let at_a = a.instant(j);
+    let at_b = b.instant(j);
+    if at_a != at_b {
+        return Some(Way::At {
+            sample: j,
+            a: at_a,
+            b: at_b,
+        });
+    }
+    if sample_bytes(a, j) != sample_bytes(b, j) {
+        return Some(Way::Bytes { sample: j });
+    }
+    None
+}
+
+/// How the first sample that differs does.
+fn first_of_samples(a: &Batch, b: &Batch) -> Option<Way>
+    requires { b.now.count ≡ a.now.count }
+    ensures { result ≡ first_way a.now b.now a.now.count }
+{
+    for j in 0..a.count {
+        let way = sample_way(a, b, j);
+        if way.is_some() {
+            return way;
+        }
+    }
+    None
+}
+
+/// The way in which a batch of A and one of B differ, if they do. If both have one line and equal bytes, no sample is looked at.
+#[tactic(auto, unfolding(crate::specs::Ways::way_of))]
+pub fn way_of(a: &Batch, b: &Batch) -> Option<Way>
+    ensures { result ≡ way a.now b.now }
+{
+    if a.count != b.count {
+        return Some(Way::Count {
+            a: a.count,
+            b: b.count,
+        });
+    }
+    if a.line == b.line && a.from == b.from && a.bytes.as_slice() == b.bytes.as_slice() {
+        return None;
+    }
+    first_of_samples(a, b)
+}
