@@ -5,3 +5,4 @@ pub mod Windows
 pub mod Noted
 pub mod Latest
 pub mod TooLate
+pub mod FoundPairs

@@ -5,4 +5,5 @@ pub mod Search
 pub mod Views
 pub mod Window
 pub mod Examples
+pub mod Adjacent
 pub mod state

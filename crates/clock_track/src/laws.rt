@@ -1,10 +1,11 @@
 //! Laws of a clock's lines. Each is stated by a contract; the call does nothing.
 
-ghost use Rattle.std.specs.Prelude.{◌≡◌, ◌+◌, ◌*◌, ◌≤◌, ℕ, ℤ, List, All, None, Some, false, true, pos};
+ghost use Rattle.std.specs.Prelude.{Contains, ◌≢◌, ◌≡◌, ◌+◌, ◌*◌, ◌≤◌, ℕ, ℤ, List, All, None, Some, false, true, pos};
 ghost use Rattle.clock_track.specs.declared.clock_row.ClockRow.{ClockRow};
 ghost use Rattle.clock_track.specs.Examples.{second_pair, worked_rows};
 ghost use Rattle.clock_track.specs.Pairs.{Covers, IsJoined, spot_by};
-ghost use Rattle.clock_track.specs.Rows.{IsLatest, clock_spot, joined_pairs, latest};
+ghost use Rattle.clock_track.specs.Adjacent.{AreAcross, AreInside, followed_rows, pair_across, pair_inside};
+ghost use Rattle.clock_track.specs.Rows.{IsLatest, clock_spot, joined_pairs, latest, window};
 
 /// The pair that gives a sample its line is joined and covers the instant, and no pair after it in the list of joined
 /// pairs does; if there is none, no joined pair covers the instant.
@@ -31,4 +32,18 @@ pub fn worked_lines_are_so()
     ensures other { clock_spot (worked_rows 44100 false) (pos 0) (pos 1004125000) 48000 ≡ Some (record { line = record { base = pos 1004125000; num = 88200000000; den = 4608000 }; from = pos 0 }) }
     ensures before { clock_spot (worked_rows 48000 false) (pos 0) (pos 1003000000) 48000 ≡ None }
     ensures restarted { clock_spot (worked_rows 48000 true) (pos 0) (pos 1004125000) 48000 ≡ None }
+{}
+
+/// If the packets of two adjacent timestamps that are joined are among the last 64, and the pair covers an instant, the
+/// clock has a line for the instant: for two timestamps of one packet, and for the last one of a packet and the first of
+/// the next.
+pub fn covering_pairs_are_found()
+    ensures inside { (shift instant : ℤ) (rate i : ℕ) (rows : List ClockRow) (row : ClockRow) → Contains (window rows) row → AreInside shift row i → Covers (pair_inside shift row i) rate instant → clock_spot rows shift instant rate ≢ None }
+    ensures across { (shift instant : ℤ) (rate : ℕ) (rows : List ClockRow) (row before : ClockRow) → Contains (window rows) row → Contains (window rows) before → AreAcross shift row before → Covers (pair_across shift row before) rate instant → clock_spot rows shift instant rate ≢ None }
+{}
+
+/// The two worked packets give a line while they are among the last 64 that came: if at most 62 others came after them.
+pub fn last_64_packets_count()
+    ensures last { clock_spot (followed_rows 62) (pos 0) (pos 1004125000) 48000 ≡ Some (record { line = record { base = pos 1004000000; num = 2000000; den = 96 }; from = pos 6 }) }
+    ensures dropped { clock_spot (followed_rows 63) (pos 0) (pos 1004125000) 48000 ≡ None }
 {}

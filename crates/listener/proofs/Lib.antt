@@ -18,6 +18,8 @@ pub mod TrueOnce
 pub mod TrueTimely
 pub mod TrueOrder
 pub mod Shown
+pub mod KnownRows
+pub mod KnownItems
 pub mod Welcome
 pub mod ClockWelcome
 pub mod UnitWelcome

@@ -34,7 +34,8 @@ use Rattle.sample_schedule.specs.Heads as heads
 use Rattle.sample_schedule.specs.Verdicts.{counted_from, moved, nominal_spot, ok_or_reason, row_of, samples_at, spot_of, timed}
 use Rattle.packet_journal.specs.Packets.{PacketJournal, carried}
 use Rattle.packet_journal.specs.Units.{IsContentBy}
-use Rattle.listener.specs.Laws.{IsOfPacket, sample_count, spot_in}
+use Rattle.listener.specs.Laws.{IsOfPacket, sample_count}
+use Rattle.listener.specs.state.Known.{spot_in}
 use Rattle.listener.proofs.TrueItems.{sent}
 
 -- ---- the packet's own timestamp
@@ -92,7 +93,7 @@ eight : (n : ℕ) → n % 256 % 8 ≡ n % 8
 eight n = omega arith
 
 -- a sequence number tells as much of how far back a head lies as the packet's number
-same_distance : (rule : HeadRule) (n count : ℕ) → distance rule (n % 256) count ≡ distance rule n count
+pub same_distance : (rule : HeadRule) (n count : ℕ) → distance rule (n % 256) count ≡ distance rule n count
 same_distance Own n count = refl
 same_distance Eight n count = rw (eight n) refl
 same_distance (Blocks dbc interval) n count = refl

@@ -32,8 +32,10 @@ use Rattle.packet_journal.specs.Packets.{PacketJournal, carried}
 use Rattle.listener.specs.declared.plan.ListenPlan.{ListenPlan}
 use Rattle.listener.specs.Heard.{deliveries_of, entries_in, items_in, schedule_plan, shown_of}
 use Rattle.listener.specs.Items.{MadeItem, entries, entry_of, items_of, made_of_one}
-use Rattle.listener.specs.Laws.{HearsTalker, IsFurther, IsOfPacket, IsPresentedOf, IsTimely, IsWelcome, accepted_before, by_clock, is_known, presented_of, time_of, verdict_of}
+use Rattle.listener.specs.Laws.{HearsTalker, IsFurther, IsOfPacket, IsPresentedOf, IsTimely, IsWelcome, accepted_before, by_clock, presented_of, time_of, verdict_of}
+use Rattle.listener.specs.state.Known.{is_known}
 use Rattle.listener.proofs.ItemKinds.{IsFlagOf, IsKind, IsWholeOf, all_here, all_kinds, at_place}
+use Rattle.listener.proofs.KnownItems.{item_known}
 use Rattle.listener.proofs.Shown.{entry_at}
 use Rattle.listener.proofs.TrueItems.{IsCopied, Shows, all_shown, audio_other, copy_entry, sent}
 use Rattle.listener.proofs.TrueUnits.{unit_item, unit_packet}
@@ -136,10 +138,14 @@ record IsTimed (p : PacketJournal) (plan : ListenPlan) (records : List Record) (
   timed_is : timed clock_spot (schedule_plan plan) (prefix_of (schedule_plan plan) (entries_in plan records) place) item ≡ Ok batch
   is : IsBatchOf (by_clock plan) p n made.last.frame batch
 
+-- a listener's search finds where its samples are
+abbrev IsKnownHere : ListenPlan → List Record → ℕ → MadeItem → Type 0
+IsKnownHere plan records place made = is_known (schedule_plan plan) (prefix_of (schedule_plan plan) (entries_in plan records) place) made.entry ≡ true
+
 -- of a packet of audio
 audio_timed : (shift : ℤ) (p : PacketJournal) (plan : ListenPlan) (records : List Record) (place n : ℕ) (d : Delivery) → HearsTalker shift p plan records → IsAudioKind p.times.kind → Shows d → IsTimely p plan records place n (made_of_one d)
-    → IsTimed p plan records place n (made_of_one d)
-audio_timed shift p plan records place n d h heard shows w =
+    → IsKnownHere plan records place (made_of_one d) → IsTimed p plan records place n (made_of_one d)
+audio_timed shift p plan records place n d h heard shows w k =
     let sp = schedule_plan plan in
     let es = entries_in plan records in
     let items = items_in plan records in
@@ -148,7 +154,7 @@ audio_timed shift p plan records place n d h heard shows w =
     let copy = w.copy.last in
     let packet = sent p.times n d.frame copy.arrival (carried (p.packet n)) in
     let entry : entry_of d ≡ OfItem (OfPacket packet) = copy_entry shift p plan.lead n d h.conforming heard copy shows in
-    let known = subst (λ (e : Entry). is_known sp prefix e ≡ true) entry w.known in
+    let known = subst (λ (e : Entry). is_known sp prefix e ≡ true) entry k in
     let true_ones = prefix_true items shift p plan.lead prefix (λ heard. is.audio) (All-take (IsTrueEntry items shift p plan.lead) (place + plan.look + 1) es (entries_true shift p plan records h)) in
     let ok = timed_ok p sp n d.frame copy.arrival prefix is.audio known in
     let so = timed_true shift p sp n d.frame copy.arrival prefix is true_ones copy.delivered in
@@ -160,9 +166,9 @@ audio_timed shift p plan records place n d h heard shows w =
       is = subst (λ (r : Result Presented Reason). IfOk r (IsBatchOf (by_clock plan) p n d.frame)) ok.same so;
     }
 
-one_timed : (shift : ℤ) (p : PacketJournal) (plan : ListenPlan) (records : List Record) (place n : ℕ) (d : Delivery) → HearsTalker shift p plan records → Shows d → IsOther d → IsTimely p plan records place n (made_of_one d) → IsTimed p plan records place n (made_of_one d)
-one_timed shift p plan records place n d h shows other w =
-    audio_timed shift p plan records place n d h (audio_other shift p plan.lead n d h.conforming w.copy.last shows other) shows w
+one_timed : (shift : ℤ) (p : PacketJournal) (plan : ListenPlan) (records : List Record) (place n : ℕ) (d : Delivery) → HearsTalker shift p plan records → Shows d → IsOther d → IsTimely p plan records place n (made_of_one d) → IsKnownHere plan records place (made_of_one d) → IsTimed p plan records place n (made_of_one d)
+one_timed shift p plan records place n d h shows other w k =
+    audio_timed shift p plan records place n d h (audio_other shift p plan.lead n d h.conforming w.copy.last shows other) shows w k
 
 -- of a unit
 unit_timed : (shift : ℤ) (p : PacketJournal) (plan : ListenPlan) (records : List Record) (place n : ℕ) (made : MadeItem) → HearsTalker shift p plan records → IsWholeOf (deliveries_of plan records) made → IsTimely p plan records place n made
@@ -187,17 +193,17 @@ flag_unknown : (plan : SchedulePlan) (prefix : List Entry) (made : MadeItem) →
 flag_unknown plan prefix made flag = subst (λ (m : MadeItem). is_known plan prefix m.entry ≡ true → ⊥) flag.same (λ e. cc)
 
 timed_by : (shift : ℤ) (p : PacketJournal) (plan : ListenPlan) (records : List Record) (place n : ℕ) (made : MadeItem) → HearsTalker shift p plan records → IsKind (deliveries_of plan records) made → IsTimely p plan records place n made
-    → IsTimed p plan records place n made
-timed_by shift p plan records place n made h (inl one) w =
+    → IsKnownHere plan records place made → IsTimed p plan records place n made
+timed_by shift p plan records place n made h (inl one) w k =
     let shows = all_here Shows one.before one.rest one.delivery (subst (λ (l : List Delivery). All Shows l) one.is (all_shown plan.stream plan.clock records)) in
-    subst (λ (m : MadeItem). IsTimely p plan records place n m → IsTimed p plan records place n m) one.same (one_timed shift p plan records place n one.delivery h shows one.other) w
-timed_by shift p plan records place n made h (inr (inl flag)) w = absurd (flag_unknown (schedule_plan plan) (prefix_of (schedule_plan plan) (entries_in plan records) place) made flag w.known)
-timed_by shift p plan records place n made h (inr (inr v)) w = unit_timed shift p plan records place n made h v w
+    subst (λ (m : MadeItem). IsTimely p plan records place n m → IsKnownHere plan records place m → IsTimed p plan records place n m) one.same (one_timed shift p plan records place n one.delivery h shows one.other) w k
+timed_by shift p plan records place n made h (inr (inl flag)) w k = absurd (flag_unknown (schedule_plan plan) (prefix_of (schedule_plan plan) (entries_in plan records) place) made flag k)
+timed_by shift p plan records place n made h (inr (inr v)) w k = unit_timed shift p plan records place n made h v w
 
 timely : (shift : ℤ) (p : PacketJournal) (plan : ListenPlan) (records : List Record) (place n : ℕ) (made : MadeItem) → HearsTalker shift p plan records → IsTimely p plan records place n made → IsTimed p plan records place n made
 timely shift p plan records place n made h w =
     let ds = deliveries_of plan records in
-    timed_by shift p plan records place n made h (at_place (IsKind ds) (items_of ds) place made (all_kinds ds) w.there) w
+    timed_by shift p plan records place n made h (at_place (IsKind ds) (items_of ds) place made (all_kinds ds) w.there) w (item_known shift p plan records place n made h w.there w.copy.last w.known)
 
 in_time : (p : PacketJournal) (plan : ListenPlan) (records : List Record) (place n : ℕ) (made : MadeItem) → Conforms p.times → (w : IsTimely p plan records place n made) → (t : IsTimed p plan records place n made)
     → time_of plan records place ≤ℤ first_instant t.batch

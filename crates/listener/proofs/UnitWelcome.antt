@@ -1,13 +1,15 @@
 -- A unit of H.264 at the begin of a capture must be presented, where its packets came in order.
 use Rattle.std.proofs.Common.{◌≡◌, ◌⊎◌, ℕ, zero, suc, ◌+◌, ◌%◌, ◌<◌, ◌≤◌, ◌^◌, Bool, true, false, ℤ, pos, ◌≤ℤ◌, List, [], ◌∷◌, ◌++◌, All, drop, length, map, Option, Some, None, refl, sym, ap, ◌∙◌, subst, inl, inr, arith, append-nil, append_assoc, eq-eqb, length-append}
-use Rattle.std.specs.Prelude.{◌-◌, ◌==◌, nat_lt, if◌then◌else◌, slice_get, IfSome, option_map}
+use Rattle.std.specs.Prelude.{◌-◌, ◌==◌, nat_lt, not, if◌then◌else◌, slice_get, Contains, IfSome, option_map}
 use Rattle.std.specs.List.{flat_map}
 use Rattle.std.proofs.lemmas.Bool.{cases_lt}
 use Rattle.std.proofs.lemmas.Bool.Decides.{nat_tests}
 use Rattle.std.proofs.lemmas.Grind.{flat_map-append}
 use Rattle.std.proofs.lemmas.Int.{ints}
 use Rattle.std.proofs.lemmas.List.{length-map, map-append}
-use Rattle.std.proofs.lemmas.List.Elements.{All-cons, All-head, All-nil, All-tail}
+use Rattle.std.proofs.Math.Seq.{drop-append_seam}
+use Rattle.std.proofs.lemmas.List.Elements.{All-append, All-cons, All-filter, All-head, All-nil, All-tail, Contains-append_left, Contains-append_right, Contains-push}
+use Rattle.time_unfold.proofs.Found.{All-back}
 use Rattle.avtp_base.specs.declared.refusal.Refusal.{Refusal}
 use Rattle.clock_track.specs.Rows.{clock_spot}
 use Rattle.crf_format.specs.Crf.{crf_subtype}
@@ -16,7 +18,7 @@ use Rattle.cvf_format.specs.declared.cvf.NalPart.TheVariants.{Single as SingleNa
 use Rattle.cvf_format.specs.declared.piece.Piece.{Piece}
 use Rattle.cvf_format.specs.declared.piece.Piece.TheVariants.{Whole, Held}
 use Rattle.cvf_format.specs.Cvf.{Cvf, cvf_of, cvf_refusal, cvf_subtype, plain_cvf}
-use Rattle.cvf_format.specs.Stretches.{Event, Fragment, are_linked, before_last, begins, completes, given_up, goes_on, held, is_complete, is_joined, is_stretch, is_within, last_stretch, longest_unit, most_fragments, packet, piece, piece_of, reason, sequence_numbers, stamps, unit_of}
+use Rattle.cvf_format.specs.Stretches.{Event, Fragment, are_linked, before_last, begins, completes, given_up, goes_on, held, is_complete, is_joined, is_stretch, is_within, last_stretch, longest_unit, most_fragments, packet, piece, piece_of, reason, sequence_numbers, stamps, unit_of, whole_unit}
 use Rattle.cvf_format.proofs.SettledLemmas.{one_stretch}
 use Rattle.cvf_format.proofs.StretchLemmas.{complete_more, complete_one}
 use Rattle.pcap_frames.specs.Capture.{Record}
@@ -29,7 +31,10 @@ use Rattle.packet_journal.specs.Packets.{IsConforming, IsCvfPacket, PacketJourna
 use Rattle.packet_journal.specs.Units.{AreUnit, IsContentBy, first_byte, unit_bytes}
 use Rattle.listener.specs.declared.plan.ListenPlan.{ListenPlan}
 use Rattle.listener.specs.Heard.{deliveries_of, entries_in, items_in, schedule_plan}
-use Rattle.listener.specs.Items.{MadeItem, events_to, flagged, given_after, given_by, given_up_by, items_of, lost_for, made_of_one, own_by, piece_by, unit_by, video_by}
+use Rattle.listener.specs.Items.{MadeItem, events_to, flagged, given_after, given_by, given_up_by, items_of, items_so_far, left_at_end, lost_for, made_of_one, own_by, piece_by, unit_by, video_by}
+use Rattle.listener.specs.Known.{IsKnownUnit}
+use Rattle.time_unfold.specs.Time.{unfolded}
+use Rattle.listener.proofs.KnownItems.{unit_item_known}
 use Rattle.listener.specs.Laws.{AreCopiesFrom, AreOfUnit, HearsTalker, IsMadeOf, IsOfPacket, IsWelcome, by_clock, time_of}
 use Rattle.listener.specs.Units.{event_of, events, flaw_in, flaw_of, flaw_or, fragment_in, in_stream, last_ones}
 use Rattle.listener.proofs.ItemKinds.{all_before, at_place}
@@ -440,12 +445,24 @@ begin_of shift p part lead from n earlier last is kind shows u =
     size_of [] long all = omega arith
     size_of (f ∷ fs) long all = subst (λ (l : List ℕ). length l ≤ longest_unit) (sym (unit_is p part from n f fs (omega (arith, long)) all)) u.size
 
-made_of : (p : PacketJournal) (part : ℕ → Part) (lead from n : ℕ) (earlier : List Delivery) (last : Delivery) → AreOfUnit p part lead from n earlier last → (unit_by earlier last).earlier ≡ earlier → IsMadeOf p lead n (unit_by earlier last)
+abbrev made_of : (p : PacketJournal) (part : ℕ → Part) (lead from n : ℕ) (earlier : List Delivery) (last : Delivery) → AreOfUnit p part lead from n earlier last → (unit_by earlier last).earlier ≡ earlier → IsMadeOf p lead n (unit_by earlier last)
 made_of p part lead from n earlier last u same = record {
   from = from;
   to = ap (λ (l : List Delivery). from + length l) same ∙ u.to;
   earlier = subst (λ (l : List Delivery). AreCopiesFrom p lead from l) (sym same) u.earlier_copies;
   last = u.last_copy;
+}
+
+unit_by_known : (before : List Delivery) (d : Delivery) → IsKnownUnit (unit_by before d)
+unit_by_known before d = record {
+  unit = record {
+    frame = d.frame;
+    arrival = d.arrival;
+    seq = d.seq;
+    instant = unfolded (cvf_of d.packet).header.timestamp d.arrival;
+    bytes = whole_unit (events_to before d);
+  };
+  is = refl;
 }
 
 pub unit_welcome : (shift : ℤ) (p : PacketJournal) (plan : ListenPlan) (records : List Record) (part : ℕ → Part) (from n : ℕ) (earlier : List Delivery) (last : Delivery) (rest : List Delivery) → HearsTalker shift p plan records → p.times.kind ≡ H264 part
@@ -464,7 +481,7 @@ unit_welcome shift p plan records part from n earlier last rest h kind same u ea
       timely = record {
         there = there;
         copy = made_of p part plan.lead from n earlier last u (earlier_are earlier last begin);
-        known = refl;
+        known = unit_item_known p.times.kind part p plan records 0 (record { number = n; arrival = u.last_copy.arrival }) (unit_by earlier last) kind (unit_by_known earlier last);
         instant = pos (p.times.due n);
         at = unit_time p.times.kind p part (by_clock plan) n kind;
         in_time = time;
@@ -517,3 +534,85 @@ one_welcome shift p plan records part n d h kind at copy whole early some fits =
     let c = video_copy shift p part plan.lead n d h.conforming kind copy (at_place Shows (deliveries_of plan records) 0 d (all_shown plan.stream plan.clock records) at) in
     let rest = first_is (deliveries_of plan records) d at in
     unit_welcome shift p plan records part n n [] d rest.0 h kind rest.1 (one_of_unit p part plan.lead n d copy c whole) early some fits
+
+-- ---- a unit whose packets came in order, wherever in the capture
+
+-- what came before them, and they themselves
+events_after : (before front earlier : List Delivery) (last : Delivery) → in_stream before ≡ front ++ earlier → Begins earlier last → events_to before last ≡ map event_of front ++ map packet (run_at earlier last)
+events_after before front earlier last split b =
+    let own : events before ≡ map event_of front ++ map event_of earlier = ap (map event_of) split ∙ map-append event_of front earlier in
+    let alone : map event_of earlier ++ event_of last ∷ [] ≡ map packet (run_at earlier last) =
+    ap (λ (l : List Delivery). map event_of l ++ event_of last ∷ []) (sym (all_streamed earlier b.others)) ∙ events_are earlier last b in
+    ap (λ (es : List Event). es ++ event_of last ∷ []) own
+    ∙ (append_assoc (map event_of front) (map event_of earlier) (event_of last ∷ [])
+    ∙ ap (λ (es : List Event). map event_of front ++ es) alone)
+
+run_after : (before front earlier : List Delivery) (last : Delivery) → in_stream before ≡ front ++ earlier → Begins earlier last → last_stretch (events_to before last) ≡ run_at earlier last
+run_after before front earlier last split b =
+    one_stretch (events_to before last) (run_at earlier last) (map event_of front) (events_after before front earlier last split b) b.stretches
+
+whole_after : (p : PacketJournal) (part : ℕ → Part) (lead from n : ℕ) (before front earlier : List Delivery) (last : Delivery) → in_stream before ≡ front ++ earlier → IsBegin p part lead from n (earlier ++ last ∷ []) → Begins earlier last → piece (events_to before last) ≡ Whole
+whole_after p part lead from n before front earlier last split b begin =
+    let same : earlier ++ last ∷ [] ≡ (earlier ++ last ∷ []) ++ [] = sym (append-nil (earlier ++ last ∷ [])) in
+    let to : from + length earlier ≡ n = omega (arith, length-append earlier (last ∷ []), b.long) in
+    let ends : Ends (part (from + length earlier)) = subst (λ (k : ℕ). Ends (part k)) (sym to) (unit_last b.unit) in
+    let complete = complete_so (fragment_at last).part (part (from + length earlier)) (part_at p part lead from n (earlier ++ last ∷ []) earlier last [] b same) ends in
+    let some : 1 ≤ length (run_at earlier last) = omega (arith, length-map (earlier ++ last ∷ []) fragment_at, length-append earlier (last ∷ [])) in
+    let all : is_complete (run_at earlier last) ≡ true = ap is_complete (more_run earlier last) ∙ (complete_last (fragments_at earlier) (fragment_at last) ∙ complete) in
+    ap piece_of (run_after before front earlier last split begin) ∙ piece_so (run_at earlier last) true some begin.within all
+  where
+    unit_last : AreUnit part from n → Ends (part n)
+    unit_last (inl e) = inl e.1
+    unit_last (inr are) = inr are.last
+
+-- the unit is the last that the delivery gives
+given_after_all : (before : List Delivery) (last : Delivery) → IsGood last → piece (events_to before last) ≡ Whole → given_by before last ≡ given_up_by before last ++ unit_by before last ∷ []
+given_after_all before last good whole =
+    ap (λ (t : Bool). if t then made_of_one last ∷ [] else given_up_by before last ++ own_by before last) good.streamed
+    ∙ ap (λ (l : List MadeItem). given_up_by before last ++ l)
+    (ap (λ (t : Bool). if t then video_by before last (flaw_of last) else made_of_one last ∷ []) good.is_video
+    ∙ (ap (video_by before last) good.flawless
+    ∙ ap (piece_by before last) whole))
+
+listed_after : (ds before : List Delivery) (last : Delivery) (rest : List Delivery) → ds ≡ before ++ last ∷ rest → given_by before last ≡ given_up_by before last ++ unit_by before last ∷ [] → Contains (items_of ds) (unit_by before last)
+listed_after ds before last rest same given =
+    let here : Contains (given_by before last) (unit_by before last) = subst (λ (l : List MadeItem). Contains l (unit_by before last)) (sym given) (Contains-push (given_up_by before last) (unit_by before last)) in
+    let after = Contains-append_left (given_by before last) (given_after (before ++ last ∷ []) rest) (unit_by before last) here in
+    let all = Contains-append_right (items_so_far before) (given_by before last ++ given_after (before ++ last ∷ []) rest) (unit_by before last) after in
+    let so_far : Contains (items_so_far ds) (unit_by before last) = subst (λ (l : List MadeItem). Contains l (unit_by before last)) (sym (so_far_more before (last ∷ rest)) ∙ ap items_so_far (sym same)) all in
+    Contains-append_left (items_so_far ds) (left_at_end ds) (unit_by before last) so_far
+
+earlier_after : (before front earlier : List Delivery) (last : Delivery) → in_stream before ≡ front ++ earlier → Begins earlier last → (unit_by before last).earlier ≡ earlier
+earlier_after before front earlier last split b =
+    let run = run_after before front earlier last split b in
+    let long : length (run_at earlier last) - 1 ≡ length earlier = omega (arith, length-map (earlier ++ last ∷ []) fragment_at, length-append earlier (last ∷ [])) in
+    let place : length (front ++ earlier) - length earlier ≡ length front = omega (arith, length-append front earlier) in
+    ap (λ (l : List Fragment). last_ones (length l - 1) (in_stream before)) run
+    ∙ (ap (λ (k : ℕ). last_ones k (in_stream before)) long
+    ∙ (ap (last_ones (length earlier)) split
+    ∙ (ap (λ (k : ℕ). drop k (front ++ earlier)) place
+    ∙ drop-append_seam front earlier)))
+
+shows_after : (ds before front earlier : List Delivery) (last : Delivery) (rest : List Delivery) → ds ≡ before ++ last ∷ rest → in_stream before ≡ front ++ earlier → All Shows ds → All Shows (earlier ++ last ∷ [])
+shows_after ds before front earlier last rest same split all =
+    let there = subst (λ (l : List Delivery). All Shows l) same all in
+    let streamed : All Shows (in_stream before) = All-filter (λ (d : Delivery). not (d.subtype == crf_subtype)) Shows before (all_before Shows before (last ∷ rest) there) in
+    let run : All Shows earlier = All-back Shows front earlier (subst (λ (l : List Delivery). All Shows l) split streamed) in
+    All-append Shows earlier (last ∷ []) run (All-cons Shows last [] (All-head Shows last rest (All-back Shows before (last ∷ rest) there)) (All-nil Shows))
+
+-- the unit is made of these deliveries
+pub record IsMadeUnit (items : List MadeItem) (before earlier : List Delivery) (last : Delivery) : Type 0 where
+  pub listed : Contains items (unit_by before last)
+  pub of : (unit_by before last).earlier ≡ earlier
+
+pub unit_made_whole : (shift : ℤ) (p : PacketJournal) (plan : ListenPlan) (records : List Record) (part : ℕ → Part) (from n : ℕ) (before front earlier : List Delivery) (last : Delivery) (rest : List Delivery) → HearsTalker shift p plan records → p.times.kind ≡ H264 part
+    → deliveries_of plan records ≡ before ++ last ∷ rest → in_stream before ≡ front ++ earlier → AreOfUnit p part plan.lead from n earlier last → IsMadeUnit (items_in plan records) before earlier last
+unit_made_whole shift p plan records part from n before front earlier last rest h kind same split u =
+    let ds = deliveries_of plan records in
+    let shows = shows_after ds before front earlier last rest same split (all_shown plan.stream plan.clock records) in
+    let b = begin_of shift p part plan.lead from n earlier last h.conforming kind shows u in
+    let begin = begin_at p part plan.lead from n (earlier ++ last ∷ []) earlier last [] b (sym (append-nil (earlier ++ last ∷ []))) in
+    record {
+      listed = listed_after ds before last rest same (given_after_all before last begin.good (whole_after p part plan.lead from n before front earlier last split b begin));
+      of = earlier_after before front earlier last split begin;
+    }

@@ -1,5 +1,5 @@
 -- Without a clock the first packet of a capture is one that must be presented, and the same once more is a further copy.
-use Rattle.std.proofs.Common.{All, ◌≡◌, ℕ, ◌+◌, ◌<◌, ◌≤◌, Bool, true, false, ℤ, pos, ◌≤ℤ◌, List, [], ◌∷◌, length, Option, Some, None, Ok, is_some, refl, sym, ap, ◌∙◌, subst, arith}
+use Rattle.std.proofs.Common.{All, inl, ◌≡◌, ℕ, ◌+◌, ◌<◌, ◌≤◌, Bool, true, false, ℤ, pos, ◌≤ℤ◌, List, [], ◌∷◌, length, Option, Some, None, Ok, is_some, refl, sym, ap, ◌∙◌, subst, arith}
 use Rattle.std.specs.Prelude.{◌==◌, nat_le, nat_lt, if◌then◌else◌, slice_get, option_and_then, option_map}
 use Rattle.std.specs.Int.{int_max}
 use Rattle.std.specs.List.{filter_map}
@@ -34,19 +34,16 @@ use Rattle.aaf_format.specs.Aaf.{aaf_of, aaf_refusal, aaf_subtype}
 use Rattle.crf_format.specs.Crf.{crf_subtype}
 use Rattle.iec61883_format.specs.Iec.{iec_of, iec_refusal}
 use Rattle.listener.specs.Items.{MadeItem, aaf_item, blocks_of, clock_row, entry_of, iec_item, item_of, made_of_one, refused_or, samples_of}
-use Rattle.listener.specs.Laws.{HearsTalker, IsFurther, IsOfPacket, IsTimely, IsWelcome, by_clock, is_known, spot_in, time_of}
+use Rattle.listener.specs.Laws.{HearsTalker, IsFurther, IsOfPacket, IsTimely, IsWelcome, by_clock, time_of}
+use Rattle.listener.specs.state.Known.{is_known, spot_in}
+use Rattle.listener.proofs.KnownItems.{audio_item, origins_of}
 use Rattle.listener.proofs.ItemKinds.{at_place}
 use Rattle.listener.proofs.TrueHeard.{audio_content, usable, at_nominal}
 use Rattle.listener.proofs.TrueItems.{Shows, all_shown, copy_entry, sent}
-use Rattle.listener.proofs.TrueList.{audio, one_copy, others}
+use Rattle.listener.proofs.TrueList.{audio, others}
 use Rattle.listener.proofs.TrueOnce.{nominal_due}
 use Rattle.listener.proofs.TrueTimely.{entry_there, item_there, taken, welcome_judged}
 use Rattle.listener.proofs.Made.{IsOther}
-
--- a stamped packet has its head in itself
-pub own_head : (j : Journal) (plan : SchedulePlan) (prefix : List Entry) (n frame arrival instant : ℕ) (bytes : List ℕ) → IsAudio j → n < j.packets → j.stamp n ≡ Some instant
-    → is_some (heads.head_of plan prefix (sent j n frame arrival bytes)) ≡ true
-own_head j plan prefix n frame arrival instant bytes is known e = rw (usable j n frame arrival bytes is known, e) refl
 
 -- the time when the first entry is judged
 pub first_time : (es : List Entry) (e : Entry) → slice_get es 0 ≡ Some e → now_at es 0 ≡ int_max (pos 0) (arrival_of e)
@@ -65,11 +62,6 @@ has_room plan now size some fits = by (nat_le plan.buffer 0) (nat_lt plan.room (
     by : (a b : Bool) → a ≡ false → b ≡ false → (if a then true else b) ≡ false
     by a b e f = rw (e, f) refl
 
-nominal_known : (clock : Bool) (plan : SchedulePlan) (prefix : List Entry) (rate : ℕ) (r : Option Head) → clock ≡ false → is_some r ≡ true
-    → is_some (option_and_then (λ (head : Head). if clock then option_map (moved head.first) (clock_spot (filter_map row_of prefix) plan.shift head.instant rate) else Some (nominal_spot rate head)) r) ≡ true
-nominal_known clock plan prefix rate None off some = absurd cc
-nominal_known clock plan prefix rate (Some head) off some = rw off refl
-
 -- the head of a stamped packet in the journal
 some_head : (j : Journal) (n instant : ℕ) → j.stamp n ≡ Some instant → is_some (head_of j n) ≡ true
 some_head j n instant e = rw e refl
@@ -81,23 +73,23 @@ due_at_by j n (Some head) heard is known e some = at_nominal j.kind j n 0 _ hear
 due_at : (j : Journal) (n instant : ℕ) → IsAudioKind j.kind → IsAudio j → n < j.packets → j.stamp n ≡ Some instant → IsAt false j n 0 (pos (j.due n))
 due_at j n instant heard is known e = due_at_by j n (head_of j n) heard is known refl (some_head j n instant e)
 
+not_both : (b : Bool) → b ≡ false → b ≡ true → ⊥
+not_both b e f = cc
+
 -- the item of a stamped copy is packet n with a known timestamp, and it came in time
 timely_at : (shift : ℤ) (p : PacketJournal) (plan : ListenPlan) (records : List Record) (place n instant : ℕ) (d : Delivery) → HearsTalker shift p plan records → IsAudioKind p.times.kind → plan.clock ≡ None → slice_get (deliveries_of plan records) place ≡ Some d
     → IsCopyOf p plan.lead n d → p.times.stamp n ≡ Some instant → time_of plan records place ≤ℤ pos (p.times.due n) → IsTimely p plan records place n (made_of_one d)
 timely_at shift p plan records place n instant d h heard off at copy stamped early =
-    let sp = schedule_plan plan in
-    let prefix = prefix_of sp (entries_in plan records) place in
     let is = audio p heard h.conforming.times in
     let by_is : by_clock plan ≡ false = rw off refl in
-    let shows = at_place Shows (deliveries_of plan records) place d (all_shown plan.stream plan.clock records) at in
-    let packet = sent p.times n d.frame copy.arrival (carried (p.packet n)) in
-    let same : entry_of d ≡ OfItem (OfPacket packet) = copy_entry shift p plan.lead n d h.conforming heard copy shows in
-    let head = own_head p.times sp prefix n d.frame copy.arrival instant (carried (p.packet n)) is copy.delivered.known stamped in
-    let spot : is_some (spot_in sp prefix packet) ≡ true = nominal_known sp.clock sp prefix p.times.rate (heads.head_of sp prefix packet) by_is head in
     record {
       there = item_there (deliveries_of plan records) place d (others shift p plan records h heard) at;
-      copy = one_copy p plan.lead n d copy;
-      known = subst (λ (e : Entry). is_known sp prefix e ≡ true) (sym same) spot;
+      copy = record { from = n; to = omega arith; earlier = tt; last = copy };
+      known = audio_item p.times.kind p plan records place (record { number = n; arrival = copy.arrival }) (made_of_one d) heard (record {
+        origins = h.delivered.origins;
+        from = origins_of shift p plan records h;
+        is = record { timed = inl (ap is_some stamped); covered = λ on head e. absurd (not_both (is_some plan.clock) by_is on) };
+      });
       instant = pos (p.times.due n);
       at = subst (λ (by : Bool). IsAt by p.times n 0 (pos (p.times.due n))) (sym by_is) (due_at p.times n instant heard is copy.delivered.known stamped);
       in_time = early;

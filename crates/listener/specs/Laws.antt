@@ -31,6 +31,7 @@ use Rattle.packet_journal.specs.Units.{AreUnit, IsContent, first_byte, unit_byte
 use Rattle.listener.specs.declared.plan.ListenPlan.{ListenPlan}
 use Rattle.listener.specs.Heard.{entries_in, items_in, schedule_plan}
 use Rattle.listener.specs.Items.{MadeItem, sources}
+use Rattle.listener.specs.Known.{IsKnownItem}
 
 -- The listener has no clock, or listens to the talker's own and adds to its timestamps what makes them the journal's
 -- points.
@@ -154,24 +155,12 @@ accepted_before plan records i = accepted clock_spot (schedule_plan plan) (entri
 abbrev pub time_of : ListenPlan → List Record → ℕ → ℤ
 time_of plan records i = now_at (entries_in plan records) i
 
--- where the samples of a packet are, given what is known when it is judged
-abbrev pub spot_in : SchedulePlan → List Entry → Packet → Option Spot
-spot_in plan prefix packet = option_and_then (spot_of clock_spot plan prefix packet.rate) (head_of plan prefix packet)
-
--- A timestamp is found from which the samples of an item are counted, and if the listener has a clock, two points of
--- the clock that cover it. A unit has its own timestamp.
-abbrev pub is_known : SchedulePlan → List Entry → Entry → Bool
-is_known plan prefix (OfItem (OfPacket packet)) = is_some (spot_in plan prefix packet)
-is_known plan prefix (OfItem (OfUnit whole)) = true
-is_known plan prefix (OfItem (OfBad bad)) = false
-is_known plan prefix (OfClock arrival row) = false
-
--- The item at a place is packet n: its timestamp or clock reference is known, and its first instant, by the clock or
--- without, has not passed.
+-- The item at a place is packet n: its timestamp or clock reference is known by the packets that came, and its first
+-- instant, by the clock or without, has not passed.
 pub record IsTimely (p : PacketJournal) (plan : ListenPlan) (records : List Record) (place n : ℕ) (made : MadeItem) : Type 0 where
   pub there : slice_get (items_in plan records) place ≡ Some made
   pub copy : IsMadeOf p plan.lead n made
-  pub known : is_known (schedule_plan plan) (prefix_of (schedule_plan plan) (entries_in plan records) place) made.entry ≡ true
+  pub known : IsKnownItem p.times.kind p plan records place (record { number = n; arrival = copy.last.arrival }) made
   pub instant : ℤ
   pub at : IsAt (by_clock plan) p.times n 0 instant
   pub in_time : time_of plan records place ≤ℤ instant

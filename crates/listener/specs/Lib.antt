@@ -4,6 +4,7 @@ pub mod Heard
 pub mod Gathering
 pub mod Listening
 pub mod Feeding
+pub mod Known
 pub mod Laws
 pub mod Headline
 pub mod state

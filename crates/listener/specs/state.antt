@@ -3,3 +3,4 @@ pub mod Feeding
 pub mod Gathering
 pub mod Listening
 pub mod Views
+pub mod Known

@@ -1,6 +1,6 @@
 //! Laws of what a listener hears. Each call is its contract, and does nothing.
 
-ghost use Rattle.std.specs.Prelude.{◌≡◌, ◌≤◌, ◌≤ℤ◌, ◌+◌, suc, true, ◌∷◌, ◌++◌, [], All, AllPairs, Any, ℕ, ℤ, Bool, pos, List, None, Some, length, slice_get};
+ghost use Rattle.std.specs.Prelude.{Contains, ◌≡◌, ◌≤◌, ◌≤ℤ◌, ◌+◌, suc, true, ◌∷◌, ◌++◌, [], All, AllPairs, Any, ℕ, ℤ, Bool, pos, List, None, Some, length, slice_get};
 ghost use mathlib.Core.List.{IsPrefix};
 ghost use Rattle.pcap_frames.specs.Capture.{Record};
 ghost use Rattle.stream_journal.specs.Delivered.{AreNear, IsAudioKind};
@@ -21,6 +21,7 @@ ghost use Rattle.listener.specs.Heard.{counts_of, deliveries_of, due_of, items_i
 ghost use Rattle.listener.specs.Headline.{KeepsHeadline};
 ghost use Rattle.listener.specs.Items.{MadeItem, made_of_one, unit_by};
 ghost use Rattle.listener.specs.Laws.{Agree, AreOfUnit, AreOther, CoversPacket, FollowsClock, HearsTalker, IsFurther, IsHeardFrom, IsInOneItem, IsOfJournal, IsOfPacket, IsPresentedOf, IsUnitFrom, IsWelcome, ComesBefore, by_clock, fragments_in, presented_of, shown_by, shown_of_frame, verdict_of};
+ghost use Rattle.listener.specs.Units.{in_stream};
 
 use packet_journal::laws::records_of_both_are_delivered;
 
@@ -73,6 +74,16 @@ pub fn clocks_are_followed()
 pub fn units_are_true()
     ensures { (shift : ℤ) (p : PacketJournal) (plan : ListenPlan) (records : List Record) (place : ℕ) (made : MadeItem) (unit : Unit) (part : ℕ → Part) → HearsTalker shift p plan records → p.times.kind ≡ H264 part → slice_get (items_in plan records) place ≡ Some made → made.entry ≡ Entry.Item (Item.Unit unit)
         → (n : ℕ) × IsUnitFrom p part plan.lead n made unit }
+{}
+
+/// Units that came whole are made. If one copy of each packet of a unit of the talker came, in their order and with none of
+/// the stream between, wherever in the capture and with packets of the clock between or not, the unit is among the items,
+/// made of just these copies; each packet carries the unit's first byte, and the unit is within the limits of units.
+pub fn units_are_whole()
+    ensures made { (shift : ℤ) (p : PacketJournal) (plan : ListenPlan) (records : List Record) (part : ℕ → Part) (from n : ℕ) (before front earlier : List Delivery) (last : Delivery) (rest : List Delivery) → HearsTalker shift p plan records → p.times.kind ≡ H264 part
+        → deliveries_of plan records ≡ before ++ last ∷ rest → in_stream before ≡ front ++ earlier → AreOfUnit p part plan.lead from n earlier last → Contains (items_in plan records) (unit_by before last) }
+    ensures of_these { (shift : ℤ) (p : PacketJournal) (plan : ListenPlan) (records : List Record) (part : ℕ → Part) (from n : ℕ) (before front earlier : List Delivery) (last : Delivery) (rest : List Delivery) → HearsTalker shift p plan records → p.times.kind ≡ H264 part
+        → deliveries_of plan records ≡ before ++ last ∷ rest → in_stream before ≡ front ++ earlier → AreOfUnit p part plan.lead from n earlier last → (unit_by before last).earlier ≡ earlier }
 {}
 
 /// What is presented is true. Whatever a capture loses, repeats or reorders of the packets of a talker that keeps the

@@ -5,3 +5,4 @@ pub mod Delivered
 pub mod Laws
 pub mod Carried
 pub mod Examples
+pub mod InUnits

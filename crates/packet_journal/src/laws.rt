@@ -1,8 +1,11 @@
 //! Laws of packets and their copies. Each call is its contract, and does nothing.
 
-ghost use Rattle.std.specs.Prelude.{◌≡◌, ℕ, ℤ, true, List, Option};
+ghost use Rattle.std.specs.Prelude.{◌≡◌, ◌<◌, ℕ, ℤ, true, List, Option};
 ghost use Rattle.pcap_frames.specs.Capture.{Record};
+ghost use Rattle.stream_journal.specs.Conforming.{IsVideo};
 ghost use Rattle.stream_journal.specs.Delivered.{AreNear};
+ghost use Rattle.stream_journal.specs.Journal.{Journal, Part};
+ghost use Rattle.packet_journal.specs.InUnits.{IsInUnit};
 ghost use Rattle.packet_journal.specs.Deliveries.{Delivery, belongs, clock_kinds, delivery, stream_kinds};
 ghost use Rattle.packet_journal.specs.Packets.{IsConforming, PacketJournal};
 ghost use Rattle.packet_journal.specs.Delivered.{Delivers, IsClockCopyOf, IsCopyOf, Origin, stream_numbers};
@@ -48,3 +51,9 @@ pub fn records_of_both_are_delivered()
 {
     cvf_format::laws::packet_again();
 }
+
+/// Each packet of H.264 is one of those of a unit, all of which the talker sent: a first fragment, then only middle ones, then a
+/// last one, or one packet with a whole unit.
+pub fn packets_are_of_units()
+    ensures { (j : Journal) (part : ℕ → Part) (n : ℕ) → IsVideo j part → n < j.packets → IsInUnit j part n }
+{}

@@ -58,18 +58,18 @@ back_of (Blocks dbc interval) n count far some e =
 -- ---- the arithmetic of both sides
 
 ahead : (dn dk p q r count index back d m : ℕ) → r ≤ 1000000000 → 4 * (dn * r) + 3 * m * (count * 1000000000) ≤ 4 * (dk * r)
-    → IsBefore r dk p index → back * 1000000000 < q * r + r → IsBack count d back → 256 ≤ m + d
-    → 4 * (dn * r) + 756 * (count * 1000000000) ≤ 4 * ((p + q) * r)
-ahead dn dk p q r count index back d m slow apart before div is far =
+    → IsBefore r dk p index → back * 1000000000 < q * r + r → IsBack count d back → 1 ≤ count → 256 ≤ m + d
+    → dn * r + 189 * (count * 1000000000) < (p + q) * r
+ahead dn dk p q r count index back d m slow apart before div is some far =
     let times : count * 256 ≤ count * (m + d) = mul-le-mul_left count far in
     let from = before.from in
     let least = is.from in
     omega arith
 
 behind_it : (dn dk p q r count index back d m : ℕ) → r ≤ 1000000000 → 4 * (dk * r) + 3 * m * (count * 1000000000) ≤ 4 * (dn * r)
-    → IsBefore r dk p index → index < count → q * r ≤ back * 1000000000 → IsBack count d back → d + 256 ≤ m
-    → 4 * ((p + q) * r) + 756 * (count * 1000000000) ≤ 4 * (dn * r)
-behind_it dn dk p q r count index back d m slow apart before within div is far =
+    → IsBefore r dk p index → index < count → q * r ≤ back * 1000000000 → IsBack count d back → 1 ≤ count → d + 256 ≤ m
+    → (p + q) * r + 189 * (count * 1000000000) < dn * r
+behind_it dn dk p q r count index back d m slow apart before within div is some far =
     let times : count * (d + 256) ≤ count * m = mul-le-mul_left count far in
     let few : count * d ≤ count * 7 = mul-le-mul_left count is.few in
     let to = before.to in
@@ -118,10 +118,10 @@ apart j is n k instant far known stamped e back same other =
           let m : ℕ = n - k in
           let there : k + m ≡ n = omega arith in
           let spacing = rw there at (spaced j is k m (omega arith)) in
-          inr (behind_it (j.due n) (j.due k) instant q j.rate j.count (stamped_index (rule_of j.kind k)) far.samples far.packets m (omega arith) spacing before within (omega arith) has (omega arith))
+          inr (behind_it (j.due n) (j.due k) instant q j.rate j.count (stamped_index (rule_of j.kind k)) far.samples far.packets m (omega arith) spacing before within (omega arith) has some (omega arith))
       | inr h ↦
           let m : ℕ = k - n in
           let there : n + m ≡ k = omega arith in
           let spacing = rw there at (spaced j is n m (omega arith)) in
-          inl (ahead (j.due n) (j.due k) instant q j.rate j.count (stamped_index (rule_of j.kind k)) far.samples far.packets m (omega arith) spacing before (omega arith) has (omega arith))
+          inl (ahead (j.due n) (j.due k) instant q j.rate j.count (stamped_index (rule_of j.kind k)) far.samples far.packets m (omega arith) spacing before (omega arith) has some (omega arith))
     ]

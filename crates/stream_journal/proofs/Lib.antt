@@ -15,3 +15,6 @@ pub mod ByClock
 pub mod Limits
 pub mod Blocks
 pub mod NearPackets
+pub mod FoundHeads
+pub mod FoundLines
+pub mod FoundExamples

@@ -24,7 +24,7 @@ difference x y = omega (arith, ints)
 
 -- the arithmetic of it; d is how far x and p are apart
 refused_by : (x p due r w d : ℕ) → due * r < x * r + 128 * w → x * r < due * r + 128 * w → p ≤ x + d → x ≤ p + d
-    → (4 * (due * r) + 756 * w ≤ 4 * (p * r)) ⊎ (4 * (p * r) + 756 * w ≤ 4 * (due * r)) → 60 * w < d * r
+    → (due * r + 189 * w < p * r) ⊎ (p * r + 189 * w < due * r) → 60 * w < d * r
 refused_by x p due r w d from to above below (inl h) =
     let times : r * p ≤ r * (x + d) = mul-le-mul_left r above in
     omega arith
@@ -33,7 +33,7 @@ refused_by x p due r w d from to above below (inr h) =
     omega arith
 
 refused : (x p due r w : ℕ) → due * r < x * r + 128 * w → x * r < due * r + 128 * w
-    → (4 * (due * r) + 756 * w ≤ 4 * (p * r)) ⊎ (4 * (p * r) + 756 * w ≤ 4 * (due * r)) → 60 * w < ((x - p) + (p - x)) * r
+    → (due * r + 189 * w < p * r) ⊎ (p * r + 189 * w < due * r) → 60 * w < ((x - p) + (p - x)) * r
 refused x p due r w from to far = refused_by x p due r w ((x - p) + (p - x)) from to (omega arith) (omega arith) far
 
 audio_of : (kind : Kind) (n count : ℕ) (far : Distance) → distance (rule_of kind n) n count ≡ Some far → IsAudioKind kind
@@ -132,7 +132,7 @@ flag_of false false e = refl
 le_true : (a b : ℕ) → a ≤ b → nat_le a b ≡ true
 le_true a b h = grind (arith, nat_tests)
 
-head_back : (j : Journal) (n : ℕ) (far : Distance) (stamp : Stamp) → j.stamp n ≡ None → distance (rule_of j.kind n) n j.count ≡ Some far → IsHeadOf j n far stamp → IsCountedFrom j n far stamp
+pub head_back : (j : Journal) (n : ℕ) (far : Distance) (stamp : Stamp) → j.stamp n ≡ None → distance (rule_of j.kind n) n j.count ≡ Some far → IsHeadOf j n far stamp → IsCountedFrom j n far stamp
 head_back j n far stamp none back is =
     let instant : stamp.instant ≡ pos is.is.instant = ap (λ (s : Stamp). s.instant) is.is.same in
     rw (instant, none, back, le_true far.packets n is.back, flag_of (j.mr (n - far.packets)) (j.mr n) is.one_run, is.is.stamped) refl

@@ -24,11 +24,11 @@ use Rattle.stream_journal.proofs.TrueHeads.{one_flag}
 
 -- ---- a row and its packet
 
-count_is : (c : ClockJournal) (shift : ℤ) (m : ℕ) (row : ClockRow) → IsRowOf c shift m row → timestamps row ≡ length (c.points m)
+pub count_is : (c : ClockJournal) (shift : ℤ) (m : ℕ) (row : ClockRow) → IsRowOf c shift m row → timestamps row ≡ length (c.points m)
 count_is c shift m row is = let size = is.size in omega arith
 
 -- two timestamps of rows are two points of the clock
-same_pair : (c : ClockJournal) (shift : ℤ) (row : ClockRow) (m : ℕ) (p q : Place) (first second : ℕ) → IsRowOf c shift m row
+pub same_pair : (c : ClockJournal) (shift : ℤ) (row : ClockRow) (m : ℕ) (p q : Place) (first second : ℕ) → IsRowOf c shift m row
     → pos (point c p) ≡ pos first +ℤ shift → pos (point c q) ≡ pos second +ℤ shift → pair_of shift row first second ≡ pair_at c p q
 same_pair c shift row m p q first second is e f = rw (e, f, is.interval, is.base, is.pull) refl
 

@@ -5,7 +5,6 @@ use Rattle.time_unfold.specs.declared.stamp.Stamp.{Stamp}
 use Rattle.time_unfold.specs.declared.stamp.Want.{Want}
 use Rattle.time_unfold.specs.Heads.{counted_block, distance, stamped_block}
 use Rattle.stream_journal.specs.Journal.{Journal, head_of, rule_of}
-use Rattle.stream_journal.specs.Conforming.{IsApart}
 use Rattle.stream_journal.specs.Delivered.{Copy, IsDelivered}
 
 -- the stamp that a listener notes of a copy of packet k, which is stamped with an instant
@@ -65,9 +64,13 @@ pub record IsHeadOf (j : Journal) (n : ℕ) (far : Distance) (stamp : Stamp) : T
 abbrev pub behind : Journal → ℕ → ℕ → ℕ
 behind j instant samples = instant + samples * 1000000000 / j.rate
 
--- two instants are at least `times` packets' time apart
+-- more than `times` packets' time pass from one instant to another
+abbrev pub IsFarther : Journal → ℕ → ℕ → ℕ → Type 0
+IsFarther j times from to = from * j.rate + times * (j.count * 1000000000) < to * j.rate
+
+-- two instants are more than `times` packets' time apart
 abbrev pub AreApart : Journal → ℕ → ℕ → ℕ → Type 0
-AreApart j times x y = IsApart j (4 * times) x y ⊎ IsApart j (4 * times) y x
+AreApart j times x y = IsFarther j times x y ⊎ IsFarther j times y x
 
 -- Packet n is counted from this stamp: its first sample is `far.samples` samples after the stamped one.
 abbrev pub IsCountedFrom : Journal → ℕ → Distance → Stamp → Type 0

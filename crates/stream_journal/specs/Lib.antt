@@ -6,3 +6,7 @@ pub mod Examples
 pub mod Heads
 pub mod ClockRows
 pub mod Near
+pub mod Found
+pub mod FoundLines
+pub mod FoundExamples
+pub mod Known

@@ -1,11 +1,19 @@
 //! Small journals, and whether they keep the rules. Each call is its contract, and does nothing.
 
-ghost use Rattle.std.specs.Prelude.{◌≡◌, ◌↔◌, true, ◌≤◌, ℕ, neg_ℤ, pos, [], ◌∷◌, Some, None};
+ghost use Rattle.std.specs.Prelude.{All, false, replicate, ◌≡◌, ◌↔◌, true, ◌≤◌, ℕ, neg_ℤ, pos, [], ◌∷◌, Some, None};
 ghost use Rattle.time_unfold.specs.Stamps.{found};
+ghost use Rattle.clock_track.specs.Pairs.{Covers};
+ghost use Rattle.clock_track.specs.Rows.{clock_spot};
 ghost use Rattle.stream_journal.specs.Conforming.{AgreesWithClock, Conforms};
 ghost use Rattle.stream_journal.specs.Delivered.{AreDelivered};
 ghost use Rattle.stream_journal.specs.Examples.{beside, came, clocked, each_eighth, each_sixteenth, one_access_unit, overlapped, pulled, restarted, restarted_copies, sixteenth_copies, three_packets, unsteady, video};
-ghost use Rattle.stream_journal.specs.Heads.{stamp_at, wanted};
+ghost use Rattle.stream_journal.specs.Clocks.{pair_at};
+ghost use Rattle.stream_journal.specs.ClockRows.{IsTrueRow};
+ghost use Rattle.stream_journal.specs.Found.{IsAtHand, IsExpected};
+ghost use Rattle.stream_journal.specs.FoundExamples.{followed_stamps, one_back, two_rows};
+ghost use Rattle.stream_journal.specs.FoundLines.{ArePointsAtHand};
+ghost use Rattle.stream_journal.specs.Known.{IsKnown};
+ghost use Rattle.stream_journal.specs.Heads.{IsTrue, IsUnstamped, stamp_at, wanted};
 ghost use Rattle.stream_journal.specs.Journal.{IsAt, head_of};
 
 /// Three packets of 6 samples at 48 kHz take 125,000 ns each. They keep the rules exactly if they are due at least 3/4
@@ -76,4 +84,30 @@ pub fn rules_have_limits()
 /// A talker of H.264 that stamps the last fragment of each unit keeps the rules.
 pub fn video_talker_conforms()
     ensures { Conforms video }
+{}
+
+/// Packet 9 of the sparse talker has no timestamp, and is counted from packet 8. A listener finds that one's stamp while it
+/// is among the last 16: if at most 15 others came after it.
+pub fn heads_are_at_hand()
+    ensures unstamped { IsUnstamped restarted 2000000 (came 9 1001125000) one_back }
+    ensures expected { IsExpected restarted 2000000 (came 9 1001125000) }
+    ensures all_true { (others : ℕ) → All (IsTrue restarted) (followed_stamps others) }
+    ensures at_hand { IsAtHand restarted 16 9 one_back (followed_stamps 15) (stamp_at restarted 8 1003000000) }
+    ensures last { found 16 (wanted restarted 2000000 (came 9 1001125000) one_back) (followed_stamps 15) ≡ Some (stamp_at restarted 8 1003000000) }
+    ensures dropped { found 16 (wanted restarted 2000000 (came 9 1001125000) one_back) (followed_stamps 16) ≡ None }
+{}
+
+/// A listener that has both packets of the clock of a talker at 48 kHz has the points at hand that cover packet 33.
+pub fn points_are_at_hand()
+    ensures all_true { All (IsTrueRow (clocked 48000).clock (pos 0)) two_rows }
+    ensures at_hand { ArePointsAtHand (clocked 48000).clock (pos 0) two_rows (record { packet = 0; at = 1 }) (record { packet = 1; at = 0 }) }
+    ensures covers { Covers (pair_at (clocked 48000).clock (record { packet = 0; at = 1 }) (record { packet = 1; at = 0 })) 48000 (pos 1006125000) }
+    ensures found { clock_spot two_rows (pos 0) (pos 1006125000) 48000 ≡ Some (record { line = record { base = pos 1006000000; num = 2000000; den = 96 }; from = pos 6 }) }
+{}
+
+/// By the packets that came: packet 9 of the sparse talker can be placed while packet 8 is among the last 16 that came with a
+/// timestamp, and packet 33 of the talker with a clock while both packets of the clock are among its last 64.
+pub fn packets_are_known()
+    ensures counted { IsKnown false restarted (pos 0) 2000000 0 (came 9 1001125000) (8 ∷ replicate 15 16) [] }
+    ensures covered { IsKnown true (clocked 48000) (pos 0) 2000000 0 (came 33 1004125000) [] (0 ∷ replicate 63 1) }
 {}

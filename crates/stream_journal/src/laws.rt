@@ -1,22 +1,24 @@
 //! Laws of journals. Each call is its contract, and does nothing.
 
-ghost use Rattle.std.specs.Prelude.{Some, true, ◌+ℤ◌, ◌≡◌, ◌⊎◌, ◌+◌, ◌*◌, ◌%◌, ◌^◌, ◌<◌, ◌≤◌, ◌-◌, ℤ, Bool, All, IfSome, List, ℕ, None, false, pos};
+ghost use Rattle.std.specs.Prelude.{Some, true, ◌≢◌, ◌↔◌, ◌+ℤ◌, ◌≡◌, ◌⊎◌, ◌+◌, ◌*◌, ◌%◌, ◌^◌, ◌<◌, ◌≤◌, ◌-◌, ℤ, Bool, All, IfSome, List, ℕ, None, false, pos};
 ghost use Rattle.time_unfold.specs.declared.head_rule.Distance.{Distance};
 ghost use Rattle.time_unfold.specs.declared.head_rule.Head.{Head};
 ghost use Rattle.time_unfold.specs.declared.stamp.Stamp.{Stamp};
 ghost use Rattle.time_unfold.specs.Lines.{instant_at};
 ghost use Rattle.clock_track.specs.declared.clock_row.ClockRow.{ClockRow};
-ghost use Rattle.clock_track.specs.Pairs.{Spot};
+ghost use Rattle.clock_track.specs.Pairs.{Covers, Spot, spot_by};
 ghost use Rattle.clock_track.specs.Rows.{clock_spot, joined_pairs, window};
 ghost use Rattle.stream_journal.specs.ClockRows.{IsSpotAt, IsTruePair, IsTrueRow};
 ghost use Rattle.time_unfold.specs.Heads.{distance};
 ghost use Rattle.time_unfold.specs.Stamps.{candidate, found, is_near};
 ghost use Rattle.time_unfold.specs.Time.{unfolded};
-ghost use Rattle.stream_journal.specs.Clocks.{ClockJournal, IsJoinedAt, Place, SeemsJoined};
+ghost use Rattle.stream_journal.specs.Clocks.{ClockJournal, IsJoinedAt, Place, SeemsJoined, pair_at};
 ghost use Rattle.stream_journal.specs.Journal.{IsAt, IsAtByClock, Journal, head_of, rule_of};
 ghost use Rattle.stream_journal.specs.Conforming.{AgreesWithClock, Conforms, HoldsEight, IsApart, IsAudio, IsClock};
 ghost use Rattle.stream_journal.specs.Delivered.{Copy, IsAudioKind, IsDelivered};
 ghost use Rattle.stream_journal.specs.Near.{IsNear};
+ghost use Rattle.stream_journal.specs.Found.{IsAtHand, IsExpected};
+ghost use Rattle.stream_journal.specs.FoundLines.{ArePointsAtHand};
 ghost use Rattle.stream_journal.specs.Heads.{AreApart, IsCountedFrom, IsHeadOf, IsOther, IsStampOf, IsTrue, IsUnstamped, behind, wanted};
 
 /// True time: the timestamp of a copy means the instant that the talker stamped.
@@ -32,8 +34,8 @@ pub fn packets_are_spaced()
 {}
 
 /// A stamped packet that is not the one from which packet n is counted, but has its sequence number, is at least 256
-/// numbers from that one. What would be counted from it is at least 189 packets' time from the instant at which packet n
-/// is due.
+/// numbers from that one. What would be counted from it is more than 189 packets' time from the instant at which packet
+/// n is due.
 pub fn other_stamps_are_far()
     ensures numbers { (n k : ℕ) (far : Distance) → IsOther n k far → (k + far.packets + 256 ≤ n) ⊎ (n + 256 ≤ k + far.packets) }
     ensures instants { (j : Journal) (n k instant : ℕ) (far : Distance) → IsAudio j → n < j.packets → k < j.packets → j.stamp k ≡ Some instant → distance (rule_of j.kind n) n j.count ≡ Some far → IsOther n k far → AreApart j 189 (j.due n) (behind j instant far.samples) }
@@ -58,11 +60,6 @@ pub fn heads_are_true()
 /// A sample of a conforming talker has one instant at most, with the clock and without.
 pub fn samples_have_one_instant()
     ensures { (j : Journal) (by_clock : Bool) (n k : ℕ) (x y : ℤ) → Conforms j → n < j.packets → IsAt by_clock j n k x → IsAt by_clock j n k y → x ≡ y }
-{}
-
-/// If two packets at most 8 apart have one restart bit, all packets between them have it: no restart lies there.
-pub fn no_restart_lies_between()
-    ensures { (j : Journal) (n d k : ℕ) → HoldsEight j.packets j.mr → n < j.packets → d ≤ n → d ≤ 8 → j.mr (n - d) ≡ j.mr n → n - d ≤ k → k ≤ n → j.mr k ≡ j.mr n }
 {}
 
 /// True clock: a pair of points that a listener joins over copies of the clock's packets is a joined pair of the whole list
@@ -93,4 +90,19 @@ pub fn packets_by_clock_are_told_apart()
 /// a packet is due.
 pub fn near_packets_are_one()
     ensures { (j : Journal) (by_clock : Bool) (n m : ℕ) (x y : ℤ) → Conforms j → IsAudioKind j.kind → n < j.packets → m < j.packets → n % 256 ≡ m % 256 → IsAt by_clock j n 0 x → IsAt by_clock j m 0 y → IsNear j 72 x y → n ≡ m }
+{}
+
+/// Heads are found: for a copy of a packet without a timestamp a listener finds a stamp exactly if it is the one of the
+/// packet from which that packet is counted, it is among the last `room` stamps that came, no restart lies between the two,
+/// and the copy is expected at most 60 packets' time from the packet's first instant.
+pub fn heads_are_found()
+    ensures { (j : Journal) (lead room : ℕ) (c : Copy) (far : Distance) (stamps : List Stamp) (stamp : Stamp) → IsAudio j → HoldsEight j.packets j.mr → IsUnstamped j lead c far → All (IsTrue j) stamps → (found room (wanted j lead c far) stamps ≡ Some stamp) ↔ (IsExpected j lead c × IsAtHand j room c.number far stamps stamp) }
+{}
+
+/// Lines are found: if the packets of two adjacent points of one run that cover a packet's timestamp are among the last 64
+/// of the clock that came, a listener finds a line for the timestamp, and it is the line of these two points.
+pub fn lines_are_found()
+    ensures some { (c : ClockJournal) (shift instant : ℤ) (rate : ℕ) (rows : List ClockRow) (p q : Place) → IsClock c → ArePointsAtHand c shift rows p q → Covers (pair_at c p q) rate instant → clock_spot rows shift instant rate ≢ None }
+    ensures found { (j : Journal) (shift : ℤ) (rows : List ClockRow) (n : ℕ) (head : Head) (p q : Place) → IsClock j.clock → AgreesWithClock j → All (IsTrueRow j.clock shift) rows → n < j.packets → head_of j n ≡ Some head → ArePointsAtHand j.clock shift rows p q → Covers (pair_at j.clock p q) j.rate head.instant
+        → clock_spot rows shift head.instant j.rate ≡ Some (spot_by (pair_at j.clock p q) j.rate head.instant) }
 {}

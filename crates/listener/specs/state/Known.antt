@@ -1,0 +1,24 @@
+-- Kept for proofs: what the code's own parts hold and do. No clause of a public call rests on it.
+-- What a listener's own search finds of an item.
+use Rattle.std.specs.Prelude.{Bool, true, false, List, Option, is_some, option_and_then}
+use Rattle.clock_track.specs.Pairs.{Spot}
+use Rattle.clock_track.specs.Rows.{clock_spot}
+use Rattle.sample_schedule.specs.declared.entry.Entry.{Entry}
+use Rattle.sample_schedule.specs.declared.entry.Entry.TheVariants.{Item as OfItem, Clock as OfClock}
+use Rattle.sample_schedule.specs.declared.item.Item.TheVariants.{Packet as OfPacket, Unit as OfUnit, Bad as OfBad}
+use Rattle.sample_schedule.specs.declared.item.Packet.{Packet}
+use Rattle.sample_schedule.specs.declared.plan.SchedulePlan.{SchedulePlan}
+use Rattle.sample_schedule.specs.Heads.{head_of}
+use Rattle.sample_schedule.specs.Verdicts.{spot_of}
+
+-- where the samples of a packet are, given what is known when it is judged
+abbrev pub spot_in : SchedulePlan → List Entry → Packet → Option Spot
+spot_in plan prefix packet = option_and_then (spot_of clock_spot plan prefix packet.rate) (head_of plan prefix packet)
+
+-- A timestamp is found from which the samples of an item are counted, and if the listener has a clock, two points of
+-- the clock that cover it. A unit has its own timestamp.
+abbrev pub is_known : SchedulePlan → List Entry → Entry → Bool
+is_known plan prefix (OfItem (OfPacket packet)) = is_some (spot_in plan prefix packet)
+is_known plan prefix (OfItem (OfUnit whole)) = true
+is_known plan prefix (OfItem (OfBad bad)) = false
+is_known plan prefix (OfClock arrival row) = false

@@ -1,0 +1,14 @@
+-- The unit of H.264 that a packet belongs to.
+use Rattle.std.specs.Prelude.{◌≡◌, ℕ, ◌<◌, ◌≤◌}
+use Rattle.stream_journal.specs.Journal.{Journal, Part}
+use Rattle.packet_journal.specs.Units.{AreUnit}
+
+-- Packet n is one of the packets that carry one unit, all of which the talker sent, and they are due at one instant.
+pub record IsInUnit (j : Journal) (part : ℕ → Part) (n : ℕ) : Type 0 where
+  pub from : ℕ
+  pub to : ℕ
+  pub low : from ≤ n
+  pub high : n ≤ to
+  pub known : to < j.packets
+  pub packets : AreUnit part from to
+  pub due : (k : ℕ) → from ≤ k → k ≤ to → j.due k ≡ j.due n

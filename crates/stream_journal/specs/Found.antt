@@ -1,0 +1,26 @@
+-- When a listener finds the stamp from which a packet is counted.
+use Rattle.std.specs.Prelude.{◌≡◌, ℕ, ◌+◌, ◌-◌, ◌*◌, ◌≤◌, List, Contains}
+use Rattle.time_unfold.specs.declared.head_rule.Distance.{Distance}
+use Rattle.time_unfold.specs.declared.stamp.Stamp.{Stamp}
+use Rattle.time_unfold.specs.Stamps.{last_of}
+use Rattle.stream_journal.specs.Journal.{Journal}
+use Rattle.stream_journal.specs.Delivered.{Copy}
+use Rattle.stream_journal.specs.Heads.{IsStampOf}
+
+-- A listener that expects packets `lead` nanoseconds before their first instant expects this copy at most 60 packets' time
+-- before or after that instant.
+pub record IsExpected (j : Journal) (lead : ℕ) (c : Copy) : Type 0 where
+  pub from : j.due c.number * j.rate ≤ (c.arrival + lead) * j.rate + 60 * (j.count * 1000000000)
+  pub to : (c.arrival + lead) * j.rate ≤ j.due c.number * j.rate + 60 * (j.count * 1000000000)
+
+-- No restart lies between packets k and n: all packets from k to n have one restart bit.
+abbrev pub HasNoRestart : Journal → ℕ → ℕ → Type 0
+HasNoRestart j k n = (i : ℕ) → k ≤ i → i ≤ n → j.mr i ≡ j.mr n
+
+-- The stamp from which packet n is counted is at hand: it is that of the packet `far.packets` before packet n, it is among
+-- the last `room` of the stamps that came, and no restart lies between the two packets.
+pub record IsAtHand (j : Journal) (room n : ℕ) (far : Distance) (stamps : List Stamp) (stamp : Stamp) : Type 0 where
+  pub back : far.packets ≤ n
+  pub is : IsStampOf j (n - far.packets) stamp
+  pub no_restart : HasNoRestart j (n - far.packets) n
+  pub kept : Contains (last_of room stamps) stamp
