@@ -11,45 +11,45 @@ use Rattle.pcap_frames.specs.Capture.{Record}
 use Rattle.pcap_frames.proofs.Append.{number_stays}
 use Rattle.pcap_frames.proofs.Fields.{certain_is}
 use Rattle.pcapng_frames.specs.Blocks as ng
-use Rattle.capture_io.specs.Formats.{is_pcapng, records_in, refusal_in, certain_in}
+use Rattle.capture_io.specs.declared.capture_reader.Format.{Format}
+use Rattle.capture_io.specs.declared.capture_reader.Format.TheVariants.{Classic, Pcapng}
+use Rattle.capture_io.specs.Formats.{is_pcapng, format_in, meaning_of, records_in, refusal_in, certain_in}
 
 -- the layout stays, however the bytes go on, once there are four
-pub format_stays : (bytes more : List ℕ) → 4 ≤ length bytes → is_pcapng (bytes ++ more) ≡ is_pcapng bytes
+format_stays : (bytes more : List ℕ) → 4 ≤ length bytes → is_pcapng (bytes ++ more) ≡ is_pcapng bytes
 unfolding is_pcapng
 format_stays bytes more long =
     rw (le-leb 4 (length bytes) long, le-leb 4 (length (bytes ++ more)) (omega (arith, long, length-append bytes more)), number_stays Little 0 4 bytes more long) refl
 
-pub format_short : (bytes : List ℕ) → length bytes < 4 → is_pcapng bytes ≡ false
+few : (bytes : List ℕ) → length bytes < 4 → is_pcapng bytes ≡ false
 unfolding is_pcapng
-format_short bytes short = grind (arith, nat_tests)
+few bytes short = grind (arith, nat_tests)
 
--- ---- of a classic capture
+-- ---- of a capture in one layout
 
-pub classic_records : (bytes : List ℕ) → is_pcapng bytes ≡ false → records_in bytes ≡ classic.whole_records bytes
+pub is_classic : (bytes : List ℕ) → is_pcapng bytes ≡ false → format_in bytes ≡ Classic
+is_classic bytes is = rw is refl
+
+pub is_ng : (bytes : List ℕ) → is_pcapng bytes ≡ true → format_in bytes ≡ Pcapng
+is_ng bytes is = rw is refl
+
+format_short : (bytes : List ℕ) → length bytes < 4 → format_in bytes ≡ Classic
+format_short bytes short = is_classic bytes (few bytes short)
+
+pub format_longer : (bytes more : List ℕ) → 4 ≤ length bytes → format_in (bytes ++ more) ≡ format_in bytes
+format_longer bytes more long = rw (format_stays bytes more long) refl
+
+pub records_by : (format : Format) (bytes : List ℕ) → format_in bytes ≡ format → records_in bytes ≡ (meaning_of format).records bytes
 unfolding records_in
-classic_records bytes is = rw is refl
+records_by format bytes is = ap (λ (f : Format). (meaning_of f).records bytes) is
 
-pub classic_refusal : (bytes : List ℕ) → is_pcapng bytes ≡ false → refusal_in bytes ≡ classic.first_refusal bytes
+pub refusal_by : (format : Format) (bytes : List ℕ) → format_in bytes ≡ format → refusal_in bytes ≡ (meaning_of format).refusal bytes
 unfolding refusal_in
-classic_refusal bytes is = rw is refl
+refusal_by format bytes is = ap (λ (f : Format). (meaning_of f).refusal bytes) is
 
-pub classic_certain : (bytes : List ℕ) → is_pcapng bytes ≡ false → certain_in bytes ≡ certain (classic.first_refusal bytes)
+pub certain_by : (format : Format) (bytes : List ℕ) → format_in bytes ≡ format → certain_in bytes ≡ (meaning_of format).certain bytes
 unfolding certain_in
-classic_certain bytes is = rw is refl
-
--- ---- of a pcapng capture
-
-pub pcapng_records : (bytes : List ℕ) → is_pcapng bytes ≡ true → records_in bytes ≡ ng.whole_records bytes
-unfolding records_in
-pcapng_records bytes is = rw is refl
-
-pub pcapng_refusal : (bytes : List ℕ) → is_pcapng bytes ≡ true → refusal_in bytes ≡ ng.first_refusal bytes
-unfolding refusal_in
-pcapng_refusal bytes is = rw is refl
-
-pub pcapng_certain : (bytes : List ℕ) → is_pcapng bytes ≡ true → certain_in bytes ≡ ng.settled (ng.contents bytes).ending
-unfolding certain_in
-pcapng_certain bytes is = rw is refl
+certain_by format bytes is = ap (λ (f : Format). (meaning_of f).certain bytes) is
 
 -- ---- of fewer than four bytes
 
@@ -62,17 +62,17 @@ style_none bytes short = rw (magic_short bytes short) refl
 
 pub short_records : (bytes : List ℕ) → length bytes < 4 → records_in bytes ≡ []
 unfolding classic.whole_records
-short_records bytes short = classic_records bytes (format_short bytes short) ∙ rw (style_none bytes short) refl
+short_records bytes short = records_by Classic bytes (format_short bytes short) ∙ rw (style_none bytes short) refl
 
 first_short : (bytes : List ℕ) → length bytes < 4 → classic.first_refusal bytes ≡ Some (record { field = Magic; at = 0; short = true })
 unfolding classic.first_refusal
 first_short bytes short = rw (style_none bytes short) (magic_short bytes short)
 
 pub short_refusal : (bytes : List ℕ) → length bytes < 4 → refusal_in bytes ≡ Some (record { field = Magic; at = 0; short = true })
-short_refusal bytes short = classic_refusal bytes (format_short bytes short) ∙ first_short bytes short
+short_refusal bytes short = refusal_by Classic bytes (format_short bytes short) ∙ first_short bytes short
 
 pub short_certain : (bytes : List ℕ) → length bytes < 4 → certain_in bytes ≡ None
-short_certain bytes short = classic_certain bytes (format_short bytes short) ∙ ap certain (first_short bytes short)
+short_certain bytes short = certain_by Classic bytes (format_short bytes short) ∙ ap certain (first_short bytes short)
 
 -- ---- of a capture that is accepted as classic
 
@@ -106,6 +106,6 @@ pcapng_first bytes r e = settled_first (ng.contents bytes).ending r e
 -- is the first
 pub certain_first : (bytes : List ℕ) (r : Refusal) → certain_in bytes ≡ Some r → refusal_in bytes ≡ Some r
 certain_first bytes r e = elim (cases_Bool (is_pcapng bytes)) [
-  | inl is ↦ pcapng_refusal bytes is ∙ pcapng_first bytes r (sym (pcapng_certain bytes is) ∙ e)
-  | inr is ↦ classic_refusal bytes is ∙ (certain_is (classic.first_refusal bytes) r (sym (classic_certain bytes is) ∙ e)).0
+  | inl is ↦ refusal_by Pcapng bytes (is_ng bytes is) ∙ pcapng_first bytes r (sym (certain_by Pcapng bytes (is_ng bytes is)) ∙ e)
+  | inr is ↦ refusal_by Classic bytes (is_classic bytes is) ∙ (certain_is (classic.first_refusal bytes) r (sym (certain_by Classic bytes (is_classic bytes is)) ∙ e)).0
 ]

@@ -1,13 +1,12 @@
 -- A record that is lent.
-use Rattle.std.proofs.Common.{◌≡◌, ◌↔◌, ◌⊎◌, ℕ, ◌+◌, ◌*◌, ◌≤◌, ◌<◌, List, ◌++◌, length, take, drop, Option, Some, None, Ok, IsSome, refl, sym, ap, subst, ◌∙◌, arith, inl, inr, append_assoc, length-append, take-append-drop}
+use Rattle.std.proofs.Common.{◌≡◌, ℕ, ◌+◌, ◌*◌, ◌≤◌, ◌<◌, List, ◌++◌, length, take, drop, Option, Some, None, Ok, IsSome, refl, sym, ap, subst, ◌∙◌, arith, append_assoc, length-append, take-append-drop}
 use Rattle.std.specs.Prelude.{true, false, is_some, IfSome, option_to_list}
 use Rattle.std.proofs.lemmas.List.{append-nil, length-drop, length-take-le}
 use Rattle.avtp_base.specs.States.{ShelfState}
 use Rattle.pcap_frames.specs.Capture.{Record}
+use Rattle.pcap_frames.specs.Readers as readers
 use Rattle.pcap_frames.specs.Reading as classic
-use Rattle.pcap_frames.proofs.Ends.{free_held, gives_up}
-use Rattle.pcap_frames.proofs.Lent.{holds_accepted, next_goes_on, next_long}
-use Rattle.pcapng_frames.specs.Reading as reading
+use Rattle.pcap_frames.proofs.Lent.{next_feeds as classic_feeds, next_long, next_releases}
 use Rattle.capture_io.specs.declared.capture_reader.Format.{Format}
 use Rattle.capture_io.specs.declared.capture_reader.Format.TheVariants.{Classic}
 use Rattle.capture_io.specs.declared.end.End.{End}
@@ -20,63 +19,26 @@ use Rattle.capture_io.specs.Source.{Sourcing, GivesNext, HasFed, HasGivenOf, hel
 use Rattle.capture_io.specs.state.Source.{GivesUp, LiesAhead, ReadsOn, holding, lending}
 use Rattle.capture_io.proofs.Giving.{gives_next, if_some, released}
 use Rattle.capture_io.proofs.Leaving.{reads_nothing}
-use Rattle.capture_io.proofs.Reader.{classic_feeds, classic_releases, feeds_as}
+use Rattle.capture_io.proofs.Reader.{feeds_as, format_feeds, format_releases}
 
 -- ---- the reader
-
--- bytes were taken, and some had to be
-some_taken : (n : ℕ) (piece : List ℕ) (h : Option Record) → 0 < n → n ≤ length piece → h ≡ None → (n ≡ 0) ↔ ((length piece ≡ 0) ⊎ IsSome h)
-some_taken n piece h some within free = (
-  λ none. absurd (omega (arith, none, some)),
-  λ either. elim either [
-    | inl empty ↦ absurd (omega (arith, empty, some, within))
-    | inr is ↦ absurd (no_record h free is)
-  ],
-) where
-  no_record : (x : Option Record) → x ≡ None → IsSome x → ⊥
-  no_record None none is = absurd cc
-  no_record (Some r) none is = absurd cc
-
--- a reader of a classic capture that takes the next record
-classic_takes : (front : List ℕ) (c : classic.Reading) (n : reading.Reading) (piece : List ℕ) (size : ℕ) → size ≤ length piece → classic.IsNext c (take size piece)
-    → Feeds (record { format = Some Classic; front = front; classic = c; ng = n }) piece (Ok size) (record { format = Some Classic; front = front; classic = classic.with_part c (take size piece); ng = n })
-classic_takes front c n piece size within next =
-    let long : length (take size piece) ≡ size = length-take-le size piece within in
-    let none : length c.part ≡ 0 = ap length next.untaken in
-    let some = next_long c (take size piece) next in
-    let accepted = holds_accepted c.refusal c.style c.start (take size piece) next.whole in
-    let counted : classic.taken (classic.with_part c (take size piece)) ≡ classic.taken c + size = omega (arith, long, none) in
-    classic_feeds front c (classic.with_part c (take size piece)) n piece (Ok size) within
-    (some_taken size piece (classic.held c) (omega (arith, some, long)) within (free_held c.refusal c.style c.start c.part next.untaken))
-    (next_goes_on c (take size piece) next) tt tt accepted tt counted (omega (arith, counted, within))
 
 -- a reader that takes the next record
 next_feeds : (r : CaptureReading) (piece : List ℕ) (size : ℕ) → size ≤ length piece → IsNext r (take size piece) → Feeds r piece (Ok size) (with_part r (take size piece))
 next_feeds r piece size within next =
     feeds_as r.format r.format (Some Classic) (Some Classic) r.front r.front r.classic (classic.with_part r.classic (take size piece)) r.ng r.ng r piece (Ok size) next.format next.format refl
-    (classic_takes r.front r.classic r.ng piece size within next.next)
+    (format_feeds Classic r.front r.classic (classic.with_part r.classic (take size piece)) r.ng r.ng piece (Ok size) (classic_feeds r.classic piece size within next.next))
 
 -- it holds the record then
 next_held : (r : CaptureReading) (bytes : List ℕ) → IsNext r bytes → held (with_part r bytes) ≡ classic.held (classic.with_part r.classic bytes)
 next_held r bytes next = ap (λ (f : Option Format). held_by f (with_part r bytes)) next.format
 
--- a reader of a classic capture that goes past the next record
-classic_passes : (front : List ℕ) (c c' : classic.Reading) (n : reading.Reading) (bytes : List ℕ) → classic.IsNext c bytes → c' ≡ record c { start = c.start + length bytes }
-    → Releases (record { format = Some Classic; front = front; classic = classic.with_part c bytes; ng = n }) (record { format = Some Classic; front = front; classic = c'; ng = n })
-classic_passes front c c' n bytes next is =
-    let none : length c.part ≡ 0 = ap length next.untaken in
-    classic_releases front (classic.with_part c bytes) c' n
-    (λ before records h. subst (λ (r : classic.Reading). classic.HasRead r before (records ++ option_to_list (classic.held (classic.with_part c bytes)))) (sym is)
-    (gives_up c.refusal c.style c.start bytes c.part before records next.whole next.untaken h))
-    (ap classic.held is ∙ free_held c.refusal c.style (c.start + length bytes) c.part next.untaken)
-    (ap classic.taken is ∙ omega (arith, none))
-    (ap (λ (r : classic.Reading). r.refusal) is)
-
 -- a reader that goes past the next record
 pub next_passes : (r : CaptureReading) (c' : classic.Reading) (bytes : List ℕ) → IsNext r bytes → c' ≡ record r.classic { start = r.classic.start + length bytes } → Releases (with_part r bytes) (record r { classic = c' })
 next_passes r c' bytes next is =
     subst (λ (f : Option Format). Releases (record { format = f; front = r.front; classic = classic.with_part r.classic bytes; ng = r.ng }) (record { format = f; front = r.front; classic = c'; ng = r.ng })) (sym next.format)
-    (classic_passes r.front r.classic c' r.ng bytes next.next is)
+    (format_releases Classic r.front (classic.with_part r.classic bytes) c' r.ng r.ng
+    (subst (λ (x : classic.Reading). readers.Releases (classic.progress (classic.with_part r.classic bytes)) (classic.progress x)) (sym is) (next_releases r.classic bytes next.next)))
 
 -- ---- the source
 

@@ -23,8 +23,9 @@ use Rattle.pcapng_frames.specs.Blocks.{Place}
 use Rattle.pcapng_frames.proofs.Blocks.{at_block, size_at_block}
 use Rattle.pcapng_frames.proofs.Heads.{kind_accepted}
 use Rattle.pcap_frames.proofs.Written.{written_records, written_refusal}
+use Rattle.capture_io.specs.declared.capture_reader.Format.TheVariants.{Classic, Pcapng}
 use Rattle.capture_io.specs.Formats.{AreBytes, as_classic, is_pcapng, nanoseconds, records_in, refusal_in}
-use Rattle.capture_io.proofs.Formats.{accepted_classic, classic_records, classic_refusal, pcapng_records}
+use Rattle.capture_io.proofs.Formats.{accepted_classic, is_classic, is_ng, records_by, refusal_by}
 
 -- ---- numbers of bytes
 
@@ -138,7 +139,9 @@ all_spelled bytes all = all_from (suc (length bytes)) ng.first_place bytes all t
 -- the classic capture of them
 pub classic_same : (bytes : List ℕ) → AreBytes bytes → is_pcapng bytes ≡ true → (records_in (as_classic bytes) ≡ records_in bytes) × (refusal_in (as_classic bytes) ≡ None)
 classic_same bytes all is =
-    let spelled = subst (AllByRecursion (HasSpelling nanoseconds)) (sym (pcapng_records bytes is)) (all_spelled bytes all) in
+    let spelled = subst (AllByRecursion (HasSpelling nanoseconds)) (sym (records_by Pcapng bytes (is_ng bytes is))) (all_spelled bytes all) in
     let whole = written_refusal nanoseconds (records_in bytes) spelled in
-    let format = accepted_classic (as_classic bytes) whole in
-    (classic_records (as_classic bytes) format ∙ written_records nanoseconds (records_in bytes) spelled, classic_refusal (as_classic bytes) format ∙ whole)
+    let format = accepted_classic (as_classic bytes) whole in (
+      records_by Classic (as_classic bytes) (is_classic (as_classic bytes) format) ∙ written_records nanoseconds (records_in bytes) spelled,
+      refusal_by Classic (as_classic bytes) (is_classic (as_classic bytes) format) ∙ whole,
+    )

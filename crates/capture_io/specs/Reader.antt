@@ -1,14 +1,15 @@
 -- What a reader of captures in either layout means.
-use Rattle.std.specs.Prelude.{◌≡◌, ℕ, ◌<◌, ◌≤◌, true, false, List, [], length, Option, None, Some}
+use Rattle.std.specs.Prelude.{◌≡◌, ℕ, ◌<◌, ◌≤◌, List, [], length, Option, None, Some}
 use Rattle.avtp_base.specs.declared.refusal.Refusal.{Refusal}
 use Rattle.pcap_frames.specs.Capture.{Record}
 use Rattle.pcap_frames.specs.declared.style.RecordView.{RecordView}
 use Rattle.pcap_frames.specs.Layout.{IsRecordTime}
+use Rattle.pcap_frames.specs.Readers.{Progress, shown}
 use Rattle.pcap_frames.specs.Reading as classic
 use Rattle.pcapng_frames.specs.Reading as ng
 use Rattle.capture_io.specs.declared.capture_reader.Format.{Format}
 use Rattle.capture_io.specs.declared.capture_reader.Format.TheVariants.{Classic, Pcapng}
-use Rattle.capture_io.specs.Formats.{is_pcapng, certain_in}
+use Rattle.capture_io.specs.Formats.{format_in, certain_in}
 
 -- A reader of captures in either layout: the layout, once it is known; the bytes that came before it was; and a reader
 -- of each layout.
@@ -18,11 +19,15 @@ pub record CaptureReading : Type 0 where
   pub classic : classic.Reading
   pub ng : ng.Reading
 
+-- how far the reader of this layout is
+abbrev pub progress_by : Format → classic.Reading → ng.Reading → Progress
+progress_by Classic c n = classic.progress c
+progress_by Pcapng c n = ng.progress n
+
 -- the refusal of a reader that has found this layout, if it has one
 abbrev pub refusal_by : Option Format → CaptureReading → Option Refusal
 refusal_by None r = None
-refusal_by (Some Classic) r = r.classic.refusal
-refusal_by (Some Pcapng) r = r.ng.refusal
+refusal_by (Some format) r = (progress_by format r.classic r.ng).refusal
 
 -- the refusal of a reader, if it has one
 abbrev pub refusal_of : CaptureReading → Option Refusal
@@ -31,8 +36,7 @@ refusal_of r = refusal_by r.format r
 -- the record that is held by a reader that has found this layout
 abbrev pub held_by : Option Format → CaptureReading → Option Record
 held_by None r = None
-held_by (Some Classic) r = classic.held r.classic
-held_by (Some Pcapng) r = ng.held r.ng
+held_by (Some format) r = (progress_by format r.classic r.ng).held
 
 -- the record that the reader holds
 abbrev pub held : CaptureReading → Option Record
@@ -43,8 +47,8 @@ held r = held_by r.format r
 -- taken and released.
 abbrev pub StandsFor : Option Format → CaptureReading → List ℕ → List Record → Type 0
 StandsFor None r bytes records = (bytes ≡ r.front) × (length bytes < 4) × (records ≡ [])
-StandsFor (Some Classic) r bytes records = classic.HasRead r.classic bytes records × (4 ≤ length bytes) × (is_pcapng bytes ≡ false)
-StandsFor (Some Pcapng) r bytes records = ng.HasRead r.ng bytes records × (4 ≤ length bytes) × (is_pcapng bytes ≡ true)
+StandsFor (Some format) r bytes records =
+    (progress_by format r.classic r.ng).has_read bytes records × (4 ≤ length bytes) × (format_in bytes ≡ format)
 
 -- The reader has taken these bytes, and of their records it has released these, in order. If it is not refused, no
 -- refusal in the bytes stays whatever bytes follow.
@@ -54,5 +58,5 @@ pub record HasRead (r : CaptureReading) (bytes : List ℕ) (records : List Recor
 
 -- a view of the record that is held, whose time is one that a capture can say
 pub record IsView (held : Option Record) (view : RecordView) : Type 0 where
-  pub exact : held ≡ Some (classic.shown view)
+  pub exact : held ≡ Some (shown view)
   pub time : IsRecordTime view.arrival

@@ -3,9 +3,12 @@
 ghost use Rattle.std.specs.Prelude.{◌≡◌, ◌+◌, ◌≤◌, ◌^◌, ℕ, List, length, None, IfOk};
 ghost use Rattle.std.specs.Result.{result_err};
 ghost use Rattle.pcap_frames.specs.Capture.{Record};
-ghost use Rattle.capture_io.specs.Reader.{HasRead, IsView, held};
-ghost use Rattle.capture_io.specs.state.Reader.{EndsHere, Feeds, FindsNext, IsNext, IsViewOf, Releases, format_in, nothing_read, taken, with_part};
+ghost use Rattle.pcap_frames.specs.Readers.{Feeds as FeedsReader, Views};
+ghost use Rattle.capture_io.specs.Formats.{format_in, meaning_of};
+ghost use Rattle.capture_io.specs.Reader.{HasRead, IsView, held, progress_by};
+ghost use Rattle.capture_io.specs.state.Reader.{EndsHere, Feeds, FindsNext, IsNext, KeepsOther, Releases, nothing_read, taken, with_part};
 
+use avtp_base::rows::cut_off;
 use avtp_base::{Field, NoMemory, Refusal};
 use byteorder::{ByteOrder, LittleEndian};
 use pcap_frames::{Reader, RecordView};
@@ -75,12 +78,9 @@ impl CaptureReader {
         requires { taken self.old + length piece.now ≤ 2 ^ 62 }
         ensures { Feeds self.old piece.now result self.new }
     {
-        let Some(format) = self.format else {
-            return self.feed_front(piece);
-        };
-        match format {
-            Format::Classic => self.classic.feed(piece),
-            Format::Pcapng => self.ng.feed(piece),
+        match self.format {
+            None => self.feed_front(piece),
+            Some(format) => feed_format(format, &mut self.classic, &mut self.ng, piece),
         }
     }
 
@@ -98,20 +98,23 @@ impl CaptureReader {
         }
         let format = format_of(self.front.as_slice());
         self.format = Some(format);
-        match format {
-            Format::Classic => self.classic.feed(self.front.as_slice())?,
-            Format::Pcapng => self.ng.feed(self.front.as_slice())?,
-        };
+        let _ = feed_format(
+            format,
+            &mut self.classic,
+            &mut self.ng,
+            self.front.as_slice(),
+        )?;
         Ok(taken)
     }
 
-    /// The record that was taken last, if it is whole and was not released.
+    /// The record that was taken last, if it is whole and was not released. The reader of a layout that the capture
+    /// does not have holds none.
     pub fn held(&self) -> Option<RecordView<'_>>
-        ensures { IsViewOf (held self.now) result }
+        ensures { Views (held self.now) result }
     {
-        match self.format? {
-            Format::Classic => self.classic.held(),
-            Format::Pcapng => self.ng.held(),
+        match self.classic.held() {
+            Some(record) => Some(record),
+            None => self.ng.held(),
         }
     }
 
@@ -119,13 +122,8 @@ impl CaptureReader {
     pub fn release(&mut self)
         ensures { Releases self.old self.new }
     {
-        let Some(format) = self.format else {
-            return;
-        };
-        let _ = match format {
-            Format::Classic => self.classic.release(),
-            Format::Pcapng => self.ng.release(),
-        };
+        let _ = self.classic.release();
+        let _ = self.ng.release();
     }
 
     /// The size of the next record, if it lies whole at the front of the piece and nothing of it was taken yet.
@@ -134,10 +132,7 @@ impl CaptureReader {
     pub fn whole_ahead(&self, piece: &[u8]) -> Option<usize>
         ensures { FindsNext self.now piece.now result }
     {
-        match self.format? {
-            Format::Classic => self.classic.whole_ahead(piece),
-            Format::Pcapng => None,
-        }
+        self.classic.whole_ahead(piece)
     }
 
     /// The next record, in the piece: these are its bytes, header and all.
@@ -163,16 +158,29 @@ impl CaptureReader {
         ensures { (bytes : List ℕ) (records : List Record) → HasRead self.now bytes records → EndsHere self.now bytes records (result_err result) }
     {
         match self.format {
-            None => Err(Refusal {
-                field: Field::Magic,
-                at: 0,
-                short: true,
-            }),
+            None => Err(cut_off(Field::Magic, 0)),
             Some(format) => match format {
                 Format::Classic => self.classic.finish(),
                 Format::Pcapng => self.ng.finish(),
             },
         }
+    }
+}
+
+/// Feeds the reader of this layout.
+fn feed_format(
+    format: Format,
+    classic: &mut Reader,
+    ng: &mut Ng,
+    piece: &[u8],
+) -> Result<usize, Refusal>
+    requires { (progress_by format classic.old ng.old).taken + length piece.now ≤ 2 ^ 62 }
+    ensures fed { FeedsReader (meaning_of format) (progress_by format classic.old ng.old) piece.now result (progress_by format classic.new ng.new) }
+    ensures other { KeepsOther format classic.old classic.new ng.old ng.new }
+{
+    match format {
+        Format::Classic => classic.feed(piece),
+        Format::Pcapng => ng.feed(piece),
     }
 }
 

@@ -6,13 +6,11 @@ use Rattle.std.proofs.Math.Seq.{take-length}
 use Rattle.std.proofs.lemmas.List.{length-take-le}
 use mathlib.Core.List.{IsPrefix}
 use Rattle.avtp_base.specs.declared.refusal.Refusal.{Refusal}
-use Rattle.pcap_frames.specs.Capture.{Holds, Record, first_refusal, whole_records}
+use Rattle.pcap_frames.specs.Capture.{Record, first_refusal, whole_records}
 use Rattle.pcap_frames.specs.Reading.{GoesOn, HasRead, IsNext, Reading, held, held_by, nothing_read}
 use Rattle.pcap_frames.proofs.Firsts.{records_first}
 use Rattle.pcap_frames.proofs.Held.{records_are}
 use Rattle.pcap_frames.proofs.Lent.{next_long}
-use Rattle.pcap_frames.proofs.One.{holds_one}
-use Rattle.pcap_frames.proofs.Whole.{holds_whole}
 use Rattle.sample_schedule.specs.declared.shown.Shown.{Shown}
 use Rattle.sample_schedule.specs.declared.shown.Shown.TheVariants.{Present, Flag}
 use Rattle.listener.specs.declared.heard.Counts.{Counts}
@@ -89,10 +87,6 @@ held_few old new bytes piece (suc n) read goes = omega (arith, at_most_one (held
 
 pub held_some : (old new : Reading) (bytes piece : List ℕ) (n : ℕ) → HasRead old bytes (whole_records bytes) → GoesOn old (take n piece) new → IsSome (held new) → 0 < n
 held_some old new bytes piece n read goes some = omega (arith, held_few old new bytes piece n read goes, some_long (held new) some)
-
--- a refusal stands whatever follows
-pub refused_first : (bytes : List ℕ) (records : List Record) (refusal : Refusal) → Holds bytes records (Some refusal) → first_refusal bytes ≡ Some refusal
-refused_first bytes records refusal holds = (holds_one bytes (whole_records bytes) records (first_refusal bytes) (Some refusal) (holds_whole bytes) holds).1
 
 -- ---- a piece
 

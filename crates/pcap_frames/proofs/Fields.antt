@@ -73,28 +73,20 @@ opened None (Some style) start next r s e = record_begins style.order start next
 
 -- the invariant of a reader before the end of the file header
 pub in_header : (refusal : Option Refusal) (style : Option Style) (start : ℕ) (part : List ℕ) → refusal ≡ None → style ≡ None → IsReading refusal style start part → IsHeaderPart start part
-in_header (Some refusal) style start part r s h = absurd (cc)
-in_header None (Some style) start part r s h = absurd (cc)
-in_header None None start part r s h = h
+in_header refusal style start part r s h = rw (r, s) at h
 
 pub still_in_header : (refusal : Option Refusal) (style : Option Style) (start : ℕ) (part : List ℕ) → refusal ≡ None → style ≡ None → IsHeaderPart start part → IsReading refusal style start part
-still_in_header (Some refusal) style start part r s h = absurd (cc)
-still_in_header None (Some style) start part r s h = absurd (cc)
-still_in_header None None start part r s h = h
+still_in_header refusal style start part r s h = rw (r, s) h
 
 pub short_only : (x : Option Refusal) (refusal : Refusal) → x ≡ Some refusal → refusal.short ≡ true → certain x ≡ None
 short_only x refusal e h = rw (e, h) refl
 
 -- the invariant of a reader after the file header
 pub in_record : (refusal : Option Refusal) (style : Option Style) (s : Style) (start : ℕ) (part : List ℕ) → refusal ≡ None → style ≡ Some s → IsReading refusal style start part → IsPart s.order start part
-in_record (Some refusal) style s start part r e h = absurd (cc)
-in_record None None s start part r e h = absurd (cc)
-in_record None (Some style) s start part r e h = let same : style ≡ s = cc in rw (← same) h
+in_record refusal style s start part r e h = rw (r, e) at h
 
 pub still_in_record : (refusal : Option Refusal) (style : Option Style) (s : Style) (start : ℕ) (part : List ℕ) → refusal ≡ None → style ≡ Some s → IsPart s.order start part → IsReading refusal style start part
-still_in_record (Some refusal) style s start part r e h = absurd (cc)
-still_in_record None None s start part r e h = absurd (cc)
-still_in_record None (Some style) s start part r e h = let same : style ≡ s = cc in rw same h
+still_in_record refusal style s start part r e h = rw (r, e) h
 
 -- more of a record's header came
 pub part_headed : (order : Order) (start : ℕ) (part more : List ℕ) → IsPart order start part → length more ≤ 16 - length part → certain (record_refusal order start (part ++ more)) ≡ None → IsPart order start (part ++ more)

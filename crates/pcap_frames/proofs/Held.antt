@@ -1,12 +1,16 @@
 -- What it means that a reader holds a record, or is refused.
-use Rattle.std.proofs.Common.{◌≡◌, ℕ, ◌+◌, ◌≤◌, false, cond, List, [], ◌∷◌, ◌++◌, length, Option, Some, None, IsSome, refl, sym, ap, ◌∙◌, arith, is_none, inl, inr, append_assoc, length-append}
+use Rattle.std.proofs.Common.{◌≡◌, ℕ, ◌+◌, ◌≤◌, false, cond, List, [], ◌∷◌, ◌++◌, length, Option, Some, None, IsSome, refl, sym, ap, subst, ◌∙◌, arith, is_none, inl, inr, append_assoc, length-append}
 use Rattle.std.specs.Option.{option_to_list}
+use Rattle.std.specs.Prelude.{IfSome, Result, Ok, Err}
+use Rattle.std.specs.Result.{result_err}
 use Rattle.avtp_base.specs.declared.refusal.Refusal.{Refusal}
 use Rattle.pcap_frames.specs.declared.style.Order.{Order}
 use Rattle.pcap_frames.specs.declared.style.Style.{Style}
 use Rattle.pcap_frames.specs.Layout.{number_at, certain, file_refusal, record_refusal}
 use Rattle.pcap_frames.specs.Capture.{Record, IsRefused, Holds, style_of, record_of, whole_records, first_refusal}
-use Rattle.pcap_frames.specs.Reading.{Reading, HasRead, GoesOn, IsPart, IsReading, held, held_by}
+use Rattle.pcap_frames.specs.Readers.{Ends, IsRefusedAfter}
+use Rattle.pcap_frames.specs.state.Readers.{IsSure}
+use Rattle.pcap_frames.specs.Reading.{Reading, HasRead, GoesOn, IsPart, IsReading, held, held_by, meaning, progress}
 use Rattle.pcap_frames.specs.state.Reading.{ending, ending_by}
 use Rattle.pcap_frames.proofs.Append.{number_stays, file_stays, record_stays, style_at_stays}
 use Rattle.pcap_frames.proofs.Fields.{file_whole, record_whole, record_limit}
@@ -21,20 +25,11 @@ held_none (Some why) r h = absurd (cc)
 
 -- a held record is whole, and not refused
 pub held_is : (refusal : Option Refusal) (style : Option Style) (s : Style) (start : ℕ) (part : List ℕ) → refusal ≡ None → style ≡ Some s → IsSome (held_by refusal style start part) → record_refusal s.order start part ≡ None
-held_is (Some r) style s start part none is h = absurd (cc)
-held_is None None s start part none is h = absurd (cc)
-held_is None (Some style) s start part none is h =
-    let same : style ≡ s = cc in
-    rw (← same) (held_none (record_refusal style.order start part) (record_of style part) h)
+held_is refusal style s start part none is h = held_none (record_refusal s.order start part) (record_of s part) (rw (none, is) at h)
 
 -- a part that is just a whole record is held
 pub is_held_by : (refusal : Option Refusal) (style : Option Style) (s : Style) (start : ℕ) (part : List ℕ) → refusal ≡ None → style ≡ Some s → record_refusal s.order start part ≡ None → IsSome (held_by refusal style start part)
-is_held_by (Some r) style s start part none is e = absurd (cc)
-is_held_by None None s start part none is e = absurd (cc)
-is_held_by None (Some style) s start part none is e =
-    let same : style ≡ s = cc in
-    let here : record_refusal style.order start part ≡ None = rw same e in
-    rw here refl
+is_held_by refusal style s start part none is e = rw (none, is, e) refl
 
 -- a held record ends with the bytes that came
 pub held_ends : (order : Order) (start : ℕ) (part : List ℕ) → IsPart order start part → record_refusal order start part ≡ None → length part ≡ 16 + number_at order 8 4 part
@@ -74,19 +69,14 @@ style_after bytes more records r long (inr h) =
 
 -- a refused reader has read whatever comes
 pub refused_goes_on : (refusal : Option Refusal) (style : Option Style) (start : ℕ) (part : List ℕ) (r : Refusal) (more : List ℕ) → refusal ≡ Some r → GoesOn (reading refusal style start part) more (reading refusal style start part)
-refused_goes_on None style start part r more e bytes records h = absurd (cc)
-refused_goes_on (Some why) style start part r more e bytes records h = record {
-  style = h.style ∙ sym (style_after bytes more records why h.reading h.stands);
-  stands = refused_stays bytes more records why h.reading h.stands;
-  reading = h.reading;
-}
+refused_goes_on refusal style start part r more e bytes records h =
+    let long = rw e at h.reading in
+    let stands = rw e at h.stands in
+    record { style = h.style ∙ sym (style_after bytes more records r long stands); stands = rw e (refused_stays bytes more records r long stands); reading = h.reading }
 
 -- what a refused reader says is the first refusal, however the bytes go on
 pub refused_for_good : (refusal : Option Refusal) (style : Option Style) (start : ℕ) (part : List ℕ) (r : Refusal) (bytes more : List ℕ) (records : List Record) → refusal ≡ Some r → HasRead (reading refusal style start part) bytes records → Holds (bytes ++ more) records (Some r)
-refused_for_good None style start part r bytes more records e h = absurd (cc)
-refused_for_good (Some why) style start part r bytes more records e h =
-    let same : why ≡ r = cc in
-    rw (← same) (refused_stays bytes more records why h.reading h.stands)
+refused_for_good refusal style start part r bytes more records e h = refused_stays bytes more records r (rw e at h.reading) (rw e at h.stands)
 
 uncertain_by : (refusal : Option Refusal) (style : Option Style) (start : ℕ) (part : List ℕ) → refusal ≡ None → IsReading refusal style start part → certain (ending_by refusal style start part) ≡ None
 uncertain_by (Some r) style start part none keeps = absurd (cc)
@@ -104,3 +94,34 @@ records_are r bytes records h = (holds_one bytes _ _ _ _ (ends r bytes records h
 -- of the bytes that a reader took and that is not refused, nothing is refused
 pub uncertain : (r : Reading) (bytes : List ℕ) (records : List Record) → r.refusal ≡ None → HasRead r bytes records → certain (first_refusal bytes) ≡ None
 uncertain r bytes records none h = ap certain (sym (ending_is r bytes records h)) ∙ uncertain_by r.refusal r.style r.start r.part none h.reading
+
+certain_some : (x : Option Refusal) (r : Refusal) → x ≡ Some r → r.short ≡ false → certain x ≡ Some r
+certain_some x r is sure = rw (is, sure) refl
+
+refused_sure : (r : Reading) (why : Refusal) (bytes more : List ℕ) (records : List Record) → r.refusal ≡ Some why → HasRead r bytes records
+    → IsRefusedAfter meaning (bytes ++ more) records why
+refused_sure r why bytes more records is h =
+    let holds = refused_for_good r.refusal r.style r.start r.part why bytes more records is h in
+    let one = holds_one (bytes ++ more) (whole_records (bytes ++ more)) records (first_refusal (bytes ++ more)) (Some why) (holds_whole (bytes ++ more)) holds in
+    let long : why.short ≡ false = subst (λ (x : Option Refusal). IsReading x r.style r.start r.part) is h.reading in
+    record { all = one.0; certain = certain_some (first_refusal (bytes ++ more)) why one.1 long }
+
+pub is_sure : (r : Reading) → IsSure meaning (progress r)
+is_sure r = record {
+  uncertain = λ none bytes records h. uncertain r bytes records none h;
+  refused = λ why is bytes more records h. refused_sure r why bytes more records is h;
+}
+
+ending_again : (refusal : Option Refusal) (style : Option Style) (start : ℕ) (part : List ℕ) (result : Result Unit Refusal) → result_err result ≡ ending_by refusal style start part
+    → IfSome refusal (λ why. result ≡ Err why)
+ending_again None style start part result e = tt
+ending_again (Some why) style start part (Ok unit) e = absurd cc
+ending_again (Some why) style start part (Err r) e = let same : r ≡ why = cc in rw same refl
+
+-- what a reader answers if the capture ends
+pub ends_now : (r : Reading) (result : Result Unit Refusal) → result_err result ≡ ending r → Ends meaning (progress r) result
+ends_now r result e = record {
+  records = λ bytes records h. records_are r bytes records h;
+  refusal = λ bytes records h. e ∙ ending_is r bytes records h;
+  lasting = ending_again r.refusal r.style r.start r.part result e;
+}

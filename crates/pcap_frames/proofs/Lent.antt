@@ -1,17 +1,18 @@
 -- A record that is lent.
-use Rattle.std.proofs.Common.{◌≡◌, ℕ, ◌+◌, ◌≤◌, List, [], ◌++◌, length, take, drop, Option, Some, None, IsSome, refl, sym, ap, subst, arith}
+use Rattle.std.proofs.Common.{◌≡◌, ℕ, ◌+◌, ◌≤◌, List, [], ◌++◌, length, take, drop, Option, Some, None, Ok, IsSome, inl, inr, refl, sym, ap, subst, arith}
 use Rattle.std.specs.Prelude.{IfSome}
-use Rattle.std.proofs.lemmas.List.{take-append-drop}
+use Rattle.std.proofs.lemmas.List.{length-take-le, take-append-drop}
 use Rattle.avtp_base.specs.declared.refusal.Refusal.{Refusal}
 use Rattle.pcap_frames.specs.declared.style.Style.{Style}
 use Rattle.pcap_frames.specs.Layout.{number_at, record_refusal}
-use Rattle.pcap_frames.specs.Reading.{GoesOn, HasRead, IsNext, IsReading, Passes, Reading, held_by, with_part}
+use Rattle.pcap_frames.specs.Readers.{Feeds, Releases}
+use Rattle.pcap_frames.specs.Reading.{GoesOn, HasRead, IsNext, IsReading, Passes, Reading, held, held_by, meaning, progress, taken, with_part}
 use Rattle.pcap_frames.proofs.Append.{record_stays}
 use Rattle.pcap_frames.proofs.Ends.{free_held, gives_up}
 use Rattle.pcap_frames.proofs.Fields.{record_begins, record_whole, still_in_record}
-use Rattle.pcap_frames.proofs.Flag.{whole_front, whole_part}
-use Rattle.pcap_frames.proofs.Held.{held_is, is_held_by}
-use Rattle.pcap_frames.proofs.Steps.{reading, record_goes_on}
+use Rattle.pcap_frames.proofs.Filling.{whole_front, whole_part}
+use Rattle.pcap_frames.proofs.Held.{held_is, is_held_by, is_sure}
+use Rattle.pcap_frames.proofs.Steps.{feeds, none_some, reading, record_goes_on}
 
 -- a reader that holds a record is not refused
 pub holds_accepted : (refusal : Option Refusal) (style : Option Style) (start : ℕ) (part : List ℕ) → IsSome (held_by refusal style start part) → refusal ≡ None
@@ -45,10 +46,6 @@ next_long r bytes next =
     let whole = record_whole styled.0.order r.start bytes (held_is r.refusal r.style styled.0 r.start bytes (holds_accepted r.refusal r.style r.start bytes next.whole) styled.1 next.whole) in
     omega arith
 
-some_none : (x : Option Refusal) → IsSome x → x ≡ None → ⊥
-some_none None some none = absurd cc
-some_none (Some r) some none = absurd cc
-
 -- nothing is refused in a piece at whose front a record lies whole
 pub next_accepted : (refusal : Option Refusal) (style : Option Style) (s : Style) (start : ℕ) (piece : List ℕ) (size : ℕ) → style ≡ Some s → IsSome (held_by refusal style start (take size piece)) → record_refusal s.order start piece ≡ None
 next_accepted refusal style s start piece size styled some =
@@ -56,7 +53,7 @@ next_accepted refusal style s start piece size styled some =
     subst (λ (b : List ℕ). record_refusal s.order start b ≡ None) (take-append-drop size piece) (record_stays s.order start (take size piece) (drop size piece) None none refl)
 
 pub none_next : (r : Reading) (s : Style) (piece : List ℕ) (size : ℕ) → r.style ≡ Some s → IsSome (record_refusal s.order r.start piece) → IsNext r (take size piece) → ⊥
-none_next r s piece size styled some next = some_none (record_refusal s.order r.start piece) some (next_accepted r.refusal r.style s r.start piece size styled next.whole)
+none_next r s piece size styled some next = none_some (record_refusal s.order r.start piece) (next_accepted r.refusal r.style s r.start piece size styled next.whole) some
 
 -- a reader that takes the next record
 pub next_goes_on : (r : Reading) (bytes : List ℕ) → IsNext r bytes → GoesOn r bytes (with_part r bytes)
@@ -67,15 +64,52 @@ next_goes_on r bytes next before records h =
     subst (λ (p : List ℕ). HasRead (with_part r p) (before ++ bytes) records) all
     (record_goes_on r.refusal r.style styled.0 r.start r.part bytes before records accepted styled.1 (subst (IsReading r.refusal r.style r.start) (sym all) next.reading) h)
 
+-- is fed
+pub next_feeds : (r : Reading) (piece : List ℕ) (size : ℕ) → size ≤ length piece → IsNext r (take size piece)
+    → Feeds meaning (progress r) piece (Ok size) (progress (with_part r (take size piece)))
+next_feeds r piece size within next =
+    let new : Reading = with_part r (take size piece) in
+    let long : length (take size piece) ≡ size = length-take-le size piece within in
+    let none : length r.part ≡ 0 = ap length next.untaken in
+    let some = next_long r (take size piece) next in
+    let accepted = holds_accepted r.refusal r.style r.start (take size piece) next.whole in
+    let counted : taken new ≡ taken r + size = omega (arith, long, none) in
+    feeds meaning (progress r) (progress new) piece (Ok size) accepted (record {
+      steps = record {
+        within = within;
+        counted = counted;
+        bounded = omega (arith, counted, within);
+        read = next_goes_on r (take size piece) next;
+        accepted = accepted;
+        refused = tt;
+        stopped = tt;
+      };
+      nothing = (λ zero. absurd (omega (arith, zero, some, long)), λ either. elim either [
+        | inl empty ↦ absurd (omega (arith, empty, some, long, within))
+        | inr is ↦ absurd (none_some (held r) (free_held r.refusal r.style r.start r.part next.untaken) is)
+      ]);
+      end = λ less. next.whole;
+    }) (is_sure new)
+
 -- a reader that goes past the next record
-pub passes : (r : Reading) (bytes : List ℕ) → IsNext r bytes → Passes r bytes (record r { start = r.start + length bytes })
-passes r bytes next = record {
-  read = λ before records h. gives_up r.refusal r.style r.start bytes r.part (before ++ bytes) records next.whole next.untaken (next_goes_on r bytes next before records h);
-  counted = omega (arith, ap length next.untaken);
+pub next_releases : (r : Reading) (bytes : List ℕ) → IsNext r bytes → Releases (progress (with_part r bytes)) (progress (record r { start = r.start + length bytes }))
+next_releases r bytes next = record {
+  given_up = λ before records h. gives_up r.refusal r.style r.start bytes r.part before records next.whole next.untaken h;
   free = free_held r.refusal r.style (r.start + length bytes) r.part next.untaken;
-  style = refl;
+  counted = omega (arith, ap length next.untaken);
   refusal = refl;
 }
+
+pub passes : (r : Reading) (bytes : List ℕ) → IsNext r bytes → Passes r bytes (record r { start = r.start + length bytes })
+passes r bytes next =
+    let gone = next_releases r bytes next in
+    record {
+      read = λ before records h. gone.given_up (before ++ bytes) records (next_goes_on r bytes next before records h);
+      counted = omega (arith, ap length next.untaken);
+      free = gone.free;
+      style = refl;
+      refusal = refl;
+    }
 
 -- what a reader keeps true of itself, past a record
 pub passed : (refusal : Option Refusal) (style : Option Style) (start next : ℕ) (part bytes : List ℕ) → IsNext (reading refusal style start part) bytes → IsReading refusal style next part

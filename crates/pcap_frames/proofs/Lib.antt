@@ -2,7 +2,7 @@ pub mod FrameLemmas
 pub mod Append
 pub mod Ends
 pub mod Fields
-pub mod Flag
+pub mod Filling
 pub mod Held
 pub mod Joined
 pub mod One

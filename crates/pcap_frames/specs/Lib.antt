@@ -1,5 +1,6 @@
 pub mod Layout
 pub mod Capture
+pub mod Readers
 pub mod Reading
 pub mod Frame
 pub mod Pieces

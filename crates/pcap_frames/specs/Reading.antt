@@ -2,10 +2,12 @@
 use Rattle.std.specs.Prelude.{◌≡◌, ℕ, ◌+◌, ◌<◌, ◌≤◌, false, cond, ◌⊎◌, List, [], ◌++◌, length, IsSome, Option, Some, None, is_none, option_to_list}
 use Rattle.avtp_base.specs.declared.refusal.Refusal.{Refusal}
 use Rattle.pcap_frames.specs.declared.style.Order.{Order}
-use Rattle.pcap_frames.specs.declared.style.RecordView.{RecordView}
 use Rattle.pcap_frames.specs.declared.style.Style.{Style}
 use Rattle.pcap_frames.specs.Layout.{number_at, certain, file_refusal, record_refusal}
-use Rattle.pcap_frames.specs.Capture.{Record, IsCapture, IsRefused, record_of, style_of}
+use Rattle.pcap_frames.specs.Capture.{Record, IsCapture, IsRefused, record_of, style_of, whole_records, first_refusal}
+use Rattle.pcap_frames.specs.Readers as readers
+use Rattle.pcap_frames.specs.Readers.{Meaning, Progress}
+pub use Rattle.pcap_frames.specs.Readers.{shown}
 
 -- A reader: the style, once the file header was accepted; the offset of what is being read, and what has come of it;
 -- and the refusal.
@@ -22,10 +24,6 @@ nothing_read = record { style = None; start = 0; part = []; refusal = None }
 -- how many bytes the reader has taken
 abbrev pub taken : Reading → ℕ
 taken r = r.start + length r.part
-
--- the record that a view shows, apart from where it lies in memory
-abbrev pub shown : RecordView → Record
-shown view = record { arrival = view.arrival; orig_len = view.orig_len; bytes = view.bytes.now }
 
 -- the record that the bytes spell, if they are a whole one and nothing in it is refused
 abbrev pub whole_record : Style → ℕ → List ℕ → Option Record
@@ -80,9 +78,17 @@ pub record HasRead (r : Reading) (bytes : List ℕ) (records : List Record) : Ty
   pub stands : StandsFor r.refusal r.style r.start r.part bytes records
   pub reading : IsReading r.refusal r.style r.start r.part
 
+-- what the bytes of a classic capture mean
+abbrev pub meaning : Meaning
+meaning = record { records = whole_records; refusal = first_refusal; certain = λ bytes. certain (first_refusal bytes) }
+
+-- how far the reader is
+abbrev pub progress : Reading → Progress
+progress r = record { has_read = HasRead r; held = held r; taken = taken r; refusal = r.refusal }
+
 -- whatever the reader had read before, it has read these bytes too now, and released no record
 abbrev pub GoesOn : Reading → List ℕ → Reading → Type 0
-GoesOn old more new = (bytes : List ℕ) (records : List Record) → HasRead old bytes records → HasRead new (bytes ++ more) records
+GoesOn old more new = readers.GoesOn (progress old) more (progress new)
 
 -- ---- a record that is lent
 

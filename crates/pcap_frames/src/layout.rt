@@ -3,12 +3,13 @@
 
 ghost use Rattle.std.specs.Prelude.{◌≡◌, ◌+◌, ◌<◌, ◌≤◌, ◌^◌, ℕ, length, pos, true, false, None, Some, IfSome, IsSome};
 ghost use Rattle.pcap_frames.specs.Capture.{record_of};
-ghost use Rattle.pcap_frames.specs.Reading.{shown};
+ghost use Rattle.pcap_frames.specs.Readers.{shown};
 ghost use Rattle.pcap_frames.specs.Layout.{number_at, style_at as style_of_bytes, file_header, first_refused, certain as certain_of, file_refusal as refusal_of_file, record_refusal as refusal_of_record, instant, IsRecordTime};
 
+use crate::numbers::{u16_at, u32_at};
 use crate::style::{Order, RecordView, Style, Unit};
+use avtp_base::rows::{cut_off, refused};
 use avtp_base::{Field, Refusal};
-use byteorder::{BigEndian, ByteOrder, LittleEndian};
 
 /// The length in bytes of a capture's file header.
 pub const FILE_HEADER: usize = 24;
@@ -29,52 +30,6 @@ pub const MAGIC_NANO: u32 = 0xA1B2_3C4D;
 const SWAPPED_MICRO: u32 = 0xD4C3_B2A1;
 
 const SWAPPED_NANO: u32 = 0x4D3C_B2A1;
-
-/// The refusal of a field that the end of the bytes cuts off.
-fn short(field: Field, at: u64) -> Option<Refusal>
-    ensures { result ≡ Some (record { field = field; at = at; short = true }) }
-{
-    Some(Refusal {
-        field,
-        at,
-        short: true,
-    })
-}
-
-/// The refusal of a field for its value.
-fn refused(field: Field, at: u64) -> Option<Refusal>
-    ensures { result ≡ Some (record { field = field; at = at; short = false }) }
-{
-    Some(Refusal {
-        field,
-        at,
-        short: false,
-    })
-}
-
-/// The number of 16 bits at an offset.
-#[tactic(auto, unfolding(crate::specs::Layout::number_at))]
-pub fn u16_at(order: Order, bytes: &[u8], offset: usize) -> u16
-    requires { offset + 2 ≤ length bytes.now }
-    ensures { result ≡ number_at order offset 2 bytes.now }
-{
-    match order {
-        Order::Little => LittleEndian::read_u16(&bytes[offset..]),
-        Order::Big => BigEndian::read_u16(&bytes[offset..]),
-    }
-}
-
-/// The number of 32 bits at an offset.
-#[tactic(auto, unfolding(crate::specs::Layout::number_at))]
-pub fn u32_at(order: Order, bytes: &[u8], offset: usize) -> u32
-    requires { offset + 4 ≤ length bytes.now }
-    ensures { result ≡ number_at order offset 4 bytes.now }
-{
-    match order {
-        Order::Little => LittleEndian::read_u32(&bytes[offset..]),
-        Order::Big => BigEndian::read_u32(&bytes[offset..]),
-    }
-}
 
 /// The style that the magic number at the front gives.
 #[tactic(auto, unfolding(crate::specs::Layout::style_at))]
@@ -99,10 +54,10 @@ pub fn file_refusal(header: &[u8]) -> Option<Refusal>
     ensures { result ≡ refusal_of_file header.now }
 {
     if header.len() < 4 {
-        return short(Field::Magic, 0);
+        return Some(cut_off(Field::Magic, 0));
     }
     match style_at(header) {
-        None => refused(Field::Magic, 0),
+        None => Some(refused(Field::Magic, 0)),
         Some(style) => rest_refusal(style.order, header),
     }
 }
@@ -114,21 +69,21 @@ fn rest_refusal(order: Order, header: &[u8]) -> Option<Refusal>
 {
     let len = header.len();
     if len < 6 {
-        short(Field::VersionMajor, 4)
+        Some(cut_off(Field::VersionMajor, 4))
     } else if u16_at(order, header, 4) != 2 {
-        refused(Field::VersionMajor, 4)
+        Some(refused(Field::VersionMajor, 4))
     } else if len < 8 {
-        short(Field::VersionMinor, 6)
+        Some(cut_off(Field::VersionMinor, 6))
     } else if len < 12 {
-        short(Field::Thiszone, 8)
+        Some(cut_off(Field::Thiszone, 8))
     } else if len < 16 {
-        short(Field::Sigfigs, 12)
+        Some(cut_off(Field::Sigfigs, 12))
     } else if len < 20 {
-        short(Field::Snaplen, 16)
+        Some(cut_off(Field::Snaplen, 16))
     } else if len < FILE_HEADER {
-        short(Field::Network, 20)
+        Some(cut_off(Field::Network, 20))
     } else if u32_at(order, header, 20) % 65536 != 1 {
-        refused(Field::Network, 20)
+        Some(refused(Field::Network, 20))
     } else {
         None
     }
@@ -143,23 +98,23 @@ pub fn record_refusal(order: Order, start: u64, bytes: &[u8]) -> Option<Refusal>
 {
     let len = bytes.len();
     if len < 4 {
-        return short(Field::TsSec, start);
+        return Some(cut_off(Field::TsSec, start));
     }
     if len < 8 {
-        return short(Field::TsFraction, start + 4);
+        return Some(cut_off(Field::TsFraction, start + 4));
     }
     if len < 12 {
-        return short(Field::InclLen, start + 8);
+        return Some(cut_off(Field::InclLen, start + 8));
     }
     let captured = u32_at(order, bytes, 8);
     if captured > RECORD_LIMIT {
-        return refused(Field::InclLen, start + 8);
+        return Some(refused(Field::InclLen, start + 8));
     }
     if len < RECORD_HEADER {
-        return short(Field::OrigLen, start + 12);
+        return Some(cut_off(Field::OrigLen, start + 12));
     }
     if len < RECORD_HEADER + captured as usize {
-        return short(Field::PacketBytes, start + 16);
+        return Some(cut_off(Field::PacketBytes, start + 16));
     }
     None
 }

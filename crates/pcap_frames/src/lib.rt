@@ -4,6 +4,8 @@
 mod frame;
 mod law;
 mod layout;
+pub mod numbers;
+pub mod part;
 mod pieces;
 mod reader;
 mod style;

@@ -1,15 +1,19 @@
 //! Records from the bytes of a capture, in pieces of any length.
 
-ghost use Rattle.std.specs.Option.{option_map, option_to_list};
-ghost use Rattle.pcap_frames.specs.Layout.{certain, IsRecordTime};
-ghost use Rattle.pcap_frames.specs.Capture.{Record, Holds, first_refusal, style_of, whole_records};
+ghost use Rattle.std.specs.Option.{option_to_list};
 ghost use Rattle.std.specs.Result.{result_err};
-ghost use Rattle.pcap_frames.specs.Reading.{GoesOn, HasRead, IsNext, Passes, held, nothing_read, shown, taken, with_part};
-ghost use Rattle.pcap_frames.specs.state.Reading.{Feeds, ending};
-ghost use Rattle.std.specs.Prelude.{ℕ, List, Err, IfSome, IsSome, ◌⊎◌, ◌↔◌, is_some, ◌≡◌, ◌+◌, ◌-◌, ◌<◌, ◌≤◌, ◌^◌, ◌++◌, length, take, min, None, Some, IfOk, IfErr, OnOk, OnErr, [], vec_capacity};
+ghost use Rattle.pcap_frames.specs.Layout.{IsRecordTime, record_refusal};
+ghost use Rattle.pcap_frames.specs.Capture.{Record, Holds, style_of};
+ghost use Rattle.pcap_frames.specs.Readers.{Ends, Feeds, Releases, Views, shown};
+ghost use Rattle.pcap_frames.specs.state.Readers.{Accepts, Advances, Steps};
+ghost use Rattle.pcap_frames.specs.Reading.{HasRead, IsNext, IsPart, Passes, held, meaning, nothing_read, progress, taken, with_part};
+ghost use Rattle.pcap_frames.specs.state.Reading.{Fills, ending};
+ghost use Rattle.std.specs.Prelude.{ℕ, List, IfSome, IsSome, is_some, ◌≡◌, ◌+◌, ◌<◌, ◌≤◌, ◌^◌, ◌++◌, false, length, take, None, Some, IfOk, [], vec_capacity};
 
 use crate::layout::{self, FILE_HEADER, RECORD_HEADER, RECORD_LIMIT};
-use crate::style::{RecordView, Style};
+use crate::numbers::u32_at;
+use crate::part::gather;
+use crate::style::{Order, RecordView, Style};
 use avtp_base::{NoMemory, Refusal};
 use std::alloc::Global;
 use std::marker::Model;
@@ -27,21 +31,19 @@ pub struct Reader {
     start: u64,
     /// What has come of it: a record's header and its bytes share this buffer.
     part: Vec<u8>,
-    /// Whether `part` is a whole record.
-    whole: bool,
     refusal: Option<Refusal>,
 }
 
 impl Model for Reader {
-    ghost use Rattle.std.specs.Prelude.{◌≡◌, ◌≤◌, ◌+◌, ◌^◌, is_some, length, vec_capacity};
-    ghost use Rattle.pcap_frames.specs.Reading.{Reading, IsReading, held_by};
+    ghost use Rattle.std.specs.Prelude.{vec_capacity};
+    ghost use Rattle.pcap_frames.specs.Reading.{Reading};
+    ghost use Rattle.pcap_frames.specs.state.Reading.{IsReader};
 
     ghost Value = { Reading };
 
     ghost view = { λ r. record { style = r.style; start = r.start; part = r.part.items; refusal = r.refusal } };
 
-    ghost invariant = { λ r. (262160 ≤ vec_capacity r.part) × (r.start + length r.part.items ≤ 2 ^ 62) × IsReading r.refusal r.style r.start r.part.items
-        × (r.whole ≡ is_some (held_by r.refusal r.style r.start r.part.items)) };
+    ghost invariant = { λ r. IsReader (record { style = r.style; start = r.start; part = r.part.items; refusal = r.refusal }) (vec_capacity r.part) };
 }
 
 impl Reader {
@@ -57,7 +59,6 @@ impl Reader {
                 style: None,
                 start: 0,
                 part,
-                whole: false,
                 refusal: None,
             }),
             Err(_) => Err(NoMemory),
@@ -73,54 +74,48 @@ impl Reader {
     /// At most 2^62 bytes may be taken in all, the piece among them.
     pub fn feed(&mut self, piece: &[u8]) -> Result<usize, Refusal>
         requires { taken self.old + length piece.now ≤ 2 ^ 62 }
-        ensures within { IfOk result (λ n. n ≤ length piece.now) }
-        ensures nothing { IfOk result (λ n. (n ≡ 0) ↔ ((length piece.now ≡ 0) ⊎ IsSome (held self.old))) }
-        ensures end { IfOk result (λ n. n < length piece.now → IsSome (held self.new)) }
-        ensures read { IfOk result (λ n. GoesOn self.old (take n piece.now) self.new) }
-        ensures uncertain { IfOk result (λ n. (bytes : List ℕ) (records : List Record) → HasRead self.old bytes records → certain (first_refusal (bytes ++ take n piece.now)) ≡ None) }
-        ensures refused { IfErr result (λ refusal. (bytes more : List ℕ) (records : List Record) → HasRead self.old bytes records → Holds ((bytes ++ piece.now) ++ more) records (Some refusal)) }
-        ensures lasting { IfSome self.old.refusal (λ refusal. result ≡ Err refusal) }
-        ensures stays_refused { IfErr result (λ refusal. self.new.refusal ≡ Some refusal) }
-        ensures stays_accepted { OnOk result (self.new.refusal ≡ None) }
-        ensures stopped { OnErr result (GoesOn self.old piece.now self.new) }
-        ensures taken { IfOk result (λ n. taken self.new ≡ taken self.old + n) }
-        ensures bounded { taken self.new ≤ taken self.old + length piece.now }
+        ensures { Feeds meaning (progress self.old) piece.now result (progress self.new) }
     {
-        if let Some(refusal) = self.refusal {
-            return Err(refusal);
+        match self.refusal {
+            Some(refusal) => Err(refusal),
+            None => self.advance(piece),
         }
-        let header = self.open(piece)?;
-        let Some(style) = self.style else {
-            return Ok(header);
-        };
-        let record = self.feed_record(style, &piece[header..])?;
-        Ok(header + record)
     }
 
-    /// Takes bytes up to the end of the file header, if that is still awaited.
-    fn open(&mut self, piece: &[u8]) -> Result<usize, Refusal>
-        requires accepted { self.old.refusal ≡ None }
-        requires bounded { taken self.old + length piece.now ≤ 2 ^ 62 }
-        ensures blocked { IfOk result (λ n. IsSome (held self.old) → n ≡ 0) }
-        ensures still { IfOk result (λ n. n ≡ 0 → 0 < length piece.now → self.new ≡ self.old) }
-        ensures end { IfOk result (λ n. n < length piece.now → IsSome self.new.style) }
-        ensures fed { Feeds self.old piece.now result self.new }
+    /// Takes bytes up to the end of one record or of the piece.
+    fn advance(&mut self, piece: &[u8]) -> Result<usize, Refusal>
+        requires { Accepts (progress self.old) piece.now }
+        ensures { Advances (progress self.old) piece.now result (progress self.new) }
     {
-        if self.style.is_some() {
-            return Ok(0);
+        match self.style {
+            Some(style) => self.feed_record(style, piece),
+            None => self.feed_first(piece),
         }
-        let taken = self.feed_header(piece)?;
-        Ok(taken)
+    }
+
+    /// Takes bytes up to the end of the file header, and from there up to the end of the first record.
+    fn feed_first(&mut self, piece: &[u8]) -> Result<usize, Refusal>
+        requires accepts { Accepts (progress self.old) piece.now }
+        requires header { self.old.style ≡ None }
+        ensures { Advances (progress self.old) piece.now result (progress self.new) }
+    {
+        let header = self.feed_header(piece)?;
+        match self.style {
+            None => Ok(header),
+            Some(style) => {
+                let record = self.feed_record(style, &piece[header..])?;
+                Ok(header + record)
+            }
+        }
     }
 
     /// Takes bytes up to the end of the file header.
     fn feed_header(&mut self, piece: &[u8]) -> Result<usize, Refusal>
-        requires accepted { self.old.refusal ≡ None }
+        requires accepts { Accepts (progress self.old) piece.now }
         requires header { self.old.style ≡ None }
-        requires bounded { taken self.old + length piece.now ≤ 2 ^ 62 }
         ensures some { IfOk result (λ n. 0 < length piece.now → 0 < n) }
         ensures end { IfOk result (λ n. n < length piece.now → IsSome self.new.style) }
-        ensures fed { Feeds self.old piece.now result self.new }
+        ensures steps { Steps (progress self.old) piece.now result (progress self.new) }
     {
         let taken = gather(&mut self.part, FILE_HEADER, piece);
         let header = self.part.as_slice();
@@ -141,83 +136,17 @@ impl Reader {
 
     /// Takes bytes up to the end of a record.
     fn feed_record(&mut self, style: Style, piece: &[u8]) -> Result<usize, Refusal>
-        requires accepted { self.old.refusal ≡ None }
+        requires accepts { Accepts (progress self.old) piece.now }
         requires style { self.old.style ≡ Some style }
-        requires bounded { taken self.old + length piece.now ≤ 2 ^ 62 }
-        ensures blocked { IfOk result (λ n. IsSome (held self.old) → n ≡ 0) }
-        ensures still { IfOk result (λ n. n ≡ 0 → self.new ≡ self.old) }
-        ensures end { IfOk result (λ n. n < length piece.now → IsSome (held self.new)) }
-        ensures fed { Feeds self.old piece.now result self.new }
+        ensures { Advances (progress self.old) piece.now result (progress self.new) }
     {
-        if let Some(size) = self.whole_ahead(piece) {
-            let taken = gather(&mut self.part, size, piece);
-            self.whole = true;
-            return Ok(taken);
-        }
-        let taken = self.feed_parts(style, piece)?;
-        Ok(taken)
-    }
-
-    /// Takes bytes up to the end of a record, of which some came or not all are in the piece.
-    fn feed_parts(&mut self, style: Style, piece: &[u8]) -> Result<usize, Refusal>
-        requires accepted { self.old.refusal ≡ None }
-        requires style { self.old.style ≡ Some style }
-        requires bounded { taken self.old + length piece.now ≤ 2 ^ 62 }
-        ensures blocked { IfOk result (λ n. IsSome (held self.old) → n ≡ 0) }
-        ensures still { IfOk result (λ n. n ≡ 0 → self.new ≡ self.old) }
-        ensures end { IfOk result (λ n. n < length piece.now → IsSome (held self.new)) }
-        ensures fed { Feeds self.old piece.now result self.new }
-    {
-        let header = self.feed_record_header(style, piece)?;
-        let bytes = self.feed_packet_bytes(style, &piece[header..]);
-        Ok(header + bytes)
-    }
-
-    /// Takes bytes up to the end of a record's header.
-    fn feed_record_header(&mut self, style: Style, piece: &[u8]) -> Result<usize, Refusal>
-        requires accepted { self.old.refusal ≡ None }
-        requires style { self.old.style ≡ Some style }
-        requires bounded { taken self.old + length piece.now ≤ 2 ^ 62 }
-        ensures blocked { IfOk result (λ n. IsSome (held self.old) → n ≡ 0) }
-        ensures still { IfOk result (λ n. n ≡ 0 → self.new ≡ self.old) }
-        ensures end { IfOk result (λ n. n < length piece.now → 16 ≤ length self.new.part) }
-        ensures style { self.new.style ≡ Some style }
-        ensures fed { Feeds self.old piece.now result self.new }
-    {
-        let taken = gather(&mut self.part, RECORD_HEADER, piece);
-        let refusal = layout::record_refusal(style.order, self.start, self.part.as_slice());
-        self.whole = refusal.is_none();
-        match layout::certain(refusal) {
-            None => Ok(taken),
-            Some(refusal) => {
+        match fill_record(style.order, self.start, &mut self.part, piece) {
+            Ok(taken) => Ok(taken),
+            Err(refusal) => {
                 self.refusal = Some(refusal);
                 Err(refusal)
             }
         }
-    }
-
-    /// Takes bytes up to the end of a record whose header is whole.
-    fn feed_packet_bytes(&mut self, style: Style, piece: &[u8]) -> usize
-        requires accepted { self.old.refusal ≡ None }
-        requires style { self.old.style ≡ Some style }
-        requires bounded { taken self.old + length piece.now ≤ 2 ^ 62 }
-        ensures blocked { IsSome (held self.old) → result ≡ 0 }
-        ensures still { result ≡ 0 → self.new ≡ self.old }
-        ensures end { 16 ≤ length self.old.part → result < length piece.now → IsSome (held self.new) }
-        ensures accepted { self.new.refusal ≡ None }
-        ensures style { self.new.style ≡ Some style }
-        ensures within { result ≤ length piece.now }
-        ensures taken { taken self.new ≡ taken self.old + result }
-        ensures read { GoesOn self.old (take result piece.now) self.new }
-    {
-        if self.part.len() < RECORD_HEADER {
-            return 0;
-        }
-        let captured = layout::u32_at(style.order, self.part.as_slice(), 8);
-        let size = RECORD_HEADER + captured as usize;
-        let taken = gather(&mut self.part, size, piece);
-        self.whole = self.part.len() == size;
-        taken
     }
 
     /// The capture's style, once the whole file header was taken and accepted.
@@ -228,13 +157,24 @@ impl Reader {
         self.style
     }
 
+    /// Whether a record is held: what has come is a whole one.
+    fn is_whole(&self) -> bool
+        ensures { result ≡ is_some (held self.now) }
+    {
+        match self.style {
+            Some(style) if self.refusal.is_none() => {
+                layout::record_refusal(style.order, self.start, self.part.as_slice()).is_none()
+            }
+            _ => false,
+        }
+    }
+
     /// The record that was taken last, if it is whole and was not released.
     #[tactic(auto, using(crate::proofs::Fields::record_whole))]
     pub fn held(&self) -> Option<RecordView<'_>>
-        ensures exact { option_map shown result ≡ held self.now }
-        ensures time { IfSome result (λ r. IsRecordTime r.arrival) }
+        ensures { Views (held self.now) result }
     {
-        if !self.whole {
+        if !self.is_whole() {
             return None;
         }
         let style = self.style?;
@@ -244,18 +184,15 @@ impl Reader {
     /// Drops the held record, so that the next can be taken. Answers whether there was one.
     pub fn release(&mut self) -> bool
         ensures answer { result ≡ is_some (held self.old) }
-        ensures given_up { (bytes : List ℕ) (records : List Record) → HasRead self.old bytes records → HasRead self.new bytes (records ++ option_to_list (held self.old)) }
-        ensures free { held self.new ≡ None }
-        ensures taken { taken self.new ≡ taken self.old }
+        ensures releases { Releases (progress self.old) (progress self.new) }
+        ensures still { result ≡ false → self.new ≡ self.old }
         ensures style { self.new.style ≡ self.old.style }
-        ensures refusal { self.new.refusal ≡ self.old.refusal }
     {
-        if !self.whole {
+        if !self.is_whole() {
             return false;
         }
         self.start += self.part.len() as u64;
         self.part.clear();
-        self.whole = false;
         true
     }
 
@@ -306,9 +243,7 @@ impl Reader {
     /// that is held counts as whole. It changes nothing: bytes may follow.
     pub fn finish(&self) -> Result<(), Refusal>
         ensures exact { (bytes : List ℕ) (records : List Record) → HasRead self.now bytes records → Holds bytes (records ++ option_to_list (held self.now)) (result_err result) }
-        ensures records { (bytes : List ℕ) (records : List Record) → HasRead self.now bytes records → records ++ option_to_list (held self.now) ≡ whole_records bytes }
-        ensures refusal { (bytes : List ℕ) (records : List Record) → HasRead self.now bytes records → result_err result ≡ first_refusal bytes }
-        ensures lasting { IfSome self.now.refusal (λ refusal. result ≡ Err refusal) }
+        ensures ends { Ends meaning (progress self.now) result }
     {
         match self.missing() {
             None => Ok(()),
@@ -332,18 +267,25 @@ impl Reader {
     }
 }
 
-/// Moves bytes from the front of the piece to the end of the part, until it has `end` bytes. Answers how many.
-fn gather(part: &mut Vec<u8>, end: usize, piece: &[u8]) -> usize
-    requires { end ≤ vec_capacity part.old }
-    ensures taken { result ≡ min (length piece.now) (end - length part.old.items) }
-    ensures within { result ≤ length piece.now }
-    ensures moved { part.new.items ≡ part.old.items ++ take result piece.now }
-    ensures grown { length part.new.items ≡ length part.old.items + result }
-    ensures capacity { vec_capacity part.old ≤ vec_capacity part.new }
+/// Adds bytes from the front of the piece to what has come of a record, up to the record's end, and answers how many.
+fn fill_record(order: Order, start: u64, part: &mut Vec<u8>, piece: &[u8]) -> Result<usize, Refusal>
+    requires part { IsPart order start part.old.items }
+    requires room { 262160 ≤ vec_capacity part.old }
+    requires bounded { start + length part.old.items + length piece.now ≤ 2 ^ 62 }
+    ensures fills { Fills order start part.old.items piece.now result part.new.items }
+    ensures room { 262160 ≤ vec_capacity part.new }
 {
-    let taken = piece.len().min(end.saturating_sub(part.len()));
-    let Ok(()) = part.extend_from_slice(&piece[..taken]) else {
-        unreachable!()
-    };
-    taken
+    let header = gather(part, RECORD_HEADER, piece);
+    let refusal = layout::record_refusal(order, start, part.as_slice());
+    match layout::certain(refusal) {
+        Some(refusal) => return Err(refusal),
+        None => {}
+    }
+    if part.len() < RECORD_HEADER {
+        return Ok(header);
+    }
+    let captured = u32_at(order, part.as_slice(), 8);
+    let size = RECORD_HEADER + captured as usize;
+    let bytes = gather(part, size, &piece[header..]);
+    Ok(header + bytes)
 }

@@ -1,14 +1,14 @@
 //! Captures in their canonical spelling.
 
 ghost use Rattle.std.specs.Prelude.{◌≡◌, ◌+◌, ◌≤◌, ◌<◌, ◌≤ℤ◌, ◌<ℤ◌, ◌*◌, ◌/◌, ◌%◌, ◌^◌, ◌++◌, ◌↔◌, List, ℕ, pos, nat_abs, length, take, drop, IsOk, IfOk, IfErr, OnOk, OnErr};
-ghost use Rattle.pcap_frames.specs.Layout.{number_bytes, scale};
+ghost use Rattle.pcap_frames.specs.Layout.{scale};
 ghost use Rattle.pcap_frames.specs.Capture.{header_spelling, record_spelling};
 
 use crate::layout::{FILE_HEADER, MAGIC_MICRO, MAGIC_NANO, RECORD_HEADER, RECORD_LIMIT};
-use crate::style::{Order, Style, Unit};
+use crate::numbers::{put_u16, put_u32};
+use crate::style::{Style, Unit};
 use avtp_base::Room;
 use avtp_base::octets::write_front;
-use byteorder::{BigEndian, ByteOrder, LittleEndian};
 
 /// Writes the file header of a capture of Ethernet frames (draft-ietf-opsawg-pcap, section 4): version 2.4, zone and
 /// accuracy 0, a snapshot length of 262,144 bytes, and link type 1. Answers its length.
@@ -96,30 +96,4 @@ pub fn record_header(style: Style, arrival: i64, incl_len: u32, orig_len: u32) -
     put_u32(style.order, &mut header, 8, incl_len);
     put_u32(style.order, &mut header, 12, orig_len);
     header
-}
-
-/// Writes a number of 16 bits at an offset.
-#[tactic(auto, using(std::proofs::lemmas::Slice::overwrites), unfolding(crate::specs::Layout::number_bytes))]
-fn put_u16(order: Order, out: &mut [u8], offset: usize, number: u16)
-    requires { offset + 2 ≤ length out.old }
-    ensures spelled { take (offset + 2) out.new ≡ take offset out.old ++ number_bytes order 2 number }
-    ensures rest { (n : ℕ) → offset + 2 ≤ n → drop n out.new ≡ drop n out.old }
-{
-    match order {
-        Order::Little => LittleEndian::write_u16(&mut out[offset..offset + 2], number),
-        Order::Big => BigEndian::write_u16(&mut out[offset..offset + 2], number),
-    }
-}
-
-/// Writes a number of 32 bits at an offset.
-#[tactic(auto, using(std::proofs::lemmas::Slice::overwrites), unfolding(crate::specs::Layout::number_bytes))]
-fn put_u32(order: Order, out: &mut [u8], offset: usize, number: u32)
-    requires { offset + 4 ≤ length out.old }
-    ensures spelled { take (offset + 4) out.new ≡ take offset out.old ++ number_bytes order 4 number }
-    ensures rest { (n : ℕ) → offset + 4 ≤ n → drop n out.new ≡ drop n out.old }
-{
-    match order {
-        Order::Little => LittleEndian::write_u32(&mut out[offset..offset + 4], number),
-        Order::Big => BigEndian::write_u32(&mut out[offset..offset + 4], number),
-    }
 }

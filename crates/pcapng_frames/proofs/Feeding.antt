@@ -13,20 +13,16 @@ use Rattle.pcapng_frames.specs.declared.interface.Interface.{Interface}
 use Rattle.pcap_frames.specs.declared.style.Order.{Order}
 use Rattle.pcapng_frames.specs.Blocks.{Place, Contents, refusal_here, refusal_by, order_or_little, block_refused, option_refused, trailer_refused, ends, after_any, size_of_any, and_then, after_trailer}
 use Rattle.pcapng_frames.specs.Reading.{Reading, HasRead, passed_by, held_by, after_all, contents_past, contents_at, rest_of, rest_by}
-use Rattle.pcapng_frames.specs.state.Reading.{Takes, HasEntered, IsReading, IsWhole, IsPart, IsAhead, IsFree, IsUnpacked, HasHead, is_inside, place_of, packet_of, part_at, need_by, block_need, option_need}
+use Rattle.pcapng_frames.specs.state.Reading.{Takes, HasEntered, IsAt, IsReader, IsReading, IsWhole, IsPart, IsAhead, IsFree, IsUnpacked, HasHead, is_inside, place_of, packet_of, part_at, need_by, block_need, option_need}
 use Rattle.pcapng_frames.proofs.Moves.{reading, going, gathered, past_none}
 use Rattle.pcapng_frames.proofs.Options.{at_option_place, at_trailer_place, trailer_moves}
 use Rattle.pcapng_frames.proofs.Blocks.{at_block, block_moves, block_stops}
 
 pub is_part : (refusal : Option Refusal) (whole : Bool) (p : Place) (skip : ℕ) (part : List ℕ) → refusal ≡ None → whole ≡ false → IsReading refusal whole p skip part → IsPart p skip part
-is_part (Some r) whole p skip part none partial h = absurd (cc)
-is_part None true p skip part none partial h = absurd (cc)
-is_part None false p skip part none partial h = h
+is_part refusal whole p skip part none partial h = rw (none, partial) at h
 
 pub is_reading : (refusal : Option Refusal) (whole : Bool) (p : Place) (skip : ℕ) (part : List ℕ) → refusal ≡ None → whole ≡ false → IsPart p skip part → IsReading refusal whole p skip part
-is_reading (Some r) whole p skip part none partial h = absurd (cc)
-is_reading None true p skip part none partial h = absurd (cc)
-is_reading None false p skip part none partial h = h
+is_reading refusal whole p skip part none partial h = rw (none, partial) h
 
 -- What has come of a block.
 pub record IsBlockPart (c : Cursor) (interfaces : List Interface) (part : List ℕ) : Type 0 where
@@ -37,14 +33,10 @@ pub record IsBlockPart (c : Cursor) (interfaces : List Interface) (part : List �
   pub interface : c.interface ≡ None
 
 ahead_block : (s : Stage) (skip left total : ℕ) → s ≡ stage.Block → IsAhead s skip left total → skip ≡ 0
-ahead_block stage.Block skip left total is h = h
-ahead_block stage.Option skip left total is h = absurd (cc)
-ahead_block stage.Trailer skip left total is h = absurd (cc)
+ahead_block s skip left total is h = rw is at h
 
 free_block : (s : Stage) (packet : Option Record) (interface : Option Interface) → s ≡ stage.Block → IsFree s packet interface → (packet ≡ None) × (interface ≡ None)
-free_block stage.Block packet interface is h = h
-free_block stage.Option packet interface is h = absurd (cc)
-free_block stage.Trailer packet interface is h = absurd (cc)
+free_block s packet interface is h = rw is at h
 
 no_packet : (packet : Option PacketHead) (part : List ℕ) → packet_of packet part ≡ None → packet ≡ None
 no_packet None part e = refl
@@ -56,7 +48,7 @@ part_in_block s part tail is = rw is refl
 pub need_in_block : (s : Stage) (order : Option Order) (part : List ℕ) → s ≡ stage.Block → need_by s order part ≡ block_need order part
 need_in_block s order part is = rw is refl
 
-pub block_part : (c : Cursor) (interfaces : List Interface) (part tail : List ℕ) → c.stage ≡ stage.Block → IsPart (place_of c interfaces part) c.skip (part_at c.stage part tail) → IsBlockPart c interfaces part
+block_part : (c : Cursor) (interfaces : List Interface) (part tail : List ℕ) → c.stage ≡ stage.Block → IsPart (place_of c interfaces part) c.skip (part_at c.stage part tail) → IsBlockPart c interfaces part
 block_part c interfaces part tail is p =
     let p' : Place = place_of c interfaces part in
     let same : part_at c.stage part tail ≡ part = part_in_block c.stage part tail is in
@@ -277,14 +269,10 @@ pub record IsOptionPart (c : Cursor) (interfaces : List Interface) (tail : List 
   pub room : IfSome c.interface (λ i. length interfaces < 256)
 
 ahead_option : (s : Stage) (skip left total : ℕ) → s ≡ stage.Option → IsAhead s skip left total → (0 < left) × (left % 4 ≡ 0) × (skip + left + 4 ≤ total)
-ahead_option stage.Block skip left total is h = absurd (cc)
-ahead_option stage.Option skip left total is h = h
-ahead_option stage.Trailer skip left total is h = absurd (cc)
+ahead_option s skip left total is h = rw is at h
 
 free_option : (s : Stage) (packet : Option Record) (interface : Option Interface) → s ≡ stage.Option → IsFree s packet interface → packet ≡ None
-free_option stage.Block packet interface is h = h.0
-free_option stage.Option packet interface is h = h
-free_option stage.Trailer packet interface is h = absurd (cc)
+free_option s packet interface is h = rw is at h
 
 pub part_in_option : (s : Stage) (part tail : List ℕ) → s ≡ stage.Option → part_at s part tail ≡ tail
 part_in_option s part tail is = rw is refl
@@ -292,7 +280,7 @@ part_in_option s part tail is = rw is refl
 pub need_in_option : (s : Stage) (order : Option Order) (part : List ℕ) → s ≡ stage.Option → need_by s order part ≡ option_need (order_or_little order) part
 need_in_option s order part is = rw is refl
 
-pub option_part : (c : Cursor) (interfaces : List Interface) (part tail : List ℕ) → c.stage ≡ stage.Option → IsPart (place_of c interfaces part) c.skip (part_at c.stage part tail) → IsOptionPart c interfaces tail
+option_part : (c : Cursor) (interfaces : List Interface) (part tail : List ℕ) → c.stage ≡ stage.Option → IsPart (place_of c interfaces part) c.skip (part_at c.stage part tail) → IsOptionPart c interfaces tail
 option_part c interfaces part tail is p =
     let p' : Place = place_of c interfaces part in
     let same : part_at c.stage part tail ≡ tail = part_in_option c.stage part tail is in
@@ -337,9 +325,7 @@ pub record IsTrailerPart (c : Cursor) (interfaces : List Interface) (tail : List
   pub room : IfSome c.interface (λ i. length interfaces < 256)
 
 ahead_trailer : (s : Stage) (skip left total : ℕ) → s ≡ stage.Trailer → IsAhead s skip left total → skip + 4 ≤ total
-ahead_trailer stage.Block skip left total is h = absurd (cc)
-ahead_trailer stage.Option skip left total is h = absurd (cc)
-ahead_trailer stage.Trailer skip left total is h = h
+ahead_trailer s skip left total is h = rw is at h
 
 pub part_in_trailer : (s : Stage) (part tail : List ℕ) → s ≡ stage.Trailer → part_at s part tail ≡ tail
 part_in_trailer s part tail is = rw is refl
@@ -347,7 +333,7 @@ part_in_trailer s part tail is = rw is refl
 pub need_in_trailer : (s : Stage) (order : Option Order) (part : List ℕ) → s ≡ stage.Trailer → need_by s order part ≡ 4
 need_in_trailer s order part is = rw is refl
 
-pub trailer_part : (c : Cursor) (interfaces : List Interface) (part tail : List ℕ) → c.stage ≡ stage.Trailer → IsPart (place_of c interfaces part) c.skip (part_at c.stage part tail) → IsTrailerPart c interfaces tail
+trailer_part : (c : Cursor) (interfaces : List Interface) (part tail : List ℕ) → c.stage ≡ stage.Trailer → IsPart (place_of c interfaces part) c.skip (part_at c.stage part tail) → IsTrailerPart c interfaces tail
 trailer_part c interfaces part tail is p =
     let same : part_at c.stage part tail ≡ tail = part_in_trailer c.stage part tail is in
     record {
@@ -411,9 +397,7 @@ trailer_ends c interfaces part tail more q is size accepted free next =
     ∙ (ap (λ (x : Place). contents_at x more) (sym next) ∙ sym (past_none q [] more)))
 
 pub is_whole : (refusal : Option Refusal) (whole : Bool) (p : Place) (skip : ℕ) (part : List ℕ) → refusal ≡ None → whole ≡ true → IsReading refusal whole p skip part → IsWhole p skip part
-is_whole (Some r) whole p skip part none held h = absurd (cc)
-is_whole None false p skip part none held h = absurd (cc)
-is_whole None true p skip part none held h = h
+is_whole refusal whole p skip part none held h = rw (none, held) at h
 
 pub passed_whole : (s : Stage) (skip left total : ℕ) → s ≡ stage.Trailer → passed_by s skip left total ≡ total - 4 - skip
 passed_whole s skip left total is = rw is refl
@@ -439,3 +423,30 @@ gives_up p q skip after part clear bytes whole gone refusal records none is free
       ∙ (ap (λ (n : ℕ). contents_past n q [] more) (sym zero)
       ∙ (ap (λ (b : List ℕ). contents_past after q b more) (sym empty) ∙ sym (going q after clear gone refusal more none free))))))));
 }
+
+-- ---- where a reader is
+
+pub block_begun : {c : Cursor} {interfaces : List Interface} {part tail piece : List ℕ} {whole : Bool} {refusal : Option Refusal} {n m k : ℕ} → IsReader c interfaces part tail whole refusal n m k
+    → IsAt stage.Block (reading (place_of c interfaces part) c.skip (part_at c.stage part tail) whole refusal) piece → IsBlockPart c interfaces part
+block_begun {c} {interfaces} {part} {tail} {piece} {whole} {refusal} {n} {m} {k} reader at =
+    block_part c interfaces part tail at.stage (is_part refusal whole (place_of c interfaces part) c.skip (part_at c.stage part tail) at.going.accepted at.going.partial reader.reading)
+
+pub option_begun : {c : Cursor} {interfaces : List Interface} {part tail piece : List ℕ} {whole : Bool} {refusal : Option Refusal} {n m k : ℕ} → IsReader c interfaces part tail whole refusal n m k
+    → IsAt stage.Option (reading (place_of c interfaces part) c.skip (part_at c.stage part tail) whole refusal) piece → IsOptionPart c interfaces tail
+option_begun {c} {interfaces} {part} {tail} {piece} {whole} {refusal} {n} {m} {k} reader at =
+    option_part c interfaces part tail at.stage (is_part refusal whole (place_of c interfaces part) c.skip (part_at c.stage part tail) at.going.accepted at.going.partial reader.reading)
+
+pub trailer_begun : {c : Cursor} {interfaces : List Interface} {part tail piece : List ℕ} {whole : Bool} {refusal : Option Refusal} {n m k : ℕ} → IsReader c interfaces part tail whole refusal n m k
+    → IsAt stage.Trailer (reading (place_of c interfaces part) c.skip (part_at c.stage part tail) whole refusal) piece → IsTrailerPart c interfaces tail
+trailer_begun {c} {interfaces} {part} {tail} {piece} {whole} {refusal} {n} {m} {k} reader at =
+    trailer_part c interfaces part tail at.stage (is_part refusal whole (place_of c interfaces part) c.skip (part_at c.stage part tail) at.going.accepted at.going.partial reader.reading)
+
+-- a reader that holds a packet is not refused
+pub held_going : (refusal : Option Refusal) (whole : Bool) (packet : Option Record) → is_some (held_by refusal whole packet) ≡ true → (refusal ≡ None) × (whole ≡ true)
+held_going (Some why) whole packet some = absurd cc
+held_going None false packet some = absurd cc
+held_going None true packet some = (refl, refl)
+
+pub held_free : (refusal : Option Refusal) (packet : Option Record) → held_by refusal false packet ≡ None
+held_free None packet = refl
+held_free (Some why) packet = refl

@@ -6,7 +6,8 @@ use Rattle.avtp_base.specs.declared.field.Field.TheVariants.{BlockBody}
 use Rattle.avtp_base.specs.declared.refusal.Refusal.{Refusal}
 use Rattle.pcap_frames.specs.Capture.{Record}
 use Rattle.pcapng_frames.specs.Blocks.{Place, block_refused, contents, size_here, refusal_here, refused_or, and_then, next_place, packet_by, cut_short, ends, short_at, first_place}
-use Rattle.pcapng_frames.specs.Reading.{contents_at, contents_past, Reading, GoesOn, HasRead, rest_of, after_all, nothing_read}
+use Rattle.pcap_frames.specs.Readers.{GoesOn}
+use Rattle.pcapng_frames.specs.Reading.{contents_at, contents_past, Reading, HasRead, rest_of, after_all, nothing_read, progress}
 use Rattle.pcapng_frames.specs.state.Reading.{Takes}
 use Rattle.pcapng_frames.specs.declared.block.Cursor.{Cursor}
 use Rattle.pcapng_frames.specs.declared.block.Stage.TheVariants as stage
@@ -67,7 +68,7 @@ pub takes_twice : (a b c : Reading) (x y : List ℕ) → Takes a x b → Takes b
 takes_twice a b c x y first second = record { same = λ more. ap (rest_of a) (append_assoc x y more) ∙ (first.same (y ++ more) ∙ second.same more) }
 
 -- what a reader stood for, it stands for after a step
-pub goes_on : (a b : Reading) (x : List ℕ) → Takes a x b → GoesOn a x b
+pub goes_on : (a b : Reading) (x : List ℕ) → Takes a x b → GoesOn (progress a) x (progress b)
 goes_on a b x t bytes records h = record { read = λ more. ap contents (append_assoc bytes x more) ∙ (h.read (x ++ more) ∙ ap (after_all records) (t.same more)) }
 
 -- a reader that has taken nothing

@@ -16,10 +16,14 @@ use Rattle.pcapng_frames.specs.declared.interface.Interface.{Interface}
 use Rattle.pcapng_frames.specs.declared.block.Stage.{Stage}
 use Rattle.pcapng_frames.specs.declared.block.Stage.TheVariants as stage
 use Rattle.pcapng_frames.specs.Blocks.{Place, Contents, Ending, short_at, is_interface, kind_at, contents, settled, whole_records, first_refusal, refusal_of, refusal_here, size_here, refused_or, and_then, packet_by, next_place, cut_short, cut_by, ends_at, ends, after_trailer, order_or_little}
-use Rattle.pcapng_frames.specs.Reading.{Reading, HasRead, contents_at, contents_past, rest_of, after_all, refused_after, held_by}
+use Rattle.std.specs.Prelude.{IfSome, Result, Err}
+use Rattle.std.specs.Result.{result_err}
+use Rattle.pcap_frames.specs.Readers.{Ends, GoesOn, IsRefusedAfter}
+use Rattle.pcap_frames.specs.state.Readers.{IsSure}
+use Rattle.pcapng_frames.specs.Reading.{Reading, HasRead, contents_at, contents_past, rest_of, after_all, refused_after, held, held_by, meaning, progress}
 use Rattle.pcapng_frames.specs.state.Reading.{IsReading, IsPart, IsAhead, lacks_by, HasHead, packet_of, place_of}
 use Rattle.pcapng_frames.proofs.Places.{unroll, size_some}
-use Rattle.pcapng_frames.proofs.Moves.{reading}
+use Rattle.pcapng_frames.proofs.Moves.{goes_on, reading}
 use Rattle.pcapng_frames.proofs.Blocks.{at_block, size_at_block}
 use Rattle.pcapng_frames.proofs.Options.{at_option_place, option_lacks, size_at_option, size_at_trailer}
 use Rattle.pcapng_frames.proofs.Needs.{block_lacks}
@@ -91,7 +95,7 @@ settled_by None false p skip part none h =
     (ap (λ (x : Contents). settled x.ending) (none_follow p skip part ∙ cut_at p part h.accepted (lacks_some p skip part h)) ∙ settled_cut p part)
 
 -- of the bytes that a reader took and that is not refused, nothing is refused for good
-pub uncertain : (r : Reading) (bytes : List ℕ) (records : List Record) → r.refusal ≡ None → IsReading r.refusal r.whole r.place r.skip r.part → HasRead r bytes records → settled (contents bytes).ending ≡ None
+uncertain : (r : Reading) (bytes : List ℕ) (records : List Record) → r.refusal ≡ None → IsReading r.refusal r.whole r.place r.skip r.part → HasRead r bytes records → settled (contents bytes).ending ≡ None
 uncertain r bytes records none keeps h =
     ap (λ (b : List ℕ). settled (contents b).ending) (sym (append-nil bytes))
     ∙ (ap (λ (x : Contents). settled x.ending) (h.read []) ∙ settled_by r.refusal r.whole r.place r.skip r.part none keeps)
@@ -100,8 +104,26 @@ nothing_after : (records : List Record) (r : Refusal) → after_all records (end
 nothing_after records r = ap (λ (rs : List Record). refused_after rs r) (append-nil records)
 
 -- what a refused reader says is the first refusal, however the bytes go on
-pub refused_for_good : (r : Reading) (bytes more : List ℕ) (records : List Record) (why : Refusal) → r.refusal ≡ Some why → HasRead r bytes records → contents (bytes ++ more) ≡ refused_after records why
-refused_for_good r bytes more records why e h = h.read more ∙ (ap (after_all records) (refused_rest r why more e) ∙ nothing_after records why)
+refused_for_good : (r : Reading) (why : Refusal) (bytes more : List ℕ) (records : List Record) → r.refusal ≡ Some why → HasRead r bytes records → IsRefusedAfter meaning (bytes ++ more) records why
+unfolding whole_records
+refused_for_good r why bytes more records e h =
+    let all = h.read more ∙ (ap (after_all records) (refused_rest r why more e) ∙ nothing_after records why) in
+    record { all = ap (λ (x : Contents). x.records) all; certain = ap (λ (x : Contents). settled x.ending) all }
+
+pub refused_goes_on : (r : Reading) (why : Refusal) (more : List ℕ) → r.refusal ≡ Some why → GoesOn (progress r) more (progress r)
+refused_goes_on r why more e = goes_on r r more (record { same = λ rest. refused_rest r why (more ++ rest) e ∙ sym (refused_rest r why rest e) })
+
+pub sure : (r : Reading) → r.refusal ≡ None → IsReading r.refusal r.whole r.place r.skip r.part → IsSure meaning (progress r)
+sure r none keeps = record {
+  uncertain = λ accepted bytes records h. uncertain r bytes records accepted keeps h;
+  refused = λ why is. absurd (let no : None ≡ Some why = sym none ∙ is in cc);
+}
+
+pub sure_refused : (r : Reading) (why : Refusal) → r.refusal ≡ Some why → IsSure meaning (progress r)
+sure_refused r why e = record {
+  uncertain = λ accepted. absurd (let no : None ≡ Some why = sym accepted ∙ e in cc);
+  refused = λ other is bytes more records h. refused_for_good r other bytes more records is h;
+}
 
 pub both_not : {X : Type 0} (b : Bool) → b ≡ true → b ≡ false → X
 both_not true t f = absurd (cc)
@@ -185,21 +207,29 @@ all_of : (bytes : List ℕ) (records : List Record) (rest : Contents) → conten
 all_of bytes records rest e = ap contents (sym (append-nil bytes)) ∙ e
 
 -- the packets of the bytes
-pub records_so : (bytes : List ℕ) (records : List Record) (rest : Contents) (packet : Option Record) (lack : Option Refusal) → contents (bytes ++ []) ≡ after_all records rest → IsEnd rest packet lack → records ++ option_to_list packet ≡ whole_records bytes
+records_so : (bytes : List ℕ) (records : List Record) (rest : Contents) (packet : Option Record) (lack : Option Refusal) → contents (bytes ++ []) ≡ after_all records rest → IsEnd rest packet lack → records ++ option_to_list packet ≡ whole_records bytes
 unfolding whole_records
 records_so bytes records rest packet lack e end = sym (ap (λ (x : Contents). x.records) (all_of bytes records rest e) ∙ ap (λ (rs : List Record). records ++ rs) end.records)
 
 -- the first refusal of the bytes
-pub refusal_so : (bytes : List ℕ) (records : List Record) (rest : Contents) (packet : Option Record) (lack : Option Refusal) → contents (bytes ++ []) ≡ after_all records rest → IsEnd rest packet lack → lack ≡ first_refusal bytes
+refusal_so : (bytes : List ℕ) (records : List Record) (rest : Contents) (packet : Option Record) (lack : Option Refusal) → contents (bytes ++ []) ≡ after_all records rest → IsEnd rest packet lack → lack ≡ first_refusal bytes
 unfolding first_refusal
 refusal_so bytes records rest packet lack e end = sym (ap (λ (x : Contents). refusal_of x.ending) (all_of bytes records rest e) ∙ end.refusal)
 
+none_held : (refusal : Option Refusal) (whole : Bool) (packet : Option Record) (why : Refusal) → refusal ≡ Some why → held_by refusal whole packet ≡ None
+none_held refusal whole packet why e = rw e refl
+
 -- the same of a refused reader
-pub end_refused : (r : Reading) (why : Refusal) → r.refusal ≡ Some why → IsEnd (rest_of r []) None (Some why)
+pub end_refused : (r : Reading) (why : Refusal) → r.refusal ≡ Some why → IsEnd (rest_of r []) (held r) (Some why)
 end_refused r why e = record {
-  records = ap (λ (x : Contents). x.records) (refused_rest r why [] e);
+  records = ap (λ (x : Contents). x.records) (refused_rest r why [] e) ∙ sym (ap option_to_list (none_held r.refusal r.whole r.place.packet why e));
   refusal = ap (λ (x : Contents). refusal_of x.ending) (refused_rest r why [] e);
 }
 
-pub none_held : (refusal : Option Refusal) (whole : Bool) (packet : Option Record) (why : Refusal) → refusal ≡ Some why → held_by refusal whole packet ≡ None
-none_held refusal whole packet why e = rw e refl
+-- what a reader answers if the capture ends
+pub ends_now : (r : Reading) (result : Result Unit Refusal) (lack : Option Refusal) → IsEnd (rest_of r []) (held r) lack → result_err result ≡ lack → IfSome r.refusal (λ why. result ≡ Err why) → Ends meaning (progress r) result
+ends_now r result lack end is lasting = record {
+  records = λ bytes records h. records_so bytes records (rest_of r []) (held r) lack (h.read []) end;
+  refusal = λ bytes records h. is ∙ refusal_so bytes records (rest_of r []) (held r) lack (h.read []) end;
+  lasting = lasting;
+}

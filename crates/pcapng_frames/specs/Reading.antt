@@ -3,10 +3,10 @@ use Rattle.std.specs.Prelude.{◌≡◌, ℕ, suc, ◌+◌, ◌-◌, Bool, true,
 use Rattle.avtp_base.specs.declared.field.Field.TheVariants.{BlockBody}
 use Rattle.avtp_base.specs.declared.refusal.Refusal.{Refusal}
 use Rattle.pcap_frames.specs.Capture.{Record}
-use Rattle.pcap_frames.specs.declared.style.RecordView.{RecordView}
+use Rattle.pcap_frames.specs.Readers.{Meaning, Progress}
 use Rattle.pcapng_frames.specs.declared.block.Stage.{Stage}
 use Rattle.pcapng_frames.specs.declared.block.Stage.TheVariants as stage
-use Rattle.pcapng_frames.specs.Blocks.{Place, Contents, contents, contents_from, ends, and_then, first_place, after_trailer, short_at}
+use Rattle.pcapng_frames.specs.Blocks.{Place, Contents, contents, contents_from, whole_records, first_refusal, settled, ends, and_then, first_place, after_trailer, short_at}
 
 -- A reader: the place that it has come to; how many bytes are to be skipped before it; the bytes that have come there;
 -- whether the block's packet is whole; and the refusal.
@@ -52,10 +52,6 @@ after_all records rest = record { records = records ++ rest.records; ending = re
 pub record HasRead (r : Reading) (bytes : List ℕ) (records : List Record) : Type 0 where
   pub read : (more : List ℕ) → contents (bytes ++ more) ≡ after_all records (rest_of r more)
 
--- whatever the reader had read before, it has read these bytes too now, and released no packet
-abbrev pub GoesOn : Reading → List ℕ → Reading → Type 0
-GoesOn old more new = (bytes : List ℕ) (records : List Record) → HasRead old bytes records → HasRead new (bytes ++ more) records
-
 -- the packet that a reader in this state holds: that of the block, if it is whole and nothing is refused
 abbrev pub held_by : Option Refusal → Bool → Option Record → Option Record
 held_by (Some refusal) whole packet = None
@@ -80,9 +76,13 @@ taken_by next p skip part = p.start + passed_by next skip p.left p.total + lengt
 abbrev pub taken : Reading → ℕ
 taken r = taken_by r.place.stage r.place r.skip r.part
 
--- the packet that a view shows, apart from where it lies in memory
-abbrev pub shown : RecordView → Record
-shown view = record { arrival = view.arrival; orig_len = view.orig_len; bytes = view.bytes.now }
+-- what the bytes of a pcapng capture mean
+abbrev pub meaning : Meaning
+meaning = record { records = whole_records; refusal = first_refusal; certain = λ bytes. settled (contents bytes).ending }
+
+-- how far the reader is
+abbrev pub progress : Reading → Progress
+progress r = record { has_read = HasRead r; held = held r; taken = taken r; refusal = r.refusal }
 
 -- these packets, and then this refusal
 abbrev pub refused_after : List Record → Refusal → Contents

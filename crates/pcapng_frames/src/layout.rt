@@ -4,7 +4,7 @@ ghost use Rattle.std.specs.Prelude.{◌≡◌, ◌+◌, ◌<◌, ◌≤◌, ◌^
 ghost use Rattle.std.specs.Int.{cast_signed, w64};
 ghost use Rattle.std.specs.Option.{option_map};
 ghost use Rattle.pcap_frames.specs.Layout.{number_at, IsRecordTime};
-ghost use Rattle.pcapng_frames.specs.Reading.{shown};
+ghost use Rattle.pcap_frames.specs.Readers.{shown};
 ghost use Rattle.pcapng_frames.specs.state.Reading.{packet_with};
 ghost use Rattle.pcapng_frames.specs.Fields.{kind_of as kind_of_type, order_of_magic as order_of_number, packet_arrival as arrival_in, padded as padded_length, timestamp as timestamp_in};
 ghost use Rattle.pcapng_frames.specs.state.Fields.{AllResolved};
@@ -14,6 +14,7 @@ ghost use Rattle.pcapng_frames.specs.declared.block.Kind.TheVariants as kind;
 use crate::block::{Kind, PacketHead};
 use crate::interface::{self, Interface};
 use byteorder::{BigEndian, ByteOrder, LittleEndian};
+use pcap_frames::numbers::u32_at;
 use pcap_frames::{Order, RecordView};
 
 /// The types of the blocks that are read.
@@ -43,30 +44,6 @@ pub const END_OF_OPTIONS: u16 = 0;
 pub const IF_TSRESOL: u16 = 9;
 
 pub const IF_TSOFFSET: u16 = 14;
-
-/// The number of 16 bits at an offset.
-#[tactic(auto, unfolding(crate::specs::Fields::number_at))]
-pub fn u16_at(order: Order, bytes: &[u8], offset: usize) -> u16
-    requires { offset + 2 ≤ length bytes.now }
-    ensures { result ≡ number_at order offset 2 bytes.now }
-{
-    match order {
-        Order::Little => LittleEndian::read_u16(&bytes[offset..]),
-        Order::Big => BigEndian::read_u16(&bytes[offset..]),
-    }
-}
-
-/// The number of 32 bits at an offset.
-#[tactic(auto, unfolding(crate::specs::Fields::number_at))]
-pub fn u32_at(order: Order, bytes: &[u8], offset: usize) -> u32
-    requires { offset + 4 ≤ length bytes.now }
-    ensures { result ≡ number_at order offset 4 bytes.now }
-{
-    match order {
-        Order::Little => LittleEndian::read_u32(&bytes[offset..]),
-        Order::Big => BigEndian::read_u32(&bytes[offset..]),
-    }
-}
 
 /// The signed number of 64 bits at an offset.
 #[tactic(auto, unfolding(crate::specs::Fields::number_at))]

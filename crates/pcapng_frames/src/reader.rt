@@ -1,22 +1,19 @@
 //! Packets from the bytes of a pcapng capture, in pieces of any length.
 
-ghost use Rattle.std.specs.Option.{option_map, option_to_list};
-ghost use Rattle.std.specs.Result.{result_err};
-ghost use Rattle.std.specs.Prelude.{ℕ, List, Err, IfSome, IsSome, ◌⊎◌, ◌↔◌, is_some, ◌≡◌, ◌+◌, ◌-◌, ◌<◌, ◌≤◌, ◌^◌, ◌++◌, false, true, length, take, min, None, Some, IfOk, IfErr, OnOk, OnErr, [], vec_capacity, drop};
-ghost use Rattle.pcap_frames.specs.Capture.{Record};
-ghost use Rattle.pcap_frames.specs.Layout.{IsRecordTime};
+ghost use Rattle.std.specs.Prelude.{ℕ, List, IfSome, IsSome, ◌⊎◌, ◌↔◌, is_some, ◌≡◌, ◌+◌, ◌<◌, ◌≤◌, ◌^◌, false, length, None, Some, Ok, IfOk, [], vec_capacity};
+ghost use Rattle.pcap_frames.specs.Readers.{Ends, Feeds, Releases, Views};
+ghost use Rattle.pcap_frames.specs.state.Readers.{Accepts, IsSure, Steps};
 ghost use Rattle.pcapng_frames.specs.declared.block.Stage.TheVariants as stage;
-ghost use Rattle.pcapng_frames.specs.Interface.{is_resolution, microseconds};
-ghost use Rattle.pcapng_frames.specs.state.Fields.{AllResolved};
-ghost use Rattle.pcapng_frames.specs.Blocks.{contents, whole_records, first_refusal, settled, after_trailer};
-ghost use Rattle.pcapng_frames.specs.Reading.{Reading, refused_after, GoesOn, HasRead, held, nothing_read, rest_of, shown, taken};
-ghost use Rattle.pcapng_frames.specs.state.Reading.{CanFeed, lacks, Takes, Feeds, IsWholePacket, need_by};
+ghost use Rattle.pcapng_frames.specs.Reading.{HasRead, held, meaning, nothing_read, progress, taken};
+ghost use Rattle.pcapng_frames.specs.state.Reading.{IsAt, IsGoing, IsWholePacket, lacks};
 
 use crate::block::{Cursor, Kind, Stage, WholePacket};
 use crate::interface::Interface;
 use crate::layout::PACKET_HEAD;
 use crate::{layout, refusals, steps};
+use avtp_base::rows::cut_off;
 use avtp_base::{Field, NoMemory, Refusal};
+use pcap_frames::part::gather;
 use pcap_frames::{Order, RecordView};
 use std::alloc::Global;
 use std::marker::Model;
@@ -45,18 +42,15 @@ pub struct Ng {
 }
 
 impl Model for Ng {
-    ghost use Rattle.std.specs.Prelude.{◌≡◌, ◌≤◌, ◌+◌, ◌^◌, length, vec_capacity, true};
-    ghost use Rattle.pcapng_frames.specs.state.Fields.{AllResolved};
-    ghost use Rattle.pcapng_frames.specs.Reading.{Reading, taken_by};
-    ghost use Rattle.pcapng_frames.specs.state.Reading.{HasHead, IsReading, IsResolved, packet_of, part_at, place_of};
+    ghost use Rattle.std.specs.Prelude.{vec_capacity};
+    ghost use Rattle.pcapng_frames.specs.Reading.{Reading};
+    ghost use Rattle.pcapng_frames.specs.state.Reading.{IsReader, part_at, place_of};
 
     ghost Value = { Reading };
 
     ghost view = { λ r. record { place = place_of r.cursor r.interfaces.items r.part.items; skip = r.cursor.skip; part = part_at r.cursor.stage r.part.items r.tail.items; whole = r.whole; refusal = r.refusal } };
 
-    ghost invariant = { λ r. (262172 ≤ vec_capacity r.part) × (12 ≤ vec_capacity r.tail) × (256 ≤ vec_capacity r.interfaces) × (AllResolved r.interfaces.items) × (IsResolved r.cursor.interface) × (HasHead r.cursor.order r.cursor.packet r.part.items)
-        × (taken_by r.cursor.stage (place_of r.cursor r.interfaces.items r.part.items) r.cursor.skip (part_at r.cursor.stage r.part.items r.tail.items) ≤ 2 ^ 62)
-        × IsReading r.refusal r.whole (place_of r.cursor r.interfaces.items r.part.items) r.cursor.skip (part_at r.cursor.stage r.part.items r.tail.items) };
+    ghost invariant = { λ r. IsReader r.cursor r.interfaces.items r.part.items r.tail.items r.whole r.refusal (vec_capacity r.part) (vec_capacity r.tail) (vec_capacity r.interfaces) };
 }
 
 impl Ng {
@@ -94,22 +88,22 @@ impl Ng {
     /// At most 2^62 bytes may be taken in all, the piece among them.
     pub fn feed(&mut self, piece: &[u8]) -> Result<usize, Refusal>
         requires { taken self.old + length piece.now ≤ 2 ^ 62 }
-        ensures within { IfOk result (λ n. n ≤ length piece.now) }
+        ensures { Feeds meaning (progress self.old) piece.now result (progress self.new) }
+    {
+        match self.refusal {
+            Some(refusal) => Err(refusal),
+            None => self.advance(piece),
+        }
+    }
+
+    /// Takes bytes up to the end of one packet's block or of the piece.
+    fn advance(&mut self, piece: &[u8]) -> Result<usize, Refusal>
+        requires { Accepts (progress self.old) piece.now }
         ensures nothing { IfOk result (λ n. (n ≡ 0) ↔ ((length piece.now ≡ 0) ⊎ IsSome (held self.old))) }
         ensures end { IfOk result (λ n. n < length piece.now → IsSome (held self.new)) }
-        ensures read { IfOk result (λ n. GoesOn self.old (take n piece.now) self.new) }
-        ensures uncertain { IfOk result (λ n. (bytes : List ℕ) (records : List Record) → HasRead self.old bytes records → settled (contents (bytes ++ take n piece.now)).ending ≡ None) }
-        ensures refused { IfErr result (λ refusal. (bytes more : List ℕ) (records : List Record) → HasRead self.old bytes records → contents ((bytes ++ piece.now) ++ more) ≡ refused_after records refusal) }
-        ensures lasting { IfSome self.old.refusal (λ refusal. result ≡ Err refusal) }
-        ensures stays_refused { IfErr result (λ refusal. self.new.refusal ≡ Some refusal) }
-        ensures stays_accepted { OnOk result (self.new.refusal ≡ None) }
-        ensures stopped { OnErr result (GoesOn self.old piece.now self.new) }
-        ensures taken { IfOk result (λ n. taken self.new ≡ taken self.old + n) }
-        ensures bounded { taken self.new ≤ taken self.old + length piece.now }
+        ensures steps { Steps (progress self.old) piece.now result (progress self.new) }
+        ensures sure { IsSure meaning (progress self.new) }
     {
-        if let Some(refusal) = self.refusal {
-            return Err(refusal);
-        }
         let mut used = 0;
         while used < piece.len() && !self.whole {
             used += self.feed_place(&piece[used..])?;
@@ -119,9 +113,9 @@ impl Ng {
 
     /// Takes bytes until more is known of what comes next.
     fn feed_place(&mut self, piece: &[u8]) -> Result<usize, Refusal>
-        requires can { CanFeed self.old piece.now }
+        requires { IsGoing self.old piece.now }
         ensures some { IfOk result (λ n. 0 < n) }
-        ensures fed { Feeds self.old piece.now result self.new }
+        ensures steps { Steps (progress self.old) piece.now result (progress self.new) }
     {
         if self.cursor.skip > 0 {
             let taken = self.pass(piece);
@@ -150,12 +144,10 @@ impl Ng {
     /// Drops the held packet, so that the next can be taken. Answers whether there was one.
     pub fn release(&mut self) -> bool
         ensures answer { result ≡ is_some (held self.old) }
-        ensures given_up { (bytes : List ℕ) (records : List Record) → HasRead self.old bytes records → HasRead self.new bytes (records ++ option_to_list (held self.old)) }
-        ensures free { held self.new ≡ None }
-        ensures taken { taken self.new ≡ taken self.old }
-        ensures refusal { self.new.refusal ≡ self.old.refusal }
+        ensures releases { Releases (progress self.old) (progress self.new) }
+        ensures still { result ≡ false → self.new ≡ self.old }
     {
-        if self.refusal.is_some() || !self.whole {
+        if !self.is_whole() {
             return false;
         }
         steps::add_described(self.cursor.interface, &mut self.interfaces);
@@ -171,9 +163,7 @@ impl Ng {
     /// Otherwise it answers the earlier refusal, or what the bytes lack, mostly with `short`. It changes nothing: bytes
     /// may follow.
     pub fn finish(&self) -> Result<(), Refusal>
-        ensures records { (bytes : List ℕ) (records : List Record) → HasRead self.now bytes records → records ++ option_to_list (held self.now) ≡ whole_records bytes }
-        ensures refusal { (bytes : List ℕ) (records : List Record) → HasRead self.now bytes records → result_err result ≡ first_refusal bytes }
-        ensures lasting { IfSome self.now.refusal (λ refusal. result ≡ Err refusal) }
+        ensures { Ends meaning (progress self.now) result }
     {
         match self.refusal {
             Some(refusal) => return Err(refusal),
@@ -201,19 +191,16 @@ impl Ng {
                 cursor.start,
                 self.part.as_slice(),
             ),
-            _ => refusals::short(Field::BlockBody, cursor.start + 8),
+            _ => Some(cut_off(Field::BlockBody, cursor.start + 8)),
         }
     }
 
     /// Skips bytes that are not read; of a block that is skipped, nothing is held, whatever its length.
     fn pass(&mut self, piece: &[u8]) -> usize
-        requires can { CanFeed self.old piece.now }
+        requires going { IsGoing self.old piece.now }
         requires some { 0 < self.old.skip }
         ensures some { 0 < result }
-        ensures within { result ≤ length piece.now }
-        ensures counted { taken self.new ≡ taken self.old + result }
-        ensures takes { Takes self.old (take result piece.now) self.new }
-        ensures accepted { self.new.refusal ≡ None }
+        ensures steps { Steps (progress self.old) piece.now (Ok result) (progress self.new) }
     {
         let taken = piece.len().min(self.cursor.skip as usize);
         self.cursor.skip -= taken as u32;
@@ -235,15 +222,11 @@ impl Ng {
     /// Takes the whole block of a packet in one step. The steps from place to place, for blocks that are cut, refused
     /// or of another kind, come to the same state.
     fn feed_packet(&mut self, packet: WholePacket, piece: &[u8]) -> usize
-        requires can { CanFeed self.old piece.now }
-        requires stage { self.old.place.stage ≡ stage.Block }
+        requires at { IsAt stage.Block self.old piece.now }
         requires begins { self.old.part ≡ [] }
         requires whole { IsWholePacket self.old.place.order self.old.place.interfaces piece.now packet }
         ensures some { 0 < result }
-        ensures within { result ≤ length piece.now }
-        ensures counted { taken self.new ≡ taken self.old + result }
-        ensures takes { Takes self.old (take result piece.now) self.new }
-        ensures accepted { self.new.refusal ≡ None }
+        ensures steps { Steps (progress self.old) piece.now (Ok result) (progress self.new) }
     {
         let size = packet.total as usize;
         gather(
@@ -269,10 +252,9 @@ impl Ng {
 
     /// Takes bytes until more is known of a block.
     fn feed_block(&mut self, piece: &[u8]) -> Result<usize, Refusal>
-        requires can { CanFeed self.old piece.now }
-        requires stage { self.old.place.stage ≡ stage.Block }
+        requires { IsAt stage.Block self.old piece.now }
         ensures some { IfOk result (λ n. 0 < n) }
-        ensures fed { Feeds self.old piece.now result self.new }
+        ensures steps { Steps (progress self.old) piece.now result (progress self.new) }
     {
         let need = steps::block_need(self.cursor.order, self.part.as_slice());
         let taken = gather(&mut self.part, need, piece);
@@ -299,11 +281,9 @@ impl Ng {
 
     /// Takes bytes until more is known of an option.
     fn feed_option(&mut self, piece: &[u8]) -> Result<usize, Refusal>
-        requires can { CanFeed self.old piece.now }
-        requires stage { self.old.place.stage ≡ stage.Option }
-        requires ready { self.old.skip ≡ 0 }
+        requires { IsAt stage.Option self.old piece.now }
         ensures some { IfOk result (λ n. 0 < n) }
-        ensures fed { Feeds self.old piece.now result self.new }
+        ensures steps { Steps (progress self.old) piece.now result (progress self.new) }
     {
         let cursor = self.cursor;
         let order = layout::order_or_little(cursor.order);
@@ -329,11 +309,9 @@ impl Ng {
 
     /// Takes bytes up to the end of a trailer.
     fn feed_trailer(&mut self, piece: &[u8]) -> Result<usize, Refusal>
-        requires can { CanFeed self.old piece.now }
-        requires stage { self.old.place.stage ≡ stage.Trailer }
-        requires ready { self.old.skip ≡ 0 }
+        requires { IsAt stage.Trailer self.old piece.now }
         ensures some { IfOk result (λ n. 0 < n) }
-        ensures fed { Feeds self.old piece.now result self.new }
+        ensures steps { Steps (progress self.old) piece.now result (progress self.new) }
     {
         let cursor = self.cursor;
         let order = layout::order_or_little(cursor.order);
@@ -362,10 +340,19 @@ impl Ng {
         Ok(taken)
     }
 
+    /// Whether a packet is held.
+    fn is_whole(&self) -> bool
+        ensures { result ≡ is_some (held self.now) }
+    {
+        match self.refusal {
+            Some(_) => false,
+            None => self.whole,
+        }
+    }
+
     /// The packet that was taken last, if its block is whole and it was not released.
     pub fn held(&self) -> Option<RecordView<'_>>
-        ensures exact { option_map shown result ≡ held self.now }
-        ensures time { IfSome result (λ r. IsRecordTime r.arrival) }
+        ensures { Views (held self.now) result }
     {
         if self.refusal.is_some() || !self.whole {
             return None;
@@ -373,20 +360,4 @@ impl Ng {
         let packet = self.cursor.packet?;
         Some(layout::view(packet, self.part.as_slice()))
     }
-}
-
-/// Moves bytes from the front of the piece to the end of the part, until it has `end` bytes. Answers how many.
-fn gather(part: &mut Vec<u8>, end: usize, piece: &[u8]) -> usize
-    requires { end ≤ vec_capacity part.old }
-    ensures taken { result ≡ min (length piece.now) (end - length part.old.items) }
-    ensures within { result ≤ length piece.now }
-    ensures moved { part.new.items ≡ part.old.items ++ take result piece.now }
-    ensures grown { length part.new.items ≡ length part.old.items + result }
-    ensures capacity { vec_capacity part.old ≤ vec_capacity part.new }
-{
-    let taken = piece.len().min(end.saturating_sub(part.len()));
-    let Ok(()) = part.extend_from_slice(&piece[..taken]) else {
-        unreachable!()
-    };
-    taken
 }

@@ -2,9 +2,9 @@
 
 ghost use Rattle.std.specs.Prelude.{false, [], ◌≡◌, ◌<◌, ◌^◌, length, Some};
 ghost use Rattle.pcapng_frames.specs.state.Reading.{lacks_by};
-ghost use Rattle.pcapng_frames.specs.Fields.{bad_length as is_bad_length, first_refused, interface_rows, other_rows, packet_rows, refusal_at, section_rows};
+ghost use Rattle.pcapng_frames.specs.Fields.{bad_length as is_bad_length, first_refused, interface_rows, other_rows, packet_rows, section_rows};
 ghost use Rattle.pcapng_frames.specs.state.Fields.{AllResolved};
-ghost use Rattle.pcapng_frames.specs.Blocks.{Place, short_at, block_refused as refused_in_block, option_refused as refused_in_option, trailer_refused as refused_in_trailer, is_misplaced, kind_rows, order_at as order_in};
+ghost use Rattle.pcapng_frames.specs.Blocks.{Place, block_refused as refused_in_block, option_refused as refused_in_option, trailer_refused as refused_in_trailer, is_misplaced, kind_rows, order_at as order_in};
 ghost use Rattle.pcapng_frames.specs.declared.block.Kind.TheVariants as kind;
 ghost use Rattle.pcapng_frames.specs.declared.block.Stage.TheVariants as stage;
 
@@ -12,32 +12,12 @@ use crate::block::Kind;
 use crate::interface::{self, Interface};
 use crate::layout::{
     END_OF_OPTIONS, IF_TSOFFSET, IF_TSRESOL, INTERFACE_LIMIT, PACKET_LIMIT, kind_at,
-    order_of_magic, order_or_little, packet_arrival, padded, u16_at, u32_at,
+    order_of_magic, order_or_little, packet_arrival, padded,
 };
+use avtp_base::rows::{cut_off, refused};
 use avtp_base::{Field, Refusal};
 use pcap_frames::Order;
-
-/// The refusal of a field for its value.
-fn refused(field: Field, at: u64) -> Option<Refusal>
-    ensures { result ≡ Some (refusal_at field at) }
-{
-    Some(Refusal {
-        field,
-        at,
-        short: false,
-    })
-}
-
-/// The refusal of a part that the end of the bytes cuts off.
-pub fn short(field: Field, at: u64) -> Option<Refusal>
-    ensures { result ≡ Some (short_at field at).refusal }
-{
-    Some(Refusal {
-        field,
-        at,
-        short: true,
-    })
-}
+use pcap_frames::numbers::{u16_at, u32_at};
 
 /// Whether a total length is too small for the kind of block, or no multiple of 4.
 pub fn bad_length(kind: Kind, total: u32) -> bool
@@ -61,10 +41,10 @@ pub fn section_refusal(order: Order, start: u64, bytes: &[u8]) -> Option<Refusal
         return None;
     }
     if bad_length(Kind::Section, u32_at(order, bytes, 4)) {
-        return refused(Field::BlockLength, start + 4);
+        return Some(refused(Field::BlockLength, start + 4));
     }
     if bytes.len() >= 14 && u16_at(order, bytes, 12) != 1 {
-        return refused(Field::SectionVersion, start + 12);
+        return Some(refused(Field::SectionVersion, start + 12));
     }
     None
 }
@@ -79,13 +59,13 @@ pub fn interface_refusal(order: Order, count: usize, start: u64, bytes: &[u8]) -
         return None;
     }
     if bad_length(Kind::Interface, u32_at(order, bytes, 4)) {
-        return refused(Field::BlockLength, start + 4);
+        return Some(refused(Field::BlockLength, start + 4));
     }
     if count >= INTERFACE_LIMIT {
-        return refused(Field::Interfaces, start);
+        return Some(refused(Field::Interfaces, start));
     }
     if bytes.len() >= 10 && u16_at(order, bytes, 8) != 1 {
-        return refused(Field::LinkType, start + 8);
+        return Some(refused(Field::LinkType, start + 8));
     }
     None
 }
@@ -108,26 +88,26 @@ pub fn packet_refusal(
     }
     let total = u32_at(order, bytes, 4);
     if bad_length(Kind::Packet, total) {
-        return refused(Field::BlockLength, start + 4);
+        return Some(refused(Field::BlockLength, start + 4));
     }
     if len < 12 {
         return None;
     }
     if u32_at(order, bytes, 8) as usize >= interfaces.len() {
-        return refused(Field::InterfaceId, start + 8);
+        return Some(refused(Field::InterfaceId, start + 8));
     }
     if len < 20 {
         return None;
     }
     if packet_arrival(order, interfaces, bytes).is_none() {
-        return refused(Field::TimestampRange, start + 12);
+        return Some(refused(Field::TimestampRange, start + 12));
     }
     if len < 24 {
         return None;
     }
     let captured = u32_at(order, bytes, 20);
     if captured > PACKET_LIMIT || u64::from(total) < 32 + padded(captured) {
-        return refused(Field::CapturedLength, start + 20);
+        return Some(refused(Field::CapturedLength, start + 20));
     }
     None
 }
@@ -138,7 +118,7 @@ pub fn other_refusal(order: Order, start: u64, bytes: &[u8]) -> Option<Refusal>
     ensures { result ≡ first_refused start (length bytes.now) (other_rows order bytes.now) }
 {
     if bytes.len() >= 8 && bad_length(Kind::Other, u32_at(order, bytes, 4)) {
-        return refused(Field::BlockLength, start + 4);
+        return Some(refused(Field::BlockLength, start + 4));
     }
     None
 }
@@ -158,14 +138,14 @@ pub fn option_refusal(order: Order, at: u64, left: u32, bytes: &[u8]) -> Option<
     }
     let len = u16_at(order, bytes, 2);
     if u64::from(left) < 4 + padded(u32::from(len)) {
-        return refused(Field::OptionLength, at);
+        return Some(refused(Field::OptionLength, at));
     }
     match code {
-        IF_TSRESOL if len != 1 => refused(Field::IfTsresol, at),
+        IF_TSRESOL if len != 1 => Some(refused(Field::IfTsresol, at)),
         IF_TSRESOL if bytes.len() >= 5 && !interface::resolved(bytes[4]) => {
-            refused(Field::IfTsresol, at)
+            Some(refused(Field::IfTsresol, at))
         }
-        IF_TSOFFSET if len != 8 => refused(Field::IfTsoffset, at),
+        IF_TSOFFSET if len != 8 => Some(refused(Field::IfTsoffset, at)),
         _ => None,
     }
 }
@@ -201,7 +181,7 @@ fn whole_section_refusal(start: u64, bytes: &[u8]) -> Option<Refusal>
         return None;
     }
     match order_of_magic(u32_at(Order::Little, bytes, 8)) {
-        None => refused(Field::ByteOrderMagic, start + 8),
+        None => Some(refused(Field::ByteOrderMagic, start + 8)),
         Some(order) => section_refusal(order, start, bytes),
     }
 }
@@ -233,7 +213,7 @@ pub fn block_refusal(
     }
     let kind = kind_at(order, bytes);
     if misplaced(kind, order) {
-        return refused(Field::BlockType, start);
+        return Some(refused(Field::BlockType, start));
     }
     kind_refusal(kind, order, interfaces, start, bytes)
 }
@@ -244,7 +224,7 @@ pub fn trailer_refusal(order: Order, at: u64, total: u32, tail: &[u8]) -> Option
     ensures { result ≡ refused_in_trailer order at total tail.now }
 {
     if tail.len() >= 4 && u32_at(order, tail, 0) != total {
-        return refused(Field::BlockTrailer, at);
+        return Some(refused(Field::BlockTrailer, at));
     }
     None
 }
@@ -264,13 +244,13 @@ pub fn missing_of_block(
         return None;
     }
     if part.len() < 4 {
-        return short(Field::BlockType, start);
+        return Some(cut_off(Field::BlockType, start));
     }
     if part.len() >= 8 {
-        return short(Field::BlockBody, start + 8);
+        return Some(cut_off(Field::BlockBody, start + 8));
     }
     match kind_at(order, part) {
-        Kind::Interface if count >= INTERFACE_LIMIT => refused(Field::Interfaces, start),
-        _ => short(Field::BlockLength, start + 4),
+        Kind::Interface if count >= INTERFACE_LIMIT => Some(refused(Field::Interfaces, start)),
+        _ => Some(cut_off(Field::BlockLength, start + 4)),
     }
 }

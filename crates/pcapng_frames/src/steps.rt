@@ -17,10 +17,11 @@ use crate::block::{Cursor, Kind, PacketHead, Stage, WholePacket};
 use crate::interface::{Interface, MICROSECONDS};
 use crate::layout::{
     END_OF_OPTIONS, ENHANCED_PACKET, IF_TSOFFSET, IF_TSRESOL, PACKET_HEAD, PACKET_LIMIT, i64_at,
-    kind_at, order_or_little, packet_arrival, padded, section_order, u16_at, u32_at,
+    kind_at, order_or_little, packet_arrival, padded, section_order,
 };
 use crate::refusals::bad_length;
 use pcap_frames::Order;
+use pcap_frames::numbers::{u16_at, u32_at};
 
 /// How many bytes of a block are to come before more is known of it.
 #[tactic(auto, unfolding(crate::specs::state::Reading::block_need))]

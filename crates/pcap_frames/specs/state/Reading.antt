@@ -1,21 +1,26 @@
 -- Kept for proofs: what the code's own parts hold and do. No clause of a public call rests on it.
--- What a reader stands for.
-use Rattle.std.specs.Prelude.{◌≡◌, ℕ, ◌+◌, ◌≤◌, List, [], ◌∷◌, length, take, Result, IfOk, IfErr, OnOk, OnErr, Option, Some, None}
+-- What a reader of a classic capture holds, and what is added to it.
+use Rattle.std.specs.Prelude.{◌≡◌, ℕ, ◌+◌, ◌<◌, ◌≤◌, ◌^◌, false, List, [], ◌∷◌, ◌++◌, length, take, Result, IfOk, IfErr, OnOk, Option, Some, None}
 use Rattle.avtp_base.specs.declared.refusal.Refusal.{Refusal}
+use Rattle.pcap_frames.specs.declared.style.Order.{Order}
 use Rattle.pcap_frames.specs.declared.style.Style.{Style}
 use Rattle.pcap_frames.specs.Layout.{file_refusal, record_refusal}
-use Rattle.pcap_frames.specs.Reading.{Reading, taken, GoesOn}
+use Rattle.pcap_frames.specs.Reading.{Reading, IsPart, IsReading, taken}
 
--- What a step of feeding does with a piece: it takes bytes from its front and goes on, or it is refused, and then stands
--- for the whole piece.
-pub record Feeds (old : Reading) (piece : List ℕ) (result : Result ℕ Refusal) (new : Reading) : Type 0 where
+-- What is always true of a reader that can hold so many bytes of a record.
+pub record IsReader (r : Reading) (capacity : ℕ) : Type 0 where
+  pub room : 262160 ≤ capacity
+  pub bounded : taken r ≤ 2 ^ 62
+  pub reading : IsReading r.refusal r.style r.start r.part
+
+-- Bytes from the front of a piece were added to what has come of a record, up to the record's end; or they showed a refusal.
+pub record Fills (order : Order) (start : ℕ) (old piece : List ℕ) (result : Result ℕ Refusal) (new : List ℕ) : Type 0 where
   pub within : IfOk result (λ n. n ≤ length piece)
-  pub counted : IfOk result (λ n. taken new ≡ taken old + n)
-  pub bounded : taken new ≤ taken old + length piece
-  pub read : IfOk result (λ n. GoesOn old (take n piece) new)
-  pub accepted : OnOk result (new.refusal ≡ None)
-  pub refused : IfErr result (λ refusal. new.refusal ≡ Some refusal)
-  pub stopped : OnErr result (GoesOn old piece new)
+  pub moved : IfOk result (λ n. new ≡ old ++ take n piece)
+  pub part : OnOk result (IsPart order start new)
+  pub whole : IfOk result (λ n. n < length piece → record_refusal order start new ≡ None)
+  pub bounded : length new ≤ length old + length piece
+  pub refused : IfErr result (λ refusal. (n : ℕ) × (record_refusal order start (old ++ take n piece) ≡ Some refusal) × (refusal.short ≡ false))
 
 abbrev pub ending_by : Option Refusal → Option Style → ℕ → List ℕ → Option Refusal
 ending_by (Some refusal) style start part = Some refusal

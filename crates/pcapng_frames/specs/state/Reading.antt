@@ -1,6 +1,6 @@
 -- Kept for proofs: what the code's own parts hold and do. No clause of a public call rests on it.
 -- What a reader stands for.
-use Rattle.std.specs.Prelude.{◌≡◌, ℕ, ◌+◌, ◌-◌, ◌<◌, ◌≤◌, ◌^◌, ◌%◌, pos, ⊤, Bool, true, false, is_some, IfSome, nat_lt, nat_eq, if◌then◌else◌, List, ◌++◌, length, take, drop, Result, IfOk, IfErr, OnOk, OnErr, Option, Some, None}
+use Rattle.std.specs.Prelude.{◌≡◌, ℕ, ◌+◌, ◌-◌, ◌<◌, ◌≤◌, ◌^◌, ◌%◌, pos, ⊤, Bool, true, false, is_some, IfSome, nat_lt, nat_eq, if◌then◌else◌, List, ◌++◌, length, drop, Option, Some, None}
 use Rattle.avtp_base.specs.declared.refusal.Refusal.{Refusal}
 use Rattle.pcap_frames.specs.Capture.{Record}
 use Rattle.pcap_frames.specs.declared.style.Order.{Order}
@@ -16,7 +16,8 @@ use Rattle.pcapng_frames.specs.declared.block.WholePacket.{WholePacket}
 use Rattle.pcapng_frames.specs.Interface.{is_resolution}
 use Rattle.pcapng_frames.specs.Fields.{first_refused, option_code, packet_arrival, packet_rows}
 use Rattle.pcapng_frames.specs.Blocks.{kind_at, order_or_little, refusal_here, ends_at, cut_by, Place}
-use Rattle.pcapng_frames.specs.Reading.{Reading, rest_of, held, passed_by, taken}
+use Rattle.pcapng_frames.specs.Reading.{Reading, rest_of, passed_by, taken, taken_by}
+use Rattle.pcapng_frames.specs.state.Fields.{AllResolved}
 
 -- The reader stands for the same as before, less these bytes.
 pub record Takes (old : Reading) (bytes : List ℕ) (new : Reading) : Type 0 where
@@ -80,17 +81,6 @@ IsReading (Some refusal) whole p skip part = ⊤
 IsReading None true p skip part = IsWhole p skip part
 IsReading None false p skip part = IsPart p skip part
 
--- What a step of feeding does with a piece: it takes bytes from its front and goes on, or it is refused, and then stands
--- for the whole piece.
-pub record Feeds (old : Reading) (piece : List ℕ) (result : Result ℕ Refusal) (new : Reading) : Type 0 where
-  pub within : IfOk result (λ n. n ≤ length piece)
-  pub counted : IfOk result (λ n. taken new ≡ taken old + n)
-  pub bounded : taken new ≤ taken old + length piece
-  pub takes : IfOk result (λ n. Takes old (take n piece) new)
-  pub accepted : OnOk result (new.refusal ≡ None)
-  pub refused : IfErr result (λ refusal. new.refusal ≡ Some refusal)
-  pub stopped : OnErr result (Takes old piece new)
-
 -- the bytes that came of a place: of a block, or of an option or a trailer
 abbrev pub part_at : Stage → List ℕ → List ℕ → List ℕ
 part_at stage.Block part tail = part
@@ -151,11 +141,17 @@ pub record HasEntered (c : Cursor) (front : List ℕ) (count : ℕ) : Type 0 whe
   pub passed : passed_by c.stage c.skip c.left c.total ≡ count
 
 -- A reader takes bytes of a piece: it is not refused, and holds no packet.
-pub record CanFeed (r : Reading) (piece : List ℕ) : Type 0 where
+pub record IsGoing (r : Reading) (piece : List ℕ) : Type 0 where
   pub accepted : r.refusal ≡ None
   pub partial : r.whole ≡ false
   pub more : 0 < length piece
   pub bounded : taken r + length piece ≤ 2 ^ 62
+
+-- The same before a block, an option or a trailer, with nothing to skip.
+pub record IsAt (next : Stage) (r : Reading) (piece : List ℕ) : Type 0 where
+  pub going : IsGoing r piece
+  pub stage : r.place.stage ≡ next
+  pub ready : r.skip ≡ 0
 
 -- what the bytes of a reader lack, where the capture ends with them
 abbrev pub lacks_by : Bool → Place → List ℕ → Option Refusal
@@ -183,3 +179,14 @@ pub record IsWholePacket (order : Option Order) (interfaces : List Interface) (b
   pub room : 32 + packet.captured ≤ packet.total
   pub within : packet.total ≤ length bytes
   pub trailer : number_at (order_or_little order) 0 4 (drop (packet.total - 4) bytes) ≡ packet.total
+
+-- What is always true of a reader with these fields, whose buffers can hold so many bytes, and so many interfaces.
+pub record IsReader (cursor : Cursor) (interfaces : List Interface) (front tail : List ℕ) (whole : Bool) (refusal : Option Refusal) (front_capacity tail_capacity interface_capacity : ℕ) : Type 0 where
+  pub front_room : 262172 ≤ front_capacity
+  pub tail_room : 12 ≤ tail_capacity
+  pub interface_room : 256 ≤ interface_capacity
+  pub resolved : AllResolved interfaces
+  pub described : IsResolved cursor.interface
+  pub head : HasHead cursor.order cursor.packet front
+  pub bounded : taken_by cursor.stage (place_of cursor interfaces front) cursor.skip (part_at cursor.stage front tail) ≤ 2 ^ 62
+  pub reading : IsReading refusal whole (place_of cursor interfaces front) cursor.skip (part_at cursor.stage front tail)

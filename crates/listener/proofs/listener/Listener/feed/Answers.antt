@@ -3,10 +3,11 @@ use Rattle.std.proofs.lemmas.List.{length-take-le}
 use Rattle.avtp_base.specs.declared.refusal.Refusal.{Refusal}
 use Rattle.pcap_frames.specs.Capture.{whole_records}
 use Rattle.pcap_frames.specs.Reading.{held, taken}
+use Rattle.pcap_frames.proofs.Fields.{certain_is}
 use Rattle.pcap_frames.proofs.Held.{uncertain}
 use Rattle.pcap_frames.proofs.Lent.{holds_accepted}
 use Rattle.listener.specs.Feeding.{Feeding, StandsFor}
-use Rattle.listener.proofs.Fed.{accepted, heard_here, heard_on, held_few, held_some, if_none, lent_nothing, lent_some, none_held, other_quiet, refused_first, stands_fed, stands_refused}
+use Rattle.listener.proofs.Fed.{accepted, heard_here, heard_on, held_few, held_some, if_none, lent_nothing, lent_some, none_held, other_quiet, stands_fed, stands_refused}
 use Rattle.listener.proofs.listener.Listener.feed.Goals as goal
 use Rattle.avtp_base.proofs.Results.{not_some}
 
@@ -125,5 +126,5 @@ pub returns-in-Err-feed-clause-refused : goal.returns-in-Err-feed-clause-refused
 returns-in-Err-feed-clause-refused c refusal same bytes more given stands =
     let st = subst (StandsFor bytes given) (sym c.self.view_is) stands in
     let one : c.in-Err-feed.refusal ≡ refusal = cc in
-    let first = refused_first ((bytes ++ c.args.piece.now) ++ more) (whole_records bytes) c.in-Err-feed.refusal (c.in-Err-feed.ensures.refused bytes more (whole_records bytes) (st.read c.if-self.false)) in
+    let first = (certain_is _ _ (c.in-Err-feed.ensures.refused bytes more (whole_records bytes) (st.read c.if-self.false)).certain).0 in
     first ∙ ap (λ (r : Refusal). Some r) one

@@ -2,7 +2,6 @@ use Rattle.std.proofs.Common.{◌∙◌, sym, ap, Some, arith, rules, refl, is_s
 use Rattle.std.proofs.lemmas.List.{take-append-drop}
 use Rattle.pcap_frames.specs.Reading.{HasRead}
 use Rattle.pcap_frames.proofs.Fields.{file_whole, file_short, file_style, opened, in_header, still_in_header, short_only}
-use Rattle.pcap_frames.proofs.Flag.{flag_begins, flag_unopened, still_unopened}
 use Rattle.pcap_frames.proofs.Steps.{reading, header_goes_on, header_ends, header_refuses}
 use Rattle.pcap_frames.proofs.reader.Reader.feed_header.Goals as goal
 
@@ -13,43 +12,35 @@ style_at-self-inside-requires c =
 
 pub invariant_of-self : goal.invariant_of-self
 invariant_of-self c =
-    let none = c.requires.accepted in
-    let mine = rw (← c.self.view_is) at none in
-    let header = c.requires.header in
-    let unopened = rw (← c.self.view_is) at header in (
-      omega arith,
-      search rules,
-      opened _ _ _ _ mine (ap is_some c.style_at-self-inside.ensures ∙ file_style _ (sym c.file_refusal.ensures ∙ c.in-None.is)) c.clear.ensures.items,
-      flag_begins _ _ _ _ _ c.clear.ensures.items (flag_unopened _ _ _ _ _ mine unopened c.self.invariant.3),
-    )
+    let none = rw (← c.self.view_is) at c.requires.accepts.accepted in
+    record {
+      room = omega arith;
+      bounded = search rules;
+      reading = opened _ _ _ _ none (ap is_some c.style_at-self-inside.ensures ∙ file_style _ (sym c.file_refusal.ensures ∙ c.in-None.is)) c.clear.ensures.items;
+    }
 
 pub invariant_of-self-then-refusal : goal.invariant_of-self-then-refusal
 invariant_of-self-then-refusal c =
-    let none = c.requires.accepted in
-    let accepted = rw (← c.self.view_is) at none in
-    let header = c.requires.header in
-    let unopened = rw (← c.self.view_is) at header in
-    let old = in_header _ _ _ _ accepted unopened c.self.invariant.2 in
-    let was = c.requires.bounded in
-    let room = rw (← c.self.view_is) at was in
-    let short = file_short _ _ (sym c.file_refusal.ensures ∙ c.in-Some.is) c.if-refusal.true in (
-      omega arith,
-      omega arith,
-      still_in_header _ _ _ _ accepted unopened (record {
+    let none = rw (← c.self.view_is) at c.requires.accepts.accepted in
+    let unopened = rw (← c.self.view_is) at c.requires.header in
+    let room = rw (← c.self.view_is) at c.requires.accepts.bounded in
+    let old = in_header _ _ _ _ none unopened c.self.invariant.reading in
+    let why = sym c.file_refusal.ensures ∙ c.in-Some.is in
+    record {
+      room = omega arith;
+      bounded = omega arith;
+      reading = still_in_header _ _ _ _ none unopened (rw (← c.as_slice-header.ensures.value) (record {
         begins = old.begins;
-        accepted = rw (← c.as_slice-header.ensures.value) (short_only _ _ (sym c.file_refusal.ensures ∙ c.in-Some.is) c.if-refusal.true);
-        partial = rw (← c.as_slice-header.ensures.value) short;
-      }),
-      still_unopened _ _ _ _ _ accepted unopened (flag_unopened _ _ _ _ _ accepted unopened c.self.invariant.3),
-    )
+        accepted = short_only _ _ why c.if-refusal.true;
+        partial = file_short _ _ why c.if-refusal.true;
+      }));
+    }
 
-pub returns-in-None-clause-fed : goal.returns-in-None-clause-fed
-returns-in-None-clause-fed c =
-    let none = c.requires.accepted in
-    let accepted = rw (← c.self.view_is) at none in
-    let header = c.requires.header in
-    let unopened = rw (← c.self.view_is) at header in
-    let old = in_header _ _ _ _ accepted unopened c.self.invariant.2 in
+pub returns-in-None-clause-steps : goal.returns-in-None-clause-steps
+returns-in-None-clause-steps c =
+    let none = rw (← c.self.view_is) at c.requires.accepts.accepted in
+    let unopened = rw (← c.self.view_is) at c.requires.header in
+    let old = in_header _ _ _ _ none unopened c.self.invariant.reading in
     let all = sym c.file_refusal.ensures ∙ c.in-None.is in
     let whole = rw (c.as_slice-header.ensures.value, c.gather-taken.ensures.moved) at all in
     let long = file_whole _ whole in
@@ -61,19 +52,17 @@ returns-in-None-clause-fed c =
       bounded = rw (c.clear.ensures.items, ← c.self.view_is) (omega arith);
       read = λ bytes records h.
           let before = rw (← c.self.view_is) at h in
-          header_ends _ _ _ _ _ _ _ _ _ accepted unopened whole (omega arith) is c.clear.ensures.items before;
-      accepted = accepted;
+          header_ends _ _ _ _ _ _ _ _ _ none unopened whole (omega arith) is c.clear.ensures.items before;
+      accepted = none;
       refused = tt;
       stopped = tt;
     }
 
-pub returns-in-Some-clause-fed : goal.returns-in-Some-clause-fed
-returns-in-Some-clause-fed c =
-    let none = c.requires.accepted in
-    let accepted = rw (← c.self.view_is) at none in
-    let header = c.requires.header in
-    let unopened = rw (← c.self.view_is) at header in
-    let old = in_header _ _ _ _ accepted unopened c.self.invariant.2 in
+pub returns-in-Some-clause-steps : goal.returns-in-Some-clause-steps
+returns-in-Some-clause-steps c =
+    let none = rw (← c.self.view_is) at c.requires.accepts.accepted in
+    let unopened = rw (← c.self.view_is) at c.requires.header in
+    let old = in_header _ _ _ _ none unopened c.self.invariant.reading in
     let some = sym c.file_refusal.ensures ∙ c.in-Some.is in
     let why = rw (c.as_slice-header.ensures.value, c.gather-taken.ensures.moved) at some in
     record {
@@ -82,22 +71,20 @@ returns-in-Some-clause-fed c =
       bounded = rw (← c.self.view_is) (omega arith);
       read = λ bytes records h.
           let before = rw (← c.self.view_is) at h in
-          rw c.gather-taken.ensures.moved (header_goes_on _ _ _ _ _ _ _ _ accepted unopened why (still_in_header _ _ _ _ accepted unopened (record {
+          rw c.gather-taken.ensures.moved (header_goes_on _ _ _ _ _ _ _ _ none unopened why (still_in_header _ _ _ _ none unopened (record {
             begins = old.begins;
             accepted = short_only _ _ why c.if-refusal.true;
             partial = file_short _ _ why c.if-refusal.true;
           })) before);
-      accepted = accepted;
+      accepted = none;
       refused = tt;
       stopped = tt;
     }
 
-pub returns-in-Some-2-clause-fed : goal.returns-in-Some-2-clause-fed
-returns-in-Some-2-clause-fed c =
-    let none = c.requires.accepted in
-    let accepted = rw (← c.self.view_is) at none in
-    let header = c.requires.header in
-    let unopened = rw (← c.self.view_is) at header in
+pub returns-in-Some-2-clause-steps : goal.returns-in-Some-2-clause-steps
+returns-in-Some-2-clause-steps c =
+    let none = rw (← c.self.view_is) at c.requires.accepts.accepted in
+    let unopened = rw (← c.self.view_is) at c.requires.header in
     let some = sym c.file_refusal.ensures ∙ c.in-Some.is in
     let why = rw (c.as_slice-header.ensures.value, c.gather-taken.ensures.moved) at some in
     record {
@@ -111,7 +98,7 @@ returns-in-Some-2-clause-fed c =
           let before = rw (← c.self.view_is) at h in
           subst (λ (p : List ℕ). HasRead (reading (Some c.in-Some.refusal) c.self.inside.style c.self.inside.start c.gather-taken.new.part.items) (bytes ++ p) records)
           (take-append-drop c.gather-taken.result c.args.piece.now)
-          (header_refuses _ _ _ _ _ _ _ _ _ _ accepted unopened why c.if-refusal.false before);
+          (header_refuses _ _ _ _ _ _ _ _ _ _ none unopened why c.if-refusal.false before);
     }
 
 pub returns-in-None-clause-end : goal.returns-in-None-clause-end

@@ -1,48 +1,42 @@
-use Rattle.std.proofs.Common.{arith, sym}
-use Rattle.pcap_frames.proofs.Flag.{whole_taken, none_blocked}
-use Rattle.pcap_frames.proofs.Steps.{record_goes_on}
+use Rattle.std.proofs.Common.{arith}
+use Rattle.pcap_frames.proofs.Fields.{in_record, still_in_record}
+use Rattle.pcap_frames.proofs.Filling.{fill_advances, fill_refused}
 use Rattle.pcap_frames.proofs.reader.Reader.feed_record.Goals as goal
+
+pub fill_record-requires-clause-part : goal.fill_record-requires-clause-part
+fill_record-requires-clause-part c =
+    let none = rw (← c.self.view_is) at c.requires.accepts.accepted in
+    let styled = rw (← c.self.view_is) at c.requires.style in
+    in_record _ _ _ _ _ none styled c.self.invariant.reading
 
 pub invariant_of-self : goal.invariant_of-self
 invariant_of-self c =
-    let ahead = c.in-Some.ensures.next in
-    let next = rw (← c.self.view_is) at ahead in
-    let was = c.requires.bounded in
-    let room = rw (← c.self.view_is) at was in
-    let all = whole_taken _ _ _ _ next.untaken c.in-Some.ensures.within c.gather-taken.ensures.taken in
-    (omega arith, omega arith, rw (c.gather-taken.ensures.moved, all) next.reading, rw (c.gather-taken.ensures.moved, all) (sym next.whole))
-
-pub returns-in-Some-clause-blocked : goal.returns-in-Some-clause-blocked
-returns-in-Some-clause-blocked c = λ held.
-    let ahead = c.in-Some.ensures.next in
-    let next = rw (← c.self.view_is) at ahead in
-    let some = rw (← c.self.view_is) at held in
-    none_blocked _ _ _ _ _ next.untaken some
-
-pub returns-in-Some-clause-end : goal.returns-in-Some-clause-end
-returns-in-Some-clause-end c = λ less.
-    let ahead = c.in-Some.ensures.next in
-    let next = rw (← c.self.view_is) at ahead in
-    let all = whole_taken _ _ _ _ next.untaken c.in-Some.ensures.within c.gather-taken.ensures.taken in
-    rw (c.gather-taken.ensures.moved, all) next.whole
-
-pub returns-in-Some-clause-fed : goal.returns-in-Some-clause-fed
-returns-in-Some-clause-fed c =
-    let none = c.requires.accepted in
-    let accepted = rw (← c.self.view_is) at none in
-    let is = c.requires.style in
-    let style = rw (← c.self.view_is) at is in
-    let ahead = c.in-Some.ensures.next in
-    let next = rw (← c.self.view_is) at ahead in
-    let all = whole_taken _ _ _ _ next.untaken c.in-Some.ensures.within c.gather-taken.ensures.taken in
+    let none = rw (← c.self.view_is) at c.requires.accepts.accepted in
+    let styled = rw (← c.self.view_is) at c.requires.style in
+    let room = rw (← c.self.view_is) at c.requires.accepts.bounded in
     record {
-      within = c.gather-taken.ensures.within;
-      counted = rw (← c.self.view_is) (omega arith);
-      bounded = rw (← c.self.view_is) (omega arith);
-      read = λ bytes records h.
-          let before = rw (← c.self.view_is) at h in
-          rw c.gather-taken.ensures.moved (record_goes_on _ _ c.args.style _ _ _ _ _ accepted style (rw all next.reading) before);
-      accepted = accepted;
-      refused = tt;
-      stopped = tt;
+      room = c.in-Ok.ensures.room;
+      bounded = omega (arith, room, c.in-Ok.ensures.fills.bounded);
+      reading = still_in_record _ _ c.args.style _ _ none styled c.in-Ok.ensures.fills.part;
     }
+
+pub invariant_of-self-in-Err : goal.invariant_of-self-in-Err
+invariant_of-self-in-Err c =
+    let room = rw (← c.self.view_is) at c.requires.accepts.bounded in
+    record {
+      room = c.in-Err.ensures.room;
+      bounded = omega (arith, room, c.in-Err.ensures.fills.bounded);
+      reading = c.in-Err.ensures.fills.refused.2;
+    }
+
+pub returns-in-Ok : goal.returns-in-Ok
+returns-in-Ok c =
+    let none = rw (← c.self.view_is) at c.requires.accepts.accepted in
+    let styled = rw (← c.self.view_is) at c.requires.style in
+    rw (← c.self.view_is) (fill_advances _ c.args.style _ _ _ none styled (in_record _ _ _ _ _ none styled c.self.invariant.reading) c.in-Ok.ensures.fills)
+
+pub returns-in-Err : goal.returns-in-Err
+returns-in-Err c =
+    let none = rw (← c.self.view_is) at c.requires.accepts.accepted in
+    let styled = rw (← c.self.view_is) at c.requires.style in
+    rw (← c.self.view_is) (fill_refused _ c.args.style _ _ _ none styled c.in-Err.ensures.fills)

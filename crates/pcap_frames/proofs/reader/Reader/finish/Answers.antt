@@ -4,21 +4,15 @@ use Rattle.avtp_base.specs.declared.refusal.Refusal.{Refusal}
 use Rattle.pcap_frames.specs.Capture.{Holds}
 use Rattle.pcap_frames.specs.Reading.{held}
 use Rattle.pcap_frames.proofs.Ends.{ends}
-use Rattle.pcap_frames.proofs.Held.{ending_is, records_are}
+use Rattle.pcap_frames.proofs.Held.{ends_now}
 use Rattle.pcap_frames.proofs.reader.Reader.finish.Goals as goal
 
 pub returns-in-None-clause-exact : goal.returns-in-None-clause-exact
 returns-in-None-clause-exact c = λ bytes records h.
     subst (λ (x : Option Refusal). Holds bytes (records ++ option_to_list (held c.args.self.now)) x) (sym c.missing.ensures ∙ c.in-None.is) (ends _ _ _ h)
 
-pub returns-in-None-clause-records : goal.returns-in-None-clause-records
-returns-in-None-clause-records c = records_are _
+pub returns-in-None-clause-ends : goal.returns-in-None-clause-ends
+returns-in-None-clause-ends c = ends_now _ _ (sym c.in-None.is ∙ c.missing.ensures)
 
-pub returns-in-Some-clause-records : goal.returns-in-Some-clause-records
-returns-in-Some-clause-records c = records_are _
-
-pub returns-in-None-clause-refusal : goal.returns-in-None-clause-refusal
-returns-in-None-clause-refusal c = λ bytes records h. sym c.in-None.is ∙ (c.missing.ensures ∙ ending_is _ bytes records h)
-
-pub returns-in-Some-clause-refusal : goal.returns-in-Some-clause-refusal
-returns-in-Some-clause-refusal c = λ bytes records h. sym c.in-Some.is ∙ (c.missing.ensures ∙ ending_is _ bytes records h)
+pub returns-in-Some-clause-ends : goal.returns-in-Some-clause-ends
+returns-in-Some-clause-ends c = ends_now _ _ (sym c.in-Some.is ∙ c.missing.ensures)

@@ -1,20 +1,31 @@
 use Rattle.std.proofs.Common.{◌≡◌, ◌∙◌, sym, arith, length, rules, refl}
+use Rattle.avtp_base.proofs.Results.{not_some}
 use Rattle.pcap_frames.proofs.Fields.{released}
-use Rattle.pcap_frames.proofs.Flag.{flag_begins}
 use Rattle.pcap_frames.proofs.Ends.{gives_up, free_held}
+use Rattle.pcap_frames.proofs.Steps.{releases_none}
 use Rattle.pcap_frames.proofs.reader.Reader.release.Goals as goal
+
+pub returns-then-not-is_whole-clause-releases : goal.returns-then-not-is_whole-clause-releases
+returns-then-not-is_whole-clause-releases c = releases_none _ (not_some _ (sym c.is_whole.ensures ∙ c.if-not-is_whole.true))
 
 pub invariant_of-self : goal.invariant_of-self
 invariant_of-self c =
-    let some = sym c.self.invariant.3 ∙ c.if-not-self.false in
-    (omega arith, search rules, released _ _ _ _ _ _ some c.clear.ensures.items, flag_begins _ _ _ _ _ c.clear.ensures.items refl)
+    let is = sym c.is_whole.ensures ∙ c.if-not-is_whole.false in
+    let some = rw (← c.self.view_is) at is in
+    record {
+      room = omega arith;
+      bounded = search rules;
+      reading = released _ _ _ _ _ _ some c.clear.ensures.items;
+    }
 
-pub returns-clause-given_up : goal.returns-clause-given_up
-returns-clause-given_up c = λ bytes records h.
-    let some = sym c.self.invariant.3 ∙ c.if-not-self.false in
-    let before = rw (← c.self.view_is) at h in
+pub returns-clause-releases : goal.returns-clause-releases
+returns-clause-releases c =
+    let is = sym c.is_whole.ensures ∙ c.if-not-is_whole.false in
+    let some = rw (← c.self.view_is) at is in
     let size : c.len.result ≡ length c.self.inside.part.items = search rules in
-    rw (← c.self.view_is, size) (gives_up _ _ _ _ _ bytes records some c.clear.ensures.items before)
-
-pub returns-clause-free : goal.returns-clause-free
-returns-clause-free c = free_held _ _ _ _ c.clear.ensures.items
+    rw (← c.self.view_is) (record {
+      given_up = λ bytes records h. rw size (gives_up _ _ _ _ _ bytes records some c.clear.ensures.items h);
+      free = free_held _ _ _ _ c.clear.ensures.items;
+      counted = omega (arith, size);
+      refusal = refl;
+    })

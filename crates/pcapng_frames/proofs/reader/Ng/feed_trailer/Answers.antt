@@ -2,114 +2,96 @@ use Rattle.std.proofs.Common.{arith, ◌∙◌, sym, refl, ap, length, take, Lis
 use Rattle.pcapng_frames.specs.Reading.{contents_past}
 use Rattle.pcapng_frames.specs.state.Reading.{place_of}
 use Rattle.pcapng_frames.proofs.Options.{trailer_stops, trailer_moves, at_trailer_place}
-use Rattle.pcapng_frames.proofs.Moves.{block_begins}
-use Rattle.pcapng_frames.proofs.Feeding.{is_part, is_reading, trailer_part, part_trailer, part_in_trailer, part_in_block, takes_more, refuses_more, ends_more, holds_more, trailer_ends, trailer_whole, head_none}
+use Rattle.pcapng_frames.proofs.Moves.{block_begins, goes_on}
+use Rattle.pcapng_frames.proofs.Feeding.{is_reading, trailer_begun, part_trailer, part_in_trailer, part_in_block, takes_more, refuses_more, ends_more, holds_more, trailer_ends, trailer_whole, head_none}
 use Rattle.pcapng_frames.proofs.reader.Ng.feed_trailer.Goals as goal
 
-pub returns-in-Some-clause-fed : goal.returns-in-Some-clause-fed
-returns-in-Some-clause-fed c =
-    let none = rw (← c.self.view_is) at c.requires.can.accepted in
-    let partial = rw (← c.self.view_is) at c.requires.can.partial in
-    let is = rw (← c.self.view_is) at c.requires.stage in
-    let zero = rw (← c.self.view_is) at c.requires.ready in
-    let b = trailer_part c.self.inside.cursor c.self.inside.interfaces.items c.self.inside.part.items c.self.inside.tail.items is (is_part _ _ _ _ _ none partial c.self.invariant.7) in
+pub returns-in-Some-clause-steps : goal.returns-in-Some-clause-steps
+returns-in-Some-clause-steps c =
+    let this = rw (← c.self.view_is) at c.requires in
+    let b = trailer_begun c.self.invariant this in
     let place = place_of c.self.inside.cursor c.self.inside.interfaces.items c.self.inside.part.items in
-    let mine = part_in_trailer c.self.inside.cursor.stage c.self.inside.part.items c.self.inside.tail.items is in
+    let mine = part_in_trailer c.self.inside.cursor.stage c.self.inside.part.items c.self.inside.tail.items this.stage in
     let grown = c.gather-taken.ensures.moved ∙ ap (λ (x : List ℕ). x ++ take c.gather-taken.result c.args.piece.now) (sym mine) in
-    let some = c.in-Some.is in
-    let here = rw (c.trailer_refusal-refusal.ensures, c.order_or_little-order.ensures, c.from.ensures, c.as_slice-tail.ensures.value) at some in
+    let here = rw (c.trailer_refusal-refusal.ensures, c.order_or_little-order.ensures, c.from.ensures, c.as_slice-tail.ensures.value) at c.in-Some.is in
     record {
       within = tt;
       counted = tt;
-      bounded = rw (← c.self.view_is, is) (omega (arith, c.gather-taken.ensures.grown, c.gather-taken.ensures.within));
-      takes = tt;
+      bounded = rw (← c.self.view_is, this.stage) (omega (arith, c.gather-taken.ensures.grown, c.gather-taken.ensures.within));
+      read = tt;
       accepted = tt;
       refused = refl;
-      stopped = rw (← c.self.view_is) (refuses_more place _ _ _ c.gather-taken.new.part.items c.gather-taken.result _ _ _ _ none partial zero grown
-          (λ more. trailer_stops place c.gather-taken.new.part.items more _ is (at_trailer_place place c.gather-taken.new.part.items is ∙ here)) refl);
+      stopped = rw (← c.self.view_is) (goes_on _ _ _ (refuses_more place _ _ _ c.gather-taken.new.part.items c.gather-taken.result _ _ _ _ this.going.accepted this.going.partial this.ready grown
+          (λ more. trailer_stops place c.gather-taken.new.part.items more _ this.stage (at_trailer_place place c.gather-taken.new.part.items this.stage ∙ here)) refl));
     }
 
 pub invariant_of-self-then-tail-lt4 : goal.invariant_of-self-then-tail-lt4
 invariant_of-self-then-tail-lt4 c =
-    let none = rw (← c.self.view_is) at c.requires.can.accepted in
-    let partial = rw (← c.self.view_is) at c.requires.can.partial in
-    let is = rw (← c.self.view_is) at c.requires.stage in
-    let zero = rw (← c.self.view_is) at c.requires.ready in
-    let b = trailer_part c.self.inside.cursor c.self.inside.interfaces.items c.self.inside.part.items c.self.inside.tail.items is (is_part _ _ _ _ _ none partial c.self.invariant.7) in
-    let absent = c.in-None.is in
-    let accepted = rw (c.trailer_refusal-refusal.ensures, c.order_or_little-order.ensures, c.from.ensures, c.as_slice-tail.ensures.value) at absent in
+    let this = rw (← c.self.view_is) at c.requires in
+    let b = trailer_begun c.self.invariant this in
+    let accepted = rw (c.trailer_refusal-refusal.ensures, c.order_or_little-order.ensures, c.from.ensures, c.as_slice-tail.ensures.value) at c.in-None.is in
     let slice = ap length c.as_slice-tail.ensures.value in
-    let bounded = rw (← c.self.view_is, is) at c.requires.can.bounded in (
-      c.self.invariant.0,
-      omega (arith, c.self.invariant.1, c.gather-taken.ensures.capacity),
-      c.self.invariant.2,
-      c.self.invariant.3,
-      c.self.invariant.4,
-      c.self.invariant.5,
-      rw is (omega (arith, c.gather-taken.ensures.grown, c.gather-taken.ensures.within)),
-      is_reading _ _ _ _ _ none partial (part_trailer c.self.inside.cursor c.self.inside.interfaces.items c.self.inside.part.items c.gather-taken.new.part.items is accepted
-          (record { partial = omega (arith, slice, c.if-tail-lt4.true); within = b.within; room = b.room })),
-    )
+    let bounded = rw this.stage at this.going.bounded in
+    record {
+      front_room = c.self.invariant.front_room;
+      tail_room = omega (arith, c.self.invariant.tail_room, c.gather-taken.ensures.capacity);
+      interface_room = c.self.invariant.interface_room;
+      resolved = c.self.invariant.resolved;
+      described = c.self.invariant.described;
+      head = c.self.invariant.head;
+      bounded = rw this.stage (omega (arith, c.gather-taken.ensures.grown, c.gather-taken.ensures.within));
+      reading = is_reading _ _ _ _ _ this.going.accepted this.going.partial (part_trailer c.self.inside.cursor c.self.inside.interfaces.items c.self.inside.part.items c.gather-taken.new.part.items this.stage accepted
+          (record { partial = omega (arith, slice, c.if-tail-lt4.true); within = b.within; room = b.room }));
+    }
 
-pub returns-then-tail-lt4-clause-fed : goal.returns-then-tail-lt4-clause-fed
-returns-then-tail-lt4-clause-fed c =
-    let none = rw (← c.self.view_is) at c.requires.can.accepted in
-    let partial = rw (← c.self.view_is) at c.requires.can.partial in
-    let is = rw (← c.self.view_is) at c.requires.stage in
-    let zero = rw (← c.self.view_is) at c.requires.ready in
-    let b = trailer_part c.self.inside.cursor c.self.inside.interfaces.items c.self.inside.part.items c.self.inside.tail.items is (is_part _ _ _ _ _ none partial c.self.invariant.7) in
+pub returns-then-tail-lt4-clause-steps : goal.returns-then-tail-lt4-clause-steps
+returns-then-tail-lt4-clause-steps c =
+    let this = rw (← c.self.view_is) at c.requires in
+    let b = trailer_begun c.self.invariant this in
     let place = place_of c.self.inside.cursor c.self.inside.interfaces.items c.self.inside.part.items in
-    let mine = part_in_trailer c.self.inside.cursor.stage c.self.inside.part.items c.self.inside.tail.items is in
+    let mine = part_in_trailer c.self.inside.cursor.stage c.self.inside.part.items c.self.inside.tail.items this.stage in
     let grown = c.gather-taken.ensures.moved ∙ ap (λ (x : List ℕ). x ++ take c.gather-taken.result c.args.piece.now) (sym mine) in
-    let theirs = part_in_trailer c.self.inside.cursor.stage c.self.inside.part.items c.gather-taken.new.part.items is in
+    let theirs = part_in_trailer c.self.inside.cursor.stage c.self.inside.part.items c.gather-taken.new.part.items this.stage in
     record {
       within = c.gather-taken.ensures.within;
-      counted = rw (← c.self.view_is, is) (omega (arith, c.gather-taken.ensures.grown));
-      bounded = rw (← c.self.view_is, is) (omega (arith, c.gather-taken.ensures.grown, c.gather-taken.ensures.within));
-      takes = rw (← c.self.view_is) (takes_more place _ _ _ _ _ _ none partial zero (theirs ∙ grown));
-      accepted = none;
+      counted = rw (← c.self.view_is, this.stage) (omega (arith, c.gather-taken.ensures.grown));
+      bounded = rw (← c.self.view_is, this.stage) (omega (arith, c.gather-taken.ensures.grown, c.gather-taken.ensures.within));
+      read = rw (← c.self.view_is) (goes_on _ _ _ (takes_more place _ _ _ _ _ _ this.going.accepted this.going.partial this.ready (theirs ∙ grown)));
+      accepted = this.going.accepted;
       refused = tt;
       stopped = tt;
     }
 
-pub returns-then-is_some-clause-fed : goal.returns-then-is_some-clause-fed
-returns-then-is_some-clause-fed c =
-    let none = rw (← c.self.view_is) at c.requires.can.accepted in
-    let partial = rw (← c.self.view_is) at c.requires.can.partial in
-    let is = rw (← c.self.view_is) at c.requires.stage in
-    let zero = rw (← c.self.view_is) at c.requires.ready in
-    let b = trailer_part c.self.inside.cursor c.self.inside.interfaces.items c.self.inside.part.items c.self.inside.tail.items is (is_part _ _ _ _ _ none partial c.self.invariant.7) in
-    let absent = c.in-None.is in
-    let accepted = rw (c.trailer_refusal-refusal.ensures, c.order_or_little-order.ensures, c.from.ensures, c.as_slice-tail.ensures.value) at absent in
+pub returns-then-is_some-clause-steps : goal.returns-then-is_some-clause-steps
+returns-then-is_some-clause-steps c =
+    let this = rw (← c.self.view_is) at c.requires in
+    let b = trailer_begun c.self.invariant this in
+    let accepted = rw (c.trailer_refusal-refusal.ensures, c.order_or_little-order.ensures, c.from.ensures, c.as_slice-tail.ensures.value) at c.in-None.is in
     let slice = ap length c.as_slice-tail.ensures.value in
     let place = place_of c.self.inside.cursor c.self.inside.interfaces.items c.self.inside.part.items in
-    let mine = part_in_trailer c.self.inside.cursor.stage c.self.inside.part.items c.self.inside.tail.items is in
+    let mine = part_in_trailer c.self.inside.cursor.stage c.self.inside.part.items c.self.inside.tail.items this.stage in
     let grown = c.gather-taken.ensures.moved ∙ ap (λ (x : List ℕ). x ++ take c.gather-taken.result c.args.piece.now) (sym mine) in
-    let theirs = part_in_trailer c.self.inside.cursor.stage c.self.inside.part.items c.gather-taken.new.part.items is in
+    let theirs = part_in_trailer c.self.inside.cursor.stage c.self.inside.part.items c.gather-taken.new.part.items this.stage in
     record {
       within = c.gather-taken.ensures.within;
-      counted = rw (← c.self.view_is, is) (omega (arith, c.gather-taken.ensures.grown));
-      bounded = rw (← c.self.view_is, is) (omega (arith, c.gather-taken.ensures.grown, c.gather-taken.ensures.within));
-      takes = rw (← c.self.view_is) (holds_more place _ _ _ _ _ _ _ none partial refl zero (theirs ∙ grown)
+      counted = rw (← c.self.view_is, this.stage) (omega (arith, c.gather-taken.ensures.grown));
+      bounded = rw (← c.self.view_is, this.stage) (omega (arith, c.gather-taken.ensures.grown, c.gather-taken.ensures.within));
+      read = rw (← c.self.view_is) (goes_on _ _ _ (holds_more place _ _ _ _ _ _ _ this.going.accepted this.going.partial refl this.ready (theirs ∙ grown)
           (λ more. ap (λ (x : List ℕ). contents_past 0 place x more) theirs
-          ∙ trailer_moves place c.gather-taken.new.part.items more is (omega (arith, slice, c.if-tail-lt4.false, c.gather-taken.ensures.grown, c.gather-taken.ensures.taken, b.partial)) (at_trailer_place place c.gather-taken.new.part.items is ∙ accepted)));
-      accepted = none;
+          ∙ trailer_moves place c.gather-taken.new.part.items more this.stage (omega (arith, slice, c.if-tail-lt4.false, c.gather-taken.ensures.grown, c.gather-taken.ensures.taken, b.partial)) (at_trailer_place place c.gather-taken.new.part.items this.stage ∙ accepted))));
+      accepted = this.going.accepted;
       refused = tt;
       stopped = tt;
     }
 
-pub returns-clause-fed : goal.returns-clause-fed
-returns-clause-fed c =
-    let none = rw (← c.self.view_is) at c.requires.can.accepted in
-    let partial = rw (← c.self.view_is) at c.requires.can.partial in
-    let is = rw (← c.self.view_is) at c.requires.stage in
-    let zero = rw (← c.self.view_is) at c.requires.ready in
-    let b = trailer_part c.self.inside.cursor c.self.inside.interfaces.items c.self.inside.part.items c.self.inside.tail.items is (is_part _ _ _ _ _ none partial c.self.invariant.7) in
-    let absent = c.in-None.is in
-    let accepted = rw (c.trailer_refusal-refusal.ensures, c.order_or_little-order.ensures, c.from.ensures, c.as_slice-tail.ensures.value) at absent in
+pub returns-clause-steps : goal.returns-clause-steps
+returns-clause-steps c =
+    let this = rw (← c.self.view_is) at c.requires in
+    let b = trailer_begun c.self.invariant this in
+    let accepted = rw (c.trailer_refusal-refusal.ensures, c.order_or_little-order.ensures, c.from.ensures, c.as_slice-tail.ensures.value) at c.in-None.is in
     let slice = ap length c.as_slice-tail.ensures.value in
     let place = place_of c.self.inside.cursor c.self.inside.interfaces.items c.self.inside.part.items in
-    let mine = part_in_trailer c.self.inside.cursor.stage c.self.inside.part.items c.self.inside.tail.items is in
+    let mine = part_in_trailer c.self.inside.cursor.stage c.self.inside.part.items c.self.inside.tail.items this.stage in
     let grown = c.gather-taken.ensures.moved ∙ ap (λ (x : List ℕ). x ++ take c.gather-taken.result c.args.piece.now) (sym mine) in
     let d = c.after_trailer-self-inside.ensures in
     let next = ap (λ x. place_of c.after_trailer-self-inside.result x c.clear.new.self.items) c.add_described.ensures.exact ∙ d.next c.clear.new.self.items c.self.inside.part.items c.self.inside.interfaces.items in
@@ -118,54 +100,50 @@ returns-clause-fed c =
     let gone = ap length clear in
     record {
       within = c.gather-taken.ensures.within;
-      counted = rw (← c.self.view_is, is, zero, d.stage) (omega (arith, c.gather-taken.ensures.grown, slice, b.within, zero, d.start, c.if-tail-lt4.false, c.gather-taken.ensures.taken, b.partial, ap length c.clear.ensures.items));
-      bounded = rw (← c.self.view_is, is, zero, d.stage) (omega (arith, c.gather-taken.ensures.grown, c.gather-taken.ensures.within, slice, b.within, zero, d.start, c.if-tail-lt4.false, c.gather-taken.ensures.taken, b.partial, ap length c.clear.ensures.items));
-      takes = rw (← c.self.view_is) (ends_more place (place_of c.after_trailer-self-inside.result c.add_described.new.interfaces.items c.clear.new.self.items) _ c.after_trailer-self-inside.result.skip _ _ c.gather-taken.new.part.items _ _ _ none partial zero grown
-          (λ more. trailer_ends c.self.inside.cursor c.self.inside.interfaces.items c.self.inside.part.items c.gather-taken.new.part.items more _ is
+      counted = rw (← c.self.view_is, this.stage, this.ready, d.stage) (omega (arith, c.gather-taken.ensures.grown, slice, b.within, this.ready, d.start, c.if-tail-lt4.false, c.gather-taken.ensures.taken, b.partial, ap length c.clear.ensures.items));
+      bounded = rw (← c.self.view_is, this.stage, this.ready, d.stage) (omega (arith, c.gather-taken.ensures.grown, c.gather-taken.ensures.within, slice, b.within, this.ready, d.start, c.if-tail-lt4.false, c.gather-taken.ensures.taken, b.partial, ap length c.clear.ensures.items));
+      read = rw (← c.self.view_is) (goes_on _ _ _ (ends_more place (place_of c.after_trailer-self-inside.result c.add_described.new.interfaces.items c.clear.new.self.items) _ c.after_trailer-self-inside.result.skip _ _ c.gather-taken.new.part.items _ _ _ this.going.accepted this.going.partial this.ready grown
+          (λ more. trailer_ends c.self.inside.cursor c.self.inside.interfaces.items c.self.inside.part.items c.gather-taken.new.part.items more _ this.stage
           (omega (arith, slice, c.if-tail-lt4.false, c.gather-taken.ensures.grown, c.gather-taken.ensures.taken, b.partial)) accepted free next
           ∙ ap (λ (n : ℕ). contents_past n (place_of c.after_trailer-self-inside.result c.add_described.new.interfaces.items c.clear.new.self.items) [] more) (sym d.skip))
-          clear);
-      accepted = none;
+          clear));
+      accepted = this.going.accepted;
       refused = tt;
       stopped = tt;
     }
 
 pub invariant_of-self-2 : goal.invariant_of-self-2
 invariant_of-self-2 c =
-    let none = rw (← c.self.view_is) at c.requires.can.accepted in
-    let partial = rw (← c.self.view_is) at c.requires.can.partial in
-    let is = rw (← c.self.view_is) at c.requires.stage in
-    let zero = rw (← c.self.view_is) at c.requires.ready in
-    let b = trailer_part c.self.inside.cursor c.self.inside.interfaces.items c.self.inside.part.items c.self.inside.tail.items is (is_part _ _ _ _ _ none partial c.self.invariant.7) in
+    let this = rw (← c.self.view_is) at c.requires in
+    let b = trailer_begun c.self.invariant this in
     let d = c.after_trailer-self-inside.ensures in
-    let bounded = rw (← c.self.view_is, is, zero) at c.requires.can.bounded in
-    let slice = ap length c.as_slice-tail.ensures.value in (
-      omega (arith, c.self.invariant.0, c.clear.ensures.capacity),
-      omega (arith, c.self.invariant.1, c.gather-taken.ensures.capacity, c.clear-2.ensures.capacity),
-      omega (arith, c.self.invariant.2, c.add_described.ensures.capacity),
-      c.add_described.ensures.resolved,
-      rw d.interface tt,
-      head_none _ _ _ d.packet,
-      rw d.stage (omega (arith, c.gather-taken.ensures.grown, c.gather-taken.ensures.within, slice, b.within, zero, d.start, c.if-tail-lt4.false, c.gather-taken.ensures.taken, b.partial, ap length c.clear.ensures.items)),
-      is_reading _ _ _ _ _ none partial (rw (part_in_block c.after_trailer-self-inside.result.stage c.clear.new.self.items c.clear-2.new.self.items d.stage) (block_begins c.after_trailer-self-inside.result c.add_described.new.interfaces.items c.clear.new.self.items c.clear.new.self.items d.stage d.skip d.interface d.packet c.clear.ensures.items)),
-    )
+    let bounded = rw (this.stage, this.ready) at this.going.bounded in
+    let slice = ap length c.as_slice-tail.ensures.value in
+    record {
+      front_room = omega (arith, c.self.invariant.front_room, c.clear.ensures.capacity);
+      tail_room = omega (arith, c.self.invariant.tail_room, c.gather-taken.ensures.capacity, c.clear-2.ensures.capacity);
+      interface_room = omega (arith, c.self.invariant.interface_room, c.add_described.ensures.capacity);
+      resolved = c.add_described.ensures.resolved;
+      described = rw d.interface tt;
+      head = head_none _ _ _ d.packet;
+      bounded = rw d.stage (omega (arith, c.gather-taken.ensures.grown, c.gather-taken.ensures.within, slice, b.within, this.ready, d.start, c.if-tail-lt4.false, c.gather-taken.ensures.taken, b.partial, ap length c.clear.ensures.items));
+      reading = is_reading _ _ _ _ _ this.going.accepted this.going.partial (rw (part_in_block c.after_trailer-self-inside.result.stage c.clear.new.self.items c.clear-2.new.self.items d.stage) (block_begins c.after_trailer-self-inside.result c.add_described.new.interfaces.items c.clear.new.self.items c.clear.new.self.items d.stage d.skip d.interface d.packet c.clear.ensures.items));
+    }
 
 pub invariant_of-self-then-is_some : goal.invariant_of-self-then-is_some
 invariant_of-self-then-is_some c =
-    let none = rw (← c.self.view_is) at c.requires.can.accepted in
-    let partial = rw (← c.self.view_is) at c.requires.can.partial in
-    let is = rw (← c.self.view_is) at c.requires.stage in
-    let zero = rw (← c.self.view_is) at c.requires.ready in
-    let b = trailer_part c.self.inside.cursor c.self.inside.interfaces.items c.self.inside.part.items c.self.inside.tail.items is (is_part _ _ _ _ _ none partial c.self.invariant.7) in
-    let bounded = rw (← c.self.view_is, is) at c.requires.can.bounded in
-    let slice = ap length c.as_slice-tail.ensures.value in (
-      c.self.invariant.0,
-      omega (arith, c.self.invariant.1, c.gather-taken.ensures.capacity),
-      c.self.invariant.2,
-      c.self.invariant.3,
-      c.self.invariant.4,
-      c.self.invariant.5,
-      rw is (omega (arith, c.gather-taken.ensures.grown, c.gather-taken.ensures.within)),
-      trailer_whole c.self.inside.cursor c.self.inside.interfaces.items c.self.inside.part.items c.gather-taken.new.part.items _ _ none refl is zero (omega (arith, b.within))
-          (omega (arith, slice, c.if-tail-lt4.false, c.gather-taken.ensures.grown, c.gather-taken.ensures.taken, b.partial)) (sym c.is_some.ensures ∙ c.if-is_some.true) b.room,
-    )
+    let this = rw (← c.self.view_is) at c.requires in
+    let b = trailer_begun c.self.invariant this in
+    let bounded = rw this.stage at this.going.bounded in
+    let slice = ap length c.as_slice-tail.ensures.value in
+    record {
+      front_room = c.self.invariant.front_room;
+      tail_room = omega (arith, c.self.invariant.tail_room, c.gather-taken.ensures.capacity);
+      interface_room = c.self.invariant.interface_room;
+      resolved = c.self.invariant.resolved;
+      described = c.self.invariant.described;
+      head = c.self.invariant.head;
+      bounded = rw this.stage (omega (arith, c.gather-taken.ensures.grown, c.gather-taken.ensures.within));
+      reading = trailer_whole c.self.inside.cursor c.self.inside.interfaces.items c.self.inside.part.items c.gather-taken.new.part.items _ _ this.going.accepted refl this.stage this.ready (omega (arith, b.within))
+          (omega (arith, slice, c.if-tail-lt4.false, c.gather-taken.ensures.grown, c.gather-taken.ensures.taken, b.partial)) (sym c.is_some.ensures ∙ c.if-is_some.true) b.room;
+    }

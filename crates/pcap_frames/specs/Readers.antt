@@ -1,0 +1,72 @@
+-- What the readers of captures have in common, whatever the layout: what the bytes mean, how far a reader is between two
+-- calls, and what its calls do.
+use Rattle.std.specs.Prelude.{◌≡◌, ◌↔◌, ◌⊎◌, ℕ, ◌+◌, ◌<◌, ◌≤◌, List, ◌++◌, length, take, Option, None, Some, IfSome, IsSome, Result, Err, IfOk, IfErr, OnOk, OnErr, option_map, option_to_list}
+use Rattle.std.specs.Result.{result_err}
+use Rattle.avtp_base.specs.declared.refusal.Refusal.{Refusal}
+use Rattle.pcap_frames.specs.declared.style.RecordView.{RecordView}
+use Rattle.pcap_frames.specs.Capture.{Record}
+use Rattle.pcap_frames.specs.Layout.{IsRecordTime}
+
+-- What the bytes of a capture mean in one layout: the whole records before the first refusal, the first refusal, and the
+-- first refusal if it stays whatever bytes follow.
+pub record Meaning : Type 0 where
+  pub records : List ℕ → List Record
+  pub refusal : List ℕ → Option Refusal
+  pub certain : List ℕ → Option Refusal
+
+-- How far a reader is between two calls: which bytes it has taken and which of their records it has released, in order;
+-- the record that it holds; how many bytes it has taken; and the refusal that it answers for good.
+pub record Progress : Type 1 where
+  pub has_read : List ℕ → List Record → Type 0
+  pub held : Option Record
+  pub taken : ℕ
+  pub refusal : Option Refusal
+
+-- whatever was read before, these bytes are read too now, and no record was released
+abbrev pub GoesOn : Progress → List ℕ → Progress → Type 0
+GoesOn old more new = (bytes : List ℕ) (records : List Record) → old.has_read bytes records → new.has_read (bytes ++ more) records
+
+-- Bytes hold these records and no more, and are refused then, whatever bytes follow.
+pub record IsRefusedAfter (meaning : Meaning) (bytes : List ℕ) (records : List Record) (refusal : Refusal) : Type 0 where
+  pub all : meaning.records bytes ≡ records
+  pub certain : meaning.certain bytes ≡ Some refusal
+
+-- What feeding a piece does. It takes bytes from the piece's front, up to the end of one record or of the piece, and none
+-- exactly if the piece is empty or a record is held; or it answers the first refusal, as soon as the bytes so far show it,
+-- and again from then on.
+pub record Feeds (meaning : Meaning) (old : Progress) (piece : List ℕ) (result : Result ℕ Refusal) (new : Progress) : Type 0 where
+  pub within : IfOk result (λ n. n ≤ length piece)
+  pub nothing : IfOk result (λ n. (n ≡ 0) ↔ ((length piece ≡ 0) ⊎ IsSome old.held))
+  pub end : IfOk result (λ n. n < length piece → IsSome new.held)
+  pub read : IfOk result (λ n. GoesOn old (take n piece) new)
+  pub uncertain : IfOk result (λ n. (bytes : List ℕ) (records : List Record) → old.has_read bytes records → meaning.certain (bytes ++ take n piece) ≡ None)
+  pub refused : IfErr result (λ refusal. (bytes more : List ℕ) (records : List Record) → old.has_read bytes records → IsRefusedAfter meaning ((bytes ++ piece) ++ more) records refusal)
+  pub lasting : IfSome old.refusal (λ refusal. result ≡ Err refusal)
+  pub stays_refused : IfErr result (λ refusal. new.refusal ≡ Some refusal)
+  pub stays_accepted : OnOk result (new.refusal ≡ None)
+  pub stopped : OnErr result (GoesOn old piece new)
+  pub taken : IfOk result (λ n. new.taken ≡ old.taken + n)
+  pub bounded : new.taken ≤ old.taken + length piece
+
+-- The record that was held, if there was one, is released, and none is held.
+pub record Releases (old new : Progress) : Type 0 where
+  pub given_up : (bytes : List ℕ) (records : List Record) → old.has_read bytes records → new.has_read bytes (records ++ option_to_list old.held)
+  pub free : new.held ≡ None
+  pub counted : new.taken ≡ old.taken
+  pub refusal : new.refusal ≡ old.refusal
+
+-- What is answered if the capture ends with the bytes so far: the released records and the one that is held are all of its
+-- records, and the answer is its first refusal.
+pub record Ends (meaning : Meaning) (reader : Progress) (result : Result Unit Refusal) : Type 0 where
+  pub records : (bytes : List ℕ) (records : List Record) → reader.has_read bytes records → records ++ option_to_list reader.held ≡ meaning.records bytes
+  pub refusal : (bytes : List ℕ) (records : List Record) → reader.has_read bytes records → result_err result ≡ meaning.refusal bytes
+  pub lasting : IfSome reader.refusal (λ refusal. result ≡ Err refusal)
+
+-- the record that a view shows, apart from where it lies in memory
+abbrev pub shown : RecordView → Record
+shown view = record { arrival = view.arrival; orig_len = view.orig_len; bytes = view.bytes.now }
+
+-- A view of the record that is held, if there is one; its time is one that a record can have.
+pub record Views (held : Option Record) (view : Option RecordView) : Type 0 where
+  pub exact : option_map shown view ≡ held
+  pub time : IfSome view (λ v. IsRecordTime v.arrival)

@@ -1,0 +1,57 @@
+//! Numbers of a capture, in its byte order.
+
+ghost use Rattle.std.specs.Prelude.{◌≡◌, ◌+◌, ◌≤◌, ◌++◌, ℕ, length, take, drop};
+ghost use Rattle.pcap_frames.specs.Layout.{number_at, number_bytes};
+
+use crate::style::Order;
+use byteorder::{BigEndian, ByteOrder, LittleEndian};
+
+/// The number of 16 bits at an offset.
+#[tactic(auto, unfolding(crate::specs::Layout::number_at))]
+pub fn u16_at(order: Order, bytes: &[u8], offset: usize) -> u16
+    requires { offset + 2 ≤ length bytes.now }
+    ensures { result ≡ number_at order offset 2 bytes.now }
+{
+    match order {
+        Order::Little => LittleEndian::read_u16(&bytes[offset..]),
+        Order::Big => BigEndian::read_u16(&bytes[offset..]),
+    }
+}
+
+/// The number of 32 bits at an offset.
+#[tactic(auto, unfolding(crate::specs::Layout::number_at))]
+pub fn u32_at(order: Order, bytes: &[u8], offset: usize) -> u32
+    requires { offset + 4 ≤ length bytes.now }
+    ensures { result ≡ number_at order offset 4 bytes.now }
+{
+    match order {
+        Order::Little => LittleEndian::read_u32(&bytes[offset..]),
+        Order::Big => BigEndian::read_u32(&bytes[offset..]),
+    }
+}
+
+/// Writes a number of 16 bits at an offset.
+#[tactic(auto, using(std::proofs::lemmas::Slice::overwrites), unfolding(crate::specs::Layout::number_bytes))]
+pub fn put_u16(order: Order, out: &mut [u8], offset: usize, number: u16)
+    requires { offset + 2 ≤ length out.old }
+    ensures spelled { take (offset + 2) out.new ≡ take offset out.old ++ number_bytes order 2 number }
+    ensures rest { (n : ℕ) → offset + 2 ≤ n → drop n out.new ≡ drop n out.old }
+{
+    match order {
+        Order::Little => LittleEndian::write_u16(&mut out[offset..offset + 2], number),
+        Order::Big => BigEndian::write_u16(&mut out[offset..offset + 2], number),
+    }
+}
+
+/// Writes a number of 32 bits at an offset.
+#[tactic(auto, using(std::proofs::lemmas::Slice::overwrites), unfolding(crate::specs::Layout::number_bytes))]
+pub fn put_u32(order: Order, out: &mut [u8], offset: usize, number: u32)
+    requires { offset + 4 ≤ length out.old }
+    ensures spelled { take (offset + 4) out.new ≡ take offset out.old ++ number_bytes order 4 number }
+    ensures rest { (n : ℕ) → offset + 4 ≤ n → drop n out.new ≡ drop n out.old }
+{
+    match order {
+        Order::Little => LittleEndian::write_u32(&mut out[offset..offset + 4], number),
+        Order::Big => BigEndian::write_u32(&mut out[offset..offset + 4], number),
+    }
+}
