@@ -1,0 +1,4 @@
+pub mod ScanLemmas
+pub mod ListLemmas
+pub mod PieceLemmas
+pub mod GatewayLemmas

@@ -1,0 +1,99 @@
+-- How a batch is cut.
+use Rattle.std.proofs.Common.{◌≡◌, ℕ, zero, suc, ◌+◌, ◌-◌, ◌*◌, ◌/◌, ◌<◌, ◌≤◌, Bool, true, false, List, [], ◌∷◌, ◌++◌, length, refl, sym, ap, ◌∙◌, append_assoc, arith}
+use Rattle.std.specs.Prelude.{◌||◌, ◌+ℤ◌, nat_lt, pos, ℤ}
+use Rattle.std.specs.Ordering.{int_eq}
+use Rattle.std.specs.List.{list_any}
+use Rattle.std.proofs.Math.Nat.{div-mul-le_self, mul-le-mul_right}
+use Rattle.std.proofs.lemmas.Bool.Decides.{nat_tests}
+use Rattle.sample_schedule.specs.Batches.{Presented, sample_instant}
+use Rattle.talk_plan.specs.Plan.{interval_of}
+use Rattle.talk_plan.specs.Timing.{nominal_offset}
+use Rattle.am824_gateway.specs.declared.piece.Piece.{Piece}
+use Rattle.am824_gateway.specs.declared.scan.Shape.{Shape}
+use Rattle.am824_gateway.specs.declared.scan.To.{To}
+use Rattle.am824_gateway.specs.Labels.{value_out}
+use Rattle.am824_gateway.specs.Pieces.{block_after, going_on, is_late, is_nominal, most_bytes, most_frames, next_block, piece_count, pieces_from}
+
+-- ---- how long a piece is
+
+-- a further sample is at its nominal instant
+pub goes_on : (test : ℕ → Bool) (k more : ℕ) → 1 ≤ more → test k ≡ true → going_on test k more ≡ going_on test (k + 1) (more - 1)
+goes_on test k zero some e = absurd (omega arith)
+goes_on test k (suc more) some e = (let next : k + 1 ≡ suc k = omega arith in let less : suc more - 1 ≡ more = omega arith in rw (e, next, less) refl)
+
+-- the next one is not
+pub stops : (test : ℕ → Bool) (k more : ℕ) → test k ≡ false → going_on test k more ≡ k
+stops test k zero e = refl
+stops test k (suc more) e = rw e refl
+
+-- there is no next one
+pub is_full : (test : ℕ → Bool) (k more : ℕ) → more ≡ 0 → going_on test k more ≡ k
+is_full test k zero e = refl
+is_full test k (suc more) e = absurd (omega arith)
+
+pub counted : (test : ℕ → Bool) (k more : ℕ) → (k ≤ going_on test k more) × (going_on test k more ≤ k + more)
+counted test k zero = (omega arith, omega arith)
+counted test k (suc more) = by (test k) refl (counted test (suc k) more)
+  where
+    by : (b : Bool) → test k ≡ b → (suc k ≤ going_on test (suc k) more) × (going_on test (suc k) more ≤ suc k + more) → (k ≤ going_on test k (suc more)) × (going_on test k (suc more) ≤ k + suc more)
+    by true e next = rw e (omega (arith, next.0), omega (arith, next.1))
+    by false e next = rw e (omega arith, omega arith)
+
+-- the test of a sample by its instant
+pub test_is : (rate first k j offset : ℕ) (batch : Presented) (now start : ℤ) (b : Bool) → b ≡ int_eq now (start +ℤ pos offset) → now ≡ sample_instant batch j → j ≡ first + k → start ≡ sample_instant batch first
+    → offset ≡ nominal_offset rate k → is_nominal rate batch first k ≡ b
+test_is rate first k j offset batch now start b e at place begun off = sym (e ∙ (rw (at, place, begun, off) refl))
+
+-- ---- the pieces
+
+-- the first piece, and then the rest
+pub first_piece : (to : To) (shape : Shape) (batch : Presented) (most first block : ℕ) → 1 ≤ most → first < batch.count
+    → pieces_from to shape batch most first block
+    ≡ record { first = first; count = piece_count to shape batch first; block = block }
+    ∷ pieces_from to shape batch (most - 1) (first + piece_count to shape batch first) (next_block (interval_of shape.rate) block (piece_count to shape batch first))
+first_piece to shape batch zero first block some h = absurd (omega arith)
+first_piece to shape batch (suc most) first block some h =
+    let test : nat_lt first batch.count ≡ true = grind (arith, nat_tests) in
+    let less : suc most - 1 ≡ most = omega arith in
+    rw (test, less) refl
+
+-- no piece begins after the last sample
+pub no_piece : (to : To) (shape : Shape) (batch : Presented) (most first block : ℕ) → batch.count ≤ first → pieces_from to shape batch most first block ≡ []
+no_piece to shape batch zero first block h = refl
+no_piece to shape batch (suc most) first block h = (let test : nat_lt first batch.count ≡ false = grind (arith, nat_tests) in rw test refl)
+
+-- the block count after one piece more
+pub block_more : (interval block : ℕ) (pieces : List Piece) (p : Piece) → p.block ≡ block_after interval block pieces → block_after interval block (pieces ++ p ∷ []) ≡ next_block interval p.block p.count
+block_more interval block [] p e = refl
+block_more interval block (q ∷ pieces) p e = block_more interval (next_block interval q.block q.count) pieces p e
+
+pub late_more : (batch : Presented) (pieces : List Piece) (p : Piece) → list_any (is_late batch) (pieces ++ p ∷ []) ≡ (list_any (is_late batch) pieces || is_late batch p)
+late_more batch [] p = by (is_late batch p)
+  where
+    by : (b : Bool) → (b || false) ≡ (false || b)
+    by true = refl
+    by false = refl
+late_more batch (q ∷ pieces) p = ap (λ (b : Bool). is_late batch q || b) (late_more batch pieces p) ∙ by (is_late batch q) (list_any (is_late batch) pieces) (is_late batch p)
+  where
+    by : (a b c : Bool) → (a || (b || c)) ≡ ((a || b) || c)
+    by true b c = refl
+    by false b c = refl
+
+-- one step of the loop that cuts
+pub step : (to : To) (shape : Shape) (batch : Presented) (pieces : List Piece) (first next count : ℕ) (all : List Piece) → first < batch.count → length pieces ≤ first
+    → count ≡ piece_count to shape batch first → pieces ++ pieces_from to shape batch (batch.count - length pieces) first next ≡ all
+    → (pieces ++ record { first = first; count = count; block = next } ∷ []) ++ pieces_from to shape batch (batch.count - (length pieces + 1)) (first + count) (next_block (interval_of shape.rate) next count) ≡ all
+step to shape batch pieces first next count all inside few is e =
+    let here = first_piece to shape batch (batch.count - length pieces) first next (omega arith) inside in
+    let less : batch.count - length pieces - 1 ≡ batch.count - (length pieces + 1) = omega arith in
+    let here = rw less at here in
+    rw is (append_assoc pieces (_ ∷ []) _ ∙ (ap (λ (rest : List Piece). pieces ++ rest) (sym here) ∙ e))
+
+-- ---- sizes
+
+most_of : (count most d : ℕ) → count ≤ most / d → count * d ≤ most
+most_of count most d h = (let times = mul-le-mul_right d h in let whole = div-mul-le_self most d in omega (arith, times, whole))
+
+-- a piece fits a packet
+pub fits : (to : To) (channels count : ℕ) → count ≤ most_frames to channels → count * (value_out to * channels) ≤ most_bytes to
+fits to channels count h = most_of count (most_bytes to) (value_out to * channels) h

@@ -1,0 +1,74 @@
+-- What a record holds of a stream, by what a gateway asks of it.
+use Rattle.std.specs.Prelude.{⊤, ℕ, ◌≤◌, ◌==◌, Bool, true, false, ◌&&◌, ◌||◌, if◌then◌else◌, List, Option, Some, None}
+use Rattle.avtp_base.specs.declared.refusal.Refusal.{Refusal}
+use Rattle.aaf_format.specs.declared.aaf.AafFormat.{AafFormat}
+use Rattle.aaf_format.specs.declared.aaf.AafFormat.TheVariants.{Float32, Int32, Int24, Int16}
+use Rattle.aaf_format.specs.Aaf.{Aaf, aaf_of, aaf_refusal, aaf_subtype, rate_of}
+use Rattle.iec61883_format.specs.Iec.{Iec, iec_of, iec_refusal, rate_of_fdf}
+use Rattle.cvf_format.specs.Cvf.{cvf_subtype}
+use Rattle.packet_journal.specs.Deliveries.{belongs, stream_kinds}
+use Rattle.am824_gateway.specs.Streams.{PacketOfStream, stream_packet}
+use Rattle.am824_gateway.specs.declared.content.Content.{Content}
+use Rattle.am824_gateway.specs.declared.content.Content.TheVariants.{Silent, Video, Audio}
+use Rattle.am824_gateway.specs.declared.content.Samples.{Samples}
+use Rattle.am824_gateway.specs.declared.scan.To.TheVariants.{Aaf as ToAaf, Am824 as ToAm824}
+use Rattle.am824_gateway.specs.Labels.{are_linear}
+
+-- the samples are integers of 24 bits
+abbrev pub has_24_bits : AafFormat → Bool
+has_24_bits Float32 = false
+has_24_bits Int32 = false
+has_24_bits Int24 = true
+has_24_bits Int16 = false
+
+-- PCM of this rate. The bit depth is the number of bits that are used, and 0 says that all are (IEEE 1722-2016, 7).
+abbrev pub pcm : Aaf → ℕ → Samples
+pcm v rate = record {
+  format = ToAaf;
+  whole = has_24_bits v.format && (v.depth == 0 || v.depth == 24);
+  rate = rate;
+  channels = v.channels;
+  linear = true;
+}
+
+-- AM824 of this rate: a data block has a quadlet for each channel
+abbrev pub am824 : Iec → ℕ → Samples
+am824 v rate = record {
+  format = ToAm824;
+  whole = true;
+  rate = rate;
+  channels = v.cip.dbs;
+  linear = are_linear v.payload;
+}
+
+-- samples, if there are any and their rate is known: others are never presented
+abbrev pub samples_or_silent : ℕ → Option ℕ → (ℕ → Samples) → Content
+samples_or_silent count None samples = Silent
+samples_or_silent count (Some rate) samples = if count == 0 then Silent else Audio (samples rate)
+
+-- what a packet of PCM holds that its reader may refuse
+abbrev pub pcm_content : Option Refusal → Aaf → Content
+pcm_content None v = samples_or_silent v.count (rate_of v.nsr) (pcm v)
+pcm_content (Some refusal) v = Silent
+
+-- what a packet of IEC 61883-6 holds that its reader may refuse
+abbrev pub am824_content : Option Refusal → Iec → Content
+am824_content None v = samples_or_silent v.count (rate_of_fdf v.cip.fdf) (am824 v)
+am824_content (Some refusal) v = Silent
+
+-- what a packet of a stream holds; one of H.264 is not read
+abbrev pub packet_content : PacketOfStream → Content
+packet_content p =
+    if p.subtype == cvf_subtype then Video
+    else if p.subtype == aaf_subtype then pcm_content (aaf_refusal p.bytes) (aaf_of p.bytes)
+    else am824_content (iec_refusal p.bytes) (iec_of p.bytes)
+
+-- what a record holds of the stream with this id, by the record's bytes
+abbrev pub content : ℕ → List ℕ → Content
+content stream bytes = if belongs stream_kinds stream bytes then packet_content (stream_packet bytes) else Silent
+
+-- samples have a channel at least
+abbrev pub IsCounted : Content → Type 0
+IsCounted Silent = ⊤
+IsCounted Video = ⊤
+IsCounted (Audio s) = 1 ≤ s.channels

@@ -1,0 +1,36 @@
+-- A gateway, as its contracts see it.
+use Rattle.std.specs.Prelude.{◌≡◌, ℕ, ◌≤◌, pos, ◌≤ℤ◌, ◌<ℤ◌, List, slice_get, Option, Some, None}
+use Rattle.std.specs.Option.{option_map}
+use Rattle.sample_schedule.specs.Batches.{Presented}
+use Rattle.talker.specs.declared.turn.Turn.{Turn}
+use Rattle.talker.specs.Frames.{SentFrame}
+use Rattle.talker.specs.Turns.{turn_of}
+use Rattle.am824_gateway.specs.declared.scan.Shape.{Shape}
+use Rattle.am824_gateway.specs.declared.scan.To.{To}
+use Rattle.am824_gateway.specs.Packets.{frames_with}
+use Rattle.am824_gateway.specs.Pieces.{Given, captures_end, given_with}
+
+-- A gateway: the format that it turns a stream into, the shape of that stream, the id under which it sends, what it gave out
+-- so far, and the frames of the last batch that was not skipped.
+pub record Gating : Type 0 where
+  pub to : To
+  pub shape : Option Shape
+  pub id : ℕ
+  pub given : Given
+  pub frames : List SentFrame
+
+-- the gateway after a batch that is not skipped; a stream without a shape has none
+abbrev pub given_out : Option Shape → Gating → Presented → Gating
+given_out None g batch = g
+given_out (Some shape) g batch = record g {
+  given = given_with g.to shape g.given batch;
+  frames = frames_with g.to shape g.id g.given batch;
+}
+
+-- the turn is that of frame i of the last batch, which a capture can hold: it arrives from 0 to before 2^32 seconds, and has
+-- at most 1518 bytes
+pub record IsPieceTurn (g : Gating) (i : ℕ) (turn : Turn) : Type 0 where
+  pub is : option_map turn_of (slice_get g.frames i) ≡ Some turn
+  pub begun : pos 0 ≤ℤ turn.arrival
+  pub ended : turn.arrival <ℤ pos captures_end
+  pub most : turn.size ≤ 1518

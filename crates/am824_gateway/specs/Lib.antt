@@ -1,0 +1,8 @@
+pub mod Streams
+pub mod Labels
+pub mod Content
+pub mod Scan
+pub mod Pieces
+pub mod Packets
+pub mod Gateways
+pub mod state

@@ -1,0 +1,153 @@
+-- How batches that a listener presents are cut into pieces, each of which one packet of the other format carries.
+use Rattle.std.specs.Prelude.{ℕ, zero, suc, ◌+◌, ◌-◌, ◌*◌, ◌/◌, ◌%◌, ◌^◌, ◌==◌, min, Bool, true, false, not, ◌&&◌, nat_lt, if◌then◌else◌, ℤ, pos, ◌+ℤ◌, ◌-ℤ◌, int_le, List, [], ◌∷◌, length, Option, Some, None}
+use Rattle.std.specs.Int.{div_ceil, int_max}
+use Rattle.std.specs.List.{list_any}
+use Rattle.std.specs.Ordering.{int_eq}
+use Rattle.sample_schedule.specs.Batches.{Presented, is_unit, sample_instant}
+use Rattle.talk_plan.specs.Plan.{interval_of, most_blocks, most_samples}
+use Rattle.talk_plan.specs.Timing.{nominal_offset}
+use Rattle.am824_gateway.specs.declared.piece.Piece.{Piece}
+use Rattle.am824_gateway.specs.declared.scan.Shape.{Shape}
+use Rattle.am824_gateway.specs.declared.scan.To.{To}
+use Rattle.am824_gateway.specs.declared.scan.To.TheVariants.{Aaf, Am824}
+use Rattle.am824_gateway.specs.declared.skip.Skip.{Skip}
+use Rattle.am824_gateway.specs.declared.skip.Skip.TheVariants.{ShapeOff, Overlap, Range}
+use Rattle.am824_gateway.specs.Labels.{are_linear, value_in, value_out}
+
+-- ---- sizes
+
+-- the most bytes of samples that a packet of this format holds in an Ethernet frame
+abbrev pub most_bytes : To → ℕ
+most_bytes Am824 = most_blocks
+most_bytes Aaf = most_samples
+
+-- the most sample frames of a packet of this format
+abbrev pub most_frames : To → ℕ → ℕ
+most_frames to channels = most_bytes to / (value_out to * channels)
+
+-- ---- where a batch is cut
+
+-- Sample k of a piece that begins with sample `first` of a batch is at its nominal instant, counted from the piece's first
+-- sample. Listeners count the samples of a packet so from its timestamp.
+abbrev pub is_nominal : ℕ → Presented → ℕ → ℕ → Bool
+is_nominal rate batch first k =
+    int_eq (sample_instant batch (first + k)) (sample_instant batch first +ℤ pos (nominal_offset rate k))
+
+-- from sample k on, as many of at most `more` further samples as pass the test one after another
+abbrev pub going_on : (ℕ → Bool) → ℕ → ℕ → ℕ
+going_on test k zero = k
+going_on test k (suc more) = if test k then going_on test (suc k) more else k
+
+-- The samples of the piece that begins with sample `first` of a batch. It goes on while it holds fewer than the most that a
+-- packet can have, the batch has a further sample, and that one is at its nominal instant.
+abbrev pub piece_count : To → Shape → Presented → ℕ → ℕ
+piece_count to shape batch first =
+    going_on (is_nominal shape.rate batch first) 1 (min (most_frames to shape.channels) (batch.count - first) - 1)
+
+-- ---- block counts
+
+-- The block count of the first data block of a packet of AM824, by that of the packet before it and its number of blocks:
+-- blocks are counted on, and then up to the next multiple of SYT_INTERVAL. So the block that the timestamp belongs to is
+-- always the packet's first (IEC 61883-6), and the block count has a gap where a packet has no multiple of it.
+abbrev pub next_block : ℕ → ℕ → ℕ → ℕ
+next_block interval block count = div_ceil (block + count) interval * interval % 256
+
+-- the block count of the packet after these, of which the first has the count `block`
+abbrev pub block_after : ℕ → ℕ → List Piece → ℕ
+block_after interval block [] = block
+block_after interval block (p ∷ pieces) = block_after interval (next_block interval p.block p.count) pieces
+
+-- ---- the pieces of a batch
+
+-- the pieces of a batch from sample `first` on, at most `most` of them, of which the first has this block count
+abbrev pub pieces_from : To → Shape → Presented → ℕ → ℕ → ℕ → List Piece
+pieces_from to shape batch zero first block = []
+pieces_from to shape batch (suc most) first block =
+    if nat_lt first batch.count then
+    record { first = first; count = piece_count to shape batch first; block = block }
+    ∷ pieces_from to shape batch most (first + piece_count to shape batch first)
+    (next_block (interval_of shape.rate) block (piece_count to shape batch first))
+    else []
+
+-- The pieces of a batch, in order, of which the first has this block count. Each has a sample at least, so there are no more
+-- than the batch has samples.
+abbrev pub pieces_of : To → Shape → Presented → ℕ → List Piece
+pieces_of to shape batch block = pieces_from to shape batch batch.count 0 block
+
+-- ---- arrivals
+
+-- how long before its presentation time a packet arrives, in nanoseconds: the max transit time of stream reservation class A
+-- (IEEE 802.1BA)
+abbrev pub transit : ℕ
+transit = 2000000
+
+-- when a packet arrives that is presented from this instant on; none arrives before 0
+abbrev pub arrival_at : ℤ → ℤ
+arrival_at instant = int_max (instant -ℤ pos transit) (pos 0)
+
+-- when no packet of a capture can arrive any more: 2^32 seconds
+abbrev pub captures_end : ℕ
+captures_end = 2 ^ 32 * 1000000000
+
+-- a piece would arrive when a capture can no longer tell
+abbrev pub is_late : Presented → Piece → Bool
+is_late batch p = int_le (pos captures_end) (arrival_at (sample_instant batch p.first))
+
+-- ---- what is skipped
+
+-- What a gateway gave out so far: of how many batches, how many packets, the block count of the next one, and the instant of
+-- the last sample.
+pub record Given : Type 0 where
+  pub batches : ℕ
+  pub packets : ℕ
+  pub block : ℕ
+  pub last : Option ℤ
+
+-- nothing was given out
+abbrev pub nothing_given : Given
+nothing_given = record { batches = 0; packets = 0; block = 0; last = None }
+
+-- each value has the label of linear audio of 24 bits, if it has a label
+abbrev pub has_labels : To → List ℕ → Bool
+has_labels Am824 bytes = true
+has_labels Aaf bytes = are_linear bytes
+
+-- a batch is samples of this shape: no unit of H.264, and a value of 24 bits for each channel of each sample
+abbrev pub has_shape : To → Shape → Presented → Bool
+has_shape to shape batch =
+    not (is_unit batch)
+    && (length batch.bytes == batch.count * (value_in to * shape.channels))
+    && has_labels to batch.bytes
+
+-- the batch does not begin after the last sample that was given out
+abbrev pub overlaps : Option ℤ → Presented → Bool
+overlaps None batch = false
+overlaps (Some last) batch = int_le (sample_instant batch 0) last
+
+-- why a batch of a stream of this shape is skipped, after what was given out, if it is
+abbrev pub skip_by : To → Shape → Given → Presented → Option Skip
+skip_by to shape given batch =
+    if not (has_shape to shape batch) then Some ShapeOff
+    else if overlaps given.last batch then Some Overlap
+    else if list_any (is_late batch) (pieces_of to shape batch given.block) then Some Range
+    else None
+
+-- Why a batch is skipped, if it is: it is not of the stream's shape, or the stream has none; it does not begin after the last
+-- sample that was given out; one of its pieces would arrive too late for a capture.
+abbrev pub skip_of : To → Option Shape → Given → Presented → Option Skip
+skip_of to None given batch = Some ShapeOff
+skip_of to (Some shape) given batch = skip_by to shape given batch
+
+-- what was given out after a batch that is not skipped
+abbrev pub given_with : To → Shape → Given → Presented → Given
+given_with to shape given batch = record {
+  batches = given.batches + 1;
+  packets = given.packets + length (pieces_of to shape batch given.block);
+  block = block_after (interval_of shape.rate) given.block (pieces_of to shape batch given.block);
+  last = Some (sample_instant batch (batch.count - 1));
+}
+
+-- one value for a batch that is given out, and another for one that is skipped
+abbrev pub unless : {T : Type 0} → Option Skip → T → T → T
+unless None given skipped = given
+unless (Some skip) given skipped = skipped

@@ -1,0 +1,128 @@
+-- Why a capture cannot be turned into the other format.
+use Rattle.std.specs.Prelude.{◌≡◌, ℕ, suc, ◌≤◌, ◌==◌, Bool, true, false, not, ◌||◌, nat_lt, if◌then◌else◌, List, [], ◌∷◌, Option, Some, None, IsSome, is_none}
+use Rattle.pcap_frames.specs.Capture.{Record}
+use Rattle.talk_plan.specs.Plan.{fdf_of}
+use Rattle.am824_gateway.specs.declared.scan.ScanFault.{ScanFault}
+use Rattle.am824_gateway.specs.declared.scan.ScanFault.TheVariants.{Kind, Format, Rate, Channels, Label}
+use Rattle.am824_gateway.specs.declared.scan.Shape.{Shape}
+use Rattle.am824_gateway.specs.declared.scan.To.{To}
+use Rattle.am824_gateway.specs.declared.scan.To.TheVariants.{Aaf, Am824}
+use Rattle.am824_gateway.specs.declared.content.Content.{Content}
+use Rattle.am824_gateway.specs.declared.content.Content.TheVariants.{Silent, Video, Audio}
+use Rattle.am824_gateway.specs.declared.content.Samples.{Samples}
+use Rattle.am824_gateway.specs.Content.{content}
+
+-- ---- the shape of a stream
+
+-- a shape that can be turned: a sample rate of IEC 61883-6, and 1 to 256 channels, since a data block has at most 256
+-- quadlets (IEC 61883-1)
+pub record IsShape (shape : Shape) : Type 0 where
+  pub rate : IsSome (fdf_of shape.rate)
+  pub some : 1 ≤ shape.channels
+  pub most : shape.channels ≤ 256
+
+-- the shape of a packet of samples
+abbrev pub shape_of : Samples → Shape
+shape_of s = record { rate = s.rate; channels = s.channels }
+
+-- the shape of the first packet, which is this one if none came before
+abbrev pub first_or : Option Shape → Samples → Shape
+first_or None s = shape_of s
+first_or (Some first) s = first
+
+-- the shape of the first packet of samples, after a record
+abbrev pub shape_after : Option Shape → Content → Option Shape
+shape_after None Silent = None
+shape_after None Video = None
+shape_after None (Audio s) = Some (shape_of s)
+shape_after (Some first) c = Some first
+
+-- the shape of the stream's first packet of samples in records, if not of one before them
+abbrev pub shape_from : ℕ → Option Shape → List Record → Option Shape
+shape_from stream first [] = first
+shape_from stream first (r ∷ records) = shape_from stream (shape_after first (content stream r.bytes)) records
+
+-- The shape of a stream: the sample rate and the channels of its first packet of samples.
+abbrev pub shape_in : ℕ → List Record → Option Shape
+shape_in stream records = shape_from stream None records
+
+-- ---- faults
+
+-- a fault, and whether it is there
+pub record Row : Type 0 where
+  pub fault : ScanFault
+  pub holds : Bool
+
+-- a fault, with whether it is there
+abbrev pub row : ScanFault → Bool → Row
+row fault holds = record { fault = fault; holds = holds }
+
+-- the first fault of a list that is there, if any is
+abbrev pub first_of : List Row → Option ScanFault
+first_of [] = None
+first_of (r ∷ rows) = if r.holds then Some r.fault else first_of rows
+
+-- two formats are the same
+abbrev pub same_format : To → To → Bool
+same_format Am824 Am824 = true
+same_format Am824 Aaf = false
+same_format Aaf Am824 = false
+same_format Aaf Aaf = true
+
+-- IEC 61883-6 has no such sample rate, or it is not that of the first packet
+abbrev pub other_rate : Shape → ℕ → Bool
+other_rate first rate = is_none (fdf_of rate) || not (rate == first.rate)
+
+-- The faults of a packet of samples, in the order in which they are tested: it is of the wanted format already; its samples
+-- are not 24 bits, all used; IEC 61883-6 has no such rate, or it is not the first packet's; a data block has no such number
+-- of channels, or it is not the first packet's; a quadlet is not linear audio of 24 bits.
+abbrev pub fault_rows : To → Shape → Samples → List Row
+fault_rows to first s =
+    row Kind (same_format s.format to) ∷
+    row Format (not s.whole) ∷
+    row Rate (other_rate first s.rate) ∷
+    row Channels (nat_lt 256 s.channels || not (s.channels == first.channels)) ∷
+    row Label (not s.linear) ∷ []
+
+-- The fault of what a record holds, after a first packet of this shape. What is never presented has none, and H.264 is of
+-- neither format.
+abbrev pub content_fault : To → Option Shape → Content → Option ScanFault
+content_fault to first Silent = None
+content_fault to first Video = Some Kind
+content_fault to first (Audio s) = first_of (fault_rows to (first_or first s) s)
+
+-- a record with a fault: its number in the capture, from 1, and the fault
+pub record FaultAt : Type 0 where
+  pub frame : ℕ
+  pub fault : ScanFault
+
+-- the fault of this record, or else a later one
+abbrev pub fault_or : ℕ → Option ScanFault → Option FaultAt → Option FaultAt
+fault_or frame None later = later
+fault_or frame (Some fault) later = Some (record { frame = frame; fault = fault })
+
+-- the first fault in records, of which the first has this number and follows a first packet of this shape
+abbrev pub fault_from : To → ℕ → Option Shape → ℕ → List Record → Option FaultAt
+fault_from to stream first frame [] = None
+fault_from to stream first frame (r ∷ records) =
+    fault_or frame (content_fault to first (content stream r.bytes))
+    (fault_from to stream (shape_after first (content stream r.bytes)) (suc frame) records)
+
+-- The first fault of a capture's records: the first of them that cannot be turned, and why.
+abbrev pub first_fault : To → ℕ → List Record → Option FaultAt
+first_fault to stream records = fault_from to stream None 1 records
+
+-- ---- a scan
+
+-- a scan: the format that the stream is to be turned into, the stream's id, and the shape of its first packet of samples
+pub record Scanning : Type 0 where
+  pub to : To
+  pub stream : ℕ
+  pub shape : Option Shape
+
+-- the scan has noted these records of the stream, and none of them has a fault
+pub record HasScanned (to : To) (stream : ℕ) (records : List Record) (scan : Scanning) : Type 0 where
+  pub to_is : scan.to ≡ to
+  pub stream_is : scan.stream ≡ stream
+  pub shape : scan.shape ≡ shape_in stream records
+  pub none : first_fault to stream records ≡ None

@@ -1,0 +1,17 @@
+//! AAF and AM824 are turned into each other, and no value and no instant changes.
+#![tactic(auto)]
+
+mod content;
+mod gateway;
+mod labels;
+mod packet;
+mod piece;
+mod rates;
+mod scan;
+mod skip;
+mod stream_packet;
+
+pub use gateway::Gateway;
+pub use piece::Piece;
+pub use scan::{Scan, ScanFault, Shape, To};
+pub use skip::Skip;

@@ -1,0 +1,168 @@
+//! Pieces of a batch.
+
+ghost use Rattle.std.specs.Prelude.{◌≡◌, ◌+◌, ◌-◌, ◌≤◌, ◌<◌, ◌||◌, int_le, min, pos, ◌+ℤ◌, length, [], ◌∷◌, ◌++◌, vec_len, vec_capacity};
+ghost use Rattle.std.specs.List.{list_any};
+ghost use Rattle.std.specs.Ordering.{int_eq};
+ghost use Rattle.iec61883_format.specs.Iec.{IsSytInterval};
+ghost use Rattle.sample_schedule.specs.Instants.{IsInstantOf};
+ghost use Rattle.talk_plan.specs.Plan.{interval_of as interval_by};
+ghost use Rattle.talk_plan.specs.Timing.{nominal_offset as nominal_offset_of};
+ghost use Rattle.am824_gateway.specs.Pieces.{arrival_at, block_after, captures_end, going_on, is_late, is_nominal, most_frames as most_frames_of, next_block as next_block_of, pieces_of};
+ghost use Rattle.am824_gateway.specs.Scan.{IsShape};
+ghost use Rattle.time_unfold.specs.Time.{IsInstant};
+
+use crate::rates::interval_of;
+use crate::scan::{Shape, To};
+use sample_schedule::{Batch, Instant};
+
+/// A piece of a batch, which one packet carries.
+#[derive(Clone, Copy, Debug, PartialEq, Eq)]
+pub struct Piece {
+    /// The number of its first sample in the batch, from 0.
+    pub first: u32,
+    /// The number of its samples.
+    pub count: u32,
+    /// The block count, modulo 256, of its first data block in AM824 (IEC 61883-6).
+    pub block: u8,
+}
+
+/// The most pieces of a batch: it has no more samples.
+pub(crate) const MOST_PIECES: usize = 65_535;
+
+const NANOSECONDS: u64 = 1_000_000_000;
+
+/// How long before its presentation time a packet arrives, in nanoseconds: the max transit time of stream reservation class A
+/// (IEEE 802.1BA).
+const TRANSIT: i64 = 2_000_000;
+
+/// When no packet of a capture can arrive any more: 2^32 seconds.
+const CAPTURES_END: i64 = (1 << 32) * 1_000_000_000;
+
+/// How long after sample 0 sample `k` is at a nominal rate, in nanoseconds.
+fn nominal_offset(rate: u32, k: u32) -> u64
+    requires { 1 ≤ rate }
+    ensures value { result ≡ nominal_offset_of rate k }
+{
+    u64::from(k) * NANOSECONDS / u64::from(rate)
+}
+
+/// When a packet arrives that is presented from this instant on, in nanoseconds of gPTP.
+pub(crate) fn arrival_of(instant: i64) -> i64
+    requires { IsInstant instant }
+    ensures value { result ≡ arrival_at instant }
+{
+    (instant - TRANSIT).max(0)
+}
+
+/// One was late before, or a packet that is presented from this instant on would arrive when a capture can no longer tell.
+fn is_late_with(late: bool, instant: i64) -> bool
+    requires { IsInstant instant }
+    ensures { result ≡ (late || int_le (pos captures_end) (arrival_at instant)) }
+{
+    late || arrival_of(instant) >= CAPTURES_END
+}
+
+/// The most sample frames of a packet.
+fn most_frames(to: To, channels: u16) -> u32
+    requires some { 1 ≤ channels }
+    requires most { channels ≤ 256 }
+    ensures value { result ≡ most_frames_of to channels }
+    ensures some { 1 ≤ result }
+{
+    let (bytes, value) = match to {
+        To::Am824 => (1468, 4),
+        To::Aaf => (1476, 3),
+    };
+    bytes / (value * u32::from(channels))
+}
+
+/// The block count of the packet after one of this block count and this number of blocks.
+fn next_block(interval: u32, block: u8, count: u32) -> u8
+    requires interval { IsSytInterval interval }
+    requires count { count ≤ 65535 }
+    ensures { result ≡ next_block_of interval block count }
+{
+    let counted = u32::from(block) + count;
+    (counted.div_ceil(interval) * interval % 256) as u8
+}
+
+/// A sample is at its nominal instant, so long after `start`.
+fn is_on_line(instant: i64, start: i64, offset: u64) -> bool
+    ensures { result ≡ int_eq instant (start +ℤ pos offset) }
+{
+    i128::from(instant) == i128::from(start) + i128::from(offset)
+}
+
+/// The samples of the piece that begins with the sample of an instant, which is left at the first sample after the piece.
+fn count_piece(instant: &mut Instant, batch: &Batch, rate: u32, most: u32) -> u32
+    requires is { IsInstantOf instant.old batch.now }
+    requires inside { instant.old.j < batch.now.count }
+    requires rate { 1 ≤ rate }
+    requires most { 1 ≤ most }
+    ensures value { result ≡ going_on (is_nominal rate batch.now instant.old.j) 1 (min most (batch.now.count - instant.old.j) - 1) }
+    ensures some { 1 ≤ result }
+    ensures within { instant.old.j + result ≤ batch.now.count }
+    ensures after { instant.new.j ≡ instant.old.j + result }
+    ensures is { IsInstantOf instant.new batch.now }
+{
+    let start = instant.nanoseconds;
+    let limit = most.min(batch.count - instant.j);
+    let mut count = 1;
+    instant.next(batch);
+    while count < limit && is_on_line(instant.nanoseconds, start, nominal_offset(rate, count)) {
+        count += 1;
+        instant.next(batch);
+    }
+    count
+}
+
+/// Cuts a batch into pieces, of which the first has this block count. Answers the block count of the packet after the last of
+/// them, and whether one of them would arrive when a capture can no longer tell.
+pub(crate) fn cut(
+    pieces: &mut Vec<Piece>,
+    to: To,
+    shape: Shape,
+    batch: &Batch,
+    block: u8,
+) -> (u8, bool)
+    requires room { 65535 ≤ vec_capacity pieces.old }
+    requires shape { IsShape shape }
+    ensures pieces { pieces.new.items ≡ pieces_of to shape batch.now block }
+    ensures block { result.0 ≡ block_after (interval_by shape.rate) block (pieces_of to shape batch.now block) }
+    ensures late { result.1 ≡ list_any (is_late batch.now) (pieces_of to shape batch.now block) }
+    ensures capacity { vec_capacity pieces.old ≤ vec_capacity pieces.new }
+    ensures few { length pieces.new.items ≤ batch.now.count }
+{
+    let most = most_frames(to, shape.channels);
+    let interval = interval_of(shape.rate);
+    let mut instant = Instant::first(batch);
+    let mut next = block;
+    let mut late = false;
+    pieces.clear();
+    while instant.j < batch.count {
+        let first = instant.j;
+        late = is_late_with(late, instant.nanoseconds);
+        let count = count_piece(&mut instant, batch, shape.rate, most);
+        push(
+            pieces,
+            Piece {
+                first,
+                count,
+                block: next,
+            },
+        );
+        next = next_block(interval, next, count);
+    }
+    (next, late)
+}
+
+/// Adds a piece, for which there is room.
+fn push(pieces: &mut Vec<Piece>, piece: Piece)
+    requires { vec_len pieces.old < vec_capacity pieces.old }
+    ensures items { pieces.new.items ≡ pieces.old.items ++ piece ∷ [] }
+    ensures capacity { vec_capacity pieces.old ≤ vec_capacity pieces.new }
+{
+    let Ok(()) = pieces.push(piece) else {
+        unreachable!()
+    };
+}

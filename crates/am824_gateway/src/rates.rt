@@ -1,0 +1,51 @@
+//! The codes of the sample rates that both formats have.
+
+ghost use Rattle.std.specs.Prelude.{◌≡◌, ◌≤◌, IsSome, unwrap_or};
+ghost use Rattle.iec61883_format.specs.Iec.{IsSytInterval};
+ghost use Rattle.talk_plan.specs.Plan.{fdf_of as fdf_by, interval_of as interval_by, rate_code};
+
+/// The code of a sample rate in Hz (FDF), if IEC 61883-6 has one.
+pub(crate) fn fdf_of(rate: u32) -> Option<u8>
+    ensures { result ≡ fdf_by rate }
+{
+    Some(match rate {
+        32_000 => 0,
+        44_100 => 1,
+        48_000 => 2,
+        88_200 => 3,
+        96_000 => 4,
+        176_400 => 5,
+        192_000 => 6,
+        _ => return None,
+    })
+}
+
+/// SYT_INTERVAL at a sample rate that IEC 61883-6 has: of this many data blocks one is stamped.
+pub(crate) fn interval_of(rate: u32) -> u32
+    requires { IsSome (fdf_by rate) }
+    ensures value { result ≡ interval_by rate }
+    ensures is { IsSytInterval result }
+{
+    match rate {
+        88_200 | 96_000 => 16,
+        176_400 | 192_000 => 32,
+        _ => 8,
+    }
+}
+
+/// The code of such a sample rate in AAF (IEEE 1722-2016, 7).
+pub(crate) fn nsr_of(rate: u32) -> u8
+    requires { IsSome (fdf_by rate) }
+    ensures value { result ≡ unwrap_or (rate_code rate) 0 }
+    ensures few { result ≤ 10 }
+{
+    match rate {
+        32_000 => 3,
+        44_100 => 4,
+        48_000 => 5,
+        88_200 => 6,
+        96_000 => 7,
+        176_400 => 8,
+        _ => 9,
+    }
+}

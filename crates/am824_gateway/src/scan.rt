@@ -1,0 +1,155 @@
+//! What a capture is scanned for before any of it is turned.
+
+ghost use Rattle.std.specs.Prelude.{◌≡◌, ◌≤◌, ◌++◌, ◌∷◌, [], ℕ, suc, List, length, None, Some, IfSome, IfErr, OnOk};
+ghost use Rattle.pcap_frames.specs.Capture.{Record};
+ghost use Rattle.am824_gateway.specs.Scan.{HasScanned, IsShape, content_fault, fault_rows, first_fault, first_of, other_rate, shape_after, shape_in, shape_of};
+
+use crate::content::{Content, Samples, content_of};
+use crate::rates::fdf_of;
+use std::marker::Model;
+
+/// The format that a stream is turned into.
+#[derive(Clone, Copy, Debug, PartialEq, Eq)]
+pub enum To {
+    /// AM824 (IEC 61883-6).
+    Am824,
+    /// PCM in the AVTP audio format (IEEE 1722-2016, 7).
+    Aaf,
+}
+
+/// Why a capture cannot be turned.
+#[derive(Clone, Copy, Debug, PartialEq, Eq)]
+pub enum ScanFault {
+    /// A packet of the stream is of neither format, or is of the wanted one already.
+    Kind,
+    /// PCM samples do not have 24 bits, or not all bits of them are used.
+    Format,
+    /// IEC 61883-6 has no such sample rate, or it is not that of the first packet.
+    Rate,
+    /// There are more than 256 channels, or not as many as in the first packet.
+    Channels,
+    /// A quadlet of AM824 is not linear audio of 24 bits: its label is not 0x40.
+    Label,
+}
+
+/// What is the same in all packets of a stream that is turned.
+#[derive(Clone, Copy, Debug, PartialEq, Eq)]
+pub struct Shape {
+    /// The sample rate in Hz, one of those of IEC 61883-6.
+    pub rate: u32,
+    /// The channels of each sample frame, 1 to 256.
+    pub channels: u16,
+}
+
+/// Looks through the records of a capture for what cannot be turned. It takes no memory.
+#[derive(Debug, Drop)]
+pub struct Scan {
+    to: To,
+    stream: u64,
+    /// The shape of the first packet of samples.
+    shape: Option<Shape>,
+}
+
+impl Model for Scan {
+    ghost use Rattle.std.specs.Prelude.{IfSome};
+    ghost use Rattle.am824_gateway.specs.Scan.{IsShape, Scanning};
+
+    ghost Value = { Scanning };
+
+    ghost view = { λ s. record { to = s.to; stream = s.stream; shape = s.shape } };
+
+    ghost invariant = { λ s. IfSome s.shape IsShape };
+}
+
+/// IEC 61883-6 has no such sample rate, or it is not that of the first packet.
+fn is_other_rate(first: Shape, rate: u32) -> bool
+    ensures { result ≡ other_rate first rate }
+{
+    fdf_of(rate).is_none() || rate != first.rate
+}
+
+/// The first fault of a packet of samples, after a first packet of this shape.
+fn fault_of(to: To, first: Shape, samples: &Samples) -> Option<ScanFault>
+    ensures { result ≡ first_of (fault_rows to first samples.now) }
+{
+    if samples.format == to {
+        return Some(ScanFault::Kind);
+    }
+    if !samples.whole {
+        return Some(ScanFault::Format);
+    }
+    if is_other_rate(first, samples.rate) {
+        return Some(ScanFault::Rate);
+    }
+    if samples.channels > 256 || samples.channels != first.channels {
+        return Some(ScanFault::Channels);
+    }
+    if !samples.linear {
+        return Some(ScanFault::Label);
+    }
+    None
+}
+
+impl Samples {
+    fn shape(&self) -> Shape
+        ensures { result ≡ shape_of self.now }
+    {
+        Shape {
+            rate: self.rate,
+            channels: self.channels,
+        }
+    }
+}
+
+impl Scan {
+    /// A scan for what of the stream with this id cannot be turned into the format.
+    pub fn new(to: To, stream: u64) -> Self
+        ensures { HasScanned to stream [] result }
+    {
+        Scan {
+            to,
+            stream,
+            shape: None,
+        }
+    }
+
+    /// Looks at the next record of a capture, by its bytes. Of the stream's packets only those are looked at that have samples
+    /// and a known rate and that their reader accepts: others are never presented. A packet of H.264 is a fault, whether it is
+    /// well formed or not. After a fault nothing is promised of the scan.
+    ///
+    /// The fault is the first of these that holds: `Kind`, `Format`, `Rate`, `Channels`, `Label`.
+    pub fn note(&mut self, bytes: &[u8]) -> Result<(), ScanFault>
+        ensures scanned { OnOk result ((to : To) (stream : ℕ) (records : List Record) (r : Record) → r.bytes ≡ bytes.now → HasScanned to stream records self.old → HasScanned to stream (records ++ r ∷ []) self.new) }
+        ensures fault { IfErr result (λ fault. (to : To) (stream : ℕ) (records others : List Record) (r : Record) → r.bytes ≡ bytes.now → HasScanned to stream records self.old → first_fault to stream (records ++ r ∷ others) ≡ Some (record { frame = suc (length records); fault = fault })) }
+    {
+        match content_of(self.stream, bytes) {
+            Content::Silent => Ok(()),
+            Content::Video => Err(ScanFault::Kind),
+            Content::Audio(samples) => self.note_samples(&samples),
+        }
+    }
+
+    /// Looks at a packet of samples.
+    fn note_samples(&mut self, samples: &Samples) -> Result<(), ScanFault>
+        requires { 1 ≤ samples.now.channels }
+        ensures kept { (self.new.to ≡ self.old.to) × (self.new.stream ≡ self.old.stream) }
+        ensures shape { OnOk result (self.new.shape ≡ shape_after self.old.shape (Content.Audio samples.now)) }
+        ensures none { OnOk result (content_fault self.old.to self.old.shape (Content.Audio samples.now) ≡ None) }
+        ensures fault { IfErr result (λ fault. content_fault self.old.to self.old.shape (Content.Audio samples.now) ≡ Some fault) }
+    {
+        let first = self.shape.unwrap_or(samples.shape());
+        if let Some(fault) = fault_of(self.to, first, samples) {
+            return Err(fault);
+        }
+        self.shape = Some(first);
+        Ok(())
+    }
+
+    /// The sample rate and the channels of the stream's packets; `None` if no packet of samples came.
+    pub fn shape(&self) -> Option<Shape>
+        ensures exact { (to : To) (stream : ℕ) (records : List Record) → HasScanned to stream records self.now → result ≡ shape_in stream records }
+        ensures sound { IfSome result IsShape }
+    {
+        self.shape
+    }
+}
