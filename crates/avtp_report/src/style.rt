@@ -53,5 +53,9 @@ dt { color: var(--faint); } dd { margin: 0; }
   body { padding: 1rem .8rem 2rem; }
 }
 @media print { :root { --paper: #fff; --ink: #000; --faint: #444; --line: #bbb; --card: #f4f4f4; --lead: #1f5fa8; --gap: #2f7d4f;
-  --loss: #c62f2f; --bad: #a32222; --good: #2f7d4f; } body { font-size: 10pt; max-width: none; } svg { height: 5rem; } }
+  --loss: #c62f2f; --bad: #a32222; --good: #2f7d4f; } body { font-size: 10pt; max-width: none; padding: 0; } svg { height: 4rem; }
+  @page { margin: 15mm; } h2, h3, .key { break-after: avoid; } ul.verdicts > li, figure { break-inside: avoid; }
+  h2 { margin-top: 1.2rem; } section.stream { padding: .6rem 0 .3rem; } figure { margin-top: .3rem; }
+  table { font-size: 7.5pt; } tr { grid-template-columns: repeat(6, 1fr); } td::before { font-size: 6.5pt; }
+  .key span, ul.verdicts > li, svg { print-color-adjust: exact; -webkit-print-color-adjust: exact; } }
 ";

@@ -163,18 +163,28 @@ fn first_point(view: &CrfView<'_>) -> Option<Stamp> {
     Some(Stamp::Long(point(view, 0)))
 }
 
+impl Labels {
+    /// Counts one more label, unless it is 0x40.
+    fn note(&mut self, label: u8) {
+        if label == PLAIN_LABEL {
+            return;
+        }
+        self.other = self.other.saturating_add(1);
+        if is_reserved_label(label) {
+            if self.reserved == 0 {
+                self.first_reserved = label;
+            }
+            self.reserved = self.reserved.saturating_add(1);
+        }
+    }
+}
+
 /// The labels of quadlets, one after the other.
 fn labels_in(quadlets: &[u8]) -> Labels {
     let mut labels = NO_LABELS;
-    for (place, byte) in quadlets.iter().enumerate() {
-        if place % 4 == 0 && *byte != PLAIN_LABEL {
-            labels.other = labels.other.saturating_add(1);
-            if is_reserved_label(*byte) {
-                if labels.reserved == 0 {
-                    labels.first_reserved = *byte;
-                }
-                labels.reserved = labels.reserved.saturating_add(1);
-            }
+    for quadlet in quadlets.chunks_exact(4) {
+        if let Some(label) = quadlet.first().copied() {
+            labels.note(label);
         }
     }
     labels

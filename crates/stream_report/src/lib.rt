@@ -19,7 +19,7 @@ pub use facts::{Facts, Format, Labels, aaf_facts, crf_facts, h264_facts, iec_fac
 pub use others::{Other, OtherCount, Others, other_frame, unread_format};
 pub use pace::{Advance, Miss, Misses, Pace, Stamp, Stamped};
 pub use rate::Rate;
-pub use sequence::{Place, Window};
+pub use sequence::{Place, Window, places_tell_what_is_lost};
 pub use spread::Spread;
 pub use stream::{FieldCount, Noted, Sender, Stream, StreamKey};
 pub use tally::{At, Tally};

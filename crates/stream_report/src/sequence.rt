@@ -1,17 +1,24 @@
 //! The place of a packet among those of its stream, by its sequence number.
 
-ghost use Rattle.std.specs.Prelude.{◌≡◌, ◌+◌, ◌-◌, ◌≤◌, ◌<◌, ◌⊎◌};
-ghost use Rattle.stream_report.specs.Sequence.{ahead_of};
+ghost use Rattle.std.specs.Prelude.{◌≡◌, ◌==◌, ◌%◌, ◌≤◌, ◌<◌, ℕ, List, [], ◌∷◌};
+ghost use Rattle.std.specs.Int.{bit_at};
+ghost use Rattle.stream_report.specs.Sequence.{Follows, Passes, Returns, StandsFor, ahead_of, greatest, lost, lost_with, place_of};
+ghost use Rattle.stream_report.specs.state.Bits.{Moves, Marks};
 
 /// A sequence number this far ahead or less is one that follows; one further is one that came before.
 const FARTHEST: u8 = 192;
 
+/// The packets before the newest of which it is known whether they have come, and the newest itself.
+const KNOWN: u64 = 64;
+
 /// The newest sequence number of a stream, and which of the 64 up to it have come.
 #[derive(Clone, Copy)]
 pub struct Window {
-    pub newest: u8,
+    newest: u8,
     /// Bit `i` is set where the number `i` before the newest has come.
-    pub came: u64,
+    came: u64,
+    /// How far before the newest number the first one is, counted up to 64.
+    begin: u64,
 }
 
 /// The place of a packet.
@@ -19,8 +26,10 @@ pub struct Window {
 pub enum Place {
     /// Right after the newest packet, or ahead of it with packets missing between.
     Ahead { missing: u8 },
-    /// Before the newest packet, where none had come: it is late, and was counted as missing.
+    /// Between the first packet and the newest, where none had come: it is late, and was counted as missing.
     Late,
+    /// Before the first packet, where none had come: it is late, and was not counted as missing.
+    Early,
     /// Where one has come already.
     Repeat,
 }
@@ -28,18 +37,19 @@ pub enum Place {
 impl Window {
     /// The window of a stream whose first packet has this number.
     pub fn first(seq: u8) -> Self
-        ensures { result.newest ≡ seq }
+        ensures stands { (first : ℕ) → first % 256 ≡ seq → StandsFor result first [] }
     {
         Window {
             newest: seq,
-            came: u64::MAX,
+            came: 1,
+            begin: 0,
         }
     }
 
     /// The place of a packet with this number.
     pub fn place(&self, seq: u8) -> Place
-        ensures ahead { let ahead = ahead_of self.now.newest seq in 1 ≤ ahead → ahead ≤ 192 → result ≡ Place.Ahead (ahead - 1) }
-        ensures behind { 192 < ahead_of self.now.newest seq → (result ≡ Place.Late) ⊎ (result ≡ Place.Repeat) }
+        ensures place { (first : ℕ) → (later : List ℕ) → (number : ℕ) → StandsFor self.now first later → Follows first later number → number % 256 ≡ seq
+            → result ≡ place_of first later number }
     {
         let ahead = seq.wrapping_sub(self.newest);
         if ahead >= 1 && ahead <= FARTHEST {
@@ -47,36 +57,78 @@ impl Window {
                 missing: ahead.saturating_sub(1),
             };
         }
-        let behind = self.newest.wrapping_sub(seq);
-        if self.came.checked_shr(u32::from(behind)).unwrap_or(1) % 2 == 0 {
-            Place::Late
-        } else {
+        self.place_behind(self.newest.wrapping_sub(seq))
+    }
+
+    /// The place of a packet so far behind the newest.
+    fn place_behind(&self, behind: u8) -> Place
+        ensures place { (first : ℕ) → (later : List ℕ) → (number : ℕ) → StandsFor self.now first later → Returns first later number behind
+            → result ≡ place_of first later number }
+    {
+        if self.has_come(behind) {
             Place::Repeat
+        } else if u64::from(behind) > self.begin {
+            Place::Early
+        } else {
+            Place::Late
         }
+    }
+
+    /// Whether the number so far behind the newest has come.
+    fn has_come(&self, behind: u8) -> bool
+        ensures { behind < 64 → result ≡ (bit_at self.now.came behind == 1) }
+    {
+        self.came.checked_shr(u32::from(behind)).unwrap_or(1) % 2 == 1
     }
 
     /// How far ahead of the newest the number is, from 1 to 256.
     pub fn ahead(&self, seq: u8) -> u64
-        ensures least { 1 ≤ result }
-        ensures most { result ≤ 256 }
+        ensures { result ≡ ahead_of self.now.newest seq }
     {
         u64::from(seq.wrapping_sub(self.newest).wrapping_sub(1)).saturating_add(1)
     }
 
     /// Notes a packet that is ahead.
     pub fn pass(&mut self, seq: u8)
-        ensures { self.new.newest ≡ seq }
+        ensures stands { (first : ℕ) → (later : List ℕ) → (number : ℕ) → StandsFor self.old first later → Passes first later number → number % 256 ≡ seq
+            → StandsFor self.new first (number ∷ later) }
     {
-        let ahead = u32::from(seq.wrapping_sub(self.newest));
-        self.came = self.came.checked_shl(ahead).unwrap_or(0) | 1;
+        let ahead = self.ahead(seq);
+        self.came = moved(self.came, ahead);
+        self.begin = self.begin.saturating_add(ahead).min(KNOWN);
         self.newest = seq;
     }
 
-    /// Notes a packet that came late.
+    /// Notes a packet that came late, or once more.
     pub fn fill(&mut self, seq: u8)
-        ensures { self.new.newest ≡ self.old.newest }
+        ensures stands { (first : ℕ) → (later : List ℕ) → (number : ℕ) → StandsFor self.old first later → Follows first later number
+            → number ≤ greatest first later → number % 256 ≡ seq → StandsFor self.new first (number ∷ later) }
     {
-        let behind = u32::from(self.newest.wrapping_sub(seq));
-        self.came |= 1u64.checked_shl(behind).unwrap_or(0);
+        self.came = marked(self.came, self.newest.wrapping_sub(seq));
+    }
+}
+
+/// A law: where each place is counted as it comes, the count is at any time that of the packets which are lost, so those that
+/// came later, or twice, do not count.
+pub fn places_tell_what_is_lost()
+    ensures { (first : ℕ) → (later : List ℕ) → (number : ℕ)
+        → lost first (number ∷ later) ≡ lost_with (lost first later) (place_of first later number) }
+{}
+
+/// The bits of what has come, when the newest number is one that is so far ahead.
+fn moved(came: u64, ahead: u64) -> u64
+    ensures { 1 ≤ ahead → Moves came ahead result }
+{
+    if ahead < KNOWN { came << ahead | 1 } else { 1 }
+}
+
+/// The bits of what has come, and of the number so far behind the newest.
+fn marked(came: u64, behind: u8) -> u64
+    ensures { behind < 64 → Marks came behind result }
+{
+    if u64::from(behind) < KNOWN {
+        came | 1 << behind
+    } else {
+        came
     }
 }

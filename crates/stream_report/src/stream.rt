@@ -136,6 +136,8 @@ enum Step {
     /// So many are missing before it.
     After(u64),
     Late,
+    /// It is from before the stream's first packet, so it was not counted as missing.
+    Early,
     Repeat,
 }
 
@@ -205,7 +207,7 @@ impl Stream {
         self.note_kind(noted);
         let step = self.step(noted.seq, distance);
         let lost = self.note_step(noted.at, step);
-        if step != Step::Repeat && step != Step::Late {
+        if matches!(step, Step::First | Step::Next | Step::After(_)) {
             self.note_order(noted, step, distance);
         }
         let lead = if step == Step::Repeat {
@@ -299,6 +301,10 @@ impl Stream {
                 window.fill(seq);
                 Step::Late
             }
+            Place::Early => {
+                window.fill(seq);
+                Step::Early
+            }
             Place::Repeat => Step::Repeat,
         }
     }
@@ -314,6 +320,10 @@ impl Stream {
             }
             Step::Late => {
                 self.lost.take_back();
+                self.reordered.note(at);
+                0
+            }
+            Step::Early => {
                 self.reordered.note(at);
                 0
             }
@@ -426,12 +436,13 @@ impl Stream {
             count: facts.count,
         };
         let advance = self.pace.note(stamped, self.rate);
-        self.note_trend(noted, stamp, advance == Advance::Missed || restarted);
+        let advance = if restarted { Advance::Missed } else { advance };
+        self.note_trend(noted, stamp, advance);
     }
 
     /// Adds a timestamp to the line of the drift, by the lead of its packet's first event. Where the timestamps step, the line
-    /// goes on as it was.
-    fn note_trend(&mut self, noted: &Noted, stamp: Stamp, steps: bool) {
+    /// goes on as it was. A timestamp that advances by its packets' time is no step, however late its packet arrives.
+    fn note_trend(&mut self, noted: &Noted, stamp: Stamp, advance: Advance) {
         let before_anchor = match self.rate {
             Some(rate) => rate.time_of(u64::from(noted.facts.anchor)),
             None => 0,
@@ -443,8 +454,12 @@ impl Stream {
             Some(before) => stamp.wrapped(lead.saturating_sub(before)),
             None => 0,
         };
-        let steps = steps || change.unsigned_abs() > LEAST_STEP;
-        let change = if steps { 0 } else { change };
+        let goes_on = match advance {
+            Advance::Even if self.rate.is_some() => true,
+            Advance::Even | Advance::Begun => change.unsigned_abs() <= LEAST_STEP,
+            Advance::Missed => false,
+        };
+        let change = if goes_on { change } else { 0 };
         self.last_lead = Some(lead);
         let since = noted.arrival.saturating_sub(self.first_arrival);
         self.trend.note(u64::try_from(since).unwrap_or(0), change);
