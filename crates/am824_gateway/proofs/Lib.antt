@@ -2,3 +2,4 @@ pub mod ScanLemmas
 pub mod ListLemmas
 pub mod PieceLemmas
 pub mod GatewayLemmas
+pub mod HistoryLemmas

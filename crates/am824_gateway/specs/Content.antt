@@ -7,7 +7,7 @@ use Rattle.aaf_format.specs.Aaf.{Aaf, aaf_of, aaf_refusal, aaf_subtype, rate_of}
 use Rattle.iec61883_format.specs.Iec.{Iec, iec_of, iec_refusal, rate_of_fdf}
 use Rattle.cvf_format.specs.Cvf.{cvf_subtype}
 use Rattle.packet_journal.specs.Deliveries.{belongs, stream_kinds}
-use Rattle.am824_gateway.specs.Streams.{PacketOfStream, stream_packet}
+use Rattle.listener.specs.Streams.{PacketOfStream, stream_packet}
 use Rattle.am824_gateway.specs.declared.content.Content.{Content}
 use Rattle.am824_gateway.specs.declared.content.Content.TheVariants.{Silent, Video, Audio}
 use Rattle.am824_gateway.specs.declared.content.Samples.{Samples}

@@ -1,4 +1,3 @@
-pub mod Streams
 pub mod Labels
 pub mod Content
 pub mod Scan

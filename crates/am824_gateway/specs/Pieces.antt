@@ -151,3 +151,8 @@ given_with to shape given batch = record {
 abbrev pub unless : {T : Type 0} → Option Skip → T → T → T
 unless None given skipped = given
 unless (Some skip) given skipped = skipped
+
+-- what was given out after these batches too, of which those that are skipped change nothing
+abbrev pub given_by : To → Shape → Given → List Presented → Given
+given_by to shape given [] = given
+given_by to shape given (batch ∷ batches) = given_by to shape (unless (skip_by to shape given batch) (given_with to shape given batch) given) batches

@@ -3,12 +3,12 @@
 ghost use Rattle.std.specs.Prelude.{◌≡◌, ◌≤◌};
 ghost use Rattle.aaf_format.specs.Aaf.{Aaf, aaf_of, aaf_refusal, aaf_shape};
 ghost use Rattle.iec61883_format.specs.Iec.{Iec, iec_of, iec_refusal, iec_shape};
-ghost use Rattle.am824_gateway.specs.Streams.{stream_packet_shape};
+ghost use Rattle.listener.specs.Streams.{stream_packet_shape};
 ghost use Rattle.am824_gateway.specs.Content.{IsCounted, am824 as am824_samples_of, am824_content as am824_content_of, content, packet_content as packet_content_of, pcm as pcm_samples_of, pcm_content as pcm_content_of, samples_or_silent};
 
 use crate::labels::are_linear;
 use crate::scan::To;
-use crate::stream_packet::{StreamPacket, packet_of_stream};
+use listener::{StreamPacket, packet_of_stream};
 use aaf_format::{AafFormat, AafView, rate_of, read_aaf};
 use avtp_header::subtype;
 use iec61883_format::{IecView, rate_of_fdf, read_iec};

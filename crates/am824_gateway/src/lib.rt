@@ -4,12 +4,12 @@
 mod content;
 mod gateway;
 mod labels;
+pub mod laws;
 mod packet;
 mod piece;
 mod rates;
 mod scan;
 mod skip;
-mod stream_packet;
 
 pub use gateway::Gateway;
 pub use piece::Piece;

@@ -23,6 +23,6 @@ told sink = told_while (keeps_all sink) (kept sink)
 -- What a write does beside what it does on each sink: it took the whole piece, and what fits the room is kept of it.
 pub record TakesQuietly (old new : QuietSink) (piece : List ℕ) (result : Result ℕ Failed) : Type 0 where
   pub whole : result ≡ Ok (length piece)
-  pub kept : kept new ≡ kept_within (room_of old) (kept old) piece
   pub all : IsTrue (keeps_all new) ↔ IsTrue (keeps_all old) × FitsRoom (room_of old) (kept old) piece
   pub room : room_of new ≡ room_of old
+  pub kept : kept new ≡ kept_within (room_of old) (kept old) piece

@@ -9,14 +9,13 @@ mod host;
 mod program;
 mod system;
 
-pub use host::Host;
-pub use program::run_over;
-pub use system::System;
-
 use avtp_files::{FileShelf, StdSink};
 use avtp_tool::Status;
+pub use host::Host;
+pub use program::run_over;
 use std::process::ExitCode;
 use std::thread::Threads;
+pub use system::System;
 
 /// Does what the arguments ask for, over real files and standard output, and answers the exit status.
 pub fn run_program<T: Threads + Sync>(rt: &HostRuntime, threads: &T) -> ExitCode

@@ -38,7 +38,7 @@ headline_of : (request : Request) (files : Files) (failed : Bool) (yields : Yiel
 headline_of request files failed yields asked name bytes shift p whole hears =
     let same : yields ≡ yield_for (Rattle.avtp_words.specs.Grammar.listen asked) files failed = whole ∙ ap (λ (q : Request). yield_for q files failed) hears.listens in
     subst (HasHeadline asked name shift p bytes) (sym same)
-      (has_headline asked files failed hears.earlier hears.later name bytes shift p hears.named hears.done hears.told hears.fits hears.hears)
+    (has_headline asked files failed hears.earlier hears.later name bytes shift p hears.named hears.done hears.told hears.fits hears.hears)
 
 reports_of : {request : Request} {handed : List Shown → Type 0} {failed : Bool} {shelf shelf' : ShelfState} {out mid out' : SinkState} {w w1 w2 : List ℕ} {r : Result Status Failed} {ended : Status}
     → w ≡ [] → Runs request handed failed shelf shelf' out mid w w1 r → Finishes mid out' w1 w2 r ended → Grows out.held out'.held
@@ -51,17 +51,17 @@ reports_of {request} {handed} {failed} {shelf} {shelf'} {out} {mid} {out'} {w} {
       yields = tells.yields;
       outcome = tells.outcome;
       whole = λ memory write.
-        let done = finishes.whole write in
-        let all = subst (λ (q : Result Status Failed). IfOk q (λ s. s ≢ status.Memory → s ≢ status.WriteFault
-            → (s ≡ tells.ended) × Gives handed (written out.held w) (written mid.held w1) tells.yields × Asks tells.came shelf shelf')) done.0 tells.whole memory write in
-        (all.0, flushed _ _ _ _ _ _ none done.1 all.1.text finishes.kept, all.1.items, all.2);
+          let done = finishes.whole write in
+          let all = subst (λ (q : Result Status Failed). IfOk q (λ s. s ≢ status.Memory → s ≢ status.WriteFault
+          → (s ≡ tells.ended) × Gives handed (written out.held w) (written mid.held w1) tells.yields × Asks tells.came shelf shelf')) done.0 tells.whole memory write in
+          (all.0, flushed _ _ _ _ _ _ none done.1 all.1.text finishes.kept, all.1.items, all.2);
       written = gains_prefix _ _ _ _ _ tells.yields.text none tells.part.text finishes.kept grown;
       items = tells.part.front;
       first = tells.part.first;
       given = tells.part.items;
       complete = λ quiet. complete_of request files _ failed tells.came tells.ended tells.yields (quiet_not _ _ quiet) tells.outcome;
       headline = λ quiet asked name bytes shift p hears.
-        headline_of request files failed tells.yields asked name bytes shift p
+          headline_of request files failed tells.yields asked name bytes shift p
           (complete_of request files _ failed tells.came tells.ended tells.yields (quiet_not _ _ quiet) tells.outcome).2 hears;
     }
 
@@ -108,8 +108,8 @@ has_run {request} {handed} {still} {failed} {shelf} {shelf'} {out} {mid} {out'} 
           | inr other ↦ elim other [
             | inl failed ↦ inr (runs.writing.failed failed)
             | inr rose ↦ inl (omega (arith, rose, runs.sink.counted.never_falls))
-            ]
-          ];
+          ]
+        ];
         not_write = λ write. (
           finishes.quiet write ∙ (subst (λ (q : Result Status Failed). IsCounted out.faults mid.faults q) (finishes.whole write).0 runs.sink.counted).ok,
           runs.writing.other (not_ended ended status.WriteFault (finishes.whole write).0 write),
@@ -177,8 +177,8 @@ refuses_words {position} {still} {out} {mid} {out'} {w} {w1} {w2} {r} {ended} no
         | inr other ↦ elim other [
           | inl failed ↦ absurd (offence_ends status.WriteFault (λ e. cc) ends failed)
           | inr rose ↦ omega (arith, rose, ends.sink.counted.never_falls)
-          ]
-        ];
+        ]
+      ];
       not_write = λ write. finishes.quiet write ∙ (subst (λ (q : Result Status Failed). IsCounted out.faults mid.faults q) (finishes.whole write).0 ends.sink.counted).ok;
     }
 

@@ -8,7 +8,7 @@ use Rattle.avtp_base.specs.Faults.{IsOpenCounted, Rose}
 use Rattle.avtp_base.specs.Files.{Files}
 use Rattle.avtp_base.specs.States.{SinkState}
 use Rattle.talk_plan.specs.declared.fault.TalkFault.{TalkFault}
-use Rattle.talker.specs.declared.fault.TalkFault.TheVariants as fault
+use Rattle.talk_plan.specs.declared.fault.TalkFault.TheVariants as fault
 use Rattle.talk_plan.specs.declared.plan.TalkPlan.{TalkPlan}
 use Rattle.talker.specs.Faults.{fault_of}
 use Rattle.talk_plan.specs.Plan.{most_input}

@@ -16,7 +16,7 @@ use Rattle.avtp_text.specs.Notices.{limit_line, read_fault_line}
 use Rattle.avtp_text.specs.Talk.{talk_input_line, talk_line}
 use Rattle.avtp_tool.specs.declared.status.Status.{Status}
 use Rattle.avtp_tool.specs.declared.status.Status.TheVariants as status
-use Rattle.talker.specs.declared.fault.TalkFault.TheVariants as fault
+use Rattle.talk_plan.specs.declared.fault.TalkFault.TheVariants as fault
 
 -- the kind that the words ask for, as a talker has it
 abbrev pub talk_kind : Kind → TalkKind

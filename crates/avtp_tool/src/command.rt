@@ -37,7 +37,7 @@ pub fn run<T: Threads + Sync, F: Shelf + Send, S: Sink + Send, G: Gate, D: Devic
 ) -> Status
     ensures has_run { (request : Request) → IsCommandLine (texts words.now) request →
         HasRun request (HandsOn D.handed rack.old rack.new) (rack.new ≡ rack.old) (nat_lt (D.failures rack.old) (D.failures rack.new))
-            (F.state shelf.old) (F.state shelf.new) (S.state out.old) (S.state out.new) result }
+        (F.state shelf.old) (F.state shelf.new) (S.state out.old) (S.state out.new) result }
     ensures refuses { (position : ℕ) → IsOffence (texts words.now) position →
         RefusesWords position ((shelf.new ≡ shelf.old) × (rack.new ≡ rack.old)) (S.state out.old) (S.state out.new) result }
     ensures only_words { result ≡ Status.Words → (position : ℕ) × IsOffence (texts words.now) position }

@@ -24,3 +24,4 @@ pub mod Welcome
 pub mod ClockWelcome
 pub mod UnitWelcome
 pub mod TrueHeadline
+pub mod Belonging

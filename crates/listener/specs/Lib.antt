@@ -1,3 +1,4 @@
+pub mod Streams
 pub mod Units
 pub mod Items
 pub mod Heard

@@ -4,8 +4,10 @@ ghost use Rattle.std.specs.Prelude.{◌≡◌, ◌==◌, ◌||◌, Bool, false, 
 ghost use Rattle.std.specs.List.{list_any};
 ghost use Rattle.pcap_frames.specs.Reading.{shown};
 ghost use Rattle.avtp_header.specs.declared.header.Peeked.{Peeked as PeekedFields};
-ghost use Rattle.packet_journal.specs.Deliveries.{clock_kinds, delivery, is_delivered, is_wanted, stream_kinds};
-ghost use Rattle.listener.specs.state.Views.{delivery_shape, is_of_clock as is_of_clock_by};
+ghost use Rattle.avtp_header.specs.Header.{peeked_of};
+ghost use Rattle.packet_journal.specs.Deliveries.{belongs, clock_kinds, delivery, is_avtp, is_delivered, is_wanted, packet_in, stream_kinds};
+ghost use Rattle.listener.specs.Streams.{stream_packet, stream_packet_shape};
+ghost use Rattle.listener.specs.state.Views.{avtp_shape, delivery_shape, is_of_clock as is_of_clock_by};
 
 use crate::plan::ListenPlan;
 use avtp_header::{ETHERTYPE, Peeked, peek, subtype};
@@ -24,6 +26,40 @@ pub struct DeliveryView<'a> {
     pub seq: u8,
     /// The AVTP packet.
     pub packet: &'a [u8],
+}
+
+/// A packet of a stream.
+#[derive(Clone, Copy, Debug)]
+pub struct StreamPacket<'a> {
+    /// Its subtype: IEC 61883, AAF or CVF.
+    pub subtype: u8,
+    /// The AVTP packet, with all that follows it in the frame.
+    pub bytes: &'a [u8],
+}
+
+/// A packet of AVTP that has a stream id, whether that is valid or not.
+#[derive(Clone, Copy)]
+pub(crate) struct AvtpPacket<'a> {
+    pub peeked: Peeked,
+    pub bytes: &'a [u8],
+}
+
+/// The packet of a readable Ethernet frame of AVTP, if it reaches to the end of a stream id.
+#[inline(always)]
+fn avtp_packet(frame: &[u8]) -> Option<AvtpPacket<'_>>
+    ensures { option_map avtp_shape result ≡ (if is_avtp frame.now then Some (record { peeked = peeked_of (packet_in frame.now); bytes = packet_in frame.now }) else None) }
+{
+    let Ok(ethernet) = read_frame(frame) else {
+        return None;
+    };
+    if ethernet.ethertype != ETHERTYPE {
+        return None;
+    }
+    let peeked = peek(ethernet.payload)?;
+    Some(AvtpPacket {
+        peeked,
+        bytes: ethernet.payload,
+    })
 }
 
 /// The packet is of a kind that streams consist of and that is read.
@@ -46,6 +82,23 @@ fn is_of_clock(clock: Option<u64>, peeked: Peeked) -> bool
         Some(id) => peeked.subtype == subtype::CRF && peeked.sv && peeked.stream_id == id,
         None => false,
     }
+}
+
+/// The packet in a record's bytes, if the record belongs to the stream with this id: it is a readable Ethernet frame of
+/// AVTP, with a packet of IEC 61883, AAF or CVF, and with a stream id that is valid and this one. Whether the packet is well
+/// formed is not asked. A listener of the stream takes the same records.
+#[inline(always)]
+pub fn packet_of_stream(stream: u64, frame: &[u8]) -> Option<StreamPacket<'_>>
+    ensures { option_map stream_packet_shape result ≡ (if belongs stream_kinds stream frame.now then Some (stream_packet frame.now) else None) }
+{
+    let packet = avtp_packet(frame)?;
+    if !is_of_stream(stream, packet.peeked) {
+        return None;
+    }
+    Some(StreamPacket {
+        subtype: packet.peeked.subtype,
+        bytes: packet.bytes,
+    })
 }
 
 /// The record as a delivery of the plan's stream or of its clock, if it belongs to one of them: a readable Ethernet

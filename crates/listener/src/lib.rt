@@ -14,6 +14,7 @@ mod record_listener;
 mod units;
 
 pub use capture::whole;
+pub use delivery::{StreamPacket, packet_of_stream};
 pub use heard::{Counts, Heard, ShownList};
 pub use listener::{ListenFault, Listener};
 pub use plan::ListenPlan;

@@ -124,11 +124,11 @@ inside_of j part is from to (suc k) inner known low high begins = inner k (omega
 unit_of : (j : Journal) (part : ℕ → Part) → IsVideo j part → (from to : ℕ) → from ≤ to → to < j.packets → Begins (part from) → Ends (part to) → AreOpen part from to → AreUnit part from to
 unit_of j part is from to order known begins ends inner = elim (cases_lt from to) [
   | inl some ↦ inr (record {
-      some = some;
-      first = first_of (part from) begins (inner from (omega arith) some);
-      middle = λ k low high. middle_of (part k) (inside_of j part is from to k inner known low (omega arith)) (inner k (omega arith) high);
-      last = last_of (part to) (inside_of j part is from to to inner known some (omega arith)) ends;
-    })
+    some = some;
+    first = first_of (part from) begins (inner from (omega arith) some);
+    middle = λ k low high. middle_of (part k) (inside_of j part is from to k inner known low (omega arith)) (inner k (omega arith) high);
+    last = last_of (part to) (inside_of j part is from to to inner known some (omega arith)) ends;
+  })
   | inr one ↦
       let same : from ≡ to = omega arith in
       inl (same, single_of (part to) (subst (λ (i : ℕ). Begins (part i)) same begins) ends)

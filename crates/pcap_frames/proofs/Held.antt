@@ -1,7 +1,6 @@
 -- What it means that a reader holds a record, or is refused.
 use Rattle.std.proofs.Common.{◌≡◌, ℕ, ◌+◌, ◌≤◌, false, cond, List, [], ◌∷◌, ◌++◌, length, Option, Some, None, IsSome, refl, sym, ap, subst, ◌∙◌, arith, is_none, inl, inr, append_assoc, length-append}
-use Rattle.std.specs.Option.{option_to_list}
-use Rattle.std.specs.Prelude.{IfSome, Result, Ok, Err}
+use Rattle.std.specs.Prelude.{IfSome, Result, Ok, Err, option_to_list}
 use Rattle.std.specs.Result.{result_err}
 use Rattle.avtp_base.specs.declared.refusal.Refusal.{Refusal}
 use Rattle.pcap_frames.specs.declared.style.Order.{Order}
@@ -95,16 +94,13 @@ records_are r bytes records h = (holds_one bytes _ _ _ _ (ends r bytes records h
 pub uncertain : (r : Reading) (bytes : List ℕ) (records : List Record) → r.refusal ≡ None → HasRead r bytes records → certain (first_refusal bytes) ≡ None
 uncertain r bytes records none h = ap certain (sym (ending_is r bytes records h)) ∙ uncertain_by r.refusal r.style r.start r.part none h.reading
 
-certain_some : (x : Option Refusal) (r : Refusal) → x ≡ Some r → r.short ≡ false → certain x ≡ Some r
-certain_some x r is sure = rw (is, sure) refl
-
 refused_sure : (r : Reading) (why : Refusal) (bytes more : List ℕ) (records : List Record) → r.refusal ≡ Some why → HasRead r bytes records
     → IsRefusedAfter meaning (bytes ++ more) records why
 refused_sure r why bytes more records is h =
     let holds = refused_for_good r.refusal r.style r.start r.part why bytes more records is h in
     let one = holds_one (bytes ++ more) (whole_records (bytes ++ more)) records (first_refusal (bytes ++ more)) (Some why) (holds_whole (bytes ++ more)) holds in
     let long : why.short ≡ false = subst (λ (x : Option Refusal). IsReading x r.style r.start r.part) is h.reading in
-    record { all = one.0; certain = certain_some (first_refusal (bytes ++ more)) why one.1 long }
+    record { all = one.0; certain = rw (one.1, long) refl }
 
 pub is_sure : (r : Reading) → IsSure meaning (progress r)
 is_sure r = record {

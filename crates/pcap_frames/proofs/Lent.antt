@@ -84,10 +84,13 @@ next_feeds r piece size within next =
         refused = tt;
         stopped = tt;
       };
-      nothing = (λ zero. absurd (omega (arith, zero, some, long)), λ either. elim either [
-        | inl empty ↦ absurd (omega (arith, empty, some, long, within))
-        | inr is ↦ absurd (none_some (held r) (free_held r.refusal r.style r.start r.part next.untaken) is)
-      ]);
+      nothing = (
+        λ zero. absurd (omega (arith, zero, some, long)),
+        λ either. elim either [
+          | inl empty ↦ absurd (omega (arith, empty, some, long, within))
+          | inr is ↦ absurd (none_some (held r) (free_held r.refusal r.style r.start r.part next.untaken) is)
+        ],
+      );
       end = λ less. next.whole;
     }) (is_sure new)
 

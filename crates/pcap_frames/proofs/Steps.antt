@@ -1,7 +1,6 @@
 -- How a reader goes on.
 use Rattle.std.proofs.Common.{◌≡◌, ℕ, ◌+◌, ◌-◌, ◌<◌, false, cond, List, [], ◌++◌, length, take, drop, Option, Some, None, IsSome, Result, Ok, Err, refl, sym, ap, subst, ◌∙◌, arith, is_none, inl, inr, append_assoc, length-append}
-use Rattle.std.specs.Option.{option_to_list}
-use Rattle.std.specs.Prelude.{◌≤◌, IfSome}
+use Rattle.std.specs.Prelude.{◌≤◌, IfSome, option_to_list}
 use Rattle.std.proofs.lemmas.List.{append-nil, take_all, take-append-drop, length-drop}
 use Rattle.std.proofs.Math.Seq.{take-add}
 use Rattle.avtp_base.specs.declared.refusal.Refusal.{Refusal}

@@ -7,7 +7,7 @@ ghost use Rattle.pcap_frames.specs.Capture.{Record, Holds, style_of};
 ghost use Rattle.pcap_frames.specs.Readers.{Ends, Feeds, Releases, Views, shown};
 ghost use Rattle.pcap_frames.specs.state.Readers.{Accepts, Advances, Steps};
 ghost use Rattle.pcap_frames.specs.Reading.{HasRead, IsNext, IsPart, Passes, held, meaning, nothing_read, progress, taken, with_part};
-ghost use Rattle.pcap_frames.specs.state.Reading.{Fills, ending};
+ghost use Rattle.pcap_frames.specs.state.Reading.{Fills, IsBefore, ending};
 ghost use Rattle.std.specs.Prelude.{ℕ, List, IfSome, IsSome, is_some, ◌≡◌, ◌+◌, ◌<◌, ◌≤◌, ◌^◌, ◌++◌, false, length, take, None, Some, IfOk, [], vec_capacity};
 
 use crate::layout::{self, FILE_HEADER, RECORD_HEADER, RECORD_LIMIT};
@@ -95,8 +95,7 @@ impl Reader {
 
     /// Takes bytes up to the end of the file header, and from there up to the end of the first record.
     fn feed_first(&mut self, piece: &[u8]) -> Result<usize, Refusal>
-        requires accepts { Accepts (progress self.old) piece.now }
-        requires header { self.old.style ≡ None }
+        requires { IsBefore None self.old piece.now }
         ensures { Advances (progress self.old) piece.now result (progress self.new) }
     {
         let header = self.feed_header(piece)?;
@@ -111,8 +110,7 @@ impl Reader {
 
     /// Takes bytes up to the end of the file header.
     fn feed_header(&mut self, piece: &[u8]) -> Result<usize, Refusal>
-        requires accepts { Accepts (progress self.old) piece.now }
-        requires header { self.old.style ≡ None }
+        requires { IsBefore None self.old piece.now }
         ensures some { IfOk result (λ n. 0 < length piece.now → 0 < n) }
         ensures end { IfOk result (λ n. n < length piece.now → IsSome self.new.style) }
         ensures steps { Steps (progress self.old) piece.now result (progress self.new) }
@@ -136,8 +134,7 @@ impl Reader {
 
     /// Takes bytes up to the end of a record.
     fn feed_record(&mut self, style: Style, piece: &[u8]) -> Result<usize, Refusal>
-        requires accepts { Accepts (progress self.old) piece.now }
-        requires style { self.old.style ≡ Some style }
+        requires { IsBefore (Some style) self.old piece.now }
         ensures { Advances (progress self.old) piece.now result (progress self.new) }
     {
         match fill_record(style.order, self.start, &mut self.part, piece) {

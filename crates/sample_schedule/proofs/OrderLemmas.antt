@@ -8,7 +8,6 @@ use Rattle.std.proofs.lemmas.List.Elements.{filter-append}
 use Rattle.sample_schedule.specs.declared.accepted.Accepted.{Accepted}
 use Rattle.sample_schedule.specs.Order.{between, by_instant, due_of, left_of, put_behind, standing}
 use Rattle.sample_schedule.specs.Verdicts.{total_bytes}
-
 -- ---- tests
 pub use Rattle.sorted_keys.proofs.Comparing.{le_false, le_true, lt_false, lt_true}
 

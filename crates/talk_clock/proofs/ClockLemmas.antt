@@ -94,13 +94,6 @@ few_points c is =
     let beat = is_beat c.plan c.crf is.plan is.clock in
     omega (arith, few_frames c is, few_by (points_for c.crf c.plan c.stream) (spacing_of c.crf c.plan.rate) (c.stream * c.plan.count) beat.some refl)
 
--- one more of numbers that are counted
-pub map_more : {X : Type 0} (f : ℕ → X) (a i : ℕ) → map f (range_with_len a (suc i)) ≡ map f (range_with_len a i) ++ (f (a + i) ∷ [])
-map_more f a zero = let here : a ≡ a + 0 = omega arith in ap (λ (n : ℕ). f n ∷ []) here
-map_more f a (suc i) =
-    let next : a + 1 + i ≡ a + suc i = omega arith in
-    ap (λ xs. f a ∷ xs) (map_more f (a + 1) i ∙ ap (λ (n : ℕ). map f (range_with_len (a + 1) i) ++ (f n ∷ [])) next)
-
 pub crf_size : (v : Crf) → length (clock_bytes v) ≡ 38 + length v.payload
 unfolding clock_bytes
 crf_size v =

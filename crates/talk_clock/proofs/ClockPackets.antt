@@ -23,7 +23,7 @@ use Rattle.talk_plan.specs.Timing.{nominal_offset, run_start}
 use Rattle.talk_plan.proofs.BeatLemmas.{is_period}
 use Rattle.talk_plan.proofs.StampLemmas.{clock_of, is_beat}
 use Rattle.talk_clock.proofs.ClockLemmas.{first_in, crf_size}
-use Rattle.talk_plan.proofs.TimingLemmas.{rises}
+use Rattle.talk_plan.proofs.CountLemmas.{rises}
 use Rattle.talk_clock.proofs.ClockPoints.{after_point, known, place_of, point_value, run_at, size_is}
 use Rattle.talk_clock.proofs.ClockRules.{point_small}
 

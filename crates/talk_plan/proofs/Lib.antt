@@ -1,3 +1,4 @@
+pub mod CountLemmas
 pub mod RateLemmas
 pub mod RunLemmas
 pub mod TimingLemmas

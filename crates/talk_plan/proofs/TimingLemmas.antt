@@ -126,17 +126,3 @@ rising plan n p =
     let h = not_before (first_instant plan n) (first_instant plan (suc n)) plan.rate (3 * (plan.count * 1000000000) + 16 * plan.rate) (omega arith)
     (let far = apart plan n p in omega arith) in
     rw next (omega arith)
-
--- ---- what rises from each number to the next
-
-rises_by : (g : ℕ → ℕ) → ((k : ℕ) → g k ≤ g (k + 1)) → (a k d : ℕ) → a + d ≡ k → g a ≤ g k
-rises_by g rises a k zero e = let same : a ≡ k = omega arith in rw same (omega arith)
-rises_by g rises a k (suc d) e =
-    let step = rises_by g rises a (a + d) d refl in
-    let next = rises (a + d) in
-    let place : a + d + 1 ≡ k = omega arith in
-    let same : g (a + d + 1) ≡ g k = ap g place in
-    omega arith
-
-pub rises : (g : ℕ → ℕ) → ((k : ℕ) → g k ≤ g (k + 1)) → (a k : ℕ) → a ≤ k → g a ≤ g k
-rises g each a k h = rises_by g each a k (k - a) (omega arith)

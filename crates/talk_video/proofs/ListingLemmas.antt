@@ -13,6 +13,7 @@ use Rattle.talk_video.specs.AccessUnits.{begins, has_slice, may_begin, unit_at}
 use Rattle.talk_video.specs.Fragments.{packets_for}
 use Rattle.talk_video.specs.state.Listing.{IsWalk, is_begun_by, walked}
 use Rattle.talk_video.specs.Streams.{AreInside, IsInside, first_units, unit_in}
+use Rattle.talk_plan.proofs.CountLemmas.{map_more}
 use Rattle.talk_video.proofs.AccessLemmas.{size_of}
 
 -- the first of what is left of a list, and what is left then
@@ -99,12 +100,8 @@ begin_walk bytes = record {
 
 -- ---- the units that are listed
 
-pub one_more : {X : Type 0} (f : ℕ → X) (a n : ℕ) → map f (range_with_len a (suc n)) ≡ map f (range_with_len a n) ++ f (a + n) ∷ []
-one_more {X = X} f a zero = let e : a + 0 ≡ a = omega arith in rw e refl
-one_more {X = X} f a (suc n) = let e : a + suc n ≡ a + 1 + n = omega arith in rw e (ap (λ (xs : List X). f a ∷ xs) (one_more f (a + 1) n))
-
 pub listed_more : (bytes : List ℕ) (i : ℕ) → first_units bytes (suc i) ≡ first_units bytes i ++ unit_in bytes i ∷ []
-listed_more bytes i = let e : 0 + i ≡ i = omega arith in one_more (unit_in bytes) 0 i ∙ ap (λ (k : ℕ). first_units bytes i ++ unit_in bytes k ∷ []) e
+listed_more bytes i = let e : 0 + i ≡ i = omega arith in map_more (unit_in bytes) 0 i ∙ ap (λ (k : ℕ). first_units bytes i ++ unit_in bytes k ∷ []) e
 
 pub inside_more : (bytes : List ℕ) (number : ℕ) (unit : NalUnit) → unit ≡ unit_in bytes number → unit.from < unit.to → unit.to ≤ length bytes
     → AreInside bytes number

@@ -27,7 +27,7 @@ use Rattle.talker.specs.Journal.{Stream}
 use Rattle.talk_plan.specs.Plan.{Expects, IsAhead, IsAudioKind}
 use Rattle.talker.proofs.FrameLemmas.{AllLater, NotBefore, all_of, comes_first, each, each_from, in_order, length_sorted, none_of, numbered, sorted_all}
 use Rattle.talker.proofs.FrameLemmas.{stays_first}
-use Rattle.talk_plan.proofs.TimingLemmas.{rises}
+use Rattle.talk_plan.proofs.CountLemmas.{rises}
 
 abbrev pub packets_in : Stream → ℕ
 packets_in s = s.journal.times.packets

@@ -32,7 +32,7 @@ use Rattle.talker.proofs.AudioLemmas.{audio_stream, stream_in}
 use Rattle.talk_audio.proofs.DueLemmas.{has_head}
 use Rattle.talker.proofs.StreamLemmas.{IsStream, clock_at_number, clock_first, clock_has_spelling, clocks_in, frames_of, in_turn, never_late, packet_first}
 use Rattle.talker.proofs.StreamLemmas.{packets_in}
-use Rattle.talk_plan.proofs.TimingLemmas.{rises}
+use Rattle.talk_plan.proofs.CountLemmas.{rises}
 use Rattle.talker.proofs.VideoLemmas.{video_stream_keeps}
 use Rattle.talk_video.proofs.VideoRules.{sent_are}
 

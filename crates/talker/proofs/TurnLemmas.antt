@@ -22,7 +22,7 @@ use Rattle.talker.specs.Turns.{IsTurn, frame_in, turn_of}
 use Rattle.talker.specs.state.Turns.{SendsPacket, frame_by, packets_by, turn_frame}
 use Rattle.talk_clock.proofs.ClockPackets.{clock_size}
 use Rattle.talker.proofs.StreamLemmas.{IsFrameOf, all_frames, at_place, clock_has_spelling, clocks_in, count_all, frames_of, has_spelling, packets_in}
-use Rattle.talk_plan.proofs.TimingLemmas.{rises}
+use Rattle.talk_plan.proofs.CountLemmas.{rises}
 use Rattle.talker.proofs.TalkLemmas.{IsBeside, IsFirst, IsOf, beside, clock_step, packet_step, source_is}
 
 -- ---- the clock that a talker has

@@ -87,7 +87,10 @@ fn a_capture_is_read_up_to_what_refuses_it(rt: HostRuntime) -> Result<(), Fail> 
         let capture = bytes_of(rt.alloc(), row)?;
         for most in [1usize, 65_536] {
             let found = told(rt.alloc(), &capture, Way { most, ..FREE })?;
-            assert!(rt; found.trim() == wanted, "{row} in pieces of {most}: {found}");
+            assert!(rt;
+                found.trim() == wanted,
+                "{row} in pieces of {most}: {found}"
+            );
         }
     }
     Ok(())

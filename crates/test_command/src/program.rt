@@ -61,9 +61,27 @@ impl System<Counting> for Arguments {
 
 /// Arguments; the status; whether all of the text of `listen` came; and how many bytes the file `x` and the others have.
 const RUNS: [(Option<&str>, Status, bool, u64, u64); 5] = [
-    (Some("listen --raw x --annexb y 0200000000010001 c.pcap"), Status::Done, true, 24, 0),
-    (Some("listen --raw y --annexb x 0200000000010001 c.pcap"), Status::Done, true, 0, 24),
-    (Some("listen 0200000000010001 c.pcap"), Status::Done, true, 0, 0),
+    (
+        Some("listen --raw x --annexb y 0200000000010001 c.pcap"),
+        Status::Done,
+        true,
+        24,
+        0,
+    ),
+    (
+        Some("listen --raw y --annexb x 0200000000010001 c.pcap"),
+        Status::Done,
+        true,
+        0,
+        24,
+    ),
+    (
+        Some("listen 0200000000010001 c.pcap"),
+        Status::Done,
+        true,
+        0,
+        0,
+    ),
     (Some("listen --raw x"), Status::Words, false, 0, 0),
     (None, Status::Memory, false, 0, 0),
 ];
@@ -87,7 +105,10 @@ fn a_program_does_what_its_arguments_ask_for(rt: HostRuntime) -> Result<(), Fail
         let text = str::from_utf8(sink.bytes()).unwrap_or("no text");
         let end = "end frames 1 packets 1 presented 1 flagged 0\n";
         assert!(rt; text.ends_with(end) == whole, "{line:?}: {text}");
-        let counted = (system.x.load(Ordering::SeqCst), system.others.load(Ordering::SeqCst));
+        let counted = (
+            system.x.load(Ordering::SeqCst),
+            system.others.load(Ordering::SeqCst),
+        );
         assert!(rt; counted == (x, others), "{line:?}: {counted:?}");
     }
     Ok(())

@@ -21,7 +21,7 @@ use Rattle.avtp_tool.specs.Made.{KeepsFilesBut}
 use Rattle.avtp_tool.specs.state.Made.{CountsWriting, Makes}
 use Rattle.avtp_tool.specs.Outcome.{AsksFor, is_done}
 use Rattle.avtp_tool.specs.state.Outcome.{EndsWith, IsDone, KeepsSink, TellsText}
-use Rattle.talker.specs.declared.fault.TalkFault.TheVariants as fault
+use Rattle.talk_plan.specs.declared.fault.TalkFault.TheVariants as fault
 use Rattle.avtp_base.specs.Told.{Keeps}
 use Rattle.avtp_text.specs.Written.{written}
 use Rattle.avtp_tool.specs.Talk.{TalkedOutcome}

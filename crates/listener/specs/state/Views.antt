@@ -1,9 +1,18 @@
 -- Kept for proofs: what the code's own parts hold and do. No clause of a public call rests on it.
 -- A delivery as the code holds it.
-use Rattle.std.specs.Prelude.{ℕ, Bool, false, Option, Some, None}
+use Rattle.std.specs.Prelude.{ℕ, Bool, false, List, Option, Some, None}
 use Rattle.avtp_header.specs.declared.header.Peeked.{Peeked}
 use Rattle.packet_journal.specs.Deliveries.{Delivery, clock_kinds, is_wanted}
+use Rattle.listener.specs.declared.delivery.AvtpPacket.{AvtpPacket}
 use Rattle.listener.specs.declared.delivery.DeliveryView.{DeliveryView}
+
+-- a packet of AVTP with its first fields, apart from where it lies in memory
+pub record Found : Type 0 where
+  pub peeked : Peeked
+  pub bytes : List ℕ
+
+abbrev pub avtp_shape : AvtpPacket → Found
+avtp_shape p = record { peeked = p.peeked; bytes = p.bytes.now }
 
 -- a delivery, apart from where its packet lies in memory
 abbrev pub delivery_shape : DeliveryView → Delivery

@@ -13,6 +13,12 @@ pub record IsReader (r : Reading) (capacity : ℕ) : Type 0 where
   pub bounded : taken r ≤ 2 ^ 62
   pub reading : IsReading r.refusal r.style r.start r.part
 
+-- A reader takes bytes of a piece: it is not refused, and knows this style, or none before the end of the file header.
+pub record IsBefore (style : Option Style) (r : Reading) (piece : List ℕ) : Type 0 where
+  pub accepted : r.refusal ≡ None
+  pub styled : r.style ≡ style
+  pub bounded : taken r + length piece ≤ 2 ^ 62
+
 -- Bytes from the front of a piece were added to what has come of a record, up to the record's end; or they showed a refusal.
 pub record Fills (order : Order) (start : ℕ) (old piece : List ℕ) (result : Result ℕ Refusal) (new : List ℕ) : Type 0 where
   pub within : IfOk result (λ n. n ≤ length piece)

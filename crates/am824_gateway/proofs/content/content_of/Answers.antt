@@ -2,7 +2,7 @@ use Rattle.std.proofs.Common.{Bool, refl, ap, ◌∙◌}
 use Rattle.packet_journal.specs.Deliveries.{belongs, stream_kinds}
 use Rattle.listener.proofs.Further.{chosen, not_chosen}
 use Rattle.am824_gateway.specs.Content.{packet_content}
-use Rattle.am824_gateway.specs.Streams.{stream_packet, stream_packet_shape}
+use Rattle.listener.specs.Streams.{stream_packet, stream_packet_shape}
 use Rattle.am824_gateway.proofs.content.content_of.Goals as goal
 
 pub returns-in-Some-clause-exact : goal.returns-in-Some-clause-exact

@@ -12,6 +12,6 @@ returns-in-Ok-outputs_for g c = said_as _ (g.Y.System.told c.args.system.now) (t
     run = c.run.ensures.has_run request (rw c.deref-in-Ok-outputs_for.ensures.value line);
   });
   refuses = λ position offence.
-    let refused = c.run.ensures.refuses position (rw c.deref-in-Ok-outputs_for.ensures.value offence) in
-    inr (refuses_as refused (λ kept. kept.0));
+      let refused = c.run.ensures.refuses position (rw c.deref-in-Ok-outputs_for.ensures.value offence) in
+      inr (refuses_as refused (λ kept. kept.0));
 })

@@ -23,6 +23,6 @@ returns-clause-listed c = record {
   units_are = c.loop-unit.invariant.listed ∙ ap (first_units c.args.bytes.now) c.in_default.ensures.next.all;
   inside = λ i h. c.loop-unit.invariant.inside i (omega (arith, h, c.in_default.ensures.next.all));
   packets_are = c.next.ensures.walk.packets ∙ ap (λ (u : Units). packets_before (nal_units c.args.bytes.now) u.number) c.in_default.ensures.next.same
-    ∙ ap (packets_before (nal_units c.args.bytes.now)) c.in_default.ensures.next.all;
+      ∙ ap (packets_before (nal_units c.args.bytes.now)) c.in_default.ensures.next.all;
   few = (let walk = c.next.ensures.walk in omega (arith, walk.few_packets, walk.within, c.requires));
 }

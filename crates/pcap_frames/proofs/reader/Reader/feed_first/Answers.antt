@@ -9,8 +9,8 @@ returns-in_err-header c =
 
 pub returns-in-None : goal.returns-in-None
 returns-in-None c =
-    header_only c.args.self.now c.feed_header.new.self _ _ c.requires.header (rw (← c.self.view_is) c.in-None.is) c.in_ok-header.ensures.end c.in_ok-header.ensures.steps
+    header_only c.args.self.now c.feed_header.new.self _ _ c.requires.styled (rw (← c.self.view_is) c.in-None.is) c.in_ok-header.ensures.end c.in_ok-header.ensures.steps
 
 pub returns-in_ok-record-in-Some : goal.returns-in_ok-record-in-Some
 returns-in_ok-record-in-Some c =
-    header_then _ _ _ _ _ _ c.requires.header c.in_ok-header.ensures.some c.in_ok-header.ensures.steps c.in_ok-record-in-Some.ensures
+    header_then _ _ _ _ _ _ c.requires.styled c.in_ok-header.ensures.some c.in_ok-header.ensures.steps c.in_ok-record-in-Some.ensures

@@ -12,24 +12,23 @@ style_at-self-inside-requires c =
 
 pub invariant_of-self : goal.invariant_of-self
 invariant_of-self c =
-    let none = rw (← c.self.view_is) at c.requires.accepts.accepted in
+    let this = rw (← c.self.view_is) at c.requires in
     record {
       room = omega arith;
       bounded = search rules;
-      reading = opened _ _ _ _ none (ap is_some c.style_at-self-inside.ensures ∙ file_style _ (sym c.file_refusal.ensures ∙ c.in-None.is)) c.clear.ensures.items;
+      reading = opened _ _ _ _ this.accepted (ap is_some c.style_at-self-inside.ensures ∙ file_style _ (sym c.file_refusal.ensures ∙ c.in-None.is)) c.clear.ensures.items;
     }
 
 pub invariant_of-self-then-refusal : goal.invariant_of-self-then-refusal
 invariant_of-self-then-refusal c =
-    let none = rw (← c.self.view_is) at c.requires.accepts.accepted in
-    let unopened = rw (← c.self.view_is) at c.requires.header in
-    let room = rw (← c.self.view_is) at c.requires.accepts.bounded in
-    let old = in_header _ _ _ _ none unopened c.self.invariant.reading in
+    let this = rw (← c.self.view_is) at c.requires in
+    let room = this.bounded in
+    let old = in_header _ _ _ _ this.accepted this.styled c.self.invariant.reading in
     let why = sym c.file_refusal.ensures ∙ c.in-Some.is in
     record {
       room = omega arith;
       bounded = omega arith;
-      reading = still_in_header _ _ _ _ none unopened (rw (← c.as_slice-header.ensures.value) (record {
+      reading = still_in_header _ _ _ _ this.accepted this.styled (rw (← c.as_slice-header.ensures.value) (record {
         begins = old.begins;
         accepted = short_only _ _ why c.if-refusal.true;
         partial = file_short _ _ why c.if-refusal.true;
@@ -38,9 +37,8 @@ invariant_of-self-then-refusal c =
 
 pub returns-in-None-clause-steps : goal.returns-in-None-clause-steps
 returns-in-None-clause-steps c =
-    let none = rw (← c.self.view_is) at c.requires.accepts.accepted in
-    let unopened = rw (← c.self.view_is) at c.requires.header in
-    let old = in_header _ _ _ _ none unopened c.self.invariant.reading in
+    let this = rw (← c.self.view_is) at c.requires in
+    let old = in_header _ _ _ _ this.accepted this.styled c.self.invariant.reading in
     let all = sym c.file_refusal.ensures ∙ c.in-None.is in
     let whole = rw (c.as_slice-header.ensures.value, c.gather-taken.ensures.moved) at all in
     let long = file_whole _ whole in
@@ -52,17 +50,16 @@ returns-in-None-clause-steps c =
       bounded = rw (c.clear.ensures.items, ← c.self.view_is) (omega arith);
       read = λ bytes records h.
           let before = rw (← c.self.view_is) at h in
-          header_ends _ _ _ _ _ _ _ _ _ none unopened whole (omega arith) is c.clear.ensures.items before;
-      accepted = none;
+          header_ends _ _ _ _ _ _ _ _ _ this.accepted this.styled whole (omega arith) is c.clear.ensures.items before;
+      accepted = this.accepted;
       refused = tt;
       stopped = tt;
     }
 
 pub returns-in-Some-clause-steps : goal.returns-in-Some-clause-steps
 returns-in-Some-clause-steps c =
-    let none = rw (← c.self.view_is) at c.requires.accepts.accepted in
-    let unopened = rw (← c.self.view_is) at c.requires.header in
-    let old = in_header _ _ _ _ none unopened c.self.invariant.reading in
+    let this = rw (← c.self.view_is) at c.requires in
+    let old = in_header _ _ _ _ this.accepted this.styled c.self.invariant.reading in
     let some = sym c.file_refusal.ensures ∙ c.in-Some.is in
     let why = rw (c.as_slice-header.ensures.value, c.gather-taken.ensures.moved) at some in
     record {
@@ -71,20 +68,19 @@ returns-in-Some-clause-steps c =
       bounded = rw (← c.self.view_is) (omega arith);
       read = λ bytes records h.
           let before = rw (← c.self.view_is) at h in
-          rw c.gather-taken.ensures.moved (header_goes_on _ _ _ _ _ _ _ _ none unopened why (still_in_header _ _ _ _ none unopened (record {
+          rw c.gather-taken.ensures.moved (header_goes_on _ _ _ _ _ _ _ _ this.accepted this.styled why (still_in_header _ _ _ _ this.accepted this.styled (record {
             begins = old.begins;
             accepted = short_only _ _ why c.if-refusal.true;
             partial = file_short _ _ why c.if-refusal.true;
           })) before);
-      accepted = none;
+      accepted = this.accepted;
       refused = tt;
       stopped = tt;
     }
 
 pub returns-in-Some-2-clause-steps : goal.returns-in-Some-2-clause-steps
 returns-in-Some-2-clause-steps c =
-    let none = rw (← c.self.view_is) at c.requires.accepts.accepted in
-    let unopened = rw (← c.self.view_is) at c.requires.header in
+    let this = rw (← c.self.view_is) at c.requires in
     let some = sym c.file_refusal.ensures ∙ c.in-Some.is in
     let why = rw (c.as_slice-header.ensures.value, c.gather-taken.ensures.moved) at some in
     record {
@@ -98,7 +94,7 @@ returns-in-Some-2-clause-steps c =
           let before = rw (← c.self.view_is) at h in
           subst (λ (p : List ℕ). HasRead (reading (Some c.in-Some.refusal) c.self.inside.style c.self.inside.start c.gather-taken.new.part.items) (bytes ++ p) records)
           (take-append-drop c.gather-taken.result c.args.piece.now)
-          (header_refuses _ _ _ _ _ _ _ _ _ _ none unopened why c.if-refusal.false before);
+          (header_refuses _ _ _ _ _ _ _ _ _ _ this.accepted this.styled why c.if-refusal.false before);
     }
 
 pub returns-in-None-clause-end : goal.returns-in-None-clause-end

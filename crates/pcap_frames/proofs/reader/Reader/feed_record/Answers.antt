@@ -5,38 +5,33 @@ use Rattle.pcap_frames.proofs.reader.Reader.feed_record.Goals as goal
 
 pub fill_record-requires-clause-part : goal.fill_record-requires-clause-part
 fill_record-requires-clause-part c =
-    let none = rw (← c.self.view_is) at c.requires.accepts.accepted in
-    let styled = rw (← c.self.view_is) at c.requires.style in
-    in_record _ _ _ _ _ none styled c.self.invariant.reading
+    let this = rw (← c.self.view_is) at c.requires in
+    in_record _ _ _ _ _ this.accepted this.styled c.self.invariant.reading
 
 pub invariant_of-self : goal.invariant_of-self
 invariant_of-self c =
-    let none = rw (← c.self.view_is) at c.requires.accepts.accepted in
-    let styled = rw (← c.self.view_is) at c.requires.style in
-    let room = rw (← c.self.view_is) at c.requires.accepts.bounded in
+    let this = rw (← c.self.view_is) at c.requires in
     record {
       room = c.in-Ok.ensures.room;
-      bounded = omega (arith, room, c.in-Ok.ensures.fills.bounded);
-      reading = still_in_record _ _ c.args.style _ _ none styled c.in-Ok.ensures.fills.part;
+      bounded = omega (arith, this.bounded, c.in-Ok.ensures.fills.bounded);
+      reading = still_in_record _ _ c.args.style _ _ this.accepted this.styled c.in-Ok.ensures.fills.part;
     }
 
 pub invariant_of-self-in-Err : goal.invariant_of-self-in-Err
 invariant_of-self-in-Err c =
-    let room = rw (← c.self.view_is) at c.requires.accepts.bounded in
+    let this = rw (← c.self.view_is) at c.requires in
     record {
       room = c.in-Err.ensures.room;
-      bounded = omega (arith, room, c.in-Err.ensures.fills.bounded);
+      bounded = omega (arith, this.bounded, c.in-Err.ensures.fills.bounded);
       reading = c.in-Err.ensures.fills.refused.2;
     }
 
 pub returns-in-Ok : goal.returns-in-Ok
 returns-in-Ok c =
-    let none = rw (← c.self.view_is) at c.requires.accepts.accepted in
-    let styled = rw (← c.self.view_is) at c.requires.style in
-    rw (← c.self.view_is) (fill_advances _ c.args.style _ _ _ none styled (in_record _ _ _ _ _ none styled c.self.invariant.reading) c.in-Ok.ensures.fills)
+    let this = rw (← c.self.view_is) at c.requires in
+    rw (← c.self.view_is) (fill_advances _ c.args.style _ _ _ this.accepted this.styled (in_record _ _ _ _ _ this.accepted this.styled c.self.invariant.reading) c.in-Ok.ensures.fills)
 
 pub returns-in-Err : goal.returns-in-Err
 returns-in-Err c =
-    let none = rw (← c.self.view_is) at c.requires.accepts.accepted in
-    let styled = rw (← c.self.view_is) at c.requires.style in
-    rw (← c.self.view_is) (fill_refused _ c.args.style _ _ _ none styled c.in-Err.ensures.fills)
+    let this = rw (← c.self.view_is) at c.requires in
+    rw (← c.self.view_is) (fill_refused _ c.args.style _ _ _ this.accepted this.styled c.in-Err.ensures.fills)

@@ -3,7 +3,8 @@ use Rattle.std.specs.List.{range_with_len}
 use Rattle.std.proofs.lemmas.Grind.{common_steps, take-set_at}
 use Rattle.std.proofs.lemmas.List.{take_all}
 use Rattle.talk_clock.specs.Clock.{clock_point, first_point, points_in, points_size}
-use Rattle.talk_clock.proofs.ClockLemmas.{few_points, map_more}
+use Rattle.talk_plan.proofs.CountLemmas.{map_more}
+use Rattle.talk_clock.proofs.ClockLemmas.{few_points}
 use Rattle.talk_clock.proofs.clock.ClockStream.write_points.Goals as goal
 
 pub overflow_add-first : goal.overflow_add-first

@@ -2,7 +2,7 @@
 use Rattle.std.specs.Prelude.{ℕ, List}
 use Rattle.avtp_header.specs.Header.{peeked_of}
 use Rattle.packet_journal.specs.Deliveries.{packet_in}
-use Rattle.am824_gateway.specs.declared.stream_packet.StreamPacket.{StreamPacket}
+use Rattle.listener.specs.declared.delivery.StreamPacket.{StreamPacket}
 
 -- A packet of a stream with its subtype, apart from where it lies in memory.
 pub record PacketOfStream : Type 0 where
