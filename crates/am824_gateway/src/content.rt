@@ -8,10 +8,10 @@ ghost use Rattle.am824_gateway.specs.Content.{IsCounted, am824 as am824_samples_
 
 use crate::labels::are_linear;
 use crate::scan::To;
-use listener::{StreamPacket, packet_of_stream};
 use aaf_format::{AafFormat, AafView, rate_of, read_aaf};
 use avtp_header::subtype;
 use iec61883_format::{IecView, rate_of_fdf, read_iec};
+use listener::{StreamPacket, packet_of_stream};
 
 /// A packet of audio samples, by what is asked of it.
 #[derive(Clone, Copy, Debug)]
