@@ -203,7 +203,7 @@ impl Stream {
     }
 
     /// Writes the frame of packet `n`, which carries a piece with these values and is presented from this instant on.
-    #[tactic(auto, unfolding(talker::specs::Frames::packet_bytes))]
+    #[tactic(auto, unfolding(talk_plan::specs::Ethernet::packet_bytes))]
     pub fn write(&self, out: &mut [u8], n: u64, instant: i64, piece: Piece, values: &[u8])
         requires shape { IsShape self.now.shape }
         requires fits { piece.count ≤ most_frames self.now.to self.now.shape.channels }

@@ -16,13 +16,13 @@ use std::alloc::Global;
 use std::thread::Threads;
 
 /// Does what the arguments ask for, over these files and this text, and answers how that ended.
-pub fn run_over<T: Threads + Sync, S: Sink + Drop + Send, Y: System<S>, F: Shelf, O: Sink>(
-    threads: &T,
-    alloc: Global,
-    system: &Y,
-    shelf: &mut F,
-    out: &mut O,
-) -> Status
+pub fn run_over<
+    T: Threads + Sync,
+    S: Sink + Drop + Send,
+    Y: System<S>,
+    F: Shelf + Send,
+    O: Sink + Send,
+>(threads: &T, alloc: Global, system: &Y, shelf: &mut F, out: &mut O) -> Status
     ensures { IfSome (Y.told system.now) (λ arguments. HasEnded (Y.path system.now) S.state arguments (shelf.new ≡ shelf.old) ((shelf.new ≡ shelf.old) × (out.new ≡ out.old))
         (F.state shelf.old) (F.state shelf.new) (O.state out.old) (O.state out.new) result) }
 {

@@ -136,13 +136,42 @@ fn a_real_file_is_made_and_read_back(rt: HostRuntime) -> Result<(), Fail> {
     Ok(())
 }
 
+/// The sink of a file, apart from these.
+fn named(rt: HostRuntime, path: &str, apart: &[&str]) -> Result<FileSink<HostRuntime>, Fail> {
+    let mut others = Vec::new(rt.alloc());
+    for other in apart {
+        others.push(String::from_str(rt.alloc(), other)?)?;
+    }
+    Ok(FileSink::named(rt, String::from_str(rt.alloc(), path)?, others))
+}
+
+/// Neither a shelf nor a sink writes over what is read, whatever it is called.
+#[test]
+fn a_file_that_is_read_is_not_written_over(rt: HostRuntime) -> Result<(), Fail> {
+    let path = temporary(&rt, "test_captures_kept")?;
+    let other = temporary(&rt, "./test_captures_kept")?;
+    let mut shelf = FileShelf::new(rt.alloc(), &rt);
+    assert!(rt; write_twice(rt.alloc(), &mut shelf, &path, b"abc")?);
+    assert_eq!(rt;
+        read_contents(rt.alloc(), 9, &mut shelf, &path)?.stop,
+        Stop::End
+    );
+    assert_eq!(rt; shelf.create_file(&other), Err(OpenFault::Failed));
+    let mut sink = named(rt, &other, &["/", &path])?;
+    assert_eq!(rt; sink.write(b"d"), Err(Failed));
+    let contents = read_contents(rt.alloc(), 9, &mut shelf, &path)?;
+    assert_eq!(rt; contents.bytes.as_slice(), b"abcabc".as_slice());
+    fs::remove_file(&rt, path.as_str())?;
+    Ok(())
+}
+
 /// The first write makes the file, or empties it.
 #[test]
 fn a_sink_makes_its_file_when_it_is_written_to(rt: HostRuntime) -> Result<(), Fail> {
     let path = temporary(&rt, "test_captures_sink")?;
     let path = path.as_str();
     for pieces in [["abc", "de"], ["f", "ghi"]] {
-        let mut sink = FileSink::named(rt, String::from_str(rt.alloc(), path)?);
+        let mut sink = named(rt, path, &[])?;
         for piece in pieces {
             assert_eq!(rt; sink.write(piece.as_bytes()), Ok(piece.len()));
         }
@@ -151,9 +180,9 @@ fn a_sink_makes_its_file_when_it_is_written_to(rt: HostRuntime) -> Result<(), Fa
     let contents = read_contents(rt.alloc(), 9, &mut shelf, path)?;
     assert_eq!(rt; contents.bytes.as_slice(), b"fghi".as_slice());
     fs::remove_file(&rt, path)?;
-    drop(FileSink::named(rt, String::from_str(rt.alloc(), path)?));
+    drop(named(rt, path, &[])?);
     assert_eq!(rt; shelf.open_file(path), Err(OpenFault::Failed));
-    let mut sink = FileSink::named(rt, String::from_str(rt.alloc(), "/")?);
+    let mut sink = named(rt, "/", &[])?;
     assert_eq!(rt; sink.write(b"a"), Err(Failed));
     assert_eq!(rt; StdSink::new(&rt).write(b"\n"), Ok(1));
     Ok(())

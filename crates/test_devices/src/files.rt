@@ -75,9 +75,9 @@ fn a_real_file_is_written_and_a_folder_is_not(rt: HostRuntime) -> Result<(), Fai
     let path = folder.join(alloc, "test_devices_file")?;
     let path = path.to_str().ok_or("a path of text")?;
     let items = [shown(alloc, PACKET)?, unit(alloc, &[0x67])?];
-    let sink = FileSink::named(rt, String::from_str(alloc, path)?);
+    let sink = FileSink::named(rt, String::from_str(alloc, path)?, Vec::new(alloc));
     let mut raw = RawDevice::over(sink, Silence::Zero);
-    let sink = FileSink::named(rt, String::from_str(alloc, "/")?);
+    let sink = FileSink::named(rt, String::from_str(alloc, "/")?, Vec::new(alloc));
     let mut units = AnnexBDevice::over(sink);
     assert_eq!(rt; taken(&mut raw, &items), 2);
     assert_eq!(rt; taken(&mut units, &items), 1);

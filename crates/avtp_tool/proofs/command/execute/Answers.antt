@@ -10,8 +10,8 @@ use Rattle.avtp_tool.proofs.Soaked.{soak_runs}
 use Rattle.avtp_tool.proofs.Yields.{hands_nothing}
 use Rattle.avtp_tool.proofs.command.execute.Goals as goal
 
-pub talk-requires-after_bounds : goal.talk-requires-after_bounds
-talk-requires-after_bounds g c κs within = requested (texts c.args.words.now) (talk (talking_of c.in-Ok-Talk.asked)) (rw c.in-Ok-Talk.field-0-is at c.in-Ok-Talk.ensures.found)
+pub talk-requires : goal.talk-requires
+talk-requires g c = requested (texts c.args.words.now) (talk (talking_of c.in-Ok-Talk.asked)) (rw c.in-Ok-Talk.field-0-is at c.in-Ok-Talk.ensures.found)
 
 pub hear_files-requires-after_bounds : goal.hear_files-requires-after_bounds
 hear_files-requires-after_bounds g c κs within = requested (texts c.args.words.now) (listen (listening_of c.in-Ok-Listen.asked)) (rw c.in-Ok-Listen.field-0-is at c.in-Ok-Listen.ensures.found)

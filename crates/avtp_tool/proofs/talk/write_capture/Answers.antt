@@ -7,7 +7,7 @@ use Rattle.avtp_tool.proofs.Sending.{header_length, next_frame, next_is, next_si
 use Rattle.avtp_tool.proofs.talk.write_capture.Goals as goal
 
 pub add-requires-clause-size : goal.add-requires-clause-size
-add-requires-clause-size g c κs within = omega (arith, header_length)
+add-requires-clause-size g c = omega (arith, header_length)
 
 pub returns-in_err-add : goal.returns-in_err-add
 returns-in_err-add g c =
@@ -18,7 +18,7 @@ returns-in_err-add g c =
     }
 
 pub add-requires-in-Some-clause-size : goal.add-requires-in-Some-clause-size
-add-requires-in-Some-clause-size g c κs within =
+add-requires-in-Some-clause-size g c =
     let is = c.in-Some.ensures.turn in
     omega (arith, next_size c.loop-turn.talker c.in-Some.turn is, is.most)
 
