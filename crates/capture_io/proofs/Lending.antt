@@ -15,7 +15,7 @@ use Rattle.capture_io.specs.Pieces.{Piecing}
 use Rattle.capture_io.specs.Reader.{CaptureReading, held, held_by}
 use Rattle.capture_io.specs.state.Reader.{Feeds, IsNext, Releases, with_part}
 use Rattle.capture_io.specs.Reads.{ReadsSlot}
-use Rattle.capture_io.specs.Source.{Sourcing, GivesNext, HasFed, HasGivenOf, held_in, remains_of, slot_of, to_do}
+use Rattle.capture_io.specs.Source.{Sourcing, Advances, GivesNext, HasFed, HasGivenOf, held_in, remains_of, slot_of, to_do}
 use Rattle.capture_io.specs.state.Source.{GivesUp, LiesAhead, ReadsOn, holding, lending}
 use Rattle.capture_io.proofs.Giving.{gives_next, if_some, released}
 use Rattle.capture_io.proofs.Leaving.{reads_nothing}
@@ -113,3 +113,16 @@ lent_by shelf old mid (Some size) live gone ahead some = lends_next shelf old mi
 pub read_by : (before after : ShelfState) (old mid next : Sourcing) (o : Option ℕ) (result : Option End) → GivesUp old mid → is_some o ≡ false → GivesNext before after mid next result → GivesNext before after old (lending o next) result
 read_by before after old mid next None result gone none gives = gives_after before after old mid next result gone gives
 read_by before after old mid next (Some size) result gone none gives = absurd cc
+
+-- the next record is lent, or nothing is
+pub advances : (old mid : Sourcing) (o : Option ℕ) → GivesUp old mid → IfSome o (λ size. LiesAhead mid size) → Advances old (lending o mid) (is_some o)
+advances old mid None gone ahead = record {
+  given = λ some. absurd cc;
+  further = λ none before after next result gives. gives_after before after old mid next result gone gives;
+  slot = ap (λ (p : Piecing). p.slot) gone.pieces;
+}
+advances old mid (Some size) gone ahead = record {
+  given = λ some shelf live. lends_next shelf old mid size live gone ahead;
+  further = λ none. absurd cc;
+  slot = ap (λ (p : Piecing). p.slot) gone.pieces;
+}

@@ -6,4 +6,5 @@ pub mod Ending
 pub mod Taking
 pub mod Giving
 pub mod Making
+pub mod CaptureWriting
 pub mod Lending

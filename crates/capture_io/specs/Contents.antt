@@ -11,15 +11,15 @@ use Rattle.capture_io.specs.declared.end.Stop.TheVariants as stop
 use Rattle.capture_io.specs.Ends.{CountsStop}
 use Rattle.capture_io.specs.Reads.{OnlyReads}
 
--- Of a file of these bytes, this prefix was read: all of them; or those before a fault; or as many as may be read, if
--- there are more.
+-- A prefix of a file of these bytes was read: all of it; or the bytes before a fault; or as many as may be read, if there are
+-- more.
 abbrev pub IsContents : ℕ → List ℕ → Stop → List ℕ → Type 0
 IsContents limit bytes stop.End prefix = (bytes ≡ prefix) × (length prefix ≤ limit)
 IsContents limit bytes stop.Fault prefix = (rest : List ℕ) × (bytes ≡ prefix ++ rest) × (length prefix ≤ limit)
 IsContents limit bytes stop.Limit prefix = (limit < length bytes) × (prefix ≡ take limit bytes)
 
--- The count of reading faults before and after a file is read whole, with this result: it rose if a fault of reading or
--- of opening came, otherwise it is as it was.
+-- The count of reading faults before and after a file is read whole, with this result: it rose if a fault of reading or of
+-- opening came, otherwise it is unchanged.
 pub record IsReadCounted (before after : ℕ) (result : Result Contents OpenFault) : Type 0 where
   pub never_falls : before ≤ after
   pub stopped : IfOk result (λ contents. CountsStop (Some contents.stop) before after)
@@ -27,8 +27,8 @@ pub record IsReadCounted (before after : ℕ) (result : Result Contents OpenFaul
   pub memory : IsErrOf result open_fault.Memory → after ≡ before
   pub failed : IsErrOf result open_fault.Failed → Rose before after
 
--- The file of this name was read whole, or as much of it as could and may be read, at most `limit` bytes; or it was not
--- opened, or no memory was found. It is closed again, and nothing else was done.
+-- The file with this name was read whole, or as much of it as could and may be read, at most `limit` bytes; or it was not
+-- opened, or memory ran out. It is closed again, and nothing else was done.
 pub record ReadsContents (before after : ShelfState) (limit : ℕ) (name : List ℕ) (result : Result Contents OpenFault) : Type 0 where
   -- the bytes are those of the file, if the shelf shows it
   pub read : IfOk result (λ contents. (files : Files) → before.files ≡ Some files → (bytes : List ℕ) × (files name ≡ Some bytes) × IsContents limit bytes contents.stop contents.bytes.items)

@@ -6,4 +6,5 @@ pub mod Contents
 pub mod Pieces
 pub mod Source
 pub mod Writing
+pub mod CaptureWriting
 pub mod state

@@ -42,21 +42,20 @@ held_by (Some format) r = (progress_by format r.classic r.ng).held
 abbrev pub held : CaptureReading → Option Record
 held r = held_by r.format r
 
--- The bytes that a reader which has found this layout has taken, and the records that it has released: while the layout
--- is not known these are fewer than four bytes and no record; after that they are what the reader of the layout has
--- taken and released.
+-- The bytes that a reader with this layout has taken, and the records that it has released. While the layout is unknown, these
+-- are fewer than four bytes and no record; after that they are what the reader of the layout has taken and released.
 abbrev pub StandsFor : Option Format → CaptureReading → List ℕ → List Record → Type 0
 StandsFor None r bytes records = (bytes ≡ r.front) × (length bytes < 4) × (records ≡ [])
 StandsFor (Some format) r bytes records =
     (progress_by format r.classic r.ng).has_read bytes records × (4 ≤ length bytes) × (format_in bytes ≡ format)
 
--- The reader has taken these bytes, and of their records it has released these, in order. If it is not refused, no
--- refusal in the bytes stays whatever bytes follow.
+-- The reader has taken these bytes, and has released these of their records, in order. If it is not refused, no refusal in the
+-- bytes stays whatever bytes follow.
 pub record HasRead (r : CaptureReading) (bytes : List ℕ) (records : List Record) : Type 0 where
   pub stands : StandsFor r.format r bytes records
   pub uncertain : refusal_of r ≡ None → certain_in bytes ≡ None
 
--- a view of the record that is held, whose time is one that a capture can say
+-- a view of the record that is held, whose time is one that a capture can record
 pub record IsView (held : Option Record) (view : RecordView) : Type 0 where
   pub exact : held ≡ Some (shown view)
   pub time : IsRecordTime view.arrival

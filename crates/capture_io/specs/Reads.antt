@@ -6,8 +6,8 @@ use Rattle.avtp_base.specs.Faults.{IsOpenCounted}
 use Rattle.avtp_base.specs.Files.{IsMissing, KeepsFiles, KeepsOthers, KeepsSlots}
 use Rattle.avtp_base.specs.States.{Asks, AsksNothing, ShelfState}
 
--- A call that only reads: every file and every slot is as it was, and so is the count of writing faults; the count of
--- reading faults did not fall; and these names were asked for, in this order.
+-- A call that only reads: every file, every slot and the count of writing faults are unchanged; the count of reading faults did
+-- not fall; and these names were asked for, in this order.
 pub record OnlyReads (before after : ShelfState) (names : List (List ℕ)) : Type 0 where
   pub files : KeepsFiles before.files after.files
   pub slots : KeepsSlots before.slots after.slots
@@ -17,8 +17,7 @@ pub record OnlyReads (before after : ShelfState) (names : List (List ℕ)) : Typ
 
 -- ---- while the file of one slot is open
 
--- The file that is open in slot k was read, and is still open there: `now` is slot k, too. All else is as it was, and
--- no name was asked for.
+-- The file in slot k was read, and is still open there: `now` is slot k, too. All else is unchanged, and no name was asked for.
 pub record ReadsSlot (before after : ShelfState) (k now : ℕ) : Type 0 where
   pub slot : now ≡ k
   pub files : KeepsFiles before.files after.files
@@ -28,8 +27,7 @@ pub record ReadsSlot (before after : ShelfState) (k now : ℕ) : Type 0 where
   pub writing : after.writing_faults ≡ before.writing_faults
   pub asked : AsksNothing before after
 
--- The file of this name was asked for and opened in slot k, which was free, and it was read or not; all else is as it
--- was.
+-- The file with this name was asked for and opened in slot k, which was free, and it was read or not; all else is unchanged.
 pub record OpensSlot (before after : ShelfState) (name : List ℕ) (k : ℕ) : Type 0 where
   pub free : before.slots k ≡ None
   pub files : KeepsFiles before.files after.files
@@ -39,8 +37,8 @@ pub record OpensSlot (before after : ShelfState) (name : List ℕ) (k : ℕ) : T
   pub writing : after.writing_faults ≡ before.writing_faults
   pub asked : Asks (name ∷ []) before after
 
--- A file of this name was opened, in the slot of what was made of it. Or it was not opened: `Missing` means that the
--- shelf shows its files and none has the name, at `Failed` the count of reading faults rose, and nothing else was done.
+-- A file with this name was opened, in the slot of the value that was made of it. Or it was not opened: `Missing` means that
+-- the shelf shows its files and none has the name, at `Failed` the count of reading faults rose, and nothing else was done.
 pub record TriesOpen {T : Type 0} (slot : T → ℕ) (before after : ShelfState) (name : List ℕ) (result : Result T OpenFault) : Type 0 where
   pub opened : IfOk result (λ file. OpensSlot before after name (slot file))
   pub refused : OnErr result (OnlyReads before after (name ∷ []))

@@ -1,5 +1,5 @@
 -- The records of a capture, one after the other.
-use Rattle.std.specs.Prelude.{◌≡◌, ◌++◌, ◌+◌, ◌*◌, ◌<◌, ◌≤◌, ℕ, List, [], ◌∷◌, length, IfOk, IfSome, IsSome, Option, Some, None, Result, option_to_list}
+use Rattle.std.specs.Prelude.{◌≡◌, ◌++◌, ◌+◌, ◌*◌, ◌<◌, ◌≤◌, ℕ, Bool, true, false, List, [], ◌∷◌, length, IfOk, IfSome, IsSome, Option, Some, None, Result, option_to_list}
 use Rattle.avtp_base.specs.Faults.{Rose}
 use Rattle.avtp_base.specs.declared.failed.OpenFault.{OpenFault}
 use Rattle.avtp_base.specs.Files.{Files, left_in}
@@ -37,16 +37,16 @@ pub record HasFed (limit : ℕ) (bytes : List ℕ) (remains : Option (List ℕ))
   pub accepted : refusal_of source.reader ≡ None
   pub read : HasRead source.reader prefix records
 
--- Of a file of these bytes, of which at most `limit` may be read and the slot has `remains` left, these records were
--- given, the last of which may still be held; and the reading has not ended.
+-- These records were given of a file of these bytes, of which at most `limit` may be read and the slot has `remains` left; the
+-- last record may still be held, and the reading has not ended.
 pub record HasGiven (limit : ℕ) (bytes : List ℕ) (remains : Option (List ℕ)) (source : Sourcing) (records : List Record) : Type 0 where
   pub going : source.ended ≡ None
   pub before : List Record
   pub fed : HasFed limit bytes remains source before
   pub given : records ≡ before ++ option_to_list (held_in source)
 
--- A source has given these records of a file of these bytes, of which at most `limit` may be read, and its slot has
--- left what this state of the shelf shows; the reading has not ended.
+-- A source has given these records of a file of these bytes, of which at most `limit` may be read. Its slot has left what this
+-- state of the shelf shows, and the reading has not ended.
 abbrev pub HasGivenOf : ℕ → List ℕ → ShelfState → Sourcing → List Record → Type 0
 HasGivenOf limit bytes shelf source records = HasGiven limit bytes (remains_of shelf source) source records
 
@@ -56,20 +56,20 @@ pub record EndsAfter (limit : ℕ) (bytes : List ℕ) (fault : Type 0) (how : En
   pub ends : EndsAt limit (Some bytes) fault how prefix
   pub whole : records_in prefix ≡ records
 
--- how much may still be done: it falls with each piece that is read, and with each byte that is taken
+-- how much work is left: it falls with each piece that is read, and with each byte that is taken
 abbrev pub to_do : Sourcing → ℕ
 to_do source = 2 * source.pieces.left + length source.pieces.waiting
 
--- A capture of this name was opened, of which at most `limit` bytes may be read, and no record was given yet; or it was
--- not opened.
+-- A capture with this name was opened, of which at most `limit` bytes may be read, and no record was given yet; or it was not
+-- opened.
 pub record OpensSource (before after : ShelfState) (limit : ℕ) (name : List ℕ) (result : Result Sourcing OpenFault) : Type 0 where
   -- nothing was given yet of the file's bytes, if the shelf shows them
   pub begun : IfOk result (λ source. (files : Files) → before.files ≡ Some files → (bytes : List ℕ) × (files name ≡ Some bytes) × HasGivenOf limit bytes after source [])
   pub going : IfOk result (λ source. (source.ended ≡ None) × (to_do source ≤ 2 * limit))
   pub tries : TriesOpen slot_of before after name result
 
--- The next record was read, and is held now; or the reading ended in this way after the records that were given, and
--- the count of reading faults rose if a fault ended it. A reading that had ended answers the same again.
+-- The next record was read, and is held now; or the reading ended in this way after the records that were given, and the count
+-- of reading faults rose if a fault ended it. A reading that had ended returns its end again.
 pub record GivesNext (before after : ShelfState) (old new : Sourcing) (result : Option End) : Type 0 where
   pub given : result ≡ None → (limit : ℕ) (bytes : List ℕ) (records : List Record) → HasGivenOf limit bytes before old records
       → (next : Record) × (held_in new ≡ Some next) × HasGivenOf limit bytes after new (records ++ next ∷ [])
@@ -80,3 +80,10 @@ pub record GivesNext (before after : ShelfState) (old new : Sourcing) (result : 
   pub lasting : IfSome old.ended (λ how. result ≡ Some how)
   pub counted : CountsFault old.ended result before.reading_faults after.reading_faults
   pub reads : ReadsSlot before after (slot_of old) (slot_of new)
+
+-- The record that was held was given up. If the next one lies whole in what was read, it is held now, and nothing was read for it;
+-- if not, whatever a reading does from here it does from before.
+pub record Advances (old new : Sourcing) (at_hand : Bool) : Type 0 where
+  pub given : at_hand ≡ true → (shelf : ShelfState) → IsSome (shelf.slots (slot_of old)) → GivesNext shelf shelf old new None
+  pub further : at_hand ≡ false → (before after : ShelfState) (next : Sourcing) (result : Option End) → GivesNext before after new next result → GivesNext before after old next result
+  pub slot : slot_of new ≡ slot_of old

@@ -13,9 +13,9 @@ pub record Writing : Type 0 where
   pub slot : ℕ
   pub waiting : List ℕ
 
--- Since the shelf was in the state `before`, the file of this name was made, and it is open in the writer's slot, which
--- was free. The bytes are those that the file has and then those that wait. All other files are as they were, if they
--- are shown, and so are the other slots, except what is left there of this file.
+-- Since the shelf was in the state `before`, the file with this name was made, and it is open in the writer's slot, which was
+-- free. `bytes` are those of the file followed by those that wait. All other files are unchanged, if they are shown, and so are
+-- the other slots, except for what is left there of this file.
 pub record IsWriting (before after : ShelfState) (writer : Writing) (name bytes : List ℕ) : Type 0 where
   pub held : List ℕ
   pub split : bytes ≡ held ++ writer.waiting
@@ -45,7 +45,7 @@ pub record AddsBytes (before after : ShelfState) (old new : Writing) (bytes : Li
 
 -- ---- what is left
 
--- a file was not made: files, slots and the count of reading faults are as they were
+-- a file was not made: files, slots and the count of reading faults are unchanged
 pub record NotMade (before after : ShelfState) : Type 0 where
   pub files : KeepsFiles before.files after.files
   pub slots : KeepsSlots before.slots after.slots
@@ -60,27 +60,26 @@ pub record CreatesFile (before after : ShelfState) (name : List ℕ) (result : R
   pub counted : IsOpenCounted before.writing_faults after.writing_faults result
   pub asked : Asks (name ∷ []) before after
 
--- the file of this name has a prefix of these bytes now, and all other files are as they were, as far as the shelf
--- shows them
+-- the file with this name has a prefix of these bytes now, and all other files are unchanged, as far as the shelf shows them
 pub record PutsPrefix (old new : Option Files) (name bytes : List ℕ) : Type 0 where
   pub prefix : List ℕ
   pub rest : List ℕ
   pub split : bytes ≡ prefix ++ rest
   pub put : PutsFile old new name prefix
 
--- the file of this name is as it was, or has a prefix of these bytes now, and all other files are as they were, as far
--- as the shelf shows them
+-- the file with this name is unchanged, or has a prefix of these bytes now, and all other files are unchanged, as far as the
+-- shelf shows them
 abbrev pub MakesPrefix : Option Files → Option Files → List ℕ → List ℕ → Type 0
 MakesPrefix old new name bytes = KeepsFiles old new ⊎ PutsPrefix old new name bytes
 
--- Every slot is live or free as it was, with its file; and if files are shown, what is left to read is as it was in
--- each slot whose file has another name than this.
+-- Every slot is live or free as it was, with its file; and if files are shown, what is left to read is unchanged in each slot
+-- whose file has a different name from this.
 pub record KeepsSlotsBut (files : Option Files) (old new : Slots) (name : List ℕ) : Type 0 where
   pub same : (j : ℕ) → option_map file_of (new j) ≡ option_map file_of (old j)
   pub left : IsSome files → (j : ℕ) → name_in old j ≢ Some name → left_in new j ≡ left_in old j
 
--- The writer's file was closed, and has a prefix of all that was added. Every other file and slot is as it was; the
--- count of writing faults rose if the shelf failed, no reading fault was counted, and no name was asked for.
+-- The writer's file was closed, and has a prefix of all that was added. Every other file and slot is unchanged; the count of
+-- writing faults rose if the shelf failed, no reading fault was counted, and no name was asked for.
 pub record ClosesFile (before after : ShelfState) (writer : Writing) (result : Result Unit Failed) : Type 0 where
   pub prefix : (begun : ShelfState) (name all : List ℕ) → IsWriting begun before writer name all → PutsPrefix begun.files after.files name all
   pub slots : (begun : ShelfState) (name all : List ℕ) → IsWriting begun before writer name all → KeepsSlotsBut begun.files begun.slots after.slots name

@@ -1,4 +1,4 @@
-//! Captures in either layout, classic pcap or pcapng, in any pieces.
+//! Captures in either layout, classic pcap or pcapng, in pieces of any length.
 
 ghost use Rattle.std.specs.Prelude.{◌≡◌, ◌+◌, ◌≤◌, ◌^◌, ℕ, List, length, None, IfOk};
 ghost use Rattle.std.specs.Result.{result_err};
@@ -25,14 +25,14 @@ pub enum Format {
     Pcapng,
 }
 
-/// The first four bytes of a pcapng capture, which read alike in either byte order.
+/// The first four bytes of a pcapng capture, which are equal in either byte order.
 const SECTION_HEADER: u32 = 0x0A0D_0D0A;
 
-/// From how many bytes the layout is known.
+/// The number of bytes that show the layout.
 const FRONT: usize = 4;
 
-/// Reads a capture in either layout, with the calls of [`Reader`]; only records of a classic capture are lent. The
-/// first four bytes are held back until they are all there, and show the layout.
+/// Reads a capture in either layout, with the calls of [`Reader`]; only records of a classic capture are lent. The first four
+/// bytes are held back until all have come, because they show the layout.
 #[derive(Drop)]
 pub struct CaptureReader {
     format: Option<Format>,
@@ -55,7 +55,7 @@ impl Model for CaptureReader {
 }
 
 impl CaptureReader {
-    /// A reader that has taken nothing. It reserves the memory of a reader of each layout, and takes no more later.
+    /// A reader that has taken nothing. It allocates the memory of a reader of each layout, and no more later.
     pub fn new(alloc: Global) -> Result<Self, NoMemory>
         ensures { IfOk result (λ reader. reader ≡ nothing_read) }
     {
@@ -72,8 +72,8 @@ impl CaptureReader {
         })
     }
 
-    /// Takes bytes of the piece, up to the end of one record at most, and answers how many; or answers the capture's
-    /// first refusal, as soon as the bytes so far show it.
+    /// Takes bytes of the piece, at most up to the end of one record, and returns how many; or returns the capture's first
+    /// refusal, as soon as the bytes so far show it.
     pub fn feed(&mut self, piece: &[u8]) -> Result<usize, Refusal>
         requires { taken self.old + length piece.now ≤ 2 ^ 62 }
         ensures { Feeds self.old piece.now result self.new }
@@ -84,7 +84,7 @@ impl CaptureReader {
         }
     }
 
-    /// Holds bytes back until there are four, and hands these to the reader of their layout.
+    /// Holds bytes back until there are four, and gives these to the reader of their layout.
     fn feed_front(&mut self, piece: &[u8]) -> Result<usize, Refusal>
         requires front { self.old.format ≡ None }
         ensures { Feeds self.old piece.now result self.new }
@@ -126,16 +126,26 @@ impl CaptureReader {
         let _ = self.ng.release();
     }
 
-    /// The size of the next record, if it lies whole at the front of the piece and nothing of it was taken yet.
+    /// The size of the next record, if it is complete at the front of the piece and nothing of it was taken yet.
     ///
-    /// It is None only if there is no such record, or the capture is not a classic one. Then the piece is to be fed.
+    /// It is `None` only if there is no such record, or the capture is not a classic one. Then the piece must be fed.
     pub fn whole_ahead(&self, piece: &[u8]) -> Option<usize>
         ensures { FindsNext self.now piece.now result }
     {
         self.classic.whole_ahead(piece)
     }
 
-    /// The next record, in the piece: these are its bytes, header and all.
+    /// Whether the piece is known to have all of the next record. Of a pcapng capture, of which nothing is lent, any bytes
+    /// count, since those who write one write whole blocks.
+    pub fn is_ahead(&self, piece: &[u8]) -> bool {
+        match self.format {
+            None => false,
+            Some(Format::Classic) => self.classic.whole_ahead(piece).is_some(),
+            Some(Format::Pcapng) => !piece.is_empty(),
+        }
+    }
+
+    /// The next record, in the piece: these are its bytes, including the header.
     pub fn lend<'a>(&self, bytes: &'a [u8]) -> RecordView<'a>
         requires { IsNext self.now bytes.now }
         ensures { IsView (held (with_part self.now bytes.now)) result }
@@ -143,7 +153,7 @@ impl CaptureReader {
         self.classic.lend(bytes)
     }
 
-    /// Goes past the next record, as if its bytes had been fed and the record released.
+    /// Skips the next record, as if its bytes had been fed and the record released.
     pub fn pass(&mut self, bytes: &[u8])
         requires next { IsNext self.old bytes.now }
         requires bounded { taken self.old + length bytes.now ≤ 2 ^ 62 }
@@ -152,8 +162,8 @@ impl CaptureReader {
         self.classic.pass(bytes);
     }
 
-    /// Whether the bytes so far are a whole capture; otherwise it answers their first refusal. It changes nothing:
-    /// bytes may follow. If fewer than four came, the magic number of a classic capture is what they lack.
+    /// Whether the bytes so far are a whole capture; otherwise returns their first refusal. It changes nothing: bytes may
+    /// follow. If fewer than four bytes came, they lack the magic number of a classic capture.
     pub fn finish(&self) -> Result<(), Refusal>
         ensures { (bytes : List ℕ) (records : List Record) → HasRead self.now bytes records → EndsHere self.now bytes records (result_err result) }
     {

@@ -18,11 +18,10 @@ pub struct Contents {
     pub stop: Stop,
 }
 
-/// Opens a file, reads it to its end, or as far as it can or may be read, and closes it. At most `limit` bytes are
-/// read.
+/// Opens a file, reads it to its end, or as far as it can or may be read, and closes it. At most `limit` bytes are read.
 ///
-/// It answers `Missing` only if the shelf shows its files and none has the name, `Failed` only if the file could not be
-/// opened and the reading count rose, and `Memory` if no memory was found.
+/// Returns `Missing` only if the shelf shows its files and none has the name, `Failed` only if the file could not be opened and
+/// the reading count rose, and `Memory` if memory ran out.
 pub fn read_contents<F: Shelf>(
     alloc: Global,
     limit: u64,
@@ -40,7 +39,7 @@ pub fn read_contents<F: Shelf>(
     }
 }
 
-/// Reads all pieces, and puts them one after the other.
+/// Reads all pieces, and joins them.
 fn join<F: Shelf>(alloc: Global, pieces: &mut Pieces, shelf: &mut F) -> Result<Contents, NoMemory>
     requires { IsDrained (F.state shelf.old).slots pieces.old }
     ensures { JoinsPieces (F.state shelf.old) (F.state shelf.new) pieces.old pieces.new result }

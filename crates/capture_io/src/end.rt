@@ -30,8 +30,8 @@ pub enum Stop {
 }
 
 impl Stop {
-    /// How a capture ends in which nothing was refused and whose reading stopped here. If the file ended, `lack` is
-    /// what it lacks. A refused field that is whole before that place ends the capture whatever stopped the reading.
+    /// How a capture ends if nothing was refused in it and its reading stopped here. If the file ended, `lack` is what it
+    /// lacks. A refused field that is complete before that place ends the capture, whatever stopped the reading.
     pub fn end(self, lack: Option<Refusal>) -> End
         ensures { result ≡ end_at self lack }
     {

@@ -1,6 +1,6 @@
 //! A capture whose pieces are fed to its reader.
 
-ghost use Rattle.std.specs.Prelude.{◌≡◌, ◌<◌, [], length, IsSome};
+ghost use Rattle.std.specs.Prelude.{◌≡◌, ◌<◌, ◌≤◌, [], length, IsSome};
 ghost use Rattle.avtp_base.specs.States.{ShelfState};
 ghost use Rattle.capture_io.specs.Reader.{IsView};
 ghost use Rattle.capture_io.specs.Source.{GivesNext, held_in, slot_of};
@@ -13,8 +13,8 @@ use avtp_files::Shelf;
 use pcap_frames::RecordView;
 use std::marker::Model;
 
-/// A capture that is read from a shelf, and fed to a reader in pieces. The bytes of a record are taken by the reader,
-/// which holds it then, or the record is shown from the piece.
+/// A capture that is read from a shelf, and fed to a reader in pieces. Either the reader takes a record's bytes and holds the
+/// record, or the record is shown in the piece.
 #[derive(Drop)]
 pub struct Feed {
     pub pieces: Pieces,
@@ -35,8 +35,8 @@ impl Model for Feed {
 }
 
 impl Feed {
-    /// Drops the record that is held, and reads on to the next. At `None` one is held now; otherwise it answers how the
-    /// reading ended. Once it has ended, each further call answers the same and reads nothing.
+    /// Drops the record that is held, and reads on to the next. At `None` one is held now; otherwise returns how the reading
+    /// ended. Once it has ended, each further call returns that end again and reads nothing.
     #[inline(never)]
     pub fn next<F: Shelf>(&mut self, shelf: &mut F) -> Option<End>
         requires { IsSome ((F.state shelf.old).slots (slot_of self.old)) }
@@ -86,7 +86,7 @@ impl Feed {
         Some(stop.end(self.reader.finish().err()))
     }
 
-    /// Feeds the reader what waits, up to the end of one record, or answers the refusal that ends the reading.
+    /// Feeds the reader what waits, up to the end of one record, or returns the refusal that ends the reading.
     fn feed_piece(&mut self) -> Option<End>
         requires { 0 < length self.old.pieces.waiting }
         ensures { (shelf : ShelfState) → IsReady shelf.slots self.old → ReadsOn shelf shelf self.old self.new result }
@@ -103,8 +103,8 @@ impl Feed {
         }
     }
 
-    /// The size of the next record, if it lies whole at the front of the bytes that wait and nothing of it was taken
-    /// yet. It is None only if there is no such record, or the reading has ended.
+    /// The size of the next record, if it is complete at the front of the bytes that wait and nothing of it was taken yet. It
+    /// is `None` only if there is no such record, or the reading has ended.
     pub fn whole_ahead(&self) -> Option<usize>
         ensures { FindsAhead self.now result }
     {
@@ -112,6 +112,13 @@ impl Feed {
             return None;
         }
         self.reader.whole_ahead(self.pieces.waiting())
+    }
+
+    /// Whether the next record must first be read, as far as the bytes tell that wait after the first `taken`.
+    pub fn must_read(&self, taken: usize) -> bool
+        requires { taken ≤ length self.now.pieces.waiting }
+    {
+        self.ended.is_none() && !self.reader.is_ahead(&self.pieces.waiting()[taken..])
     }
 
     /// The next record, which is the first `size` of the bytes that wait.
@@ -122,7 +129,7 @@ impl Feed {
         self.reader.lend(&self.pieces.waiting()[..size])
     }
 
-    /// Goes past the next record, which is the first `size` of the bytes that wait.
+    /// Skips the next record, which is the first `size` of the bytes that wait.
     pub fn pass(&mut self, size: usize)
         requires { LiesAhead self.old size }
         ensures { GivesUp (holding self.old size) self.new }

@@ -1,9 +1,9 @@
 //! A file that is written through a buffer.
 
-ghost use Rattle.std.specs.Prelude.{◌≡◌, ◌≤◌, [], Ok, length};
+ghost use Rattle.std.specs.Prelude.{◌≡◌, ◌+◌, ◌≤◌, ◌++◌, [], Ok, length};
 ghost use Rattle.avtp_files.specs.ShelfCalls.{IsMadeIn};
 ghost use Rattle.capture_io.specs.Writing.{AddsBytes, ClosesFile, CreatesFile, FinishesFile};
-ghost use Rattle.capture_io.specs.state.Writing.{WritesOut};
+ghost use Rattle.capture_io.specs.state.Writing.{MakesRoom, WritesOut};
 
 use avtp_base::{Buffer, Failed, OpenFault, Spelled};
 use avtp_files::{Shelf, Slot};
@@ -11,8 +11,8 @@ use std::marker::Model;
 
 /// A file of a shelf that is made and written through a buffer.
 ///
-/// What the file has and then what waits in the buffer is all that was added. If the shelf fails, the file has a prefix
-/// of that; nothing is lost or written twice, so the same call may be made again.
+/// All that was added is in the file, or waits in the buffer after it. If the shelf fails, the file has a prefix of that;
+/// nothing is lost or written twice, so the call may be repeated.
 #[derive(Drop)]
 pub struct FileWriter {
     slot: Slot,
@@ -29,11 +29,11 @@ impl Model for FileWriter {
 }
 
 impl FileWriter {
-    /// Makes a file, or empties it, to write it through a buffer in which nothing waits. The buffer's memory was
-    /// reserved before, so want of memory leaves the file as it was.
+    /// Makes a file, or empties it, to write it through a buffer in which nothing waits. The buffer's memory was reserved
+    /// before, so if memory runs out the file is unchanged.
     ///
-    /// At `Failed` the writing count rose, and `Memory` is the shelf's; after both the file is as it was. It never
-    /// answers `Missing`.
+    /// At `Failed` the writing count rose, and `Memory` is the shelf's; after both the file is unchanged. Never returns
+    /// `Missing`.
     pub fn create<F: Shelf>(buffer: Buffer, shelf: &mut F, name: &str) -> Result<Self, OpenFault>
         requires { buffer ≡ [] }
         ensures { CreatesFile (F.state shelf.old) (F.state shelf.new) name.now result }
@@ -42,19 +42,47 @@ impl FileWriter {
         Ok(FileWriter { slot, buffer })
     }
 
-    /// Adds what is spelled in at most [`Buffer::ROOM`] bytes, which are written in place, or nothing if the shelf
-    /// fails.
+    /// Adds the encoding of a value, at most [`Buffer::ROOM`] bytes, written in place; or nothing if the shelf fails.
     #[inline(always)]
     pub fn add<F: Shelf, W: Spelled>(&mut self, shelf: &mut F, added: &W) -> Result<(), Failed>
         requires made { IsMadeIn (F.state shelf.old).slots self.old.slot }
         requires size { length (W.spelling added.now) ≤ 65536 }
         ensures { AddsBytes (F.state shelf.old) (F.state shelf.new) self.old self.new (W.spelling added.now) result }
     {
-        if self.buffer.room() < added.size() {
+        self.make_room(shelf, added.size())?;
+        self.put(added);
+        Ok(())
+    }
+
+    /// Writes what waits, if there is no room for this many bytes more.
+    #[inline(always)]
+    pub(crate) fn make_room<F: Shelf>(&mut self, shelf: &mut F, size: usize) -> Result<(), Failed>
+        requires made { IsMadeIn (F.state shelf.old).slots self.old.slot }
+        requires size { size ≤ 65536 }
+        ensures { MakesRoom (F.state shelf.old) (F.state shelf.new) self.old self.new size result }
+    {
+        if self.buffer.room() < size {
             self.flush(shelf)?;
         }
-        self.buffer.add(added);
         Ok(())
+    }
+
+    /// Adds what is spelled, for which there is room.
+    #[inline(always)]
+    pub(crate) fn put<W: Spelled>(&mut self, added: &W)
+        requires { length self.old.waiting + length (W.spelling added.now) ≤ 65536 }
+        ensures { self.new ≡ record self.old { waiting = self.old.waiting ++ W.spelling added.now } }
+    {
+        self.buffer.add(added);
+    }
+
+    /// Adds bytes, for which there is room.
+    #[inline(always)]
+    pub(crate) fn push(&mut self, bytes: &[u8])
+        requires { length self.old.waiting + length bytes.now ≤ 65536 }
+        ensures { self.new ≡ record self.old { waiting = self.old.waiting ++ bytes.now } }
+    {
+        self.buffer.push(bytes);
     }
 
     /// Writes all that waits.

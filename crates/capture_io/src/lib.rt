@@ -1,7 +1,8 @@
-//! What a capture is read through, and what a file is written through, over a shelf.
+//! Readers of captures and writers of files, over a shelf.
 #![tactic(auto)]
 
 mod capture_reader;
+mod capture_writer;
 mod contents;
 mod end;
 mod feed;
@@ -10,8 +11,9 @@ mod law;
 mod pieces;
 mod source;
 
+pub use capture_writer::CaptureWriter;
 pub use contents::{Contents, read_contents};
 pub use end::{End, Stop};
 pub use file_writer::FileWriter;
-pub use law::classic_again;
+pub use law::{captures_are_written_beside_others, classic_again};
 pub use source::Source;

@@ -65,8 +65,8 @@ impl Pieces {
         })
     }
 
-    /// Reads the next piece, when no bytes wait: then bytes wait, or it answers where the reading stopped. Bytes of a
-    /// piece beyond the limit are dropped, and that there are more is answered once the others were taken.
+    /// Reads the next piece, when no bytes wait: then bytes wait, or the call returns where the reading stopped. Bytes beyond
+    /// the limit are dropped; once the others were taken, the call returns that there are more.
     pub fn read<F: Shelf>(&mut self, shelf: &mut F) -> Option<Stop>
         requires { IsDrained (F.state shelf.old).slots self.old }
         ensures { ReadsPiece (F.state shelf.old) (F.state shelf.new) self.old self.new result }

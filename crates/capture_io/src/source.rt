@@ -3,7 +3,7 @@
 ghost use Rattle.std.specs.Prelude.{◌≤◌, ◌^◌, IsSome};
 ghost use Rattle.capture_io.specs.Reader.{IsView};
 ghost use Rattle.avtp_files.specs.ShelfCalls.{ClosesSlot};
-ghost use Rattle.capture_io.specs.Source.{GivesNext, OpensSource, held_in, slot_of};
+ghost use Rattle.capture_io.specs.Source.{Advances, GivesNext, OpensSource, held_in, slot_of};
 ghost use Rattle.capture_io.specs.state.Source.{GivesUp, IsLending, lending};
 
 use crate::capture_reader::CaptureReader;
@@ -16,11 +16,11 @@ use pcap_frames::RecordView;
 use std::alloc::Global;
 use std::marker::Model;
 
-/// A capture that is read from a shelf, which gives its records one after the other. It takes at most 65,536 bytes in
-/// a call of the shelf, and its memory, which is reserved when it is opened, does not grow with the capture.
+/// A capture that is read from a shelf, and gives its records one after the other. It takes at most 65,536 bytes in a call of
+/// the shelf. Its memory is reserved when it is opened, and does not grow with the capture.
 ///
-/// A record that lies whole in the piece that was read is lent from there; only one that is cut is copied. Contracts
-/// see a lent record as held, and its bytes as taken, until the next one is asked for.
+/// A record that is complete in the piece that was read is lent from there; only one that is cut is copied. Contracts see a
+/// lent record as held, and its bytes as taken, until the next one is asked for.
 #[derive(Drop)]
 pub struct Source {
     feed: Feed,
@@ -42,9 +42,9 @@ impl Model for Source {
 impl Source {
     /// Opens a capture of which at most `limit` bytes may be read; `limit` is at most 2^62. No record is held yet.
     ///
-    /// It answers `Missing` only if the shelf shows its files and none has the name, `Failed` only if the reading count
-    /// rose, and `Memory` if no memory was found; after each of them the file is not open. The name is asked for before
-    /// memory is reserved, so exactly this name was asked for, whatever it answers.
+    /// Returns `Missing` only if the shelf shows its files and none has the name, `Failed` only if the reading count rose, and
+    /// `Memory` if memory ran out; after each of them the file is not open. The name is asked for before memory is reserved, so
+    /// exactly this name was asked for, whatever the result.
     pub fn open<F: Shelf>(
         alloc: Global,
         limit: u64,
@@ -67,8 +67,8 @@ impl Source {
         Ok(Source { feed, lent: None })
     }
 
-    /// Drops the record that is held, and reads on to the next. At `None` one is held now; otherwise it answers how the
-    /// reading ended. Once it has ended, each further call answers the same and reads nothing.
+    /// Drops the record that is held, and reads on to the next. At `None` one is held now; otherwise returns how the reading
+    /// ended. Once it has ended, each further call returns that end again and reads nothing.
     #[inline(always)]
     pub fn next<F: Shelf>(&mut self, shelf: &mut F) -> Option<End>
         requires { IsSome ((F.state shelf.old).slots (slot_of self.old)) }
@@ -80,6 +80,24 @@ impl Source {
             return None;
         }
         self.feed.next(shelf)
+    }
+
+    /// Drops the record that is held, and goes on to the next if it lies whole in what was read. Returns whether it does: if
+    /// not, `next` reads, which may take as long as whoever writes the file does.
+    #[inline(always)]
+    pub fn advance(&mut self) -> bool
+        ensures { Advances self.old self.new result }
+    {
+        give_up(&mut self.feed, self.lent);
+        self.lent = self.feed.whole_ahead();
+        self.lent.is_some()
+    }
+
+    /// Whether `next` will read from the file, as far as the bytes tell that were read: then it may take as long as whoever
+    /// writes the file does, and what is known so far is best told first. It is a hint, which no clause speaks of.
+    #[inline(always)]
+    pub fn must_read(&self) -> bool {
+        self.feed.must_read(self.lent.unwrap_or(0))
     }
 
     /// The record that is held.

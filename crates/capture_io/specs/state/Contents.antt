@@ -5,7 +5,7 @@ use Rattle.avtp_base.specs.declared.failed.NoMemory.{NoMemory}
 use Rattle.capture_io.specs.declared.contents.Contents.{Contents}
 use Rattle.capture_io.specs.declared.end.Stop.{Stop}
 
--- where the reading stopped, if what was read found memory
+-- where the reading stopped, if there was memory for what was read
 abbrev pub stop_of : Result Contents NoMemory → Option Stop
 stop_of (Ok contents) = Some contents.stop
 stop_of (Err e) = None

@@ -13,7 +13,7 @@ use Rattle.capture_io.specs.Ends.{CountsStop}
 use Rattle.capture_io.specs.Reads.{ReadsSlot, TriesOpen}
 use Rattle.capture_io.specs.Pieces.{Piecing, HasTaken}
 
--- the same of a shelf on which the file is open
+-- how a file that is open on a shelf is read in pieces
 abbrev pub HasTakenOf : ℕ → List ℕ → ShelfState → Piecing → List ℕ → Type 0
 HasTakenOf limit bytes shelf pieces prefix = HasTaken limit bytes (left_in shelf.slots pieces.slot) pieces prefix
 
@@ -27,8 +27,8 @@ pub record OpensPieces (before after : ShelfState) (limit : ℕ) (name : List �
   pub nothing : IfOk result (λ pieces. (pieces.waiting ≡ []) × (pieces.left ≡ limit))
   pub tries : TriesOpen (λ (pieces : Piecing). pieces.slot) before after name result
 
--- A read where nothing waited. Then some bytes wait, no more than might be read; or it stopped, and what was taken is all that
--- was read. The count of reading faults rose where a fault stopped it, and else is as it was.
+-- A read when nothing waited. Then some bytes wait, at most as many as might be read; or the reading stopped, and what was
+-- taken is all that was read. The count of reading faults rose if a fault stopped it, and is otherwise unchanged.
 pub record ReadsPiece (before after : ShelfState) (old new : Piecing) (result : Option Stop) : Type 0 where
   pub more : result ≡ None → (limit : ℕ) (bytes prefix : List ℕ) → HasTakenOf limit bytes before old prefix → HasTakenOf limit bytes after new prefix
   pub stopped : IfSome result (λ stop. (limit : ℕ) (bytes prefix : List ℕ) → HasTakenOf limit bytes before old prefix → IsContents limit bytes stop prefix)
@@ -38,7 +38,7 @@ pub record ReadsPiece (before after : ShelfState) (old new : Piecing) (result : 
   pub counted : CountsStop result before.reading_faults after.reading_faults
   pub reads : ReadsSlot before after old.slot new.slot
 
--- All pieces were read where nothing had been taken, as far as could or might be, and put one after the other.
+-- All pieces were read, after none had been taken, as far as they could or might be, and joined.
 pub record JoinsPieces (before after : ShelfState) (old new : Piecing) (result : Result Contents NoMemory) : Type 0 where
   pub read : IfOk result (λ contents. (limit : ℕ) (bytes : List ℕ) → HasTakenOf limit bytes before old [] → IsContents limit bytes contents.stop contents.bytes.items)
   pub bounded : IfOk result (λ contents. length contents.bytes.items ≤ old.left)

@@ -34,21 +34,21 @@ IsFront None front c n = (length front < 4) × (c ≡ classic.nothing_read) × (
 IsFront (Some Classic) front c n = n ≡ ng.nothing_read
 IsFront (Some Pcapng) front c n = c ≡ classic.nothing_read
 
--- the reader of the other layout is as it was
+-- the reader of the other layout is unchanged
 abbrev pub KeepsOther : Format → classic.Reading → classic.Reading → ng.Reading → ng.Reading → Type 0
 KeepsOther Classic c c' n n' = n' ≡ n
 KeepsOther Pcapng c c' n n' = c' ≡ c
 
--- whatever the reader had read before, it has read these bytes too now, and no record was given up
+-- whatever the reader had read before, it has now read these bytes, too, and released no record
 abbrev pub GoesOn : CaptureReading → List ℕ → CaptureReading → Type 0
 GoesOn old more new = readers.GoesOn (progress old) more (progress new)
 
--- the bytes are refused here, after these records, and so they are however they go on
+-- the bytes are refused here, after these records, whatever bytes follow
 abbrev pub RefusedAfter : List ℕ → List Record → Refusal → Type 0
 RefusedAfter bytes records refusal = IsRefusedAfter meaning bytes records refusal
 
--- What feeding does with a piece: it takes bytes from its front, and some where there are some and no record is held, and
--- goes on; or all bytes with the piece are refused.
+-- What feeding does with a piece: it takes bytes from its front, at least one if there is one and no record is held, and
+-- continues; or all bytes, including the piece, are refused.
 pub record Feeds (old : CaptureReading) (piece : List ℕ) (result : Result ℕ Refusal) (new : CaptureReading) : Type 0 where
   pub within : IfOk result (λ n. n ≤ length piece)
   pub some : IfOk result (λ n. 0 < length piece → held old ≡ None → 0 < n)
@@ -62,23 +62,23 @@ pub record Feeds (old : CaptureReading) (piece : List ℕ) (result : Result ℕ 
 abbrev pub Releases : CaptureReading → CaptureReading → Type 0
 Releases old new = readers.Releases (progress old) (progress new)
 
--- Where the capture ends with the bytes so far, these are all of its records, and this is its first refusal.
+-- If the capture ends with the bytes so far, these are all of its records, and this is its first refusal.
 pub record EndsHere (r : CaptureReading) (bytes : List ℕ) (records : List Record) (refusal : Option Refusal) : Type 0 where
   pub all : records_in bytes ≡ records ++ option_to_list (held r)
   pub first : refusal ≡ refusal_in bytes
 
 -- ---- a record that is lent
 
--- the reader with these bytes taken of what is being read of a classic capture
+-- the reader with these bytes of the header or record of a classic capture that it is reading
 abbrev pub with_part : CaptureReading → List ℕ → CaptureReading
 with_part r bytes = record r { classic = classic.with_part r.classic bytes }
 
--- These bytes are the next record of a classic capture, whole, and nothing of it was taken yet.
+-- These bytes are the next whole record of a classic capture, and nothing of it was taken yet.
 pub record IsNext (r : CaptureReading) (bytes : List ℕ) : Type 0 where
   pub format : r.format ≡ Some Classic
   pub next : classic.IsNext r.classic bytes
 
--- Where the next record lies whole at the front of the piece, this is its size.
+-- If the next record is complete at the front of the piece, this is its size.
 pub record FindsNext (r : CaptureReading) (piece : List ℕ) (result : Option ℕ) : Type 0 where
   pub within : IfSome result (λ size. size ≤ length piece)
   pub next : IfSome result (λ size. IsNext r (take size piece))

@@ -12,13 +12,13 @@ use Rattle.capture_io.specs.state.Reader.{IsNext, Releases, with_part}
 use Rattle.capture_io.specs.Reads.{ReadsSlot}
 use Rattle.capture_io.specs.Source.{Sourcing, slot_of, remains_of, held_in, HasFed, EndsAfter, to_do}
 
--- the same of a shelf on which the file is open
+-- what a source has given of a file that is open on a shelf
 abbrev pub HasFedOf : ℕ → List ℕ → ShelfState → Sourcing → List Record → Type 0
 HasFedOf limit bytes shelf source records = HasFed limit bytes (remains_of shelf source) source records
 
--- A call that read on, or took what waits, left this. Where the reading goes on, the source has given up the same records of
--- the same file, and less is to be done. Where it ended, it ended so after them. The count of reading faults rose where a
--- fault ended it, and else is as it was.
+-- The state after a call that read more, or took what waits. If the reading continues, the source has given the same records of
+-- the same file, and less work is left. If it ended, it ended in this way after them. The count of reading faults rose if a
+-- fault ended it, and is otherwise unchanged.
 pub record ReadsOn (before after : ShelfState) (old new : Sourcing) (result : Option End) : Type 0 where
   pub more : result ≡ None → (limit : ℕ) (bytes : List ℕ) (records : List Record) → HasFedOf limit bytes before old records → HasFedOf limit bytes after new records
   pub ends : IfSome result (λ how. (limit : ℕ) (bytes : List ℕ) (records : List Record) → HasFedOf limit bytes before old records → EndsAfter limit bytes (Rose before.reading_faults after.reading_faults) how records)
@@ -37,22 +37,22 @@ IsReady slots source = IsSome (slots (slot_of source)) × (held_in source ≡ No
 
 -- ---- a record that is lent
 
--- the source, with so many of the bytes that wait taken by its reader
+-- the source after its reader took the first `count` of the bytes that wait
 abbrev pub holding : Sourcing → ℕ → Sourcing
 holding source size = record source { pieces = record source.pieces { waiting = drop size source.pieces.waiting }; reader = with_part source.reader (take size source.pieces.waiting) }
 
--- The reading has not ended, and so many of the bytes that wait are the next record.
+-- The reading has not ended, and the first bytes that wait, this many, are the next record.
 pub record LiesAhead (source : Sourcing) (size : ℕ) : Type 0 where
   pub going : source.ended ≡ None
   pub within : size ≤ length source.pieces.waiting
   pub next : IsNext source.reader (take size source.pieces.waiting)
 
--- Where the next record lies whole at the front of the bytes that wait, this is its size.
+-- If the next record is complete at the front of the bytes that wait, this is its size.
 pub record FindsAhead (source : Sourcing) (result : Option ℕ) : Type 0 where
   pub ahead : IfSome result (λ size. LiesAhead source size)
   pub none : result ≡ None → (size : ℕ) → LiesAhead source size → ⊥
 
--- a source that lends the record in so many of the bytes that wait, or none, stands for this one
+-- the value of a source that lends the record in the first bytes that wait, or lends none
 abbrev pub lending : Option ℕ → Sourcing → Sourcing
 lending None source = source
 lending (Some size) source = holding source size
@@ -61,7 +61,7 @@ abbrev pub IsLending : Option ℕ → Sourcing → Type 0
 IsLending None source = ⊤
 IsLending (Some size) source = LiesAhead source size
 
--- The record that was held was given up, and nothing else was done.
+-- The record that was held was released, and nothing else was done.
 pub record GivesUp (old new : Sourcing) : Type 0 where
   pub pieces : new.pieces ≡ old.pieces
   pub reader : Releases old.reader new.reader

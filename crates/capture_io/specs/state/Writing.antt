@@ -1,12 +1,18 @@
 -- Kept for proofs: what the code's own parts hold and do. No clause of a public call rests on it.
 -- A file that is written through a buffer.
-use Rattle.std.specs.Prelude.{◌≡◌, ℕ, List, [], OnOk, Result}
+use Rattle.std.specs.Prelude.{◌≡◌, ℕ, ◌+◌, ◌≤◌, List, [], length, OnOk, Result}
 use Rattle.avtp_base.specs.declared.failed.Failed.{Failed}
 use Rattle.avtp_base.specs.States.{ShelfState}
 use Rattle.capture_io.specs.Writing.{Writing, IsWriting, WritesSlot}
 
--- All that waited was written, or a part of it where the shelf failed.
+-- All that waited was written, or a part of it if the shelf failed.
 pub record WritesOut (before after : ShelfState) (old new : Writing) (result : Result Unit Failed) : Type 0 where
   pub none_waits : OnOk result (new.waiting ≡ [])
+  pub kept : (begun : ShelfState) (name all : List ℕ) → IsWriting begun before old name all → IsWriting begun after new name all
+  pub writes : WritesSlot before after old new result
+
+-- There is room for so many bytes more, or the shelf failed; what waited may have been written for that.
+pub record MakesRoom (before after : ShelfState) (old new : Writing) (size : ℕ) (result : Result Unit Failed) : Type 0 where
+  pub room : OnOk result (length new.waiting + size ≤ 65536)
   pub kept : (begun : ShelfState) (name all : List ℕ) → IsWriting begun before old name all → IsWriting begun after new name all
   pub writes : WritesSlot before after old new result

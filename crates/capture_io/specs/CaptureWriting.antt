@@ -1,0 +1,84 @@
+-- A capture that is written to a file of a shelf while others are read.
+use Rattle.std.specs.Prelude.{◌≡◌, ◌≢◌, ℕ, ℤ, List, [], ◌∷◌, ◌++◌, length, Option, None, Some, IfOk, IsErrOf, IsSome, OnErr, OnOk, Result, option_map}
+use Rattle.pcap_frames.specs.declared.style.Order.TheVariants.{Little}
+use Rattle.pcap_frames.specs.declared.style.Style.{Style}
+use Rattle.pcap_frames.specs.declared.style.Unit.TheVariants.{Nano}
+use Rattle.pcap_frames.specs.Capture.{Record, capture_spelling}
+use Rattle.avtp_base.specs.declared.failed.Failed.{Failed}
+use Rattle.avtp_base.specs.declared.failed.OpenFault.{OpenFault}
+use Rattle.avtp_base.specs.declared.failed.OpenFault.TheVariants as open_fault
+use Rattle.avtp_base.specs.Faults.{IsCounted, IsOpenCounted}
+use Rattle.avtp_base.specs.Files.{Files, Slots, file_of, left_in, name_in, PutsFile}
+use Rattle.avtp_base.specs.States.{Asks, AsksNothing, ShelfState}
+use Rattle.avtp_files.specs.ShelfCalls.{IsMadeIn}
+use Rattle.capture_io.specs.Writing.{NotMade, PutsPrefix, WritesSlot, Writing}
+
+-- captures are little-endian, and count nanoseconds
+abbrev pub written_style : Style
+written_style = record { order = Little; unit = Nano }
+
+-- the record of a frame that is captured whole
+abbrev pub whole_record : ℤ → List ℕ → Record
+whole_record arrival frame = record { arrival = arrival; orig_len = length frame; bytes = frame }
+
+-- the bytes of a capture of these records
+abbrev pub capture_bytes : List Record → List ℕ
+capture_bytes records = capture_spelling written_style records
+
+-- ---- the file that is written
+
+-- Since the shelf had these files, the file of this name was made, and it is open in the writer's slot. The bytes are those
+-- that the file has and then those that wait. All other files are as they were, as far as the shelf shows them.
+pub record HoldsFile (files : Option Files) (shelf : ShelfState) (writer : Writing) (name bytes : List ℕ) : Type 0 where
+  pub held : List ℕ
+  pub split : bytes ≡ held ++ writer.waiting
+  pub put : PutsFile files shelf.files name held
+  pub made : IsMadeIn shelf.slots writer.slot
+  pub named : IsSome files → name_in shelf.slots writer.slot ≡ Some name
+
+-- what the file has and then what waits is the capture of these records
+abbrev pub HoldsCapture : Option Files → ShelfState → Writing → List ℕ → List Record → Type 0
+HoldsCapture files shelf writer name records = HoldsFile files shelf writer name (capture_bytes records)
+
+-- ---- all other slots
+
+-- Every slot but slot k is live or free as it was, with its file; and if files are shown, what is left to read is as it was
+-- in each of them whose file has another name than this.
+pub record KeepsBeside (files : Option Files) (old new : Slots) (k : ℕ) (name : List ℕ) : Type 0 where
+  pub same : (j : ℕ) → j ≢ k → option_map file_of (new j) ≡ option_map file_of (old j)
+  pub left : IsSome files → (j : ℕ) → j ≢ k → name_in old j ≢ Some name → left_in new j ≡ left_in old j
+
+-- ---- calls
+
+-- A file of this name was made, which is to have a capture without a record so far; or it was not made, and the count of
+-- writing faults rose if the shelf failed. The name was asked for.
+pub record BeginsCapture (before after : ShelfState) (name : List ℕ) (result : Result Writing OpenFault) : Type 0 where
+  pub begun : IfOk result (λ writer. HoldsCapture before.files after writer name [])
+  pub fresh : IfOk result (λ writer. before.slots writer.slot ≡ None)
+  pub beside : IfOk result (λ writer. KeepsBeside before.files before.slots after.slots writer.slot name)
+  pub not_made : OnErr result (NotMade before after)
+  pub not_missing : IsErrOf result open_fault.Missing → ⊥
+  pub reading : after.reading_faults ≡ before.reading_faults
+  pub counted : IsOpenCounted before.writing_faults after.writing_faults result
+  pub asked : Asks (name ∷ []) before after
+
+-- The capture has this record more, or none if the shelf failed; and of all other slots the call says what each write says.
+pub record AddsRecord (before after : ShelfState) (old new : Writing) (r : Record) (result : Result Unit Failed) : Type 0 where
+  pub added : OnOk result ((files : Option Files) (name : List ℕ) (records : List Record) → HoldsCapture files before old name records → HoldsCapture files after new name (records ++ r ∷ []))
+  pub kept : OnErr result ((files : Option Files) (name : List ℕ) (records : List Record) → HoldsCapture files before old name records → HoldsCapture files after new name records)
+  pub writes : WritesSlot before after old new result
+
+-- The file was closed, and has a prefix of the capture. Its slot is free; the count of writing faults rose if the shelf
+-- failed, no reading fault was counted, and no name was asked for.
+pub record ClosesCapture (before after : ShelfState) (writer : Writing) (result : Result Unit Failed) : Type 0 where
+  pub prefix : (files : Option Files) (name : List ℕ) (records : List Record) → HoldsCapture files before writer name records → PutsPrefix files after.files name (capture_bytes records)
+  pub free : (files : Option Files) (name : List ℕ) (records : List Record) → HoldsCapture files before writer name records → after.slots writer.slot ≡ None
+  pub beside : (files : Option Files) (name : List ℕ) (records : List Record) → HoldsCapture files before writer name records → KeepsBeside files before.slots after.slots writer.slot name
+  pub reading : after.reading_faults ≡ before.reading_faults
+  pub counted : IsCounted before.writing_faults after.writing_faults result
+  pub asked : AsksNothing before after
+
+-- The capture was finished: its file was closed, and if nothing failed it has the whole capture.
+pub record FinishesCapture (before after : ShelfState) (writer : Writing) (result : Result Unit Failed) : Type 0 where
+  pub put : OnOk result ((files : Option Files) (name : List ℕ) (records : List Record) → HoldsCapture files before writer name records → PutsFile files after.files name (capture_bytes records))
+  pub closes : ClosesCapture before after writer result

@@ -1,0 +1,108 @@
+//! A capture that is written to a file.
+
+ghost use Rattle.std.specs.Prelude.{◌≡◌, ◌+◌, ◌*◌, ◌^◌, ◌≤◌, [], Ok, length, pos, ◌≤ℤ◌, ◌<ℤ◌};
+ghost use Rattle.avtp_files.specs.ShelfCalls.{IsMadeIn};
+ghost use Rattle.pcap_frames.specs.Capture.{header_spelling};
+ghost use Rattle.capture_io.specs.CaptureWriting.{AddsRecord, BeginsCapture, ClosesCapture, FinishesCapture, whole_record, written_style};
+
+use crate::file_writer::FileWriter;
+use avtp_base::{Buffer, Failed, OpenFault, Spelled};
+use avtp_files::Shelf;
+use pcap_frames::{Order, Style, Unit, record_header, write_header};
+use std::marker::Model;
+
+/// Captures are little-endian, and count nanoseconds.
+const STYLE: Style = Style {
+    order: Order::Little,
+    unit: Unit::Nano,
+};
+
+/// The length of the header of a capture's file.
+const FILE_HEADER: usize = 24;
+
+/// The length of the header of a record.
+const RECORD_HEADER: usize = 16;
+
+/// A classic capture, little-endian with nanoseconds (draft-ietf-opsawg-pcap), that is written to a file of a shelf.
+///
+/// What the file has and then what waits in the buffer is the file header and a record of each frame that was added. If the
+/// shelf fails, the file has a prefix of that; nothing is lost or written twice, so the same call may be made again. Other
+/// files of the shelf may be read in between.
+#[derive(Drop)]
+pub struct CaptureWriter {
+    file: FileWriter,
+}
+
+impl Model for CaptureWriter {
+    ghost use Rattle.capture_io.specs.Writing.{Writing};
+
+    ghost Value = { Writing };
+
+    ghost view = { λ w. w.file };
+}
+
+/// The header of the capture's file.
+fn file_header() -> [u8; FILE_HEADER]
+    ensures { result ≡ header_spelling written_style }
+{
+    let mut header = [0; FILE_HEADER];
+    let Ok(_) = write_header(&mut header, STYLE) else {
+        unreachable!()
+    };
+    header
+}
+
+impl CaptureWriter {
+    /// Makes a file, or empties it, for a capture, which has no record so far. The buffer's memory was reserved before, so
+    /// want of memory leaves the file as it was.
+    ///
+    /// At `Failed` the writing count rose, and `Memory` is the shelf's; after both the file is as it was. It never
+    /// answers `Missing`.
+    pub fn create<F: Shelf>(buffer: Buffer, shelf: &mut F, name: &str) -> Result<Self, OpenFault>
+        requires { buffer ≡ [] }
+        ensures { BeginsCapture (F.state shelf.old) (F.state shelf.new) name.now result }
+    {
+        let mut file = FileWriter::create(buffer, shelf, name)?;
+        file.push(&file_header());
+        Ok(CaptureWriter { file })
+    }
+
+    /// Adds the record of a frame of at most 65,520 bytes, which is captured whole and spelled in place; or nothing if the
+    /// shelf fails. `arrival` is in nanoseconds, from 0 to before 2^32 seconds.
+    #[inline(always)]
+    pub fn add<F: Shelf, W: Spelled>(
+        &mut self,
+        shelf: &mut F,
+        arrival: i64,
+        frame: &W,
+    ) -> Result<(), Failed>
+        requires made { IsMadeIn (F.state shelf.old).slots self.old.slot }
+        requires begun { pos 0 ≤ℤ arrival }
+        requires ended { arrival <ℤ pos (2 ^ 32 * 1000000000) }
+        requires size { length (W.spelling frame.now) ≤ 65520 }
+        ensures { AddsRecord (F.state shelf.old) (F.state shelf.new) self.old self.new (whole_record arrival (W.spelling frame.now)) result }
+    {
+        let size = frame.size();
+        self.file.make_room(shelf, RECORD_HEADER + size)?;
+        self.file
+            .push(&record_header(STYLE, arrival, size as u32, size as u32));
+        self.file.put(frame);
+        Ok(())
+    }
+
+    /// Writes what waits, and closes the file. At `Ok` the file has the whole capture, otherwise a prefix of it.
+    pub fn finish<F: Shelf>(self, shelf: &mut F) -> Result<(), Failed>
+        requires { IsMadeIn (F.state shelf.old).slots self.slot }
+        ensures { FinishesCapture (F.state shelf.old) (F.state shelf.new) self result }
+    {
+        self.file.finish(shelf)
+    }
+
+    /// Closes the file, which has a prefix of the capture.
+    pub fn abandon<F: Shelf>(self, shelf: &mut F)
+        requires { IsMadeIn (F.state shelf.old).slots self.slot }
+        ensures { ClosesCapture (F.state shelf.old) (F.state shelf.new) self (Ok tt) }
+    {
+        self.file.abandon(shelf);
+    }
+}
