@@ -35,7 +35,7 @@ use Rattle.am824_gateway.proofs.PieceLemmas.{counted}
 
 -- ---- what holds of all pieces
 
-some_frames : (to : To) (channels : ℕ) → 1 ≤ channels → channels ≤ 256 → 1 ≤ most_frames to channels
+pub some_frames : (to : To) (channels : ℕ) → 1 ≤ channels → channels ≤ 256 → 1 ≤ most_frames to channels
 some_frames Am824 channels some most = grind arith
 some_frames Aaf channels some most = grind arith
 
@@ -182,18 +182,32 @@ size_is to shape id n batch frames i turn p frame is inside whole =
     let turned : turn_of (piece_frame to shape id n batch p) ≡ turn = cc in
     sym (ap (λ (t : Turn). t.size) turned) ∙ length_frame to shape id n batch p inside whole
 
+-- the number of a turn
+pub number_is : (to : To) (shape : Shape) (id n : ℕ) (batch : Presented) (frames : List SentFrame) (i : ℕ) (turn : Turn) (p : Piece) → slice_get frames i ≡ Some (piece_frame to shape id n batch p)
+    → option_map turn_of (slice_get frames i) ≡ Some turn → n ≡ turn.number
+number_is to shape id n batch frames i turn p frame is =
+    let same : Some (turn_of (piece_frame to shape id n batch p)) ≡ Some turn = rw frame at is in
+    let turned : turn_of (piece_frame to shape id n batch p) ≡ turn = cc in
+    ap (λ (t : Turn). t.number) turned
+
 -- ---- what a gateway holds
 
 -- there is piece i
-pub known : (to : To) (id : ℕ) (current : Option Current) (pieces : List Piece) (c : Current) (i : ℕ) → current ≡ Some c → i < length (frames_in to id current pieces) → i < length pieces
-known to id None pieces c i e h = absurd cc
-known to id (Some d) pieces c i e h = omega (arith, h, length_frames to d.shape id d.first d.batch pieces)
+pub known : (current : Option Current) (pieces : List Piece) (c : Current) (i : ℕ) → current ≡ Some c → i < length (frames_in current pieces) → i < length pieces
+known None pieces c i e h = absurd cc
+known (Some d) pieces c i e h = omega (arith, h, length_frames d.stream.to d.stream.shape d.stream.id d.first d.batch pieces)
 
 -- it lies within the batch
-pub within_at : (to : To) (current : Option Current) (pieces : List Piece) (c : Current) (i : ℕ) (p : Piece) → current ≡ Some c → IsCutFrom to current pieces → i < length pieces → p ≡ slice_index_or pieces i p → IsWithin to c.shape c.batch p
-within_at to current pieces c i p e cut h is =
-    let cut : IsCut to c pieces = rw e at cut in
-    subst (IsWithin to c.shape c.batch) (sym is) (at (IsWithin to c.shape c.batch) pieces i p h cut.within)
+pub within_at : (current : Option Current) (pieces : List Piece) (c : Current) (i : ℕ) (p : Piece) → current ≡ Some c → IsCutFrom current pieces → i < length pieces → p ≡ slice_index_or pieces i p → IsWithin c.stream.to c.stream.shape c.batch p
+within_at current pieces c i p e cut h is =
+    let cut : IsCut c pieces = rw e at cut in
+    subst (IsWithin c.stream.to c.stream.shape c.batch) (sym is) (at (IsWithin c.stream.to c.stream.shape c.batch) pieces i p h cut.within)
+
+-- so does a piece alone
+pub cut_one : (current : Option Current) (pieces : List Piece) (c : Current) (i : ℕ) (p : Piece) → current ≡ Some c → IsCutFrom current pieces → i < length pieces → p ≡ slice_index_or pieces i p → IsCut c (p ∷ [])
+cut_one current pieces c i p e cut h is =
+    let all : IsCut c pieces = rw e at cut in
+    record { shape = all.shape; presentable = all.presentable; size = all.size; within = (within_at current pieces c i p e cut h is, tt) }
 
 short : (xs : List SentFrame) (i : ℕ) (turn : Turn) → option_map turn_of (slice_get xs i) ≡ Some turn → i < length xs
 short [] i turn e = absurd cc
@@ -201,9 +215,8 @@ short (x ∷ xs) zero turn e = omega arith
 short (x ∷ xs) (suc i) turn e = let rest = short xs i turn e in omega arith
 
 -- there is piece i, since it has a turn
-pub known_by : (to : To) (id : ℕ) (current : Option Current) (pieces : List Piece) (c : Current) (i : ℕ) (turn : Turn) → current ≡ Some c
-    → option_map turn_of (slice_get (frames_in to id current pieces) i) ≡ Some turn → i < length pieces
-known_by to id current pieces c i turn e is = known to id current pieces c i e (short (frames_in to id current pieces) i turn is)
+pub known_by : (current : Option Current) (pieces : List Piece) (c : Current) (i : ℕ) (turn : Turn) → current ≡ Some c → option_map turn_of (slice_get (frames_in current pieces) i) ≡ Some turn → i < length pieces
+known_by current pieces c i turn e is = known current pieces c i e (short (frames_in current pieces) i turn is)
 
 -- the bytes of a frame that was written
 pub made_is : (to : To) (shape : Shape) (id n : ℕ) (batch : Presented) (p : Piece) (out values : List ℕ) (s from end : ℕ) → s ≡ value_in to * shape.channels → values ≡ batch.bytes → from ≡ p.first * s → end ≡ from + p.count * s

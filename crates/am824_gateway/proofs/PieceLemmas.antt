@@ -1,10 +1,13 @@
 -- How a batch is cut.
 use Rattle.std.proofs.Common.{◌≡◌, ℕ, zero, suc, ◌+◌, ◌-◌, ◌*◌, ◌/◌, ◌<◌, ◌≤◌, Bool, true, false, List, [], ◌∷◌, ◌++◌, length, refl, sym, ap, ◌∙◌, append_assoc, arith}
-use Rattle.std.specs.Prelude.{◌||◌, ◌+ℤ◌, nat_lt, pos, ℤ}
+use Rattle.std.specs.Prelude.{◌||◌, ◌+ℤ◌, ◌*ℤ◌, ◌≤ℤ◌, ◌<ℤ◌, min, nat_lt, pos, ℤ}
 use Rattle.std.specs.Ordering.{int_eq}
 use Rattle.std.specs.List.{list_any}
 use Rattle.std.proofs.Math.Nat.{div-mul-le_self, mul-le-mul_right}
-use Rattle.std.proofs.lemmas.Bool.Decides.{nat_tests}
+use Rattle.std.proofs.lemmas.Bool.Decides.{Decides-int_eq, nat_tests}
+use Rattle.std.proofs.lemmas.Int.{ints}
+use Rattle.time_unfold.specs.Lines.{floor_of}
+use Rattle.time_unfold.proofs.Floors.{floor_above, floor_below, floor_only}
 use Rattle.sample_schedule.specs.Batches.{Presented, sample_instant}
 use Rattle.talk_plan.specs.Plan.{interval_of}
 use Rattle.talk_plan.specs.Timing.{nominal_offset}
@@ -12,7 +15,9 @@ use Rattle.am824_gateway.specs.declared.piece.Piece.{Piece}
 use Rattle.am824_gateway.specs.declared.scan.Shape.{Shape}
 use Rattle.am824_gateway.specs.declared.scan.To.{To}
 use Rattle.am824_gateway.specs.Labels.{value_out}
-use Rattle.am824_gateway.specs.Pieces.{block_after, going_on, is_late, is_nominal, most_bytes, most_frames, next_block, piece_count, pieces_from}
+use Rattle.am824_gateway.specs.Pieces.{block_after, going_on, is_late, is_nominal, most_bytes, most_frames, next_block, piece_count, pieces_from, pieces_of}
+use Rattle.am824_gateway.specs.Scan.{IsShape}
+use Rattle.am824_gateway.specs.state.Cutting.{IsOnePiece}
 
 -- ---- how long a piece is
 
@@ -97,3 +102,52 @@ most_of count most d h = (let times = mul-le-mul_right d h in let whole = div-mu
 -- a piece fits a packet
 pub fits : (to : To) (channels count : ℕ) → count ≤ most_frames to channels → count * (value_out to * channels) ≤ most_bytes to
 fits to channels count h = most_of count (most_bytes to) (value_out to * channels) h
+
+-- ---- a batch that is one piece
+
+all_pass : (test : ℕ → Bool) (j more : ℕ) → ((k : ℕ) → test k ≡ true) → going_on test j more ≡ j + more
+all_pass test j zero pass = omega arith
+all_pass test j (suc more) pass = (let next = all_pass test (suc j) more pass in rw (pass j, next) (omega arith))
+
+floor_natural : (a d : ℕ) → 1 ≤ d → floor_of (pos a) d ≡ pos (a / d)
+floor_natural a d some = floor_only (pos a) (floor_of (pos a) d) (pos (a / d)) d (floor_below (pos a) d some) (floor_above (pos a) d some) (below a d) (above a d some)
+  where
+    below : (x n : ℕ) → (pos (x / n) *ℤ pos n) ≤ℤ pos x
+    below x n = (let whole = div-mul-le_self x n in omega (arith, ints, whole))
+
+    above : (x n : ℕ) → 1 ≤ n → pos x <ℤ ((pos (x / n) +ℤ pos 1) *ℤ pos n)
+    above x n h = omega (arith, ints)
+
+steps : (from : ℤ) (num k : ℕ) → from ≡ pos 0 → num ≡ 1000000000 → (from +ℤ pos k) *ℤ pos num ≡ pos (k * 1000000000)
+steps from num k e n = rw (e, n) (omega (arith, ints))
+
+on_line : (rate k : ℕ) (batch : Presented) → 1 ≤ rate → batch.from ≡ pos 0 → batch.line.num ≡ 1000000000 → batch.line.den ≡ rate → sample_instant batch k ≡ batch.line.base +ℤ pos (nominal_offset rate k)
+on_line rate k batch some from num den =
+    ap (λ (z : ℤ). batch.line.base +ℤ floor_of z batch.line.den) (steps batch.from batch.line.num k from num)
+    ∙ (ap (λ (d : ℕ). batch.line.base +ℤ floor_of (pos (k * 1000000000)) d) den ∙ ap (λ (z : ℤ). batch.line.base +ℤ z) (floor_natural (k * 1000000000) rate some))
+
+pub one_piece : (to : To) (shape : Shape) (batch : Presented) (block : ℕ) → IsOnePiece to shape batch → 1 ≤ shape.rate → 1 ≤ batch.count → pieces_of to shape batch block ≡ record { first = 0; count = batch.count; block = block } ∷ []
+one_piece to shape batch block is some full =
+    let passes = λ (k : ℕ).
+    let here = on_line shape.rate k batch some is.begun is.num is.den in
+    let start = on_line shape.rate 0 batch some is.begun is.num is.den in
+    let none : nominal_offset shape.rate 0 ≡ 0 = omega (arith, some) in
+    let begin : sample_instant batch 0 ≡ batch.line.base = start ∙ (rw none (omega (arith, ints))) in
+    let zero_k : 0 + k ≡ k = omega arith in
+    (Decides-int_eq (sample_instant batch (0 + k)) (sample_instant batch 0 +ℤ pos (nominal_offset shape.rate k))).1 (rw (zero_k, here, begin) refl) in
+    let all = all_pass (is_nominal shape.rate batch 0) 1 (min (most_frames to shape.channels) (batch.count - 0) - 1) passes in
+    let fits = is.fits in
+    let count : piece_count to shape batch 0 ≡ batch.count = omega (arith, all, fits, full) in
+    let first = first_piece to shape batch batch.count 0 block full full in
+    let rest = no_piece to shape batch (batch.count - 1) (0 + piece_count to shape batch 0) (next_block (interval_of shape.rate) block (piece_count to shape batch 0)) (omega (arith, count)) in
+    first ∙ (rw (rest, count) refl)
+
+pub some_rate : (shape : Shape) → IsShape shape → 1 ≤ shape.rate
+some_rate shape is = (let known = is.rate in grind (arith, nat_tests))
+
+pub late_one : (batch : Presented) (p : Piece) → list_any (is_late batch) (p ∷ []) ≡ is_late batch p
+late_one batch p = by (is_late batch p)
+  where
+    by : (b : Bool) → (b || false) ≡ b
+    by true = refl
+    by false = refl

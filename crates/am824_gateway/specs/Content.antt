@@ -1,4 +1,4 @@
--- What a record holds of a stream, by what a gateway asks of it.
+-- What a gateway reads of a record.
 use Rattle.std.specs.Prelude.{⊤, ℕ, ◌≤◌, ◌==◌, Bool, true, false, ◌&&◌, ◌||◌, if◌then◌else◌, List, Option, Some, None}
 use Rattle.avtp_base.specs.declared.refusal.Refusal.{Refusal}
 use Rattle.aaf_format.specs.declared.aaf.AafFormat.{AafFormat}
@@ -21,7 +21,7 @@ has_24_bits Int32 = false
 has_24_bits Int24 = true
 has_24_bits Int16 = false
 
--- PCM of this rate. The bit depth is the number of bits that are used, and 0 says that all are (IEEE 1722-2016, 7).
+-- PCM of this rate. The bit depth is the number of bits that are used; 0 means all of them (IEEE 1722-2016, 7).
 abbrev pub pcm : Aaf → ℕ → Samples
 pcm v rate = record {
   format = ToAaf;
@@ -31,7 +31,7 @@ pcm v rate = record {
   linear = true;
 }
 
--- AM824 of this rate: a data block has a quadlet for each channel
+-- AM824 of this rate: a data block has one quadlet for each channel
 abbrev pub am824 : Iec → ℕ → Samples
 am824 v rate = record {
   format = ToAm824;
@@ -41,22 +41,22 @@ am824 v rate = record {
   linear = are_linear v.payload;
 }
 
--- samples, if there are any and their rate is known: others are never presented
+-- samples, if there are any and their rate is known; others are never presented
 abbrev pub samples_or_silent : ℕ → Option ℕ → (ℕ → Samples) → Content
 samples_or_silent count None samples = Silent
 samples_or_silent count (Some rate) samples = if count == 0 then Silent else Audio (samples rate)
 
--- what a packet of PCM holds that its reader may refuse
+-- what a packet of PCM holds, which its reader may refuse
 abbrev pub pcm_content : Option Refusal → Aaf → Content
 pcm_content None v = samples_or_silent v.count (rate_of v.nsr) (pcm v)
 pcm_content (Some refusal) v = Silent
 
--- what a packet of IEC 61883-6 holds that its reader may refuse
+-- what a packet of IEC 61883-6 holds, which its reader may refuse
 abbrev pub am824_content : Option Refusal → Iec → Content
 am824_content None v = samples_or_silent v.count (rate_of_fdf v.cip.fdf) (am824 v)
 am824_content (Some refusal) v = Silent
 
--- what a packet of a stream holds; one of H.264 is not read
+-- what a packet of a stream holds; a packet of H.264 is not read
 abbrev pub packet_content : PacketOfStream → Content
 packet_content p =
     if p.subtype == cvf_subtype then Video
@@ -67,7 +67,7 @@ packet_content p =
 abbrev pub content : ℕ → List ℕ → Content
 content stream bytes = if belongs stream_kinds stream bytes then packet_content (stream_packet bytes) else Silent
 
--- samples have a channel at least
+-- samples have at least one channel
 abbrev pub IsCounted : Content → Type 0
 IsCounted Silent = ⊤
 IsCounted Video = ⊤

@@ -1,4 +1,4 @@
--- A gateway, as its contracts see it.
+-- A gateway, as its contracts state it.
 use Rattle.std.specs.Prelude.{◌≡◌, ℕ, ◌≤◌, pos, ◌≤ℤ◌, ◌<ℤ◌, List, slice_get, Option, Some, None}
 use Rattle.std.specs.Option.{option_map}
 use Rattle.sample_schedule.specs.Batches.{Presented}
@@ -10,8 +10,8 @@ use Rattle.am824_gateway.specs.declared.scan.To.{To}
 use Rattle.am824_gateway.specs.Packets.{frames_with}
 use Rattle.am824_gateway.specs.Pieces.{Given, captures_end, given_with}
 
--- A gateway: the format that it turns a stream into, the shape of that stream, the id under which it sends, what it gave out
--- so far, and the frames of the last batch that was not skipped.
+-- A gateway: the format that it turns a stream into; the shape of that stream; the id that it sends under; what it has given
+-- out; and the frames of the last batch that was not skipped.
 pub record Gating : Type 0 where
   pub to : To
   pub shape : Option Shape
@@ -27,8 +27,8 @@ given_out (Some shape) g batch = record g {
   frames = frames_with g.to shape g.id g.given batch;
 }
 
--- the turn is that of frame i of the last batch, which a capture can hold: it arrives from 0 to before 2^32 seconds, and has
--- at most 1518 bytes
+-- The turn is that of frame i of the last batch. A capture can hold it: it has at most 1518 bytes, and arrives at 0 or later,
+-- before 2^32 seconds.
 pub record IsPieceTurn (g : Gating) (i : ℕ) (turn : Turn) : Type 0 where
   pub is : option_map turn_of (slice_get g.frames i) ≡ Some turn
   pub begun : pos 0 ≤ℤ turn.arrival

@@ -1,5 +1,5 @@
--- Values of 24 bits with and without the label of AM824 (IEC 61883-6): a quadlet is a label byte and 24 bits, highest byte
--- first, as PCM of 24 bits has them.
+-- Values of 24 bits with and without the label of AM824 (IEC 61883-6). A quadlet is a label byte and 24 bits. The highest byte
+-- comes first, as in PCM of 24 bits.
 use Rattle.std.specs.Prelude.{ℕ, zero, suc, ◌*◌, ◌+◌, ◌/◌, ◌==◌, Bool, true, ◌&&◌, List, [], ◌∷◌, ◌++◌, length, get_or, take, drop}
 use Rattle.am824_gateway.specs.declared.scan.To.{To}
 use Rattle.am824_gateway.specs.declared.scan.To.TheVariants.{Aaf, Am824}
@@ -17,7 +17,7 @@ first_are_linear (suc n) quadlets = first_are_linear n quadlets && (get_or quadl
 abbrev pub are_linear : List ℕ → Bool
 are_linear quadlets = first_are_linear (length quadlets / 4) quadlets
 
--- n values of 24 bits as quadlets: each with the label of linear audio of 24 bits in front
+-- n values of 24 bits as quadlets: each after the label of linear audio of 24 bits
 abbrev pub labelled : ℕ → List ℕ → List ℕ
 labelled zero values = []
 labelled (suc n) values = labelled n values ++ (linear_label ∷ take 3 (drop (3 * n) values))
@@ -27,7 +27,7 @@ abbrev pub unlabelled : ℕ → List ℕ → List ℕ
 unlabelled zero quadlets = []
 unlabelled (suc n) quadlets = unlabelled n quadlets ++ take 3 (drop (4 * n + 1) quadlets)
 
--- The bytes of a value of 24 bits, as it is presented to a gateway to this format: a quadlet of AM824 has a label in front.
+-- the bytes of a value of 24 bits as a gateway to this format is given it: a quadlet of AM824 begins with a label
 abbrev pub value_in : To → ℕ
 value_in Am824 = 3
 value_in Aaf = 4

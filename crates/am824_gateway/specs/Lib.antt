@@ -4,4 +4,7 @@ pub mod Scan
 pub mod Pieces
 pub mod Packets
 pub mod Gateways
+pub mod Lending
+pub mod Laws
+pub mod Samples
 pub mod state

@@ -34,8 +34,8 @@ samples_of to shape batch p = turned to (p.count * shape.channels) (values_of to
 abbrev pub timestamp_at : ℤ → ℕ
 timestamp_at instant = unsigned_abs (int_rem_euclid instant (pos (2 ^ 32)))
 
--- The stream header of packet n (IEEE 1722-2016, 4.4.4), which is stamped with this instant, before this many bytes. The media
--- clock never restarts.
+-- the stream header of packet n (IEEE 1722-2016, 4.4.4), stamped with this instant, before a payload of this many bytes; the
+-- media clock never restarts
 abbrev pub header_at : ℕ → ℕ → ℕ → ℤ → ℕ → StreamHeader
 header_at subtype id n instant length = record {
   subtype = subtype;
@@ -50,7 +50,7 @@ header_at subtype id n instant length = record {
   data_length = length;
 }
 
--- a packet of AM824 with these data blocks, which comes from no IEEE 1394 bus, as a talker sends it
+-- a packet of AM824 with these data blocks, as a talker sends it; it comes from no IEEE 1394 bus
 abbrev pub am824_packet : Shape → StreamHeader → Piece → List ℕ → Iec
 am824_packet shape header p blocks = record {
   header = header;
@@ -64,7 +64,7 @@ am824_packet shape header p blocks = record {
   reserved = false;
 }
 
--- a packet of PCM of 24 bits with these samples, as a talker sends it that stamps each packet
+-- a packet of PCM of 24 bits with these samples, as a talker sends it that gives each packet a timestamp
 abbrev pub aaf_packet : Shape → StreamHeader → Piece → List ℕ → AafPacket
 aaf_packet shape header p samples = record {
   header = header;
@@ -86,7 +86,7 @@ packet_of Aaf shape id n instant p samples = Pcm (aaf_packet shape (header_at aa
 
 -- ---- frames
 
--- the bytes of the headers of a frame of this format: Ethernet's with its tag, and those of the packet
+-- the bytes of the headers of a frame of this format: Ethernet's with its tag, and the packet's
 abbrev pub headers_of : To → ℕ
 headers_of Am824 = 50
 headers_of Aaf = 42
@@ -95,7 +95,7 @@ headers_of Aaf = 42
 abbrev pub frame_size : To → Shape → Piece → ℕ
 frame_size to shape p = headers_of to + p.count * (value_out to * shape.channels)
 
--- the frame of packet n, which carries a piece of a batch: when it arrives, and its bytes
+-- the frame of packet n, which carries a piece of a batch: its arrival and its bytes
 abbrev pub piece_frame : To → Shape → ℕ → ℕ → Presented → Piece → SentFrame
 piece_frame to shape id n batch p = record {
   arrival = arrival_at (sample_instant batch p.first);
@@ -109,13 +109,13 @@ abbrev pub frames_from : To → Shape → ℕ → ℕ → Presented → List Pie
 frames_from to shape id n batch [] = []
 frames_from to shape id n batch (p ∷ pieces) = piece_frame to shape id n batch p ∷ frames_from to shape id (suc n) batch pieces
 
--- the frames of a batch that is not skipped, after what was given out
+-- the frames of a batch that is not skipped, given what was given out before it
 abbrev pub frames_with : To → Shape → ℕ → Given → Presented → List SentFrame
 frames_with to shape id given batch = frames_from to shape id given.packets batch (pieces_of to shape batch given.block)
 
 -- ---- all batches
 
--- the frames of batches of a stream of this shape, after what was given out; one that is skipped has none
+-- the frames of batches of a stream of this shape, given what was given out before them; a skipped batch has none
 abbrev pub frames_after : To → Shape → ℕ → Given → List Presented → List SentFrame
 frames_after to shape id given [] = []
 frames_after to shape id given (batch ∷ batches) =
@@ -123,8 +123,8 @@ frames_after to shape id given (batch ∷ batches) =
     (frames_with to shape id given batch ++ frames_after to shape id (given_with to shape given batch) batches)
     (frames_after to shape id given batches)
 
--- All frames of a gateway to this format under this stream id, for batches in the order in which they are presented. A stream
--- without a shape has none.
+-- All frames of a gateway to this format under this stream id, for batches in the order in which they are presented. There are
+-- none if the stream has no shape.
 abbrev pub gateway_frames : To → Option Shape → ℕ → List Presented → List SentFrame
 gateway_frames to None id batches = []
 gateway_frames to (Some shape) id batches = frames_after to shape id nothing_given batches

@@ -1,4 +1,4 @@
--- How batches that a listener presents are cut into pieces, each of which one packet of the other format carries.
+-- How the batches that a listener presents are cut into pieces. One packet of the other format carries each piece.
 use Rattle.std.specs.Prelude.{ℕ, zero, suc, ◌+◌, ◌-◌, ◌*◌, ◌/◌, ◌%◌, ◌^◌, ◌==◌, min, Bool, true, false, not, ◌&&◌, nat_lt, if◌then◌else◌, ℤ, pos, ◌+ℤ◌, ◌-ℤ◌, int_le, List, [], ◌∷◌, length, Option, Some, None}
 use Rattle.std.specs.Int.{div_ceil, int_max}
 use Rattle.std.specs.List.{list_any}
@@ -28,18 +28,18 @@ most_frames to channels = most_bytes to / (value_out to * channels)
 -- ---- where a batch is cut
 
 -- Sample k of a piece that begins with sample `first` of a batch is at its nominal instant, counted from the piece's first
--- sample. Listeners count the samples of a packet so from its timestamp.
+-- sample. Listeners count the samples of a packet from its timestamp in the same way.
 abbrev pub is_nominal : ℕ → Presented → ℕ → ℕ → Bool
 is_nominal rate batch first k =
     int_eq (sample_instant batch (first + k)) (sample_instant batch first +ℤ pos (nominal_offset rate k))
 
--- from sample k on, as many of at most `more` further samples as pass the test one after another
+-- the first sample from sample k on that fails the test, or sample k + more if all before that pass
 abbrev pub going_on : (ℕ → Bool) → ℕ → ℕ → ℕ
 going_on test k zero = k
 going_on test k (suc more) = if test k then going_on test (suc k) more else k
 
--- The samples of the piece that begins with sample `first` of a batch. It goes on while it holds fewer than the most that a
--- packet can have, the batch has a further sample, and that one is at its nominal instant.
+-- The number of samples in the piece that begins with sample `first` of a batch. The piece goes on as long as it has fewer
+-- samples than a packet can have, the batch has a further sample, and that sample is at its nominal instant.
 abbrev pub piece_count : To → Shape → Presented → ℕ → ℕ
 piece_count to shape batch first =
     going_on (is_nominal shape.rate batch first) 1 (min (most_frames to shape.channels) (batch.count - first) - 1)
@@ -47,19 +47,19 @@ piece_count to shape batch first =
 -- ---- block counts
 
 -- The block count of the first data block of a packet of AM824, by that of the packet before it and its number of blocks:
--- blocks are counted on, and then up to the next multiple of SYT_INTERVAL. So the block that the timestamp belongs to is
--- always the packet's first (IEC 61883-6), and the block count has a gap where a packet has no multiple of it.
+-- blocks are counted on, and then up to the next multiple of SYT_INTERVAL. So the timestamp always belongs to the packet's
+-- first block (IEC 61883-6), and the block count has a gap after a packet whose end is not at a multiple.
 abbrev pub next_block : ℕ → ℕ → ℕ → ℕ
 next_block interval block count = div_ceil (block + count) interval * interval % 256
 
--- the block count of the packet after these, of which the first has the count `block`
+-- the block count of the packet after these pieces, the first of which has the count `block`
 abbrev pub block_after : ℕ → ℕ → List Piece → ℕ
 block_after interval block [] = block
 block_after interval block (p ∷ pieces) = block_after interval (next_block interval p.block p.count) pieces
 
 -- ---- the pieces of a batch
 
--- the pieces of a batch from sample `first` on, at most `most` of them, of which the first has this block count
+-- the pieces of a batch from sample `first` on, at most `most`; the first has this block count
 abbrev pub pieces_from : To → Shape → Presented → ℕ → ℕ → ℕ → List Piece
 pieces_from to shape batch zero first block = []
 pieces_from to shape batch (suc most) first block =
@@ -69,8 +69,8 @@ pieces_from to shape batch (suc most) first block =
     (next_block (interval_of shape.rate) block (piece_count to shape batch first))
     else []
 
--- The pieces of a batch, in order, of which the first has this block count. Each has a sample at least, so there are no more
--- than the batch has samples.
+-- The pieces of a batch, in order; the first has this block count. Each has at least one sample, so there are at most as many
+-- as the batch has samples.
 abbrev pub pieces_of : To → Shape → Presented → ℕ → List Piece
 pieces_of to shape batch block = pieces_from to shape batch batch.count 0 block
 
@@ -81,21 +81,21 @@ pieces_of to shape batch block = pieces_from to shape batch batch.count 0 block
 abbrev pub transit : ℕ
 transit = 2000000
 
--- when a packet arrives that is presented from this instant on; none arrives before 0
+-- the arrival of a packet that is presented from this instant on; none arrives before 0
 abbrev pub arrival_at : ℤ → ℤ
 arrival_at instant = int_max (instant -ℤ pos transit) (pos 0)
 
--- when no packet of a capture can arrive any more: 2^32 seconds
+-- 2^32 seconds: a capture cannot state an arrival at or after it
 abbrev pub captures_end : ℕ
 captures_end = 2 ^ 32 * 1000000000
 
--- a piece would arrive when a capture can no longer tell
+-- A piece would arrive at a time that a capture cannot state.
 abbrev pub is_late : Presented → Piece → Bool
 is_late batch p = int_le (pos captures_end) (arrival_at (sample_instant batch p.first))
 
 -- ---- what is skipped
 
--- What a gateway gave out so far: of how many batches, how many packets, the block count of the next one, and the instant of
+-- What a gateway has given out: the number of batches and of packets; the block count of the next packet; and the instant of
 -- the last sample.
 pub record Given : Type 0 where
   pub batches : ℕ
@@ -112,7 +112,7 @@ abbrev pub has_labels : To → List ℕ → Bool
 has_labels Am824 bytes = true
 has_labels Aaf bytes = are_linear bytes
 
--- a batch is samples of this shape: no unit of H.264, and a value of 24 bits for each channel of each sample
+-- A batch is samples of this shape: it is no unit of H.264, and has one value of 24 bits for each channel of each sample.
 abbrev pub has_shape : To → Shape → Presented → Bool
 has_shape to shape batch =
     not (is_unit batch)
@@ -124,7 +124,7 @@ abbrev pub overlaps : Option ℤ → Presented → Bool
 overlaps None batch = false
 overlaps (Some last) batch = int_le (sample_instant batch 0) last
 
--- why a batch of a stream of this shape is skipped, after what was given out, if it is
+-- why a batch of a stream of this shape is skipped, if it is, given what was given out before it
 abbrev pub skip_by : To → Shape → Given → Presented → Option Skip
 skip_by to shape given batch =
     if not (has_shape to shape batch) then Some ShapeOff
@@ -132,8 +132,8 @@ skip_by to shape given batch =
     else if list_any (is_late batch) (pieces_of to shape batch given.block) then Some Range
     else None
 
--- Why a batch is skipped, if it is: it is not of the stream's shape, or the stream has none; it does not begin after the last
--- sample that was given out; one of its pieces would arrive too late for a capture.
+-- Why a batch is skipped, if it is: it is not of the stream's shape, or the stream has none; or it does not begin after the
+-- last sample that was given out; or one of its pieces would arrive too late for a capture.
 abbrev pub skip_of : To → Option Shape → Given → Presented → Option Skip
 skip_of to None given batch = Some ShapeOff
 skip_of to (Some shape) given batch = skip_by to shape given batch
@@ -152,7 +152,7 @@ abbrev pub unless : {T : Type 0} → Option Skip → T → T → T
 unless None given skipped = given
 unless (Some skip) given skipped = skipped
 
--- what was given out after these batches too, of which those that are skipped change nothing
+-- what was given out after these batches; those that are skipped change nothing
 abbrev pub given_by : To → Shape → Given → List Presented → Given
 given_by to shape given [] = given
 given_by to shape given (batch ∷ batches) = given_by to shape (unless (skip_by to shape given batch) (given_with to shape given batch) given) batches

@@ -14,8 +14,8 @@ use Rattle.am824_gateway.specs.Content.{content}
 
 -- ---- the shape of a stream
 
--- a shape that can be turned: a sample rate of IEC 61883-6, and 1 to 256 channels, since a data block has at most 256
--- quadlets (IEC 61883-1)
+-- A shape that can be turned: a sample rate of IEC 61883-6, and 1 to 256 channels, because a data block has at most 256
+-- quadlets (IEC 61883-1).
 pub record IsShape (shape : Shape) : Type 0 where
   pub rate : IsSome (fdf_of shape.rate)
   pub some : 1 ≤ shape.channels
@@ -25,7 +25,7 @@ pub record IsShape (shape : Shape) : Type 0 where
 abbrev pub shape_of : Samples → Shape
 shape_of s = record { rate = s.rate; channels = s.channels }
 
--- the shape of the first packet, which is this one if none came before
+-- the shape of the first packet: that of this packet if none came before
 abbrev pub first_or : Option Shape → Samples → Shape
 first_or None s = shape_of s
 first_or (Some first) s = first
@@ -37,7 +37,7 @@ shape_after None Video = None
 shape_after None (Audio s) = Some (shape_of s)
 shape_after (Some first) c = Some first
 
--- the shape of the stream's first packet of samples in records, if not of one before them
+-- the shape of the stream's first packet of samples, in these records or before them
 abbrev pub shape_from : ℕ → Option Shape → List Record → Option Shape
 shape_from stream first [] = first
 shape_from stream first (r ∷ records) = shape_from stream (shape_after first (content stream r.bytes)) records
@@ -53,11 +53,11 @@ pub record Row : Type 0 where
   pub fault : ScanFault
   pub holds : Bool
 
--- a fault, with whether it is there
+-- a fault, and whether it is there
 abbrev pub row : ScanFault → Bool → Row
 row fault holds = record { fault = fault; holds = holds }
 
--- the first fault of a list that is there, if any is
+-- the first fault of a list that is there
 abbrev pub first_of : List Row → Option ScanFault
 first_of [] = None
 first_of (r ∷ rows) = if r.holds then Some r.fault else first_of rows
@@ -69,13 +69,13 @@ same_format Am824 Aaf = false
 same_format Aaf Am824 = false
 same_format Aaf Aaf = true
 
--- IEC 61883-6 has no such sample rate, or it is not that of the first packet
+-- IEC 61883-6 does not have this sample rate, or it differs from the first packet's
 abbrev pub other_rate : Shape → ℕ → Bool
 other_rate first rate = is_none (fdf_of rate) || not (rate == first.rate)
 
--- The faults of a packet of samples, in the order in which they are tested: it is of the wanted format already; its samples
--- are not 24 bits, all used; IEC 61883-6 has no such rate, or it is not the first packet's; a data block has no such number
--- of channels, or it is not the first packet's; a quadlet is not linear audio of 24 bits.
+-- The faults of a packet of samples, in the order in which they are tested: it is of the wanted format already; its samples do
+-- not have 24 bits, all used; IEC 61883-6 does not have its rate, or the rate differs from the first packet's; a data block
+-- cannot have its number of channels, or the number differs from the first packet's; a quadlet is not linear audio of 24 bits.
 abbrev pub fault_rows : To → Shape → Samples → List Row
 fault_rows to first s =
     row Kind (same_format s.format to) ∷
@@ -84,8 +84,8 @@ fault_rows to first s =
     row Channels (nat_lt 256 s.channels || not (s.channels == first.channels)) ∷
     row Label (not s.linear) ∷ []
 
--- The fault of what a record holds, after a first packet of this shape. What is never presented has none, and H.264 is of
--- neither format.
+-- The fault of what a record holds, after a first packet of this shape. What is never presented has none. H.264 is of neither
+-- format.
 abbrev pub content_fault : To → Option Shape → Content → Option ScanFault
 content_fault to first Silent = None
 content_fault to first Video = Some Kind
@@ -96,12 +96,12 @@ pub record FaultAt : Type 0 where
   pub frame : ℕ
   pub fault : ScanFault
 
--- the fault of this record, or else a later one
+-- the fault of this record, or if it has none, a later one
 abbrev pub fault_or : ℕ → Option ScanFault → Option FaultAt → Option FaultAt
 fault_or frame None later = later
 fault_or frame (Some fault) later = Some (record { frame = frame; fault = fault })
 
--- the first fault in records, of which the first has this number and follows a first packet of this shape
+-- the first fault in records; the first record has this number, and comes after a first packet of this shape
 abbrev pub fault_from : To → ℕ → Option Shape → ℕ → List Record → Option FaultAt
 fault_from to stream first frame [] = None
 fault_from to stream first frame (r ∷ records) =
@@ -120,7 +120,7 @@ pub record Scanning : Type 0 where
   pub stream : ℕ
   pub shape : Option Shape
 
--- the scan has noted these records of the stream, and none of them has a fault
+-- the scan has read these records of the stream, and none of them has a fault
 pub record HasScanned (to : To) (stream : ℕ) (records : List Record) (scan : Scanning) : Type 0 where
   pub to_is : scan.to ≡ to
   pub stream_is : scan.stream ≡ stream

@@ -13,12 +13,12 @@ use avtp_header::subtype;
 use iec61883_format::{IecView, rate_of_fdf, read_iec};
 use listener::{StreamPacket, packet_of_stream};
 
-/// A packet of audio samples, by what is asked of it.
+/// What a gateway reads of a packet of audio samples.
 #[derive(Clone, Copy, Debug)]
 pub(crate) struct Samples {
-    /// The format that it is of.
+    /// Its format.
     pub format: To,
-    /// The samples of PCM have 24 bits, all of which are used.
+    /// Its samples are PCM of 24 bits, all of which are used.
     pub whole: bool,
     /// The sample rate in Hz.
     pub rate: u32,

@@ -1,10 +1,12 @@
-//! Batches that are presented become packets of the other format.
+//! Batches that are presented are turned into packets of the other format.
 
-ghost use Rattle.std.specs.Prelude.{◌≡◌, ◌+◌, ◌*◌, ◌^◌, ◌<◌, ◌≤◌, ◌||◌, [], length, slice_get, Some, None, IfOk, IfErr, IfSome, OnOk, OnErr};
+ghost use Rattle.std.specs.Prelude.{◌≡◌, ◌+◌, ◌*◌, ◌^◌, ◌<◌, ◌≤◌, ◌||◌, ◌∷◌, [], length, slice_get, take, Some, None, IfOk, IfErr, IfSome, OnOk, OnErr};
+ghost use Rattle.talker.specs.Frames.{sent_frame};
 ghost use Rattle.talker.specs.Turns.{frame_in};
 ghost use Rattle.am824_gateway.specs.Gateways.{IsPieceTurn, given_out};
 ghost use Rattle.am824_gateway.specs.Labels.{value_in};
 ghost use Rattle.am824_gateway.specs.Pieces.{has_labels as has_labels_by, has_shape as has_shape_by, most_frames, nothing_given, overlaps as overlaps_by, skip_of};
+ghost use Rattle.am824_gateway.specs.Packets.{frame_size, piece_frame};
 ghost use Rattle.am824_gateway.specs.Scan.{IsShape};
 
 use crate::labels::are_linear;
@@ -16,24 +18,27 @@ use avtp_base::NoMemory;
 use sample_schedule::Batch;
 use std::alloc::Global;
 use std::marker::Model;
-use talker::Turn;
+use talker::{Sent, Turn};
 
-/// The last batch that was not skipped, with the number of packets before its own.
+/// The most bytes of a frame.
+const LONGEST_FRAME: usize = 1518;
+
+/// The last batch that was not skipped, with its stream and the number of packets before its own.
 #[derive(Drop)]
 pub(crate) struct Current {
-    pub shape: Shape,
+    pub stream: Stream,
     pub batch: Batch,
     pub first: u64,
 }
 
-/// Cuts the batches that a listener presents into packets of the other format, which listeners present with the same values at
+/// Cuts the batches that a listener presents into packets of the other format. Listeners present these with the same values at
 /// the same instants. Memory is reserved when it is made.
 #[derive(Drop)]
 pub struct Gateway {
     to: To,
     shape: Option<Shape>,
     id: u64,
-    /// The batches that were not skipped, and their packets.
+    /// The number of batches that were not skipped, and of their packets.
     batches: u64,
     packets: u64,
     /// The block count, modulo 256, of the next packet of AM824.
@@ -43,8 +48,10 @@ pub struct Gateway {
     current: Option<Current>,
     /// The pieces of the last batch that was not skipped.
     pieces: Vec<Piece>,
-    /// Where the next batch is cut, so that one that is skipped changes nothing.
+    /// Where the next batch is cut, so that a skipped batch changes nothing.
     spare: Vec<Piece>,
+    /// The frame of the piece that was asked for last.
+    frame: Vec<u8>,
 }
 
 impl Model for Gateway {
@@ -54,12 +61,40 @@ impl Model for Gateway {
 
     ghost Value = { Gating };
 
-    ghost view = { λ g. record { to = g.to; shape = g.shape; id = g.id; given = record { batches = g.batches; packets = g.packets; block = g.block; last = g.last }; frames = frames_in g.to g.id g.current g.pieces.items } };
+    ghost view = { λ g. record { to = g.to; shape = g.shape; id = g.id; given = record { batches = g.batches; packets = g.packets; block = g.block; last = g.last }; frames = frames_in g.current g.pieces.items } };
 
     ghost invariant = { IsGateway };
 }
 
-/// Each value has the label of linear audio of 24 bits, if it has a label.
+impl Current {
+    ghost use Rattle.am824_gateway.specs.state.Kept.{IsCut};
+
+    /// Writes the frame of a piece of the batch, which is packet `number`.
+    fn write(&self, piece: Piece, number: u64, out: &mut [u8])
+        requires cut { IsCut self.now (piece ∷ []) }
+        requires room { length out.old ≡ frame_size self.now.stream.to self.now.stream.shape piece }
+        ensures { out.new ≡ (piece_frame self.now.stream.to self.now.stream.shape self.now.stream.id number self.now.batch piece).bytes }
+    {
+        let batch = &self.batch;
+        let sample = value_size(self.stream.to) * usize::from(self.stream.shape.channels);
+        let from = piece.first as usize * sample;
+        let values = &batch.bytes.as_slice()[from..from + piece.count as usize * sample];
+        self.stream
+            .write(out, number, batch.instant(piece.first), piece, values);
+    }
+
+    /// Writes the frame of a piece of the batch to the front of memory, by its turn.
+    fn write_front(&self, piece: Piece, turn: Turn, out: &mut [u8])
+        requires cut { IsCut self.now (piece ∷ []) }
+        requires size { turn.size ≡ frame_size self.now.stream.to self.now.stream.shape piece }
+        requires room { turn.size ≤ length out.old }
+        ensures { take turn.size out.new ≡ (piece_frame self.now.stream.to self.now.stream.shape self.now.stream.id turn.number self.now.batch piece).bytes }
+    {
+        self.write(piece, turn.number, &mut out[..turn.size]);
+    }
+}
+
+/// Whether each value has the label of linear audio of 24 bits, if it has a label.
 fn has_labels(to: To, bytes: &[u8]) -> bool
     ensures { result ≡ has_labels_by to bytes.now }
 {
@@ -69,7 +104,7 @@ fn has_labels(to: To, bytes: &[u8]) -> bool
     }
 }
 
-/// The bytes of a value as it is presented.
+/// The number of bytes of a value as it is presented.
 fn value_size(to: To) -> usize
     ensures { result ≡ value_in to }
 {
@@ -79,7 +114,7 @@ fn value_size(to: To) -> usize
     }
 }
 
-/// The batch is samples of this shape.
+/// Whether the batch is samples of this shape.
 fn has_shape(to: To, shape: Shape, batch: &Batch) -> bool
     requires { IsShape shape }
     ensures { result ≡ has_shape_by to shape batch.now }
@@ -89,7 +124,7 @@ fn has_shape(to: To, shape: Shape, batch: &Batch) -> bool
     !batch.is_unit() && bytes.len() == batch.count as usize * sample && has_labels(to, bytes)
 }
 
-/// The batch does not begin after the last sample that was given out.
+/// Whether the batch begins at or before the last sample that was given out.
 fn overlaps(last: Option<i64>, batch: &Batch) -> bool
     ensures { result ≡ overlaps_by last batch.now }
 {
@@ -100,14 +135,18 @@ fn overlaps(last: Option<i64>, batch: &Batch) -> bool
 }
 
 impl Gateway {
-    /// A gateway that was given no batch, which turns a stream of this shape into the format, and sends under this stream id.
-    /// The shape is that of the scan. All batches of a stream without one are skipped.
+    ghost use Rattle.std.specs.Borrow.{sem};
+    ghost use Rattle.am824_gateway.specs.Lending.{EndsAs};
+
+    /// A gateway that was given no batch. It turns a stream of this shape into the format, and sends under this stream id. The
+    /// shape is the one that the scan found; without a shape all batches are skipped.
     pub fn begin(alloc: Global, to: To, shape: Option<Shape>, id: u64) -> Result<Self, NoMemory>
         requires { IfSome shape IsShape }
         ensures { IfOk result (λ gateway. gateway ≡ record { to = to; shape = shape; id = id; given = nothing_given; frames = [] }) }
     {
         let pieces = Vec::with_capacity(alloc, MOST_PIECES)?;
         let spare = Vec::with_capacity(alloc, MOST_PIECES)?;
+        let frame = vec![in alloc; 0u8; LONGEST_FRAME]?;
         Ok(Gateway {
             to,
             shape,
@@ -119,15 +158,17 @@ impl Gateway {
             current: None,
             pieces,
             spare,
+            frame,
         })
     }
 
-    /// Cuts the next batch that is presented into pieces, and answers their number. Fewer than 2^40 batches were given out.
-    /// A batch that is skipped changes nothing. It takes no memory.
+    /// Cuts the next batch that is presented into pieces, and returns their number. Fewer than 2^40 batches were given out. A
+    /// skipped batch changes nothing. It allocates nothing.
     ///
-    /// `ShapeOff` comes exactly if there is no shape, the batch is a unit of H.264, it has not one value of 24 bits for each
-    /// channel of each sample, or a value has another label than 0x40; else `Overlap` if it does not begin after the last sample
-    /// that was given out; else `Range` if a packet would arrive 2^32 seconds after 0 or later.
+    /// A batch is skipped for the first of these reasons that holds: `ShapeOff`: there is no shape, the batch is a unit of
+    /// H.264, it does not have one value of 24 bits for each channel of each sample, or a value has another label than 0x40.
+    /// `Overlap`: it does not begin after the last sample that was given out. `Range`: a packet would arrive at 2^32 seconds or
+    /// later.
     pub fn put(&mut self, batch: Batch) -> Result<u32, Skip>
         requires few { self.old.given.batches < 2 ^ 40 }
         ensures given { OnOk result (self.new ≡ given_out self.old.shape self.old batch) }
@@ -156,15 +197,20 @@ impl Gateway {
         self.packets += number as u64;
         self.block = block;
         self.last = Some(batch.instant(batch.count - 1));
-        self.current = Some(Current {
+        let stream = Stream {
+            to: self.to,
             shape,
+            id: self.id,
+        };
+        self.current = Some(Current {
+            stream,
             batch,
             first,
         });
         Ok(number as u32)
     }
 
-    /// What is sent of piece `i` of the last batch that was not skipped, counted from 0.
+    /// What is sent for piece `i` of the last batch that was not skipped, counted from 0.
     pub fn turn(&self, i: u32) -> Turn
         requires { i < length self.now.frames }
         ensures { IsPieceTurn self.now i result }
@@ -173,20 +219,15 @@ impl Gateway {
             unreachable!()
         };
         let piece = self.pieces[i as usize];
-        let stream = Stream {
-            to: self.to,
-            shape: current.shape,
-            id: self.id,
-        };
         Turn {
             arrival: arrival_of(current.batch.instant(piece.first)),
             number: current.first + u64::from(i),
             clock: false,
-            size: stream.frame_size(piece),
+            size: current.stream.frame_size(piece),
         }
     }
 
-    /// Writes the frame of piece `i` of the last batch that was not skipped. It takes no memory.
+    /// Writes the frame of piece `i` of the last batch that was not skipped. It allocates nothing.
     pub fn write(&self, i: u32, turn: Turn, out: &mut [u8])
         requires turn { IsPieceTurn self.now i turn }
         requires room { length out.old ≡ turn.size }
@@ -196,21 +237,27 @@ impl Gateway {
             unreachable!()
         };
         let piece = self.pieces[i as usize];
-        let stream = Stream {
-            to: self.to,
-            shape: current.shape,
-            id: self.id,
+        current.write(piece, current.first + u64::from(i), out);
+    }
+
+    /// The frame of piece `i` of the last batch that was not skipped, counted from 0. It takes no memory.
+    pub fn piece(&mut self, i: u32) -> Sent<'_>
+        requires { i < length self.old.frames }
+        ensures frame { slice_get self.old.frames i ≡ Some (sent_frame result) }
+        ensures size { length result.bytes.now ≤ 1518 }
+        ensures* after { sem 𝓛 (EndsAs self.entry (λ last. last ≡ self.old)) }
+    {
+        let turn = self.turn(i);
+        let Some(current) = &self.current else {
+            unreachable!()
         };
-        let batch = &current.batch;
-        let sample = value_size(self.to) * usize::from(current.shape.channels);
-        let from = piece.first as usize * sample;
-        let values = &batch.bytes.as_slice()[from..from + piece.count as usize * sample];
-        stream.write(
-            out,
-            current.first + u64::from(i),
-            batch.instant(piece.first),
-            piece,
-            values,
-        );
+        let piece = self.pieces[i as usize];
+        current.write_front(piece, turn, self.frame.as_mut_slice());
+        Sent {
+            arrival: turn.arrival,
+            number: turn.number,
+            clock: turn.clock,
+            bytes: &self.frame.as_slice()[..turn.size],
+        }
     }
 }

@@ -8,7 +8,7 @@ use crate::scan::To;
 /// The label of linear audio of 24 bits.
 pub(crate) const LINEAR: u8 = 0x40;
 
-/// Whether each quadlet is linear audio of 24 bits. All are looked at, since mostly all are.
+/// Whether each quadlet is linear audio of 24 bits. All are looked at, because usually all are.
 pub(crate) fn are_linear(quadlets: &[u8]) -> bool
     ensures { result ≡ are_linear_by quadlets.now }
 {
@@ -19,7 +19,7 @@ pub(crate) fn are_linear(quadlets: &[u8]) -> bool
     linear
 }
 
-/// Writes bytes at an offset. The compiler knows how many they are, so that they are moved without a call.
+/// Writes bytes at an offset. The compiler knows their number, so it moves them without a call.
 fn put_bytes<const N: usize>(out: &mut [u8], offset: usize, bytes: &[u8; N])
     requires { offset + N ≤ length out.old }
     ensures { out.new ≡ take offset out.old ++ (bytes.now ++ drop (offset + N) out.old) }
@@ -31,7 +31,7 @@ fn put_bytes<const N: usize>(out: &mut [u8], offset: usize, bytes: &[u8; N])
     *place = *bytes;
 }
 
-/// Writes value `k` of 24 bits as a quadlet, with its label in front.
+/// Writes value `k` of 24 bits as a quadlet: its label, then the value.
 fn put_quadlet(out: &mut [u8], k: usize, values: &[u8])
     requires room { 4 * k + 4 ≤ length out.old }
     requires value { 3 * k + 3 ≤ length values.now }

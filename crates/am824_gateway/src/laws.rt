@@ -1,17 +1,46 @@
 //! Laws of a gateway. Each is stated by a contract; the call does nothing.
 
-ghost use Rattle.std.specs.Prelude.{◌≡◌, ◌++◌, ◌∷◌, [], ℕ, List};
+ghost use Rattle.std.specs.Prelude.{◌≡◌, ◌++◌, ◌∷◌, [], ℕ, List, map};
+ghost use Rattle.std.specs.List.{AllByRecursion, flat_map};
+ghost use Rattle.talker.specs.Frames.{RiseByArrival};
 ghost use Rattle.sample_schedule.specs.Batches.{Presented};
 ghost use Rattle.am824_gateway.specs.declared.scan.Shape.{Shape as ShapeValue};
 ghost use Rattle.am824_gateway.specs.declared.scan.To.{To as ToValue};
+ghost use Rattle.am824_gateway.specs.Laws.{HasRisingInstants, IsFrame, Rise, cut_frame, cut_instant, cuts_after, given_batches};
 ghost use Rattle.am824_gateway.specs.Packets.{frames_after, frames_with};
 ghost use Rattle.am824_gateway.specs.Pieces.{Given, given_by, skip_by, unless};
+ghost use Rattle.am824_gateway.specs.Samples.{samples_presented, samples_sent};
+ghost use Rattle.am824_gateway.specs.Scan.{IsShape};
 
-/// The frames of one batch more come after those of the batches before it, if it is not skipped. So what a gateway gives batch
-/// by batch is what all batches give.
+/// The frames of one batch more come after those of the batches before it, if it is not skipped. So the frames that a gateway
+/// makes batch by batch are those of all batches.
 pub fn batches_follow_each_other()
     ensures frames { (to : ToValue) (shape : ShapeValue) (id : ℕ) (given : Given) (batches : List Presented) (batch : Presented) →
         frames_after to shape id given (batches ++ batch ∷ []) ≡ frames_after to shape id given batches ++ unless (skip_by to shape (given_by to shape given batches) batch) (frames_with to shape id (given_by to shape given batches) batch) [] }
     ensures given { (to : ToValue) (shape : ShapeValue) (given : Given) (batches : List Presented) (batch : Presented) →
         given_by to shape given (batches ++ batch ∷ []) ≡ given_by to shape (given_by to shape given batches) (batch ∷ []) }
+{}
+
+/// If the instants of each batch rise, so do those of all pieces: each packet is presented after all packets before it, and none
+/// arrives before the one before it. So a listener presents them in the order in which they are sent.
+pub fn instants_rise_through_all_pieces()
+    ensures frames { (to : ToValue) (shape : ShapeValue) (id : ℕ) (given : Given) (batches : List Presented) →
+        frames_after to shape id given batches ≡ map (cut_frame to shape id) (cuts_after to shape given batches) }
+    ensures rise { (to : ToValue) (shape : ShapeValue) (given : Given) (batches : List Presented) → AllByRecursion HasRisingInstants batches →
+        Rise (map cut_instant (cuts_after to shape given batches)) }
+    ensures arrivals { (to : ToValue) (shape : ShapeValue) (id : ℕ) (given : Given) (batches : List Presented) → AllByRecursion HasRisingInstants batches →
+        RiseByArrival (frames_after to shape id given batches) }
+{}
+
+/// Each frame is one that an Ethernet network carries, whatever the batches.
+pub fn frames_are_short_enough()
+    ensures { (to : ToValue) (shape : ShapeValue) (id : ℕ) (given : Given) (batches : List Presented) → IsShape shape →
+        AllByRecursion IsFrame (frames_after to shape id given batches) }
+{}
+
+/// No value and no instant changes: the samples of all packets, counted from the packets' timestamps at the nominal rate, are
+/// those of the batches that are not skipped, in order, with the same values at the same instants.
+pub fn samples_are_kept()
+    ensures { (to : ToValue) (shape : ShapeValue) (given : Given) (batches : List Presented) → IsShape shape →
+        flat_map (samples_sent to shape) (cuts_after to shape given batches) ≡ flat_map (samples_presented to shape) (given_batches to shape given batches) }
 {}

@@ -1,4 +1,4 @@
-//! AAF and AM824 are turned into each other, and no value and no instant changes.
+//! Turns AAF and AM824 into each other, without changing a value or an instant.
 #![tactic(auto)]
 
 mod content;

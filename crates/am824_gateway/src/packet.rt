@@ -58,7 +58,7 @@ fn write_ethernet(out: &mut [u8])
     };
 }
 
-/// The stream header of packet `n`, which is stamped with an instant, before this many bytes.
+/// The stream header of packet `n`, stamped with an instant, before a payload of this many bytes.
 fn header_at(subtype: u8, id: u64, n: u64, instant: i64, length: u16) -> StreamHeader
     ensures { result ≡ header_by subtype id n instant length }
 {

@@ -1,14 +1,12 @@
 //! Pieces of a batch.
 
-ghost use Rattle.std.specs.Prelude.{◌≡◌, ◌+◌, ◌-◌, ◌≤◌, ◌<◌, ◌||◌, int_le, min, pos, ◌+ℤ◌, length, [], ◌∷◌, ◌++◌, vec_len, vec_capacity};
-ghost use Rattle.std.specs.List.{list_any};
+ghost use Rattle.std.specs.Prelude.{◌≡◌, ◌+◌, ◌≤◌, ◌<◌, ◌||◌, int_le, pos, ◌+ℤ◌, [], ◌∷◌, ◌++◌, true, vec_len, vec_capacity};
 ghost use Rattle.std.specs.Ordering.{int_eq};
 ghost use Rattle.iec61883_format.specs.Iec.{IsSytInterval};
-ghost use Rattle.sample_schedule.specs.Instants.{IsInstantOf};
-ghost use Rattle.talk_plan.specs.Plan.{interval_of as interval_by};
 ghost use Rattle.talk_plan.specs.Timing.{nominal_offset as nominal_offset_of};
-ghost use Rattle.am824_gateway.specs.Pieces.{arrival_at, block_after, captures_end, going_on, is_late, is_nominal, most_frames as most_frames_of, next_block as next_block_of, pieces_of};
+ghost use Rattle.am824_gateway.specs.Pieces.{arrival_at, captures_end, most_frames as most_frames_of, next_block as next_block_of};
 ghost use Rattle.am824_gateway.specs.Scan.{IsShape};
+ghost use Rattle.am824_gateway.specs.state.Cutting.{BeginsPiece, CountsPiece, CutsBatch, IsOnePiece};
 ghost use Rattle.time_unfold.specs.Time.{IsInstant};
 
 use crate::rates::interval_of;
@@ -35,10 +33,10 @@ const NANOSECONDS: u64 = 1_000_000_000;
 /// (IEEE 802.1BA).
 const TRANSIT: i64 = 2_000_000;
 
-/// When no packet of a capture can arrive any more: 2^32 seconds.
+/// 2^32 seconds: a capture cannot state an arrival at or after it.
 const CAPTURES_END: i64 = (1 << 32) * 1_000_000_000;
 
-/// How long after sample 0 sample `k` is at a nominal rate, in nanoseconds.
+/// The time from sample 0 to sample `k` at a nominal rate, in nanoseconds.
 fn nominal_offset(rate: u32, k: u32) -> u64
     requires { 1 ≤ rate }
     ensures value { result ≡ nominal_offset_of rate k }
@@ -46,7 +44,7 @@ fn nominal_offset(rate: u32, k: u32) -> u64
     u64::from(k) * NANOSECONDS / u64::from(rate)
 }
 
-/// When a packet arrives that is presented from this instant on, in nanoseconds of gPTP.
+/// The arrival of a packet that is presented from this instant on, in nanoseconds of gPTP.
 pub(crate) fn arrival_of(instant: i64) -> i64
     requires { IsInstant instant }
     ensures value { result ≡ arrival_at instant }
@@ -54,7 +52,8 @@ pub(crate) fn arrival_of(instant: i64) -> i64
     (instant - TRANSIT).max(0)
 }
 
-/// One was late before, or a packet that is presented from this instant on would arrive when a capture can no longer tell.
+/// Whether an earlier packet was late, or a packet that is presented from this instant on would arrive at a time that a capture
+/// cannot state.
 fn is_late_with(late: bool, instant: i64) -> bool
     requires { IsInstant instant }
     ensures { result ≡ (late || int_le (pos captures_end) (arrival_at instant)) }
@@ -76,7 +75,7 @@ fn most_frames(to: To, channels: u16) -> u32
     bytes / (value * u32::from(channels))
 }
 
-/// The block count of the packet after one of this block count and this number of blocks.
+/// The block count of the packet after one with this block count and this number of blocks.
 fn next_block(interval: u32, block: u8, count: u32) -> u8
     requires interval { IsSytInterval interval }
     requires count { count ≤ 65535 }
@@ -86,24 +85,18 @@ fn next_block(interval: u32, block: u8, count: u32) -> u8
     (counted.div_ceil(interval) * interval % 256) as u8
 }
 
-/// A sample is at its nominal instant, so long after `start`.
+/// Whether a sample is at its nominal instant, this long after `start`.
 fn is_on_line(instant: i64, start: i64, offset: u64) -> bool
     ensures { result ≡ int_eq instant (start +ℤ pos offset) }
 {
     i128::from(instant) == i128::from(start) + i128::from(offset)
 }
 
-/// The samples of the piece that begins with the sample of an instant, which is left at the first sample after the piece.
+/// The number of samples in the piece that begins with the sample at an instant. Afterwards the instants are at the first
+/// sample after the piece.
 fn count_piece(instant: &mut Instant, batch: &Batch, rate: u32, most: u32) -> u32
-    requires is { IsInstantOf instant.old batch.now }
-    requires inside { instant.old.j < batch.now.count }
-    requires rate { 1 ≤ rate }
-    requires most { 1 ≤ most }
-    ensures value { result ≡ going_on (is_nominal rate batch.now instant.old.j) 1 (min most (batch.now.count - instant.old.j) - 1) }
-    ensures some { 1 ≤ result }
-    ensures within { instant.old.j + result ≤ batch.now.count }
-    ensures after { instant.new.j ≡ instant.old.j + result }
-    ensures is { IsInstantOf instant.new batch.now }
+    requires { BeginsPiece rate most batch.now instant.old }
+    ensures { CountsPiece rate most batch.now instant.old instant.new result }
 {
     let start = instant.nanoseconds;
     let limit = most.min(batch.count - instant.j);
@@ -116,8 +109,20 @@ fn count_piece(instant: &mut Instant, batch: &Batch, rate: u32, most: u32) -> u3
     count
 }
 
-/// Cuts a batch into pieces, of which the first has this block count. Answers the block count of the packet after the last of
-/// them, and whether one of them would arrive when a capture can no longer tell.
+/// Whether a batch is one piece since its samples are on the nominal line of the first one, which is counted from its head. So
+/// no instant has to be found.
+fn is_one_piece(to: To, shape: Shape, batch: &Batch) -> bool
+    requires { IsShape shape }
+    ensures { result ≡ true → IsOnePiece to shape batch.now }
+{
+    batch.from == 0
+        && batch.line.num == NANOSECONDS
+        && batch.line.den == u64::from(shape.rate)
+        && batch.count <= most_frames(to, shape.channels)
+}
+
+/// Cuts a batch into pieces; the first has this block count. Returns the block count of the packet after the last of them, and
+/// whether one of them would arrive at a time that a capture cannot state.
 pub(crate) fn cut(
     pieces: &mut Vec<Piece>,
     to: To,
@@ -127,18 +132,58 @@ pub(crate) fn cut(
 ) -> (u8, bool)
     requires room { 65535 ≤ vec_capacity pieces.old }
     requires shape { IsShape shape }
-    ensures pieces { pieces.new.items ≡ pieces_of to shape batch.now block }
-    ensures block { result.0 ≡ block_after (interval_by shape.rate) block (pieces_of to shape batch.now block) }
-    ensures late { result.1 ≡ list_any (is_late batch.now) (pieces_of to shape batch.now block) }
+    ensures cuts { CutsBatch to shape batch.now block pieces.new.items result.0 result.1 }
     ensures capacity { vec_capacity pieces.old ≤ vec_capacity pieces.new }
-    ensures few { length pieces.new.items ≤ batch.now.count }
+{
+    pieces.clear();
+    if is_one_piece(to, shape, batch) {
+        cut_once(pieces, to, shape, batch, block)
+    } else {
+        cut_by_instants(pieces, to, shape, batch, block)
+    }
+}
+
+/// Cuts a batch that is one piece.
+fn cut_once(pieces: &mut Vec<Piece>, to: To, shape: Shape, batch: &Batch, block: u8) -> (u8, bool)
+    requires room { 65535 ≤ vec_capacity pieces.old }
+    requires none { pieces.old.items ≡ [] }
+    requires shape { IsShape shape }
+    requires one { IsOnePiece to shape batch.now }
+    ensures cuts { CutsBatch to shape batch.now block pieces.new.items result.0 result.1 }
+    ensures capacity { vec_capacity pieces.old ≤ vec_capacity pieces.new }
+{
+    let count = batch.count;
+    push(
+        pieces,
+        Piece {
+            first: 0,
+            count,
+            block,
+        },
+    );
+    let next = next_block(interval_of(shape.rate), block, count);
+    (next, is_late_with(false, batch.instant(0)))
+}
+
+/// Cuts any batch, and finds the instant of each sample from the one before.
+fn cut_by_instants(
+    pieces: &mut Vec<Piece>,
+    to: To,
+    shape: Shape,
+    batch: &Batch,
+    block: u8,
+) -> (u8, bool)
+    requires room { 65535 ≤ vec_capacity pieces.old }
+    requires none { pieces.old.items ≡ [] }
+    requires shape { IsShape shape }
+    ensures cuts { CutsBatch to shape batch.now block pieces.new.items result.0 result.1 }
+    ensures capacity { vec_capacity pieces.old ≤ vec_capacity pieces.new }
 {
     let most = most_frames(to, shape.channels);
     let interval = interval_of(shape.rate);
     let mut instant = Instant::first(batch);
     let mut next = block;
     let mut late = false;
-    pieces.clear();
     while instant.j < batch.count {
         let first = instant.j;
         late = is_late_with(late, instant.nanoseconds);

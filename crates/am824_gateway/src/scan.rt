@@ -1,4 +1,4 @@
-//! What a capture is scanned for before any of it is turned.
+//! What is checked in a capture before any of it is turned.
 
 ghost use Rattle.std.specs.Prelude.{◌≡◌, ◌≤◌, ◌++◌, ◌∷◌, [], ℕ, suc, List, length, None, Some, IfSome, IfErr, OnOk};
 ghost use Rattle.pcap_frames.specs.Capture.{Record};
@@ -20,13 +20,13 @@ pub enum To {
 /// Why a capture cannot be turned.
 #[derive(Clone, Copy, Debug, PartialEq, Eq)]
 pub enum ScanFault {
-    /// A packet of the stream is of neither format, or is of the wanted one already.
+    /// A packet of the stream is of neither format, or it is of the wanted one already.
     Kind,
     /// PCM samples do not have 24 bits, or not all bits of them are used.
     Format,
-    /// IEC 61883-6 has no such sample rate, or it is not that of the first packet.
+    /// IEC 61883-6 does not have this sample rate, or it differs from the first packet's.
     Rate,
-    /// There are more than 256 channels, or not as many as in the first packet.
+    /// There are more than 256 channels, or their number differs from the first packet's.
     Channels,
     /// A quadlet of AM824 is not linear audio of 24 bits: its label is not 0x40.
     Label,
@@ -41,7 +41,7 @@ pub struct Shape {
     pub channels: u16,
 }
 
-/// Looks through the records of a capture for what cannot be turned. It takes no memory.
+/// Looks through the records of a capture for what cannot be turned. It allocates nothing.
 #[derive(Debug, Drop)]
 pub struct Scan {
     to: To,
@@ -61,7 +61,7 @@ impl Model for Scan {
     ghost invariant = { λ s. IfSome s.shape IsShape };
 }
 
-/// IEC 61883-6 has no such sample rate, or it is not that of the first packet.
+/// Whether IEC 61883-6 does not have this sample rate, or it differs from the first packet's.
 fn is_other_rate(first: Shape, rate: u32) -> bool
     ensures { result ≡ other_rate first rate }
 {
@@ -102,7 +102,7 @@ impl Samples {
 }
 
 impl Scan {
-    /// A scan for what of the stream with this id cannot be turned into the format.
+    /// A scan for what cannot be turned into the format in the stream with this id.
     pub fn new(to: To, stream: u64) -> Self
         ensures { HasScanned to stream [] result }
     {
@@ -113,9 +113,9 @@ impl Scan {
         }
     }
 
-    /// Looks at the next record of a capture, by its bytes. Of the stream's packets only those are looked at that have samples
-    /// and a known rate and that their reader accepts: others are never presented. A packet of H.264 is a fault, whether it is
-    /// well formed or not. After a fault nothing is promised of the scan.
+    /// Looks at the next record of a capture, by its bytes. It looks only at packets of the stream that have samples and a
+    /// known rate and that their reader accepts, because others are never presented. Each packet of H.264 is a fault, even a
+    /// malformed one. After a fault the scan promises nothing.
     ///
     /// The fault is the first of these that holds: `Kind`, `Format`, `Rate`, `Channels`, `Label`.
     pub fn note(&mut self, bytes: &[u8]) -> Result<(), ScanFault>

@@ -7,6 +7,6 @@ pub enum Skip {
     ShapeOff,
     /// It does not begin after the last sample that was given out.
     Overlap,
-    /// A packet of it would arrive 2^32 seconds after 0 or later, when no capture can tell.
+    /// A packet of it would arrive at 2^32 seconds or later, which a capture cannot state.
     Range,
 }

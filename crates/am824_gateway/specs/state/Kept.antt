@@ -14,7 +14,7 @@ use Rattle.am824_gateway.specs.Packets.{frames_from}
 use Rattle.am824_gateway.specs.Pieces.{is_late, most_frames}
 use Rattle.am824_gateway.specs.Scan.{IsShape}
 
--- a piece lies within its batch, and one packet carries it
+-- a piece lies within its batch, fits one packet, and arrives in time
 pub record IsWithin (to : To) (shape : Shape) (batch : Presented) (p : Piece) : Type 0 where
   pub inside : p.first + p.count ≤ batch.count
   pub some : 1 ≤ p.count
@@ -22,33 +22,34 @@ pub record IsWithin (to : To) (shape : Shape) (batch : Presented) (p : Piece) : 
   pub in_time : is_late batch p ≡ false
 
 -- the batch is of the stream's shape, and its pieces lie within it
-pub record IsCut (to : To) (c : Current) (pieces : List Piece) : Type 0 where
-  pub shape : IsShape c.shape
+pub record IsCut (c : Current) (pieces : List Piece) : Type 0 where
+  pub shape : IsShape c.stream.shape
   pub presentable : IsPresentable c.batch
-  pub size : length c.batch.bytes ≡ c.batch.count * (value_in to * c.shape.channels)
-  pub within : AllByRecursion (IsWithin to c.shape c.batch) pieces
+  pub size : length c.batch.bytes ≡ c.batch.count * (value_in c.stream.to * c.stream.shape.channels)
+  pub within : AllByRecursion (IsWithin c.stream.to c.stream.shape c.batch) pieces
 
--- the last batch that was not skipped is cut so; there is none at first
-abbrev pub IsCutFrom : To → Option Current → List Piece → Type 0
-IsCutFrom to None pieces = pieces ≡ []
-IsCutFrom to (Some c) pieces = IsCut to c pieces
+-- The last batch that was not skipped is cut into these pieces; at first there is none.
+abbrev pub IsCutFrom : Option Current → List Piece → Type 0
+IsCutFrom None pieces = pieces ≡ []
+IsCutFrom (Some c) pieces = IsCut c pieces
 
 -- the frames of that batch
-abbrev pub frames_in : To → ℕ → Option Current → List Piece → List SentFrame
-frames_in to id None pieces = []
-frames_in to id (Some c) pieces = frames_from to c.shape id c.first c.batch pieces
+abbrev pub frames_in : Option Current → List Piece → List SentFrame
+frames_in None pieces = []
+frames_in (Some c) pieces = frames_from c.stream.to c.stream.shape c.stream.id c.first c.batch pieces
 
 -- the packets before those of that batch
 abbrev pub first_in : Option Current → ℕ
 first_in None = 0
 first_in (Some c) = c.first
 
--- There is room for the pieces of any batch, twice, and for one frame.
+-- There is room for the pieces of any batch, twice, and for the longest frame.
 pub record IsGateway (g : Inside) : Type 0 where
   pub shape : IfSome g.shape IsShape
-  pub cut : IsCutFrom g.to g.current g.pieces.items
+  pub cut : IsCutFrom g.current g.pieces.items
   pub packets : first_in g.current + length g.pieces.items ≤ g.packets
   pub few : g.packets ≤ 65535 * g.batches
   pub batches : g.batches ≤ 2 ^ 40
   pub room : 65535 ≤ vec_capacity g.pieces
   pub spare : 65535 ≤ vec_capacity g.spare
+  pub frame : length g.frame.items ≡ 1518

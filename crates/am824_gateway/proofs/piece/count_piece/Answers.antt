@@ -34,8 +34,8 @@ loop-count-preserved c =
       is = c.next-in-loop-count.ensures.is;
     }
 
-pub returns-else-is_on_line-clause-value : goal.returns-else-is_on_line-clause-value
-returns-else-is_on_line-clause-value c =
+pub returns-else-is_on_line : goal.returns-else-is_on_line
+returns-else-is_on_line c =
     let batch = c.args.batch.now in
     let first = c.args.instant.now.j in
     let rate = c.args.rate in
@@ -51,4 +51,10 @@ returns-else-is_on_line-clause-value c =
     let test = test_is rate first k c.loop-count.instant.j c.nominal_offset.result batch c.loop-count.instant.nanoseconds c.args.instant.now.nanoseconds c.is_on_line.result
     (rw (now_same, begun_same) at c.is_on_line.ensures) i.is.at i.after c.requires.is.at c.nominal_offset.ensures.value in
     let off : is_nominal rate batch first k ≡ false = test ∙ c.if-is_on_line.false in
-    sym (stops (is_nominal rate batch first) k (limit - k) off) ∙ (i.value ∙ ap (λ (n : ℕ). going_on (is_nominal rate batch first) 1 (n - 1)) (rw count at c.min-limit.ensures))
+    record {
+      value = sym (stops (is_nominal rate batch first) k (limit - k) off) ∙ (i.value ∙ ap (λ (n : ℕ). going_on (is_nominal rate batch first) 1 (n - 1)) (rw count at c.min-limit.ensures));
+      some = i.some;
+      within = omega arith;
+      after = i.after;
+      is = i.is;
+    }

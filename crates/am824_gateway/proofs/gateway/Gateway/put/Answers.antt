@@ -19,10 +19,10 @@ invariant_of-self-2 c =
     let is : IsShape shape = rw c.in-Some.is at c.self.invariant.shape in
     let presentable = subst IsPresentable c.batch.view_is c.batch.invariant in
     let fits : has_shape to shape batch ≡ true = sym c.has_shape.ensures ∙ c.if-not-has_shape.false in
-    let none = sym c.cut-block.ensures.late ∙ c.if-late.false in
+    let none = sym c.cut-block.ensures.cuts.in_time ∙ c.if-late.false in
     let all = all_within to shape batch batch.count 0 inside.block is none in
     let n : c.len-number.result ≡ length c.swap.new.x.items = search rules in
-    let few : length c.swap.new.x.items ≤ batch.count = rw c.swap.ensures.x_after c.cut-block.ensures.few in
+    let few : length c.swap.new.x.items ≤ batch.count = rw c.swap.ensures.x_after c.cut-block.ensures.cuts.few in
     let begun : inside.batches < 2 ^ 40 = rw (← c.self.view_is) at c.requires.few in
     let most = presentable.count in
     record {
@@ -31,11 +31,12 @@ invariant_of-self-2 c =
         shape = is;
         presentable = presentable;
         size = shaped to shape batch fits;
-        within = rw (c.swap.ensures.x_after, c.cut-block.ensures.pieces) all;
+        within = rw (c.swap.ensures.x_after, c.cut-block.ensures.cuts.cut) all;
       };
       packets = omega (arith, n);
       few = omega (arith, n, few, most, c.self.invariant.few);
       batches = omega (arith, begun);
       room = rw c.swap.ensures.x_after (omega (arith, c.cut-block.ensures.capacity, c.self.invariant.spare));
       spare = rw c.swap.ensures.y_after c.self.invariant.room;
+      frame = c.self.invariant.frame;
     }

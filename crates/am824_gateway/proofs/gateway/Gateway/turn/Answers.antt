@@ -11,34 +11,34 @@ pub index-piece-requires : goal.index-piece-requires
 index-piece-requires c =
     let inside = c.self.inside in
     let asked = rw (← c.self.view_is) at c.requires in
-    let here : c.args.i < length inside.pieces.items = known inside.to inside.id inside.current inside.pieces.items c.in-Some.current c.args.i c.in-Some.is asked in
+    let here : c.args.i < length inside.pieces.items = known inside.current inside.pieces.items c.in-Some.current c.args.i c.in-Some.is asked in
     search rules
 
 pub instant-requires : goal.instant-requires
 instant-requires c =
     let inside = c.self.inside in
     let asked = rw (← c.self.view_is) at c.requires in
-    let here = known inside.to inside.id inside.current inside.pieces.items c.in-Some.current c.args.i c.in-Some.is asked in
+    let here = known inside.current inside.pieces.items c.in-Some.current c.args.i c.in-Some.is asked in
     let p = c.index-piece.result.now in
-    let within = within_at inside.to inside.current inside.pieces.items c.in-Some.current c.args.i p c.in-Some.is c.self.invariant.cut here c.index-piece.ensures in
+    let within = within_at inside.current inside.pieces.items c.in-Some.current c.args.i p c.in-Some.is c.self.invariant.cut here c.index-piece.ensures in
     omega (arith, within.inside)
 
 pub frame_size-requires-clause-fits : goal.frame_size-requires-clause-fits
 frame_size-requires-clause-fits c =
     let inside = c.self.inside in
     let asked = rw (← c.self.view_is) at c.requires in
-    let here = known inside.to inside.id inside.current inside.pieces.items c.in-Some.current c.args.i c.in-Some.is asked in
+    let here = known inside.current inside.pieces.items c.in-Some.current c.args.i c.in-Some.is asked in
     let p = c.index-piece.result.now in
-    (within_at inside.to inside.current inside.pieces.items c.in-Some.current c.args.i p c.in-Some.is c.self.invariant.cut here c.index-piece.ensures).fits
+    (within_at inside.current inside.pieces.items c.in-Some.current c.args.i p c.in-Some.is c.self.invariant.cut here c.index-piece.ensures).fits
 
 pub arrival_of-requires : goal.arrival_of-requires
 arrival_of-requires c =
     let inside = c.self.inside in
     let asked = rw (← c.self.view_is) at c.requires in
-    let here = known inside.to inside.id inside.current inside.pieces.items c.in-Some.current c.args.i c.in-Some.is asked in
+    let here = known inside.current inside.pieces.items c.in-Some.current c.args.i c.in-Some.is asked in
     let p = c.index-piece.result.now in
-    let within = within_at inside.to inside.current inside.pieces.items c.in-Some.current c.args.i p c.in-Some.is c.self.invariant.cut here c.index-piece.ensures in
-    let cut : IsCut inside.to c.in-Some.current inside.pieces.items = rw c.in-Some.is at c.self.invariant.cut in
+    let within = within_at inside.current inside.pieces.items c.in-Some.current c.args.i p c.in-Some.is c.self.invariant.cut here c.index-piece.ensures in
+    let cut : IsCut c.in-Some.current inside.pieces.items = rw c.in-Some.is at c.self.invariant.cut in
     let at = cut.presentable.instants p.first (omega (arith, within.inside)) in
     let at = rw (← c.instant.ensures) at at in
     let same : to_z w64 (of_z w64 c.instant.result) ≡ c.instant.result = omega (arith, ints, at.from, at.to) in
@@ -50,10 +50,10 @@ returns c =
     let cur = c.in-Some.current in
     let items = inside.pieces.items in
     let asked = rw (← c.self.view_is) at c.requires in
-    let here = known inside.to inside.id inside.current items cur c.args.i c.in-Some.is asked in
+    let here = known inside.current items cur c.args.i c.in-Some.is asked in
     let p = c.index-piece.result.now in
-    let within = within_at inside.to inside.current items cur c.args.i p c.in-Some.is c.self.invariant.cut here c.index-piece.ensures in
-    let cut : IsCut inside.to cur items = rw c.in-Some.is at c.self.invariant.cut in
+    let within = within_at inside.current items cur c.args.i p c.in-Some.is c.self.invariant.cut here c.index-piece.ensures in
+    let cut : IsCut cur items = rw c.in-Some.is at c.self.invariant.cut in
     let at = cut.presentable.instants p.first (omega (arith, within.inside)) in
     let at = rw (← c.instant.ensures) at at in
     let same : to_z w64 (of_z w64 c.instant.result) ≡ c.instant.result = omega (arith, ints, at.from, at.to) in
@@ -63,11 +63,11 @@ returns c =
     let late = in_time cur.batch p within.in_time in
     let late = rw (← arrival) at late in
     let fits : to_z w64 (of_z w64 c.arrival_of.result) ≡ c.arrival_of.result = omega (arith, ints, early, late) in
-    let frames : c.args.self.now.frames ≡ frames_from inside.to cur.shape inside.id cur.first cur.batch items =
-    sym (ap (λ (g : Gating). g.frames) c.self.view_is) ∙ ap (λ (o : Option Current). frames_in inside.to inside.id o items) c.in-Some.is in
-    let frame = frame_at inside.to cur.shape inside.id cur.first cur.batch items c.args.i (cur.first + c.from.result) p here c.index-piece.ensures (omega (arith, c.from.ensures)) in
+    let frames : c.args.self.now.frames ≡ frames_from cur.stream.to cur.stream.shape cur.stream.id cur.first cur.batch items =
+    sym (ap (λ (g : Gating). g.frames) c.self.view_is) ∙ ap (λ (o : Option Current). frames_in o items) c.in-Some.is in
+    let frame = frame_at cur.stream.to cur.stream.shape cur.stream.id cur.first cur.batch items c.args.i (cur.first + c.from.result) p here c.index-piece.ensures (omega (arith, c.from.ensures)) in
     let frame = rw (← frames) at frame in
-    let turn = turn_is inside.to cur.shape inside.id (cur.first + c.from.result) cur.batch c.args.self.now.frames c.args.i c.frame_size.result c.arrival_of.result p frame within.inside cut.size arrival c.frame_size.ensures.value in
+    let turn = turn_is cur.stream.to cur.stream.shape cur.stream.id (cur.first + c.from.result) cur.batch c.args.self.now.frames c.args.i c.frame_size.result c.arrival_of.result p frame within.inside cut.size arrival c.frame_size.ensures.value in
     rw fits record {
       is = turn;
       begun = early;

@@ -9,7 +9,7 @@ use Rattle.am824_gateway.specs.declared.piece.Piece.{Piece}
 use Rattle.am824_gateway.specs.Pieces.{block_after, going_on, is_late, is_nominal, next_block, piece_count, pieces_of}
 use Rattle.am824_gateway.proofs.GatewayLemmas.{in_range}
 use Rattle.am824_gateway.proofs.PieceLemmas.{block_more, late_more, no_piece, step}
-use Rattle.am824_gateway.proofs.piece.cut.Goals as goal
+use Rattle.am824_gateway.proofs.piece.cut_by_instants.Goals as goal
 
 pub loop-instant-preserved : goal.loop-instant-preserved
 loop-instant-preserved c =
@@ -42,32 +42,17 @@ loop-instant-preserved c =
       capacity = omega (arith, i.capacity, c.push.ensures.capacity);
     }
 
-pub returns-clause-pieces : goal.returns-clause-pieces
-returns-clause-pieces c =
+pub returns-clause-cuts : goal.returns-clause-cuts
+returns-clause-cuts c =
     let batch = c.args.batch.now in
     let i = c.loop-instant.invariant in
     let items = c.loop-instant.pieces.items in
     let total = ap (λ (b : Presented). b.count) c.batch.view_is in
     let none = no_piece c.args.to c.args.shape batch (batch.count - length items) c.loop-instant.instant.j c.loop-instant.next (omega (arith, c.loop-instant-test.false, total)) in
     let all = rw (none, append-nil) at i.pieces in
-    all
-
-pub returns-clause-block : goal.returns-clause-block
-returns-clause-block c =
-    let batch = c.args.batch.now in
-    let i = c.loop-instant.invariant in
-    let items = c.loop-instant.pieces.items in
-    let total = ap (λ (b : Presented). b.count) c.batch.view_is in
-    let none = no_piece c.args.to c.args.shape batch (batch.count - length items) c.loop-instant.instant.j c.loop-instant.next (omega (arith, c.loop-instant-test.false, total)) in
-    let all = rw (none, append-nil) at i.pieces in
-    i.block ∙ ap (block_after (interval_of c.args.shape.rate) c.args.block) all
-
-pub returns-clause-late : goal.returns-clause-late
-returns-clause-late c =
-    let batch = c.args.batch.now in
-    let i = c.loop-instant.invariant in
-    let items = c.loop-instant.pieces.items in
-    let total = ap (λ (b : Presented). b.count) c.batch.view_is in
-    let none = no_piece c.args.to c.args.shape batch (batch.count - length items) c.loop-instant.instant.j c.loop-instant.next (omega (arith, c.loop-instant-test.false, total)) in
-    let all = rw (none, append-nil) at i.pieces in
-    i.late ∙ ap (list_any (is_late batch)) all
+    record {
+      cut = all;
+      following = i.block ∙ ap (block_after (interval_of c.args.shape.rate) c.args.block) all;
+      in_time = i.late ∙ ap (list_any (is_late batch)) all;
+      few = omega (arith, i.few, i.within);
+    }

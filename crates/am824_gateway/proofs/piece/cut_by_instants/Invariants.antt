@@ -4,7 +4,7 @@ use Rattle.std.specs.List.{list_any}
 use Rattle.sample_schedule.specs.Instants.{IsInstantOf}
 use Rattle.talk_plan.specs.Plan.{interval_of}
 use Rattle.am824_gateway.specs.Pieces.{block_after, is_late, pieces_from, pieces_of}
-use Rattle.am824_gateway.proofs.piece.cut.Given as goal
+use Rattle.am824_gateway.proofs.piece.cut_by_instants.Given as goal
 
 abbrev pub invariant-loop-instant : goal.invariant-loop-instant
 invariant-loop-instant l =

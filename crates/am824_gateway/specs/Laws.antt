@@ -1,0 +1,67 @@
+-- What is said of all pieces that a gateway gives out, one after another.
+use Rattle.std.specs.Prelude.{ℕ, suc, ◌<◌, ◌≤◌, ℤ, ◌<ℤ◌, List, [], ◌∷◌, ◌++◌, length, ⊤}
+use Rattle.std.specs.List.{AllByRecursion}
+use Rattle.sample_schedule.specs.Batches.{Presented, sample_instant}
+use Rattle.talker.specs.Frames.{SentFrame}
+use Rattle.am824_gateway.specs.declared.piece.Piece.{Piece}
+use Rattle.am824_gateway.specs.declared.scan.Shape.{Shape}
+use Rattle.am824_gateway.specs.declared.scan.To.{To}
+use Rattle.am824_gateway.specs.Packets.{piece_frame}
+use Rattle.am824_gateway.specs.Pieces.{Given, given_with, pieces_of, skip_by, unless}
+
+-- ---- all pieces
+
+-- A piece of a batch that is given out, with the number of the packet that carries it.
+pub record Cut : Type 0 where
+  pub number : ℕ
+  pub batch : Presented
+  pub piece : Piece
+
+-- pieces of a batch, of which the first is carried by packet n
+abbrev pub cuts_from : ℕ → Presented → List Piece → List Cut
+cuts_from n batch [] = []
+cuts_from n batch (p ∷ pieces) = record { number = n; batch = batch; piece = p } ∷ cuts_from (suc n) batch pieces
+
+-- the pieces of batches of a stream of this shape, after what was given out; one that is skipped has none
+abbrev pub cuts_after : To → Shape → Given → List Presented → List Cut
+cuts_after to shape given [] = []
+cuts_after to shape given (batch ∷ batches) =
+    unless (skip_by to shape given batch)
+    (cuts_from given.packets batch (pieces_of to shape batch given.block) ++ cuts_after to shape (given_with to shape given batch) batches)
+    (cuts_after to shape given batches)
+
+-- the frame that carries a piece
+abbrev pub cut_frame : To → Shape → ℕ → Cut → SentFrame
+cut_frame to shape id c = piece_frame to shape id c.number c.batch c.piece
+
+-- when the first sample of a piece is presented
+abbrev pub cut_instant : Cut → ℤ
+cut_instant c = sample_instant c.batch c.piece.first
+
+-- the batches that are given out, which are those that are not skipped
+abbrev pub given_batches : To → Shape → Given → List Presented → List Presented
+given_batches to shape given [] = []
+given_batches to shape given (batch ∷ batches) =
+    unless (skip_by to shape given batch)
+    (batch ∷ given_batches to shape (given_with to shape given batch) batches)
+    (given_batches to shape given batches)
+
+-- ---- what holds of them
+
+-- a batch has a sample, and each of its samples is presented after the one before it
+pub record HasRisingInstants (batch : Presented) : Type 0 where
+  pub some : 1 ≤ batch.count
+  pub rise : (j : ℕ) → suc j < batch.count → sample_instant batch j <ℤ sample_instant batch (suc j)
+
+-- each instant is after all before it
+abbrev pub Rise : List ℤ → Type 0
+Rise [] = ⊤
+Rise (x ∷ xs) = AllByRecursion (λ y. x <ℤ y) xs × Rise xs
+
+-- the longest frame of an Ethernet network with a tag, without its frame check sequence (IEEE 802.3, 3.2.7)
+abbrev pub longest_frame : ℕ
+longest_frame = 1518
+
+-- a frame that an Ethernet network carries
+abbrev pub IsFrame : SentFrame → Type 0
+IsFrame f = length f.bytes ≤ longest_frame

@@ -1,0 +1,5 @@
+pub mod InOrder
+pub mod Stamped
+pub mod Carried
+pub mod Heard
+pub mod Noted

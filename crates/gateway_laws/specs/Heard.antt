@@ -1,0 +1,45 @@
+-- The packets that a listener reads of a gateway's frames.
+use Rattle.std.specs.Prelude.{ℕ, suc, ◌%◌, ◌≤ℤ◌, false, pos, List, [], ◌∷◌, Some}
+use Rattle.time_unfold.specs.declared.head_rule.HeadRule.{HeadRule}
+use Rattle.time_unfold.specs.declared.head_rule.HeadRule.TheVariants.{Own, Blocks}
+use Rattle.talk_plan.specs.Plan.{interval_of}
+use Rattle.sample_schedule.specs.declared.item.Packet.{Packet}
+use Rattle.sample_schedule.specs.Batches.{Presented, sample_instant}
+use Rattle.am824_gateway.specs.declared.piece.Piece.{Piece}
+use Rattle.am824_gateway.specs.declared.scan.Shape.{Shape}
+use Rattle.am824_gateway.specs.declared.scan.To.{To}
+use Rattle.am824_gateway.specs.declared.scan.To.TheVariants.{Aaf, Am824}
+use Rattle.am824_gateway.specs.Laws.{Cut, HasRisingInstants, cut_instant}
+use Rattle.am824_gateway.specs.Packets.{samples_of, timestamp_at}
+use Rattle.am824_gateway.specs.Pieces.{arrival_at}
+
+-- to which sample the timestamp of a piece's packet belongs: the first one of PCM (IEEE 1722-2016, 7), and the first block whose
+-- count is a multiple of SYT_INTERVAL (IEC 61883-6)
+abbrev pub rule_of : To → Shape → Piece → HeadRule
+rule_of Am824 shape p = Blocks p.block (interval_of shape.rate)
+rule_of Aaf shape p = Own
+
+-- what a listener reads of the frame that carries a piece, and is the record of this number in the capture
+abbrev pub packet_heard : To → Shape → ℕ → Cut → Packet
+packet_heard to shape frame c = record {
+  frame = frame;
+  arrival = arrival_at (cut_instant c);
+  seq = c.number % 256;
+  mr = false;
+  tu = false;
+  stamp = Some (timestamp_at (cut_instant c));
+  rule = rule_of to shape c.piece;
+  rate = shape.rate;
+  count = c.piece.count;
+  bytes = samples_of to shape c.batch c.piece;
+}
+
+-- of all frames, of which the first is the record of this number
+abbrev pub packets_heard : To → Shape → ℕ → List Cut → List Packet
+packets_heard to shape frame [] = []
+packets_heard to shape frame (c ∷ cs) = packet_heard to shape frame c ∷ packets_heard to shape (suc frame) cs
+
+-- a batch whose instants rise, from 0 or later on: so does each that a listener presents in time, since no packet comes before 0
+pub record BeginsInTime (batch : Presented) : Type 0 where
+  pub rising : HasRisingInstants batch
+  pub begun : pos 0 ≤ℤ sample_instant batch 0

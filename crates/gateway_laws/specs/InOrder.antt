@@ -1,0 +1,33 @@
+-- Schedules whose items come in the order in which they are presented.
+use Rattle.std.specs.Prelude.{◌≡◌, ◌≢◌, ℕ, ◌<◌, ◌≤ℤ◌, ◌<ℤ◌, List, length, slice_get, Some, Ok}
+use Rattle.std.specs.List.{AllByRecursion}
+use Rattle.sample_schedule.specs.declared.entry.Entry.{Entry}
+use Rattle.sample_schedule.specs.declared.entry.Entry.TheVariants.{Item as OfItem}
+use Rattle.sample_schedule.specs.declared.item.Item.{Item}
+use Rattle.sample_schedule.specs.declared.plan.SchedulePlan.{SchedulePlan}
+use Rattle.sample_schedule.specs.declared.shown.Reason.TheVariants.{Full}
+use Rattle.sample_schedule.specs.declared.shown.Shown.{Shown}
+use Rattle.sample_schedule.specs.declared.shown.Shown.TheVariants.{Present, Flag}
+use Rattle.sample_schedule.specs.Batches.{Presented}
+use Rattle.sample_schedule.specs.Schedule.{now_at, prefix_of, shown}
+use Rattle.sample_schedule.specs.Verdicts.{Clock, first_instant, timed}
+
+-- an item is not flagged since the buffer is full
+abbrev pub IsNotFull : Shown → Type 0
+IsNotFull (Present batch) = Unit {0}
+IsNotFull (Flag frame seq reason) = reason ≢ Full
+
+-- The item at place i is timed: what is known when it is judged gives this batch, and no packet up to it came after the
+-- batch's first instant.
+pub record IsTimedAt (clock : Clock) (plan : SchedulePlan) (entries : List Entry) (i : ℕ) (batch : Presented) : Type 0 where
+  pub item : Item
+  pub there : slice_get entries i ≡ Some (OfItem item)
+  pub batch_is : timed clock plan (prefix_of plan entries i) item ≡ Ok batch
+  pub early : now_at entries i ≤ℤ first_instant batch
+
+-- Each entry is an item that is timed, the first instants rise, and none is flagged since the buffer is full.
+pub record AreInOrder (clock : Clock) (plan : SchedulePlan) (entries : List Entry) (batches : List Presented) : Type 0 where
+  pub all : length batches ≡ length entries
+  pub timed_at : (i : ℕ) (batch : Presented) → slice_get batches i ≡ Some batch → IsTimedAt clock plan entries i batch
+  pub rise : (i j : ℕ) (a b : Presented) → i < j → slice_get batches i ≡ Some a → slice_get batches j ≡ Some b → first_instant a <ℤ first_instant b
+  pub room : AllByRecursion IsNotFull (shown clock plan entries)

@@ -1,0 +1,44 @@
+-- Packets that are stamped on their first samples, and come before these are presented.
+use Rattle.std.specs.Prelude.{◌≡◌, ℕ, ◌≤◌, false, ℤ, pos, neg_ℤ, ◌≤ℤ◌, List, [], ◌∷◌, map, Some, ⊤}
+use Rattle.time_unfold.specs.Heads.{stamped_index}
+use Rattle.time_unfold.specs.Time.{unfolded}
+use Rattle.sample_schedule.specs.declared.entry.Entry.{Entry}
+use Rattle.sample_schedule.specs.declared.entry.Entry.TheVariants.{Item as OfItem}
+use Rattle.sample_schedule.specs.declared.item.Item.TheVariants.{Packet as OfPacket}
+use Rattle.sample_schedule.specs.declared.item.Packet.{Packet}
+use Rattle.sample_schedule.specs.Batches.{Presented}
+use Rattle.sample_schedule.specs.Verdicts.{nominal_spot, samples_at}
+
+-- A packet has samples of a known rate, and a certain timestamp, which belongs to its first sample and means this instant; it
+-- came before that, and not before 0.
+pub record IsStamped (p : Packet) (instant : ℤ) : Type 0 where
+  pub certain : p.tu ≡ false
+  pub some : 1 ≤ p.count
+  pub known_rate : 1 ≤ p.rate
+  pub index : stamped_index p.rule ≡ 0
+  pub timestamp : ℕ
+  pub stamp : p.stamp ≡ Some timestamp
+  pub means : unfolded timestamp p.arrival ≡ instant
+  pub early : p.arrival ≤ℤ instant
+  pub begun : pos 0 ≤ℤ instant
+
+-- the packets are stamped with these instants, one by one
+abbrev pub AreStamped : List Packet → List ℤ → Type 0
+AreStamped [] [] = ⊤
+AreStamped [] (x ∷ xs) = ⊥
+AreStamped (p ∷ ps) [] = ⊥
+AreStamped (p ∷ ps) (x ∷ xs) = IsStamped p x × AreStamped ps xs
+
+-- the samples of a packet, counted at the nominal rate from the instant of the first one
+abbrev pub counted_from_first : Packet → ℤ → Presented
+counted_from_first p instant = samples_at p (nominal_spot p.rate (record { instant = instant; first = neg_ℤ (pos 0) }))
+
+-- those of each packet
+abbrev pub all_counted : List Packet → List ℤ → List Presented
+all_counted [] xs = []
+all_counted (p ∷ ps) [] = []
+all_counted (p ∷ ps) (x ∷ xs) = counted_from_first p x ∷ all_counted ps xs
+
+-- the entries of a schedule of packets alone
+abbrev pub packet_entries : List Packet → List Entry
+packet_entries ps = map (λ (p : Packet). OfItem (OfPacket p)) ps

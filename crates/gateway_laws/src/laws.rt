@@ -1,0 +1,61 @@
+//! Laws of what listeners present of the captures that a gateway makes. Each call is its contract, and does nothing.
+
+ghost use Rattle.std.specs.Prelude.{◌≡◌, ◌%◌, ◌∷◌, ◌++◌, ℕ, ℤ, List, false, map};
+ghost use Rattle.am824_gateway.specs.Laws.{Cut};
+ghost use Rattle.gateway_laws.specs.Noted.{cut_seen, nothing_found};
+ghost use Rattle.sequence_track.specs.Findings.{findings};
+ghost use Rattle.talk_plan.specs.Plan.{interval_of};
+ghost use Rattle.gateway_laws.specs.Heard.{BeginsInTime, packets_heard};
+ghost use Rattle.std.specs.List.{AllByRecursion, flat_map};
+ghost use Rattle.sample_schedule.specs.declared.item.Packet.{Packet};
+ghost use Rattle.sample_schedule.specs.Batches.{Presented};
+ghost use Rattle.sample_schedule.specs.declared.accepted.Accepted.{Accepted};
+ghost use Rattle.sample_schedule.specs.declared.entry.Entry.{Entry};
+ghost use Rattle.sample_schedule.specs.declared.plan.SchedulePlan.{SchedulePlan};
+ghost use Rattle.sample_schedule.specs.Laws.{presented};
+ghost use Rattle.sample_schedule.specs.Schedule.{given, shown};
+ghost use Rattle.sample_schedule.specs.Verdicts.{Clock};
+ghost use Rattle.am824_gateway.specs.declared.scan.Shape.{Shape as ShapeValue};
+ghost use Rattle.am824_gateway.specs.declared.scan.To.{To as ToValue};
+ghost use Rattle.am824_gateway.specs.Laws.{HasRisingInstants, Rise, cuts_after, given_batches};
+ghost use Rattle.am824_gateway.specs.Pieces.{Given as GivenOut};
+ghost use Rattle.am824_gateway.specs.Samples.{samples_presented};
+ghost use Rattle.am824_gateway.specs.Scan.{IsShape};
+ghost use Rattle.gateway_laws.specs.Carried.{CarryCuts, samples_heard};
+ghost use Rattle.gateway_laws.specs.InOrder.{AreInOrder, IsNotFull};
+ghost use Rattle.gateway_laws.specs.Stamped.{AreStamped, all_counted, packet_entries};
+
+/// A schedule whose items all have instants, come before these, and are in their order presents all of them in this order, if none
+/// of them is flagged since the buffer is full.
+pub fn items_in_order_are_presented()
+    ensures { (clock : Clock) (plan : SchedulePlan) (entries : List Entry) (batches : List Presented) → AreInOrder clock plan entries batches → map (λ (a : Accepted). a.batch) (presented (given clock plan entries)) ≡ batches }
+{}
+
+/// A listener without a clock presents all packets that are stamped on their first samples and come before these, if the instants
+/// rise and the buffer is never full: in their order, once, each sample counted at the nominal rate from the packet's own timestamp.
+pub fn stamped_packets_in_order_are_presented()
+    ensures { (clock : Clock) (plan : SchedulePlan) (packets : List Packet) (instants : List ℤ) → plan.clock ≡ false → AreStamped packets instants → Rise instants
+        → AllByRecursion IsNotFull (shown clock plan (packet_entries packets)) → map (λ (a : Accepted). a.batch) (presented (given clock plan (packet_entries packets))) ≡ all_counted packets instants }
+{}
+
+/// Of the packets that carry the pieces of any batches whose instants rise, a listener without a clock whose buffer is never full
+/// presents just the samples of the batches that were not skipped: in order, once, with the same values at the same instants.
+pub fn packets_of_pieces_are_heard()
+    ensures { (clock : Clock) (plan : SchedulePlan) (to : ToValue) (shape : ShapeValue) (given_before : GivenOut) (batches : List Presented) (packets : List Packet) → plan.clock ≡ false → IsShape shape → AllByRecursion HasRisingInstants batches
+        → CarryCuts to shape packets (cuts_after to shape given_before batches) → AllByRecursion IsNotFull (shown clock plan (packet_entries packets))
+        → flat_map (samples_heard to shape) (map (λ (a : Accepted). a.batch) (presented (given clock plan (packet_entries packets)))) ≡ flat_map (samples_presented to shape) (given_batches to shape given_before batches) }
+{}
+
+/// The frames of a gateway are such packets, as a listener reads them: each is stamped on its first sample, also in AM824, since
+/// the block count is raised to a multiple of SYT_INTERVAL; and its timestamp means the instant that was stamped, from 0 on.
+pub fn frames_carry_the_pieces()
+    ensures { (to : ToValue) (shape : ShapeValue) (given_before : GivenOut) (frame : ℕ) (batches : List Presented) → IsShape shape → given_before.block % interval_of shape.rate ≡ 0 → AllByRecursion BeginsInTime batches
+        → CarryCuts to shape (packets_heard to shape frame (cuts_after to shape given_before batches)) (cuts_after to shape given_before batches) }
+{}
+
+/// Nothing is found in the frames of a gateway, whatever the batches: by what is noted of them, their sequence numbers go on one by
+/// one, and the media clock never restarts.
+pub fn nothing_is_found_in_frames()
+    ensures { (to : ToValue) (shape : ShapeValue) (id : ℕ) (given_before : GivenOut) (batches : List Presented) (earlier later : List Cut) (c : Cut) → cuts_after to shape given_before batches ≡ earlier ++ c ∷ later
+        → findings (map (cut_seen to id) earlier) (cut_seen to id c) ≡ nothing_found }
+{}
