@@ -21,7 +21,7 @@ differ_in a b way = record { frame_a = a.frame; frame_b = b.frame; seq = a.seq; 
 abbrev pub between : Presented → Presented → Option Difference
 between a b = option_map (differ_in a b) (way_of a b)
 
--- the difference of two batches, of which the first is of this side and the other of the other
+-- the difference of two batches, given which side the first is of; the second is of the other side
 abbrev pub difference_by : Which → Presented → Presented → Option Difference
 difference_by A x y = between x y
 difference_by B x y = between y x
@@ -30,15 +30,15 @@ difference_by B x y = between y x
 abbrev pub difference_of : Paired → Option Difference
 difference_of pair = difference_by pair.later.side pair.later.batch pair.earlier.batch
 
--- The differences of a merged list: of its pairs, those that differ.
+-- the differences of the pairs of a merged list
 abbrev pub differences : List Sided → List Difference
 differences list = filter_map difference_of (pairs list)
 
--- how many batches of a side are in no pair
+-- the number of a side's batches that are in no pair
 abbrev pub alone : Which → List Placed → ℕ
 alone side list = length (filter (λ x. is_side side x.side) list)
 
--- how many pairs a merged list has, how many batches of A and of B are in none, and how many pairs differ
+-- the counts of a merged list: its pairs, the batches of A and of B that are in none, and the pairs that differ
 abbrev pub counts_of : List Sided → PairCounts
 counts_of list = record {
   matched = length (pairs list);

@@ -1,4 +1,4 @@
--- What holds of all pairs and differences.
+-- What holds for all pairs and differences.
 use Rattle.std.specs.Prelude.{◌≡◌, ℕ, ◌+◌, ◌==◌, ◌<◌, ◌≤◌, ◌||◌, Bool, true, false, List, length, filter}
 use Rattle.sample_schedule.specs.Batches.{Presented}
 use Rattle.listener_pair.specs.declared.difference.Which.{Which}
@@ -6,8 +6,8 @@ use Rattle.listener_pair.specs.declared.placed.Paired.{Paired}
 use Rattle.listener_pair.specs.Merged.{Sided, is_side}
 use Rattle.listener_pair.specs.Pairs.{fits, pairs}
 
--- What holds of every pair: its batches are of two sides, the earlier among the 512 directly before the later; and they may be
--- one packet or unit.
+-- What holds for every pair: its batches are of different sides and may be one packet or unit, and the earlier is among the 512
+-- directly before the later.
 pub record IsPair (pair : Paired) : Type 0 where
   pub sides : is_side pair.later.side pair.earlier.side ≡ false
   pub before : pair.earlier.place < pair.later.place
@@ -18,6 +18,6 @@ pub record IsPair (pair : Paired) : Type 0 where
 abbrev pub is_in : ℕ → Paired → Bool
 is_in place pair = pair.earlier.place == place || pair.later.place == place
 
--- in how many pairs of a merged list the batch at a place is
+-- the number of pairs of a merged list that the batch at a place is in
 abbrev pub times_paired : List Sided → ℕ → ℕ
 times_paired list place = length (filter (is_in place) (pairs list))

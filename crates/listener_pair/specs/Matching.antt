@@ -1,4 +1,4 @@
--- A matching, which is given what two listeners present, batch by batch, and has given differences.
+-- A matching: it is given what two listeners present, batch by batch, and gives differences.
 use Rattle.std.specs.Prelude.{◌≡◌, ℕ, ◌+◌, ◌^◌, ◌<◌, ◌⊎◌, ⊤, Bool, true, false, ◌&&◌, if◌then◌else◌, int_lt, ◌≤ℤ◌, ◌<ℤ◌, nat_le, List, [], ◌∷◌, ◌++◌, length, filter, map, Option, None, Some}
 use Rattle.std.specs.List.{AllByRecursion}
 use Rattle.std.specs.Option.{option_to_list}
@@ -13,8 +13,8 @@ use Rattle.listener_pair.specs.Merged.{Sided, is_side, known, merged}
 use Rattle.listener_pair.specs.Pairs.{unpaired}
 use Rattle.listener_pair.specs.Differences.{counts_of, differences}
 
--- A matching: of each side the next batch, and whether it has ended; how many batches came in merged order; those of each side
--- that wait for a partner; and the counts.
+-- A matching: the next batch of each side, and whether the side has ended; the number of batches that came in merged order; the
+-- batches of each side that wait for a partner; and the counts.
 pub record MatchingState : Type 0 where
   pub next_a : Option Presented
   pub next_b : Option Presented
@@ -25,7 +25,7 @@ pub record MatchingState : Type 0 where
   pub waiting_b : List Placed
   pub counts : PairCounts
 
--- a side that may go on has no next batch
+-- a side that has not ended lacks its next batch
 abbrev pub lacks : Bool → Option Presented → Bool
 lacks true next = false
 lacks false None = true
@@ -35,12 +35,12 @@ lacks false (Some batch) = false
 abbrev pub wanted : MatchingState → Option Which
 wanted m = if lacks m.ended_a m.next_a then Some A else if lacks m.ended_b m.next_b then Some B else None
 
--- the matching once the wanted side presented its next batch
+-- the matching after the wanted side presented its next batch
 abbrev pub given_to : Which → Presented → MatchingState → MatchingState
 given_to A batch m = record m { next_a = Some batch }
 given_to B batch m = record m { next_b = Some batch }
 
--- the matching once the wanted side has ended
+-- the matching after the wanted side has ended
 abbrev pub ended_by : Which → MatchingState → MatchingState
 ended_by A m = record m { ended_a = true }
 ended_by B m = record m { ended_b = true }
@@ -57,12 +57,12 @@ nexts None (Some b) = of_side B b ∷ []
 nexts (Some a) (Some b) =
     if int_lt (first_instant b) (first_instant a) then of_side B b ∷ of_side A a ∷ [] else of_side A a ∷ of_side B b ∷ []
 
--- Nothing more is known: what comes next in the merged list rests on what a side presents later, or both have ended and are
--- through.
+-- Nothing more is known: what comes next in the merged list depends on what a side presents later; or both sides have ended and
+-- no batch is left.
 abbrev pub IsIdle : MatchingState → Type 0
 IsIdle m = known m.ended_a m.ended_b (nexts m.next_a m.next_b) ≡ []
 
--- the known part of what the matching was given
+-- the known part of the merged list of what the matching was given
 abbrev pub known_of : MatchingState → List Presented → List Presented → List Sided
 known_of m xs ys = known m.ended_a m.ended_b (merged xs ys)
 
@@ -70,7 +70,7 @@ known_of m xs ys = known m.ended_a m.ended_b (merged xs ys)
 abbrev pub batches_of : Which → List Sided → List Presented
 batches_of side list = map (λ x. x.batch) (filter (λ x. is_side side x.side) list)
 
--- x may stand before y in a merged list
+-- x may come before y in a merged list
 pub record MayPrecede (x y : Sided) : Type 0 where
   pub instants : first_instant x.batch ≤ℤ first_instant y.batch
   pub sides : x.side ≡ B → y.side ≡ A → first_instant x.batch <ℤ first_instant y.batch
@@ -88,19 +88,19 @@ EndsOn side list = (list ≡ []) ⊎ ((front : List Sided) × (batch : Presented
 abbrev pub is_within : Which → ℕ → Placed → Bool
 is_within side place y = is_side side y.side && nat_le place (y.place + 512)
 
--- of the batches that are not paired, those of a side that are among the 512 before a place
+-- the batches of a side that are not paired and among the 512 before a place
 abbrev pub window : Which → ℕ → List Placed → List Placed
 window side place list = filter (is_within side place) list
 
--- The matching was given these batches of A and of B, each list in order, and has given `given` differences. `done` is the part
--- of the merged list that it worked through.
+-- The matching was given these batches of A and of B, each list in order, and has given the differences `given`. `done` is the
+-- part of the merged list that it has worked through.
 pub record StandsFor (xs ys : List Presented) (given : ℕ) (m : MatchingState) : Type 0 where
   pub few : length xs + length ys < 2 ^ 63
   pub done : List Sided
   pub a : batches_of A done ++ option_to_list m.next_a ≡ xs
   pub b : batches_of B done ++ option_to_list m.next_b ≡ ys
   pub sorted : IsSorted (done ++ nexts m.next_a m.next_b)
-  -- a side that lacks its next batch had the last one, and if both do, none came
+  -- If a side lacks its next batch, the last batch was that side's; if both lack it, none came.
   pub last_a : lacks m.ended_a m.next_a ≡ true → EndsOn A done
   pub last_b : lacks m.ended_b m.next_b ≡ true → EndsOn B done
   pub none : lacks m.ended_a m.next_a ≡ true → lacks m.ended_b m.next_b ≡ true → done ≡ []

@@ -11,32 +11,33 @@ pub record Sided : Type 0 where
   pub side : Which
   pub batch : Presented
 
--- the batches, as those of one side
+-- the batches of a list, marked as those of one side
 abbrev pub all_of : Which → List Presented → List Sided
 all_of side batches = map (λ b. record { side = side; batch = b }) batches
 
--- a list by first instant with one more batch, before all that are not earlier
+-- a list that is ordered by first instant, with one more batch before all that are not earlier
 abbrev pub put_before : Sided → List Sided → List Sided
 put_before x [] = x ∷ []
 put_before x (y ∷ ys) = if int_lt (first_instant y.batch) (first_instant x.batch) then y ∷ put_before x ys else x ∷ y ∷ ys
 
--- batches by first instant, and at one instant in the order in which they stood
+-- batches ordered by first instant, and at one instant in the order of the list
 unfoldable pub by_instant : List Sided → List Sided
 by_instant [] = []
 by_instant (x ∷ rest) = put_before x (by_instant rest)
 
--- The merged list of what A and B present: by first instant, at equal ones A's before B's, and then in the order of each list.
+-- The merged list of what A and B present: by first instant; at one instant A's batches before B's; otherwise in the order of
+-- each list.
 unfoldable pub merged : List Presented → List Presented → List Sided
 merged xs ys = by_instant (all_of A xs ++ all_of B ys)
 
--- the list is by first instant, as what a listener presents is
+-- the list is ordered by first instant, as what a listener presents is
 abbrev pub IsInOrder : List Presented → Type 0
 IsInOrder [] = ⊤
 IsInOrder (x ∷ rest) = AllByRecursion (λ y. first_instant x ≤ℤ first_instant y) rest × IsInOrder rest
 
 -- ---- what is known of it while the two lists may go on
 
--- whether two sides are one
+-- two sides are the same
 abbrev pub is_side : Which → Which → Bool
 is_side A A = true
 is_side A B = false
@@ -47,8 +48,8 @@ is_side B B = true
 abbrev pub is_settled : Bool → Which → List Sided → Bool
 is_settled ended side list = ended || list_any (λ x. is_side side x.side) list
 
--- The known part of a merged list, given which sides have ended: the batches such that on each side that may go on a batch
--- stands at their place or after it. It stays the front of the merged list, however the two go on.
+-- The known part of a merged list, given which sides have ended: each batch that has a batch of every side that has not ended
+-- at its place or after it. However the two sides go on, it stays the front of the merged list.
 unfoldable pub known : Bool → Bool → List Sided → List Sided
 known ended_a ended_b [] = []
 known ended_a ended_b (x ∷ rest) =

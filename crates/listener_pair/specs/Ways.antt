@@ -10,7 +10,7 @@ use Rattle.listener_pair.specs.declared.difference.Way.TheVariants.{Count, At, B
 abbrev pub sample_size : Presented → ℕ
 sample_size batch = length batch.bytes / batch.count
 
--- the bytes of sample j of a batch: its share
+-- the bytes of sample j of a batch: an equal share of its bytes
 abbrev pub sample_bytes : Presented → ℕ → List ℕ
 sample_bytes batch j = take (sample_size batch) (drop (j * sample_size batch) batch.bytes)
 
@@ -21,17 +21,17 @@ sample_way a b j =
     then (if bytes_eq (sample_bytes a j) (sample_bytes b j) then None else Some (Bytes j))
     else Some (At j (sample_instant a j) (sample_instant b j))
 
--- a way, or if there is none another
+-- a way, or if there is none, another
 abbrev pub or_way : Option Way → Option Way → Option Way
 or_way (Some way) other = Some way
 or_way None other = other
 
--- how the least of the first n samples that differ does
+-- how the first of the first n samples that differs does so
 unfoldable pub first_way : Presented → Presented → ℕ → Option Way
 first_way a b zero = None
 first_way a b (suc n) = or_way (first_way a b n) (sample_way a b n)
 
--- The way in which a batch of A and one of B differ, if they do: in the number of samples; or else, for the least sample that
--- differs, in its instant or else in its bytes.
+-- The way in which a batch of A and one of B differ, if they do: in the number of samples; otherwise, for the first sample that
+-- differs, in its instant, or if not, in its bytes.
 unfoldable pub way_of : Presented → Presented → Option Way
 way_of a b = if a.count == b.count then first_way a b a.count else Some (Count a.count b.count)

@@ -1,4 +1,4 @@
-//! What is told of two listeners.
+//! How what two listeners present differs.
 
 /// One of two listeners.
 #[derive(Clone, Copy, Debug, PartialEq, Eq)]
@@ -28,7 +28,7 @@ pub struct Difference {
     pub way: Way,
 }
 
-/// How many pairs there are, how many batches of A and of B are in none, and how many pairs differ.
+/// The number of pairs, of batches of A and of B that are in none, and of pairs that differ.
 #[derive(Clone, Copy, Debug, PartialEq, Eq)]
 pub struct PairCounts {
     pub matched: u64,
@@ -41,7 +41,7 @@ impl PairCounts {
     ghost use Rattle.std.specs.Prelude.{◌≡◌};
     ghost use Rattle.listener_pair.specs.state.Window.{with_alone, with_pair};
 
-    /// None at all.
+    /// No batch and no pair.
     pub(crate) fn none() -> Self
         ensures { result ≡ record { matched = 0; only_a = 0; only_b = 0; differ = 0 } }
     {
@@ -53,7 +53,7 @@ impl PairCounts {
         }
     }
 
-    /// With one more batch of a side that is in no pair.
+    /// These counts and one more batch of a side, which is in no pair.
     pub(crate) fn with_alone(self, side: Which) -> Self
         ensures { result ≡ with_alone side self }
     {
@@ -69,7 +69,8 @@ impl PairCounts {
         }
     }
 
-    /// With one more pair, of a batch of a side and one of the other that was in none, and which may differ.
+    /// These counts and one more pair: of a new batch of a side and a batch of the other side that was in no pair. The pair may
+    /// differ.
     pub(crate) fn with_pair(self, side: Which, differs: bool) -> Self
         ensures { result ≡ with_pair side differs self }
     {

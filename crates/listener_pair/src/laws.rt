@@ -1,4 +1,4 @@
-//! Laws of pairs and differences. Each call is its contract, and does nothing.
+//! Laws of pairs and differences. Each is a function whose contract states the law; a call does nothing.
 
 ghost use Rattle.std.specs.Prelude.{◌≡◌, ◌≤◌, ◌++◌, Bool, true, ℕ, List};
 ghost use Rattle.std.specs.List.{AllByRecursion};
@@ -10,20 +10,20 @@ ghost use Rattle.listener_pair.specs.Matching.{IsSorted, batches_of};
 ghost use Rattle.listener_pair.specs.Merged.{Sided, known, merged};
 ghost use Rattle.listener_pair.specs.Pairs.{pairs};
 
-/// What is paired of the front of a merged list stays paired, and what differs stays a difference: those of the front come
-/// first among those of the whole list.
+/// A pair of the front of a merged list stays a pair, and a difference stays a difference: those of the front come first among
+/// those of the whole list.
 pub fn pairs_stay()
     ensures pairs { (list more : List Sided) → IsPrefix (pairs list) (pairs (list ++ more)) }
     ensures differences { (list more : List Sided) → IsPrefix (differences list) (differences (list ++ more)) }
 {}
 
-/// The known part is the front of the merged list, and all of it once both sides have ended.
+/// The known part is the front of the merged list, and all of it after both sides have ended.
 pub fn known_comes_first()
     ensures first { (ended_a ended_b : Bool) (list : List Sided) → IsPrefix (known ended_a ended_b list) list }
     ensures all { (list : List Sided) → known true true list ≡ list }
 {}
 
-/// The two batches of a pair are of two sides, at most 512 places apart, and may be one packet or unit.
+/// The two batches of a pair are of different sides, are at most 512 places apart, and may be one packet or unit.
 pub fn pairs_are_of_two_sides()
     ensures { (list : List Sided) → AllByRecursion IsPair (pairs list) }
 {}

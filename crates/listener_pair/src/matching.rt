@@ -1,6 +1,6 @@
 //! The batches of two listeners, matched as they come.
 
-ghost use Rattle.std.specs.Prelude.{◌≡◌, ◌+◌, ◌^◌, ◌<◌, ◌≤◌, ◌++◌, ◌∷◌, [], ℕ, List, length, slice_get, Option, Some, None, IfNone, IfOk, IfSome, MatchOption, is_some, option_map};
+ghost use Rattle.std.specs.Prelude.{◌≡◌, ◌+◌, ◌^◌, ◌<◌, ◌≤◌, ◌++◌, ◌∷◌, [], ℕ, false, List, length, slice_get, Option, Some, None, IfNone, IfOk, IfSome, MatchOption, is_some, option_map};
 ghost use Rattle.std.specs.Option.{option_to_list};
 ghost use Rattle.sample_schedule.specs.Batches.{Presented};
 ghost use Rattle.listener_pair.specs.Merged.{IsInOrder};
@@ -19,11 +19,11 @@ use std::alloc::Global;
 use std::collections::VecDeque;
 use std::marker::Model;
 
-/// What two listeners present, matched as it comes: it is given the batches of each, one at a time, and gives the differences of
-/// those that are pairs. A difference is given as soon as the batches are known that come before it in merged order.
+/// Matches what two listeners present. It is given the batches of each, one at a time, and gives the differences of the batches
+/// that are pairs. It gives a difference as soon as all batches that come before it in merged order are known.
 ///
-/// Memory is reserved when it is made. A batch that is paired is let go, and one that is not waits while one of the 512
-/// batches after it may be its partner.
+/// Memory is reserved when it is made. A batch is dropped when it is paired, or when none of the 512 batches after it was its
+/// partner.
 #[derive(Drop)]
 pub struct Matching {
     next_a: Option<Timed>,
@@ -50,10 +50,11 @@ impl Model for Matching {
 }
 
 impl Matching {
-    /// A matching that was given nothing. Reserves all the memory that it takes.
+    /// A matching that was given nothing. It reserves all the memory that it needs.
     pub fn begin(alloc: Global) -> Result<Self, NoMemory>
         ensures stands { IfOk result (StandsFor [] [] 0) }
         ensures open { IfOk result (λ m. wanted m ≡ Some Which.A) }
+        ensures ends { IfOk result (λ m. (m.ended_a ≡ false) × (m.ended_b ≡ false)) }
     {
         let waiting_a = VecDeque::with_capacity(alloc, WINDOW)?;
         let waiting_b = VecDeque::with_capacity(alloc, WINDOW)?;
@@ -69,8 +70,8 @@ impl Matching {
         })
     }
 
-    /// The side whose next batch, or end, is needed before more is known: A where A has not ended and has no next batch, else B
-    /// in the same case, else None.
+    /// The side whose next batch, or end, is needed before more is known: A, if it has not ended and has no next batch;
+    /// otherwise B on the same condition; otherwise `None`.
     pub fn wants(&self) -> Option<Which>
         ensures { result ≡ wanted self.now }
     {
@@ -83,7 +84,7 @@ impl Matching {
         None
     }
 
-    /// Takes the next batch of the side that is wanted. Takes no memory.
+    /// Takes the next batch of the side that is wanted. Allocates nothing.
     pub fn take(&mut self, which: Which, batch: Batch)
         requires { wanted self.old ≡ Some which }
         ensures given { self.new ≡ given_to which batch self.old }
@@ -93,7 +94,7 @@ impl Matching {
         self.put(which, Timed::over(batch));
     }
 
-    /// Says that the side that is wanted presents no further batch. Takes no memory.
+    /// Notes that the side that is wanted presents no further batch. Allocates nothing.
     pub fn end(&mut self, which: Which)
         requires { wanted self.old ≡ Some which }
         ensures ended { self.new ≡ ended_by which self.old }
@@ -105,7 +106,8 @@ impl Matching {
         }
     }
 
-    /// The next difference of the known part of the merged list. None comes exactly if no further one is in it. Takes no memory.
+    /// The next difference of the known part of the merged list, and `None` exactly if there is no further one. Allocates
+    /// nothing.
     pub fn next_difference(&mut self) -> Option<Difference>
         ensures given { (xs ys : List Presented) (given : ℕ) → StandsFor xs ys given self.old → result ≡ slice_get (differences (known_of self.old xs ys)) given }
         ensures stands { (xs ys : List Presented) (given : ℕ) → StandsFor xs ys given self.old → StandsFor xs ys (given + length (option_to_list result)) self.new }
@@ -123,14 +125,15 @@ impl Matching {
         }
     }
 
-    /// The counts over the known part, once all its differences were given. A batch that is not paired yet counts as only.
+    /// The counts over the known part, after all its differences were given. A batch that is not paired yet counts as in no
+    /// pair.
     pub fn counts(&self) -> PairCounts
         ensures { IsIdle self.now → (xs ys : List Presented) (given : ℕ) → StandsFor xs ys given self.now → result ≡ counts_of (known_of self.now xs ys) }
     {
         self.counts
     }
 
-    /// A batch is the next of a side.
+    /// Whether a batch is the next of a side.
     fn put(&mut self, which: Which, batch: Timed)
         ensures { self.new ≡ given_to which batch self.old }
     {
@@ -170,7 +173,7 @@ impl Matching {
         }
     }
 
-    /// A batch comes to those that wait.
+    /// Adds a batch to those that wait.
     fn enter(&mut self, x: Placed, next: u64) -> Option<Paired>
         ensures enters { EntersSide x.side x next self.old self.new result }
         ensures same { self.new ≡ record self.old { waiting_a = self.new.waiting_a; waiting_b = self.new.waiting_b } }
@@ -181,8 +184,8 @@ impl Matching {
         }
     }
 
-    /// The next batch of the known part, which is of this side, comes. The difference of the pair that it makes, if it does and
-    /// that differs.
+    /// Takes the next batch of the known part, which is of this side. Returns the difference of the pair that it makes, if it
+    /// makes one that differs.
     fn step(&mut self, side: Which) -> Option<Difference>
         requires { next_side self.old ≡ Some side }
         ensures stands { (xs ys : List Presented) (given : ℕ) → StandsFor xs ys given self.old → StandsFor xs ys (given + length (option_to_list result)) self.new }
@@ -207,7 +210,7 @@ impl Matching {
     }
 }
 
-/// The counts with a batch of a side that made this pair, or none.
+/// The counts after a batch of a side made this pair, or none.
 fn counted(counts: PairCounts, side: Which, pair: &Option<Paired>, differs: bool) -> PairCounts
     requires { differs ≡ is_some (difference_by_pair pair.now) }
     ensures { result ≡ counted_by side pair.now counts }

@@ -1,4 +1,4 @@
-//! Which batches may be a pair.
+//! Which two batches may be a pair.
 
 ghost use Rattle.std.specs.Prelude.{◌≡◌};
 ghost use Rattle.listener_pair.specs.Pairs.{are_near as are_near_of, fits as fits_of, reaches as reaches_of, within_reach as within_reach_of};
@@ -6,10 +6,10 @@ ghost use Rattle.listener_pair.specs.Pairs.{are_near as are_near_of, fits as fit
 use crate::difference::Which;
 use crate::timed::Timed;
 
-/// How many times the time of a batch two of one packet may be apart.
+/// Two batches of one packet may be apart by this many times the time of one.
 const REACH: u64 = 64;
 
-/// Whether batches of A and B are at most 64 times the time of A's apart.
+/// Whether a batch of A and one of B are apart by at most 64 times the time of A's batch.
 #[tactic(auto, using(crate::proofs::Numbers::distances))]
 fn are_near(a: &Timed, b: &Timed) -> bool
     ensures { result ≡ are_near_of a.now b.now }
@@ -21,7 +21,7 @@ fn are_near(a: &Timed, b: &Timed) -> bool
         <= u128::from(REACH * u64::from(count)) * u128::from(line.num)
 }
 
-/// Whether batches of A and B can be what both present of one packet or unit.
+/// Whether a batch of A and one of B may present the same packet or unit.
 #[tactic(auto, unfolding(crate::specs::Pairs::within_reach))]
 fn within_reach(a: &Timed, b: &Timed) -> bool
     ensures { result ≡ within_reach_of a.now b.now }
@@ -43,7 +43,7 @@ fn reaches(side: Which, x: &Timed, y: &Timed) -> bool
     }
 }
 
-/// Whether a batch of a side may be paired with one of the other that is not, and that is near enough in the merged list.
+/// Whether a batch of a side may be paired with an unpaired one of the other side that is near enough in the merged list.
 #[tactic(auto, unfolding(crate::specs::Pairs::fits))]
 pub fn fits(side: Which, x: &Timed, y: &Timed) -> bool
     ensures { result ≡ fits_of side x.now y.now }

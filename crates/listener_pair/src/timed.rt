@@ -3,7 +3,7 @@
 use sample_schedule::Batch;
 use std::marker::Model;
 
-/// A batch, and the instant of its first sample, which is found once.
+/// A batch, and the instant of its first sample, which is computed once.
 #[derive(Drop)]
 pub struct Timed {
     instant: i64,

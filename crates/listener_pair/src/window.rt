@@ -10,10 +10,10 @@ use crate::placed::{Paired, Placed};
 use crate::reach::fits;
 use std::collections::VecDeque;
 
-/// A batch is paired with one of this many directly before it in merged order.
+/// A batch is paired only with one of this many directly before it in merged order.
 pub const WINDOW: usize = 512;
 
-/// Takes the first of what waits that `x` may be paired with.
+/// Takes the first of those that wait that `x` may be paired with.
 fn take_partner(waiting: &mut VecDeque<Placed>, x: &Placed) -> Option<Placed>
     ensures found { result ≡ find (takes x.now) waiting.old.items }
     ensures left { waiting.new.items ≡ without_first (takes x.now) waiting.old.items }
@@ -27,7 +27,7 @@ fn take_partner(waiting: &mut VecDeque<Placed>, x: &Placed) -> Option<Placed>
     None
 }
 
-/// Lets the first go if it is not among the 512 batches before a place.
+/// Drops the first one if it is not among the 512 batches before a place.
 fn drop_passed(waiting: &mut VecDeque<Placed>, place: u64)
     ensures left { waiting.new.items ≡ without_passed place waiting.old.items }
     ensures capacity { deque_capacity waiting.new ≡ deque_capacity waiting.old }
@@ -41,8 +41,8 @@ fn drop_passed(waiting: &mut VecDeque<Placed>, place: u64)
     }
 }
 
-/// Puts a batch after those that wait. Of the last 512 batches at most 511 others wait, so there is room; if there were none,
-/// those that wait would be let go.
+/// Puts a batch after those that wait. At most 511 others of the last 512 batches wait, so there is room. If there were none,
+/// those that wait would be dropped.
 fn keep(waiting: &mut VecDeque<Placed>, x: Placed)
     requires { 512 ≤ deque_capacity waiting.old }
     ensures kept { length waiting.old.items < 512 → waiting.new.items ≡ waiting.old.items ++ x ∷ [] }
@@ -54,8 +54,8 @@ fn keep(waiting: &mut VecDeque<Placed>, x: Placed)
     waiting.push_back_reserved(x);
 }
 
-/// A batch comes: it is paired with the first that waits on the other side and that it may be paired with, or it waits. Those
-/// that are not among the 512 before `next`, the place of the next batch, are let go.
+/// Takes a batch: it is paired with the first one that waits on the other side and that it may be paired with, or it waits.
+/// Those that are not among the 512 before `next`, the place of the next batch, are dropped.
 pub fn enter(
     own: &mut VecDeque<Placed>,
     other: &mut VecDeque<Placed>,

@@ -19,7 +19,7 @@ use Rattle.listener_pair.specs.Matching.{MatchingState, wanted}
 abbrev pub takes : Placed → Placed → Bool
 takes x y = fits x.side x.batch y.batch
 
--- what waits, without the first if it is not among the 512 before a place
+-- what waits, without the first one if that is not among the 512 before a place
 abbrev pub without_passed : ℕ → List Placed → List Placed
 without_passed place [] = []
 without_passed place (y ∷ ys) = if nat_le place (y.place + 512) then y ∷ ys else ys
@@ -32,7 +32,7 @@ abbrev pub kept : Placed → Option Paired → List Placed
 kept x None = x ∷ []
 kept x (Some pair) = []
 
--- x came to what waits on its own side and on the other before the place `next`, and made this pair or none
+-- x came before the place `next`, to what waits on its own side and on the other, and made this pair or none
 pub record Enters (x : Placed) (next : ℕ) (own other own_then other_then : List Placed) (pair : Option Paired) : Type 0 where
   pub made : pair ≡ option_map (paired_with x) (find (takes x) other)
   pub others : other_then ≡ without_passed next (without_first (takes x) other)
@@ -43,11 +43,11 @@ abbrev pub EntersSide : Which → Placed → ℕ → MatchingState → MatchingS
 EntersSide A x next old new pair = Enters x next old.waiting_a old.waiting_b new.waiting_a new.waiting_b pair
 EntersSide B x next old new pair = Enters x next old.waiting_b old.waiting_a new.waiting_b new.waiting_a pair
 
--- a count that rises stands still at its type's end
+-- a count that rises by one, and stays at its type's maximum
 abbrev pub risen : ℕ → ℕ
 risen n = min (n + 1) (2 ^ 64 - 1)
 
--- a count that rises if something is so
+-- a count that rises by one if a condition holds
 abbrev pub risen_if : Bool → ℕ → ℕ
 risen_if true n = risen n
 risen_if false n = n
@@ -62,7 +62,7 @@ abbrev pub with_pair : Which → Bool → PairCounts → PairCounts
 with_pair A differs counts = record counts { matched = risen counts.matched; only_b = counts.only_b - 1; differ = risen_if differs counts.differ }
 with_pair B differs counts = record counts { matched = risen counts.matched; only_a = counts.only_a - 1; differ = risen_if differs counts.differ }
 
--- the counts once a batch of a side made this pair, or none
+-- the counts after a batch of a side made this pair, or none
 abbrev pub counted : Which → Option Paired → PairCounts → PairCounts
 counted side None counts = with_alone side counts
 counted side (Some pair) counts = with_pair side (is_some (difference_of pair)) counts
@@ -90,7 +90,7 @@ abbrev pub next_of : Which → MatchingState → Option Presented
 next_of A m = m.next_a
 next_of B m = m.next_b
 
--- how many next batches there are
+-- the number of next batches
 abbrev pub nexts_left : MatchingState → ℕ
 nexts_left m = length (option_to_list m.next_a) + length (option_to_list m.next_b)
 

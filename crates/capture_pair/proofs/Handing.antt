@@ -1,0 +1,317 @@
+-- What a listener shows is handed on.
+use Rattle.std.proofs.Common.{◌≡◌, ℕ, zero, suc, ◌+◌, ◌^◌, ◌<◌, ◌≤◌, Bool, true, false, cond, ◌⊎◌, inl, inr, List, [], ◌∷◌, ◌++◌, length, take, drop, Option, Some, None, refl, sym, ap, ◌∙◌, subst, append_assoc, append-nil, length-append, arith}
+use Rattle.std.specs.Prelude.{IfNone, slice_get}
+use Rattle.std.specs.Option.{option_to_list}
+use Rattle.sample_schedule.specs.Batches.{Presented}
+use Rattle.sample_schedule.specs.declared.shown.Shown.{Shown}
+use Rattle.sample_schedule.specs.declared.shown.Shown.TheVariants.{Present, Flag}
+use Rattle.listener.specs.Laws.{presented_of}
+use Rattle.listener_pair.specs.declared.difference.Which.{Which}
+use Rattle.listener_pair.specs.declared.difference.Which.TheVariants.{A, B}
+use Rattle.listener_pair.specs.Merged.{IsInOrder}
+use Rattle.listener_pair.specs.Matching.{MatchingState, StandsFor, ended_by, given_to, lacks, wanted}
+use Rattle.listener_pair.proofs.Standing.{ended-a, ended-b, given-a, given-b, lacks-open, wants-a, wants-b}
+use Rattle.capture_pair.specs.Pairing.{Matches}
+use Rattle.capture_pair.specs.state.Sides.{Filled, Fills, Going, IsHeard, IsOtherSame, MatchesOn, ended_of, handed, is_passed, one_if_open, open_sides, wants_side}
+use Rattle.capture_pair.proofs.Joined.{order-front}
+
+-- ---- what is presented
+
+pub presented-append : (xs ys : List Shown) → presented_of (xs ++ ys) ≡ presented_of xs ++ presented_of ys
+presented-append [] ys = refl
+presented-append (Present batch ∷ xs) ys = ap (λ (l : List Presented). batch ∷ l) (presented-append xs ys)
+presented-append (Flag frame seq reason ∷ xs) ys = presented-append xs ys
+
+pub presented-few : (xs : List Shown) → length (presented_of xs) ≤ length xs
+presented-few [] = omega arith
+presented-few (Present batch ∷ xs) = let h = presented-few xs in omega arith
+presented-few (Flag frame seq reason ∷ xs) = let h = presented-few xs in omega arith
+
+pub take-drop : (n : ℕ) (xs : List Shown) → take n xs ++ drop n xs ≡ xs
+take-drop zero xs = refl
+take-drop (suc n) [] = refl
+take-drop (suc n) (x ∷ xs) = ap (λ (l : List Shown). x ∷ l) (take-drop n xs)
+
+pub take-few : (n : ℕ) (xs : List Shown) → length (take n xs) ≤ n
+take-few zero xs = omega arith
+take-few (suc n) [] = omega arith
+take-few (suc n) (x ∷ xs) = let h = take-few n xs in omega arith
+
+take-one : (n : ℕ) (xs : List Shown) (x : Shown) → slice_get xs n ≡ Some x → take (suc n) xs ≡ take n xs ++ x ∷ []
+take-one n [] x e = absurd (cc)
+take-one zero (y ∷ xs) x e = let s : y ≡ x = cc in ap (λ (z : Shown). z ∷ []) s
+take-one (suc n) (y ∷ xs) x e = ap (λ (l : List Shown). y ∷ l) (take-one n xs x e)
+
+get-within : (n : ℕ) (xs : List Shown) (x : Shown) → slice_get xs n ≡ Some x → n < length xs
+get-within n [] x e = absurd (cc)
+get-within zero (y ∷ xs) x e = omega arith
+get-within (suc n) (y ∷ xs) x e = let h = get-within n xs x e in omega arith
+
+get-none : (n : ℕ) (xs : List Shown) → slice_get xs n ≡ None → length xs ≤ n
+get-none n [] e = omega arith
+get-none zero (y ∷ xs) e = absurd (cc)
+get-none (suc n) (y ∷ xs) e = let h = get-none n xs e in omega arith
+
+pub presented-split : (n : ℕ) (xs : List Shown) → presented_of (take n xs) ++ presented_of (drop n xs) ≡ presented_of xs
+presented-split n xs = sym (presented-append (take n xs) (drop n xs)) ∙ ap presented_of (take-drop n xs)
+
+taken-few : (n : ℕ) (xs : List Shown) → length (presented_of (take n xs)) ≤ n
+taken-few n xs = let a = presented-few (take n xs) in let b = take-few n xs in omega arith
+
+-- the next item is a batch, or a flag
+next-batch : (n : ℕ) (xs : List Shown) (batch : Presented) → slice_get xs n ≡ Some (Present batch) → presented_of (take (n + 1) xs) ≡ presented_of (take n xs) ++ batch ∷ []
+next-batch n xs batch e =
+    let one : n + 1 ≡ suc n = omega arith in
+    ap (λ k. presented_of (take k xs)) one ∙ ap presented_of (take-one n xs (Present batch) e) ∙ presented-append (take n xs) (Present batch ∷ [])
+
+next-flag : (n : ℕ) (xs : List Shown) (x : Shown) → slice_get xs n ≡ Some x → presented_of (x ∷ []) ≡ [] → presented_of (take (n + 1) xs) ≡ presented_of (take n xs)
+next-flag n xs x e f =
+    let one : n + 1 ≡ suc n = omega arith in
+    ap (λ k. presented_of (take k xs)) one ∙ ap presented_of (take-one n xs x e) ∙ presented-append (take n xs) (x ∷ []) ∙ ap (λ (l : List Presented). presented_of (take n xs) ++ l) f ∙ append-nil (presented_of (take n xs))
+
+-- the batches so far with the next one are in order
+next-order : (n : ℕ) (xs : List Shown) (batch : Presented) → IsHeard xs → slice_get xs n ≡ Some (Present batch) → IsInOrder (presented_of (take n xs) ++ batch ∷ [])
+next-order n xs batch h e =
+    subst IsInOrder (next-batch n xs batch e) (order-front (presented_of (take (n + 1) xs)) (presented_of (drop (n + 1) xs)) (subst IsInOrder (sym (presented-split (n + 1) xs)) h.order))
+
+-- ---- the wanted side
+
+wanted-open-a : (m : MatchingState) → wanted m ≡ Some A → m.ended_a ≡ false
+wanted-open-a m w = lacks-open m.ended_a m.next_a (wants-a m w)
+
+wanted-open-b : (m : MatchingState) → wanted m ≡ Some B → m.ended_b ≡ false
+wanted-open-b m w = lacks-open m.ended_b m.next_b (wants-b m w)
+
+contradicts : {P : Type 0} (u : Bool) → u ≡ false → u ≡ true → P
+contradicts u f t = let e = sym f ∙ t in absurd (cc)
+
+given-on : (which : Which) (list other : List Shown) (n k given : ℕ) (m : MatchingState) (batch : Presented) → IsHeard list → IsHeard other → wanted m ≡ Some which → slice_get list n ≡ Some (Present batch) → MatchesOn which list other n k given m
+    → MatchesOn which list other (n + 1) k given (given_to which batch m)
+given-on A list other n k given m batch hl ho w e h = record {
+  within_a = let h = get-within n list (Present batch) e in omega arith;
+  within_b = h.within_b;
+  matched = subst (λ (l : List Presented). StandsFor l (presented_of (take k other)) given (given_to A batch m)) (sym (next-batch n list batch e))
+      (given-a (presented_of (take n list)) (presented_of (take k other)) given m batch h.matched w (next-order n list batch hl e)
+      (let a = get-within n list (Present batch) e in let b = taken-few n list in let c = taken-few k other in let d = h.within_b in let x = hl.few in let y = ho.few in omega arith));
+  ended_a = λ t. contradicts m.ended_a (wanted-open-a m w) t;
+  ended_b = h.ended_b;
+}
+given-on B list other n k given m batch hl ho w e h = record {
+  within_a = h.within_a;
+  within_b = let h = get-within n list (Present batch) e in omega arith;
+  matched = subst (λ (l : List Presented). StandsFor (presented_of (take k other)) l given (given_to B batch m)) (sym (next-batch n list batch e))
+      (given-b (presented_of (take k other)) (presented_of (take n list)) given m batch h.matched w (next-order n list batch hl e)
+      (let a = get-within n list (Present batch) e in let b = taken-few n list in let c = taken-few k other in let d = h.within_a in let x = hl.few in let y = ho.few in omega arith));
+  ended_a = h.ended_a;
+  ended_b = λ t. contradicts m.ended_b (wanted-open-b m w) t;
+}
+
+passed-on : (which : Which) (list other : List Shown) (n k given : ℕ) (m : MatchingState) (x : Shown) → wanted m ≡ Some which → slice_get list n ≡ Some x → presented_of (x ∷ []) ≡ [] → MatchesOn which list other n k given m → MatchesOn which list other (n + 1) k given m
+passed-on A list other n k given m x w e f h = record {
+  within_a = let h = get-within n list x e in omega arith;
+  within_b = h.within_b;
+  matched = subst (λ (l : List Presented). StandsFor l (presented_of (take k other)) given m) (sym (next-flag n list x e f)) h.matched;
+  ended_a = λ t. contradicts m.ended_a (wanted-open-a m w) t;
+  ended_b = h.ended_b;
+}
+passed-on B list other n k given m x w e f h = record {
+  within_a = h.within_a;
+  within_b = let h = get-within n list x e in omega arith;
+  matched = subst (λ (l : List Presented). StandsFor (presented_of (take k other)) l given m) (sym (next-flag n list x e f)) h.matched;
+  ended_a = h.ended_a;
+  ended_b = λ t. contradicts m.ended_b (wanted-open-b m w) t;
+}
+
+all-given : (n : ℕ) (list : List Shown) → n ≤ length list → slice_get list n ≡ None → n ≡ length list
+all-given n list w e = let h = get-none n list e in omega arith
+
+ended-on : (which : Which) (list other : List Shown) (n k given : ℕ) (m : MatchingState) → slice_get list n ≡ None → MatchesOn which list other n k given m → MatchesOn which list other n k given (ended_by which m)
+ended-on A list other n k given m e h = record {
+  within_a = h.within_a;
+  within_b = h.within_b;
+  matched = ended-a (presented_of (take n list)) (presented_of (take k other)) given m h.matched;
+  ended_a = λ t. all-given n list h.within_a e;
+  ended_b = h.ended_b;
+}
+ended-on B list other n k given m e h = record {
+  within_a = h.within_a;
+  within_b = h.within_b;
+  matched = ended-b (presented_of (take k other)) (presented_of (take n list)) given m h.matched;
+  ended_a = h.ended_a;
+  ended_b = λ t. all-given n list h.within_b e;
+}
+
+no-more : (which : Which) (list other : List Shown) (n k given : ℕ) (m : MatchingState) → MatchesOn which list other n k given m → MatchesOn which list other (n + 0) k given m
+no-more which list other n k given m h = subst (λ (i : ℕ). MatchesOn which list other i k given m) (omega arith) h
+
+-- what is shown next was handed on
+pub hands-on : (which : Which) (list other : List Shown) (n k given : ℕ) (m : MatchingState) (next : Option Shown) (ended : Bool) → IsHeard list → IsHeard other → wanted m ≡ Some which → next ≡ slice_get list n → MatchesOn which list other n k given m
+    → MatchesOn which list other (n + length (option_to_list next)) k given (handed which next ended m)
+hands-on which list other n k given m (Some (Present batch)) ended hl ho w e h = given-on which list other n k given m batch hl ho w (sym e) h
+hands-on which list other n k given m (Some (Flag frame seq reason)) ended hl ho w e h = passed-on which list other n k given m (Flag frame seq reason) w (sym e) refl h
+hands-on which list other n k given m None true hl ho w e h = no-more which list other n k given (ended_by which m) (ended-on which list other n k given m (sym e) h)
+hands-on which list other n k given m None false hl ho w e h = no-more which list other n k given m h
+
+-- ---- a side that is still wanted
+
+lacks-some : {P : Type 0} (e : Bool) (b : Presented) → lacks e (Some b) ≡ true → P
+lacks-some true b h = absurd (cc)
+lacks-some false b h = absurd (cc)
+
+gives-no : {P : Type 0} (which : Which) (batch : Presented) (m : MatchingState) → wanted (given_to which batch m) ≡ Some which → P
+gives-no A batch m h = lacks-some m.ended_a batch (wants-a (given_to A batch m) h)
+gives-no B batch m h = lacks-some m.ended_b batch (wants-b (given_to B batch m) h)
+
+ends-no : {P : Type 0} (which : Which) (m : MatchingState) → wanted (ended_by which m) ≡ Some which → P
+ends-no A m h = let e = wants-a (ended_by A m) h in absurd (cc)
+ends-no B m h = let e = wants-b (ended_by B m) h in absurd (cc)
+
+-- nothing was handed on to a side that is still wanted after the last item
+pub record Waits (next : Option Shown) (ended : Bool) : Type 0 where
+  pub none : next ≡ None
+  pub opened : ended ≡ false
+
+pub still-wanted : (which : Which) (next : Option Shown) (ended : Bool) (m : MatchingState) → is_passed next ≡ false → wanted (handed which next ended m) ≡ Some which → Waits next ended
+still-wanted which (Some (Present batch)) ended m p w = gives-no which batch m w
+still-wanted which (Some (Flag frame seq reason)) ended m p w = absurd (cc)
+still-wanted which None true m p w = ends-no which m w
+still-wanted which None false m p w = record { none = refl; opened = refl }
+
+pub handed-none : (which : Which) (next : Option Shown) (ended : Bool) (m : MatchingState) → Waits next ended → handed which next ended m ≡ m
+handed-none which next ended m w = ap (λ (o : Option Shown). handed which o ended m) w.none ∙ ap (λ b. handed which None b m) w.opened
+
+pub handed-passed : (which : Which) (next : Option Shown) (ended : Bool) (m : MatchingState) → is_passed next ≡ true → handed which next ended m ≡ m
+handed-passed which (Some (Present batch)) ended m p = absurd (cc)
+handed-passed which (Some (Flag frame seq reason)) ended m p = refl
+handed-passed which None ended m p = absurd (cc)
+
+pub passed-one : (next : Option Shown) → is_passed next ≡ true → length (option_to_list next) ≡ 1
+passed-one (Some (Present batch)) p = absurd (cc)
+passed-one (Some (Flag frame seq reason)) p = refl
+passed-one None p = absurd (cc)
+
+pub waits-all : (n : ℕ) (list : List Shown) (next : Option Shown) (ended : Bool) → Waits next ended → n ≤ length list → next ≡ slice_get list n → n + length (option_to_list next) ≡ length list
+waits-all n list next ended w within e =
+    ap (λ (o : Option Shown). n + length (option_to_list o)) w.none ∙ (let h = all-given n list within (sym e ∙ w.none) in omega arith)
+
+pub within-on : (which : Which) (list other : List Shown) (n k given : ℕ) (m : MatchingState) → MatchesOn which list other n k given m → n ≤ length list
+within-on A list other n k given m h = h.within_a
+within-on B list other n k given m h = h.within_b
+
+pub other-same : (which : Which) (next : Option Shown) (ended : Bool) (m : MatchingState) → IsOtherSame which m (handed which next ended m)
+other-same A (Some (Present batch)) ended m = (refl, refl)
+other-same B (Some (Present batch)) ended m = (refl, refl)
+other-same A (Some (Flag frame seq reason)) ended m = (refl, refl)
+other-same B (Some (Flag frame seq reason)) ended m = (refl, refl)
+other-same A None true m = (refl, refl)
+other-same B None true m = (refl, refl)
+other-same A None false m = (refl, refl)
+other-same B None false m = (refl, refl)
+
+pub none-same : (which : Which) (m : MatchingState) → IsOtherSame which m m
+none-same A m = (refl, refl)
+none-same B m = (refl, refl)
+
+pub over-after : (which : Which) (next : Option Shown) (ended : Bool) (m : MatchingState) → (ended_of which m ≡ true → ended ≡ true) → ended_of which (handed which next ended m) ≡ true → ended ≡ true
+over-after A (Some (Present batch)) ended m h t = h t
+over-after B (Some (Present batch)) ended m h t = h t
+over-after A (Some (Flag frame seq reason)) ended m h t = h t
+over-after B (Some (Flag frame seq reason)) ended m h t = h t
+over-after A None true m h t = refl
+over-after B None true m h t = refl
+over-after A None false m h t = h t
+over-after B None false m h t = h t
+
+-- ---- less is left
+
+open-less : (e : Bool) → e ≡ false → one_if_open true < one_if_open e
+open-less true h = absurd (cc)
+open-less false h = omega arith
+
+ended-less : (which : Which) (m : MatchingState) → wanted m ≡ Some which → open_sides (ended_by which m) < open_sides m
+ended-less A m w = let h = open-less m.ended_a (wanted-open-a m w) in omega arith
+ended-less B m w = let h = open-less m.ended_b (wanted-open-b m w) in omega arith
+
+given-open : (which : Which) (batch : Presented) (m : MatchingState) → open_sides (given_to which batch m) ≡ open_sides m
+given-open A batch m = refl
+given-open B batch m = refl
+
+-- what was handed on takes from the work, or nothing was and the side is wanted as before
+pub handed-less : (which : Which) (next : Option Shown) (ended : Bool) (m : MatchingState) (was is : ℕ) → wanted m ≡ Some which → is + length (option_to_list next) ≤ was → is + open_sides (handed which next ended m) ≤ was + open_sides m
+handed-less which (Some (Present batch)) ended m was is w le = let e = given-open which batch m in omega arith
+handed-less which (Some (Flag frame seq reason)) ended m was is w le = omega arith
+handed-less which None true m was is w le = let h = ended-less which m w in omega arith
+handed-less which None false m was is w le = omega arith
+
+pub handed-fewer : (which : Which) (next : Option Shown) (ended : Bool) (m : MatchingState) (was is : ℕ) → wanted m ≡ Some which → is + length (option_to_list next) ≤ was → (wanted (handed which next ended m) ≡ Some which) ⊎ (is + open_sides (handed which next ended m) < was + open_sides m)
+handed-fewer which (Some (Present batch)) ended m was is w le = inr (let e = given-open which batch m in omega arith)
+handed-fewer which (Some (Flag frame seq reason)) ended m was is w le = inr (omega arith)
+handed-fewer which None true m was is w le = inr (let h = ended-less which m w in omega arith)
+handed-fewer which None false m was is w le = inl w
+
+-- ---- the side that is asked
+
+pub wants-yes : (which : Which) (o : Option Which) → wants_side which o ≡ true → o ≡ Some which
+wants-yes A (Some A) e = refl
+wants-yes B (Some B) e = refl
+wants-yes A (Some B) e = absurd (cc)
+wants-yes B (Some A) e = absurd (cc)
+wants-yes A None e = absurd (cc)
+wants-yes B None e = absurd (cc)
+
+pub wants-no : {P : Type 0} (which : Which) (o : Option Which) → wants_side which o ≡ false → o ≡ Some which → P
+wants-no A (Some A) e w = absurd (cc)
+wants-no B (Some B) e w = absurd (cc)
+wants-no A (Some B) e w = absurd (cc)
+wants-no B (Some A) e w = absurd (cc)
+wants-no A None e w = absurd (cc)
+wants-no B None e w = absurd (cc)
+
+-- ---- the steps of a filling
+
+pub going-next : (Shows Shows2 : List Shown → ℕ → Type 0) (which : Which) (list other : List Shown) (k given : ℕ) (m m2 : MatchingState) (next : Option Shown) (ended : Bool) → IsHeard list → IsHeard other → wanted m ≡ Some which
+    → ((n : ℕ) → Shows list n → next ≡ slice_get list n) → ((n : ℕ) → Shows list n → Shows2 list (n + length (option_to_list next))) → m2 ≡ handed which next ended m → Going Shows which list other k given m → Going Shows2 which list other k given m2
+going-next Shows Shows2 which list other k given m m2 next ended hl ho w get more e h = record {
+  n = h.n + length (option_to_list next);
+  shows = more h.n h.shows;
+  matches = subst (λ (s : MatchingState). MatchesOn which list other (h.n + length (option_to_list next)) k given s) (sym e) (hands-on which list other h.n k given m next ended hl ho w (get h.n h.shows) h.matches);
+}
+
+pub going-filled : (Shows Shows2 : List Shown → ℕ → Type 0) (which : Which) (list other : List Shown) (k given : ℕ) (m m2 : MatchingState) (next : Option Shown) (ended : Bool) → IsHeard list → IsHeard other → wanted m ≡ Some which → is_passed next ≡ false
+    → ((n : ℕ) → Shows list n → next ≡ slice_get list n) → ((n : ℕ) → Shows list n → Shows2 list (n + length (option_to_list next))) → m2 ≡ handed which next ended m → Going Shows which list other k given m → Filled Shows2 which list other k given m2
+going-filled Shows Shows2 which list other k given m m2 next ended hl ho w p get more e h = record {
+  n = h.n + length (option_to_list next);
+  shows = more h.n h.shows;
+  matches = subst (λ (s : MatchingState). MatchesOn which list other (h.n + length (option_to_list next)) k given s) (sym e) (hands-on which list other h.n k given m next ended hl ho w (get h.n h.shows) h.matches);
+  filled = λ v. waits-all h.n list next ended (still-wanted which next ended m p (ap wanted (sym e) ∙ v)) (within-on which list other h.n k given m h.matches) (get h.n h.shows);
+}
+
+pub filled-none : (Shows : List Shown → ℕ → Type 0) (which : Which) (list other : List Shown) (n k given : ℕ) (m : MatchingState) → wants_side which (wanted m) ≡ false → Shows list n → MatchesOn which list other n k given m → Filled Shows which list other k given m
+filled-none Shows which list other n k given m not s h = record { n = n; shows = s; matches = h; filled = λ w. wants-no which (wanted m) not w }
+
+if-quiet : {Quiet : Type 0} (next : Option Shown) → IfNone next Quiet → next ≡ None → Quiet
+if-quiet None q e = q
+if-quiet (Some x) q e = absurd (cc)
+
+pub fills-handed : (which : Which) (next : Option Shown) (ended : Bool) (Quiet : Type 0) (old m new : MatchingState) → m ≡ old → wanted m ≡ Some which → is_passed next ≡ false → new ≡ handed which next ended m → IfNone next Quiet → Fills which ended Quiet old new
+fills-handed which next ended Quiet old m new same w p e quiet =
+    let e2 : new ≡ handed which next ended old = e ∙ ap (handed which next ended) same in
+    let w2 : wanted old ≡ Some which = ap wanted (sym same) ∙ w in
+    record {
+      idle = λ not. wants-no which (wanted old) not w2;
+      same = λ v. e2 ∙ handed-none which next ended old (still-wanted which next ended old p (ap wanted (sym e2) ∙ v));
+      opened = λ v. (still-wanted which next ended old p (ap wanted (sym e2) ∙ v)).opened;
+      quiet = λ v. if-quiet next quiet (still-wanted which next ended old p (ap wanted (sym e2) ∙ v)).none;
+      other = subst (IsOtherSame which old) (sym e2) (other-same which next ended old);
+      over = λ h t. over-after which next ended old h (ap (ended_of which) (sym e2) ∙ t);
+    }
+
+pub fills-none : (which : Which) (ended : Bool) (Quiet : Type 0) (m : MatchingState) → wants_side which (wanted m) ≡ false → Fills which ended Quiet m m
+fills-none which ended Quiet m not = record {
+  idle = λ n. refl;
+  same = λ w. refl;
+  opened = λ w. wants-no which (wanted m) not w;
+  quiet = λ w. wants-no which (wanted m) not w;
+  other = none-same which m;
+  over = λ h t. h t;
+}

@@ -1,0 +1,6 @@
+pub mod Joined
+pub mod Handing
+pub mod Filling
+pub mod Heard
+pub mod Taking
+pub mod Fed

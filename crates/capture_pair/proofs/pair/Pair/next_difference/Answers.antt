@@ -1,0 +1,23 @@
+use Rattle.std.proofs.Common.{◌≡◌, ◌+◌, ◌∙◌, length, ap, sym, subst}
+use Rattle.std.specs.Prelude.{slice_get}
+use Rattle.std.specs.Option.{option_to_list}
+use Rattle.listener.specs.Feeding.{out}
+use Rattle.listener_pair.specs.Differences.{differences}
+use Rattle.capture_pair.specs.Feeding.{FedPair, StandsFor, known_by}
+use Rattle.capture_pair.specs.state.Sides.{OfBytes}
+use Rattle.capture_pair.proofs.Fed.{heard-a, heard-b, sides-as, stands-as}
+use Rattle.capture_pair.proofs.pair.Pair.next_difference.Goals as goal
+
+pub returns-clause-given : goal.returns-clause-given
+returns-clause-given c bytes others given short s =
+    let pair : FedPair = record { a = c.self.inside.a.listener; b = c.self.inside.b.listener; matching = c.self.inside.matching } in
+    let st = subst (StandsFor bytes others given) (sym c.self.view_is) s in
+    c.next_difference.ensures.given (OfBytes bytes) (OfBytes others) (out pair.a bytes) (out pair.b others) given (heard-a bytes others pair short) (heard-b bytes others pair short) (sides-as bytes others given pair st)
+    ∙ ap (λ (p : FedPair). slice_get (differences (known_by p bytes others)) given) c.self.view_is
+
+pub returns-clause-stands : goal.returns-clause-stands
+returns-clause-stands c bytes others given short s =
+    let pair : FedPair = record { a = c.self.inside.a.listener; b = c.self.inside.b.listener; matching = c.self.inside.matching } in
+    let st = subst (StandsFor bytes others given) (sym c.self.view_is) s in
+    stands-as bytes others (out pair.a bytes) (out pair.b others) (given + length (option_to_list c.next_difference.result)) c.next_difference.new.a.listener c.next_difference.new.b.listener c.next_difference.new.matching
+    (c.next_difference.ensures.pairs (OfBytes bytes) (OfBytes others) (out pair.a bytes) (out pair.b others) given (heard-a bytes others pair short) (heard-b bytes others pair short) (sides-as bytes others given pair st))

@@ -1,0 +1,23 @@
+use Rattle.std.proofs.Common.{◌≡◌, ◌+◌, ◌∙◌, length, ap, sym, subst}
+use Rattle.std.specs.Prelude.{slice_get}
+use Rattle.std.specs.Option.{option_to_list}
+use Rattle.listener.specs.Listening.{out}
+use Rattle.listener_pair.specs.Differences.{differences}
+use Rattle.capture_pair.specs.Pairing.{PairState, StandsFor, known_by}
+use Rattle.capture_pair.specs.state.Sides.{OfRecords}
+use Rattle.capture_pair.proofs.Taking.{heard-a, heard-b, sides-as, stands-as}
+use Rattle.capture_pair.proofs.record_pair.RecordPair.next_difference.Goals as goal
+
+pub returns-clause-given : goal.returns-clause-given
+returns-clause-given c records others given s =
+    let pair : PairState = record { a = c.self.inside.a.listener; b = c.self.inside.b.listener; matching = c.self.inside.matching } in
+    let st = subst (StandsFor records others given) (sym c.self.view_is) s in
+    c.next_difference.ensures.given (OfRecords records) (OfRecords others) (out pair.a records) (out pair.b others) given (heard-a records others given pair st c.self.invariant.1) (heard-b records others given pair st c.self.invariant.2) (sides-as records others given pair st)
+    ∙ ap (λ (p : PairState). slice_get (differences (known_by p records others)) given) c.self.view_is
+
+pub returns-clause-stands : goal.returns-clause-stands
+returns-clause-stands c records others given s =
+    let pair : PairState = record { a = c.self.inside.a.listener; b = c.self.inside.b.listener; matching = c.self.inside.matching } in
+    let st = subst (StandsFor records others given) (sym c.self.view_is) s in
+    stands-as records others (out pair.a records) (out pair.b others) (given + length (option_to_list c.next_difference.result)) c.next_difference.new.a.listener c.next_difference.new.b.listener c.next_difference.new.matching
+    (c.next_difference.ensures.pairs (OfRecords records) (OfRecords others) (out pair.a records) (out pair.b others) given (heard-a records others given pair st c.self.invariant.1) (heard-b records others given pair st c.self.invariant.2) (sides-as records others given pair st))

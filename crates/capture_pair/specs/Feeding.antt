@@ -1,0 +1,77 @@
+-- Two listeners with one plan, each of which is fed the bytes of a capture, and the differences of what they present.
+use Rattle.std.specs.Prelude.{◌≡◌, ℕ, ◌^◌, ◌≤◌, Bool, List, length, Option}
+use Rattle.sample_schedule.specs.Batches.{Presented}
+use Rattle.listener.specs.declared.plan.ListenPlan.{ListenPlan}
+use Rattle.listener.specs.Feeding.{Feeding, StandsFor as IsFed, is_ended, out}
+use Rattle.listener.specs.Laws.{presented_of}
+use Rattle.listener_pair.specs.declared.difference.Which.{Which}
+use Rattle.listener_pair.specs.declared.difference.Which.TheVariants.{A, B}
+use Rattle.listener_pair.specs.Merged.{Sided, known, merged}
+use Rattle.listener_pair.specs.Matching.{IsIdle, MatchingState, wanted}
+use Rattle.capture_pair.specs.Pairing.{Pairs, other_of}
+
+-- Two listeners that are fed, and the matching of what they present.
+pub record FedPair : Type 0 where
+  pub a : Feeding
+  pub b : Feeding
+  pub matching : MatchingState
+
+-- the listener of a side
+abbrev pub fed_of : Which → FedPair → Feeding
+fed_of A pair = pair.a
+fed_of B pair = pair.b
+
+-- the bytes of a side
+abbrev pub bytes_of : Which → List ℕ → List ℕ → List ℕ
+bytes_of A bytes others = bytes
+bytes_of B bytes others = others
+
+-- The side whose bytes are needed before more is known: A if it has not ended and has no next batch, else B in the same case, else
+-- none.
+abbrev pub wanted_by : FedPair → Option Which
+wanted_by pair = wanted pair.matching
+
+-- both listeners have this plan
+pub record HavePlan (plan : ListenPlan) (pair : FedPair) : Type 0 where
+  pub a : pair.a.listener.plan ≡ plan
+  pub b : pair.b.listener.plan ≡ plan
+
+-- both captures have at most 2^61 bytes
+pub record AreShort (bytes others : List ℕ) : Type 0 where
+  pub a : length bytes ≤ 2 ^ 61
+  pub b : length others ≤ 2 ^ 61
+
+-- The known part of the merged list of what both present, given the bytes of A and of B.
+abbrev pub known_by : FedPair → List ℕ → List ℕ → List Sided
+known_by pair bytes others = known (is_ended pair.a) (is_ended pair.b) (merged (presented_of (out pair.a bytes)) (presented_of (out pair.b others)))
+
+-- The pair was fed these bytes of A and of B, and has given `given` differences of the known part of what both present.
+abbrev pub StandsFor : List ℕ → List ℕ → ℕ → FedPair → Type 0
+StandsFor bytes others given pair = Pairs (λ list n. IsFed bytes n pair.a) (λ list n. IsFed others n pair.b) (out pair.a bytes) (out pair.b others) given pair.matching
+
+-- nothing more is known: what comes next in the merged list rests on what a listener presents later, or both have ended and are through
+abbrev pub IsThrough : FedPair → Type 0
+IsThrough pair = IsIdle pair.matching
+
+-- both listeners have their plans and readers, have ended or not, and found memory or not, as before
+pub record Keeps (old new : FedPair) : Type 0 where
+  pub plan_a : new.a.listener.plan ≡ old.a.listener.plan
+  pub plan_b : new.b.listener.plan ≡ old.b.listener.plan
+  pub reader_a : new.a.reader ≡ old.a.reader
+  pub reader_b : new.b.reader ≡ old.b.reader
+  pub ended_a : is_ended new.a ≡ is_ended old.a
+  pub ended_b : is_ended new.b ≡ is_ended old.b
+  pub memory_a : new.a.out_of_memory ≡ old.a.out_of_memory
+  pub memory_b : new.b.out_of_memory ≡ old.b.out_of_memory
+
+-- a listener has its plan and reader, has ended or not, and found memory or not, as before
+pub record KeepsSide (old new : Feeding) : Type 0 where
+  pub plan : new.listener.plan ≡ old.listener.plan
+  pub reader : new.reader ≡ old.reader
+  pub ended : is_ended new ≡ is_ended old
+  pub memory : new.out_of_memory ≡ old.out_of_memory
+
+-- the listener of the side that is not named is as before, but for what it has shown
+abbrev pub KeepsOther : Which → FedPair → FedPair → Type 0
+KeepsOther A old new = KeepsSide old.b new.b
+KeepsOther B old new = KeepsSide old.a new.a

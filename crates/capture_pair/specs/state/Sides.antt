@@ -1,0 +1,130 @@
+-- Kept for proofs: what the code's own parts hold and do. No clause of a public call rests on it.
+-- Two listeners, of records or of bytes, and the matching of what they show.
+use Rattle.std.specs.Prelude.{◌≡◌, ◌≢◌, ℕ, ◌+◌, ◌<◌, ◌≤◌, ◌^◌, Bool, true, false, if◌then◌else◌, List, length, Option, None, Some}
+use Rattle.sample_schedule.specs.declared.shown.Shown.{Shown}
+use Rattle.sample_schedule.specs.declared.shown.Shown.TheVariants.{Present, Flag}
+use Rattle.listener.specs.Feeding.{Feeding, StandsFor as IsFed, out as out_fed}
+use Rattle.listener.specs.Laws.{presented_of}
+use Rattle.listener.specs.Listening.{ListenState, StandsFor as IsGiven, is_closed, out}
+use Rattle.listener_pair.specs.declared.difference.Which.{Which}
+use Rattle.listener_pair.specs.declared.difference.Which.TheVariants.{A, B}
+use Rattle.listener_pair.specs.Merged.{IsInOrder}
+use Rattle.listener_pair.specs.Matching.{MatchingState, ended_by, given_to, wanted}
+use Rattle.capture_pair.specs.Pairing.{Matches}
+pub use Rattle.capture_pair.specs.Sources.{Kept, OfBytes, OfRecords, Taken}
+
+-- ---- a listener
+
+-- a listener of records took these, shows this list, and has shown n of it
+abbrev pub ShowsRecords : ListenState → Taken → List Shown → ℕ → Type 0
+ShowsRecords listener (OfRecords records) list n = IsGiven records n listener × (list ≡ out listener records)
+ShowsRecords listener (OfBytes bytes) list n = ⊥
+
+-- a listener of bytes took these, shows this list, and has shown n of it
+abbrev pub ShowsBytes : Feeding → Taken → List Shown → ℕ → Type 0
+ShowsBytes fed (OfRecords records) list n = ⊥
+ShowsBytes fed (OfBytes bytes) list n = IsFed bytes n fed × (list ≡ out_fed fed bytes)
+
+-- what a listener of records keeps
+abbrev pub kept_of_records : ListenState → Kept
+kept_of_records listener = record { plan = listener.plan; frames = listener.counts.frames; ended = is_closed listener; reader = None; out_of_memory = false }
+
+-- what a listener of bytes keeps
+abbrev pub kept_of_bytes : Feeding → Kept
+kept_of_bytes fed = record { plan = fed.listener.plan; frames = 0; ended = is_closed fed.listener; reader = Some fed.reader; out_of_memory = fed.out_of_memory }
+
+-- ---- what a listener shows is handed on
+
+-- The list is of few items, and its batches are in order.
+pub record IsHeard (list : List Shown) : Type 0 where
+  pub few : length list ≤ 2 ^ 61
+  pub order : IsInOrder (presented_of list)
+
+-- the matching once what the listener of a wanted side shows next was handed on
+abbrev pub handed : Which → Option Shown → Bool → MatchingState → MatchingState
+handed which (Some (Present batch)) ended m = given_to which batch m
+handed which (Some (Flag frame seq reason)) ended m = m
+handed which None ended m = if ended then ended_by which m else m
+
+-- the listener is asked again after a flag
+abbrev pub is_passed : Option Shown → Bool
+is_passed (Some (Present batch)) = false
+is_passed (Some (Flag frame seq reason)) = true
+is_passed None = false
+
+-- a matching, by the lists of the side that is named and of the other
+abbrev pub MatchesOn : Which → List Shown → List Shown → ℕ → ℕ → ℕ → MatchingState → Type 0
+MatchesOn A list other n k given m = Matches list other n k given m
+MatchesOn B list other n k given m = Matches other list k n given m
+
+-- A listener shows this list, and the matching was given what it has shown of it.
+pub record Going (Shows : List Shown → ℕ → Type 0) (which : Which) (list other : List Shown) (k given : ℕ) (m : MatchingState) : Type 0 where
+  pub n : ℕ
+  pub shows : Shows list n
+  pub matches : MatchesOn which list other n k given m
+
+-- A listener was asked for the next batch of its side, and the matching was given it or the side's end, as far as it is known.
+pub record Filled (Shows : List Shown → ℕ → Type 0) (which : Which) (list other : List Shown) (k given : ℕ) (m : MatchingState) : Type 0 where
+  pub n : ℕ
+  pub shows : Shows list n
+  pub matches : MatchesOn which list other n k given m
+  pub filled : wanted m ≡ Some which → n ≡ length list
+
+-- Two listeners show these lists, and a matching was given the first of them.
+pub record Holds (ShowsA ShowsB : List Shown → ℕ → Type 0) (list other : List Shown) (given : ℕ) (m : MatchingState) : Type 0 where
+  pub shown_a : ℕ
+  pub shown_b : ℕ
+  pub shows_a : ShowsA list shown_a
+  pub shows_b : ShowsB other shown_b
+  pub matches : Matches list other shown_a shown_b given m
+
+-- A side has ended only if its listener has. The listener of the side that is wanted has not ended, and is quiet.
+pub record IsSettled (ended_a ended_b : Bool) (QuietA QuietB : Type 0) (m : MatchingState) : Type 0 where
+  pub over_a : m.ended_a ≡ true → ended_a ≡ true
+  pub over_b : m.ended_b ≡ true → ended_b ≡ true
+  pub open_a : wanted m ≡ Some A → ended_a ≡ false
+  pub open_b : wanted m ≡ Some B → ended_b ≡ false
+  pub quiet_a : wanted m ≡ Some A → QuietA
+  pub quiet_b : wanted m ≡ Some B → QuietB
+
+-- a side has ended only if its listener has
+pub record IsBounded (ended_a ended_b : Bool) (m : MatchingState) : Type 0 where
+  pub over_a : m.ended_a ≡ true → ended_a ≡ true
+  pub over_b : m.ended_b ≡ true → ended_b ≡ true
+
+-- a side that has not ended counts once
+abbrev pub one_if_open : Bool → ℕ
+one_if_open true = 0
+one_if_open false = 1
+
+-- how many sides have not ended
+abbrev pub open_sides : MatchingState → ℕ
+open_sides m = one_if_open m.ended_a + one_if_open m.ended_b
+
+-- a side of a matching has ended
+abbrev pub ended_of : Which → MatchingState → Bool
+ended_of A m = m.ended_a
+ended_of B m = m.ended_b
+
+-- the side that is not named has the next batch that it had, and has ended if it had
+abbrev pub IsOtherSame : Which → MatchingState → MatchingState → Type 0
+IsOtherSame A old new = (new.next_b ≡ old.next_b) × (new.ended_b ≡ old.ended_b)
+IsOtherSame B old new = (new.next_a ≡ old.next_a) × (new.ended_a ≡ old.ended_a)
+
+-- the side that is wanted is this one
+abbrev pub wants_side : Which → Option Which → Bool
+wants_side A (Some A) = true
+wants_side B (Some B) = true
+wants_side A (Some B) = false
+wants_side B (Some A) = false
+wants_side which None = false
+
+-- What filling a side does: nothing if it is not wanted; if it is still wanted then, its listener is quiet and has not ended, and
+-- the matching is as it was. The side has ended only if its listener has, and the other side is as it was.
+pub record Fills (which : Which) (ended : Bool) (Quiet : Type 0) (old new : MatchingState) : Type 0 where
+  pub idle : wants_side which (wanted old) ≡ false → new ≡ old
+  pub same : wanted new ≡ Some which → new ≡ old
+  pub opened : wanted new ≡ Some which → ended ≡ false
+  pub quiet : wanted new ≡ Some which → Quiet
+  pub other : IsOtherSame which old new
+  pub over : (ended_of which old ≡ true → ended ≡ true) → ended_of which new ≡ true → ended ≡ true

@@ -1,0 +1,208 @@
+//! Two captures, in pieces of any length.
+
+ghost use Rattle.std.specs.Prelude.{◌≡◌, ◌↔◌, ◌+◌, ◌^◌, ◌≤◌, ◌++◌, [], ℕ, true, false, List, length, slice_get, None, Some, Err, IfNone, IfOk, option_map};
+ghost use Rattle.std.specs.Option.{option_to_list};
+ghost use Rattle.std.specs.Result.{result_err};
+ghost use Rattle.avtp_base.specs.declared.refusal.Refusal.{Refusal as RefusalValue};
+ghost use Rattle.pcap_frames.specs.Capture.{first_refusal};
+ghost use Rattle.pcap_frames.specs.Reading.{taken};
+ghost use Rattle.sample_schedule.specs.Limits.{IsPlan};
+ghost use Rattle.listener.specs.Feeding.{bytes_after, is_ended, is_memory};
+ghost use Rattle.listener.specs.Heard.{schedule_plan};
+ghost use Rattle.listener.specs.declared.listener.ListenFault.TheVariants.{Refused as IsRefused, Memory as OutOfMemory};
+ghost use Rattle.listener_pair.specs.Differences.{counts_of, differences};
+ghost use Rattle.capture_pair.specs.Feeding.{AreShort, HavePlan, IsThrough, Keeps, KeepsOther, StandsFor, bytes_of, fed_of, known_by, wanted_by};
+ghost use Rattle.capture_pair.specs.state.Fed.{EndedBy, EndedOn, FedBy, FedOn, IsBegun, IsBoundedOn, IsOpen, IsOpenOn};
+
+use crate::sides::{fill_both, next_difference};
+use crate::source::ByteSource;
+use avtp_base::NoMemory;
+use listener::{ListenFault, ListenPlan, Listener};
+use listener_pair::{Difference, Matching, PairCounts, Which};
+use std::alloc::Global;
+use std::marker::Model;
+
+/// Two listeners with one plan, fed the bytes of two captures of a stream, and the differences of what they present. The bytes of
+/// each capture are fed in its order, and only as far as `wants` asks for them.
+///
+/// It tells of the records of both captures what a `RecordPair` does. What a listener flags is dropped, and ends nothing. Each capture
+/// has at most 2^61 bytes.
+#[derive(Drop)]
+pub struct Pair {
+    a: ByteSource,
+    b: ByteSource,
+    matching: Matching,
+}
+
+impl Model for Pair {
+    ghost use Rattle.listener.specs.Feeding.{IsQuiet, is_ended};
+    ghost use Rattle.capture_pair.specs.Feeding.{FedPair};
+    ghost use Rattle.capture_pair.specs.state.Sides.{IsSettled};
+
+    ghost Value = { FedPair };
+
+    ghost view = { λ pair. record { a = pair.a.listener; b = pair.b.listener; matching = pair.matching } };
+
+    ghost invariant = { λ pair. IsSettled (is_ended pair.a.listener) (is_ended pair.b.listener) (IsQuiet pair.a.listener) (IsQuiet pair.b.listener) pair.matching };
+}
+
+impl Pair {
+    /// A pair that was fed nothing. The plan is within the limits that `ListenPlan` names.
+    pub fn begin(alloc: Global, plan: ListenPlan) -> Result<Self, NoMemory>
+        requires plan { IsPlan (schedule_plan plan) }
+        ensures stands { IfOk result (StandsFor [] [] 0) }
+        ensures plan { IfOk result (HavePlan plan) }
+        ensures open { IfOk result (λ pair. wanted_by pair ≡ Some Which.A) }
+        ensures none_a { IfOk result (λ pair. taken pair.a.reader ≡ 0) }
+        ensures none_b { IfOk result (λ pair. taken pair.b.reader ≡ 0) }
+    {
+        let a = begin_source(alloc, plan)?;
+        let b = begin_source(alloc, plan)?;
+        let matching = Matching::begin(alloc)?;
+        Ok(Pair { a, b, matching })
+    }
+
+    /// The capture whose next bytes, or end, are needed before more is known: A if it has not ended and has no next batch, else B in
+    /// the same case, else None.
+    pub fn wants(&self) -> Option<Which>
+        ensures wanted { result ≡ wanted_by self.now }
+        ensures open { (which : Which) → result ≡ Some which → is_ended (fed_of which self.now) ≡ false }
+        ensures closed { result ≡ None → IsThrough self.now → (is_ended self.now.a ≡ true) × (is_ended self.now.b ≡ true) }
+    {
+        self.matching.wants()
+    }
+
+    /// Takes bytes of the capture that is wanted, up to the end of one record or of the piece, and answers how many. At most 2^62 bytes
+    /// of each may be taken.
+    ///
+    /// If no fault is answered, `Ok(0)` comes exactly if the piece is empty. `Refused` is the capture's first refusal; what was accepted
+    /// stays, and that side is then ended by `end`. `Memory` comes if no memory is found for the samples of a record; every later `feed`
+    /// and `end` of that side answers `Memory`.
+    pub fn feed(&mut self, alloc: Global, which: Which, piece: &[u8]) -> Result<usize, ListenFault>
+        requires wanted { wanted_by self.old ≡ Some which }
+        requires bounded { taken (fed_of which self.old).reader + length piece.now ≤ 2 ^ 62 }
+        ensures within { IfOk result (λ n. n ≤ length piece.now) }
+        ensures nothing { IfOk result (λ n. (n ≡ 0) ↔ (length piece.now ≡ 0)) }
+        ensures stands_a { which ≡ Which.A → (bytes others : List ℕ) (given : ℕ) → AreShort (bytes_after bytes piece.now result) others → StandsFor bytes others given self.old → StandsFor (bytes_after bytes piece.now result) others given self.new }
+        ensures stands_b { which ≡ Which.B → (bytes others : List ℕ) (given : ℕ) → AreShort bytes (bytes_after others piece.now result) → StandsFor bytes others given self.old → StandsFor bytes (bytes_after others piece.now result) given self.new }
+        ensures refused { (refusal : RefusalValue) → result ≡ Err (IsRefused refusal) → (bytes others more : List ℕ) (given : ℕ) → StandsFor bytes others given self.old → first_refusal ((bytes_of which bytes others ++ piece.now) ++ more) ≡ Some refusal }
+        ensures lasting { (fed_of which self.old).out_of_memory ≡ true → result ≡ Err OutOfMemory }
+        ensures memory { (fed_of which self.new).out_of_memory ≡ is_memory result }
+        ensures taken { taken (fed_of which self.new).reader ≤ taken (fed_of which self.old).reader + length piece.now }
+        ensures other { KeepsOther which self.old self.new }
+    {
+        let answer = feed_on(alloc, &mut self.a, &mut self.b, which, piece);
+        fill_both(&mut self.a, &mut self.b, &mut self.matching);
+        answer
+    }
+
+    /// Says that the capture that is wanted ends with the bytes so far. Takes no memory.
+    ///
+    /// `Refused` is the capture's first field that is not whole or that is refused, if there is one; what is compared is of the records
+    /// before it. After `Memory` by `feed` it answers `Memory`.
+    pub fn end(&mut self, which: Which) -> Result<(), ListenFault>
+        requires wanted { wanted_by self.old ≡ Some which }
+        ensures stands { (bytes others : List ℕ) (given : ℕ) → AreShort bytes others → StandsFor bytes others given self.old → StandsFor bytes others given self.new }
+        ensures refused { (fed_of which self.old).out_of_memory ≡ false → (bytes others : List ℕ) (given : ℕ) → StandsFor bytes others given self.old → result_err result ≡ option_map IsRefused (first_refusal (bytes_of which bytes others)) }
+        ensures ended { (fed_of which self.old).out_of_memory ≡ false → is_ended (fed_of which self.new) ≡ true }
+        ensures lasting { (fed_of which self.old).out_of_memory ≡ true → result_err result ≡ Some OutOfMemory }
+        ensures other { KeepsOther which self.old self.new }
+    {
+        let answer = end_on(&mut self.a, &mut self.b, which);
+        fill_both(&mut self.a, &mut self.b, &mut self.matching);
+        answer
+    }
+
+    /// The next difference of the known part of the merged list of what both listeners present. None comes exactly if no further one
+    /// is in it. Takes no memory.
+    pub fn next_difference(&mut self) -> Option<Difference>
+        ensures given { (bytes others : List ℕ) (given : ℕ) → AreShort bytes others → StandsFor bytes others given self.old → result ≡ slice_get (differences (known_by self.old bytes others)) given }
+        ensures stands { (bytes others : List ℕ) (given : ℕ) → AreShort bytes others → StandsFor bytes others given self.old → StandsFor bytes others (given + length (option_to_list result)) self.new }
+        ensures through { IfNone result (IsThrough self.new) }
+        ensures keeps { Keeps self.old self.new }
+    {
+        next_difference(&mut self.a, &mut self.b, &mut self.matching)
+    }
+
+    /// The counts over the known part, once all its differences were given. A batch that is not paired yet counts as only.
+    pub fn counts(&self) -> PairCounts
+        ensures { IsThrough self.now → (bytes others : List ℕ) (given : ℕ) → AreShort bytes others → StandsFor bytes others given self.now → result ≡ counts_of (known_by self.now bytes others) }
+    {
+        self.matching.counts()
+    }
+}
+
+/// A listener that was fed nothing.
+fn begin_source(alloc: Global, plan: ListenPlan) -> Result<ByteSource, NoMemory>
+    requires plan { IsPlan (schedule_plan plan) }
+    ensures begun { IfOk result (IsBegun plan) }
+{
+    let listener = Listener::begin(alloc, plan)?;
+    Ok(ByteSource {
+        listener,
+        ended: false,
+        out_of_memory: false,
+    })
+}
+
+/// Feeds a piece to the listener of a side.
+fn feed_on(
+    alloc: Global,
+    a: &mut ByteSource,
+    b: &mut ByteSource,
+    which: Which,
+    piece: &[u8],
+) -> Result<usize, ListenFault>
+    requires open { IsOpenOn which a.old.listener b.old.listener }
+    requires bounded { IsBoundedOn which (length piece.now) a.old.listener b.old.listener }
+    ensures { FedOn which piece.now result a.old.listener b.old.listener a.new.listener b.new.listener }
+{
+    match which {
+        Which::A => feed_one(alloc, a, piece),
+        Which::B => feed_one(alloc, b, piece),
+    }
+}
+
+fn feed_one(alloc: Global, source: &mut ByteSource, piece: &[u8]) -> Result<usize, ListenFault>
+    requires open { IsOpen source.old.listener }
+    requires bounded { taken source.old.listener.reader + length piece.now ≤ 2 ^ 62 }
+    ensures { FedBy piece.now result source.old.listener source.new.listener }
+{
+    let answer = source.listener.feed(alloc, piece);
+    source.out_of_memory = is_out_of_memory(&answer);
+    answer
+}
+
+/// Whether a listener found no memory.
+fn is_out_of_memory(answer: &Result<usize, ListenFault>) -> bool
+    ensures { result ≡ is_memory answer.now }
+{
+    match answer {
+        Ok(_) => false,
+        Err(ListenFault::Refused(_)) => false,
+        Err(ListenFault::Memory) => true,
+    }
+}
+
+/// Tells the listener of a side that its capture ends.
+fn end_on(a: &mut ByteSource, b: &mut ByteSource, which: Which) -> Result<(), ListenFault>
+    requires open { IsOpenOn which a.old.listener b.old.listener }
+    ensures { EndedOn which (result_err result) a.old.listener b.old.listener a.new.listener b.new.listener }
+{
+    match which {
+        Which::A => end_one(a),
+        Which::B => end_one(b),
+    }
+}
+
+fn end_one(source: &mut ByteSource) -> Result<(), ListenFault>
+    requires open { IsOpen source.old.listener }
+    ensures { EndedBy (result_err result) source.old.listener source.new.listener }
+{
+    if source.out_of_memory {
+        return Err(ListenFault::Memory);
+    }
+    let answer = source.listener.end();
+    source.ended = true;
+    answer
+}

@@ -1,0 +1,185 @@
+//! Two captures, from one record at a time.
+
+ghost use Rattle.std.specs.Prelude.{◌≡◌, ◌+◌, ◌^◌, ◌<◌, ◌++◌, ◌∷◌, [], ℕ, true, false, List, length, slice_get, None, Some, IfNone, IfOk, OnErr, OnOk};
+ghost use Rattle.std.specs.Option.{option_to_list};
+ghost use Rattle.pcap_frames.specs.Capture.{Record};
+ghost use Rattle.pcap_frames.specs.Reading.{shown};
+ghost use Rattle.sample_schedule.specs.Limits.{IsPlan};
+ghost use Rattle.time_unfold.specs.Time.{IsArrival};
+ghost use Rattle.listener.specs.Heard.{schedule_plan};
+ghost use Rattle.listener.specs.Listening.{is_closed};
+ghost use Rattle.listener_pair.specs.Differences.{counts_of, differences};
+ghost use Rattle.capture_pair.specs.Pairing.{Changes, HavePlan, IsThrough, Keeps, StandsFor, known_by, listener_of, wanted_by};
+ghost use Rattle.capture_pair.specs.state.Taking.{Closed, ClosedOn, IsBegun, IsQuiet, IsQuietOn, IsReady, IsReadyOn, Took, TookOn};
+
+use crate::sides::{fill_both, next_difference};
+use crate::source::RecordSource;
+use avtp_base::NoMemory;
+use listener::{ListenPlan, RecordListener};
+use listener_pair::{Difference, Matching, PairCounts, Which};
+use pcap_frames::RecordView;
+use std::alloc::Global;
+use std::marker::Model;
+
+/// Two listeners with one plan, given the records of two captures of a stream, and the differences of what they present. The records
+/// of each capture are given in its order, and only as far as `wants` asks for them.
+///
+/// A difference is given as soon as the batches are known that come before it in the merged list of what both present. What a
+/// listener flags is dropped, and ends nothing. Memory is reserved when the pair is made; later each packet's samples, and each
+/// whole unit, are copied once.
+#[derive(Drop)]
+pub struct RecordPair {
+    a: RecordSource,
+    b: RecordSource,
+    matching: Matching,
+}
+
+impl Model for RecordPair {
+    ghost use Rattle.std.specs.Prelude.{◌≤◌, ◌^◌};
+    ghost use Rattle.listener.specs.Listening.{IsIdle as IsIdleListener, is_closed};
+    ghost use Rattle.capture_pair.specs.Pairing.{PairState};
+    ghost use Rattle.capture_pair.specs.state.Sides.{IsSettled};
+
+    ghost Value = { PairState };
+
+    ghost view = { λ pair. record { a = pair.a.listener; b = pair.b.listener; matching = pair.matching } };
+
+    ghost invariant = { λ pair. IsSettled (is_closed pair.a.listener) (is_closed pair.b.listener) (IsIdleListener pair.a.listener) (IsIdleListener pair.b.listener) pair.matching
+        × (pair.a.listener.counts.frames ≤ 2 ^ 61) × (pair.b.listener.counts.frames ≤ 2 ^ 61) };
+}
+
+impl RecordPair {
+    /// A pair that was given no record. The plan is within the limits that `ListenPlan` names.
+    pub fn begin(alloc: Global, plan: ListenPlan) -> Result<Self, NoMemory>
+        requires plan { IsPlan (schedule_plan plan) }
+        ensures stands { IfOk result (StandsFor [] [] 0) }
+        ensures plan { IfOk result (HavePlan plan) }
+        ensures open { IfOk result (λ pair. wanted_by pair ≡ Some Which.A) }
+        ensures none_a { IfOk result (λ pair. pair.a.counts.frames ≡ 0) }
+        ensures none_b { IfOk result (λ pair. pair.b.counts.frames ≡ 0) }
+    {
+        let a = begin_source(alloc, plan)?;
+        let b = begin_source(alloc, plan)?;
+        let matching = Matching::begin(alloc)?;
+        Ok(RecordPair { a, b, matching })
+    }
+
+    /// The capture whose next record, or end, is needed before more is known: A if it has not ended and has no next batch, else B in
+    /// the same case, else None.
+    pub fn wants(&self) -> Option<Which>
+        ensures wanted { result ≡ wanted_by self.now }
+        ensures open { (which : Which) → result ≡ Some which → is_closed (listener_of which self.now) ≡ false }
+        ensures closed { result ≡ None → IsThrough self.now → (is_closed self.now.a ≡ true) × (is_closed self.now.b ≡ true) }
+    {
+        self.matching.wants()
+    }
+
+    /// Takes the next record of the capture that is wanted, of which fewer than 2^61 were taken. The record's time is from 0 to 2^62
+    /// ns. `NoMemory` comes if no memory is found for the packet's samples or the unit; the pair is then as it was.
+    pub fn take_record(
+        &mut self,
+        alloc: Global,
+        which: Which,
+        held: &RecordView<'_>,
+    ) -> Result<(), NoMemory>
+        requires wanted { wanted_by self.old ≡ Some which }
+        requires few { (listener_of which self.old).counts.frames < 2 ^ 61 }
+        requires time { IsArrival held.now.arrival }
+        ensures stands_a { which ≡ Which.A → OnOk result ((records others : List Record) (given : ℕ) → StandsFor records others given self.old → StandsFor (records ++ shown held.now ∷ []) others given self.new) }
+        ensures stands_b { which ≡ Which.B → OnOk result ((records others : List Record) (given : ℕ) → StandsFor records others given self.old → StandsFor records (others ++ shown held.now ∷ []) given self.new) }
+        ensures taken { OnOk result (Changes which 1 false self.old self.new) }
+        ensures same { OnErr result (self.new ≡ self.old) }
+    {
+        take(alloc, &mut self.a, &mut self.b, which, held)?;
+        fill_both(&mut self.a, &mut self.b, &mut self.matching);
+        Ok(())
+    }
+
+    /// Says that no record follows of the capture that is wanted. Takes no memory.
+    pub fn close(&mut self, which: Which)
+        requires wanted { wanted_by self.old ≡ Some which }
+        ensures stands { (records others : List Record) (given : ℕ) → StandsFor records others given self.old → StandsFor records others given self.new }
+        ensures closed { Changes which 0 true self.old self.new }
+    {
+        close(&mut self.a, &mut self.b, which);
+        fill_both(&mut self.a, &mut self.b, &mut self.matching);
+    }
+
+    /// The next difference of the known part of the merged list of what both listeners present. None comes exactly if no further one
+    /// is in it. Takes no memory.
+    pub fn next_difference(&mut self) -> Option<Difference>
+        ensures given { (records others : List Record) (given : ℕ) → StandsFor records others given self.old → result ≡ slice_get (differences (known_by self.old records others)) given }
+        ensures stands { (records others : List Record) (given : ℕ) → StandsFor records others given self.old → StandsFor records others (given + length (option_to_list result)) self.new }
+        ensures through { IfNone result (IsThrough self.new) }
+        ensures keeps { Keeps self.old self.new }
+    {
+        next_difference(&mut self.a, &mut self.b, &mut self.matching)
+    }
+
+    /// The counts over the known part, once all its differences were given. A batch that is not paired yet counts as only.
+    pub fn counts(&self) -> PairCounts
+        ensures { IsThrough self.now → (records others : List Record) (given : ℕ) → StandsFor records others given self.now → result ≡ counts_of (known_by self.now records others) }
+    {
+        self.matching.counts()
+    }
+}
+
+/// A listener that was given no record.
+fn begin_source(alloc: Global, plan: ListenPlan) -> Result<RecordSource, NoMemory>
+    requires plan { IsPlan (schedule_plan plan) }
+    ensures begun { IfOk result (IsBegun plan) }
+{
+    let listener = RecordListener::begin(alloc, plan)?;
+    Ok(RecordSource {
+        listener,
+        closed: false,
+    })
+}
+
+/// Gives a record to the listener of a side.
+fn take(
+    alloc: Global,
+    a: &mut RecordSource,
+    b: &mut RecordSource,
+    which: Which,
+    held: &RecordView<'_>,
+) -> Result<(), NoMemory>
+    requires ready { IsReadyOn which a.old.listener b.old.listener }
+    requires time { IsArrival held.now.arrival }
+    ensures took { OnOk result (TookOn which (shown held.now) a.old.listener b.old.listener a.new.listener b.new.listener) }
+    ensures same { OnErr result ((a.new ≡ a.old) × (b.new ≡ b.old)) }
+{
+    match which {
+        Which::A => take_one(alloc, a, held),
+        Which::B => take_one(alloc, b, held),
+    }
+}
+
+fn take_one(alloc: Global, source: &mut RecordSource, held: &RecordView<'_>) -> Result<(), NoMemory>
+    requires ready { IsReady source.old.listener }
+    requires time { IsArrival held.now.arrival }
+    ensures took { OnOk result (Took (shown held.now) source.old.listener source.new.listener) }
+    ensures same { OnErr result (source.new ≡ source.old) }
+{
+    source.listener.take_record(alloc, held)?;
+    Ok(())
+}
+
+/// Closes the listener of a side.
+fn close(a: &mut RecordSource, b: &mut RecordSource, which: Which)
+    requires ready { IsQuietOn which a.old.listener b.old.listener }
+    ensures { ClosedOn which a.old.listener b.old.listener a.new.listener b.new.listener }
+{
+    match which {
+        Which::A => close_one(a),
+        Which::B => close_one(b),
+    }
+}
+
+fn close_one(source: &mut RecordSource)
+    requires ready { IsQuiet source.old.listener }
+    ensures { Closed source.old.listener source.new.listener }
+{
+    source.listener.close();
+    source.closed = true;
+}

@@ -1,0 +1,113 @@
+//! What two listeners show, matched.
+
+ghost use Rattle.std.specs.Prelude.{◌≡◌, ◌⊎◌, ◌+◌, ◌<◌, ◌≤◌, List, ℕ, Some, None, IfNone, IsSome, length, slice_get};
+ghost use Rattle.std.specs.Option.{option_to_list};
+ghost use Rattle.sample_schedule.specs.declared.shown.Shown.{Shown as ShownValue};
+ghost use Rattle.listener.specs.Laws.{presented_of};
+ghost use Rattle.listener_pair.specs.Differences.{differences};
+ghost use Rattle.listener_pair.specs.Merged.{known, merged};
+ghost use Rattle.listener_pair.specs.Matching.{IsIdle, wanted};
+ghost use Rattle.capture_pair.specs.Pairing.{Pairs};
+ghost use Rattle.capture_pair.specs.state.Sides.{Filled, Fills, Holds, IsBounded, IsHeard, IsSettled, MatchesOn, Taken, handed, is_passed, open_sides, wants_side};
+
+use crate::source::Source;
+use listener_pair::{Difference, Matching, Which};
+use sample_schedule::Shown;
+
+/// Gives the matching what the listener of the side that it wants shows next: a batch is the next of the side, a flag is dropped,
+/// and if nothing is shown and the listener has ended, so has the side. Whether the listener is asked again.
+fn hand_on(matching: &mut Matching, which: Which, next: Option<Shown>, ended: bool) -> bool
+    requires { wanted matching.old ≡ Some which }
+    ensures handed { matching.new ≡ handed which next ended matching.old }
+    ensures again { result ≡ is_passed next }
+{
+    match next {
+        Some(Shown::Present(batch)) => {
+            matching.take(which, batch);
+            false
+        }
+        Some(Shown::Flag { .. }) => true,
+        None => {
+            if ended {
+                matching.end(which);
+            }
+            false
+        }
+    }
+}
+
+/// Whether this side is the one that is wanted.
+fn is_wanted(matching: &Matching, which: Which) -> bool
+    ensures { result ≡ wants_side which (wanted matching.now) }
+{
+    match (matching.wants(), which) {
+        (Some(Which::A), Which::A) | (Some(Which::B), Which::B) => true,
+        _ => false,
+    }
+}
+
+/// Gives the matching the next batch of a side, or that side's end, if it is wanted and known.
+fn fill<S: Source>(source: &mut S, matching: &mut Matching, which: Which)
+    ensures filled { (taken : Taken) (list other : List ShownValue) (n k given : ℕ) → S.shows source.old taken list n → IsHeard list → IsHeard other → MatchesOn which list other n k given matching.old → Filled (S.shows source.new taken) which list other k given matching.new }
+    ensures fills { Fills which (S.kept source.old).ended (S.is_quiet source.new) matching.old matching.new }
+    ensures kept { S.kept source.new ≡ S.kept source.old }
+    ensures less { S.work source.new + open_sides matching.new ≤ S.work source.old + open_sides matching.old }
+    ensures fewer { wanted matching.old ≡ Some which → (wanted matching.new ≡ Some which) ⊎ (S.work source.new + open_sides matching.new < S.work source.old + open_sides matching.old) }
+{
+    if !is_wanted(matching, which) {
+        return;
+    }
+    loop {
+        let ended = source.has_ended();
+        let next = source.next_out();
+        if !hand_on(matching, which, next, ended) {
+            return;
+        }
+    }
+}
+
+/// Gives the matching the next batch, or the end, of each side that lacks it, as far as that is known: A's before B's.
+pub fn fill_both<S: Source>(a: &mut S, b: &mut S, matching: &mut Matching)
+    requires bounded { IsBounded (S.kept a.old).ended (S.kept b.old).ended matching.old }
+    ensures pairs { (ta tb : Taken) (list other : List ShownValue) (given : ℕ) → IsHeard list → IsHeard other → Holds (S.shows a.old ta) (S.shows b.old tb) list other given matching.old → Pairs (S.shows a.new ta) (S.shows b.new tb) list other given matching.new }
+    ensures settled { IsSettled (S.kept a.new).ended (S.kept b.new).ended (S.is_quiet a.new) (S.is_quiet b.new) matching.new }
+    ensures kept_a { S.kept a.new ≡ S.kept a.old }
+    ensures kept_b { S.kept b.new ≡ S.kept b.old }
+    ensures same { wanted matching.old ≡ None → matching.new ≡ matching.old }
+    ensures less { IsSome (wanted matching.old) → wanted matching.new ≡ None → (S.work a.new + S.work b.new) + open_sides matching.new < (S.work a.old + S.work b.old) + open_sides matching.old }
+{
+    fill(a, matching, Which::A);
+    fill(b, matching, Which::B);
+}
+
+/// The next difference of the known part of what both listeners present. None comes exactly if no further one is in it.
+pub fn next_difference<S: Source>(
+    a: &mut S,
+    b: &mut S,
+    matching: &mut Matching,
+) -> Option<Difference>
+    requires settled { IsSettled (S.kept a.old).ended (S.kept b.old).ended (S.is_quiet a.old) (S.is_quiet b.old) matching.old }
+    ensures given { (ta tb : Taken) (list other : List ShownValue) (given : ℕ) → IsHeard list → IsHeard other → Pairs (S.shows a.old ta) (S.shows b.old tb) list other given matching.old
+        → result ≡ slice_get (differences (known (S.kept a.old).ended (S.kept b.old).ended (merged (presented_of list) (presented_of other)))) given }
+    ensures pairs { (ta tb : Taken) (list other : List ShownValue) (given : ℕ) → IsHeard list → IsHeard other → Pairs (S.shows a.old ta) (S.shows b.old tb) list other given matching.old
+        → Pairs (S.shows a.new ta) (S.shows b.new tb) list other (given + length (option_to_list result)) matching.new }
+    ensures settled { IsSettled (S.kept a.new).ended (S.kept b.new).ended (S.is_quiet a.new) (S.is_quiet b.new) matching.new }
+    ensures idle { IfNone result (IsIdle matching.new) }
+    ensures kept_a { S.kept a.new ≡ S.kept a.old }
+    ensures kept_b { S.kept b.new ≡ S.kept b.old }
+{
+    loop {
+        let difference = matching.next_difference();
+        let wanted = matching.wants();
+        fill_both(a, b, matching);
+        if difference.is_some() {
+            return difference;
+        }
+        if wanted.is_none() {
+            return None;
+        }
+        if matching.wants().is_some() {
+            return None;
+        }
+    }
+}

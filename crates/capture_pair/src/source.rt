@@ -1,0 +1,100 @@
+//! A listener as one side of a pair.
+
+ghost use Rattle.std.specs.Prelude.{◌≡◌, false};
+ghost use Rattle.listener.specs.Feeding.{is_ended};
+ghost use Rattle.listener.specs.Listening.{is_closed};
+
+use listener::{Listener, RecordListener};
+use sample_schedule::Shown;
+
+/// One of two listeners, asked for what it shows.
+pub trait Source {
+    ghost use Rattle.std.specs.Prelude.{◌≡◌, ◌+◌, ◌≤◌, List, ℕ, IfNone, length, slice_get};
+    ghost use Rattle.std.specs.Option.{option_to_list};
+    ghost use Rattle.sample_schedule.specs.declared.shown.Shown.{Shown as ShownValue};
+    ghost use Rattle.capture_pair.specs.Sources.{Kept, Taken};
+
+    /// It took this, shows this list of it, and has shown so many items of the list.
+    ghost shows: { Self → Taken → List ShownValue → ℕ → Type 0 };
+
+    /// All that it shows so far was shown.
+    ghost is_quiet: { Self → Type 0 };
+
+    /// What stays while it is asked for what it shows.
+    ghost kept: { Self → Kept };
+
+    /// The most items that it can still show.
+    ghost work: { Self → ℕ };
+
+    /// The next item that is shown of what was taken so far. None comes exactly if all of that was shown.
+    fn next_out(&mut self) -> Option<Shown>
+        ensures given { (taken : Taken) (list : List ShownValue) (n : ℕ) → shows self.old taken list n → result ≡ slice_get list n }
+        ensures shows { (taken : Taken) (list : List ShownValue) (n : ℕ) → shows self.old taken list n → shows self.new taken list (n + length (option_to_list result)) }
+        ensures quiet { IfNone result (is_quiet self.new) }
+        ensures kept { kept self.new ≡ kept self.old }
+        ensures less { work self.new + length (option_to_list result) ≤ work self.old };
+
+    /// Whether nothing more is taken: all that is left is shown then.
+    fn has_ended(&self) -> bool
+        ensures { result ≡ (kept self.now).ended };
+}
+
+/// A listener of records, and whether it was closed.
+#[derive(Drop)]
+pub struct RecordSource {
+    pub listener: RecordListener,
+    pub closed: bool,
+    ghost closes: { closed ≡ is_closed listener },
+}
+
+impl Source for RecordSource {
+    ghost use Rattle.listener.specs.Listening.{IsIdle, work as work_of};
+    ghost use Rattle.capture_pair.specs.state.Sides.{ShowsRecords, kept_of_records};
+
+    ghost shows = { λ s taken list n. ShowsRecords s.listener taken list n };
+
+    ghost is_quiet = { λ s. IsIdle s.listener };
+
+    ghost kept = { λ s. kept_of_records s.listener };
+
+    ghost work = { λ s. work_of s.listener };
+
+    fn next_out(&mut self) -> Option<Shown> {
+        self.listener.next_out()
+    }
+
+    fn has_ended(&self) -> bool {
+        self.closed
+    }
+}
+
+/// A listener of bytes, whether its capture has ended, and whether memory was once not found.
+#[derive(Drop)]
+pub struct ByteSource {
+    pub listener: Listener,
+    pub ended: bool,
+    pub out_of_memory: bool,
+    ghost ends: { ended ≡ is_ended listener },
+    ghost spent: { ended ≡ false → out_of_memory ≡ listener.out_of_memory },
+}
+
+impl Source for ByteSource {
+    ghost use Rattle.listener.specs.Feeding.{IsQuiet, work as work_of};
+    ghost use Rattle.capture_pair.specs.state.Sides.{ShowsBytes, kept_of_bytes};
+
+    ghost shows = { λ s taken list n. ShowsBytes s.listener taken list n };
+
+    ghost is_quiet = { λ s. IsQuiet s.listener };
+
+    ghost kept = { λ s. kept_of_bytes s.listener };
+
+    ghost work = { λ s. work_of s.listener };
+
+    fn next_out(&mut self) -> Option<Shown> {
+        self.listener.next_out()
+    }
+
+    fn has_ended(&self) -> bool {
+        self.ended
+    }
+}

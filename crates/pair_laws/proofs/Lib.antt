@@ -1,0 +1,5 @@
+pub mod Beside
+pub mod Paces
+pub mod Agreeing
+pub mod Told
+pub mod Found
