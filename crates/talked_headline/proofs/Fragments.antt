@@ -73,10 +73,10 @@ same_unit input from n k unit low high =
 pub parts_are : (plan : TalkPlan) (input : List ℕ) (last_stamp : Bool) → plan.kind ≡ H264 last_stamp → (journal plan input).times.kind ≡ OfParts (part_sent input)
 parts_are plan input last_stamp e = rw e refl
 
-packet_is : (plan : TalkPlan) (input : List ℕ) (last_stamp : Bool) (k : ℕ) → plan.kind ≡ H264 last_stamp → (journal plan input).packet k ≡ H264Data (cvf_packet last_stamp plan input (sent_units input) k)
+pub packet_is : (plan : TalkPlan) (input : List ℕ) (last_stamp : Bool) (k : ℕ) → plan.kind ≡ H264 last_stamp → (journal plan input).packet k ≡ H264Data (cvf_packet last_stamp plan input (sent_units input) k)
 packet_is plan input last_stamp k e = rw e refl
 
-due_is : (plan : TalkPlan) (input : List ℕ) (last_stamp : Bool) (k : ℕ) → plan.kind ≡ H264 last_stamp → (journal plan input).times.due k ≡ video_due plan input (sent_units input) k
+pub due_is : (plan : TalkPlan) (input : List ℕ) (last_stamp : Bool) (k : ℕ) → plan.kind ≡ H264 last_stamp → (journal plan input).times.due k ≡ video_due plan input (sent_units input) k
 due_is plan input last_stamp k e = rw e refl
 
 pub same_byte : (plan : TalkPlan) (input : List ℕ) (last_stamp : Bool) (from n k : ℕ) → plan.kind ≡ H264 last_stamp → AreUnit (part_sent input) from n → from ≤ k → k ≤ n → first_byte ((journal plan input).packet k) ≡ first_byte ((journal plan input).packet from)
@@ -105,7 +105,7 @@ short plan input last_stamp k e =
     let all = cvf_length v in
     subst (λ (view : PacketView). length (carried view) ≤ 1428) (sym (packet_is plan input last_stamp k e)) (omega (arith, size, all))
 
-all_short : (plan : TalkPlan) (input : List ℕ) (last_stamp : Bool) (a c : ℕ) → plan.kind ≡ H264 last_stamp → length (flat_map (λ (k : ℕ). carried ((journal plan input).packet k)) (range_with_len a c)) ≤ c * 1428
+pub all_short : (plan : TalkPlan) (input : List ℕ) (last_stamp : Bool) (a c : ℕ) → plan.kind ≡ H264 last_stamp → length (flat_map (λ (k : ℕ). carried ((journal plan input).packet k)) (range_with_len a c)) ≤ c * 1428
 all_short plan input last_stamp a zero e = omega arith
 all_short plan input last_stamp a (suc c) e =
     omega (arith, length-append (carried ((journal plan input).packet a)) (flat_map (λ (k : ℕ). carried ((journal plan input).packet k)) (range_with_len (a + 1) c)), short plan input last_stamp a e, all_short plan input last_stamp (a + 1) c e)
@@ -116,6 +116,13 @@ unit_size plan input last_stamp from n e few =
     let bodies = all_short plan input last_stamp from (suc n - from) e in
     omega (arith, length-append (first_byte ((journal plan input).packet from)) (flat_map (λ (k : ℕ). carried ((journal plan input).packet k)) (range_with_len from (suc n - from))), byte, bodies, few)
 
+-- no packet carries more than 1,428 bytes, and each unit has one byte besides
+pub unit_small : (plan : TalkPlan) (input : List ℕ) (last_stamp : Bool) (from n : ℕ) → plan.kind ≡ H264 last_stamp → from ≤ n → length (unit_bytes (journal plan input) from n) ≤ (suc n - from) * 1500
+unit_small plan input last_stamp from n e low =
+    let byte : length (first_byte ((journal plan input).packet from)) ≡ 1 = ap (λ (view : PacketView). length (first_byte view)) (packet_is plan input last_stamp from e) in
+    let bodies = all_short plan input last_stamp from (suc n - from) e in
+    omega (arith, length-append (first_byte ((journal plan input).packet from)) (flat_map (λ (k : ℕ). carried ((journal plan input).packet k)) (range_with_len from (suc n - from))), byte, bodies, low)
+
 -- ---- the frames of packets beside each other
 
 pub record HasFrames (plan : TalkPlan) (input : List ℕ) (lead a k : ℕ) : Type 0 where
@@ -124,7 +131,7 @@ pub record HasFrames (plan : TalkPlan) (input : List ℕ) (lead a k : ℕ) : Typ
   pub carry : AllCarry (journal plan input) lead (range_with_len a k) (map record_of sent)
   pub long : length sent ≡ k
 
--- where each has its frame
+-- each packet has its frame
 pub frames_of : (plan : TalkPlan) (input : List ℕ) (lead a k : ℕ) → ((i : ℕ) → i < a + k → (f : SentFrame) × ((slice_get (frames plan input) i ≡ Some f) × Carries (journal plan input) lead i (record_of f))) → HasFrames plan input lead a k
 frames_of plan input lead a zero each = record { sent = []; same = λ places. refl; carry = tt; long = refl }
 frames_of plan input lead a (suc k) each =
@@ -140,18 +147,18 @@ frames_of plan input lead a (suc k) each =
 -- ---- their deliveries
 
 -- records of the stream, numbered from i on
-pub numbered : ℕ → List Record → List Delivery
+unfoldable pub numbered : ℕ → List Record → List Delivery
 numbered i [] = []
 numbered i (r ∷ rs) = delivery i r ∷ numbered (i + 1) rs
 
-pub AllBelong : ℕ → List Record → Type 0
+unfoldable pub AllBelong : ℕ → List Record → Type 0
 AllBelong id [] = ⊤
 AllBelong id (r ∷ rs) = (belongs stream_kinds id r.bytes ≡ true) × AllBelong id rs
 
-abbrev delivered_from : ℕ → Option ℕ → ℕ → List Record → List Delivery
+abbrev pub delivered_from : ℕ → Option ℕ → ℕ → List Record → List Delivery
 delivered_from id clock i rs = map (λ numbered. delivery numbered.0 numbered.1) (filter (λ numbered. is_delivered id clock numbered.1.bytes) (enumerate_from i rs))
 
-delivered_first : (id : ℕ) (clock : Option ℕ) (i : ℕ) (rs others : List Record) → AllBelong id rs → delivered_from id clock i (rs ++ others) ≡ numbered i rs ++ delivered_from id clock (i + length rs) others
+pub delivered_first : (id : ℕ) (clock : Option ℕ) (i : ℕ) (rs others : List Record) → AllBelong id rs → delivered_from id clock i (rs ++ others) ≡ numbered i rs ++ delivered_from id clock (i + length rs) others
 unfolding AllBelong numbered
 delivered_first id clock i [] others all = let same : i ≡ i + 0 = omega arith in ap (λ (k : ℕ). delivered_from id clock k others) same
 delivered_first id clock i (r ∷ rs) others all =

@@ -1,11 +1,10 @@
--- What is talked and captured.
-use Rattle.std.proofs.Common.{◌≡◌, ℕ, zero, suc, ◌+◌, ◌<◌, Bool, true, false, List, [], ◌∷◌, map, Option, Some, None, pos, ◌≤ℤ◌, refl, sym, subst, arith}
+-- What a talker sends and a capture holds.
+use Rattle.std.proofs.Common.{◌≡◌, ℕ, zero, suc, ◌+◌, ◌<◌, Bool, true, false, is_some, List, [], ◌∷◌, map, Option, Some, None, pos, ◌≤ℤ◌, refl, sym, subst, arith}
 use Rattle.std.specs.Prelude.{IsSomeAnd, slice_get}
 use Rattle.std.specs.List.{range_with_len}
-use Rattle.pcap_frames.specs.Capture.{Record}
+use Rattle.aaf_format.specs.declared.aaf.AafFormat.{AafFormat}
 use Rattle.stream_journal.specs.Delivered.{IsAudioKind as IsAudioStream}
 use Rattle.packet_journal.specs.Carried.{AllCarry, Carries, IsReadKind}
-use Rattle.packet_journal.specs.Deliveries.{belongs, deliveries, delivery, stream_kinds}
 use Rattle.packet_journal.specs.Packets.{PacketJournal}
 use Rattle.talk_plan.specs.declared.plan.TalkKind.{TalkKind}
 use Rattle.talk_plan.specs.declared.plan.TalkKind.TheVariants.{Aaf, Am824, H264}
@@ -23,7 +22,7 @@ heard_by (Aaf format true) plan input kind = tt
 heard_by Am824 plan input kind = tt
 heard_by (H264 last_stamp) plan input kind = absurd kind
 
--- its kind is one for which the headline is said
+-- the kind of the journal is one that the headline covers
 pub kind_heard : (plan : TalkPlan) (input : List ℕ) → IsAudioPlan plan → IsAudioStream (journal plan input).times.kind
 kind_heard plan input p = heard_by plan.kind plan input p.kind
 
@@ -81,12 +80,6 @@ carries_at p lead a (suc k) (suc i) j (g ∷ fs) f number all within at = carrie
 pub first_kept : (plan : TalkPlan) (input places : List ℕ) (n : ℕ) (f : SentFrame) → slice_get (frames plan input) n ≡ Some f → frames_at plan input (n ∷ places) ≡ f ∷ frames_at plan input places
 first_kept plan input places n f at = rw at refl
 
--- a first record of the stream is the first delivery
-pub first_delivery : (stream id : ℕ) (clock : Option ℕ) (all : List Record) (r : Record) (records : List Record) → stream ≡ id → all ≡ r ∷ records → belongs stream_kinds id r.bytes ≡ true
-    → slice_get (deliveries stream clock all) 0 ≡ Some (delivery 1 r)
-first_delivery stream id clock all r records same read in_it = rw (same, read, in_it) refl
-
--- and a second one is the second
-pub second_delivery : (stream id : ℕ) (clock : Option ℕ) (all : List Record) (r s : Record) (records : List Record) → stream ≡ id → all ≡ r ∷ s ∷ records → belongs stream_kinds id r.bytes ≡ true → belongs stream_kinds id s.bytes ≡ true
-    → slice_get (deliveries stream clock all) 1 ≡ Some (delivery 2 s)
-second_delivery stream id clock all r s records same read first second = rw (same, read, first, second) refl
+-- each packet of dense PCM is stamped
+pub dense_stamped : (plan : TalkPlan) (input : List ℕ) (format : AafFormat) (n : ℕ) → plan.kind ≡ Aaf format false → is_some ((journal plan input).times.stamp n) ≡ true
+dense_stamped plan input format n dense = rw dense refl

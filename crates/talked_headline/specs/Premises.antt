@@ -1,8 +1,8 @@
--- A plan that is talked, and a listener for it.
-use Rattle.std.specs.Prelude.{◌≡◌, ◌^◌, ◌<◌, ◌≤◌, ℕ, Bool, pos, List, length, None, Some}
+-- A plan of a talker, and a listener for it.
+use Rattle.std.specs.Prelude.{◌≡◌, ◌^◌, ◌<◌, ◌≤◌, ℕ, Bool, pos, List, length}
 use Rattle.pcap_frames.specs.Capture.{Record, whole_records}
 use Rattle.stream_journal.specs.Journal.{Part}
-use Rattle.packet_journal.specs.Packets.{carried, part_of}
+use Rattle.packet_journal.specs.Packets.{part_of}
 use Rattle.packet_journal.specs.Units.{AreUnit, unit_bytes}
 use Rattle.listener.specs.declared.plan.ListenPlan.{ListenPlan}
 use Rattle.listener.specs.Laws.{FollowsClock}
@@ -14,7 +14,7 @@ use Rattle.talker.specs.Journal.{journal}
 use Rattle.talk_plan.specs.Plan.{Expects, IsAudioPlan, IsVideoPlan, most_input}
 use Rattle.talk_video.specs.Units.{sent_units}
 
--- the records of a capture that has the plan's frames of these places, in this order
+-- the records of a capture that has these frames of the plan, in this order
 abbrev pub captured : TalkPlan → List ℕ → List ℕ → List Record
 captured plan input places = whole_records (capture_of (frames_at plan input places))
 
@@ -28,22 +28,11 @@ pub record ListensTo (plan : TalkPlan) (input : List ℕ) (listen : ListenPlan) 
   pub stream : listen.stream ≡ plan.id
   pub clock : FollowsClock (pos 0) (journal plan input) listen.shift listen.clock
 
--- packet n of a plan without a clock is stamped, and fits the buffer of the listener, which has no clock either
-pub record HasRoomFor (plan : TalkPlan) (input : List ℕ) (listen : ListenPlan) (n : ℕ) : Type 0 where
-  pub known : n < (journal plan input).times.packets
-  -- no clock is sent beside the stream, so its frame is the one of its number
-  pub alone : plan.crf ≡ None
-  pub without : listen.clock ≡ None
-  pub instant : ℕ
-  pub stamped : (journal plan input).times.stamp n ≡ Some instant
-  pub buffer : 1 ≤ listen.buffer
-  pub room : length (carried ((journal plan input).packet n)) ≤ listen.room
-
 -- ---- H.264
 
--- The plan is one of H.264 and sends this input, and the listener listens to its stream. If the plan stamps the last
--- fragments of units alone, adjacent captured fragments are of packets at most 254 apart, unless both are stamped. The
--- listener may have any lead.
+-- The plan is one of H.264 and sends this input, and the listener listens to its stream. If the plan stamps only the last
+-- fragments of units, adjacent captured fragments are of packets at most 254 apart, unless both are stamped. The listener may
+-- have any lead.
 pub record ListensToVideo (plan : TalkPlan) (input places : List ℕ) (listen : ListenPlan) : Type 0 where
   pub last_stamp : Bool
   pub kind : plan.kind ≡ H264 last_stamp

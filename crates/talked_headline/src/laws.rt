@@ -1,5 +1,5 @@
-//! What is captured of a plan that is talked meets every premise of what listeners promise. Each call is its contract, and
-//! does nothing.
+//! The captures of a talker's plans meet every premise of what listeners promise. Each call only states its contract, and does
+//! nothing.
 
 ghost use Rattle.std.specs.Prelude.{List, ℕ, pos, ◌-◌, ◌∷◌, ◌++◌};
 ghost use Rattle.std.specs.List.{range_with_len};
@@ -7,20 +7,18 @@ ghost use Rattle.listener.specs.declared.plan.ListenPlan.{ListenPlan};
 ghost use Rattle.listener.specs.Headline.{KeepsHeadline};
 ghost use Rattle.listener.specs.Heard.{shown_of};
 ghost use Rattle.listener.specs.Items.{MadeItem};
-ghost use Rattle.listener.specs.Laws.{HearsTalker, IsFurther, IsWelcome};
+ghost use Rattle.listener.specs.Laws.{HearsTalker, IsWelcome};
 ghost use Rattle.talk_plan.specs.declared.plan.TalkPlan.{TalkPlan};
 ghost use Rattle.talker.specs.Journal.{journal};
-ghost use Rattle.talked_headline.specs.Premises.{HasRoomFor, HasRoomForUnit, ListensTo, ListensToVideo, captured};
+ghost use Rattle.talked_headline.specs.Premises.{HasRoomForUnit, ListensTo, ListensToVideo, captured};
 
-use listener::laws::{
-    first_fragments_are_welcome, first_packet_is_welcome, headline_holds, second_copy_is_further,
-};
+use listener::laws::{first_fragments_are_welcome, headline_holds};
 use packet_journal::laws::carried_packet_is_delivered;
 use talker::laws::{
     capture_delivers, journal_conforms, losses_are_delivered, packets_are_sent_in_time,
 };
 
-/// A capture of the frames of an audio plan and of its clock meets the whole premise of the headline, whatever it
+/// A capture of the frames of an audio plan and of its clock meets the whole premise of the headline, whatever the capture
 /// loses, repeats or reorders, for listeners with the clock and without.
 pub fn talked_is_heard()
     ensures { (plan : TalkPlan) (input places : List ℕ) (listen : ListenPlan) → ListensTo plan input listen → HearsTalker (pos 0) (journal plan input) listen (captured plan input places) }
@@ -29,7 +27,7 @@ pub fn talked_is_heard()
     losses_are_delivered();
 }
 
-/// What a listener shows of such a capture keeps the headline, if the plan is talked and the listener listens to its
+/// What a listener shows of such a capture keeps the headline, if the talker takes the plan and the listener listens to its
 /// stream.
 pub fn talked_keeps_headline()
     ensures { (plan : TalkPlan) (input places : List ℕ) (listen : ListenPlan) → ListensTo plan input listen
@@ -39,39 +37,8 @@ pub fn talked_keeps_headline()
     headline_holds();
 }
 
-/// The first captured packet of an audio plan must be presented if it has a timestamp and there is room, whatever comes
-/// after it. So the headline says something about each such capture.
-pub fn talked_is_welcome()
-    ensures { (plan : TalkPlan) (input places : List ℕ) (listen : ListenPlan) (n : ℕ) → ListensTo plan input listen → HasRoomFor plan input listen n
-        → (made : MadeItem) × IsWelcome (journal plan input) listen (captured plan input (n ∷ places)) 0 n made }
-{
-    talked_is_heard();
-    journal_conforms();
-    capture_delivers();
-    losses_are_delivered();
-    packets_are_sent_in_time();
-    carried_packet_is_delivered();
-    first_packet_is_welcome();
-}
-
-/// If that packet is captured once more, directly after, it is a further copy, which is flagged as a repeat.
-pub fn talked_again_is_further()
-    ensures { (plan : TalkPlan) (input places : List ℕ) (listen : ListenPlan) (n : ℕ) → ListensTo plan input listen → HasRoomFor plan input listen n
-        → (made : MadeItem) × IsFurther (journal plan input) listen (captured plan input (n ∷ n ∷ places)) 1 n made }
-{
-    talked_is_heard();
-    journal_conforms();
-    capture_delivers();
-    losses_are_delivered();
-    packets_are_sent_in_time();
-    carried_packet_is_delivered();
-    first_packet_is_welcome();
-    second_copy_is_further();
-}
-
-/// A capture of an H.264 plan meets the whole premise of the headline, too, whatever it loses, repeats or reorders. If
-/// the plan stamps the last fragments of units alone, adjacent captured fragments have to be of packets that are at
-/// most 254 apart.
+/// A capture of an H.264 plan also meets the whole premise of the headline, whatever the capture loses, repeats or reorders. If
+/// the plan stamps only the last fragments of units, adjacent captured fragments must be of packets that are at most 254 apart.
 pub fn talked_video_is_heard()
     ensures { (plan : TalkPlan) (input places : List ℕ) (listen : ListenPlan) → ListensToVideo plan input places listen → HearsTalker (pos 0) (journal plan input) listen (captured plan input places) }
 {
@@ -79,8 +46,8 @@ pub fn talked_video_is_heard()
     losses_are_delivered();
 }
 
-/// What a listener shows of such a capture keeps the headline: each unit that is presented is one of the plan's units,
-/// whole, with its bytes and at its instant.
+/// What a listener shows of such a capture keeps the headline: each unit that is presented is a whole unit of the plan, with
+/// its bytes and at its instant.
 pub fn talked_video_keeps_headline()
     ensures { (plan : TalkPlan) (input places : List ℕ) (listen : ListenPlan) → ListensToVideo plan input places listen
         → KeepsHeadline (pos 0) (journal plan input) listen (captured plan input places) (shown_of listen (captured plan input places)) }
@@ -89,8 +56,8 @@ pub fn talked_video_keeps_headline()
     headline_holds();
 }
 
-/// If the first packets that are captured of a plan of H.264 are all packets of one of its units, in their order, or
-/// the one packet that has it whole, and there is room for the unit, it must be presented, whatever comes after them.
+/// If the first captured packets of an H.264 plan are all packets of one of its units, in their order, or the one packet that
+/// has it whole, and there is room for the unit, it must be presented, whatever follows.
 pub fn talked_unit_is_welcome()
     ensures { (plan : TalkPlan) (input places : List ℕ) (listen : ListenPlan) (from n : ℕ) → ListensToVideo plan input (range_with_len from (n - from) ++ n ∷ places) listen → HasRoomForUnit plan input listen from n
         → (made : MadeItem) × IsWelcome (journal plan input) listen (captured plan input (range_with_len from (n - from) ++ n ∷ places)) 0 n made }

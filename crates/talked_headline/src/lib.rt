@@ -1,4 +1,4 @@
-//! What listeners promise of conforming talkers, said of the captures of plans that are talked.
+//! What listeners promise of conforming talkers, applied to the captures of a talker's plans.
 #![tactic(auto)]
 
 pub mod laws;

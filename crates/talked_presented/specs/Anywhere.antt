@@ -1,0 +1,35 @@
+-- Which copies of a talker's packets must be presented, wherever they are in a capture.
+use Rattle.std.specs.Prelude.{◌≡◌, ◌≢◌, ◌+◌, ◌*◌, ◌<◌, ◌≤◌, ℕ, nat_le, List, ◌∷◌, ◌++◌, length, filter, take, All, None}
+use Rattle.stream_journal.specs.Delivered.{Copy}
+use Rattle.stream_journal.specs.Known.{IsTimed}
+use Rattle.listener.specs.declared.plan.ListenPlan.{ListenPlan}
+use Rattle.talk_plan.specs.declared.plan.TalkPlan.{TalkPlan}
+use Rattle.talker.specs.Journal.{journal, stream_of}
+use Rattle.talked_headline.specs.Premises.{ListensTo}
+
+-- a copy of packet n that is captured when the packet is sent
+abbrev pub sent_copy : TalkPlan → List ℕ → ℕ → Copy
+sent_copy plan input n = record { number = n; arrival = (stream_of plan input).arrival n }
+
+-- the packets among these that are not yet due when packet n is sent
+abbrev pub waiting_at : TalkPlan → List ℕ → ℕ → List ℕ → List ℕ
+waiting_at plan input n packets = filter (λ (k : ℕ). nat_le ((stream_of plan input).arrival n) ((journal plan input).times.due k)) packets
+
+-- Packet n of a plan without a clock is captured after the packets `before`, and the packets `after` follow. It has a timestamp,
+-- or can be counted from one of those that came up to it and `look` more; and no packet before it was captured after it is due.
+pub record ComesInTime (plan : TalkPlan) (input : List ℕ) (listen : ListenPlan) (before : List ℕ) (n : ℕ) (after : List ℕ) : Type 0 where
+  pub talk : ListensTo plan input listen
+  pub alone : plan.crf ≡ None
+  pub without : listen.clock ≡ None
+  -- all are packets of the plan
+  pub sent : All (λ (k : ℕ). k < (journal plan input).times.packets) (before ++ n ∷ after)
+  pub timed : IsTimed (journal plan input).times listen.lead (listen.look + 16) (sent_copy plan input n) (take (length before + listen.look + 1) (before ++ n ∷ after))
+  pub in_time : All (λ (k : ℕ). (stream_of plan input).arrival k ≤ (journal plan input).times.due n) before
+
+-- The copy must be presented: it comes in time, it is the first of its packet, and the buffer has room for it and for all
+-- packets before it that are not yet due. No packet has more than 1,500 bytes.
+pub record MustBePresented (plan : TalkPlan) (input : List ℕ) (listen : ListenPlan) (before : List ℕ) (n : ℕ) (after : List ℕ) : Type 0 where
+  pub comes : ComesInTime plan input listen before n after
+  pub first : All (λ (k : ℕ). k ≢ n) before
+  pub some : length (waiting_at plan input n before) < listen.buffer
+  pub bytes : (length (waiting_at plan input n before) + 1) * 1500 ≤ listen.room

@@ -1,0 +1,18 @@
+-- Plans and captures that meet the premises.
+use Rattle.std.specs.Prelude.{ℕ, Bool, List, replicate, None}
+use Rattle.aaf_format.specs.declared.aaf.AafFormat.TheVariants.{Int16}
+use Rattle.talk_plan.specs.declared.plan.TalkKind.TheVariants.{Aaf, H264}
+use Rattle.talk_plan.specs.declared.plan.TalkPlan.{TalkPlan}
+use Rattle.talker.specs.Examples.{restarting}
+
+-- packets of 6 stereo sample frames of 16 bits at 48 kHz, sparse or not, without restarts
+abbrev pub plain : Bool → TalkPlan
+plain sparse = record restarting { kind = Aaf Int16 sparse; restart = None }
+
+-- 30 access units a second, each packet stamped, or only the last one of each unit
+abbrev pub thirty : Bool → TalkPlan
+thirty last_stamp = record restarting { kind = H264 last_stamp; rate = 30; restart = None }
+
+-- silence for three packets of the plain plan
+abbrev pub silence : List ℕ
+silence = replicate 72 0

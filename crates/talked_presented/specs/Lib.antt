@@ -1,0 +1,4 @@
+pub mod Whole
+pub mod Anywhere
+pub mod Fronts
+pub mod Examples

@@ -1,0 +1,121 @@
+//! What a listener presents of a talker's captures. Each call only states its contract, and does nothing.
+
+ghost use Rattle.std.specs.Prelude.{List, ℕ, ℤ, Bool, false, true, length, [], ◌≡◌, ◌≤◌, ◌∷◌, ◌++◌};
+ghost use Rattle.std.specs.List.{range_with_len};
+ghost use Rattle.pcap_frames.specs.Capture.{Record, whole_records};
+ghost use Rattle.packet_journal.specs.Packets.{PacketJournal};
+ghost use Rattle.listener.specs.declared.plan.ListenPlan.{ListenPlan};
+ghost use Rattle.listener.specs.Heard.{counts_of, shown_of};
+ghost use Rattle.listener.specs.Items.{MadeItem};
+ghost use Rattle.listener.specs.Laws.{HearsTalker, IsFurther, IsWelcome, by_clock};
+ghost use Rattle.talk_plan.specs.declared.plan.TalkPlan.{TalkPlan};
+ghost use Rattle.talk_plan.specs.Plan.{most_input};
+ghost use Rattle.talker.specs.Examples.{six_blocks};
+ghost use Rattle.talker.specs.Frames.{capture};
+ghost use Rattle.talker.specs.Journal.{journal};
+ghost use Rattle.talked_headline.specs.Premises.{captured};
+ghost use Rattle.talked_presented.specs.Anywhere.{ComesInTime, MustBePresented};
+ghost use Rattle.talked_presented.specs.Examples.{plain, silence, thirty};
+ghost use Rattle.talked_presented.specs.Fronts.{IsTrueFront};
+ghost use Rattle.talked_presented.specs.Whole.{ArePresented, HasDefaultLead, HearsAll, HearsUnits, IsDefaultVideo, default_listener, unit_ends};
+
+use listener::laws::{headline_holds, what_is_due_stays};
+use packet_journal::laws::carried_packet_is_delivered;
+use talked_headline::laws::talked_is_heard;
+use talker::laws::{capture_delivers, capture_reads_back, journal_conforms, losses_are_delivered};
+
+/// Everything is presented of a whole capture of an audio plan without a clock: each packet is presented once, in order, and
+/// nothing is flagged.
+pub fn whole_capture_is_presented()
+    ensures { (plan : TalkPlan) (input : List ℕ) (listen : ListenPlan) → HearsAll plan input listen
+        → ArePresented false (journal plan input) (range_with_len 0 (journal plan input).times.packets) (shown_of listen (whole_records (capture plan input))) }
+{
+    journal_conforms();
+    capture_delivers();
+    capture_reads_back();
+    carried_packet_is_delivered();
+}
+
+/// If the plan has the default lead of `talk`, a listener with the default options of `listen` presents everything, whatever the
+/// rate, the channels and the sample frames of a packet.
+pub fn defaults_present_all()
+    ensures hears { (plan : TalkPlan) (input : List ℕ) → HasDefaultLead plan input → HearsAll plan input (default_listener plan.id) }
+    ensures presented { (plan : TalkPlan) (input : List ℕ) → HasDefaultLead plan input
+        → ArePresented false (journal plan input) (range_with_len 0 (journal plan input).times.packets) (shown_of (default_listener plan.id) (whole_records (capture plan input))) }
+{
+    whole_capture_is_presented();
+}
+
+/// Everything is presented of a whole capture of an H.264 plan: each unit is presented once, in order, and nothing is flagged,
+/// whether each packet has a timestamp or only the last one of each unit.
+pub fn whole_video_is_presented()
+    ensures { (plan : TalkPlan) (input : List ℕ) (listen : ListenPlan) → HearsUnits plan input listen
+        → ArePresented (by_clock listen) (journal plan input) (unit_ends plan input) (shown_of listen (whole_records (capture plan input))) }
+{
+    journal_conforms();
+    capture_delivers();
+    capture_reads_back();
+    carried_packet_is_delivered();
+}
+
+/// If an H.264 plan has the default lead of `talk`, a listener with the default options of `listen` presents all its units.
+pub fn defaults_present_all_units()
+    ensures hears { (plan : TalkPlan) (input : List ℕ) → IsDefaultVideo plan input → HearsUnits plan input (default_listener plan.id) }
+    ensures presented { (plan : TalkPlan) (input : List ℕ) → IsDefaultVideo plan input
+        → ArePresented false (journal plan input) (unit_ends plan input) (shown_of (default_listener plan.id) (whole_records (capture plan input))) }
+{
+    whole_video_is_presented();
+}
+
+/// A captured copy of an audio packet must be presented, wherever it is in a capture and whatever the capture loses, repeats or
+/// reorders, if the packet has a timestamp or can be counted from one that came, no packet up to it was captured after it is due,
+/// it is the first copy, and the buffer has room for it.
+pub fn talked_copy_is_welcome()
+    ensures { (plan : TalkPlan) (input before after : List ℕ) (n : ℕ) (listen : ListenPlan) → MustBePresented plan input listen before n after
+        → (made : MadeItem) × IsWelcome (journal plan input) listen (captured plan input (before ++ n ∷ after)) (length before) n made }
+{
+    talked_is_heard();
+    journal_conforms();
+    capture_delivers();
+    losses_are_delivered();
+    carried_packet_is_delivered();
+}
+
+/// If the packet comes again, anywhere later in the capture, and no packet up to that copy was captured after it is due, the copy
+/// is a further one, and must be flagged as a repeat.
+pub fn talked_copy_is_further()
+    ensures { (plan : TalkPlan) (input before between after : List ℕ) (n : ℕ) (listen : ListenPlan) → MustBePresented plan input listen before n (between ++ n ∷ after) → ComesInTime plan input listen (before ++ n ∷ between) n after
+        → (made : MadeItem) × IsFurther (journal plan input) listen (captured plan input ((before ++ n ∷ between) ++ n ∷ after)) (length (before ++ n ∷ between)) n made }
+{
+    talked_is_heard();
+    talked_copy_is_welcome();
+    journal_conforms();
+    capture_delivers();
+    losses_are_delivered();
+    carried_packet_is_delivered();
+}
+
+/// If exactly these packets are shown, a listener's counts say so: as many are presented, and none is flagged.
+pub fn presented_are_counted()
+    ensures presented { (by : Bool) (p : PacketJournal) (packets : List ℕ) (plan : ListenPlan) (records : List Record) → ArePresented by p packets (shown_of plan records) → (counts_of plan records (shown_of plan records)).presented ≡ length packets }
+    ensures flagged { (by : Bool) (p : PacketJournal) (packets : List ℕ) (plan : ListenPlan) (records : List Record) → ArePresented by p packets (shown_of plan records) → (counts_of plan records (shown_of plan records)).flagged ≡ 0 }
+{}
+
+/// Plans of each kind have the default lead and can be timed whole, whatever they send. And if packets 0, 2, 1 and 1 of a plan
+/// are captured, in this order, the first copy of packet 1 must be presented.
+pub fn examples_are_so()
+    ensures dense { (input : List ℕ) → length input ≤ most_input → HasDefaultLead (plain false) input }
+    ensures sparse { (input : List ℕ) → length input ≤ most_input → HasDefaultLead (plain true) input }
+    ensures am824 { (input : List ℕ) → length input ≤ most_input → HasDefaultLead (six_blocks 48000) input }
+    ensures h264 { (input : List ℕ) (last_stamp : Bool) → length input ≤ most_input → IsDefaultVideo (thirty last_stamp) input }
+    ensures repeated { MustBePresented (plain false) silence (default_listener 0x0200000000010001) (0 ∷ 2 ∷ []) 1 (1 ∷ []) }
+{}
+
+/// If the first records of a capture are a talker's, what is due of them is true, whatever records follow: a capture that is cut
+/// short, or has records of others after them, is shown with this beginning.
+pub fn fronts_are_true()
+    ensures { (shift : ℤ) (p : PacketJournal) (plan : ListenPlan) (records others : List Record) → HearsTalker shift p plan records → IsTrueFront p plan records others }
+{
+    headline_holds();
+    what_is_due_stays();
+}

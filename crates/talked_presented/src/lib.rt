@@ -1,0 +1,4 @@
+//! Everything that a listener presents of a talker's captures.
+#![tactic(auto)]
+
+pub mod laws;
