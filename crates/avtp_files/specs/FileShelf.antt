@@ -1,5 +1,5 @@
 -- What a shelf of real files shows.
-use Rattle.std.specs.Prelude.{None, option_map}
+use Rattle.std.specs.Prelude.{ℕ, List, Option, None, option_and_then, option_map}
 use Rattle.avtp_files.specs.declared.file_shelf.RealFile.{RealFile}
 use Rattle.avtp_files.specs.declared.slots.Slots.{Slots}
 use Rattle.avtp_files.specs.Entries.{entry_at}
@@ -8,3 +8,7 @@ use Rattle.avtp_base.specs.Files as files
 -- the open files of a shelf of real files, by slot; neither their names nor their contents are shown
 abbrev pub real_slots : {F : Type 0} → Slots (RealFile F) → files.Slots
 real_slots live k = option_map (λ open_file. record { made = open_file.made; name = None; left = None }) (entry_at live.entries.items k)
+
+-- what is known of the file that is open in slot k, if one is: the bytes that it holds, or those that are left to read there
+abbrev pub known_at : {F : Type 0} → (F → Option (List ℕ)) → Slots (RealFile F) → ℕ → Option (List ℕ)
+known_at known live k = option_and_then (λ open_file. known open_file.file) (entry_at live.entries.items k)

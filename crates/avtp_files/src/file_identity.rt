@@ -7,14 +7,14 @@ use std::rt::Files;
 /// The path of standard output.
 pub const STANDARD_OUTPUT: &str = "/dev/stdout";
 
-/// A regular file, whatever it is called: the device on which it is, and its number there.
+/// A regular file, whatever its name: its device, and its number there.
 #[derive(Clone, Copy, Debug, PartialEq, Eq)]
 pub struct FileIdentity {
     device: u64,
     number: u64,
 }
 
-/// The regular file to which a path leads, through links. `None` if it leads to none, or to something else.
+/// The regular file that a path leads to, through links. `None` if it leads to none, or to something else.
 pub fn identity_of<R: Files>(files: &R, path: &str) -> Option<FileIdentity> {
     let metadata = fs::metadata(files, path).ok()?;
     if !metadata.is_file() {

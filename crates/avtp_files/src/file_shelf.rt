@@ -3,10 +3,12 @@
 ghost use Rattle.std.specs.Prelude.{◌≡◌, ◌<◌, ◌≤◌, ℕ, None, length, IsSome, IfSome};
 ghost use Rattle.std.proofs.Common.{rules};
 ghost use Rattle.avtp_files.specs.Entries.{entry_at};
-ghost use Rattle.avtp_files.specs.FileShelf.{real_slots};
+ghost use Rattle.avtp_files.specs.FileShelf.{known_at, real_slots};
 ghost use Rattle.avtp_files.specs.state.FileShelf.{real_state};
+ghost use Rattle.avtp_files.specs.state.Parts.{GivesPart, TakesPart};
 
 use crate::file_identity::{FileIdentity, STANDARD_OUTPUT, identity_of};
+use crate::part::write_part;
 use crate::shelf::{Shelf, Slot};
 use crate::slots::Slots;
 use avtp_base::{Failed, NoMemory, OpenFault};
@@ -24,8 +26,8 @@ pub struct RealFile<F> {
 
 /// Real files, by their paths. Contracts see nothing of their contents, and a missing file counts as a fault.
 ///
-/// A file that was opened for reading is never made anew, under whatever path, and neither is standard output if it is a file:
-/// `create_file` answers `Failed`, and the file is as it was.
+/// A file that was opened for reading is never made or emptied, under whatever path, and neither is standard output if it is a
+/// file: `create_file` returns `Failed`, and the file is unchanged.
 #[derive(Drop)]
 pub struct FileShelf<'a, R: Files> {
     rt: &'a R,
@@ -50,7 +52,7 @@ impl<'a, R: Files> FileShelf<'a, R> {
         }
     }
 
-    /// Keeps the file of a path that was opened for reading apart from what is written.
+    /// Remembers that the file at a path was opened for reading, so that it is not written.
     fn keep_input(&mut self, name: &str) -> Result<(), NoMemory>
         ensures live { self.new.live ≡ self.old.live }
         ensures reading { self.new.reading_faults ≡ self.old.reading_faults }
@@ -77,9 +79,16 @@ impl<'a, R: Files> FileShelf<'a, R> {
 }
 
 impl<R: Files> Shelf for FileShelf<'_, R> {
+    ghost use Rattle.std.specs.Io.KnownBytes.{ReadConsumes, WriteAppends};
+    ghost use Rattle.avtp_files.specs.FileShelf.{known_at};
+
     ghost state = { λ shelf. real_state (real_slots shelf.live) shelf.reading_faults shelf.writing_faults };
 
     ghost told = { λ shelf k files live. Prim.search rules };
+
+    ghost reads = { λ old new k buffer result. ReadConsumes (known_at R.File.remaining old.live k) (known_at R.File.remaining new.live k) result buffer };
+
+    ghost writes = { λ old new k piece result. WriteAppends (known_at R.File.contents old.live k) (known_at R.File.contents new.live k) result piece };
 
     fn open_file(&mut self, name: &str) -> Result<Slot, OpenFault> {
         let Ok(slot) = self.live.free_slot() else {
@@ -137,7 +146,7 @@ impl<R: Files> Shelf for FileShelf<'_, R> {
     }
 }
 
-// Reads from the file in a live slot. None if that failed.
+// Reads from the file in a live slot. `None` if that failed.
 fn read_open<F: Read + Drop>(
     live: &mut Slots<RealFile<F>>,
     slot: Slot,
@@ -145,6 +154,7 @@ fn read_open<F: Read + Drop>(
 ) -> Option<usize>
     requires { IsSome (entry_at live.old.entries.items slot.0) }
     ensures within { IfSome result (λ n. n ≤ length buf.new) }
+    ensures moved { GivesPart (known_at F.remaining live.old slot.0) (known_at F.remaining live.new slot.0) buf.new result }
     ensures same { (k : ℕ) → real_slots live.new k ≡ real_slots live.old k }
 {
     let mut open = live.take(slot)?;
@@ -153,7 +163,7 @@ fn read_open<F: Read + Drop>(
     moved
 }
 
-// Writes to the file in a live slot. None if that failed, or took nothing.
+// Writes to the file in a live slot. `None` if that failed, or took nothing.
 fn write_open<F: Write + Drop>(
     live: &mut Slots<RealFile<F>>,
     slot: Slot,
@@ -162,10 +172,11 @@ fn write_open<F: Write + Drop>(
     requires { IsSome (entry_at live.old.entries.items slot.0) }
     ensures some { IfSome result (λ n. 0 < n) }
     ensures within { IfSome result (λ n. n ≤ length piece.now) }
+    ensures taken { TakesPart (known_at F.contents live.old slot.0) (known_at F.contents live.new slot.0) piece.now result }
     ensures same { (k : ℕ) → real_slots live.new k ≡ real_slots live.old k }
 {
     let mut open = live.take(slot)?;
-    let taken = open.file.write(piece).ok();
+    let taken = write_part(&mut open.file, piece);
     live.set(slot, Some(open));
-    taken.filter(|taken| *taken > 0)
+    taken
 }

@@ -1,15 +1,17 @@
 //! A real file that is written from its start.
 
-ghost use Rattle.std.specs.Prelude.{◌≡◌, ◌≤◌, ◌<◌, None, length, IfSome};
+ghost use Rattle.std.specs.Prelude.{◌≡◌, ◌≤◌, ◌<◌, None, length, IfSome, option_and_then};
+ghost use Rattle.avtp_files.specs.state.Parts.{TakesPart};
 
 use crate::file_identity::{STANDARD_OUTPUT, identity_of};
+use crate::part::write_part;
 use crate::sink::Sink;
 use avtp_base::Failed;
 use std::fs;
-use std::io::Write;
 use std::rt::Files;
 
-/// A real file. Contracts see nothing of what it holds.
+/// A real file. Contracts see nothing of what it holds, but that a write adds to it just what it says, if the system tells what
+/// its files hold.
 ///
 /// A file that is kept apart is never made anew, under whatever path, and neither is standard output if it is a file: `write`
 /// answers `Failed`, and the file is as it was.
@@ -23,7 +25,8 @@ pub struct FileSink<R: Files> {
 }
 
 impl<R: Files> FileSink<R> {
-    /// The file with this path, kept apart from those with other paths. It is not made yet: the first `write` makes or empties it.
+    /// The file at this path, which must not be one of the files at the other paths. It is not made yet: the first `write`
+    /// makes or empties it.
     pub fn named(rt: R, name: String, apart: Vec<String>) -> Self
         ensures { result.faults ≡ 0 }
     {
@@ -36,7 +39,7 @@ impl<R: Files> FileSink<R> {
         }
     }
 
-    /// Whether the path leads to a file that is kept apart, or to standard output.
+    /// Whether the path leads to a file that must not be written, or to standard output.
     fn is_taken(&self) -> bool {
         let Some(identity) = identity_of(&self.rt, self.name.as_str()) else {
             return false;
@@ -49,11 +52,12 @@ impl<R: Files> FileSink<R> {
         identity_of(&self.rt, STANDARD_OUTPUT) == Some(identity)
     }
 
-    // Makes or empties the file if that was not done yet, and writes to it. None if that failed, or took nothing: if
-    // the file could not be made, the next write tries again.
+    // Makes or empties the file if that was not done yet, and writes to it. `None` if that failed, or took nothing. If the file
+    // could not be made, the next write tries again.
     fn write_some(&mut self, piece: &[u8]) -> Option<usize>
         ensures some { IfSome result (λ n. 0 < n) }
         ensures within { IfSome result (λ n. n ≤ length piece.now) }
+        ensures taken { TakesPart (option_and_then R.File.contents self.old.file) (option_and_then R.File.contents self.new.file) piece.now result }
         ensures faults { self.new.faults ≡ self.old.faults }
     {
         if self.file.is_none() {
@@ -63,13 +67,17 @@ impl<R: Files> FileSink<R> {
             self.file = fs::create(&self.rt, self.name.as_str()).ok();
         }
         let file = self.file.as_mut()?;
-        let taken = file.write(piece).ok()?;
-        if taken == 0 { None } else { Some(taken) }
+        write_part(file, piece)
     }
 }
 
 impl<R: Files> Sink for FileSink<R> {
+    ghost use Rattle.std.specs.Prelude.{option_and_then};
+    ghost use Rattle.std.specs.Io.KnownBytes.{WriteAppends};
+
     ghost state = { λ sink. record { held = None; faults = sink.faults } };
+
+    ghost writes = { λ old new piece result. WriteAppends (option_and_then R.File.contents old.file) (option_and_then R.File.contents new.file) result piece };
 
     fn write(&mut self, piece: &[u8]) -> Result<usize, Failed> {
         match self.write_some(piece) {

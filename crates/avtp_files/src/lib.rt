@@ -1,9 +1,10 @@
-//! Files by name and text that is written: the outside as two traits, over real files and over standard output.
+//! Files by name, and text that is written: the outside as two traits, over real files and standard output.
 #![tactic(auto)]
 
 mod file_identity;
 mod file_shelf;
 mod file_sink;
+mod part;
 mod shelf;
 mod sink;
 pub mod slots;

@@ -9,11 +9,11 @@ use avtp_base::{Failed, OpenFault};
 #[derive(Clone, Copy, Debug, PartialEq, Eq, Hash)]
 pub struct Slot(pub u32);
 
-/// Files by name, read and written in pieces through slots. A shelf counts the faults of reading (`open_file` and
-/// `read`) and of writing (`create_file` and `write`) apart; a call raises no count but its own.
+/// Files by name, read and written in pieces through slots. A shelf counts the faults of reading (`open_file` and `read`) and
+/// of writing (`create_file` and `write`) separately; a call raises only its own count.
 ///
-/// What each call does to every shelf is one relation. What more it does to one kind of shelf is a ghost member (`opens`
-/// to `closes`), which says nothing where the kind does not define it.
+/// What each call does to every shelf is one relation. A ghost member (`opens` to `closes`) adds what the call does to one kind
+/// of shelf; it says nothing if the kind does not define it.
 pub trait Shelf {
     ghost use Rattle.std.specs.Prelude.{ℕ, List, Result};
     ghost use Rattle.avtp_base.specs.declared.failed.Failed.{Failed};
@@ -30,7 +30,7 @@ pub trait Shelf {
 
     ghost makes: { Self → Self → List ℕ → Result Slot OpenFault → Type 0 } = { λ _ _ _ _. Unit {0} };
 
-    ghost reads: { Self → Self → ℕ → ℕ → Result ℕ Failed → Type 0 } = { λ _ _ _ _ _. Unit {0} };
+    ghost reads: { Self → Self → ℕ → List ℕ → Result ℕ Failed → Type 0 } = { λ _ _ _ _ _. Unit {0} };
 
     ghost writes: { Self → Self → ℕ → List ℕ → Result ℕ Failed → Type 0 } = { λ _ _ _ _ _. Unit {0} };
 
@@ -38,30 +38,30 @@ pub trait Shelf {
 
     /// Opens a file for reading, in a slot that was not live.
     ///
-    /// It answers `Missing` only if the shelf shows its files and none has the name. A shelf that does not show its
-    /// files answers `Failed` for a missing name. At `Failed` the reading count rose.
+    /// Returns `Missing` only if the shelf shows its files and none has the name. A shelf that does not show its files returns
+    /// `Failed` for a missing name. At `Failed` the reading count rose.
     fn open_file(&mut self, name: &str) -> Result<Slot, OpenFault>
         ensures does { OpensInSlot (state self.old) (state self.new) name.now result }
         ensures own { opens self.old self.new name.now result };
 
     /// Makes a file or empties it, for writing in a slot that was not live.
     ///
-    /// At `Failed` the writing count rose. It never answers `Missing`.
+    /// At `Failed` the writing count rose. Never returns `Missing`.
     fn create_file(&mut self, name: &str) -> Result<Slot, OpenFault>
         ensures does { MakesInSlot (state self.old) (state self.new) name.now result }
         ensures own { makes self.old self.new name.now result };
 
-    /// Moves bytes from the front of what is left into the buffer, at least one, and answers their number; 0 means
-    /// that nothing is left.
+    /// Moves bytes from the front of what is left into the buffer, at least one, and returns their number; 0 means that nothing
+    /// is left.
     ///
     /// At `Failed` the reading count rose, and nothing was moved.
     fn read(&mut self, slot: Slot, buf: &mut [u8]) -> Result<usize, Failed>
         requires live { IsSome ((state self.old).slots slot.0) }
         requires room { 0 < length buf.old }
         ensures does { ReadsBytes (state self.old) (state self.new) slot.0 result buf.new }
-        ensures own { reads self.old self.new slot.0 (length buf.old) result };
+        ensures own { reads self.old self.new slot.0 buf.new result };
 
-    /// Appends a prefix of the piece, of at least one byte, to the file of the slot, and answers its length.
+    /// Appends a prefix of the piece, at least one byte, to the file of the slot, and returns its length.
     ///
     /// At `Failed` the writing count rose, and nothing was appended.
     fn write(&mut self, slot: Slot, piece: &[u8]) -> Result<usize, Failed>
@@ -70,7 +70,7 @@ pub trait Shelf {
         ensures does { WritesBytes (state self.old) (state self.new) slot.0 piece.now result }
         ensures own { writes self.old self.new slot.0 piece.now result };
 
-    /// Ends the slot.
+    /// Frees the slot.
     fn close_file(&mut self, slot: Slot)
         requires { IsSome ((state self.old).slots slot.0) }
         ensures does { ClosesSlot (state self.old) (state self.new) slot.0 }

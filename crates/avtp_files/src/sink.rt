@@ -1,4 +1,4 @@
-//! Where text goes.
+//! Sinks, which take text.
 
 ghost use Rattle.std.specs.Prelude.{◌<◌, length};
 ghost use Rattle.avtp_files.specs.SinkCalls.{WritesPiece};
@@ -15,10 +15,10 @@ pub trait Sink {
     /// sink may stop showing its bytes, and then never shows them again.
     ghost state: { Self → SinkState };
 
-    /// What a write to this kind of sink does beside what it does to each.
+    /// What a write to this kind of sink does beyond what it does to every sink.
     ghost writes: { Self → Self → List ℕ → Result ℕ Failed → Type 0 } = { λ _ _ _ _. Unit {0} };
 
-    /// Appends a prefix of the piece, of at least one byte, and answers its length.
+    /// Appends a prefix of the piece, at least one byte, and returns its length.
     ///
     /// At `Failed` the count rose, and nothing was appended.
     fn write(&mut self, piece: &[u8]) -> Result<usize, Failed>

@@ -1,4 +1,4 @@
-//! What is open, by the number of its slot.
+//! Open files, by the numbers of their slots.
 
 ghost use Rattle.std.specs.Prelude.{◌≡◌, ◌^◌, ◌<◌, ◌≤◌, ℕ, None, [], vec_len, IfOk, option_copied};
 ghost use Rattle.avtp_files.specs.Entries.{entry_at, SetsEntry};

@@ -4,27 +4,33 @@ ghost use Rattle.std.specs.Prelude.{◌≡◌, None};
 
 use crate::sink::Sink;
 use avtp_base::Failed;
+use std::io::Write;
 
-/// Standard output. Contracts see nothing of what it holds.
+/// Standard output, or another writer of the system. Contracts see nothing of what it holds, but that a write adds to it
+/// just what it says, if the writer tells what it holds.
 #[derive(Drop)]
-pub struct StdSink<'a, R> {
-    rt: &'a R,
+pub struct StdSink<W> {
+    writer: W,
     faults: u64,
 }
 
-impl<'a, R: Print> StdSink<'a, R> {
-    pub fn new(rt: &'a R) -> Self
+impl<W: Write + Drop> StdSink<W> {
+    pub fn new(writer: W) -> Self
         ensures { result.faults ≡ 0 }
     {
-        StdSink { rt, faults: 0 }
+        StdSink { writer, faults: 0 }
     }
 }
 
-impl<R: Print> Sink for StdSink<'_, R> {
+impl<W: Write + Drop> Sink for StdSink<W> {
+    ghost use Rattle.std.specs.Io.KnownBytes.{WriteAppends};
+
     ghost state = { λ sink. record { held = None; faults = sink.faults } };
 
+    ghost writes = { λ old new piece result. WriteAppends (W.contents old.writer) (W.contents new.writer) result piece };
+
     fn write(&mut self, piece: &[u8]) -> Result<usize, Failed> {
-        match self.rt.write_some(piece) {
+        match self.writer.write(piece) {
             Ok(taken) if taken > 0 => Ok(taken),
             _ => {
                 self.faults = self.faults.saturating_add(1);
