@@ -13,17 +13,18 @@ use avtp_files::{FileShelf, StdSink};
 use avtp_tool::Status;
 pub use host::Host;
 pub use program::run_over;
+use std::io;
 use std::process::ExitCode;
 use std::thread::Threads;
 pub use system::System;
 
-/// Does what the arguments ask for, over real files and standard output, and answers the exit status.
+/// Does what the arguments ask for, over real files and standard output, and returns the exit status.
 pub fn run_program<T: Threads + Sync>(rt: &HostRuntime, threads: &T) -> ExitCode
     ensures { (ended : Status) × (exit_status result ≡ code_of ended) }
 {
     let alloc = rt.alloc();
     let mut shelf = FileShelf::new(alloc, rt);
-    let mut out = StdSink::new(rt);
+    let mut out = StdSink::new(io::writer(rt));
     let status = run_over(threads, alloc, &Host { rt: *rt }, &mut shelf, &mut out);
     ExitCode::from(status.code())
 }

@@ -15,7 +15,7 @@ use presenter_ring::NoGate;
 use std::alloc::Global;
 use std::thread::Threads;
 
-/// Does what the arguments ask for, over these files and this text, and answers how that ended.
+/// Does what the arguments ask for, over these files and this text, and returns the status.
 pub fn run_over<
     T: Threads + Sync,
     S: Sink + Drop + Send,
@@ -96,7 +96,7 @@ fn units_device<S: Sink + Drop, Y: System<S>>(
     Ok(AnnexBDevice::over(file))
 }
 
-/// The files of `listen` beside the one of this name: its captures, and what its other device writes.
+/// The files of `listen` other than the one with this name: its captures, and what its other device writes.
 fn other_files(alloc: Global, asked: &Listen<'_>, name: &str) -> Result<Vec<String>, NoMemory> {
     let mut others = Vec::new(alloc);
     for file in asked.files {

@@ -1,4 +1,4 @@
-//! What a program runs on.
+//! The system that a program runs on.
 
 ghost use Rattle.std.specs.Prelude.{◌≡◌, IfErr, IfOk, IfSome, IsSome};
 ghost use Rattle.avtp_words.specs.Word.{texts};
@@ -6,7 +6,7 @@ ghost use Rattle.avtp_words.specs.Word.{texts};
 use avtp_base::NoMemory;
 use avtp_tool::Status;
 
-/// What a program runs on: its arguments, and the files that its devices write.
+/// The system that a program runs on: its arguments, and the files that its devices write.
 pub trait System<S> {
     ghost use Rattle.std.specs.Prelude.{ℕ, List, Option};
 
@@ -18,12 +18,12 @@ pub trait System<S> {
 
     /// The arguments after the program's name.
     ///
-    /// A system that tells them fails for want of memory alone. Another one answers `Words` for arguments that are not text.
+    /// A system that tells them fails only if memory runs out. Another one returns `Words` for arguments that are not text.
     fn words(&self) -> Result<Vec<String>, Status>
         ensures said { IfOk result (λ words. IfSome (told self.now) (λ said. texts words.items ≡ said)) }
         ensures fault { IfErr result (λ status. IsSome (told self.now) → status ≡ Status.Memory) };
 
-    /// The file with this path, kept apart from those with other paths. It is made when it is first written to.
+    /// The file with this path, which must not be one of the files at the other paths. It is made when it is first written to.
     fn file(&self, name: &str, apart: Vec<String>) -> Result<S, NoMemory>
         ensures { IsSome (told self.now) → IfOk result (λ file. path self.now file ≡ name.now) };
 }

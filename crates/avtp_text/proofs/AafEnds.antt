@@ -35,13 +35,13 @@ ends v = rw (start_then v (spelled (end_of v))) (simp append_assoc)
 pub is_end : (e : AafEnd) → IsEnd e (spelled e)
 is_end e v same = subst (λ (k : AafEnd). aaf_content v ++ newline ≡ aaf_start v ++ spelled k) same (ends v)
 
--- what stands behind a start is the line's last bytes
+-- what is after a start is the line's last bytes
 pub last_of : (start text : List ℕ) (len : ℕ) → len ≡ length text → drop (length (start ++ text) - len) (start ++ text) ≡ text
 last_of start text len whole =
     let seam : length (start ++ text) - len ≡ length start = omega (arith, whole, length-append start text) in
     rw seam (drop-append_seam start text)
 
--- ends with the same fields are the same
+-- ends with equal fields are equal
 pub same : (a b : AafEnd) → a.tv ≡ b.tv → a.tu ≡ b.tu → a.mr ≡ b.mr → a.sparse ≡ b.sparse → a.evt ≡ b.evt → a.format ≡ b.format → a.nsr ≡ b.nsr
     → a.channels ≡ b.channels → a.depth ≡ b.depth → a.count ≡ b.count → a.data_length ≡ b.data_length → a ≡ b
 same a b tv tu mr sparse evt format nsr channels depth count bytes = λ i. record {

@@ -39,7 +39,7 @@ last_eight n lo hi =
     decimal_four n (omega arith) hi ∙ ap (λ front. front ++ four_digits (n % 10000)) (decimal_four (n / 10000) (omega arith) (omega arith))
     ∙ append_assoc (decimal (n / 10000 / 10000)) (four_digits (n / 10000 % 10000)) (four_digits (n % 10000)) ∙ rw (high, middle, low) refl
 
--- the same of a number that is put together
+-- a number put together from a number and its last eight digits has the digits of both
 pub with_eight : (high low : ℕ) → 1 ≤ high → low < 100000000 → high * 100000000 + low < 2 ^ 64 → decimal (high * 100000000 + low) ≡ decimal high ++ eight_digits low
 with_eight high low some small fits =
     let quotient : (high * 100000000 + low) / 100000000 ≡ high = omega (arith, small) in

@@ -1,4 +1,4 @@
--- What is written into the gaps of a sample's line, with which a text ends.
+-- What is written into the gaps of a sample's line at the end of a text.
 use Rattle.std.proofs.Common.{◌≡◌, ℕ, ◌+◌, ◌*◌, ◌^◌, ◌<◌, ◌≤◌, ℤ, pos, List, ◌++◌, length, codes, decimal, refl, sym, ap, ◌∙◌, arith, append_assoc, length-append}
 use Rattle.std.specs.Fmt.{signed_decimal}
 use Rattle.avtp_text.specs.Listen.{due_text, place_text}

@@ -1,4 +1,4 @@
--- Bytes on their way from what waits to what a sink holds.
+-- Bytes that move from the waiting text to a sink.
 use Rattle.std.proofs.Common.{◌≡◌, ℕ, ◌+◌, ◌-◌, List, length, take, drop, Option, sym, arith, subst, length-drop, take-append-drop}
 use Rattle.std.proofs.lemmas.List.{take_all}
 use Rattle.std.proofs.Math.Seq.{take-add}
@@ -17,7 +17,7 @@ taken_more a b c bytes taken n first second =
     let rest : take (length bytes - taken) (drop taken bytes) ≡ drop taken bytes = take_all (length bytes - taken) (drop taken bytes) (simp length-drop (omega arith)) in
     rw (take-add taken n bytes) (Appends-trans a b c (take taken bytes) (take n (drop taken bytes)) first (subst (λ (l : List ℕ). Appends b c (take n l)) rest second))
 
--- what a sink took is no longer what waits, and nothing else changed
+-- what a sink took no longer waits, and nothing else changed
 pub written_moved : (old new : Option (List ℕ)) (bytes : List ℕ) (taken : ℕ)
     → Appends old new (take taken bytes)
     → Keeps (written old bytes) (written new (drop taken bytes))

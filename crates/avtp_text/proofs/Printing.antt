@@ -16,7 +16,7 @@ use Rattle.avtp_text.proofs.Growth.{grows_further, grows_none}
 pub prefix_none : (before now : Option (List ℕ)) (text : List ℕ) → Keeps before now → AppendsPrefix before now text
 prefix_none before now text keeps = record { prefix = []; rest = text; split = refl; appends = Appends-kept before before now [] (Appends-nil before) keeps }
 
--- a first text was written, and of a second a prefix
+-- a first text was written whole, and a prefix of a second
 pub prefix_after : (before mid now : Option (List ℕ)) (a b : List ℕ) → Appends before mid a → AppendsPrefix mid now b → AppendsPrefix before now (a ++ b)
 prefix_after before mid now a b first second = record {
   prefix = a ++ second.prefix;
@@ -25,7 +25,7 @@ prefix_after before mid now a b first second = record {
   appends = Appends-trans before mid now a second.prefix first second.appends;
 }
 
--- of a first text a prefix was written
+-- a prefix of the first text was written
 pub prefix_before : (before now : Option (List ℕ)) (a b : List ℕ) → AppendsPrefix before now a → AppendsPrefix before now (a ++ b)
 prefix_before before now a b first = record {
   prefix = first.prefix;
@@ -34,7 +34,7 @@ prefix_before before now a b first = record {
   appends = first.appends;
 }
 
--- all of it was written
+-- all of the text was written
 pub prefix_whole : (before now : Option (List ℕ)) (a : List ℕ) → Appends before now a → AppendsPrefix before now a
 prefix_whole before now a appends = record { prefix = a; rest = []; split = sym (append-nil a); appends = appends }
 
@@ -45,7 +45,7 @@ pub part_of : {s t : SinkState} {w w' : List ℕ} {result : Result Unit Failed} 
 part_of {result = Ok ok} prints = record { written = prints.written; grows = prints.grows; counted = prints.counted }
 part_of {result = Err e} prints = record { written = prefix_none _ _ _ prints.written; grows = prints.grows; counted = prints.counted }
 
--- the same text in other words
+-- a text that equals a printed one was printed
 pub part_as : {s t : SinkState} {w w' : List ℕ} {result : Result Unit Failed} (a b : List ℕ) → a ≡ b → PrintsPart s t w w' result a → PrintsPart s t w w' result b
 part_as a b same prints = subst (PrintsPart _ _ _ _ _) same prints
 

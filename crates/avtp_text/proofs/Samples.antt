@@ -42,7 +42,7 @@ lines_failed line n j lt err first next =
     ap (flat_map line) (numbers n j lt) ∙ flat_map-append line (range_with_len 0 j) (j ∷ range_with_len (j + 1) (n - j - 1)) in
     part_as _ _ (sym split) (part_then _ _ first (part_failed (line j) _ err next))
 
--- the same of a list
+-- the lines of a list were printed
 
 take_more : {X : Type 0} (xs : List X) (i : ℕ) (d : X) → i < length xs → take (i + 1) xs ≡ take i xs ++ get_or xs i d ∷ []
 take_more [] i d lt = absurd (omega (arith, lt))

@@ -7,4 +7,6 @@ pub mod Check
 pub mod Listen
 pub mod Talk
 pub mod Soak
+pub mod Agree
+pub mod Gateway
 pub mod state

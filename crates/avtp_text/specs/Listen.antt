@@ -24,7 +24,7 @@ sample_bytes batch j = take (length batch.bytes / batch.count) (drop (j * (lengt
 unfoldable pub due_text : ℤ → ℕ → List ℕ
 due_text instant frame = codes "at " ++ signed_decimal instant ++ codes " frame " ++ decimal frame
 
--- how the line of a sample goes on: its packet's sequence number, and its number in the packet
+-- how the line of a sample continues: its packet's sequence number, and its number in the packet
 unfoldable pub place_text : ℕ → ℕ → List ℕ
 place_text seq j = codes " seq " ++ decimal seq ++ codes " sample " ++ decimal j ++ codes " "
 
@@ -37,7 +37,7 @@ sample_line batch j =
 abbrev pub batch_lines : Presented → List ℕ
 batch_lines batch = flat_map (sample_line batch) (range_with_len 0 batch.count)
 
--- how the reason of a flag is named
+-- the name of a reason for a flag
 abbrev pub reason_text : Reason → List ℕ
 reason_text (Malformed field) = codes "malformed " ++ name_of field
 reason_text Uncertain = codes "uncertain"

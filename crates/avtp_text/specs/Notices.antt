@@ -11,11 +11,11 @@ capture_refused_line r = codes "capture refused: " ++ refusal_text r ++ newline
 unfoldable pub read_fault_line : List ℕ
 read_fault_line = codes "read fault" ++ newline
 
--- the line of a device that failed to take what it was handed
+-- the line of a device that failed to take an item
 unfoldable pub device_fault_line : List ℕ
 device_fault_line = codes "device fault" ++ newline
 
--- the line of a capture with more bytes than may be read, which are this many
+-- the line of a capture that has more bytes than this limit
 unfoldable pub limit_line : ℕ → List ℕ
 limit_line bytes = codes "limit " ++ decimal bytes ++ newline
 

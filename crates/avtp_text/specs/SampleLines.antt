@@ -1,4 +1,4 @@
--- The line of a sample, from which those of the next ones are made.
+-- The line of a sample, which is reused for the next samples.
 use Rattle.std.specs.Prelude.{ℕ}
 
 -- the packet whose samples a line is for: its frame, its sequence number, and the bytes of a sample

@@ -26,26 +26,26 @@ frame_line number arrival content = frame_start number arrival ++ content ++ new
 unfoldable pub end_frames_line : ℕ → List ℕ
 end_frames_line frames = codes "end frames " ++ decimal frames ++ newline
 
--- how a frame or a packet is shown that cannot be accepted; the offset is in the frame
+-- the text of a frame or a packet that is refused; the offset is in the frame
 unfoldable pub refused_content : Refusal → List ℕ
 refused_content r = codes "refused " ++ refusal_text r
 
--- how a frame of an EtherType other than that of AVTP is shown: with the length of its payload
+-- the text of a frame whose EtherType is not AVTP's, with the length of its payload
 unfoldable pub ethertype_content : Frame → List ℕ
 ethertype_content f = codes "ethertype " ++ decimal f.ethertype ++ codes " bytes " ++ decimal (length f.payload)
 
--- how a packet of an AVTP subtype that is not read is shown
+-- the text of a packet whose AVTP subtype is not read
 unfoldable pub other_content : ℕ → List ℕ
 other_content subtype = codes "other " ++ decimal subtype
 
--- how a sample format of AAF is named
+-- the name of a sample format of AAF
 abbrev pub format_text : AafFormat → List ℕ
 format_text Float32 = codes "float32"
 format_text Int32 = codes "int32"
 format_text Int24 = codes "int24"
 format_text Int16 = codes "int16"
 
--- how the stream header is shown that AAF, IEC 61883 and CVF packets begin with
+-- the text of the stream header of AAF, IEC 61883 and CVF packets
 unfoldable pub header_text : StreamHeader → List ℕ
 header_text h =
     codes "id " ++ id_text h.stream_id
@@ -55,7 +55,7 @@ header_text h =
     ++ codes " tu " ++ flag_text h.tu
     ++ codes " mr " ++ flag_text h.mr
 
--- how an AAF packet is shown; a rate that only the user knows is 0
+-- the text of an AAF packet; the rate is 0 if only the user knows it
 unfoldable pub aaf_content : Aaf → List ℕ
 aaf_content v =
     codes "aaf " ++ header_text v.header
@@ -68,7 +68,7 @@ aaf_content v =
     ++ codes " count " ++ decimal v.count
     ++ codes " bytes " ++ decimal v.header.data_length
 
--- how an IEC 61883-6 packet is shown
+-- the text of an IEC 61883-6 packet
 unfoldable pub iec_content : Iec → List ℕ
 iec_content v =
     codes "iec " ++ header_text v.header
@@ -78,7 +78,7 @@ iec_content v =
     ++ codes " count " ++ decimal v.count
     ++ codes " bytes " ++ decimal v.header.data_length
 
--- how the part of a NAL unit that a packet carries is named
+-- the name of the part of a NAL unit that a packet carries
 abbrev pub part_text : NalPart → List ℕ
 part_text Single = codes "single"
 part_text First = codes "first"
@@ -89,7 +89,7 @@ part_text Last = codes "last"
 abbrev pub nal_type : ℕ → ℕ
 nal_type nal = nal % 32
 
--- how an H.264 packet is shown
+-- the text of an H.264 packet
 unfoldable pub h264_content : Cvf → List ℕ
 h264_content v =
     codes "h264 " ++ header_text v.header
@@ -100,7 +100,7 @@ h264_content v =
     ++ codes " part " ++ part_text v.part
     ++ codes " bytes " ++ decimal v.header.data_length
 
--- how a CRF packet is shown: with the number of its timestamps and the first of them
+-- the text of a CRF packet, with the number of its timestamps and the first of them
 unfoldable pub crf_content : Crf → List ℕ
 crf_content v =
     codes "crf id " ++ id_text v.stream_id

@@ -4,7 +4,7 @@ use Rattle.talk_plan.specs.declared.fault.TalkFault.{TalkFault}
 use Rattle.talk_plan.specs.declared.fault.TalkFault.TheVariants.{Frames, StartCode, NalType, Packets, Arrival, Memory}
 use Rattle.avtp_text.specs.Pieces.{newline}
 
--- how a fault of the input is named
+-- the name of a fault of the input
 abbrev pub fault_text : TalkFault → List ℕ
 fault_text Frames = codes "frames"
 fault_text StartCode = codes "start_code"

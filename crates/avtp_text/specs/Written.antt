@@ -1,11 +1,11 @@
--- A sink and the text that waits for it, and what a call that prints does to them.
+-- A sink, the text that waits for it, and what a call that prints does to both.
 use Rattle.std.specs.Prelude.{◌≡◌, List, ◌++◌, ℕ, Option, Result, MatchResult}
 use Rattle.avtp_base.specs.Told.{append_known, Appends, Keeps}
 use Rattle.avtp_base.specs.declared.failed.Failed.{Failed}
 use Rattle.avtp_base.specs.Faults.{IsCounted}
 use Rattle.avtp_base.specs.States.{SinkState}
 
--- all that was written so far: what the sink holds, if it tells that, and then what waits
+-- all that was written so far: what the sink holds, if the sink can tell, and then what waits
 abbrev pub written : Option (List ℕ) → List ℕ → Option (List ℕ)
 written held waiting = append_known held waiting
 
@@ -29,15 +29,14 @@ pub record Grows (before now : Option (List ℕ)) : Type 0 where
   pub more : List ℕ
   pub appends : Appends before now more
 
--- A call printed this text: all of it was written, or if the sink failed nothing. What the sink held stays, and a
--- failure is the sink's.
+-- A call printed this text whole, or nothing if the sink failed. What the sink held stays, and every failure is the sink's.
 pub record Prints (before after : SinkState) (waits waits' : List ℕ) (result : Result Unit Failed) (text : List ℕ) : Type 0 where
   pub written : Writes (written before.held waits) (written after.held waits') result text
   pub grows : Grows before.held after.held
   pub counted : IsCounted before.faults after.faults result
 
--- A call printed this text, which may be long: all of it was written, or if the sink failed a prefix. What the sink
--- held stays, and a failure is the sink's.
+-- A call printed this text, which may be long: whole, or a prefix of it if the sink failed. What the sink held stays, and every
+-- failure is the sink's.
 pub record PrintsPart (before after : SinkState) (waits waits' : List ℕ) (result : Result Unit Failed) (text : List ℕ) : Type 0 where
   pub written : WritesPrefix (written before.held waits) (written after.held waits') result text
   pub grows : Grows before.held after.held

@@ -1,4 +1,4 @@
-//! The line of an AAF packet, whose end stays for that of the next one.
+//! The line of an AAF packet, whose end is reused for the next packet.
 
 ghost use Rattle.std.specs.Prelude.{◌≡◌, ◌+◌, ◌-◌, ◌≤◌, ◌++◌, length, drop};
 ghost use Rattle.aaf_format.specs.Aaf.{aaf_shape};
@@ -11,7 +11,7 @@ use crate::pairs::write_hex;
 use crate::show::{format_name, prepend_frame};
 use aaf_format::{AafFormat, AafView, rate_of};
 
-/// No end of a line has more bytes.
+/// The most bytes that the end of a line has.
 const LONGEST_END: usize = 138;
 
 /// What the line of an AAF packet shows after its timestamp. It seldom differs from packet to packet.
@@ -51,7 +51,7 @@ impl AafEnd {
     }
 }
 
-/// Puts before the newline the end of a line.
+/// Puts the end of a line before the newline.
 fn prepend_end(line: &mut Line, end: &AafEnd)
     requires { line.old ≡ newline }
     ensures text { IsEnd end.now line.new }
@@ -89,7 +89,7 @@ impl IdText {
         IdText { id, digits }
     }
 
-    /// Makes it that of this id.
+    /// Makes this the text of another id.
     #[inline(always)]
     fn set(&mut self, id: u64)
         ensures { self.new.id ≡ id }
@@ -100,7 +100,7 @@ impl IdText {
     }
 }
 
-/// Puts before the end of a line what differs from packet to packet.
+/// Puts the part that differs from packet to packet before the end of a line.
 #[inline(always)]
 fn prepend_start(line: &mut Line, id: &IdText, view: &AafView<'_>)
     requires id { id.now.id ≡ view.now.header.stream_id }
@@ -115,8 +115,8 @@ fn prepend_start(line: &mut Line, id: &IdText, view: &AafView<'_>)
     line.prepend("aaf ");
 }
 
-/// The line of an AAF packet. Its end is kept for the next packet, which mostly has it too: then only what comes before
-/// the end is written. If the next packet is of this stream too, the text of the stream's id is copied.
+/// The line of an AAF packet. Its end is kept, because the next packet usually has the same end: then only the part before the
+/// end is written. If the next packet is of the same stream, too, the text of the stream id is copied.
 #[derive(Drop)]
 pub struct AafLine {
     line: Line,
@@ -130,7 +130,7 @@ pub struct AafLine {
 }
 
 impl AafLine {
-    /// A line of no packet yet, with an end.
+    /// A line with an end, and no packet yet.
     pub fn new() -> Self {
         let end = AafEnd {
             tv: false,
@@ -177,7 +177,7 @@ impl AafLine {
         self.end = end;
     }
 
-    /// Leaves nothing of the line but this end.
+    /// Keeps only this end of the line.
     #[inline(always)]
     fn leave_end(&mut self, end: AafEnd)
         ensures text { IsEnd end self.new.line }
@@ -191,7 +191,7 @@ impl AafLine {
         }
     }
 
-    /// Makes it the line of a packet.
+    /// Makes this the line of a packet.
     #[inline(always)]
     pub fn write(&mut self, number: u64, arrival: i64, view: &AafView<'_>)
         ensures { self.new.line ≡ frame_line number arrival (aaf_content (aaf_shape view.now)) }

@@ -19,12 +19,12 @@ use std::marker::Model;
 /// The most bytes that a [`Text`] holds, and the longest piece that it takes.
 pub const ROOM: usize = Buffer::ROOM;
 
-/// Text that waits to be written to a sink, which contracts see as the list of its bytes: at most 65,536, for which
-/// the memory is reserved once.
+/// Text that waits to be written to a sink. Contracts see it as the list of its bytes: at most 65,536, for which the memory is
+/// reserved once.
 ///
-/// Each call that may write is given the sink. What the sink holds and then what waits is all that was written so far:
-/// a call adds its whole line to that, or if the sink fails nothing. No text is lost or written twice, so after a
-/// failure the call may be made again.
+/// Each call that may write takes the sink. All that was written so far is what the sink holds and then what waits. A call adds
+/// its whole line to that, or nothing if the sink fails. No text is lost or written twice, so after a failure the call may be
+/// repeated.
 #[derive(Drop)]
 pub struct Text {
     pub(crate) buffer: Buffer,
@@ -40,7 +40,7 @@ impl Model for Text {
     ghost view = { λ text. text.buffer };
 }
 
-/// Writes the bytes to the sink until it has taken all or fails, and answers how many it took.
+/// Writes the bytes to the sink until it has taken all or fails, and returns how many it took.
 #[tactic(auto, using(crate::proofs::Moved::taken_none, crate::proofs::Moved::taken_more))]
 fn write_out<S: Sink>(out: &mut S, bytes: &[u8]) -> usize
     ensures within { result ≤ length bytes.now }
@@ -94,7 +94,7 @@ pub(crate) fn make_room<S: Sink>(buffer: &mut Buffer, out: &mut S, len: usize) -
 }
 
 impl Text {
-    /// No text yet. Reserves all the memory that text will take.
+    /// No text yet. Reserves all the memory that text will need.
     pub fn new(alloc: Global) -> Result<Self, NoMemory>
         ensures { IfOk result (λ text. text ≡ []) }
     {

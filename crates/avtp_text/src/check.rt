@@ -16,7 +16,7 @@ const FINDING: usize = 80;
 /// Room for the five findings that a packet may have.
 const FINDINGS: usize = 5 * FINDING;
 
-/// Puts before the line which frame it is about.
+/// Puts the frame that a line is about before it.
 #[tactic(auto, unfolding(crate::specs::Check::finding_start))]
 fn prepend_finding(line: &mut Line, number: u64)
     requires { 35 + length line.old ≤ LONGEST }
@@ -27,7 +27,7 @@ fn prepend_finding(line: &mut Line, number: u64)
     line.prepend_u64("finding frame ", number);
 }
 
-/// Puts before the line which packet it is about.
+/// Puts the packet that a line is about before it.
 #[tactic(auto, unfolding(crate::specs::Check::packet_start))]
 fn prepend_packet(line: &mut Line, number: u64, id: u64)
     requires { 55 + length line.old ≤ LONGEST }
@@ -82,7 +82,7 @@ impl Text {
         self.push_found(number, id, findings.stamp, "stamp");
     }
 
-    /// Says what is found in a packet of the stream with this id, on a line for each finding.
+    /// Prints the findings in a packet of the stream with this id, one a line.
     pub fn findings<S: Sink>(
         &mut self,
         out: &mut S,
@@ -97,7 +97,7 @@ impl Text {
         Ok(())
     }
 
-    /// Says that a frame or its packet is malformed at a field, whose offset is in the frame.
+    /// Prints that a frame or its packet is malformed at a field. The offset is in the frame.
     #[tactic(auto, unfolding(crate::specs::Check::malformed_line))]
     pub fn finding_malformed<S: Sink>(
         &mut self,
@@ -114,8 +114,7 @@ impl Text {
         self.print(out, line.as_slice())
     }
 
-    /// Says that a capture ended after `frames` records, how many streams of it are tracked, and how many findings it
-    /// has.
+    /// Prints that a capture ended after `frames` records, how many of its streams are tracked, and how many findings it has.
     #[tactic(auto, unfolding(crate::specs::Check::end_check_line))]
     pub fn end_check<S: Sink>(
         &mut self,

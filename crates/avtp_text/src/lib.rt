@@ -1,9 +1,11 @@
-//! What `avtp` prints: the exact lines, and the one bounded buffer through which they go.
+//! What `avtp` prints: the exact lines, and the one bounded buffer that they go through.
 #![tactic(auto)]
 
 mod aaf_line;
+mod agree;
 mod buffer;
 mod check;
+mod gateway;
 mod line;
 mod listen;
 mod notices;
@@ -14,4 +16,5 @@ mod show;
 mod soak;
 mod talk;
 
+pub use agree::PacketPair;
 pub use buffer::{ROOM, Text};

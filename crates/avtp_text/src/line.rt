@@ -1,4 +1,4 @@
-//! One line of text while it is put together.
+//! One line of text while it is built.
 
 ghost use Rattle.std.specs.Prelude.{◌≡◌, ◌+◌, ◌-◌, ◌*◌, ◌<◌, ◌≤◌, [], ◌++◌, length, drop, decimal};
 ghost use Rattle.std.specs.Fmt.{signed_decimal};
@@ -12,8 +12,8 @@ use std::marker::Model;
 /// The room of a line, in bytes.
 pub const LONGEST: usize = 256;
 
-/// A line of bounded length, which contracts see as the list of its bytes. Its pieces are put one before the other
-/// from the last to the first, since a number's digits are found in that order.
+/// A line of bounded length. Contracts see it as the list of its bytes. It is built from its end, because the digits of a
+/// number are found from the last to the first.
 #[derive(Drop)]
 pub struct Line {
     scratch: [u8; LONGEST],
@@ -31,7 +31,7 @@ impl Model for Line {
 }
 
 impl Line {
-    /// Its newline alone.
+    /// A line that is only a newline.
     #[inline(always)]
     pub fn new() -> Self
         ensures { result ≡ newline }
@@ -44,7 +44,7 @@ impl Line {
         }
     }
 
-    /// Nothing yet, not even a newline.
+    /// An empty line, without a newline.
     #[inline(always)]
     pub fn blank() -> Self
         ensures { result ≡ [] }
@@ -55,7 +55,7 @@ impl Line {
         }
     }
 
-    /// Begins anew, with the newline alone.
+    /// Clears the line down to the newline.
     #[inline(always)]
     pub fn restart(&mut self)
         ensures { self.new ≡ newline }
@@ -102,7 +102,7 @@ impl Line {
         self.start = start;
     }
 
-    /// Puts a text before the line. It is written fastest if the compiler knows it, as a label.
+    /// Puts a text before the line. This is fastest for a text that the compiler knows, such as a label.
     #[inline(always)]
     pub fn prepend(&mut self, piece: &str)
         requires { length piece.now + length self.old ≤ LONGEST }

@@ -17,10 +17,10 @@ use avtp_files::Sink;
 use listener::Counts;
 use sample_schedule::{Batch, Instant, Reason, Shown};
 
-/// The bytes that are printed at a time of a longer sample.
+/// A longer sample is printed in pieces of this many bytes.
 const PIECE: usize = 2_048;
 
-/// Puts before the line when a sample is due, and the frame that it came in.
+/// Puts the due time of a sample, and the frame that it came in, before the line.
 #[tactic(auto, unfolding(crate::specs::Listen::due_text))]
 #[inline(always)]
 fn prepend_due(line: &mut Line, instant: i64, frame: u64)
@@ -76,7 +76,7 @@ fn print_sample<S: Sink>(
     Ok(())
 }
 
-/// Adds a sample of a batch to a buffer, by the line of the batch's packet.
+/// Adds the line of a sample of a batch to a buffer. `line` is for the batch's packet.
 #[inline(always)]
 fn short_sample<S: Sink>(
     buffer: &mut Buffer,
@@ -98,7 +98,7 @@ fn short_sample<S: Sink>(
     print_sample(buffer, line, out, instant.nanoseconds, instant.j, bytes)
 }
 
-/// Adds the samples of a batch to a buffer, each of which has so few bytes that its line fits a [`Line`].
+/// Adds the lines of a batch to a buffer. Its samples are short enough that each line fits a [`Line`].
 fn short_samples<S: Sink>(
     buffer: &mut Buffer,
     line: &mut SampleLine,
@@ -129,7 +129,7 @@ fn short_samples<S: Sink>(
 }
 
 impl Text {
-    /// Adds a text of any length. If the sink fails, a front of it was added.
+    /// Adds a text of any length. If the sink fails, a prefix of the text was added.
     #[tactic(auto, using(crate::proofs::Printing::part_of))]
     fn print_all<S: Sink>(&mut self, out: &mut S, text: &[u8]) -> Result<(), Failed>
         ensures { PrintsPart (S.state out.old) (S.state out.new) self.old self.new result text.now }
@@ -166,7 +166,7 @@ impl Text {
         self.print(out, digits)
     }
 
-    /// Says which capture was opened.
+    /// Prints which capture was opened.
     #[tactic(auto, unfolding(crate::specs::Listen::capture_line))]
     pub fn capture<S: Sink>(&mut self, out: &mut S, name: &str) -> Result<(), Failed>
         ensures { PrintsPart (S.state out.old) (S.state out.new) self.old self.new result (capture_line name.now) }
@@ -176,7 +176,7 @@ impl Text {
         self.print(out, b"\n")
     }
 
-    /// Says that an item is not presented, and why.
+    /// Prints that an item is not presented, and why.
     #[tactic(auto, unfolding(crate::specs::Listen::flag_line))]
     pub fn flag<S: Sink>(
         &mut self,
@@ -195,7 +195,7 @@ impl Text {
         self.print(out, line.as_slice())
     }
 
-    /// Prints sample `j` of a batch, whose bytes these are.
+    /// Prints sample `j` of a batch. `bytes` are its bytes.
     fn sample<S: Sink>(
         &mut self,
         out: &mut S,
@@ -260,7 +260,7 @@ impl Text {
         }
     }
 
-    /// Prints what a schedule shows: the samples that are presented, and why an item is not.
+    /// Prints an item that a schedule shows: the samples of a batch, or the reason of a flag.
     pub fn shown<S: Sink>(&mut self, out: &mut S, shown: &Shown) -> Result<(), Failed>
         ensures { PrintsPart (S.state out.old) (S.state out.new) self.old self.new result (shown_lines shown.now) }
     {
@@ -270,7 +270,7 @@ impl Text {
         }
     }
 
-    /// Prints all that a schedule shows, in its order.
+    /// Prints all items that a schedule shows, in their order.
     pub fn shown_list<S: Sink>(&mut self, out: &mut S, list: &[Shown]) -> Result<(), Failed>
         ensures { PrintsPart (S.state out.old) (S.state out.new) self.old self.new result (list_lines list.now) }
     {
@@ -280,7 +280,7 @@ impl Text {
         Ok(())
     }
 
-    /// Says that a capture ended, and what it held of the stream.
+    /// Prints that a capture ended, and what it held of the stream.
     #[tactic(auto, unfolding(crate::specs::Listen::end_listen_line))]
     pub fn end_listen<S: Sink>(&mut self, out: &mut S, counts: &Counts) -> Result<(), Failed>
         ensures { Prints (S.state out.old) (S.state out.new) self.old self.new result (end_listen_line counts.now) }

@@ -9,7 +9,7 @@ use avtp_base::{Failed, Refusal};
 use avtp_files::Sink;
 
 impl Text {
-    /// Says that a capture was refused at a field, whose offset is in the file.
+    /// Prints that a capture was refused at a field. The offset is in the file.
     #[tactic(auto, unfolding(crate::specs::Notices::capture_refused_line))]
     pub fn capture_refused<S: Sink>(&mut self, out: &mut S, refusal: Refusal) -> Result<(), Failed>
         ensures { Prints (S.state out.old) (S.state out.new) self.old self.new result (capture_refused_line refusal) }
@@ -20,7 +20,7 @@ impl Text {
         self.print(out, line.as_slice())
     }
 
-    /// Says that a file could not be read further.
+    /// Prints that the rest of a file could not be read.
     #[tactic(auto, unfolding(crate::specs::Notices::read_fault_line))]
     pub fn read_fault<S: Sink>(&mut self, out: &mut S) -> Result<(), Failed>
         ensures { Prints (S.state out.old) (S.state out.new) self.old self.new result read_fault_line }
@@ -28,7 +28,7 @@ impl Text {
         self.print(out, b"read fault\n")
     }
 
-    /// Says that a device failed to take what it was handed.
+    /// Prints that a device failed to take an item.
     #[tactic(auto, unfolding(crate::specs::Notices::device_fault_line))]
     pub fn device_fault<S: Sink>(&mut self, out: &mut S) -> Result<(), Failed>
         ensures { Prints (S.state out.old) (S.state out.new) self.old self.new result device_fault_line }
@@ -36,7 +36,7 @@ impl Text {
         self.print(out, b"device fault\n")
     }
 
-    /// Says that a file has more than `bytes` bytes.
+    /// Prints that a file has more than `bytes` bytes.
     #[tactic(auto, unfolding(crate::specs::Notices::limit_line))]
     pub fn limit<S: Sink>(&mut self, out: &mut S, bytes: u64) -> Result<(), Failed>
         ensures { Prints (S.state out.old) (S.state out.new) self.old self.new result (limit_line bytes) }
@@ -46,7 +46,7 @@ impl Text {
         self.print(out, line.as_slice())
     }
 
-    /// Says which word of the command line, counted from 1, is the first that is wrong.
+    /// Prints the position of the first argument that is wrong, counted from 1.
     #[tactic(auto, unfolding(crate::specs::Notices::words_line))]
     pub fn words<S: Sink>(&mut self, out: &mut S, place: u64) -> Result<(), Failed>
         ensures { Prints (S.state out.old) (S.state out.new) self.old self.new result (words_line place) }

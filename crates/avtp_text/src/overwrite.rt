@@ -1,4 +1,4 @@
-//! Pieces that are written over a text, at a distance from its end.
+//! Pieces that overwrite a part of a text, at a distance from its end.
 
 ghost use Rattle.std.specs.Prelude.{◌≡◌, ◌+◌, ◌*◌, ◌<◌, ◌≤◌, length, decimal};
 ghost use Rattle.hex.specs.Hex.{encode_lower};
@@ -7,7 +7,7 @@ ghost use Rattle.avtp_text.specs.state.Pairs.{eight_digits};
 
 use crate::pairs::{write_bytes, write_eight_digits, write_hex};
 
-/// Writes the last eight digits of a number over eight bytes of a text, before its last `behind` ones.
+/// Overwrites eight bytes of a text, right before its last `behind` bytes, with the last eight digits of a number.
 #[inline(always)]
 pub fn overwrite_eight_digits(text: &mut [u8], number: u32, behind: usize)
     requires number { number < 100000000 }
@@ -18,8 +18,8 @@ pub fn overwrite_eight_digits(text: &mut [u8], number: u32, behind: usize)
     write_eight_digits(number, &mut text[end - 8..end]);
 }
 
-/// Writes a number's digits over as many bytes of a text, before its last `behind` ones, and answers how many they are. Most numbers
-/// of samples have one.
+/// Overwrites bytes of a text, right before its last `behind` bytes, with a number's digits, and returns how many these are.
+/// Most sample numbers have one digit.
 #[tactic(auto, using(crate::proofs::Digits::one_digit))]
 #[inline(always)]
 pub fn overwrite_decimal(text: &mut [u8], number: u64, behind: usize) -> usize
@@ -35,7 +35,7 @@ pub fn overwrite_decimal(text: &mut [u8], number: u64, behind: usize) -> usize
     end - itoa::write_digits(number, text, end)
 }
 
-/// Writes the hexadecimal digits of bytes over as many bytes of a text, before its last `behind` ones.
+/// Overwrites bytes of a text, right before its last `behind` bytes, with hexadecimal digits.
 #[inline(always)]
 pub fn overwrite_hex(text: &mut [u8], bytes: &[u8], behind: usize)
     requires { 2 * length bytes.now + behind ≤ length text.old }

@@ -1,4 +1,4 @@
-//! Digits that are written two at a time, from tables.
+//! Digits written two at a time, from tables.
 
 ghost use Rattle.std.specs.Prelude.{◌≡◌, ◌+◌, ◌*◌, ◌/◌, ◌%◌, ◌<◌, ◌≤◌, length, set, slice_index};
 ghost use Rattle.hex.specs.Hex.{encode_lower, lower_digits};
@@ -75,7 +75,7 @@ fn write_hex_of_each(bytes: &[u8], out: &mut [u8])
     }
 }
 
-/// Writes the hexadecimal digits of bytes, in lower case. Most samples are of two channels of two bytes, which take no loop.
+/// Writes the hexadecimal digits of bytes, in lower case. Most samples have two channels of two bytes, which need no loop.
 #[inline(always)]
 pub fn write_hex(bytes: &[u8], out: &mut [u8])
     requires { length out.old ≡ 2 * length bytes.now }
@@ -88,8 +88,7 @@ pub fn write_hex(bytes: &[u8], out: &mut [u8])
     }
 }
 
-/// Writes a piece of text. If its length is known to the compiler, these are moves of words, while a copy would first
-/// be tested for an overlap.
+/// Writes a piece of text. If the compiler knows its length, it becomes a few moves; a copy would test for an overlap first.
 #[inline(always)]
 pub fn write_bytes(piece: &[u8], out: &mut [u8])
     requires { length out.old ≡ length piece.now }

@@ -1,4 +1,4 @@
-//! The line of a sample, from which those of the next ones are made.
+//! The line of a sample, which is reused for the next samples.
 
 ghost use Rattle.std.specs.Prelude.{◌≡◌, ◌+◌, ◌^◌, ◌<◌, ◌≤◌, ℕ, ◌++◌, length, decimal, IfSome, IsTrue};
 ghost use Rattle.hex.specs.Hex.{encode_lower};
@@ -12,16 +12,16 @@ use crate::overwrite::{overwrite_decimal, overwrite_eight_digits, overwrite_hex}
 use avtp_base::Buffer;
 use std::marker::Model;
 
-/// The most bytes of a sample with which its line fits a [`Line`]: 64.
+/// The most bytes of a sample whose line fits a [`Line`]: 64.
 pub const SHORT: usize = 64;
 
-/// This many instants have equal digits but for the last eight: a tenth of a second.
+/// How many instants have equal digits except for the last eight: a tenth of a second.
 const INSTANTS: i64 = 100_000_000;
 
-/// At most this many bytes of a line are kept; a longer line is made anew for each sample.
+/// The longest line that is kept, in bytes. A longer line is built anew for each sample.
 const KEPT: usize = 128;
 
-/// Puts before the line which sample of which packet it is.
+/// Puts the packet, and the number of the sample in it, before the line.
 #[tactic(auto, unfolding(crate::specs::Listen::place_text))]
 #[inline(always)]
 pub fn prepend_place(line: &mut Line, seq: u8, j: u32)
@@ -59,7 +59,7 @@ impl Numbers {
     }
 }
 
-/// The first instant that has the digits of this one but for its last eight, if it has more than eight.
+/// The first instant that has the digits of this one except for its last eight, if it has more than eight.
 fn start_of(instant: i64) -> Option<i64>
     ensures { IfSome result (StartsAt instant) }
 {
@@ -106,8 +106,8 @@ fn whole_line(instant: i64, frame: u64, seq: u8, j: u32, bytes: &[u8]) -> (Line,
     (line, behind)
 }
 
-/// The last eight digits of an instant, if these, the sample's number and its bytes may be written over those of a
-/// line.
+/// The last eight digits of an instant, if a kept line differs from the sample's only in these, in the sample's number and in
+/// its bytes.
 #[inline(always)]
 fn low_of(from: i64, numbers: Numbers, instant: i64, j: u32) -> Option<u32>
     ensures { IfSome result (λ low. Fits from numbers instant j low) }
@@ -115,7 +115,7 @@ fn low_of(from: i64, numbers: Numbers, instant: i64, j: u32) -> Option<u32>
     if instant < from {
         return None;
     }
-    // A difference that is too large for 64 bits is negative here.
+    // A difference that does not fit 64 bits is negative here.
     let low = instant.wrapping_sub(from);
     if low < 0 || low >= INSTANTS {
         return None;
@@ -126,21 +126,21 @@ fn low_of(from: i64, numbers: Numbers, instant: i64, j: u32) -> Option<u32>
     Some(low as u32)
 }
 
-/// A line that is kept for others, if it is short enough.
+/// A line that is kept for later samples, if it is short enough.
 #[derive(Clone, Copy)]
 struct KeptLine {
-    /// The line's bytes, and any after them: all of these are copied, which takes no call.
+    /// The line's bytes, and unused bytes after them: all are copied, which needs no call.
     bytes: [u8; KEPT],
     len: usize,
     behind: Behind,
-    /// The first instant whose digits are the line's but for the last eight.
+    /// The first instant whose digits are the line's except for the last eight.
     from: i64,
-    /// The numbers of samples that have as many digits as the line's, or none if no line is kept.
+    /// The sample numbers that have as many digits as the line's; an empty range if no line is kept.
     numbers: Numbers,
 }
 
 impl KeptLine {
-    /// Writes the numbers of another packet over the line's, and tells whether they have as many digits.
+    /// Overwrites the numbers in the line with another packet's, and returns whether these have as many digits.
     #[tactic(auto, using(crate::proofs::Digits::digits_of_u64))]
     fn turn_to(&mut self, frame: u64, seq: u8) -> bool
         ensures { IsTrue result → (packet : SamplePacket) → KnowsGaps self.old packet → KnowsGaps self.new (seen_as frame seq packet.size) }
@@ -156,9 +156,9 @@ impl KeptLine {
     }
 }
 
-/// The line of a sample, which contracts see as the packet whose samples it is for. If that of another sample differs
-/// from it only in the instant's last eight digits, the sample's number and its bytes, these alone are written, over
-/// those of a copy. It is made anew when the number gains a digit or the instant's other digits change.
+/// The line of a sample. Contracts see it as the packet whose samples it is for. If another sample's line differs only in the
+/// instant's last eight digits, the sample's number and its bytes, only these are overwritten, in a copy. The line is built
+/// anew when the number gains a digit or other digits of the instant change.
 #[derive(Drop)]
 pub struct SampleLine {
     line: KeptLine,
@@ -202,7 +202,7 @@ impl SampleLine {
         }
     }
 
-    /// Goes on to another packet. The line stays, if only digits have to be written over.
+    /// Changes to another packet. The line is kept if only digits have to be overwritten.
     pub fn turn_to(&mut self, frame: u64, seq: u8, size: usize)
         ensures { self.new ≡ seen_as frame seq size }
     {

@@ -21,7 +21,7 @@ use cvf_format::{CvfView, NalPart};
 use iec61883_format::IecView;
 use pcap_frames::FrameView;
 
-/// Puts before the line which record it is about.
+/// Puts the number and the arrival of a record before its line.
 #[tactic(auto, unfolding(crate::specs::Show::frame_start))]
 #[inline(always)]
 pub fn prepend_frame(line: &mut Line, number: u64, arrival: i64)
@@ -46,7 +46,7 @@ pub fn format_name(format: AafFormat) -> &'static str
     }
 }
 
-/// Puts before the line the stream header that AAF, IEC 61883 and CVF packets begin with.
+/// Puts the stream header of an AAF, IEC 61883 or CVF packet before the line.
 #[tactic(auto, unfolding(crate::specs::Show::header_text))]
 #[inline(always)]
 fn prepend_header(line: &mut Line, header: &StreamHeader)
@@ -62,7 +62,7 @@ fn prepend_header(line: &mut Line, header: &StreamHeader)
     line.prepend_id("id ", header.stream_id);
 }
 
-/// Puts before the line what an IEC 61883-6 packet holds.
+/// Puts the fields of an IEC 61883-6 packet before the line.
 #[inline(always)]
 fn prepend_iec(line: &mut Line, view: &IecView<'_>)
     requires { 146 + length line.old ≤ LONGEST }
@@ -97,7 +97,7 @@ fn nal_type(nal: u8) -> u32
     u32::from(nal % 32)
 }
 
-/// Puts before the line what an H.264 packet holds.
+/// Puts the fields of an H.264 packet before the line.
 #[inline(always)]
 fn prepend_h264(line: &mut Line, view: &CvfView<'_>)
     requires { 144 + length line.old ≤ LONGEST }
@@ -115,7 +115,7 @@ fn prepend_h264(line: &mut Line, view: &CvfView<'_>)
     line.prepend("h264 ");
 }
 
-/// Puts before the line the timestamps of a CRF packet: how many there are, and the first.
+/// Puts the number of timestamps in a CRF packet, and the first of them, before the line.
 fn prepend_points(line: &mut Line, view: &CrfView<'_>)
     requires some { 8 ≤ length view.now.payload.now }
     requires room { 55 + length line.old ≤ LONGEST }
@@ -126,7 +126,7 @@ fn prepend_points(line: &mut Line, view: &CrfView<'_>)
     line.prepend_u64(" points ", (view.payload.len() / 8) as u64);
 }
 
-/// Puts before the line what a CRF packet holds.
+/// Puts the fields of a CRF packet before the line.
 #[inline(always)]
 fn prepend_crf(line: &mut Line, view: &CrfView<'_>)
     requires some { 8 ≤ length view.now.payload.now }
@@ -146,7 +146,7 @@ fn prepend_crf(line: &mut Line, view: &CrfView<'_>)
 }
 
 impl Text {
-    /// Says that a frame or its packet was refused at a field, whose offset is in the frame.
+    /// Prints that a frame or its packet was refused at a field. The offset is in the frame.
     #[tactic(auto, unfolding(crate::specs::Show::refused_content))]
     pub fn frame_refused<S: Sink>(
         &mut self,
@@ -164,7 +164,7 @@ impl Text {
         self.print(out, line.as_slice())
     }
 
-    /// Says which EtherType a frame has that is not AVTP's, and how long its payload is.
+    /// Prints the EtherType of a frame that is not AVTP, and the length of its payload.
     #[tactic(auto, unfolding(crate::specs::Show::ethertype_content))]
     pub fn frame_ethertype<S: Sink>(
         &mut self,
@@ -182,7 +182,7 @@ impl Text {
         self.print(out, line.as_slice())
     }
 
-    /// Says which AVTP subtype a packet has that is not read.
+    /// Prints the AVTP subtype of a packet whose format is not read.
     #[tactic(auto, unfolding(crate::specs::Show::other_content))]
     pub fn frame_other<S: Sink>(
         &mut self,
@@ -199,7 +199,7 @@ impl Text {
         self.print(out, line.as_slice())
     }
 
-    /// Says what an AAF packet holds. The rate is in Hz, and 0 if only the user knows it.
+    /// Prints the fields of an AAF packet. The rate is in Hz, and 0 if only the user knows it.
     pub fn frame_aaf<S: Sink>(
         &mut self,
         out: &mut S,
@@ -214,7 +214,7 @@ impl Text {
         Ok(())
     }
 
-    /// Says what an IEC 61883-6 packet holds.
+    /// Prints the fields of an IEC 61883-6 packet.
     pub fn frame_iec<S: Sink>(
         &mut self,
         out: &mut S,
@@ -230,7 +230,7 @@ impl Text {
         self.print(out, line.as_slice())
     }
 
-    /// Says what an H.264 packet holds.
+    /// Prints the fields of an H.264 packet.
     pub fn frame_h264<S: Sink>(
         &mut self,
         out: &mut S,
@@ -246,7 +246,7 @@ impl Text {
         self.print(out, line.as_slice())
     }
 
-    /// Says what a CRF packet holds, which has at least one timestamp.
+    /// Prints the fields of a CRF packet, which has at least one timestamp.
     pub fn frame_crf<S: Sink>(
         &mut self,
         out: &mut S,
@@ -263,7 +263,7 @@ impl Text {
         self.print(out, line.as_slice())
     }
 
-    /// Says that a capture ended after `frames` records.
+    /// Prints that a capture ended after `frames` records.
     #[tactic(auto, unfolding(crate::specs::Show::end_frames_line))]
     pub fn end_frames<S: Sink>(&mut self, out: &mut S, frames: u64) -> Result<(), Failed>
         ensures { Prints (S.state out.old) (S.state out.new) self.old self.new result (end_frames_line frames) }

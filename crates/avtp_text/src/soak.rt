@@ -10,7 +10,7 @@ use avtp_files::Sink;
 use soak_run::SoakCounts;
 
 impl Text {
-    /// Says what became of the deliveries of `packets` packets.
+    /// Prints what became of the deliveries of `packets` packets.
     #[tactic(auto, unfolding(crate::specs::Soak::soak_line))]
     pub fn soak<S: Sink>(
         &mut self,

@@ -27,7 +27,7 @@ fn prepend_fault(line: &mut Line, fault: TalkFault)
 }
 
 impl Text {
-    /// Says how many packets of a stream and of its media clock a capture was made of.
+    /// Prints how many packets of a stream and of its media clock are in a capture that was made.
     #[tactic(auto, unfolding(crate::specs::Talk::talk_line))]
     pub fn talk<S: Sink>(&mut self, out: &mut S, packets: u64, clocks: u64) -> Result<(), Failed>
         ensures { Prints (S.state out.old) (S.state out.new) self.old self.new result (talk_line packets clocks) }
@@ -38,7 +38,7 @@ impl Text {
         self.print(out, line.as_slice())
     }
 
-    /// Says why an input makes no stream.
+    /// Prints why an input makes no stream.
     #[tactic(auto, unfolding(crate::specs::Talk::talk_input_line))]
     pub fn talk_input<S: Sink>(&mut self, out: &mut S, fault: TalkFault) -> Result<(), Failed>
         ensures { Prints (S.state out.old) (S.state out.new) self.old self.new result (talk_input_line fault) }

@@ -165,12 +165,12 @@ pub requested : (words : List (List ℕ)) (request : Request) → IsCommandLine 
 requested words (show limit file) line = (given_within (value_in (codes "--limit") line.settings) 1 (2 ^ 40) (2 ^ 40) limit (omega arith) (omega arith) line.limit_given).1
 requested words (check limit names) line = (given_within (value_in (codes "--limit") line.settings) 1 (2 ^ 40) (2 ^ 40) limit (omega arith) (omega arith) line.limit_given).1
 requested words (listen asked) (line, rules) =
-    let limit = given_within (value_in (codes "--limit") line.settings) 1 (2 ^ 40) (2 ^ 40) asked.limit (omega arith) (omega arith) line.limit in
-    let buffer = given_within (value_in (codes "--buffer") line.settings) 1 65536 4096 asked.buffer (omega arith) (omega arith) line.buffer in
-    let room = given_within (value_in (codes "--room") line.settings) 1 (2 ^ 30) (2 ^ 26) asked.room (omega arith) (omega arith) line.room in
-    let look = given_within (value_in (codes "--look") line.settings) 0 64 0 asked.look (omega arith) (omega arith) line.look in
-    let lead = given_within (value_in (codes "--lead") line.settings) 0 (10 ^ 9) 2000000 asked.lead (omega arith) (omega arith) line.lead in
-    let shift = shift_within (value_in (codes "--crf-shift") line.settings) asked.shift line.shift in
+    let limit = given_within (value_in (codes "--limit") line.settings) 1 (2 ^ 40) (2 ^ 40) asked.listener.limit (omega arith) (omega arith) line.listener.limit in
+    let buffer = given_within (value_in (codes "--buffer") line.settings) 1 65536 4096 asked.listener.buffer (omega arith) (omega arith) line.listener.buffer in
+    let room = given_within (value_in (codes "--room") line.settings) 1 (2 ^ 30) (2 ^ 26) asked.listener.room (omega arith) (omega arith) line.listener.room in
+    let look = given_within (value_in (codes "--look") line.settings) 0 64 0 asked.listener.look (omega arith) (omega arith) line.listener.look in
+    let lead = given_within (value_in (codes "--lead") line.settings) 0 (10 ^ 9) 2000000 asked.listener.lead (omega arith) (omega arith) line.listener.lead in
+    let shift = shift_within (value_in (codes "--crf-shift") line.settings) asked.listener.shift line.listener.shift in
     record {
       limit = limit.1;
       plan = record { some_buffer = buffer.0; buffer = buffer.1; some_room = room.0; room = omega (arith, room.1); look = look.1; lead = lead.1; shift_from = shift.0; shift_to = shift.1 };

@@ -3,8 +3,8 @@ use Rattle.std.proofs.Common.{◌≡◌, ℕ, ◌+◌, ◌≤◌, Bool, true, fa
 use Rattle.std.specs.Prelude.{◌⊎◌, ◌==◌, flat_map, IfOk}
 use Rattle.std.proofs.lemmas.Grind.{flat_map-append}
 use Rattle.avtp_base.specs.declared.failed.Failed.{Failed}
-use Rattle.avtp_base.specs.Told.{Appends}
-use Rattle.avtp_base.proofs.Told.{Appends-trans}
+use Rattle.avtp_base.specs.Told.{Appends, Keeps}
+use Rattle.avtp_base.proofs.Told.{Appends-kept, Appends-trans}
 use Rattle.pcap_frames.specs.Capture.{Record}
 use Rattle.capture_io.specs.Formats.{records_in}
 use Rattle.sequence_track.specs.declared.seen.Seen.{Seen}
@@ -114,6 +114,11 @@ one_checked {name = name} {tracker' = tracker'} {frames} {found} {n} {before} {h
       lines = subst (Appends before (written h'.held w')) (sym (text_more name records r))
           (Appends-trans before (written h.held w) (written h'.held w') (text_of name records) (joined_lines (check_lines records r)) to.lines (subst (λ (ls : List (List ℕ)). Appends (written h.held w) (written h'.held w') (joined_lines ls)) lines here.written));
     }
+
+-- what waited was written out
+pub checked_kept : {limit : ℕ} {name bytes : List ℕ} {remains : Option (List ℕ)} {source : Sourcing} {tracker : List (StreamKey × StreamState)} {frames found : ℕ} {before mid now : Option (List ℕ)}
+    → IsCheckedTo limit name bytes remains source tracker frames found before mid → Keeps mid now → IsCheckedTo limit name bytes remains source tracker frames found before now
+checked_kept to kept = record { records = to.records; given = to.given; stands = to.stands; counted = to.counted; total = to.total; lines = Appends-kept _ _ _ _ to.lines kept }
 
 -- ---- cut short
 

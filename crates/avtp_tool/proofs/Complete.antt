@@ -158,24 +158,24 @@ yield_split ends yields (name ∷ earlier) more done =
     ] refl done
 
 lines_at : (asked : Listening) (name : List ℕ) (records : List Record) (refused : Option Refusal)
-    → (heard_yield asked name records (at_end refused)).text ≡ shown_text name (shown_of (plan_of asked) records) ++ end_line (counts_of (plan_of asked) records (shown_of (plan_of asked) records)) refused
+    → (heard_yield asked name records (at_end refused)).text ≡ shown_text name (shown_of (plan_of asked.listener) records) ++ end_line (counts_of (plan_of asked.listener) records (shown_of (plan_of asked.listener) records)) refused
 lines_at asked name records None = refl
 lines_at asked name records (Some refusal) = refl
 
-items_at : (asked : Listening) (name : List ℕ) (records : List Record) (refused : Option Refusal) → (heard_yield asked name records (at_end refused)).items ≡ shown_of (plan_of asked) records
+items_at : (asked : Listening) (name : List ℕ) (records : List Record) (refused : Option Refusal) → (heard_yield asked name records (at_end refused)).items ≡ shown_of (plan_of asked.listener) records
 items_at asked name records None = refl
 items_at asked name records (Some refusal) = refl
 
 -- a file that is read to its end
-whole_file : (asked : Listening) (name bytes : List ℕ) → length bytes ≤ asked.limit → file_yield (listen_report asked name) asked.limit (Some bytes) ≡ heard_yield asked name (records_in bytes) (at_end (refusal_in bytes))
+whole_file : (asked : Listening) (name bytes : List ℕ) → length bytes ≤ asked.listener.limit → file_yield (listen_report asked name) asked.listener.limit (Some bytes) ≡ heard_yield asked name (records_in bytes) (at_end (refusal_in bytes))
 whole_file asked name bytes fits =
-    ap (λ (prefix : List ℕ). heard_yield asked name (records_in prefix) (end_of asked.limit bytes)) (take_all asked.limit bytes fits)
-    ∙ ap (heard_yield asked name (records_in bytes)) (at_end_is asked.limit bytes fits)
+    ap (λ (prefix : List ℕ). heard_yield asked name (records_in prefix) (end_of asked.listener.limit bytes)) (take_all asked.listener.limit bytes fits)
+    ∙ ap (heard_yield asked name (records_in bytes)) (at_end_is asked.listener.limit bytes fits)
 
-yields_headline : (asked : Listening) (name : List ℕ) (shift : ℤ) (p : PacketJournal) (bytes : List ℕ) → length bytes ≤ asked.limit → HearsTalker shift p (plan_of asked) (records_in bytes) → YieldsHeadline asked name shift p bytes (file_yield (listen_report asked name) asked.limit (Some bytes))
+yields_headline : (asked : Listening) (name : List ℕ) (shift : ℤ) (p : PacketJournal) (bytes : List ℕ) → length bytes ≤ asked.listener.limit → HearsTalker shift p (plan_of asked.listener) (records_in bytes) → YieldsHeadline asked name shift p bytes (file_yield (listen_report asked name) asked.listener.limit (Some bytes))
 yields_headline asked name shift p bytes fits hears = record {
-  shown = shown_of (plan_of asked) (records_in bytes);
-  keeps = headline shift p (plan_of asked) (records_in bytes) hears;
+  shown = shown_of (plan_of asked.listener) (records_in bytes);
+  keeps = headline shift p (plan_of asked.listener) (records_in bytes) hears;
   printed = ap (λ (y : Yield). y.text) (whole_file asked name bytes fits) ∙ lines_at asked name (records_in bytes) (refusal_in bytes);
   handed = ap (λ (y : Yield). y.items) (whole_file asked name bytes fits) ∙ items_at asked name (records_in bytes) (refusal_in bytes);
 }
@@ -185,14 +185,14 @@ unfolding in_order_yield
 rest_yield ends yields name later = (if is_done (ends name) then in_order_yield ends yields later else says [], refl)
 
 pub has_headline : (asked : Listening) (files : Files) (failed : Bool) (earlier later : List (List ℕ)) (name bytes : List ℕ) (shift : ℤ) (p : PacketJournal) → asked.files ≡ earlier ++ name ∷ later → listen_status asked files earlier ≡ status.Done
-    → files name ≡ Some bytes → length bytes ≤ asked.limit → HearsTalker shift p (plan_of asked) (records_in bytes) → HasHeadline asked name shift p bytes (yield_for (listen asked) files failed)
+    → files name ≡ Some bytes → length bytes ≤ asked.listener.limit → HearsTalker shift p (plan_of asked.listener) (records_in bytes) → HasHeadline asked name shift p bytes (yield_for (listen asked) files failed)
 has_headline asked files failed earlier later name bytes shift p split done told fits hears =
     let ends = one_status (listen_plan asked) files in
     let yields = one_yield (listen_plan asked) files in
     let rest = rest_yield ends yields name later in
     let notice : Yield = says (device_notice failed (plan_status (listen_plan asked) files)) in
-    let file : Yield = file_yield (listen_report asked name) asked.limit (Some bytes) in
-    let here : yields name ≡ file = ap (file_yield (listen_report asked name) asked.limit) told in
+    let file : Yield = file_yield (listen_report asked name) asked.listener.limit (Some bytes) in
+    let here : yields name ≡ file = ap (file_yield (listen_report asked name) asked.listener.limit) told in
     let before : Yield = in_order_yield ends yields earlier in
     let all : plan_yield (listen_plan asked) files ≡ with_more before (with_more file rest.0) =
     ap (in_order_yield ends yields) split ∙ yield_split ends yields earlier (name ∷ later) (ap is_done done) ∙ ap (λ (y : Yield). with_more before y) (rest.1 ∙ ap (λ (y : Yield). with_more y rest.0) here) in

@@ -83,7 +83,7 @@ within NoMemory limit bytes fault remains source listener items closed shown =
 -- ---- what is printed
 
 abbrev pub IsCutYield : Listening → (List Shown → Type 0) → List ℕ → List ℕ → Option (List ℕ) → Option (List ℕ) → Type 0
-IsCutYield asked handed name bytes before now = GivesPart handed before now (file_yield (listen_report asked name) asked.limit (Some bytes))
+IsCutYield asked handed name bytes before now = GivesPart handed before now (file_yield (listen_report asked name) asked.listener.limit (Some bytes))
 
 -- the capture's name, or a part of it
 pub name_cut : {handed : List Shown → Type 0} {before now : Option (List ℕ)} (asked : Listening) (name bytes : List ℕ) → handed [] → AppendsPrefix before now (capture_line name) → IsCutYield asked handed name bytes before now
@@ -97,10 +97,10 @@ text_cut {before} {now} name items all line first prefix =
     prefix_before before now (shown_text name all) line (subst (AppendsPrefix before now) text (prefix_before before now (shown_text name items) (list_lines first.0) prefix))
 
 pub items_cut : {handed : List Shown → Type 0} {before now : Option (List ℕ)} (asked : Listening) (name bytes : List ℕ) (stage : Stage) (fault : Type 0) (remains : Option (List ℕ)) (source : Sourcing) (listener : ListenState) (items front : List Shown)
-    → listener.plan ≡ plan_of asked → is_closed listener ≡ closed_at stage → IsShown stage asked.limit bytes fault remains source listener items → AppendsPrefix before now (shown_text name items) → IsPrefix front items → handed front → IsCutYield asked handed name bytes before now
+    → listener.plan ≡ plan_of asked.listener → is_closed listener ≡ closed_at stage → IsShown stage asked.listener.limit bytes fault remains source listener items → AppendsPrefix before now (shown_text name items) → IsPrefix front items → handed front → IsCutYield asked handed name bytes before now
 items_cut {before = before} {now} asked name bytes stage fault remains source listener items front plan closed shown prefix part hands =
-    let first = subst (λ (p : ListenPlan). IsPrefix items (shown_by p (records_in (take asked.limit bytes)) (end_of asked.limit bytes))) plan (within stage asked.limit bytes fault remains source listener items closed shown) in
-    let all = shown_by (plan_of asked) (records_in (take asked.limit bytes)) (end_of asked.limit bytes) in
+    let first = subst (λ (p : ListenPlan). IsPrefix items (shown_by p (records_in (take asked.listener.limit bytes)) (end_of asked.listener.limit bytes))) plan (within stage asked.listener.limit bytes fault remains source listener items closed shown) in
+    let all = shown_by (plan_of asked.listener) (records_in (take asked.listener.limit bytes)) (end_of asked.listener.limit bytes) in
     record { text = text_cut name items all _ first prefix; front = front; first = prefix_twice front items all part first; items = hands }
 
 take_all : {X : Type 0} (xs : List X) → take (length xs) xs ≡ xs
@@ -108,23 +108,23 @@ take_all {X} [] = refl
 take_all {X} (x ∷ xs) = ap (λ (l : List X). x ∷ l) (take_all xs)
 
 items_heard : {handed : List Shown → Type 0} {before now : Option (List ℕ)} (asked : Listening) (name bytes : List ℕ) (how : End) (fault : Type 0) (remains : Option (List ℕ)) (source : Sourcing) (listener : ListenState) (items : List Shown)
-    → listener.plan ≡ plan_of asked → is_closed listener ≡ is_all how → IsShown (Ended how) asked.limit bytes fault remains source listener items → Appends before now (shown_text name items) → handed items → HasHeard asked handed name bytes fault how listener.counts before now
+    → listener.plan ≡ plan_of asked.listener → is_closed listener ≡ is_all how → IsShown (Ended how) asked.listener.limit bytes fault remains source listener items → Appends before now (shown_text name items) → handed items → HasHeard asked handed name bytes fault how listener.counts before now
 items_heard {handed} {before} {now} asked name bytes how fault remains source listener items plan closed shown lines hands =
     let all : items ≡ out listener shown.records = shown.whole how refl in
-    let list : out listener shown.records ≡ shown_by (plan_of asked) shown.records how = out_at how listener shown.records closed ∙ ap (λ (p : ListenPlan). shown_by p shown.records how) plan in
-    let taken : take (length items) (out listener shown.records) ≡ shown_by (plan_of asked) shown.records how =
+    let list : out listener shown.records ≡ shown_by (plan_of asked.listener) shown.records how = out_at how listener shown.records closed ∙ ap (λ (p : ListenPlan). shown_by p shown.records how) plan in
+    let taken : take (length items) (out listener shown.records) ≡ shown_by (plan_of asked.listener) shown.records how =
     ap (λ (l : List Shown). take (length l) (out listener shown.records)) all ∙ take_all (out listener shown.records) ∙ list in
     record {
       records = shown.records;
       ends = shown.read;
-      counted = shown.stands.counts ∙ ap (λ (l : List Shown). counts_of listener.plan shown.records l) taken ∙ ap (λ (p : ListenPlan). counts_of p shown.records (shown_by (plan_of asked) shown.records how)) plan;
+      counted = shown.stands.counts ∙ ap (λ (l : List Shown). counts_of listener.plan shown.records l) taken ∙ ap (λ (p : ListenPlan). counts_of p shown.records (shown_by (plan_of asked.listener) shown.records how)) plan;
       lines = subst (λ (l : List Shown). Appends before now (shown_text name l)) (all ∙ list) lines;
       items = subst handed (all ∙ list) hands;
     }
 
 -- the hearing has ended, and all that was shown was printed
 pub hears : (handed : List Shown → Type 0) (before now : Option (List ℕ)) (asked : Listening) (name bytes : List ℕ) (stage : Stage) (fault : Type 0) (remains : Option (List ℕ)) (source : Sourcing) (listener : ListenState) (items : List Shown)
-    → IsSome (pull_at stage) → listener.plan ≡ plan_of asked → is_closed listener ≡ closed_at stage → IsShown stage asked.limit bytes fault remains source listener items → Appends before now (shown_text name items) → handed items
+    → IsSome (pull_at stage) → listener.plan ≡ plan_of asked.listener → is_closed listener ≡ closed_at stage → IsShown stage asked.listener.limit bytes fault remains source listener items → Appends before now (shown_text name items) → handed items
     → HearsRecords asked handed name bytes fault before now (Ok (heard_at stage listener))
 hears handed before now asked name bytes Reading fault remains source listener items over plan closed shown lines hands = absurd cc
 hears handed before now asked name bytes (Showing how) fault remains source listener items over plan closed shown lines hands = absurd cc
@@ -145,13 +145,13 @@ abbrev yields_with : List ℕ → List Shown → Yield
 yields_with text items = record { text = text; items = items }
 
 listen_told : {handed : List Shown → Type 0} {h h' : SinkState} {w w' : List ℕ} {result : Result Status Failed} (asked : Listening) (name bytes : List ℕ) (fault : Type 0) (how : End) (counts : Counts) (before : Option (List ℕ)) → HasHeard asked handed name bytes fault how counts before (written h.held w)
-    → EndsWith (status_of how) h h' w w' result (last_line asked.limit counts how) → IsReadAndTold (listen_report asked name) handed asked.limit bytes fault how before (written h'.held w') result
+    → EndsWith (status_of how) h h' w w' result (last_line asked.listener.limit counts how) → IsReadAndTold (listen_report asked name) handed asked.listener.limit bytes fault how before (written h'.held w') result
 listen_told asked name bytes fault how counts before heard ends = record {
   records = heard.records;
   ends = heard.ends;
   tells =
-      let items = shown_by (plan_of asked) heard.records how in
-      tells_end (shown_text name items) items (refl, ap (λ (c : Counts). yields_with (shown_text name items ++ last_line asked.limit c how) items) heard.counted) heard.lines heard.items ends;
+      let items = shown_by (plan_of asked.listener) heard.records how in
+      tells_end (shown_text name items) items (refl, ap (λ (c : Counts). yields_with (shown_text name items ++ last_line asked.listener.limit c how) items) heard.counted) heard.lines heard.items ends;
 }
 
 -- how the records were heard, by what the call answered
@@ -159,7 +159,7 @@ pub ended_as : (result : Result Heard Failed) (heard made : Heard) → result �
 ended_as result heard made is same = is ∙ ap (λ (h : Heard). Ok h) same
 
 pub told_heard : {handed : List Shown → Type 0} {h h' : SinkState} {w w' : List ℕ} {result : Result Status Failed} (asked : Listening) (name bytes : List ℕ) (fault : Type 0) (how : End) (counts : Counts) (before : Option (List ℕ)) (made : Result Heard Failed) → made ≡ Ok (far.Ended how counts)
-    → HearsRecords asked handed name bytes fault before (written h.held w) made → EndsWith (status_of how) h h' w w' result (last_line asked.limit counts how) → IsReadAndTold (listen_report asked name) handed asked.limit bytes fault how before (written h'.held w') result
+    → HearsRecords asked handed name bytes fault before (written h.held w) made → EndsWith (status_of how) h h' w w' result (last_line asked.listener.limit counts how) → IsReadAndTold (listen_report asked name) handed asked.listener.limit bytes fault how before (written h'.held w') result
 told_heard {handed} {h} {w = w} asked name bytes fault how counts before made is heard ends =
     listen_told asked name bytes fault how counts before (subst (λ (r : Result Heard Failed). HearsRecords asked handed name bytes fault before (written h.held w) r) is heard) ends
 

@@ -18,6 +18,7 @@ use Rattle.sample_schedule.specs.declared.shown.Shown.{Shown}
 use Rattle.presenter_ring.specs.declared.pipe.Pipe.{Pipe}
 use Rattle.presenter_ring.specs.declared.receiver.Pull.{Pull}
 use Rattle.presenter_ring.specs.Pipes.{ended_with, waiting_in, EndsWith, HasMoved, IsDrained}
+use Rattle.avtp_tool.specs.state.Outcome.{WritesWaiting}
 use Rattle.avtp_tool.specs.state.Presenting.{failures, GivesItems, HasPassed}
 
 -- how a receiver ended, which is how its pipe did
@@ -79,7 +80,6 @@ gives_none {handed} {h} {w} result fine none = subst (λ (r : Result Unit Failed
   front = [];
   first = ([], refl);
   all = refl;
-  fewer = tt;
   hands = none;
 })
 
@@ -92,7 +92,6 @@ module _ {handed : List Shown → Type 0} {h h' h'' : SinkState} {w w' w'' : Lis
     front = items ++ x ∷ [];
     first = ([], append-nil (items ++ x ∷ []));
     all = refl;
-    fewer = tt;
     hands = hand (subst handed first.all first.hands);
   }
   gives_one items x (Ok o) (Err e) fine printed hand first second = absurd cc
@@ -106,11 +105,34 @@ module _ {handed : List Shown → Type 0} {h h' h'' : SinkState} {w w' w'' : Lis
     front = items;
     first = (x ∷ [], refl);
     all = tt;
-    fewer = simp length-append (omega arith);
     hands = subst handed first.all first.hands;
   }
   gives_failed items x (Ok o) (Ok p) fine failed first second = absurd cc
   gives_failed items x (Err e) result fine failed first second = absurd cc
+
+-- what waited was written out after a text, or a part of that
+pub flushed : {h h' h'' : SinkState} {w w' w'' : List ℕ} (result : Result Unit Failed) (text : List ℕ) → PrintsPart h h' w w' (Ok tt) text → Keeps (written h'.held w') (written h''.held w'') → Grows h'.held h''.held → IsCounted h'.faults h''.faults result
+    → PrintsPart h h'' w w'' result text
+flushed {h' = h'} {h''} {w' = w'} {w''} (Ok o) text first kept grows counted =
+    part_as (text ++ []) text (append-nil text) (part_then {ok = tt} text [] first (record { written = Keeps-none (written h'.held w') (written h''.held w'') kept; grows = grows; counted = counted }))
+flushed {h' = h'} {h''} {w' = w'} {w''} (Err e) text first kept grows counted =
+    part_as (text ++ []) text (append-nil text) (part_then {ok = tt} text [] first (record { written = prefix_none (written h'.held w') (written h''.held w'') [] kept; grows = grows; counted = counted }))
+
+on_any : {A : Type 0} (result : Result Unit Failed) → A → OnOk result A
+on_any (Ok o) a = a
+on_any (Err e) a = tt
+
+-- what waited was written out after the lines of these items, or the sink failed in that
+pub gives_flushed : {handed : List Shown → Type 0} {h h' h'' : SinkState} {w w' w'' : List ℕ} (items : List Shown) (was result : Result Unit Failed) → is_err was ≡ false
+    → GivesItems handed h h' w w' was items → WritesWaiting h' h'' w' w'' result → GivesItems handed h h'' w w'' result items
+gives_flushed items (Ok o) result fine first out = record {
+  prints = flushed result (list_lines items) first.prints out.kept out.sink.grows out.sink.counted;
+  front = first.front;
+  first = first.first;
+  all = on_any result first.all;
+  hands = first.hands;
+}
+gives_flushed items (Err e) result fine first out = absurd cc
 
 -- no item is given once the sink has failed
 pub gives_no_more : {handed : List Shown → Type 0} {h h' : SinkState} {w w' : List ℕ} (items more : List Shown) (result : Result Unit Failed) → is_err result ≡ true → GivesItems handed h h' w w' result items → GivesItems handed h h' w w' result (items ++ more)
@@ -120,7 +142,6 @@ gives_no_more items more (Err e) failed g = record {
   front = g.front;
   first = (g.first.0 ++ more, sym (append_assoc g.front g.first.0 more) ∙ ap (λ (l : List Shown). l ++ more) g.first.1);
   all = tt;
-  fewer = let fewer = g.fewer in simp length-append (omega (arith, fewer));
   hands = g.hands;
 }
 
@@ -134,16 +155,3 @@ pub over_on : (A : Type 0) (file : Option Open) (stage : Stage) (result : Result
 over_on A None stage result over live = absurd cc
 over_on A (Some file) stage (Ok o) over live = over.1
 over_on A (Some file) stage (Err e) over live = tt
-
--- what waited was written out behind a text, or a part of that
-pub flushed : {h h' h'' : SinkState} {w w' w'' : List ℕ} (result : Result Unit Failed) (text : List ℕ) → PrintsPart h h' w w' (Ok tt) text → Keeps (written h'.held w') (written h''.held w'') → Grows h'.held h''.held → IsCounted h'.faults h''.faults result
-    → PrintsPart h h'' w w'' result text
-flushed {h' = h'} {h''} {w' = w'} {w''} (Ok o) text first kept grows counted =
-    part_as (text ++ []) text (append-nil text) (part_then {ok = tt} text [] first (record { written = Keeps-none (written h'.held w') (written h''.held w'') kept; grows = grows; counted = counted }))
-flushed {h' = h'} {h''} {w' = w'} {w''} (Err e) text first kept grows counted =
-    part_as (text ++ []) text (append-nil text) (part_then {ok = tt} text [] first (record { written = prefix_none (written h'.held w') (written h''.held w'') [] kept; grows = grows; counted = counted }))
-
--- a failure is a failure whatever was to be answered
-pub failed_as : {h h' : SinkState} {w w' : List ℕ} {e : Failed} (result : Result Unit Failed) (text : List ℕ) → IsErr result → PrintsPart h h' w w' (Err e) text → PrintsPart h h' w w' result text
-failed_as (Ok o) text err first = absurd cc
-failed_as (Err e') text err first = record { written = first.written; grows = first.grows; counted = record { never_falls = first.counted.never_falls; ok = tt; failed = first.counted.failed } }

@@ -29,7 +29,7 @@ use Rattle.avtp_tool.specs.Yield.{says}
 
 -- ---- a record by itself
 
--- what `check` makes of a record that is refused, or else read
+-- what `check` makes of a record that is refused or read
 abbrev pub malformed_or : Option Refusal → Checked → Checked
 malformed_or (Some refusal) checked = Malformed refusal
 malformed_or None checked = checked
@@ -45,7 +45,7 @@ seen_of stream packet = record {
   stamp_wrong = stamp_is_off packet;
 }
 
--- A packet is noted if its stream id is valid. One of another format is passed.
+-- A packet is noted if its stream id is valid. A packet of another format is skipped.
 abbrev pub checked_stream : Option PacketStream → AnyPacket → Checked
 checked_stream None packet = Passed
 checked_stream (Some stream) packet =
@@ -56,7 +56,7 @@ unfoldable pub checked_packet : ℕ → List ℕ → Checked
 checked_packet start pdu =
     malformed_or (option_map (inside start) (packet_refusal pdu)) (checked_stream (stream_of (packet_of pdu)) (packet_of pdu))
 
--- what `check` makes of a frame; one of another EtherType is passed
+-- what `check` makes of a frame; a frame of another EtherType is skipped
 unfoldable pub checked_frame : Frame → Checked
 checked_frame frame = if frame.ethertype == avtp_ethertype then checked_packet frame.start frame.payload else Passed
 
@@ -103,8 +103,8 @@ total_line limit frames streams found (end.Refused refusal) = capture_refused_li
 total_line limit frames streams found end.ReadFault = read_fault_line
 total_line limit frames streams found end.Limit = limit_line limit
 
--- what `check` prints of a capture of this name whose reading ends so after these records: its name, a line for each
--- finding, and the last line
+-- what `check` prints of a capture with this name, whose reading ends in this way after these records: its name, a line for
+-- each finding, and the last line
 abbrev pub check_text : ℕ → List ℕ → List Record → End → List ℕ
 check_text limit name records how =
     (capture_line name ++ joined_lines (of_each check_lines records))

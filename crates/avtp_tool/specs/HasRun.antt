@@ -38,27 +38,27 @@ pub record HearsFile (request : Request) (files : Files) (asked : Listening) (na
   pub named : asked.files ≡ earlier ++ name ∷ later
   pub done : listen_status asked files earlier ≡ status.Done
   pub told : files name ≡ Some bytes
-  pub fits : length bytes ≤ asked.limit
-  pub hears : HearsTalker shift p (plan_of asked) (records_in bytes)
+  pub fits : length bytes ≤ asked.listener.limit
+  pub hears : HearsTalker shift p (plan_of asked.listener) (records_in bytes)
 
--- What was printed, handed on and asked for over these files.
+-- What was printed, given to devices and asked for over these files.
 pub record Reports (request : Request) (files : Files) (failed : Bool) (handed : List Shown → Type 0) (shelf shelf' : ShelfState)
     (out out' : SinkState) (ended : Status) : Type 0 where
-  -- the names of the files to which the run came, the status that this reading comes to, and what it yields
+  -- the names of the files that the run reached, the status of reading them, and what this yields
   pub came : List (List ℕ)
   pub reached : Status
   pub yields : Yield
   pub outcome : Outcome request files (Rose shelf.reading_faults shelf'.reading_faults) failed came reached yields
-  -- Unless memory or a write failed, the run ends with that status, all of the text was written, each item was handed on, and
-  -- the shelf was asked for these names alone.
+  -- Unless memory ran out or a write failed, the run ends with that status, all of the text was written, each item was given to
+  -- the devices, and the shelf was asked only for these names.
   pub whole : ended ≢ status.Memory → ended ≢ status.WriteFault →
       (ended ≡ reached) × Appends out.held out'.held yields.text × handed yields.items × Asks came shelf shelf'
-  -- In any case a first part of the text was written, and the first of the items were handed on.
+  -- In any case a prefix of the text was written, and a prefix of the items was given to the devices.
   pub written : AppendsPrefix out.held out'.held yields.text
   pub items : List Shown
   pub first : IsPrefix items yields.items
   pub given : handed items
-  -- If no fault of reading came, that is the whole report of these files.
+  -- If no fault of reading came, this is the whole report on these files.
   pub complete : ReadsAll shelf shelf' →
       (came ≡ came_for request files) × (reached ≡ status_for request files failed) × (yields ≡ yield_for request files failed)
   -- What `listen` yields of a talker that keeps the rules, of each file with a journal of its own.
@@ -72,17 +72,17 @@ pub record LeavesFiles (request : Request) (files files' : Option Files) (ended 
   -- If all was done, the output of `talk` is the capture of its input.
   pub made : ended ≡ status.Done → (asked : Talking) (all : Files) (bytes : List ℕ) → request ≡ talk asked → files ≡ Some all → all asked.input ≡ Some bytes →
       PutsFile files files' asked.output (capture (talk_plan asked) bytes)
-  -- However the run ends, the output is as it was or a first part of that capture.
+  -- However the run ends, the output is unchanged or a prefix of that capture.
   pub begun : (asked : Talking) (all : Files) (bytes : List ℕ) → request ≡ talk asked → files ≡ Some all → all asked.input ≡ Some bytes →
       MakesPrefix files files' asked.output (capture (talk_plan asked) bytes)
   pub missing : (asked : Talking) (all : Files) → request ≡ talk asked → files ≡ Some all → all asked.input ≡ None → KeepsFiles files files'
-  -- A run that ends with a fault of the input, a refusal or a limit leaves all as it was.
+  -- A run that ends with a fault of the input, a refusal or a limit leaves all files unchanged.
   pub untouched : ended ≢ status.Done → ended ≢ status.WriteFault → ended ≢ status.Memory → KeepsFiles files files'
   pub others : KeepsFilesBut (output_of request) files files'
 
 -- ---- why a run ended with a fault
 
--- A run ends with a device's fault exactly if it is of `listen`, all else was done, and a device failed in it.
+-- A run ends with a device's fault exactly if the command is `listen`, all else was done, and a device failed in it.
 pub record TellsFailed (request : Request) (failed : Bool) (ended : Status) : Type 0 where
   pub fault : ended ≡ status.DeviceFault → (is_listening request ≡ true) × (failed ≡ true)
   pub quiet : is_listening request ≡ true → ended ≡ status.Done → failed ≡ false
@@ -99,11 +99,11 @@ pub record HasCauses (request : Request) (shelf shelf' : ShelfState) (out out' :
 
 -- ---- the command
 
--- What a run did that the words ask for. `handed items` says that the devices were handed these items and no other, `still` that
--- they are as they were, and `failed` whether a device failed.
+-- What a run did that the words ask for. `handed items` says that the devices got exactly these items, `still` that they are
+-- unchanged, and `failed` whether a device failed.
 pub record HasRun (request : Request) (handed : List Shown → Type 0) (still : Type 0) (failed : Bool) (shelf shelf' : ShelfState)
     (out out' : SinkState) (ended : Status) : Type 0 where
-  -- what is printed and handed on, if the shelf tells its files
+  -- what is printed and given to devices, if the shelf tells its files
   pub reports : (files : Files) → shelf.files ≡ Some files → IsSome shelf'.files → Reports request files failed handed shelf shelf' out out' ended
   -- what the sink held stays
   pub grows : Grows out.held out'.held
@@ -113,13 +113,13 @@ pub record HasRun (request : Request) (handed : List Shown → Type 0) (still : 
   -- the names of the words are asked for, in their order, all of them if all was done, and no other
   pub names : AsksFor (names_of request) shelf shelf' (is_through ended ≡ true)
   pub devices : TellsFailed request failed ended
-  -- `listen` alone touches the devices
+  -- only `listen` touches the devices
   pub silent : is_listening request ≡ false → still
   pub causes : HasCauses request shelf shelf' out out' ended
   pub not_words : ended ≢ status.Words
 
--- What a run did whose words are no command line: it says which word is the first that cannot stand there, and does nothing else.
--- `still` says that the shelf and the devices are as they were.
+-- What a run did whose words are not a command line: it prints the position of the first word that is not accepted there, and
+-- does nothing else. `still` says that the shelf and the devices are unchanged.
 pub record RefusesWords (position : ℕ) (still : Type 0) (out out' : SinkState) (ended : Status) : Type 0 where
   pub whole : ended ≢ status.Memory → ended ≢ status.WriteFault → (ended ≡ status.Words) × Appends out.held out'.held (words_line position)
   pub written : AppendsPrefix out.held out'.held (words_line position)

@@ -10,6 +10,7 @@ use Rattle.listener.specs.declared.heard.Counts.{Counts}
 use Rattle.listener.specs.declared.plan.ListenPlan.{ListenPlan}
 use Rattle.listener.specs.Headline.{KeepsHeadline}
 use Rattle.listener.specs.Heard.{counts_of, due_of, shown_of}
+use Rattle.avtp_words.specs.declared.listener.ListenerOptions.{ListenerOptions}
 use Rattle.avtp_words.specs.Grammar.{Listening}
 use Rattle.avtp_text.specs.Listen.{capture_line, list_lines, end_listen_line}
 use Rattle.avtp_text.specs.Notices.{capture_refused_line, read_fault_line, limit_line}
@@ -21,10 +22,10 @@ use Rattle.avtp_tool.specs.Status.{status_of}
 use Rattle.avtp_tool.specs.Yield.{with_more, Yield}
 
 -- the listener that the words ask for
-abbrev pub plan_of : Listening → ListenPlan
+abbrev pub plan_of : ListenerOptions → ListenPlan
 plan_of asked = record { stream = asked.stream; clock = asked.clock; buffer = asked.buffer; room = asked.room; look = asked.look; lead = asked.lead; shift = asked.shift }
 
--- What is shown of these records, if the reading of their capture ended so: all of it at the capture's end or at a
+-- What is shown of these records, if the reading of their capture ended in this way: all of it at the capture's end or at a
 -- field that is refused, and what was due so far if the reading was cut short.
 abbrev pub shown_by : ListenPlan → List Record → End → List Shown
 shown_by plan records end.Whole = shown_of plan records
@@ -43,13 +44,13 @@ last_line limit counts end.Limit = limit_line limit
 abbrev pub shown_text : List ℕ → List Shown → List ℕ
 shown_text name shown = capture_line name ++ list_lines shown
 
--- What a capture of this name yields that was opened and whose reading ends so after these records: its name, the lines of
--- each item that is shown, which is then handed on, and the last line.
+-- What a capture with this name yields that was opened and whose reading ends in this way after these records: its name, the
+-- lines of each item that is shown, the items for the devices, and the last line.
 abbrev pub heard_yield : Listening → List ℕ → List Record → End → Yield
 heard_yield asked name records how = record {
-  text = shown_text name (shown_by (plan_of asked) records how)
-      ++ last_line asked.limit (counts_of (plan_of asked) records (shown_by (plan_of asked) records how)) how;
-  items = shown_by (plan_of asked) records how;
+  text = shown_text name (shown_by (plan_of asked.listener) records how)
+      ++ last_line asked.listener.limit (counts_of (plan_of asked.listener) records (shown_by (plan_of asked.listener) records how)) how;
+  items = shown_by (plan_of asked.listener) records how;
 }
 
 -- what `listen` makes of a file of this name
@@ -58,7 +59,7 @@ listen_report asked name = record { status = λ records how. status_of how; yiel
 
 -- what `listen` reads, and what it makes of each file
 abbrev pub listen_plan : Listening → ReadPlan
-listen_plan asked = record { names = asked.files; limit = asked.limit; report = listen_report asked }
+listen_plan asked = record { names = asked.files; limit = asked.listener.limit; report = listen_report asked }
 
 -- the status with which a run of `listen` over these files ends, if no fault of reading comes
 abbrev pub listen_status : Listening → Files → List (List ℕ) → Status
@@ -71,15 +72,15 @@ abbrev pub end_line : Counts → Option Refusal → List ℕ
 end_line counts None = end_listen_line counts
 end_line counts (Some refusal) = capture_refused_line refusal
 
--- What a capture yields of a talker that keeps the rules: the capture's name, the lines of what is shown of its
--- records, which keeps the headline and is handed on, and the last line.
+-- What a capture of a talker that keeps the rules yields: the capture's name, the lines of what is shown of its records, which
+-- keeps the headline and goes to the devices, and the last line.
 pub record YieldsHeadline (asked : Listening) (name : List ℕ) (shift : ℤ) (p : PacketJournal) (bytes : List ℕ) (yields : Yield) : Type 0 where
   pub shown : List Shown
-  pub keeps : KeepsHeadline shift p (plan_of asked) (records_in bytes) shown
-  pub printed : yields.text ≡ shown_text name shown ++ end_line (counts_of (plan_of asked) (records_in bytes) shown) (refusal_in bytes)
+  pub keeps : KeepsHeadline shift p (plan_of asked.listener) (records_in bytes) shown
+  pub printed : yields.text ≡ shown_text name shown ++ end_line (counts_of (plan_of asked.listener) (records_in bytes) shown) (refusal_in bytes)
   pub handed : yields.items ≡ shown
 
--- What a run yields has a part that is what this capture yields, which keeps the headline.
+-- A part of what a run yields is what this capture yields, which keeps the headline.
 pub record HasHeadline (asked : Listening) (name : List ℕ) (shift : ℤ) (p : PacketJournal) (bytes : List ℕ) (yields : Yield) : Type 0 where
   pub before : Yield
   pub here : Yield

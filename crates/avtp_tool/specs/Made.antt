@@ -3,7 +3,7 @@ use Rattle.std.specs.Prelude.{◌≡◌, ◌≢◌, ℕ, List, Option, Some, Non
 use Rattle.avtp_base.specs.Files.{Files, Slots, KeepsFiles, KeepsSlots}
 use Rattle.capture_io.specs.Writing.{KeepsSlotsBut}
 
--- all files that a shelf tells stay as they were, but for the one that is written, if one is
+-- all files that a shelf tells are unchanged, except for the one that is written, if any
 abbrev pub KeepsFilesBut : Option (List ℕ) → Option Files → Option Files → Type 0
 KeepsFilesBut None old new = KeepsFiles old new
 KeepsFilesBut (Some name) None None = ⊤
@@ -11,9 +11,8 @@ KeepsFilesBut (Some name) None (Some new) = ⊥
 KeepsFilesBut (Some name) (Some old) None = ⊤
 KeepsFilesBut (Some name) (Some old) (Some new) = (other : List ℕ) → other ≢ name → new other ≡ old other
 
--- All slots stay as they were, but for what is left of the file that is written, if one is: that is known if the files
--- are told. If another slot is open on that file, what is left to read there may change, since the file is emptied and
--- written.
+-- All slots are unchanged, except for what is left of the file that is written, if any: that is known if the files are told. If
+-- another slot is open on that file, what is left to read there may change, because the file is emptied and written.
 abbrev pub KeepsSlotsFor : Option (List ℕ) → Option Files → Slots → Slots → Type 0
 KeepsSlotsFor None files old new = KeepsSlots old new
 KeepsSlotsFor (Some name) files old new = KeepsSlotsBut files old new name

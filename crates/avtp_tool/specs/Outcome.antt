@@ -1,4 +1,4 @@
--- What a command's run may come to: the status that it ends with and what it yields.
+-- The possible outcomes of a command's run: the status that it ends with and what it yields.
 use Rattle.std.specs.Prelude.{◌≡◌, ℕ, ◌≤◌, List, length, take, Option, Bool, true, false, Contains}
 use Rattle.avtp_base.specs.Files.{Files, IsMissing}
 use Rattle.avtp_base.specs.States.{Asks, ShelfState}
@@ -7,13 +7,13 @@ use Rattle.avtp_tool.specs.declared.status.Status.TheVariants as status
 
 -- ---- what a run left
 
--- all was done that a command does, and it is whole: whether anything was found in it is another matter
+-- the command did everything that it does, whether it found something or not
 abbrev pub is_done : Status → Bool
 is_done status.Done = true
 is_done status.Findings = true
 is_done ended = false
 
--- one outcome and no other
+-- exactly one outcome
 abbrev pub Only : {Y : Type 0} → Status → Y → Status → Y → Type 0
 Only ended yields e y = (e ≡ ended) × (y ≡ yields)
 
@@ -25,7 +25,7 @@ pub record IsOneMissing (names : List (List ℕ)) (files : Option Files) : Type 
   pub one : Contains names name
   pub missing : IsMissing files name
 
--- A shelf was asked for the first of these names, in their order, and for no other; for all of them if all was done.
+-- A shelf was asked for the first of these names, in their order, and for no others; for all of them if everything was done.
 pub record AsksFor (names : List (List ℕ)) (shelf shelf' : ShelfState) (done : Type 0) : Type 0 where
   pub count : ℕ
   pub within : count ≤ length names

@@ -1,4 +1,4 @@
--- Files that a command reads in order: what may become of each, and of all.
+-- Files that a command reads in order: the possible outcomes of each, and of all.
 use Rattle.std.specs.Prelude.{◌≡◌, ◌⊎◌, ℕ, List, [], ◌∷◌, take, Option, Some, None, if◌then◌else◌, true, false}
 use Rattle.avtp_base.specs.Files.{Files}
 use Rattle.pcap_frames.specs.Capture.{Record}
@@ -27,8 +27,8 @@ pub record ReadOutcome (report : Report) (limit : ℕ) (bytes : List ℕ) (fault
   pub status : ended ≡ report.status (records_in prefix) how
   pub given : yields ≡ report.yields (records_in prefix) how
 
--- A file, of which a shelf tells its bytes or that it is missing, can end with this status and yield this. One that is
--- missing or could not be opened gives a fault of reading alone; what that needs otherwise is `fault`.
+-- A file, of which a shelf tells its bytes or that it is missing, can end with this status and yield this. A file that is
+-- missing or could not be opened only gives a fault of reading; other faults of reading need the cause `fault`.
 abbrev pub FileOutcome : Report → ℕ → Option (List ℕ) → Type 0 → Status → Yield → Type 0
 FileOutcome report limit None fault ended yields = (ended ≡ status.ReadFault) × (yields ≡ says read_fault_line)
 FileOutcome report limit (Some bytes) fault ended yields =
@@ -46,13 +46,13 @@ file_yield report limit (Some bytes) = report.yields (records_in (take limit byt
 
 -- ---- files in order
 
--- the status of a run, by how its first file ended, which is done, and how the rest of it did
+-- the status of a run, by how its first file ended, which is done, and by the status of the rest
 abbrev pub joined : Status → Status → Status
 joined first status.Done = first
 joined first rest = rest
 
--- Files are read in order, each to its end, up to the first that ends otherwise and with it the run. `One` says of a
--- file of a name with which status it can end and what it can yield. `read` are those to which the run came.
+-- Files are read in order, each to its end, up to the first that ends otherwise and ends the run. `One` says which statuses a
+-- file with a name can end with and what it can yield. `read` are the files that the run reached.
 unfoldable pub InOrder : (List ℕ → Status → Yield → Type 0) → List (List ℕ) → List (List ℕ) → Status → Yield → Type 0
 InOrder One [] read ended yields = (read ≡ []) × (ended ≡ status.Done) × (yields ≡ says [])
 InOrder One (name ∷ names) read ended yields =
@@ -61,7 +61,7 @@ InOrder One (name ∷ names) read ended yields =
     × (is_done first ≡ true) × One name first here × InOrder One names others rest more
     × (read ≡ name ∷ others) × (ended ≡ joined first rest) × (yields ≡ with_more here more))
 
--- the files to which a run comes, given the status of each: those up to the first that is not done
+-- the files that a run reaches, given the status of each: those up to the first that is not done
 unfoldable pub in_order_read : (List ℕ → Status) → List (List ℕ) → List (List ℕ)
 in_order_read one [] = []
 in_order_read one (name ∷ names) = name ∷ (if is_done (one name) then in_order_read one names else [])
@@ -84,11 +84,11 @@ pub record ReadPlan : Type 0 where
   pub limit : ℕ
   pub report : List ℕ → Report
 
--- what may become of the file of this name, with its bytes as a shelf tells them
+-- the possible outcomes of the file with this name, with its bytes as a shelf tells them
 abbrev pub one_outcome : ReadPlan → Files → Type 0 → List ℕ → Status → Yield → Type 0
 one_outcome plan files fault name ended yields = FileOutcome (plan.report name) plan.limit (files name) fault ended yields
 
--- a command with this plan can come to these files, end with this status and yield this
+-- a command with this plan can reach these files, end with this status and yield this
 abbrev pub PlanOutcome : ReadPlan → Files → Type 0 → List (List ℕ) → Status → Yield → Type 0
 PlanOutcome plan files fault read ended yields = InOrder (one_outcome plan files fault) plan.names read ended yields
 
@@ -100,7 +100,7 @@ one_status plan files name = file_status (plan.report name) plan.limit (files na
 abbrev pub one_yield : ReadPlan → Files → List ℕ → Yield
 one_yield plan files name = file_yield (plan.report name) plan.limit (files name)
 
--- the files to which a command with this plan comes, if no fault of reading comes
+-- the files that a command with this plan reaches, if no fault of reading comes
 abbrev pub plan_read : ReadPlan → Files → List (List ℕ)
 plan_read plan files = in_order_read (one_status plan files) plan.names
 

@@ -7,7 +7,7 @@ use Rattle.packet_journal.specs.Deliveries.{avtp_ethertype}
 use Rattle.avtp_packet.specs.Packet.{AnyPacket, OfAaf, OfCrf, OfH264, OfIec, OfOther, packet_of, packet_refusal}
 use Rattle.avtp_text.specs.Show.{refused_content, ethertype_content, other_content, iec_content, aaf_content, h264_content, crf_content}
 
--- the text of the refusal, if there is one, and else of what was read
+-- the text of the refusal if there is one, otherwise that of what was read
 abbrev pub refused_or : Option Refusal → List ℕ → List ℕ
 refused_or (Some refusal) content = refused_content refusal
 refused_or None content = content

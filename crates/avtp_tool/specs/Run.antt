@@ -1,4 +1,4 @@
--- What a run comes to, whichever command the words ask for.
+-- The possible outcomes of a run, whichever command the words ask for.
 use Rattle.std.specs.Prelude.{◌≡◌, ℕ, List, [], ◌∷◌, ◌++◌, if◌then◌else◌, option_to_list, Bool, true, false}
 use Rattle.avtp_base.specs.Files.{Files}
 use Rattle.avtp_text.specs.Notices.{device_fault_line}
@@ -14,22 +14,21 @@ use Rattle.avtp_tool.specs.Soak.{soak_report}
 use Rattle.avtp_tool.specs.Talk.{TalkOutcome, talk_plan, talk_report, talk_status}
 use Rattle.avtp_tool.specs.Yield.{says, with_more, Yield}
 
--- the names to which a run of `talk` comes that ends with this status: that of its output only if it was made
+-- the names that a run of `talk` with this status asks for: that of its output only if it was made
 abbrev pub talk_came : Talking → Status → List (List ℕ)
 talk_came asked ended = asked.input ∷ (if is_done ended then asked.output ∷ [] else [])
 
--- the status of a run of `listen` that would have ended so: if a device failed in one that was done, it says that
+-- the status of a run of `listen` that would have ended with this one: if it was done and a device failed, it says that
 abbrev pub device_status : Bool → Status → Status
 device_status true status.Done = status.DeviceFault
 device_status failed ended = ended
 
--- the last line of a run of `listen` if a device failed in one that was done, else nothing
+-- the last line of a run of `listen` if it was done and a device failed, otherwise nothing
 abbrev pub device_notice : Bool → Status → List ℕ
 device_notice true status.Done = device_fault_line
 device_notice failed ended = []
 
--- what a run of `listen` can come to over these files: what their reading can come to, and then what a failed device
--- adds
+-- the possible outcomes of a run of `listen` over these files: those of reading them, followed by what a failed device adds
 pub record ListenOutcome (asked : Listening) (files : Files) (fault : Type 0) (failed : Bool) (came : List (List ℕ)) (ended : Status) (yields : Yield) : Type 0 where
   pub heard : Status
   pub given : Yield
@@ -37,8 +36,8 @@ pub record ListenOutcome (asked : Listening) (files : Files) (fault : Type 0) (f
   pub status : ended ≡ device_status failed heard
   pub notice : yields ≡ with_more given (says (device_notice failed heard))
 
--- Over the files that a shelf tells, a run of the request can come to these names, end with this status and yield this.
--- What a fault of reading needs is `fault`, and `failed` tells whether a device failed.
+-- Over the files that a shelf tells, a run of the request can reach these names, end with this status and yield this. `fault`
+-- is what a fault of reading needs, and `failed` says whether a device failed.
 abbrev pub Outcome : Request → Files → Type 0 → Bool → List (List ℕ) → Status → Yield → Type 0
 Outcome (show limit file) files fault failed came ended yields = PlanOutcome (show_plan limit file) files fault came ended yields
 Outcome (check limit names) files fault failed came ended yields = PlanOutcome (check_plan limit names) files fault came ended yields
@@ -66,7 +65,7 @@ yield_for (listen asked) files failed =
 yield_for (talk asked) files failed = says (talk_report (talk_plan asked) (files asked.input))
 yield_for (soak packets) files failed = says (soak_report packets)
 
--- the names to which a run comes, if no fault of reading comes
+-- the names that a run reaches, if no fault of reading comes
 abbrev pub came_for : Request → Files → List (List ℕ)
 came_for (show limit file) files = plan_read (show_plan limit file) files
 came_for (check limit names) files = plan_read (check_plan limit names) files
@@ -80,12 +79,12 @@ came_for (soak packets) files = []
 abbrev pub names_of : Request → List (List ℕ)
 names_of request = files_of request ++ option_to_list (output_of request)
 
--- the request is one of `listen`, which alone hands items on
+-- the request is one of `listen`, which is the only command that gives items to devices
 abbrev pub is_listening : Request → Bool
 is_listening (listen asked) = true
 is_listening request = false
 
--- all was done that the command does, though a device may have failed
+-- the command did everything that it does, though a device may have failed
 abbrev pub is_through : Status → Bool
 is_through status.DeviceFault = true
 is_through ended = is_done ended

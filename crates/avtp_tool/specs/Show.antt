@@ -22,8 +22,8 @@ end_line limit frames (end.Refused refusal) = capture_refused_line refusal
 end_line limit frames end.ReadFault = read_fault_line
 end_line limit frames end.Limit = limit_line limit
 
--- The text of a capture whose reading ends so after these records: a line for each of them, numbered from 1, and the last
--- line.
+-- The text of a capture whose reading ends in this way after these records: a line for each of them, numbered from 1, and the
+-- last line.
 abbrev pub show_text : ℕ → List Record → End → List ℕ
 show_text limit records how = of_each show_line records ++ end_line limit (length records) how
 

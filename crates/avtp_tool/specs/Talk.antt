@@ -47,8 +47,8 @@ talk_plan asked = record {
 abbrev pub sent_line : TalkPlan → List ℕ → List ℕ
 sent_line plan input = talk_line (length (stream_frames plan input)) (length (clock_frames plan input))
 
--- `talk` of an input of these bytes can end with this status and print this text. A longer input is rejected, and a fault
--- of reading can end it whatever the bytes are.
+-- `talk` of an input of these bytes can end with this status and print this text. A longer input is rejected, and a fault of
+-- reading can end it, whatever the bytes are.
 abbrev pub TalkedOutcome : TalkPlan → List ℕ → Type 0 → Status → List ℕ → Type 0
 TalkedOutcome plan bytes fault status.Done text = (length bytes ≤ most_input) × (fault_of plan bytes ≡ None) × (text ≡ sent_line plan bytes)
 TalkedOutcome plan bytes fault status.TalkInput text =

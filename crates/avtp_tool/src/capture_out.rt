@@ -1,4 +1,4 @@
-//! The parts of the capture that `talk` writes, each spelled into the buffer that is written.
+//! The parts of the capture that `talk` writes, each written in place into the output buffer.
 
 ghost use Rattle.pcap_frames.specs.Capture.{header_spelling};
 ghost use Rattle.talker.specs.Frames.{capture_style};

@@ -9,6 +9,7 @@ ghost use Rattle.avtp_tool.specs.state.Outcome.{EndsWith};
 ghost use Rattle.avtp_tool.specs.state.Reading.{DoesFile, IsOpen, ReadsRecords};
 ghost use Rattle.avtp_tool.specs.state.Yield.{HandsNothing};
 
+use crate::ahead::next_record;
 use crate::checked::{Checked, checked_record, count};
 use crate::command::print_unopened;
 use crate::status::Status;
@@ -19,7 +20,7 @@ use capture_io::{End, Source};
 use sequence_track::{Findings, Tracker};
 use std::alloc::Global;
 
-/// What was counted of a capture, and how its reading ended.
+/// The counts of a capture, and how its reading ended.
 #[derive(Clone, Copy, Debug, PartialEq, Eq)]
 pub struct Total {
     pub frames: u64,
@@ -28,8 +29,8 @@ pub struct Total {
     pub end: End,
 }
 
-/// Prints a capture's name, what is found in it, and its numbers. At most `limit` bytes of it are read. All memory is
-/// taken before the first line, so nothing is printed if none is found.
+/// Prints a capture's name, the findings in it, and its numbers. Reads at most `limit` bytes of it. All memory is allocated
+/// before the first line, so nothing is printed if memory runs out.
 pub fn check<F: Shelf, S: Sink>(
     alloc: Global,
     limit: u64,
@@ -57,7 +58,7 @@ pub fn check<F: Shelf, S: Sink>(
     }
 }
 
-/// Prints a capture's name and what is found in each of its records, in order, as far as it can be read.
+/// Prints a capture's name and the findings in each of its records, in order, as far as it can be read.
 fn check_records<F: Shelf, S: Sink>(
     file: &str,
     mut tracker: Tracker,
@@ -74,7 +75,7 @@ fn check_records<F: Shelf, S: Sink>(
     let mut frames = 0;
     let mut findings = 0;
     loop {
-        if let Some(end) = source.next(shelf) {
+        if let Some(end) = next_record(source, shelf, text, out)? {
             return Ok(Total {
                 frames,
                 streams: tracker.streams(),
@@ -88,8 +89,8 @@ fn check_records<F: Shelf, S: Sink>(
     }
 }
 
-/// Notes the packet of a record, and prints a line for each finding in it, all of them or none if the sink fails.
-/// Answers how many they are.
+/// Notes the packet of a record, and prints a line for each finding in it, all of them or none if the sink fails. Returns how
+/// many there are.
 fn print_checked<S: Sink>(
     tracker: &mut Tracker,
     text: &mut Text,
@@ -128,7 +129,7 @@ fn of_unmarked(reserved: bool) -> Findings
     }
 }
 
-/// Prints a line for each finding in a packet. Answers how many they are.
+/// Prints a line for each finding in a packet. Returns how many there are.
 fn print_findings<S: Sink>(
     text: &mut Text,
     out: &mut S,
@@ -138,8 +139,11 @@ fn print_findings<S: Sink>(
 ) -> Result<u64, Failed>
     ensures { PrintsFound (S.state out.old) (S.state out.new) text.old text.new result (map (packet_line number id) (finding_texts findings.now)) }
 {
-    text.findings(out, number, id, findings)?;
-    Ok(count(findings))
+    let count = count(findings);
+    if count > 0 {
+        text.findings(out, number, id, findings)?;
+    }
+    Ok(count)
 }
 
 /// Prints a capture's numbers, or why it was not read to its end.
@@ -160,7 +164,7 @@ fn print_total<S: Sink>(
     Ok(status_of(total))
 }
 
-/// How a run ends with a capture of these numbers.
+/// The status of a run that ends with a capture with these numbers.
 fn status_of(total: Total) -> Status
     ensures { result ≡ check_status total.findings total.end }
 {

@@ -22,7 +22,7 @@ pub enum Checked {
     Malformed(Refusal),
     /// A packet whose stream id is not valid.
     Unmarked {
-        /// The stream id that it has even so.
+        /// The stream id that it has nevertheless.
         id: u64,
         /// A reserved bit is set.
         reserved: bool,
@@ -76,7 +76,7 @@ fn checked_stream(packet: &Packet<'_>) -> Checked
     }
 }
 
-/// How many findings they are.
+/// The number of findings.
 pub fn count(findings: &Findings) -> u64
     ensures count { result ≡ length (finding_texts findings.now) }
     ensures few { result ≤ 5 }

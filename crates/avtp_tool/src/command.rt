@@ -1,4 +1,4 @@
-//! The command `avtp`, over the outside that it is given.
+//! The command `avtp`, over any shelf, sink and devices.
 
 ghost use Rattle.std.specs.Prelude.{◌≡◌, ℕ, Ok, true, false, nat_lt};
 ghost use Rattle.avtp_text.specs.Notices.{read_fault_line, words_line};
@@ -24,8 +24,8 @@ use presenter_ring::Gate;
 use std::alloc::Global;
 use std::thread::Threads;
 
-/// Does what the words ask for: reads and writes the files that they name, writes the text, hands what `listen` presents to the
-/// devices of the rack, and answers how that ended.
+/// Does what the words ask for: reads and writes the files that they name, writes the text, gives what `listen` presents to the
+/// devices, and returns the status.
 pub fn run<T: Threads + Sync, F: Shelf + Send, S: Sink + Send, G: Gate, D: Devices + Send>(
     rt: &T,
     alloc: Global,
@@ -49,7 +49,7 @@ pub fn run<T: Threads + Sync, F: Shelf + Send, S: Sink + Send, G: Gate, D: Devic
     finish(&mut text, out, ended)
 }
 
-/// Does what the words ask for, or says which of them is wrong.
+/// Does what the words ask for, or prints the position of the first wrong word.
 fn execute<T: Threads + Sync, F: Shelf + Send, S: Sink + Send, G: Gate, D: Devices + Send>(
     rt: &T,
     alloc: Global,
@@ -87,7 +87,7 @@ fn execute<T: Threads + Sync, F: Shelf + Send, S: Sink + Send, G: Gate, D: Devic
     }
 }
 
-/// Says which word is the first that is wrong.
+/// Prints the position of the first wrong word.
 fn print_offence<S: Sink>(text: &mut Text, out: &mut S, position: u64) -> Result<Status, Failed>
     ensures { EndsWith Status.Words (S.state out.old) (S.state out.new) text.old text.new result (words_line position) }
 {
@@ -95,7 +95,7 @@ fn print_offence<S: Sink>(text: &mut Text, out: &mut S, position: u64) -> Result
     Ok(Status::Words)
 }
 
-/// Says that a file could not be read.
+/// Prints that a file could not be read.
 pub fn print_fault<S: Sink>(text: &mut Text, out: &mut S) -> Result<Status, Failed>
     ensures { EndsWith Status.ReadFault (S.state out.old) (S.state out.new) text.old text.new result read_fault_line }
 {
@@ -103,7 +103,7 @@ pub fn print_fault<S: Sink>(text: &mut Text, out: &mut S) -> Result<Status, Fail
     Ok(Status::ReadFault)
 }
 
-/// Says that a file could not be opened; if that is for want of memory, by the status alone.
+/// Prints that a file could not be opened; if memory ran out, only the status says so.
 pub fn print_unopened<S: Sink>(
     text: &mut Text,
     out: &mut S,

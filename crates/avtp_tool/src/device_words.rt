@@ -8,8 +8,8 @@ ghost use Rattle.avtp_tool.specs.DeviceWords.{devices_of, silence_as};
 use avtp_words::{Command, Listen, parse};
 use device_rack::Silence;
 
-/// A device, and the place among the words, from 0, of the name of the file that it writes, so that a device is made
-/// without reading the words a second time in another way.
+/// A device, and the place among the words, from 0, of the name of the file that it writes. So a device can be made without
+/// reading the words again.
 #[derive(Clone, Copy, Debug, PartialEq, Eq)]
 pub enum DeviceWord {
     /// Raw audio, with this silence for missing packets.
@@ -18,9 +18,9 @@ pub enum DeviceWord {
     AnnexB { word: usize },
 }
 
-/// The device of this number that the words ask for, from 0, with raw audio before a byte stream.
+/// Device `number`, from 0, that the words ask for, with raw audio before a byte stream.
 ///
-/// `None` comes exactly if the words are no command line of `listen`, or ask for no such device.
+/// `None` comes exactly if the words are not a command line of `listen`, or ask for no such device.
 pub fn device_word(words: &[String], n: u32) -> Option<DeviceWord>
     ensures found { (asked : Listening) → IsCommandLine (texts words.now) (listen_request asked) → result ≡ slice_get (devices_of asked) n }
     ensures only { IfSome result (λ device. (asked : Listening) × IsCommandLine (texts words.now) (listen_request asked)) }
@@ -34,7 +34,7 @@ pub fn device_word(words: &[String], n: u32) -> Option<DeviceWord>
     }
 }
 
-/// The device of this number that was asked for, from 0.
+/// Device `number`, from 0, that was asked for.
 fn device_of(asked: &Listen<'_>, n: u32) -> Option<DeviceWord>
     ensures { result ≡ slice_get (devices_of (listening_of asked.now)) n }
 {
@@ -51,7 +51,7 @@ fn device_of(asked: &Listen<'_>, n: u32) -> Option<DeviceWord>
     }
 }
 
-/// What silence is made of, as a device has it.
+/// The silence of a raw device, by the words.
 pub fn raw_silence(asked: avtp_words::Silence) -> Silence
     ensures { result ≡ silence_as asked }
 {

@@ -31,8 +31,8 @@ pub enum Reading<'a> {
     Listen(&'a Listen<'a>),
 }
 
-/// Reads the files in order, each to its end, and does with each what is asked for. The first that ends otherwise ends the
-/// run.
+/// Reads the files in order, each to its end, and does with each what is asked for. The first file that cannot be read to its
+/// end ends the run.
 pub fn read_files<T: Threads + Sync, F: Shelf + Send, S: Sink + Send, G: Gate, D: Devices + Send>(
     rt: &T,
     alloc: Global,
@@ -59,7 +59,7 @@ pub fn read_files<T: Threads + Sync, F: Shelf + Send, S: Sink + Send, G: Gate, D
     Ok(ended)
 }
 
-/// Listens to the files in order, and says at the end of a run that was done if a device failed in it.
+/// Listens to the files in order. If all was done and a device failed, prints that at the end.
 pub fn hear_files<T: Threads + Sync, F: Shelf + Send, S: Sink + Send, G: Gate, D: Devices + Send>(
     rt: &T,
     alloc: Global,
@@ -97,7 +97,7 @@ pub fn hear_files<T: Threads + Sync, F: Shelf + Send, S: Sink + Send, G: Gate, D
     }
 }
 
-/// Says that a device failed.
+/// Prints that a device failed.
 fn print_device_fault<S: Sink>(text: &mut Text, out: &mut S) -> Result<Status, Failed>
     ensures { EndsWith Status.DeviceFault (S.state out.old) (S.state out.new) text.old text.new result device_fault_line }
 {

@@ -1,4 +1,4 @@
-//! A capture that is heard: what is shown of it comes item by item, as its records are read.
+//! A capture that is heard: its items are shown one by one, as its records are read.
 
 ghost use Rattle.std.specs.Prelude.{◌≡◌, ◌<◌, [], MatchResult, None, false};
 ghost use Rattle.listener.specs.Listening.{IsIdle, is_closed};
@@ -11,29 +11,29 @@ use listener::{Counts, RecordListener};
 use presenter_ring::Pull;
 use std::alloc::Global;
 
-/// How far the hearing of a capture has come.
+/// The stage of hearing a capture.
 #[derive(Clone, Copy, Debug, PartialEq, Eq)]
 pub enum Stage {
     /// Records are read, and what is due of them is shown.
     Reading,
-    /// The reading ended so, and what is left is shown.
+    /// The reading ended in this way, and what is left is shown.
     Showing(End),
-    /// The reading ended so, and all was shown.
+    /// The reading ended in this way, and everything was shown.
     Ended(End),
-    /// No memory was found for a record.
+    /// There was no memory for a record.
     NoMemory,
 }
 
 /// How far a capture was heard.
 #[derive(Clone, Copy, Debug, PartialEq, Eq)]
 pub enum Heard {
-    /// As far as it could be read, which ended so, and what was counted of it.
+    /// As far as it could be read; with how that ended, and its counts.
     Ended { end: End, counts: Counts },
-    /// Up to a record for which no memory was found.
+    /// Up to a record for which there was no memory.
     NoMemory,
 }
 
-/// What a receiver answers whose capture's reading ended so, once all was shown of it.
+/// The answer of a receiver whose capture's reading ended in this way, once everything was shown of it.
 fn pull_of(end: End) -> Pull
     ensures { result ≡ pull_with end }
 {
@@ -45,7 +45,7 @@ fn pull_of(end: End) -> Pull
     }
 }
 
-/// Closes the listener if all is shown of a capture whose reading ended so, and not only what was due.
+/// Closes the listener if everything is shown of a capture whose reading ended in this way, and not only what was due.
 fn close_at(listener: &mut RecordListener, end: End)
     requires { (is_closed listener.old ≡ false) × IsIdle listener.old }
     ensures { ClosesAt end listener.old listener.new }
@@ -67,7 +67,7 @@ pub struct Hearing {
 }
 
 impl Hearing {
-    /// The next item that is shown, or if there is none how the hearing ended.
+    /// The next item that is shown, or how the hearing ended.
     pub fn next<F: Shelf>(&mut self, shelf: &mut F) -> Pull
         requires { IsGoing (F.state shelf.old).slots self.old.source self.old.stage }
         ensures { GivesPull (F.state shelf.old) (F.state shelf.new) self.old.source self.new.source self.old.listener self.new.listener self.old.stage self.new.stage result }
@@ -90,7 +90,15 @@ impl Hearing {
         }
     }
 
-    /// Reads the next record and has the listener take it, or ends the reading. Nothing is due of the records before.
+    /// Whether the next item may have to be waited for: the next record must first be read.
+    pub fn may_wait(&self) -> bool {
+        match self.stage {
+            Stage::Reading => self.source.must_read(),
+            _ => false,
+        }
+    }
+
+    /// Reads the next record and gives it to the listener, or ends the reading. Nothing may be due of the records before.
     fn read_record<F: Shelf>(&mut self, shelf: &mut F) -> Result<(), NoMemory>
         requires reading { IsAtReading (F.state shelf.old).slots self.old.source self.old.stage }
         requires idle { IsIdle self.old.listener }

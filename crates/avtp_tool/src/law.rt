@@ -1,12 +1,12 @@
-//! What holds of every report, whoever prints it.
+//! Laws of every report, whoever prints it.
 
 ghost use Rattle.std.specs.Prelude.{◌≡◌, ℕ, List, Some, take, true};
 ghost use Rattle.capture_io.specs.Ends.{end_of};
 ghost use Rattle.capture_io.specs.Formats.{AreBytes, as_classic, is_pcapng, records_in};
 ghost use Rattle.avtp_tool.specs.Reading.{file_status, file_yield, Report};
 
-/// What `show`, `check` and `listen` make of a pcapng capture is what they make of the classic capture of its records, in
-/// little-endian nanoseconds, but that its reading ends by its own first refusal and by the limit in its own bytes.
+/// `show`, `check` and `listen` treat a pcapng capture like the classic capture of its records, in little-endian nanoseconds,
+/// except that the reading ends by its own first refusal and by the limit on its own bytes.
 pub fn pcapng_reports()
     ensures { (report : Report) (limit : ℕ) (bytes : List ℕ) → AreBytes (take limit bytes) → is_pcapng (take limit bytes) ≡ true →
         (file_status report limit (Some bytes) ≡ report.status (records_in (as_classic (take limit bytes))) (end_of limit bytes))

@@ -1,6 +1,7 @@
-//! What the command `avtp` does with its words: the captures' bytes become text and a status.
+//! The command `avtp`: from words and captures to text and a status.
 #![tactic(auto)]
 
+mod ahead;
 mod capture_out;
 mod check;
 mod checked;

@@ -2,6 +2,8 @@
 
 ghost use Rattle.std.specs.Prelude.{◌≡◌, ◌≤◌, [], Ok, None};
 ghost use Rattle.avtp_words.specs.Grammar.{listening_of};
+ghost use Rattle.avtp_text.specs.Listen.{capture_line};
+ghost use Rattle.avtp_text.specs.Written.{PrintsPart};
 ghost use Rattle.avtp_tool.specs.Yield.{HandsOn};
 ghost use Rattle.listener.specs.Listening.{StandsFor};
 ghost use Rattle.presenter_ring.specs.Pipes.{ended_with, given_to, waiting_in};
@@ -13,6 +15,7 @@ ghost use Rattle.avtp_tool.specs.state.Reading.{DoesFile};
 ghost use Rattle.avtp_tool.specs.state.Run.{IsListening};
 ghost use Rattle.avtp_tool.specs.Status.{status_of};
 
+use crate::ahead::write_waiting;
 use crate::command::print_unopened;
 use crate::hearing::{Heard, Hearing, Stage};
 use crate::presenting::Presenting;
@@ -22,7 +25,7 @@ use crate::status::Status;
 use avtp_base::Failed;
 use avtp_files::{Shelf, Sink};
 use avtp_text::Text;
-use avtp_words::Listen;
+use avtp_words::{Listen, ListenerOptions};
 use capture_io::{End, Source};
 use device_rack::Devices;
 use listener::{Counts, ListenPlan, RecordListener};
@@ -31,8 +34,8 @@ use std::alloc::Global;
 use std::thread::Threads;
 
 /// The listener that the words ask for.
-fn plan(asked: &Listen<'_>) -> ListenPlan
-    ensures { result ≡ plan_of (listening_of asked.now) }
+fn plan(asked: &ListenerOptions) -> ListenPlan
+    ensures { result ≡ plan_of asked.now }
 {
     ListenPlan {
         stream: asked.stream,
@@ -45,9 +48,9 @@ fn plan(asked: &Listen<'_>) -> ListenPlan
     }
 }
 
-/// Prints of a capture what of the stream is presented, at which instants, and why the rest is not, each as soon as it
-/// is due. One thread reads and judges; another writes, and hands each item on once its text is written. Memory is
-/// taken for each packet, so if none is found, what was due before is printed.
+/// Prints which packets of the stream in a capture are presented, at which instants, and why the others are not, each as soon
+/// as it is due. One thread reads and judges; another writes, and gives each item to the devices after its text. Memory is
+/// allocated for each packet, so if memory runs out, what was due before is printed.
 pub fn listen<T: Threads + Sync, F: Shelf + Send, S: Sink + Send, G: Gate, D: Devices + Send>(
     rt: &T,
     alloc: Global,
@@ -60,13 +63,13 @@ pub fn listen<T: Threads + Sync, F: Shelf + Send, S: Sink + Send, G: Gate, D: De
     rack: &mut D,
 ) -> Result<Status, Failed>
     requires { IsListening (listening_of asked.now) }
-    ensures { DoesFile (listen_report (listening_of asked.now) file.now) (HandsOn D.handed rack.old rack.new) asked.now.limit file.now (F.state shelf.old) (F.state shelf.new) (S.state out.old) (S.state out.new) text.old text.new result }
+    ensures { DoesFile (listen_report (listening_of asked.now) file.now) (HandsOn D.handed rack.old rack.new) asked.now.listener.limit file.now (F.state shelf.old) (F.state shelf.new) (S.state out.old) (S.state out.new) text.old text.new result }
 {
-    let source = match Source::open(alloc, asked.limit, shelf, file) {
+    let source = match Source::open(alloc, asked.listener.limit, shelf, file) {
         Ok(source) => source,
         Err(fault) => return print_unopened(text, out, fault),
     };
-    let Ok(listener) = RecordListener::begin(alloc, plan(asked)) else {
+    let Ok(listener) = RecordListener::begin(alloc, plan(&asked.listener)) else {
         source.close(shelf);
         return Ok(Status::Memory);
     };
@@ -92,7 +95,7 @@ pub fn listen<T: Threads + Sync, F: Shelf + Send, S: Sink + Send, G: Gate, D: De
     let Hearing { source, .. } = hearing;
     source.close(shelf);
     match heard? {
-        Heard::Ended { end, counts } => print_last(text, out, asked.limit, &counts, end),
+        Heard::Ended { end, counts } => print_last(text, out, asked.listener.limit, &counts, end),
         Heard::NoMemory => Ok(Status::Memory),
     }
 }
@@ -119,9 +122,17 @@ fn hear_records<T: Threads + Sync, F: Shelf + Send, S: Sink + Send, G: Gate, D: 
     let Ok(mut pipe) = Pipe::begin(alloc, ring) else {
         return Ok(Heard::NoMemory);
     };
-    text.capture(out, file)?;
+    print_name(text, out, file)?;
     hear_items(rt, &mut pipe, hearing, shelf, text, out, gate, rack)?;
     Ok(hearing.heard())
+}
+
+/// Prints a capture's name, so that it is seen before the first packet is.
+fn print_name<S: Sink>(text: &mut Text, out: &mut S, file: &str) -> Result<(), Failed>
+    ensures { PrintsPart (S.state out.old) (S.state out.new) text.old text.new result (capture_line file.now) }
+{
+    text.capture(out, file)?;
+    write_waiting(text, out)
 }
 
 /// Prints what is shown of a capture's records, as far as it can be read.
@@ -144,13 +155,12 @@ fn hear_items<T: Threads + Sync, F: Shelf + Send, S: Sink + Send, G: Gate, D: De
         text,
         out,
         rack,
-        items: 0,
         result: Ok(()),
     };
     hear_through(rt, pipe, &mut receiver, &mut presenter, gate)
 }
 
-/// Has the one side receive and the other present until all is done.
+/// Lets one side receive and the other present until everything is done.
 fn hear_through<T: Threads + Sync, F: Shelf + Send, S: Sink + Send, G: Gate, D: Devices + Send>(
     rt: &T,
     pipe: &mut Pipe,

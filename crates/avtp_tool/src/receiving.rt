@@ -4,7 +4,7 @@ use crate::hearing::Hearing;
 use avtp_files::Shelf;
 use presenter_ring::{Pull, Receiver};
 
-/// A capture that is heard, and the shelf on which it is open.
+/// A capture that is heard, and the shelf that it is open on.
 #[derive(Drop)]
 pub struct Receiving<'a, F: Shelf + Send> {
     pub hearing: &'a mut Hearing,
@@ -21,11 +21,15 @@ impl<'a, F: Shelf + Send> Receiver for Receiving<'a, F> {
 
     ghost left = { λ receiving. left_of receiving.hearing.now.stage receiving.hearing.now.source receiving.hearing.now.listener };
 
-    // One whose file is not open cannot go on: it counts as ended by a fault of reading. That its file is open is no
-    // fact that a struct with a borrow can keep.
+    // A receiver whose file is not open counts as ended by a fault of reading. A struct with a borrow cannot have the invariant
+    // that its file is open.
     ghost ended = { λ receiving. ended_at ((F.state receiving.shelf.now).slots (slot_of receiving.hearing.now.source)) receiving.hearing.now.stage };
 
     fn next(&mut self) -> Pull {
         self.hearing.next(self.shelf)
+    }
+
+    fn may_wait(&self) -> bool {
+        self.hearing.may_wait()
     }
 }

@@ -6,7 +6,7 @@ use avtp_base::Failed;
 use presenter_ring::{Gate, Pipe, Presenter, Receiver, Round};
 use std::thread::Threads;
 
-/// Goes on round by round until the receiver has ended and all that it gave was presented, or until the presenter fails.
+/// Runs round after round until the receiver has ended and everything that it gave was presented, or until the presenter fails.
 pub fn present_all<T: Threads + Sync, R: Receiver, P: Presenter, G: Gate>(
     rt: &T,
     pipe: &mut Pipe,

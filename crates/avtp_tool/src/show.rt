@@ -8,6 +8,7 @@ ghost use Rattle.avtp_tool.specs.state.Show.{PrintsRecords};
 ghost use Rattle.avtp_tool.specs.state.Yield.{HandsNothing};
 ghost use Rattle.avtp_tool.specs.Status.{status_of};
 
+use crate::ahead::next_record;
 use crate::command::print_unopened;
 use crate::record::print_record;
 use crate::status::Status;
@@ -24,8 +25,8 @@ pub struct Printed {
     pub end: End,
 }
 
-/// Prints a line for each record of a capture, and a line for its end. At most `limit` bytes of it are read. All memory
-/// is taken before the first line, so nothing is printed if none is found.
+/// Prints a line for each record of a capture, and a line for its end. Reads at most `limit` bytes of it. All memory is
+/// allocated before the first line, so nothing is printed if memory runs out.
 pub fn show<F: Shelf, S: Sink>(
     alloc: Global,
     limit: u64,
@@ -61,7 +62,7 @@ fn print_records<F: Shelf, S: Sink>(
 {
     let mut frames = 0;
     loop {
-        if let Some(end) = source.next(shelf) {
+        if let Some(end) = next_record(source, shelf, text, out)? {
             return Ok(Printed { frames, end });
         }
         frames += 1;

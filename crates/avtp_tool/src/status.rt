@@ -8,11 +8,11 @@ use capture_io::End;
 /// How a run ended. The command ends with its code.
 #[derive(Clone, Copy, Debug, PartialEq, Eq)]
 pub enum Status {
-    /// All that was asked for was done.
+    /// Everything that was asked for was done.
     Done,
-    /// Something was found that is told in the text.
+    /// `check` found something, which the text says.
     Findings,
-    /// The words are no command line.
+    /// The words are not a command line.
     Words,
     /// A capture was refused at a field.
     Refused,
@@ -20,9 +20,9 @@ pub enum Status {
     ReadFault,
     /// The text or a file could not be written.
     WriteFault,
-    /// No memory was found.
+    /// Memory ran out.
     Memory,
-    /// A file has more bytes than may be read.
+    /// A file has more bytes than the limit.
     Limit,
     /// A device failed.
     DeviceFault,
@@ -31,7 +31,7 @@ pub enum Status {
 }
 
 impl Status {
-    /// The status of a run that ends with a capture whose reading ends so.
+    /// The status of a run that ends with a capture whose reading ends in this way.
     pub fn of(end: End) -> Status
         ensures { result ≡ status_of end }
     {

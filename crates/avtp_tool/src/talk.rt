@@ -40,7 +40,7 @@ fn kind(asked: Kind) -> TalkKind
     }
 }
 
-/// The media clock that is sent beside the stream, if one is.
+/// The media clock that is sent with the stream, if any.
 fn clock(asked: Option<Crf>) -> Option<CrfPlan>
     ensures { result ≡ option_map talk_clock asked }
 {
@@ -72,7 +72,7 @@ fn plan(asked: &Talk<'_>) -> TalkPlan
     }
 }
 
-/// Reads an input whole, makes the capture of it that is asked for, and says how many packets it has; or why it made none.
+/// Reads an input whole, makes the capture of it, and prints how many packets it has; or why it made none.
 pub fn talk<F: Shelf, S: Sink>(
     alloc: Global,
     asked: &Talk<'_>,
@@ -121,7 +121,7 @@ fn talk_contents<F: Shelf, S: Sink>(
     }
 }
 
-/// Makes the capture of all frames of a talker, and says how many packets they are.
+/// Makes the capture of all frames of a talker, and prints how many packets they are.
 fn send<F: Shelf, S: Sink>(
     alloc: Global,
     talker: &mut Talker<'_>,
@@ -141,7 +141,7 @@ fn send<F: Shelf, S: Sink>(
     }
 }
 
-/// How a run ends whose file could not be made.
+/// The status of a run whose file could not be made.
 fn unmade(fault: OpenFault) -> Status
     ensures { result ≡ unmade_as fault }
 {
@@ -151,11 +151,11 @@ fn unmade(fault: OpenFault) -> Status
     }
 }
 
-/// Makes a file, or empties it, and writes the capture of all frames of a talker. All memory is taken before the file
-/// is made. If it cannot be made or written nothing is printed, since the line of `talk` says what was made.
+/// Makes a file, or empties it, and writes the capture of all frames of a talker. All memory is allocated before the file is
+/// made. If it cannot be made or written, nothing is printed, because the line of `talk` says what was made.
 ///
-/// `Failed` comes only if the writing count rose; the file then is as it was, or has a prefix of the capture. `Memory`
-/// leaves it as it was, and `Missing` never comes.
+/// `Failed` comes only if the writing count rose; the file then is unchanged, or has a prefix of the capture. `Memory` leaves
+/// it unchanged, and `Missing` never comes.
 fn make_capture<F: Shelf>(
     alloc: Global,
     shelf: &mut F,
@@ -198,7 +198,7 @@ fn write_capture<F: Shelf>(
     Ok(())
 }
 
-/// Says how many packets were sent.
+/// Prints how many packets were sent.
 fn print_sent<S: Sink>(
     text: &mut Text,
     out: &mut S,
@@ -211,7 +211,7 @@ fn print_sent<S: Sink>(
     Ok(Status::Done)
 }
 
-/// Says why the input makes no stream; if that is for want of memory, by the status alone.
+/// Prints why the input makes no stream; if memory ran out, only the status says so.
 fn print_talk_fault<S: Sink>(
     text: &mut Text,
     out: &mut S,
@@ -236,7 +236,7 @@ fn print_input<S: Sink>(text: &mut Text, out: &mut S, fault: TalkFault) -> Resul
     Ok(Status::TalkInput)
 }
 
-/// Says that the input is too long.
+/// Prints that the input is too long.
 fn print_limit<S: Sink>(text: &mut Text, out: &mut S) -> Result<Status, Failed>
     ensures { EndsWith Status.Limit (S.state out.old) (S.state out.new) text.old text.new result (limit_line most_input) }
 {

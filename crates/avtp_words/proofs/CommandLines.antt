@@ -60,7 +60,7 @@ value-after rows (g ∷ gs) name row sound each is_row wanted =
         | inr different ↦ rw different later
       ]
 
--- Options, then a word that begins as none, are options and names in one way.
+-- A word that does not begin as an option splits a line into options and names in one way.
 pub same_settings : (rows : List Row) (gs hs : List Setting) (rest names : List (List ℕ)) → All (IsSetting rows) gs → All (IsSetting rows) hs → All IsName names → IfSome (slice_get rest 0) (λ word. BeginsWithDash word → ⊥) → flat_map words_of gs ++ rest ≡ flat_map words_of hs ++ names → (gs ≡ hs) × (rest ≡ names)
 same_settings rows [] [] rest names gs_each hs_each named ends e = (refl, e)
 same_settings rows [] (h ∷ hs) [] names gs_each hs_each named ends e = absurd (cc)
@@ -114,7 +114,7 @@ stops_of_options rows operands words place s = record {
   go [] never = λ line. never (tail s.before line)
   go (word ∷ rest) never = λ b. never (record { more = b.more; whole = tail ((s.before ++ word ∷ []) ++ b.more) b.whole })
 
--- what stands at the end of the options is the first of the rest
+-- the word at the end of the options is the first of the rest
 at_end : (rows : List Row) (words : List (List ℕ)) (place : ℕ) (o : AreOptionsTo rows words place) → slice_get words place ≡ slice_get o.rest 0
 at_end rows words place o = ap (slice_get words) o.here ∙ ap (λ ws. slice_get ws (length (flat_map words_of o.settings))) o.split ∙ start (flat_map words_of o.settings) o.rest
 
@@ -126,7 +126,7 @@ drop_before (x ∷ before) rest = drop_before before rest
 pub left_is : (rows : List Row) (words : List (List ℕ)) (place : ℕ) (o : AreOptionsTo rows words place) → drop place words ≡ o.rest
 left_is rows words place o = ap (λ n. drop n words) o.here ∙ ap (drop (length (flat_map words_of o.settings))) o.split ∙ drop_before (flat_map words_of o.settings) o.rest
 
--- the first of a list is the first of its prefix and of what goes on from there
+-- the first of a list is the first of a prefix followed by the rest
 first_of : (before more : List (List ℕ)) (word : List ℕ) (rest other : List (List ℕ)) → slice_get (before ++ word ∷ rest) 0 ≡ slice_get (before ++ word ∷ other) 0
 first_of [] more word rest other = refl
 first_of (x ∷ before) more word rest other = refl
@@ -182,7 +182,7 @@ options_to rows operands words place r = record { settings = r.rest.settings; re
 pub words_after : (words : List (String Global)) (place : ℕ) → texts (take (length words - place) (drop place words)) ≡ drop place (texts words)
 words_after words place = ap texts (take_all (length words - place) (drop place words) (omega (arith, length-drop place words))) ∙ sym (drop-map {X = String Global} {Y = List ℕ} string_bytes place words)
 
--- they stand among the words
+-- they are among the words
 pub rest_within : (rows : List Row) (operands : List Operand) (words : List (String Global)) (place : ℕ) → IsRestTo rows operands (texts words) place → place ≤ length words
 rest_within rows operands words place r = omega (arith, r.here, ap length r.rest.spelled, length-append (flat_map words_of r.rest.settings) r.rest.names, length-map {A = String Global} {B = List ℕ} words string_bytes)
 
@@ -221,7 +221,7 @@ pub format_given : (default format : AafFormat) (v : Option (List ℕ)) → IfSo
 format_given default format None is reads = reads.absent
 format_given default format (Some word) (named, is) reads = is ∙ ap format_name (sym (reads.read named is))
 
--- what an option gives is within its range, where its default is
+-- an option gives a number within its range if its default is within it
 pub within : (option : NumberOption) (default n : ℕ) (gs : List Setting) → option.default ≡ Some default → option.low ≤ default → default ≤ option.high → IsGiven option gs n → (option.low ≤ n) × (n ≤ option.high)
 within option default n gs has least most given = go (value_in option.name gs) given where
   go : (v : Option (List ℕ)) → MatchOption v (IsSomeAnd option.default (λ default. n ≡ default)) (λ word. IsNumber option.low option.high word n) → (option.low ≤ n) × (n ≤ option.high)

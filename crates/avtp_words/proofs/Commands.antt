@@ -20,12 +20,13 @@ use Rattle.avtp_words.specs.declared.device.Silence.TheVariants.{Zero, Am824 as 
 use Rattle.avtp_words.specs.Given.{IsGiven, IsGivenId, IsGivenIdIf, IsGivenIf, IsGivenSigned, IsGivenSilence}
 use Rattle.avtp_words.specs.Number.{IsNumber}
 use Rattle.avtp_words.specs.Operands.{AreOperands}
-use Rattle.avtp_words.specs.state.Reading.{ClockIsWithin, IsRest, IsRestTo, StopsAfter, are_sound, value_after, IsRead, IsReadClock, IsReadId, IsReadIdIf, IsReadIf, IsReadSigned, IsReadFormat, IsReadKind, IsReadFile, IsReadRaw, IsReadSilence, ReadsFile, AreHeard, AreRead}
+use Rattle.avtp_words.specs.declared.listener.ListenerOptions.{ListenerOptions}
+use Rattle.avtp_words.specs.state.Reading.{IsReadListener, ClockIsWithin, IsRest, IsRestTo, StopsAfter, are_sound, value_after, IsRead, IsReadClock, IsReadId, IsReadIdIf, IsReadIf, IsReadSigned, IsReadFormat, IsReadKind, IsReadFile, IsReadRaw, IsReadSilence, ReadsFile, AreHeard, AreRead}
 use Rattle.avtp_words.specs.Word.{texts, BeginsWithDash, IsId}
 use Rattle.avtp_words.specs.Limits as limits
 use Rattle.avtp_words.specs.Limits.{NumberOption, default_rate, number, signed, with_default}
 use Rattle.avtp_words.specs.Options.{Row, row_named, Setting, words_of, IsValue, IsSetting, stands_alone, value_in}
-use Rattle.avtp_words.specs.Grammar.{request_of, Request, Listening, Talking, show, check, listen, talk, soak, Form, form_named, show_form, check_form, listen_form, talk_form, soak_form, IsOf, IsShow, IsCheck, IsGivenFile, IsGivenRaw, IsSoak, NamedFile, NamedRaw, NamesFile, SaysClock, SaysKind, SaysListen, SaysTalk, KeepsNames, KeepsRules, IsCommandLine, IsLine, Begins, Stops, StopsAt, IsOffence, of_a_word, of_a_rule}
+use Rattle.avtp_words.specs.Grammar.{request_of, Request, Listening, Talking, show, check, listen, talk, soak, Form, form_named, show_form, check_form, listen_form, talk_form, soak_form, IsOf, IsShow, IsCheck, IsGivenFile, IsGivenRaw, IsSoak, NamedFile, NamedRaw, NamesFile, SaysClock, SaysKind, SaysListen, SaysListener, SaysTalk, KeepsNames, KeepsRules, IsCommandLine, IsLine, Begins, Stops, StopsAt, IsOffence, of_a_word, of_a_rule}
 use Rattle.avtp_words.proofs.Settings.{same-true}
 use Rattle.avtp_words.proofs.CommandLines.{same_line, left_is, value_is, value-after, number_given, number_given_if, id_given, id_given_if, signed_given, format_given, within, same_number, same_number_if, same_id, same_id_given, same_id_given_if, same_signed, same_format_given, options_to, beyond}
 use Rattle.avtp_words.proofs.Clocks.{clock_within, same_clock}
@@ -68,7 +69,7 @@ offence_after form words position known b = of_a_word (b.place + 1) (omega (arit
   go [] never = λ line. never (rest_of_line form s.before known line)
   go (word ∷ rest) never = λ c. never (record { more = c.more; whole = rest_of_line form ((s.before ++ word ∷ []) ++ c.more) known c.whole })
 
--- what a command asks for is told by a line
+-- a line tells what its command asks for
 abbrev line_of : (words : List (List ℕ)) (request : Request) → IsCommandLine words request → IsLine words
 line_of words (show limit file) s = record { form = show_form; known = refl; settings = s.settings; names = file ∷ []; line = s.line }
 line_of words (check limit files) s = record { form = check_form; known = refl; settings = s.settings; names = files; line = s.line }
@@ -78,7 +79,7 @@ line_of words (talk asked) (s, rules) = record { form = talk_form; known = refl;
 
 -- ---- no command
 
--- no command stands first
+-- no command is first
 abbrev pub IsNoCommand : List (List ℕ) → Type 0
 IsNoCommand words = IfSome (slice_get words 0) (λ word. form_named word ≡ None)
 
@@ -152,7 +153,7 @@ first_operand form words place r = ap (slice_get words) {y = place + 0} (omega a
 
 -- ---- show
 
--- an operand stands there
+-- an operand is there
 pub show_operand : (words : List (List ℕ)) (place : ℕ) → IsRestTo show_form.rows show_form.operands words place → slice_get words place ≡ None → ⊥
 show_operand words place r none = go r.rest.names r.rest.named (sym (first_operand show_form words place r) ∙ none) where
   go : (ns : List (List ℕ)) → AreOperands show_form.operands ns → slice_get ns 0 ≡ None → ⊥
@@ -223,36 +224,27 @@ listen_id words place word r here none =
     let id = t.line.operands.0 in
     none id.0 (subst (λ w. IsId w id.0) same id.1)
 
--- the line with the operands that stand there
+-- the line with the operands that are there
 listen_line : (words : List (List ℕ)) (place : ℕ) (settings : List Setting) (t : IdAndNames words place settings) (id : List ℕ) (files : List (List ℕ)) → slice_get words place ≡ Some id → drop (place + 1) words ≡ files → IsOf listen_form (codes "listen" ∷ words) settings (id ∷ files)
 listen_line words place settings t id files at_id at_files =
     let ids : t.id ≡ id = (let e = sym t.at_id ∙ at_id in cc) in
     let names : t.files ≡ files = sym t.at_files ∙ at_files in
     subst (λ (n : List (List ℕ)). IsOf listen_form (codes "listen" ∷ words) settings (id ∷ n)) names (subst (λ (n : List ℕ). IsOf listen_form (codes "listen" ∷ words) settings (n ∷ t.files)) ids t.line)
 
--- what stands among the first words stands among all
+-- a word among the first words is among all words
 among_first : (ws more : List (List ℕ)) (k : ℕ) (word : List ℕ) → slice_get ws k ≡ Some word → slice_get (ws ++ more) k ≡ Some word
 among_first [] more k word e = absurd cc
 among_first (w ∷ ws) more zero word e = e
 among_first (w ∷ ws) more (suc k) word e = among_first ws more k word e
 
 pub listen_says : (words : List (String Global)) (place : ℕ) (id : List ℕ) (asked : Listening) → IsRestTo listen_form.rows listen_form.operands (texts words) place
-    → slice_get (texts words) place ≡ Some id → IsId id asked.stream → drop (place + 1) (texts words) ≡ asked.files
+    → slice_get (texts words) place ≡ Some id → IsId id asked.listener.stream → drop (place + 1) (texts words) ≡ asked.files
     → AreHeard (texts (take place words)) asked → SaysListen (codes "listen" ∷ texts words) asked
 listen_says words place id asked r here is next read = record {
   settings = gs;
   id = id;
   line = listen_line (texts words) place gs (id_and_names (texts words) place r) id asked.files here next;
-  stream = is;
-  limit = number_is listen_form words place r limits.limit (2 ^ 40) (2 ^ 64) asked.limit refl refl refl (omega arith) read.limit;
-  buffer = number_is listen_form words place r limits.buffer 4096 (2 ^ 32) asked.buffer refl refl refl (omega arith) read.buffer;
-  room = number_is listen_form words place r limits.room (2 ^ 26) (2 ^ 32) asked.room refl refl refl (omega arith) read.room;
-  look = number_is listen_form words place r limits.look 0 (2 ^ 32) asked.look refl refl refl (omega arith) read.look;
-  lead = number_is listen_form words place r limits.listen_lead 2000000 (2 ^ 32) asked.lead refl refl refl (omega arith) read.lead;
-  clock = id_given_if asked.clock (value_in clock.name gs) (value_is listen_form.rows clock.name clock gs refl r.rest.options.each)
-      (subst (λ v. IsReadIdIf v asked.clock) (after_options listen_form words place r clock.name clock refl refl refl) read.clock);
-  shift = signed_given limits.crf_shift.most limits.crf_shift.default asked.shift (value_in shift.name gs) (omega arith) (value_is listen_form.rows shift.name shift gs refl r.rest.options.each)
-      (subst (λ v. IsReadSigned limits.crf_shift.default v asked.shift) (after_options listen_form words place r shift.name shift refl refl refl) read.shift);
+  listener = listener_says asked.listener is read.listener;
   ring = number_is listen_form words place r limits.ring 64 (2 ^ 32) asked.ring refl refl refl (omega arith) read.ring;
   raw = raw_says asked.raw read.raw;
   annexb = file_says (codes "--annexb") refl asked.annexb read.annexb;
@@ -266,7 +258,21 @@ listen_says words place id asked r here is next read = record {
   shift : Row
   shift = signed limits.crf_shift
 
-  -- what stands among the options stands among all words, a place on
+  listener_says : (asked : ListenerOptions) → IsId id asked.stream → IsReadListener (texts (take place words)) asked → SaysListener gs id asked
+  listener_says asked is read = record {
+    stream = is;
+    limit = number_is listen_form words place r limits.limit (2 ^ 40) (2 ^ 64) asked.limit refl refl refl (omega arith) read.limit;
+    buffer = number_is listen_form words place r limits.buffer 4096 (2 ^ 32) asked.buffer refl refl refl (omega arith) read.buffer;
+    room = number_is listen_form words place r limits.room (2 ^ 26) (2 ^ 32) asked.room refl refl refl (omega arith) read.room;
+    look = number_is listen_form words place r limits.look 0 (2 ^ 32) asked.look refl refl refl (omega arith) read.look;
+    lead = number_is listen_form words place r limits.listen_lead 2000000 (2 ^ 32) asked.lead refl refl refl (omega arith) read.lead;
+    clock = id_given_if asked.clock (value_in clock.name gs) (value_is listen_form.rows clock.name clock gs refl r.rest.options.each)
+        (subst (λ v. IsReadIdIf v asked.clock) (after_options listen_form words place r clock.name clock refl refl refl) read.clock);
+    shift = signed_given limits.crf_shift.most limits.crf_shift.default asked.shift (value_in shift.name gs) (omega arith) (value_is listen_form.rows shift.name shift gs refl r.rest.options.each)
+        (subst (λ v. IsReadSigned limits.crf_shift.default v asked.shift) (after_options listen_form words place r shift.name shift refl refl refl) read.shift);
+  }
+
+  -- a word among the options is among all words, one place later
   after_command : (k : ℕ) (word : List ℕ) → slice_get (texts (take place words)) k ≡ Some word → slice_get (codes "listen" ∷ texts words) (k + 1) ≡ Some word
   after_command k word e =
       let before : texts (take place words) ≡ flat_map words_of gs = words_before listen_form.rows words place (options_to listen_form.rows listen_form.operands (texts words) place r) in
@@ -332,7 +338,7 @@ two_names words place r = go r.rest.names r.rest.spelled r.rest.named (first_ope
   }
   go (first ∷ second ∷ more ∷ ns) spelled named at_first at_second = absurd named.1.1
 
--- the line with the operands that stand there
+-- the line with the operands that are there
 line_at : (words : List (List ℕ)) (place : ℕ) (settings : List Setting) (t : TwoNames words place settings) (first second : List ℕ) → slice_get words place ≡ Some first → slice_get words (place + 1) ≡ Some second → IsOf talk_form (codes "talk" ∷ words) settings (first ∷ second ∷ [])
 line_at words place settings t first second at_first at_second =
     let firsts : t.first ≡ first = (let e = sym t.at_first ∙ at_first in cc) in
@@ -487,7 +493,7 @@ soak_is words place word packets r here is =
 
 -- ---- one request
 
--- words are of one command
+-- equal words are of one command
 same_command : (form other : Form) (words : List (List ℕ)) (gs hs : List Setting) (ns ms : List (List ℕ)) → IsOf form words gs ns → IsOf other words hs ms → form.command ≡ other.command
 same_command form other words gs hs ns ms p q = cc (p.spelled, q.spelled)
 
@@ -592,7 +598,7 @@ same_talk words a b p q = same inputs outputs
       same : a.input ≡ b.input → a.output ≡ b.output → a.kind ≡ b.kind → a.rate ≡ b.rate → a.channels ≡ b.channels → a.count ≡ b.count → a.id ≡ b.id → a.start ≡ b.start → a.lead ≡ b.lead → a.restart ≡ b.restart → a.jump ≡ b.jump → a.crf ≡ b.crf → a ≡ b
       same inputs outputs kinds rates channels counts ids starts leads restarts jumps clocks = rw (inputs, outputs, kinds, rates, channels, counts, ids, starts, leads, restarts, jumps, clocks) refl
 
--- every word can stand, and a rule over several of them fails
+-- each word is accepted, but they contradict one another
 pub offence_of_rule : (words : List (List ℕ)) (asked : Talking) → SaysTalk words asked → (KeepsRules (drop 1 words) asked → ⊥) → IsOffence words 1
 offence_of_rule words asked says breaks = of_a_rule refl
     (record { form = talk_form; known = refl; settings = says.settings; names = asked.input ∷ asked.output ∷ []; line = says.line }) none where
@@ -605,18 +611,25 @@ offence_of_rule words asked says breaks = of_a_rule refl
 
 -- ---- each line asks for one thing, and words have one offence
 
+-- words ask for one listener
+same_listener : (settings : List Setting) (id : List ℕ) (a b : ListenerOptions) → SaysListener settings id a → SaysListener settings id b → a ≡ b
+same_listener settings id a b p q = same
+    (same_id id a.stream b.stream p.stream q.stream)
+    (same_number limits.limit a.limit b.limit settings (omega arith) p.limit q.limit)
+    (same_number limits.buffer a.buffer b.buffer settings (omega arith) p.buffer q.buffer)
+    (same_number limits.room a.room b.room settings (omega arith) p.room q.room)
+    (same_number limits.look a.look b.look settings (omega arith) p.look q.look)
+    (same_number limits.listen_lead a.lead b.lead settings (omega arith) p.lead q.lead)
+    (same_id_given_if (codes "--clock") a.clock b.clock settings p.clock q.clock)
+    (same_signed limits.crf_shift a.shift b.shift settings (omega arith) p.shift q.shift) where
+      same : a.stream ≡ b.stream → a.limit ≡ b.limit → a.buffer ≡ b.buffer → a.room ≡ b.room → a.look ≡ b.look → a.lead ≡ b.lead → a.clock ≡ b.clock → a.shift ≡ b.shift → a ≡ b
+      same streams limits buffers rooms looks leads clocks shifts = rw (streams, limits, buffers, rooms, looks, leads, clocks, shifts) refl
+
 -- words of `listen` ask for one thing
 same_listen : (words : List (List ℕ)) (a b : Listening) → SaysListen words a → SaysListen words b → a ≡ b
 same_listen words a b p q = same
-    (same_id q.id a.stream b.stream (subst (λ word. IsId word a.stream) ids p.stream) q.stream)
-    (number limits.limit a.limit b.limit (omega arith) p.limit q.limit)
-    (number limits.buffer a.buffer b.buffer (omega arith) p.buffer q.buffer)
-    (number limits.room a.room b.room (omega arith) p.room q.room)
-    (number limits.look a.look b.look (omega arith) p.look q.look)
-    (number limits.listen_lead a.lead b.lead (omega arith) p.lead q.lead)
-    (same_id_given_if (codes "--clock") a.clock b.clock q.settings (subst (λ gs. IsGivenIdIf (codes "--clock") gs a.clock) both.0 p.clock) q.clock)
-    (same_signed limits.crf_shift a.shift b.shift q.settings (omega arith) (subst (λ gs. IsGivenSigned limits.crf_shift gs a.shift) both.0 p.shift) q.shift)
-    (number limits.ring a.ring b.ring (omega arith) p.ring q.ring)
+    (same_listener q.settings q.id a.listener b.listener (subst (λ word. SaysListener q.settings word a.listener) ids (subst (λ gs. SaysListener gs p.id a.listener) both.0 p.listener)) q.listener)
+    (same_number limits.ring a.ring b.ring q.settings (omega arith) (subst (λ gs. IsGiven limits.ring gs a.ring) both.0 p.ring) q.ring)
     (same_raw words q.settings (q.id ∷ b.files) a.raw b.raw q.line (subst (λ gs. IsGivenRaw words gs a.raw) both.0 p.raw) q.raw)
     (same_file words q.settings (q.id ∷ b.files) (codes "--annexb") a.annexb b.annexb q.line refl (subst (λ gs. IsGivenFile words gs (codes "--annexb") a.annexb) both.0 p.annexb) q.annexb)
     files where
@@ -629,13 +642,10 @@ same_listen words a b p q = same
       ids : p.id ≡ q.id
       ids = cc (both.1)
 
-      number : (option : NumberOption) (m n : ℕ) → option.high < 2 ^ 64 → IsGiven option p.settings m → IsGiven option q.settings n → m ≡ n
-      number option m n small first second = same_number option m n q.settings small (subst (λ gs. IsGiven option gs m) both.0 first) second
+      same : a.listener ≡ b.listener → a.ring ≡ b.ring → a.raw ≡ b.raw → a.annexb ≡ b.annexb → a.files ≡ b.files → a ≡ b
+      same listeners rings raws annexbs files = rw (listeners, rings, raws, annexbs, files) refl
 
-      same : a.stream ≡ b.stream → a.limit ≡ b.limit → a.buffer ≡ b.buffer → a.room ≡ b.room → a.look ≡ b.look → a.lead ≡ b.lead → a.clock ≡ b.clock → a.shift ≡ b.shift → a.ring ≡ b.ring → a.raw ≡ b.raw → a.annexb ≡ b.annexb → a.files ≡ b.files → a ≡ b
-      same streams limits buffers rooms looks leads clocks shifts rings raws annexbs files = rw (streams, limits, buffers, rooms, looks, leads, clocks, shifts, rings, raws, annexbs, files) refl
-
--- every word after `listen` can stand, and a rule over several of them fails
+-- each word after `listen` is accepted, but they contradict one another
 pub offence_of_names : (words : List (List ℕ)) (asked : Listening) → SaysListen words asked → (KeepsNames (drop 1 words) asked → ⊥) → IsOffence words 1
 offence_of_names words asked says breaks = of_a_rule refl
     (record { form = listen_form; known = refl; settings = says.settings; names = says.id ∷ asked.files; line = says.line }) none where
@@ -708,7 +718,7 @@ one_begins (x ∷ xs) (y ∷ ys) rest more e =
       | inr (m, whole, left) ↦ inr (m, ap (λ (first : List ℕ). first ∷ xs) heads ∙ ap (λ (ws : List (List ℕ)). y ∷ ws) whole, left)
     ]
 
--- what goes on past a word that cannot stand begins no line
+-- a continuation past a word that is not accepted begins no line
 past : (before rest m : List (List ℕ)) (more : List (List ℕ)) → Stops IsLine before rest → rest ≡ m ++ more → Begins IsLine (before ++ m) → m ≡ []
 past before rest [] more stops split begins = refl
 past before [] (word ∷ m) more stops split begins = absurd (cc)

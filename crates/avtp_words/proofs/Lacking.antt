@@ -34,6 +34,6 @@ no_clock : (gs : List Setting) (rate : ℕ) (crf : Option Crf) → value_in (cod
 no_clock gs rate None none says = refl
 no_clock gs rate (Some crf) none says = absurd (let id : Some crf.id ≡ None = rw none at says.id in cc)
 
--- nor a media clock
+-- H.264 has no media clock
 pub video_clock : (words : List (List ℕ)) (asked : Talking) (last_stamp : Bool) → SaysTalk words asked → FitsOptions (H264 last_stamp) (drop 1 words) → asked.crf ≡ None
 video_clock words asked last_stamp says fits = no_clock says.settings asked.rate asked.crf (without words asked says (codes "--crf") (fits.kind_has 6 [] (omega arith))) says.crf

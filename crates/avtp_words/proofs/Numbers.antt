@@ -54,7 +54,7 @@ pub no_dash : (word : List ℕ) (n : ℕ) → n < 2 ^ 64 → word ≡ decimal n 
 no_dash [] n small e dash = dash
 no_dash (first ∷ more) n small e dash = let begins : BeginsAsNumber (first ∷ more) = begins-decimal (first ∷ more) n small e in omega (arith, begins.low, dash)
 
--- a number is a name too
+-- a number can also be a name
 pub number_name : (word : List ℕ) (n : ℕ) → n < 2 ^ 64 → word ≡ decimal n → IsName word
 number_name [] n small e = absurd (let begins : BeginsAsNumber [] = begins-decimal [] n small e in omega (arith, begins.some))
 number_name (first ∷ more) n small e = λ dash. no_dash (first ∷ more) n small e dash
@@ -75,12 +75,12 @@ no_dashes [] (negsuc n) small e both = absurd cc
 no_dashes (first ∷ []) (negsuc n) small e both = absurd cc
 no_dashes (first ∷ second ∷ more) (negsuc n) small e both = no_dash (second ∷ more) (suc n) (omega (arith, small)) (ap (drop 1) e) (second_dash first second more both)
 
--- digits of no number above 0 are those of no number below 0
+-- digits that are no number above 0 are no number below 0 either
 pub below_none : (digits : List ℕ) → ((n : ℕ) → 0 < n → n < 2 ^ 63 → digits ≢ decimal n) → (z : ℤ) → unsigned_abs z < 2 ^ 63 → (45 ∷ digits) ≢ signed_decimal z
 below_none digits none (pos n) small e = no_dash (45 ∷ digits) n (omega (arith, small)) e refl
 below_none digits none (negsuc n) small e = none (suc n) (omega arith) small (ap (drop 1) e)
 
--- a word without a dash is no number below 0
+-- a word without a dash is not a number below 0
 pub above_none : (word : List ℕ) → ((rest : List ℕ) → word ≢ 45 ∷ rest) → ((n : ℕ) → n < 2 ^ 63 → word ≢ decimal n) → (z : ℤ) → unsigned_abs z < 2 ^ 63 → word ≢ signed_decimal z
 above_none word plain none (pos n) small e = none n small e
 above_none word plain none (negsuc n) small e = plain (decimal (suc n)) e
@@ -89,7 +89,7 @@ mag_below : (z : ℤ) → unsigned_abs z < 2 ^ 63 → mag z < 2 ^ 63
 mag_below (pos n) small = small
 mag_below (negsuc n) small = omega (arith, small)
 
--- a word is one number, also below 0
+-- a word is at most one number, including negative ones
 pub same_spelled : (word : List ℕ) (y z : ℤ) → unsigned_abs y < 2 ^ 63 → unsigned_abs z < 2 ^ 63 → word ≡ signed_decimal y → word ≡ signed_decimal z → y ≡ z
 same_spelled word y z small smaller p q = signed_decimal_injective y z (mag_below y small) (mag_below z smaller) (sym p ∙ q)
 
@@ -119,7 +119,7 @@ pub signed_read_of : (word : List ℕ) (o : Option ℤ) (default : ℤ) → IfSo
 signed_read_of word (Some y) default spells small none = record { absent = tt; read = λ z below e. same_spelled word y z small below spells e }
 signed_read_of word None default spells small none = record { absent = tt; read = λ z below e. absurd (none z below e) }
 
--- what holds of any answer holds where there is none
+-- a fact about any answer holds if there is no answer
 pub where_none : {X : Type 0} {P : Type 0} (answer : Option X) → P → IfNone answer P
 where_none None holds = holds
 where_none (Some x) holds = tt
@@ -163,14 +163,14 @@ signed_read word default n (Err e) small large reads = (default, omega (arith, s
   none None read = tt
   none (Some word) read = λ k below e. absurd (let same : n ≡ k = read k (omega (arith, below)) e in large (omega (arith, same, below)))
 
--- the number that a word spells, where there is a word, is the one that is read of it
+-- the number that a word spells, if there is a word, is the one that is read of it
 pub read_if : {E : Type 0} (word : List ℕ) (n : ℕ) (r : Result ℕ E) (given : Option ℕ) → n < 2 ^ 64 → word ≡ decimal n → OkIff r (n < 2 ^ 32) n → given ≡ result_ok r → IsReadIf (2 ^ 32) (Some word) given
 read_if {E = E} word n r given small spells tried is = record { absent = tt; read = λ k below e. is ∙ go r tried k below (decimal_injective k n (omega (arith, below)) small (sym e ∙ spells)) } where
   go : (r : Result ℕ E) → OkIff r (n < 2 ^ 32) n → (k : ℕ) → k < 2 ^ 32 → k ≡ n → result_ok r ≡ Some k
   go (Ok x) (fits, x_is) k below same = ap Some (x_is ∙ sym same)
   go (Err e) large k below same = absurd (large (omega (arith, below, same)))
 
--- a word without a dash that spells a number of 2^63 or more is no number below that
+-- a word without a dash that spells a number of 2^63 or more is not a number below 2^63
 pub unfit : {E : Type 0} (word : List ℕ) (n : ℕ) (r : Result ℤ E) (given : Option ℤ) → n < 2 ^ 64 → word ≡ decimal n → OkIff r (FitsSigned w64 (pos n)) (pos n) → given ≡ result_ok r → ((rest : List ℕ) → word ≢ 45 ∷ rest) → IfNone given ((z : ℤ) → unsigned_abs z < 2 ^ 63 → word ≢ signed_decimal z)
 unfit {E = E} word n r given small spells tried is plain = rw is (go r tried) where
   go : (r : Result ℤ E) → OkIff r (FitsSigned w64 (pos n)) (pos n) → IfNone (result_ok r) ((z : ℤ) → unsigned_abs z < 2 ^ 63 → word ≢ signed_decimal z)

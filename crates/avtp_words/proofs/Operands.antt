@@ -19,7 +19,7 @@ use Rattle.std.specs.declared.alloc.Global.{Global}
 use Rattle.avtp_words.proofs.Numbers.{number_name}
 use Rattle.avtp_words.specs.Word.{texts, IsName, IsId}
 
--- an id is a name too
+-- an id can also be a name
 pub id_name : (word : List ℕ) (id : ℕ) → IsId word id → IsName word
 unfolding decode_pairs
 id_name [] id is = absurd (let d = is.digits in cc)
@@ -77,7 +77,7 @@ sampled (Name ∷ operands) = (sample_is Name, sampled operands)
 sampled (Names ∷ operands) = All-cons IsName (sample Names) [] (sample_is Names) (All-nil IsName)
 sampled (Packets ∷ operands) = (sample_is Packets, sampled operands)
 
--- one is missing
+-- an operand is missing
 missing : (operand : Operand) (operands : List Operand) → StopsAt (AreOperands (operand ∷ operands)) [] 0
 missing operand operands = record { before = []; rest = []; split = refl; here = refl; begins = record { more = samples (operand ∷ operands); whole = sampled (operand ∷ operands) }; stops = λ are. are }
 
@@ -85,14 +85,14 @@ pub missing_of : (operand : Operand) (operands : List Operand) (words : List (St
 missing_of operand operands [] e = missing operand operands
 missing_of operand operands (word ∷ words) e = absurd (omega (arith, e))
 
--- the first is what its place asks for
+-- the first word is the operand of its place
 first_is : (operand : Operand) (operands : List Operand) (word : List ℕ) (words : List (List ℕ)) → AreOperands (operand ∷ operands) (word ∷ words) → IsOperand operand word
 first_is Id operands word words are = are.0
 first_is Name operands word words are = are.0
 first_is Names operands word words are = All-head IsName word words are
 first_is Packets operands word words are = are.0
 
--- the first is another
+-- the first word is not the operand of its place
 pub other : (operand : Operand) (operands : List Operand) (word : List ℕ) (words : List (List ℕ)) → (IsOperand operand word → ⊥) → StopsAt (AreOperands (operand ∷ operands)) (word ∷ words) 0
 other operand operands word words not = record { before = []; rest = word ∷ words; split = refl; here = refl; begins = record { more = samples (operand ∷ operands); whole = sampled (operand ∷ operands) }; stops = λ b. not (first_is operand operands word b.more b.whole) }
 
@@ -108,7 +108,7 @@ rest_are Name operands word words single are = are.1
 rest_are Names operands word words single are = absurd cc
 rest_are Packets operands word words single are = are.1
 
--- a later one is wrong
+-- a later word is wrong
 pub later : (operand : Operand) (operands : List Operand) (word : List ℕ) (words : List (List ℕ)) (place : ℕ) → takes_all operand ≡ false → IsOperand operand word → StopsAt (AreOperands operands) words place → StopsAt (AreOperands (operand ∷ operands)) (word ∷ words) (place + 1)
 later operand operands word words place single is s = record {
   before = word ∷ s.before;
@@ -122,7 +122,7 @@ later operand operands word words place single is s = record {
   go [] never = λ are. never (rest_are operand operands word s.before single are)
   go (next ∷ rest) never = λ b. never (record { more = b.more; whole = rest_are operand operands word ((s.before ++ next ∷ []) ++ b.more) single b.whole })
 
--- a word among the names is none
+-- a word among the names is not a name
 unnamed : (operands : List Operand) (words : List (List ℕ)) (place : ℕ) → IsFirstUnnamed words place → StopsAt (AreOperands (Names ∷ operands)) words place
 unfolding samples
 unnamed operands words place u = record {
@@ -142,7 +142,7 @@ unnamed operands words place u = record {
       let word : List ℕ = get_or words place [] in
       All-contains IsName ((before ++ word ∷ []) ++ more) word (names (Names ∷ operands) ((before ++ word ∷ []) ++ more) are) (Contains-append_left (before ++ word ∷ []) more word (Contains-append_right before (word ∷ []) word (0, omega arith, refl)))
 
--- one that takes all the words that are left
+-- an operand that takes all remaining words
 pub all_unnamed : (operand : Operand) (operands : List Operand) (words : List (List ℕ)) (wrong : Option ℕ) → takes_all operand ≡ true → IfSome wrong (IsFirstUnnamed words) → IfSome wrong (StopsAt (AreOperands (operand ∷ operands)) words)
 all_unnamed Id operands words wrong all is = absurd cc
 all_unnamed Name operands words wrong all is = absurd cc

@@ -29,12 +29,12 @@ all_lack words (row ∷ options) none = elim (cases_Bool (has words row)) [
   | inr other ↦ rw other (all_lack words options (All-tail (λ option. Contains (texts words) option → ⊥) row.name.now (names_of options) none))
 ]
 
--- what a test for some of them tells
+-- the result of a test for some of the options
 pub lack : (words : List (String Global)) (options : List OptionRow) (one : Bool) → one ≡ list_any (has words) options → IsTrue (not one) ↔ Lacks (texts words) (names_of options)
 lack words options true e = ((λ no. absurd (let f : false ≡ true = no in cc)), λ none. absurd (let f : true ≡ false = e ∙ all_lack words options none in cc))
 lack words options false e = ((λ yes. none_has words options (sym e)), λ none. refl)
 
--- what a test for a word tells of words that do not have it
+-- the result of a test for a word, if the words do not have it
 pub not_contained : (words : List (String Global)) (name : List ℕ) (tells : Bool) → tells ≡ list_any (λ word. bytes_eq (string_bytes word) name) words → IsTrue (not tells) ↔ (Contains (texts words) name → ⊥)
 not_contained words name true e = ((λ no. absurd (let f : false ≡ true = no in cc)), λ none. absurd (none (present words name (sym e))))
 not_contained words name false e = ((λ yes. absent words name (sym e)), λ none. refl)
@@ -44,7 +44,7 @@ pub needed_there : (words : List (List ℕ)) (needed : List ℕ) (options : List
 needed_there words needed [] there = All-nil (λ option. Contains words option → Contains words needed)
 needed_there words needed (option ∷ options) there = All-cons (λ option. Contains words option → Contains words needed) option options (λ given. there) (needed_there words needed options there)
 
--- words with none of them
+-- words with none of these options
 pub none_needs : (words : List (List ℕ)) (needed : List ℕ) (options : List (List ℕ)) → Lacks words options → Need words needed options
 none_needs words needed [] none = All-nil (λ option. Contains words option → Contains words needed)
 none_needs words needed (option ∷ options) none = All-cons (λ option. Contains words option → Contains words needed) option options

@@ -1,4 +1,4 @@
--- Options as they are given, and how the words fall into them in one way only.
+-- Options as they are given, and the only way to split words into them.
 use Rattle.std.proofs.Common.{◌≡◌, ◌≢◌, ℕ, zero, suc, ◌<◌, ◌^◌, inl, inr, true, false, List, [], ◌∷◌, ◌++◌, flat_map, length, get_or, Option, Some, None, IsSomeAnd, arith, add-zero, sym, subst, ap, ◌∙◌, refl, append_assoc, length-append, All, AllPairs, Contains, IsTrue, option_to_list}
 use Rattle.std.specs.Str.{bytes_eq}
 use Rattle.std.proofs.lemmas.Bool.{cases_Bool, ltb-true, and_parts}
@@ -53,7 +53,7 @@ value-dashes Silence word sound (inl is) dashes = plain (subst (λ w. begins_wit
 value-dashes Silence word sound (inr is) dashes = plain (subst (λ w. begins_with_dashes w ≡ true) is dashes)
 value-dashes Nothing word sound is dashes = is
 
--- an option that stands alone has no value
+-- an option that takes no value has none
 alone : (takes : Takes) (word : List ℕ) → IsTrue (stands_alone takes) → IsValue takes word → ⊥
 alone (Number low high) word stands is = absurd cc
 alone (Signed most) word stands is = absurd cc
@@ -94,12 +94,12 @@ setting-value rows s value sound is valued = setting_value (row_named rows s.nam
   setting_value None e taken dashes = taken
   setting_value (Some row) e taken dashes = value-dashes row.takes value (found-sound rows s.name row sound e) taken dashes
 
--- a name that is not among the words is no option's
+-- a name that is not among the words belongs to no option
 pub fresh : (gs : List Setting) (name : List ℕ) → (Contains (flat_map words_of gs) name → ⊥) → All (λ s. s.name ≢ name) gs
 fresh [] name absent = All-nil (λ s. s.name ≢ name)
 fresh (g ∷ gs) name absent = All-cons (λ s. s.name ≢ name) g gs (λ e. absent (0, omega arith, e)) (fresh gs name (λ within. absent (Contains-append_right (words_of g) (flat_map words_of gs) name within)))
 
--- one that begins with two dashes is among the words only as an option's
+-- a word that begins with two dashes is among the words only as the name of an option
 pub taken : (rows : List Row) (gs : List Setting) (name : List ℕ) → are_sound rows ≡ true → All (IsSetting rows) gs → All (λ s. s.name ≢ name) gs → begins_with_dashes name ≡ true → Contains (flat_map words_of gs) name → ⊥
 taken rows [] name sound each apart dashes (k, lt, e) = absurd (omega (arith, lt))
 taken rows (g ∷ gs) name sound each apart dashes within =
@@ -113,7 +113,7 @@ taken rows (g ∷ gs) name sound each apart dashes within =
       here_ (zero, lt, e) = All-head (λ s. s.name ≢ name) g gs apart e
       here_ (suc k, lt, e) = valued g.value refl (k, omega (arith, lt), e)
 
--- in a list of options that are apart, one is apart from those before it
+-- in a list of options with different names, each differs from those before it
 pub apart : (gs ms : List Setting) (m : Setting) → AllPairs (λ s t. s.name ≢ t.name) (gs ++ m ∷ ms) → All (λ s. s.name ≢ m.name) gs
 apart gs ms m once k d lt =
     let here : get_or (gs ++ m ∷ ms) k d ≡ get_or gs k d = get_or_append_left gs (m ∷ ms) d k lt in
@@ -127,7 +127,7 @@ push rows gs s options is new = record { each = All-push (IsSetting rows) gs s o
 same_setting : (g h : Setting) → g.name ≡ h.name → g.value ≡ h.value → g ≡ h
 same_setting g h p q = ap (λ n. let s : Setting = record { name = n; value = g.value } in s) p ∙ ap (λ v. let s : Setting = record { name = h.name; value = v } in s) q
 
--- An option that begins a list of words is one alone.
+-- A list of words begins with only one option.
 pub same_first : (rows : List Row) (g h : Setting) (xs ys : List (List ℕ)) → IsSetting rows g → IsSetting rows h → words_of g ++ xs ≡ words_of h ++ ys → (g ≡ h) × (xs ≡ ys)
 same_first rows g h xs ys g_is h_is e = go (row_named rows h.name) g.value h.value refl refl
     (subst (λ name. IsSomeAnd (row_named rows name) (λ row. IsTaken row.takes g.value)) names g_is.value) h_is.value (cc) where
@@ -143,7 +143,7 @@ same_first rows g h xs ys g_is h_is e = go (row_named rows h.name) g.value h.val
           let values : value ≡ other = cc in
           (same_setting g h names (v_is ∙ ap Some values ∙ sym w_is), cc)
 
--- Options, then an option's name, begin options and names in one way: with those options, and then that one.
+-- Options followed by an option's name begin options and names in one way: with those options, and then that one.
 pub record Next (rows : List Row) (gs hs : List Setting) (word : List ℕ) (rest names : List (List ℕ)) : Type 0 where
   pub setting : Setting
   pub more : List Setting

@@ -1,4 +1,4 @@
--- A step through the options: on to the next one, or to the word that cannot stand.
+-- A step through the options: on to the next one, or to the word that is not accepted.
 use Rattle.std.proofs.Common.{◌≡◌, ◌≢◌, ℕ, zero, suc, ◌+◌, ◌<◌, inl, inr, true, false, List, [], ◌∷◌, ◌++◌, map, flat_map, length, take, Option, Some, None, option_map, slice_get, IsSomeAnd, IfSome, option_to_list, codes, ◌≤◌, arith, add-one, sym, subst, ap, ◌∙◌, refl, append_assoc, length-append, All, AllPairs, Contains, Bool, IsTrue, ◌↔◌, decimal, pos, string_bytes, String}
 use Rattle.std.specs.List.{find, list_any}
 use Rattle.std.specs.Str.{bytes_eq}
@@ -30,12 +30,12 @@ pub following : (before : List (List ℕ)) (word : List ℕ) (more : List (List 
 following [] word more = refl
 following (x ∷ before) word more = following before word more
 
--- a row of the table, found by its name
+-- a row of the table that its name finds
 pub found : (rows : List OptionRow) (name : List ℕ) → row_named (rows_of rows) name ≡ option_map row_of (find (λ row. bytes_eq row.name.now name) rows)
 found [] name = refl
 found (r ∷ rows) name = elim (cases_Bool (bytes_eq r.name.now name)) [ inl here ↦ rw here refl | inr other ↦ rw other (found rows name) ]
 
--- a word among one word is that one
+-- a list of one word contains only that word
 only : (word name : List ℕ) → Contains (word ∷ []) name → word ≡ name
 only word name (zero, lt, same) = same
 only word name (suc k, lt, same) = absurd (omega (arith, lt))
@@ -59,7 +59,7 @@ present (w ∷ words) name e =
       | inr other ↦ Contains-append_right (string_bytes w ∷ []) (map string_bytes words) name (present words name (rw other at e))
     ]
 
--- what a test for a word tells
+-- the result of a test for a word
 pub contained : (words : List (String Global)) (name : List ℕ) (tells : Bool) → tells ≡ list_any (λ word. bytes_eq (string_bytes word) name) words → IsTrue tells ↔ Contains (texts words) name
 contained words name true e = ((λ yes. present words name (sym e)), λ within. refl)
 contained words name false e = ((λ yes. absurd (cc)), λ within. absurd (absent words name (sym e) within))
@@ -75,11 +75,11 @@ after_first first name words other = (
 pub words_before : (rows : List Row) (words : List (String Global)) (place : ℕ) (o : AreOptionsTo rows (texts words) place) → map string_bytes (take place words) ≡ flat_map words_of o.settings
 words_before rows words place o = sym (take-map string_bytes place words) ∙ ap (take place) o.split ∙ (rw o.here (take-append_seam (flat_map words_of o.settings) o.rest))
 
--- what stands at the place
+-- the word at the place
 pub here : (rows : List Row) (words : List (List ℕ)) (place : ℕ) (o : AreOptionsTo rows words place) (word : List ℕ) → slice_get words place ≡ Some word → (more : List (List ℕ)) × (o.rest ≡ word ∷ more)
 here rows words place o word e = at (flat_map words_of o.settings) o.rest word (sym (ap (λ ws. slice_get ws (length (flat_map words_of o.settings))) o.split) ∙ sym (ap (slice_get words) o.here) ∙ e)
 
--- Options and names that begin with these options and a word that begins as an option go on with that one.
+-- Options and names that begin with these options and a word that begins as an option continue with that option.
 pub record Follows (rows : List Row) (gs : List Setting) (word : List ℕ) (after : List (List ℕ)) : Type 0 where
   pub setting : Setting
   pub tail : List (List ℕ)
@@ -102,7 +102,7 @@ follows rows gs word after options dash t =
       left = n.left;
     }
 
--- a word that begins as an option, and is none that can follow, cannot stand
+-- a word that begins as an option, but is not one that can follow, is not accepted there
 pub stops_here : (rows : List Row) (words : List (List ℕ)) (place : ℕ) (o : AreOptionsTo rows words place) (word : List ℕ) → slice_get words place ≡ Some word → BeginsWithDash word → ((s : Setting) → IsSetting rows s → All (λ t. t.name ≢ s.name) o.settings → word ≡ s.name → ⊥) → StopsOptions rows words place
 stops_here rows words place o word e dash none =
     let h = here rows words place o word e in
@@ -145,7 +145,7 @@ value_of rows name row s e same is =
     let found : row_named rows s.name ≡ Some row = ap (row_named rows) (sym same) ∙ e in
     subst (λ o. IsSomeAnd o (λ row. IsTaken row.takes s.value)) found is.value
 
--- an option's name that no value of it follows
+-- the name of an option without a value of it
 stops_after : (rows : List Row) (gs : List Setting) (word : List ℕ) (row : Row) (more : List (List ℕ)) → AreSettings rows gs → BeginsWithDash word → row_named rows word ≡ Some row → stands_alone row.takes ≡ false → IfSome (slice_get more 0) (λ value. IsValue row.takes value → ⊥) → Stops (IsTail rows) (flat_map words_of gs ++ word ∷ []) more
 stops_after rows gs word row more options dash e wanted bad = go more bad where
   none_follows : (after : List (List ℕ)) → IfSome (slice_get after 0) (λ value. IsValue row.takes value → ⊥) → IsTail rows (flat_map words_of gs ++ word ∷ after) → ⊥
@@ -162,7 +162,7 @@ stops_after rows gs word row more options dash e wanted bad = go more bad where
   go [] bad = λ t. none_follows [] bad t
   go (value ∷ more) bad = λ b. none_follows (value ∷ b.more) bad (subst (IsTail rows) (append_assoc (flat_map words_of gs ++ word ∷ []) (value ∷ []) b.more ∙ append_assoc (flat_map words_of gs) (word ∷ []) (value ∷ b.more)) b.whole)
 
--- what stands after the place
+-- the words after the place
 pub after_place : (rows : List Row) (words : List (List ℕ)) (place : ℕ) (o : AreOptionsTo rows words place) (word : List ℕ) (more : List (List ℕ)) → o.rest ≡ word ∷ more → slice_get words (place + 1) ≡ slice_get more 0
 after_place rows words place o word more e =
     let place_is : place + 1 ≡ suc (length (flat_map words_of o.settings)) = rw add-one (ap suc o.here) in
@@ -201,7 +201,7 @@ goes_on rows words place len o word row e dash is_row new t =
       options = push rows o.settings s o.options (is_setting rows word t.value row dash is_row t.taken) new;
     }
 
--- the same steps, by what the code has tested
+-- the steps in terms of what the code has tested
 
 -- the table has no row of this name
 pub unknown : (rows : List OptionRow) (words : List (String Global)) (place : ℕ) (o : AreOptionsTo (rows_of rows) (texts words) place) (name : List ℕ) → slice_get (texts words) place ≡ Some name → BeginsWithDash name → find (λ row. bytes_eq row.name.now name) rows ≡ None → StopsOptions (rows_of rows) (texts words) place
@@ -209,25 +209,25 @@ unknown rows words place o name e dash none = stops_here (rows_of rows) (texts w
     let no_row : row_named (rows_of rows) s.name ≡ None = ap (row_named (rows_of rows)) (sym same) ∙ found rows name ∙ ap (option_map row_of) none in
     subst (λ o. IsSomeAnd o (λ row. IsTaken row.takes s.value)) no_row is.value)
 
--- the option stands before the place already
+-- the option is before the place already
 pub repeated : (rows : List OptionRow) (words : List (String Global)) (place : ℕ) (o : AreOptionsTo (rows_of rows) (texts words) place) (name : List ℕ) → are_sound (rows_of rows) ≡ true → slice_get (texts words) place ≡ Some name → BeginsWithDash name → list_any (λ word. bytes_eq (string_bytes word) name) (take place words) ≡ true → StopsOptions (rows_of rows) (texts words) place
 repeated rows words place o name sound e dash given = stops_here (rows_of rows) (texts words) place o name e dash (λ s is new same.
     let within : Contains (flat_map words_of o.settings) name = subst (λ ws. Contains ws name) (words_before (rows_of rows) words place o) (present (take place words) name given) in
     let within' : Contains (flat_map words_of o.settings) s.name = subst (Contains (flat_map words_of o.settings)) same within in
     taken (rows_of rows) o.settings s.name sound o.options.each new (setting-dashes (rows_of rows) s sound is) within')
 
--- it does not
+-- the option does not come before the place
 pub first : (rows : List OptionRow) (words : List (String Global)) (place : ℕ) (o : AreOptionsTo (rows_of rows) (texts words) place) (name : List ℕ) → list_any (λ word. bytes_eq (string_bytes word) name) (take place words) ≡ false → All (λ s. s.name ≢ name) o.settings
 first rows words place o name not_given = fresh o.settings name (λ within. absent (take place words) name not_given (subst (λ ws. Contains ws name) (sym (words_before (rows_of rows) words place o)) within))
 
 pub row_is : (rows : List OptionRow) (name : List ℕ) (row : OptionRow) → find (λ row. bytes_eq row.name.now name) rows ≡ Some row → row_named (rows_of rows) name ≡ Some (row_of row)
 row_is rows name row e = found rows name ∙ ap (option_map row_of) e
 
--- a word stands among the words
+-- a word is among the words
 pub stands : (words : List (String Global)) (place : ℕ) (word : List ℕ) → slice_get (texts words) place ≡ Some word → place < length words
 stands words place word e = omega (arith, slice_get_within (texts words) place word e, length-map {A = String Global} {B = List ℕ} words string_bytes)
 
--- a value stands among the words
+-- a value is among the words
 pub within : (takes : Takes) (words : List (String Global)) (place len : ℕ) → place < length words → IsTakenAt takes (texts words) (place + 1) len → place + (1 + len) ≤ length words
 within takes words place len lt t = go t.value t.size t.here where
   go : (value : Option (List ℕ)) → len ≡ length (option_to_list value) → IfSome value (λ word. slice_get (texts words) (place + 1) ≡ Some word) → place + (1 + len) ≤ length words

@@ -14,6 +14,7 @@ use Rattle.avtp_words.specs.declared.device.DeviceFile.{DeviceFile}
 use Rattle.avtp_words.specs.declared.device.RawFile.{RawFile}
 use Rattle.avtp_words.specs.declared.device.Silence.{Silence}
 use Rattle.avtp_words.specs.declared.listen.Listen.{Listen as AskedListen}
+use Rattle.avtp_words.specs.declared.listener.ListenerOptions.{ListenerOptions}
 use Rattle.avtp_words.specs.declared.talk.Talk.{Talk as AskedTalk}
 use Rattle.avtp_words.specs.declared.talk.Kind.{Kind}
 use Rattle.avtp_words.specs.declared.talk.Kind.TheVariants.{Aaf, Am824, H264}
@@ -28,9 +29,9 @@ use Rattle.avtp_words.specs.Operands.{AreOperands}
 use Rattle.avtp_words.specs.Word.{texts, IsId}
 use Rattle.avtp_words.specs.Options.{Row, Setting, words_of, AreSettings, value_in}
 
--- ---- what a command line asks for, apart from where its names lie in memory
+-- ---- what a command line asks for, without its names' location in memory
 
--- a file that is written: its name, and the place of the name among the words, from 0
+-- a file that is written: its name, and the position of the name among the words, from 0
 pub record NamedFile : Type 0 where
   pub name : List ℕ
   pub place : ℕ
@@ -40,17 +41,10 @@ pub record NamedRaw : Type 0 where
   pub file : NamedFile
   pub silence : Silence
 
--- what `listen` is asked for: the stream, within these bounds, its media clock, if it has one, with a shift, the files
--- that are written, if there are any, and the captures, in order
+-- what `listen` is asked for: the stream and the listener to it, the size of the ring, the files that are written, if there
+-- are any, and the captures, in order
 pub record Listening : Type 0 where
-  pub stream : ℕ
-  pub limit : ℕ
-  pub buffer : ℕ
-  pub room : ℕ
-  pub look : ℕ
-  pub lead : ℕ
-  pub clock : Option ℕ
-  pub shift : ℤ
+  pub listener : ListenerOptions
   pub ring : ℕ
   pub raw : Option NamedRaw
   pub annexb : Option NamedFile
@@ -79,32 +73,25 @@ pub data Request : Type 0 where
   talk : Talking → Request
   soak : (packets : ℕ) → Request
 
--- a file that is written, apart from where its name lies in memory
+-- a file that is written, without its name's location in memory
 abbrev pub named_file : DeviceFile → NamedFile
 named_file file = record { name = file.name.now; place = file.place }
 
--- a file of raw audio, apart from where its name lies in memory
+-- a file of raw audio, without its name's location in memory
 abbrev pub named_raw : RawFile → NamedRaw
 named_raw raw = record { file = named_file raw.file; silence = raw.silence }
 
--- what `listen` is asked for, apart from where its names lie in memory
+-- what `listen` is asked for, without its names' location in memory
 abbrev pub listening_of : AskedListen → Listening
 listening_of asked = record {
-  stream = asked.stream;
-  limit = asked.limit;
-  buffer = asked.buffer;
-  room = asked.room;
-  look = asked.look;
-  lead = asked.lead;
-  clock = asked.clock;
-  shift = asked.shift;
+  listener = asked.listener;
   ring = asked.ring;
   raw = option_map named_raw asked.raw;
   annexb = option_map named_file asked.annexb;
   files = texts asked.files.now;
 }
 
--- what `talk` is asked for, apart from where its names lie in memory
+-- what `talk` is asked for, without its names' location in memory
 abbrev pub talking_of : AskedTalk → Talking
 talking_of asked = record {
   kind = asked.kind;
@@ -121,7 +108,7 @@ talking_of asked = record {
   output = asked.output.now;
 }
 
--- what a command is asked for, apart from where its names lie in memory
+-- what a command is asked for, without its names' location in memory
 abbrev pub request_of : Command → Request
 request_of (Show limit file) = show limit file.now
 request_of (Check limit files) = check limit (texts files.now)
@@ -169,18 +156,22 @@ check_form = record {
   operands = operand.Names ∷ [];
 }
 
+-- the options that make a listener, whichever command it serves
+abbrev pub listener_rows : List Row
+listener_rows =
+    number limits.limit ∷
+    number limits.buffer ∷
+    number limits.room ∷
+    number limits.look ∷
+    number limits.listen_lead ∷
+    record { name = codes "--clock"; takes = takes.Id } ∷
+    signed limits.crf_shift ∷ []
+
 -- listen [options] STREAM FILE..
 abbrev pub listen_form : Form
 listen_form = record {
   command = codes "listen";
-  rows =
-      number limits.limit ∷
-      number limits.buffer ∷
-      number limits.room ∷
-      number limits.look ∷
-      number limits.listen_lead ∷
-      record { name = codes "--clock"; takes = takes.Id } ∷
-      signed limits.crf_shift ∷
+  rows = listener_rows ++
       number limits.ring ∷
       record { name = codes "--raw"; takes = takes.Name } ∷
       record { name = codes "--silence"; takes = takes.Silence } ∷
@@ -225,7 +216,7 @@ soak_form = record {
 abbrev pub forms : List Form
 forms = show_form ∷ check_form ∷ listen_form ∷ talk_form ∷ soak_form ∷ []
 
--- the form of the command of this word, if there is one
+-- the form of the command with this name, if there is one
 abbrev pub form_named : List ℕ → Option Form
 form_named command = find (λ form. bytes_eq form.command command) forms
 
@@ -249,7 +240,7 @@ pub record IsCheck (words : List (List ℕ)) (limit : ℕ) (files : List (List �
   pub line : IsOf check_form words settings files
   pub limit_given : IsGiven limits.limit settings limit
 
--- The option of this name gives the name of this file, which is at its place among the words, after the option.
+-- The option with this name gives this file, whose place is that of its name among the words: right after the option.
 pub record NamesFile (words : List (List ℕ)) (settings : List Setting) (option : List ℕ) (file : NamedFile) : Type 0 where
   pub value : value_in option settings ≡ Some file.name
   pub before : ℕ
@@ -257,7 +248,7 @@ pub record NamesFile (words : List (List ℕ)) (settings : List Setting) (option
   pub option_at : slice_get words before ≡ Some option
   pub name_at : slice_get words file.place ≡ Some file.name
 
--- the option of this name gives this file, or is not given if there is none
+-- the option with this name gives this file, or is not given if there is no file
 abbrev pub IsGivenFile : List (List ℕ) → List Setting → List ℕ → Option NamedFile → Type 0
 IsGivenFile words settings option None = value_in option settings ≡ None
 IsGivenFile words settings option (Some file) = NamesFile words settings option file
@@ -272,11 +263,8 @@ abbrev pub IsGivenRaw : List (List ℕ) → List Setting → Option NamedRaw →
 IsGivenRaw words settings None = value_in (codes "--raw") settings ≡ None
 IsGivenRaw words settings (Some raw) = SaysRaw words settings raw
 
--- what `listen` is asked for, by the words one by one
-pub record SaysListen (words : List (List ℕ)) (asked : Listening) : Type 0 where
-  pub settings : List Setting
-  pub id : List ℕ
-  pub line : IsOf listen_form words settings (id ∷ asked.files)
+-- Words ask for this listener to a stream, whose id is this word.
+pub record SaysListener (settings : List Setting) (id : List ℕ) (asked : ListenerOptions) : Type 0 where
   pub stream : IsId id asked.stream
   pub limit : IsGiven limits.limit settings asked.limit
   pub buffer : IsGiven limits.buffer settings asked.buffer
@@ -285,6 +273,13 @@ pub record SaysListen (words : List (List ℕ)) (asked : Listening) : Type 0 whe
   pub lead : IsGiven limits.listen_lead settings asked.lead
   pub clock : IsGivenIdIf (codes "--clock") settings asked.clock
   pub shift : IsGivenSigned limits.crf_shift settings asked.shift
+
+-- what `listen` is asked for, each word by itself
+pub record SaysListen (words : List (List ℕ)) (asked : Listening) : Type 0 where
+  pub settings : List Setting
+  pub id : List ℕ
+  pub line : IsOf listen_form words settings (id ∷ asked.files)
+  pub listener : SaysListener settings id asked.listener
   pub ring : IsGiven limits.ring settings asked.ring
   pub raw : IsGivenRaw words settings asked.raw
   pub annexb : IsGivenFile words settings (codes "--annexb") asked.annexb
@@ -327,7 +322,7 @@ abbrev pub SaysClock : List Setting → ℕ → Option Crf → Type 0
 SaysClock settings rate None = IsGivenIdIf (codes "--crf") settings None
 SaysClock settings rate (Some crf) = SaysCrf settings rate crf
 
--- what `talk` is asked for, by the words one by one
+-- what `talk` is asked for, each word by itself
 pub record SaysTalk (words : List (List ℕ)) (asked : Talking) : Type 0 where
   pub settings : List Setting
   pub line : IsOf talk_form words settings (asked.input ∷ asked.output ∷ [])
@@ -349,33 +344,32 @@ pub record FitsSamples (format : AafFormat) (asked : Talking) : Type 0 where
   pub rate : (code : ℕ) × (rate_of code ≡ Some asked.rate)
   pub size : asked.count * frame_size asked.channels format ≤ limits.samples
 
--- An AM824 stream has a sample rate of IEC 61883-6, and a packet at least an eighth of its SYT interval, so that a
--- block is stamped in each 8 packets. A block has at most 256 quadlets, and the blocks of a packet fit into it.
+-- An AM824 stream has a sample rate of IEC 61883-6. A packet has at least an eighth of its SYT interval, which stamps a block
+-- in every 8 packets. A block has at most 256 quadlets, and the blocks of a packet fit into it.
 pub record FitsBlocks (asked : Talking) : Type 0 where
   pub rate : (fdf : ℕ) × (rate_of_fdf fdf ≡ Some asked.rate) × IsSomeAnd (syt_interval fdf) (λ interval. interval ≤ 8 * asked.count)
   pub quadlets : asked.channels ≤ limits.quadlets
   pub size : asked.count * block_size asked.channels ≤ limits.blocks
 
--- what is asked of `talk` fits its kind: the rate is one of the format, and a packet fits an Ethernet frame; of H.264
--- there are at most 240 access units a second
+-- what is asked of `talk` fits its kind: the format has the rate, and a packet fits an Ethernet frame; H.264 has at most 240
+-- access units a second
 abbrev pub FitsKind : Kind → Talking → Type 0
 FitsKind (Aaf format sparse) asked = FitsSamples format asked
 FitsKind Am824 asked = FitsBlocks asked
 FitsKind (H264 last_stamp) asked = asked.rate ≤ limits.access_units
 
--- The sample frames from one point of a clock to the next in a stream of `rate` sample frames a second: they take as
--- long as `interval` events at the clock's frequency, which is its base frequency times the factor of its pull (IEEE
--- 1722-2016, 10).
+-- The sample frames from one CRF timestamp to the next in a stream of `rate` sample frames a second: they take as long as
+-- `interval` events at the clock's frequency, which is its base frequency times the factor of its pull (IEEE 1722-2016, 10).
 abbrev pub spacing_of : Crf → ℕ → ℕ
 spacing_of crf rate = crf.interval * rate * pull_down crf.pull / (crf.rate * pull_up crf.pull)
 
--- A run of `packets` packets has a whole number of clock packets' sample frames: 8 clock packets, or a multiple of 8.
--- Without restarts nothing is asked.
+-- A run of `packets` packets has as many sample frames as 8 clock packets, or a multiple of that. Without restarts there is no
+-- condition.
 abbrev pub HasWholeRuns : Crf → ℕ → ℕ → Option ℕ → Type 0
 HasWholeRuns crf rate count None = ⊤
 HasWholeRuns crf rate count (Some packets) = packets * count % (8 * spacing_of crf rate * crf.points) ≡ 0
 
--- A clock fits a stream of `rate` sample frames a second, with `count` in a packet, and maybe with restarts: its points
+-- A clock fits a stream of `rate` sample frames a second, with `count` in a packet, and possibly with restarts: its timestamps
 -- are at whole sample frames, and its runs are whole.
 pub record FitsStream (crf : Crf) (rate count : ℕ) (restart : Option ℕ) : Type 0 where
   pub whole : crf.interval * rate * pull_down crf.pull % (crf.rate * pull_up crf.pull) ≡ 0
@@ -463,17 +457,18 @@ pub record IsLine (words : List (List ℕ)) : Type 0 where
   pub names : List (List ℕ)
   pub line : IsOf form words settings names
 
--- the words begin a line of L: with some words after them they are one
+-- the words begin a line of L: followed by some words they are one
 pub record Begins (L : List (List ℕ) → Type 0) (words : List (List ℕ)) : Type 0 where
   pub more : List (List ℕ)
   pub whole : L (words ++ more)
 
--- With the next word these begin no line of L; if there is no next word, they are no line themselves.
+-- With the next word, these words begin no line of L; if there is no next word, they are not a line themselves.
 abbrev pub Stops : (List (List ℕ) → Type 0) → List (List ℕ) → List (List ℕ) → Type 0
 Stops L before [] = L before → ⊥
 Stops L before (next ∷ _) = Begins L (before ++ next ∷ []) → ⊥
 
--- The first `place` words begin a line of L, and with the next one they begin none; or they are all words, and no line.
+-- The first `place` words begin a line of L, but together with the next one they begin none; or they are all words, and not a
+-- line.
 pub record StopsAt (L : List (List ℕ) → Type 0) (words : List (List ℕ)) (place : ℕ) : Type 0 where
   pub before : List (List ℕ)
   pub rest : List (List ℕ)

@@ -16,11 +16,11 @@ pub record NumberOption : Type 0 where
 abbrev pub option : List ℕ → ℕ → ℕ → Option ℕ → NumberOption
 option name low high default = record { name = name; low = low; high = high; default = default }
 
--- an option with this default instead of its own
+-- an option with this default in place of its own
 abbrev pub with_default : NumberOption → ℕ → NumberOption
 with_default given default = option given.name given.low given.high (Some default)
 
--- the row of a number's option in the table of a command
+-- the row of an option with a number in the table of a command
 abbrev pub number : NumberOption → Row
 number option = record { name = option.name; takes = Number option.low option.high }
 
@@ -30,19 +30,19 @@ pub record SignedOption : Type 0 where
   pub most : ℕ
   pub default : ℤ
 
--- the row in the table of a command of an option whose number may be negative
+-- the row of an option whose number may be negative in the table of a command
 abbrev pub signed : SignedOption → Row
 signed option = record { name = option.name; takes = Signed option.most }
 
--- show, check and listen: at most this many bytes of a capture are read
+-- show, check and listen: the most bytes that are read of a capture
 abbrev pub limit : NumberOption
 limit = option (codes "--limit") 1 (2 ^ 40) (Some (2 ^ 40))
 
--- listen: at most this many packets wait
+-- listen: the most packets that wait
 abbrev pub buffer : NumberOption
 buffer = option (codes "--buffer") 1 65536 (Some 4096)
 
--- listen: at most this many bytes are in the packets that wait
+-- listen: the most bytes in the packets that wait
 abbrev pub room : NumberOption
 room = option (codes "--room") 1 (2 ^ 30) (Some (2 ^ 26))
 
@@ -50,7 +50,7 @@ room = option (codes "--room") 1 (2 ^ 30) (Some (2 ^ 26))
 abbrev pub ring : NumberOption
 ring = option (codes "--ring") 1 256 (Some 64)
 
--- listen: how many further items an item waits for before it is judged
+-- listen: how many later items are read before an item is judged
 abbrev pub look : NumberOption
 look = option (codes "--look") 0 64 (Some 0)
 
@@ -66,7 +66,7 @@ listen_lead = option (codes "--lead") 0 (10 ^ 9) (Some 2000000)
 abbrev pub talk_lead : NumberOption
 talk_lead = option (codes "--lead") 1 (10 ^ 9) (Some 2000000)
 
--- talk: the sample rate in Hz, or of H.264 the access units in a second; the default is the kind's own
+-- talk: the sample rate in Hz, for H.264 the access units in a second; the default depends on the kind
 abbrev pub rate : NumberOption
 rate = option (codes "--rate") 1 192000 None
 
@@ -108,7 +108,7 @@ crf_points = option (codes "--crf-points") 1 180 (Some 1)
 abbrev pub crf_rate : NumberOption
 crf_rate = option (codes "--crf-rate") 1 200000000 None
 
--- talk: the code of the factor by which the media clock's base frequency is multiplied
+-- talk: the code of the factor that the media clock's base frequency is multiplied by
 abbrev pub crf_pull : NumberOption
 crf_pull = option (codes "--crf-pull") 0 5 (Some 0)
 

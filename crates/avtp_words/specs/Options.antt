@@ -9,7 +9,7 @@ use Rattle.avtp_words.specs.declared.option.Takes.TheVariants.{Number, Signed, I
 use Rattle.avtp_words.specs.Number.{IsNumber, IsSigned}
 use Rattle.avtp_words.specs.Word.{BeginsWithDash, IsId, IsName}
 
--- an option that a command knows: its name, and what the word after the name may be
+-- an option that a command knows: its name, and the values that the word after it may have
 pub record Row : Type 0 where
   pub name : List ℕ
   pub takes : Takes

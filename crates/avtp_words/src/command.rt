@@ -23,16 +23,16 @@ pub enum Command<'a> {
     Listen(Listen<'a>),
     /// Make a capture of raw samples.
     Talk(Talk<'a>),
-    /// Listen to a stream of this many packets, 0 to 1,000,000, of which some are late, lost or repeated, and print
-    /// what came of them.
+    /// Listen to a stream of this many packets, 0 to 1,000,000, some of which are late, lost or repeated, and print what became
+    /// of them.
     Soak { packets: u32 },
 }
 
-/// The words are no command line.
+/// The words are not a command line.
 #[derive(Clone, Copy, Debug, PartialEq, Eq)]
 pub struct Offence {
-    /// The position, from 1, of the first word that is wrong; one past the last if a word is missing, and 1 if no word
-    /// is wrong by itself and a rule over several words fails.
+    /// The position, from 1, of the first word that is wrong; one past the last if a word is missing; 1 if each word is valid
+    /// but they contradict one another.
     pub position: usize,
 }
 
@@ -59,11 +59,11 @@ pub fn parse(words: &[String]) -> Result<Command<'_>, Offence>
     // The words are a command line, and ask for that.
     ensures found { IfOk result (λ command. IsCommandLine (texts words.now) (request_of command)) }
 
-    // Each command line is read as what it asks for, and so asks for one thing alone.
+    // Each command line is read as the command that it asks for, and so asks for only one.
     ensures only { (request : Request) → IsCommandLine (texts words.now) request →
         IsOkAnd result (λ command. request_of command ≡ request) }
 
-    // The position is that of the first word that is wrong, or of a rule that fails, and no other is.
+    // The position is that of the first wrong word or of a broken rule, and no other position is.
     ensures offence { IfErr result (λ offence. IsOffence (texts words.now) offence.position) }
     ensures only_offence { (position : ℕ) → IsOffence (texts words.now) position →
         IsErrAnd result (λ offence. offence.position ≡ position) }

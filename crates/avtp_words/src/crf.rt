@@ -13,8 +13,8 @@ use crate::limits::{
 use crate::value::{byte_after, id_if, short_number_after, small_number_after};
 use clock_track::{pull_down, pull_up};
 
-/// A media clock that is sent with a stream (IEEE 1722-2016, 10). Its points are at whole sample frames of the stream,
-/// and if the stream restarts, each run of it is a multiple of 8 whole packets of the clock.
+/// A media clock that is sent with a stream (IEEE 1722-2016, 10). Its timestamps are at whole sample frames of the stream, and
+/// if the stream restarts, each run of it is a multiple of 8 whole packets of the clock.
 #[derive(Clone, Copy, Debug, PartialEq, Eq)]
 pub struct Crf {
     /// The stream ID of the clock.

@@ -13,7 +13,7 @@ use crate::option::{lacks_word, place_of, word_after, word_at};
 pub struct DeviceFile<'a> {
     /// Its name.
     pub name: &'a str,
-    /// The place of the name among the words of the command line, from 0.
+    /// The position of the name among the words of the command line, from 0.
     pub place: usize,
 }
 
@@ -35,7 +35,7 @@ pub struct RawFile<'a> {
     pub silence: Silence,
 }
 
-/// The file named after the option of this name, if it is given. The place of its name counts the command in.
+/// The file that the option with this name gives, if it is given. Its place counts the command, too.
 pub fn file_after<'a>(options: &'a [String], name: &str) -> Option<DeviceFile<'a>>
     ensures { IsReadFile name.now (texts options.now) (option_map named_file result) }
 {
@@ -66,7 +66,7 @@ pub fn raw_after<'a>(options: &'a [String]) -> Option<RawFile<'a>>
     Some(RawFile { file, silence })
 }
 
-/// Whether a file that is written, if there is one, is none of those that are read.
+/// Whether a file that is written, if there is one, is not one of the files that are read.
 pub fn is_new(file: Option<DeviceFile<'_>>, files: &[String]) -> bool
     ensures { IsTrue result ↔ IfSome (option_map named_file file.entry) (λ file. Contains (texts files.now) file.name → ⊥) }
 {
@@ -76,7 +76,7 @@ pub fn is_new(file: Option<DeviceFile<'_>>, files: &[String]) -> bool
     }
 }
 
-/// Whether the file of raw audio, if there is one, has another name than each of these files.
+/// Whether the name of the file of raw audio, if there is one, differs from the name of each of these files.
 pub fn is_new_raw(raw: Option<RawFile<'_>>, files: &[String]) -> bool
     ensures { IsTrue result ↔ IfSome (option_map named_raw raw.entry) (λ raw. Contains (texts files.now) raw.file.name → ⊥) }
 {

@@ -1,9 +1,9 @@
-//! The options of each command in one table: what each is called, what its value may be, and its default.
+//! The options of each command in one table: their names, ranges and defaults.
 
 use crate::option::{OptionRow, Takes};
 use aaf_format::AafFormat;
 
-/// The most bytes that are read of a capture if no `--limit` is given, and the most that can be asked: 1 TiB.
+/// The most bytes that are read of a capture if no `--limit` is given, and the highest limit: 1 TiB.
 pub const MAX_LIMIT: u64 = 1 << 40;
 
 pub const SHOW_OPTIONS: [OptionRow; 1] = [LIMIT];
@@ -54,7 +54,7 @@ pub const ROOM: OptionRow = OptionRow {
 
 pub const ROOM_DEFAULT: u32 = 1 << 26;
 
-/// How many further items an item waits for before it is judged.
+/// How many later items are read before an item is judged.
 pub const LOOK: OptionRow = OptionRow {
     name: "--look",
     takes: Takes::Number { low: 0, high: 64 },
@@ -62,8 +62,7 @@ pub const LOOK: OptionRow = OptionRow {
 
 pub const LOOK_DEFAULT: u32 = 0;
 
-/// The stream ID of the media clock that samples are counted on. If it is not given, the stream's own timestamps are
-/// enough.
+/// The stream ID of the media clock whose timestamps time the samples. If it is not given, the stream's own timestamps do.
 pub const CLOCK: OptionRow = OptionRow {
     name: "--clock",
     takes: Takes::Id,
@@ -108,8 +107,7 @@ pub const ANNEXB: OptionRow = OptionRow {
     takes: Takes::Name,
 };
 
-/// The max transit time in nanoseconds. A listener may expect a packet at its presentation time; a talker sends each
-/// before it.
+/// The max transit time in nanoseconds. For a listener it may be 0; a talker sends each packet before its presentation time.
 pub const LISTEN_LEAD: OptionRow = OptionRow {
     name: "--lead",
     takes: Takes::Number {
@@ -186,7 +184,7 @@ pub const FORMAT: OptionRow = OptionRow {
 
 pub const FORMAT_DEFAULT: AafFormat = AafFormat::Int16;
 
-/// The sample rate in Hz, of H.264 the access units in a second.
+/// The sample rate in Hz, for H.264 the access units in a second.
 pub const RATE: OptionRow = OptionRow {
     name: "--rate",
     takes: Takes::Number {
@@ -325,7 +323,7 @@ pub const MAX_PACKETS: u64 = 1_000_000;
 /// The most bytes of samples in a packet of AAF: the 1,500 that an Ethernet frame carries, less the 24 of the header.
 pub const MAX_SAMPLES: u64 = 1_476;
 
-/// The most bytes of data blocks in a packet of AM824, in which the CIP header takes 8 more.
+/// The most bytes of data blocks in a packet of AM824, whose CIP header takes 8 more.
 pub const MAX_BLOCKS: u64 = 1_468;
 
 /// The most quadlets of a data block of AM824, one for each channel (IEC 61883-1).

@@ -5,8 +5,8 @@ ghost use Rattle.std.specs.Fmt.{signed_decimal};
 ghost use Rattle.avtp_words.specs.Number.{IsNumber, IsSigned};
 ghost use Rattle.avtp_words.specs.state.Number.{BeginsAsNumber};
 
-/// The number that a word spells, in decimal digits without a sign and without a leading zero; None if it spells none
-/// below 2^64.
+/// The number that a word spells, in decimal digits without a sign and without a leading zero. `None` if the word is not a
+/// number below 2^64.
 pub fn number_of(word: &str) -> Option<u64>
     ensures spelled { IfSome result (λ n. word.now ≡ decimal n) }
     ensures none { IfNone result ((n : ℕ) → n < 2 ^ 64 → word.now ≢ decimal n) }
@@ -28,8 +28,8 @@ pub fn is_number(word: &str, low: u64, high: u64) -> bool
     }
 }
 
-/// The number that a word spells as for [`number_of`], or with one `-` before a number that is not 0; None if it spells
-/// none from -(2^63 - 1) to 2^63 - 1.
+/// The number that a word spells as for [`number_of`], or with one `-` before a number that is not 0. `None` if the word is not
+/// a number from -(2^63 - 1) to 2^63 - 1.
 pub fn signed_number_of(word: &str) -> Option<i64>
     ensures spelled { IfSome result (λ z. word.now ≡ signed_decimal z) }
     ensures size { IfSome result (λ z. unsigned_abs z < 2 ^ 63) }
@@ -51,7 +51,7 @@ pub fn is_signed(word: &str, most: u32) -> bool
     }
 }
 
-/// The number below 0 of which these are the digits.
+/// The number below 0 with these digits.
 fn negative_of(digits: &str) -> Option<i64>
     ensures spelled { IfSome result (λ z. 45 ∷ digits.now ≡ signed_decimal z) }
     ensures size { IfSome result (λ z. unsigned_abs z < 2 ^ 63) }

@@ -21,10 +21,11 @@ pub enum Operand {
     Id,
     /// The name of a file.
     Name,
-    /// The number of packets of `soak`. It is read as an operand, so a number out of range has its own position.
+    /// The number of packets of `soak`. It is read as an operand, so the offence of a number out of range has the number's
+    /// position.
     Packets,
-    /// The names of files, all the words that are left, at least one: no option can follow the first name, and a file
-    /// may be named twice.
+    /// The names of files: all remaining words, at least one. No option can follow the first name, and a file may be named
+    /// twice.
     Names,
 }
 
@@ -39,7 +40,7 @@ impl Operand {
         }
     }
 
-    /// Whether it takes all the words that are left.
+    /// Whether the operand takes all remaining words.
     fn takes_all(self) -> bool
         ensures { result ≡ takes_all_of self }
     {
@@ -79,7 +80,7 @@ pub fn is_name(word: &str) -> bool
     !word.is_empty() && !begins_with_dash(word)
 }
 
-/// The place, from 0, of the first word that is no name.
+/// The place, from 0, of the first word that is not a name.
 fn first_unnamed(words: &[String]) -> Option<usize>
     ensures some { IfSome result (IsFirstUnnamed (texts words.now)) }
     ensures none { IfNone result (All IsName (texts words.now)) }
@@ -92,7 +93,7 @@ fn first_unnamed(words: &[String]) -> Option<usize>
     None
 }
 
-/// The place, from 0, of the first word that is not the operand of its place, or is missing, or is one too many.
+/// The place, from 0, of the first word that is not the operand of its place, is missing, or is left over.
 fn first_wrong(operands: &[Operand], words: &[String]) -> Option<usize>
     ensures wrong { IfSome result (StopsAt (AreOperands operands.now) (texts words.now)) }
     ensures within { IfSome result (λ place. place ≤ length words.now) }
@@ -116,7 +117,7 @@ fn first_wrong(operands: &[Operand], words: &[String]) -> Option<usize>
     }
 }
 
-/// The place, from 0, of the first operand among the words after a command; an offence counts the command in.
+/// The place, from 0, of the first operand among the words after a command. The position of an offence counts the command, too.
 pub fn operands_at(
     rows: &[OptionRow],
     operands: &[Operand],

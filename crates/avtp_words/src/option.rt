@@ -1,4 +1,4 @@
-//! The options of a command: a table of what it knows, and the reading of them.
+//! The options of a command: the table of those that it knows, and how they are read.
 
 ghost use Rattle.std.specs.Prelude.{◌≡◌, ◌≤◌, ◌↔◌, Contains, length, IsTrue, IfOk, IfErr, IfSome, IfNone, slice_get, string_bytes};
 ghost use Rattle.std.specs.List.{find, list_any, position};
@@ -13,7 +13,7 @@ use crate::number::{is_number, is_signed};
 use crate::operand::{id_of, is_name};
 use crate::value::format_of;
 
-/// What the value of an option may be.
+/// The values that an option may have.
 #[derive(Clone, Copy)]
 pub enum Takes {
     /// A number, from the first to the second.
@@ -24,13 +24,13 @@ pub enum Takes {
     Id,
     /// The kind of a stream: `aaf`, `am824` or `h264`.
     Kind,
-    /// The format of samples, as `int16`.
+    /// The format of samples, such as `int16`.
     Format,
     /// The name of a file.
     Name,
     /// What silence is made of: `zero` or `am824`.
     Silence,
-    /// No value at all: the option is its name alone.
+    /// No value: the option is only its name.
     Nothing,
 }
 
@@ -63,7 +63,7 @@ impl Takes {
 pub struct OptionRow {
     /// The option's own word.
     pub name: &'static str,
-    /// What the word after it may be.
+    /// The values that the word after it may have.
     pub takes: Takes,
 }
 
@@ -125,15 +125,15 @@ fn has_one(words: &[String], options: &[OptionRow]) -> bool
     options.iter().any(|option| contains(words, option.name))
 }
 
-/// Whether the words have the option that these need, if they have one of these.
+/// Whether the words have the option that these options need, if they have one of these.
 pub fn have_needed(words: &[String], needed: &str, options: &[OptionRow]) -> bool
     ensures { IsTrue result ↔ Need (texts words.now) needed.now (names_of options.now) }
 {
     contains(words, needed) || lacks(words, options)
 }
 
-/// How many words at a place are the value of an option: 0 if it takes no value, else 1. `None` if the word there is no
-/// such value.
+/// How many words at a place are the value of an option: 0 if it takes no value, else 1. `None` if the word there is not a
+/// value of the option.
 fn value_len(words: &[String], place: usize, takes: Takes) -> Option<usize>
     ensures some { IfSome result (IsTakenAt takes (texts words.now) place) }
     ensures none { IfNone result (LacksValue takes (texts words.now) place) }
@@ -147,7 +147,7 @@ fn value_len(words: &[String], place: usize, takes: Takes) -> Option<usize>
     }
 }
 
-/// How many of the words after a command are its options; names are to follow.
+/// How many of the words after a command are its options. Names follow them.
 pub fn options_len(rows: &[OptionRow], words: &[String]) -> Result<usize, usize>
     requires { IsTrue (are_sound (rows_of rows.now)) }
     ensures ok { IfOk result (EndsOptions (rows_of rows.now) (texts words.now)) }

@@ -45,9 +45,9 @@ pub enum Kind {
 pub struct Talk<'a> {
     /// What the stream is made of.
     pub kind: Kind,
-    /// The sample rate in Hz, one of those that the kind names; of H.264 the access units in a second, 1 to 240.
+    /// The sample rate in Hz, one of those of the kind; for H.264 the access units in a second, 1 to 240.
     pub rate: u32,
-    /// The channels of each sample frame, 1 to 1023, of AM824 at most 256. H.264 uses neither this nor the count.
+    /// The channels of each sample frame, 1 to 1023, for AM824 at most 256. H.264 uses neither this nor the count.
     pub channels: u16,
     /// The sample frames of a packet, or its data blocks for AM824. At least 1, with at most 1,476 bytes together; for
     /// AM824 at least an eighth of SYT_INTERVAL, with at most 1,468 bytes.
@@ -76,9 +76,9 @@ const TALK_OPERANDS: [Operand; 2] = [Operand::Name, Operand::Name];
 /// The codes that name a nominal sample rate.
 const RATE_CODES: [u8; 10] = [1, 2, 3, 4, 5, 6, 7, 8, 9, 10];
 
-/// The words after `talk`. If a word is missing, that is the offence. If only a rule over several words fails, the
-/// offence is at the command. The limit of 240 access units a second for H.264 is such a rule, because the kind can
-/// come after the rate.
+/// The words after `talk`. If a word is missing, that is the offence. If each word is valid but they contradict one another,
+/// the offence is at the command. The limit of 240 access units a second for H.264 counts as such a contradiction, because the
+/// kind can come after the rate.
 pub fn read_talk(words: &[String]) -> Result<Command<'_>, Offence>
     ensures ok { IfOk result (λ command. IsCommandLine (codes "talk" ∷ texts words.now) (request_of command)) }
     ensures err { IfErr result (λ offence. IsOffence (codes "talk" ∷ texts words.now) offence.position) }
@@ -244,15 +244,15 @@ fn has_rate(codes: &[u8], rate: u32) -> bool
 /// The codes FDF that name a sample rate (IEC 61883-6).
 const FDF_CODES: [u8; 7] = [0, 1, 2, 3, 4, 5, 6];
 
-/// Whether a sample rate is one of IEC 61883-6, and a packet of `count` data blocks has at least an eighth of its
-/// SYT_INTERVAL: then a block is stamped in eight packets.
+/// Whether IEC 61883-6 has a sample rate, and a packet of `count` data blocks has at least an eighth of its SYT_INTERVAL, which
+/// stamps a block in every eight packets.
 fn suits_blocks(rate: u32, count: u32) -> bool
     ensures { IsTrue result ↔ ((fdf : ℕ) × (rate_of_fdf_code fdf ≡ Some rate) × IsSomeAnd (interval_of_code fdf) (λ interval. interval ≤ 8 * count)) }
 {
     has_suiting(&FDF_CODES, rate, count)
 }
 
-/// Whether one of these codes has this rate and such an interval.
+/// Whether one of these codes has this rate, with an interval that suits the count.
 fn has_suiting(codes: &[u8], rate: u32, count: u32) -> bool
     ensures { result ≡ list_any (λ fdf. suits_of rate count fdf) codes.now }
 {

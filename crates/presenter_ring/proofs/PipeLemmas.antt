@@ -64,7 +64,7 @@ module _ {R P : Type 0} (gave : R → R → List Shown → Type 0) (left : R →
     steps = λ more. omega (arith, stepped, ap length shown.receives, length-append (popped_by a) shown.presented);
   }
 
-  -- the item in hand, where a slot was known to be free: there is none
+  -- the item in hand, if a slot was known to be free: there is none
   not_past : (a b : Pipe) → IsStill a b → 0 < known_free_of a → hand_of b.front ≡ []
   not_past a b still free =
       let stuck = still.stuck in
@@ -94,7 +94,7 @@ module _ {R P : Type 0} (gave : R → R → List Shown → Type 0) (left : R →
         empty = ap (λ xs. xs ++ hand_of c.front) (ap (λ back. known_items back.consumer) kept.back ∙ still.empty) ∙ emptied;
       }
 
-  -- where something is still to be done, the item in hand was presented
+  -- if something is still to be done, the item in hand was presented
   steps_past : (a b c : Pipe) → IsStill a b → KeepsRing b c → hand_of c.front ≡ [] → (IsDrained c → ⊥) → length (hand_of b.front) ≡ 1
   steps_past a b c still kept emptied more =
       elim b.front.hand as (λ (o : Option Shown). b.front.hand ≡ o → length (hand_of b.front) ≡ 1) [
@@ -102,7 +102,7 @@ module _ {R P : Type 0} (gave : R → R → List Shown → Type 0) (left : R →
         | Some shown ↦ λ e. rw e refl
       ] refl
 
-  -- an item that was presented past the ring is less to do
+  -- one item that was presented past the ring is one less to do
   pub less_past : (r r' : R) (p p' : P) (a b c : Pipe) → Fifo a → Fifo b → HasFed gave left ended r r' a.front b.front → HasPresented handed p p' a.back b.back
       → IsStill a b → KeepsRing b c → hand_of c.front ≡ [] → length (hand_of b.front) ≡ 1 → work (left r') c < work (left r) a
   less_past r r' p p' a b c old new fed shown still kept emptied one =
@@ -169,7 +169,7 @@ module _ {R P : Type 0} (gave : R → R → List Shown → Type 0) (left : R →
     works = omega (arith, x.works, y.works, length-append x.presented y.presented);
   }
 
-  -- Where the presented items and then what waits were all that was given, they are so again.
+  -- If the presented items and those that wait were all that was given before a round, they are after it.
   pub runs_on : (r r' : R) (p p' : P) (a b : Pipe) (shown taken : List Shown) → (m : HasMoved gave left handed r r' p p' a b)
       → shown ++ waiting_in a ≡ taken → (shown ++ m.presented) ++ waiting_in b ≡ taken ++ m.given
   runs_on r r' p p' a b shown taken m h =

@@ -10,7 +10,7 @@ use Rattle.presenter_ring.specs.Fronts.{hand_of, ended_of}
 abbrev pub ring_of : Pipe → List Shown
 ring_of pipe = known_items pipe.back.consumer
 
--- the items that the presenter will be handed next: those in the ring and then the one in hand
+-- the items that are presented next: those in the ring and then the one in hand
 abbrev pub waiting_in : Pipe → List Shown
 waiting_in pipe = ring_of pipe ++ hand_of pipe.front
 
@@ -43,13 +43,13 @@ pub record IsDrained (pipe : Pipe) : Type 0 where
   pub ended : IsSome (ended_with pipe)
   pub empty : waiting_in pipe ≡ []
 
--- The work that is left if the receiver can give `left` more items: a push for each item that is not in the ring yet,
--- and a presentation for each item. Every round but a drained one reduces it.
+-- The work that is left if the receiver can give `left` more items: a push for each item that is not in the ring yet, and a
+-- presentation for each item. Every round reduces it, except a drained one.
 abbrev pub work : ℕ → Pipe → ℕ
 work left pipe = 2 * (left + length (hand_of pipe.front)) + length (ring_of pipe)
 
--- What rounds did, by the items that the receiver gave and the presenter was handed. The items that waited before,
--- followed by those that were given, are those that were presented, followed by those that wait now.
+-- What rounds did: which items the receiver gave and which the presenter got. The items that waited before, followed by those
+-- that were given, are those that were presented, followed by those that wait now.
 pub record HasMoved {R P : Type 0} (gave : R → R → List Shown → Type 0) (left : R → ℕ) (handed : P → P → List Shown → Type 0) (receiver receiver' : R) (presenter presenter' : P) (before after : Pipe) : Type 0 where
   pub given : List Shown
   pub presented : List Shown
@@ -60,8 +60,8 @@ pub record HasMoved {R P : Type 0} (gave : R → R → List Shown → Type 0) (l
   pub leaves : left receiver' + length given ≤ left receiver
   pub works : work (left receiver') after + (length (pushed_by after) + length presented) ≤ work (left receiver) before + length (pushed_by before)
 
--- What one round did. If its producer knew a free slot as it began, all that was presented came through the ring. If
--- something is still to be done, at least one item was pushed or presented.
+-- What one round did. If its producer knew a free slot when it began, everything presented came through the ring. If work is
+-- left, at least one item was pushed or presented.
 pub record IsRound {R P : Type 0} (gave : R → R → List Shown → Type 0) (left : R → ℕ) (handed : P → P → List Shown → Type 0) (receiver receiver' : R) (presenter presenter' : P) (before after : Pipe) : Type 0 where
   pub moved : HasMoved gave left handed receiver receiver' presenter presenter' before after
   pub through_ring : 0 < known_free_of before → popped_by after ≡ popped_by before ++ moved.presented

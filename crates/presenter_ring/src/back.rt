@@ -22,7 +22,7 @@ impl Back {
     ghost use Rattle.std.specs.Prelude.{◌≡◌, ◌+◌, ◌<◌, ◌^◌, [], length, MatchBool, IfOk, OnErr};
     ghost use Rattle.avtp_base.specs.Faults.{IsCounted};
     ghost use Rattle.rtrb.specs.Ring.{received, known_items};
-    ghost use Rattle.presenter_ring.specs.state.Backs.{HasPresented, IsOneMore, IsIdle};
+    ghost use Rattle.presenter_ring.specs.state.Backs.{HasPresented, IsOneMore, IsIdle, TakesBackTurn};
 
     /// Pops one item and presents it. Returns whether there was one.
     fn present_next<P: Presenter, G: Gate>(
@@ -47,7 +47,8 @@ impl Back {
         }
     }
 
-    /// The presenter's turn in a round: pops and presents at most `most` items, until the ring is empty or one fails.
+    /// The presenter's turn in a round: pops and presents at most `most` items, until the ring is empty or one fails, and then
+    /// lets the presenter pause.
     pub fn take_turn<P: Presenter, G: Gate>(
         &mut self,
         presenter: &mut P,
@@ -56,10 +57,26 @@ impl Back {
     ) -> Result<(), Failed>
         requires some { 0 < most }
         requires room { length (received self.old.consumer) + most < 2 ^ 64 }
-        ensures presented { HasPresented P.handed presenter.old presenter.new self.old self.new }
-        ensures idle { length (received self.new.consumer) ≡ length (received self.old.consumer) → IsIdle self.old self.new }
-        ensures failed { OnErr result (length (received self.old.consumer) < length (received self.new.consumer)) }
-        ensures counted { IsCounted (P.faults presenter.old) (P.faults presenter.new) result }
+        ensures { TakesBackTurn P.handed P.faults presenter.old presenter.new self.old self.new result }
+    {
+        let pops = self.pops;
+        self.present_all(presenter, gate, most)?;
+        if self.pops == pops {
+            return Ok(());
+        }
+        presenter.pause()
+    }
+
+    /// Pops and presents at most `most` items, until the ring is empty or one fails.
+    fn present_all<P: Presenter, G: Gate>(
+        &mut self,
+        presenter: &mut P,
+        gate: &G,
+        most: usize,
+    ) -> Result<(), Failed>
+        requires some { 0 < most }
+        requires room { length (received self.old.consumer) + most < 2 ^ 64 }
+        ensures { TakesBackTurn P.handed P.faults presenter.old presenter.new self.old self.new result }
     {
         for _ in 0..most {
             if !self.present_next(presenter, gate)? {

@@ -93,7 +93,8 @@ impl Front {
         }
     }
 
-    /// The receiver's turn in a round: pulls and pushes at most `most` items, while it finds a free slot.
+    /// The receiver's turn in a round: pulls and pushes at most `most` items, while it finds a free slot. Once it has pushed
+    /// one, it ends its turn before it waits, so that the presenter is not kept waiting for what is there.
     pub fn take_turn<R: Receiver, G: Gate>(&mut self, receiver: &mut R, gate: &G, most: usize)
         requires some { 0 < most }
         requires live { ended_of self.old ≡ None → R.ended receiver.old ≡ None }
@@ -101,7 +102,10 @@ impl Front {
         ensures fed { HasFed R.gave R.left R.ended receiver.old receiver.new self.old self.new }
         ensures stuck { length (sent self.new.producer) ≡ length (sent self.old.producer) → IsStuck self.old self.new }
     {
-        for _ in 0..most {
+        for turn in 0..most {
+            if turn > 0 && receiver.may_wait() {
+                return;
+            }
             if !self.push_next(receiver, gate) {
                 return;
             }

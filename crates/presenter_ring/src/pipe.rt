@@ -19,7 +19,7 @@ use std::thread::Threads;
 pub enum Round {
     /// More is to come.
     More,
-    /// The receiver has ended, and the presenter was handed every item.
+    /// The receiver has ended, and the presenter got every item.
     Drained,
     /// The presenter failed.
     PresentFault,
@@ -131,7 +131,7 @@ impl Pipe {
         match self.front.hand.take() {
             Some(shown) => {
                 presenter.present(shown)?;
-                Ok(())
+                presenter.pause()
             }
             None => Ok(()),
         }

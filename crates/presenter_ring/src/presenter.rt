@@ -11,14 +11,23 @@ pub trait Presenter: Send {
     ghost use Rattle.std.specs.Prelude.{List, ℕ};
     ghost use Rattle.sample_schedule.specs.declared.shown.Shown.{Shown as ShownValue};
 
-    /// The first became the second when it was handed these items, in this order.
+    /// The first became the second when it got these items, in this order.
     ghost handed: { Self → Self → List ShownValue → Type 0 };
 
-    /// The number of faults so far, which stays at the last value of a 64-bit number.
+    /// The number of faults so far, which stops at the greatest 64-bit number.
     ghost faults: { Self → ℕ };
 
-    /// Presents an item. Returns `Failed` only if the count rose; even then the item counts as handed over.
+    /// Presents an item. Returns `Failed` only if the count of faults rose; even then the item counts as presented.
     fn present(&mut self, shown: Shown) -> Result<(), Failed>
         ensures handed { (begun : Self) (items : List ShownValue) → handed begun self.old items → handed begun self.new (items ++ shown ∷ []) }
         ensures counted { IsCounted (faults self.old) (faults self.new) result };
+
+    /// Is called when nothing more is at hand to present, for now: what a presenter keeps back is best shown here. Returns
+    /// `Failed` only if the count rose.
+    fn pause(&mut self) -> Result<(), Failed>
+        ensures handed { (begun : Self) (items : List ShownValue) → handed begun self.old items → handed begun self.new items }
+        ensures counted { IsCounted (faults self.old) (faults self.new) result }
+    {
+        Ok(())
+    }
 }

@@ -19,7 +19,7 @@ pub enum Pull {
     ReadFault,
     /// The capture has more bytes than may be read.
     Limit,
-    /// No memory was found.
+    /// There was no memory.
     Memory,
 }
 
@@ -45,4 +45,9 @@ pub trait Receiver: Send {
         ensures gave { (begun : Self) (items : List ShownValue) → gave begun self.old items → gave begun self.new (items ++ items_of result) }
         ensures left { left self.new + length (items_of result) ≤ left self.old }
         ensures ended { ended self.new ≡ ending_of result };
+
+    /// Whether `next` may have to wait for its input. The items that were given so far are then best presented first.
+    fn may_wait(&self) -> bool {
+        false
+    }
 }

@@ -3,7 +3,7 @@
 ghost use Rattle.std.specs.Prelude.{◌≡◌, ◌+◌, ◌<◌, ◌≤◌, ◌^◌, ◌++◌, None, OnErr, length};
 ghost use Rattle.avtp_base.specs.Faults.{IsCounted};
 ghost use Rattle.rtrb.specs.Ring.{sent, received, known_items, IsPair};
-ghost use Rattle.presenter_ring.specs.state.Backs.{HasPresented, IsIdle, KeepsBack};
+ghost use Rattle.presenter_ring.specs.state.Backs.{KeepsBack, TakesBackTurn};
 ghost use Rattle.presenter_ring.specs.Fronts.{ended_of};
 ghost use Rattle.presenter_ring.specs.state.Fronts.{HasFed, IsStuck, KeepsFront};
 
@@ -31,10 +31,7 @@ pub fn both_turns<T: Threads + Sync, R: Receiver, P: Presenter, G: Gate>(
     requires space { length (received back.old.consumer) + most < 2 ^ 64 }
     ensures fed { HasFed R.gave R.left R.ended receiver.old receiver.new front.old front.new }
     ensures stuck { length (sent front.new.producer) ≡ length (sent front.old.producer) → IsStuck front.old front.new }
-    ensures presented { HasPresented P.handed presenter.old presenter.new back.old back.new }
-    ensures idle { length (received back.new.consumer) ≡ length (received back.old.consumer) → IsIdle back.old back.new }
-    ensures failed { OnErr result (length (received back.old.consumer) < length (received back.new.consumer)) }
-    ensures counted { IsCounted (P.faults presenter.old) (P.faults presenter.new) result }
+    ensures presented { TakesBackTurn P.handed P.faults presenter.old presenter.new back.old back.new result }
 {
     let ((), presented) = join_mut(
         rt,
@@ -48,10 +45,7 @@ pub fn both_turns<T: Threads + Sync, R: Receiver, P: Presenter, G: Gate>(
         &mut || -> Result<(), Failed>
             requires some { 0 < most }
             requires space { length (received back.now.consumer) + most < 2 ^ 64 }
-            ensures presented { HasPresented P.handed presenter.entry.now presenter.exit.now back.entry.now back.exit.now }
-            ensures idle { length (received back.exit.now.consumer) ≡ length (received back.entry.now.consumer) → IsIdle back.entry.now back.exit.now }
-            ensures failed { OnErr result (length (received back.entry.now.consumer) < length (received back.exit.now.consumer)) }
-            ensures counted { IsCounted (P.faults presenter.entry.now) (P.faults presenter.exit.now) result }
+            ensures { TakesBackTurn P.handed P.faults presenter.entry.now presenter.exit.now back.entry.now back.exit.now result }
         { back.take_turn(presenter, gate, most) },
     );
     presented

@@ -27,7 +27,7 @@ impl Notes {
         )?)
     }
 
-    /// The frames, or the highest number if the device was not dropped once.
+    /// The frames of the items, or the highest number if the device was not dropped exactly once.
     pub fn taken(&self) -> u64 {
         if self.drops.load(Ordering::SeqCst) != 1 {
             return u64::MAX;
@@ -48,7 +48,7 @@ impl Notes {
     }
 }
 
-/// A device that notes what is done to it where the test sees it.
+/// A device that records what is done to it in memory that it shares with the test.
 struct Noting {
     device: MemoryDevice,
     notes: Arc<Notes, Global>,
@@ -82,7 +82,7 @@ impl Device for Noting {
     }
 }
 
-/// A device in its place whose call with this number fails.
+/// A device in a rack. Its call with this number fails.
 fn place_of(alloc: Global, notes: &Arc<Notes, Global>, fails: u64) -> Result<Place, NoMemory>
     ensures { IfOk result (λ place. place.live ≡ true) }
 {
@@ -96,7 +96,7 @@ fn place_of(alloc: Global, notes: &Arc<Notes, Global>, fails: u64) -> Result<Pla
     })
 }
 
-/// Devices side by side, of which each fails at its call with this number.
+/// A rack of devices. Each fails at its call with its number in the list.
 pub fn rack_of(
     alloc: Global,
     fails: [u64; 3],

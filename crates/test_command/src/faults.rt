@@ -1,5 +1,5 @@
-//! Each call of the outside fails in turn, however little a call moves: the status is that of the fault, and the text is what
-//! was certain before it.
+//! Each call to the shelf or the sink fails in turn, whether a call moves one byte or many. The status names the fault, and the
+//! text is what was certain before it.
 
 use crate::recipe::file_of;
 use crate::transcript::{status_of, words_of};
@@ -10,13 +10,13 @@ use device_rack::Rack;
 use std::alloc::Global;
 use std::thread::Threads;
 
-/// How many bytes a read moves at most, and a write.
+/// The most bytes that a read moves, and the most that a write moves.
 const READS: [usize; 2] = [1, 65_536];
 
 const WRITES: [usize; 2] = [7, 65_536];
 
-/// A command that reads a capture: what it prints before it reads, what more is certain of all the capture's bytes, what the
-/// end of the capture adds, and how it ends then.
+/// A command that reads a capture: what it prints before it reads, what it prints once it has all bytes, what it prints at the
+/// end, and its status then.
 #[derive(Clone, Copy)]
 struct Case {
     line: &'static str,
@@ -53,7 +53,7 @@ end frames 1 packets 1 presented 1 flagged 0
     status: Status::Done,
 };
 
-/// Two packets on a clock whose second point comes after them.
+/// Two packets of a stream, and a clock whose second timestamp comes after them.
 const CLOCKED: Case = Case {
     line: "listen --buffer 8 --room 192 --look 2 --clock 0200000000010002 0200000000010001 c.pcap",
     capture: "\
@@ -91,7 +91,7 @@ const CHECKED: Case = Case {
     status: Status::Findings,
 };
 
-/// The same capture as pcapng.
+/// The capture of `SHOWN` as pcapng.
 const SHOWN_NG: Case = Case {
     capture: "V5",
     ..SHOWN
@@ -103,8 +103,8 @@ const HEARD_NG: Case = Case {
 };
 
 impl Case {
-    /// What is printed, and how it ends, where this call of the shelf fails and the capture takes so many reads. The first
-    /// call opens the file, and the last one finds that nothing is left.
+    /// What is printed, and the status, if this call of the shelf fails and the capture takes this many reads. The first call
+    /// opens the file, and the last one finds that nothing is left.
     fn told(&self, alloc: Global, call: usize, reads: usize) -> Result<(Status, String), NoMemory> {
         let Case {
             before,
@@ -143,7 +143,7 @@ struct Outcome {
     made: Option<Vec<u8>>,
 }
 
-/// The run of a command over a file where a call of the shelf and one of the sink fail, and each moves at most so many bytes.
+/// Runs a command over a file. One call of the shelf and one of the sink fail, and each call moves at most a few bytes.
 fn ended<T: Threads + Sync>(
     rt: &T,
     alloc: Global,
@@ -195,7 +195,7 @@ fn a_failing_read_ends_the_run_after_what_was_certain(rt: HostRuntime) -> Result
     Ok(())
 }
 
-/// What was written is a prefix of the whole text, and no shorter than where an earlier call fails.
+/// What was written is a prefix of the whole text, and a later failure leaves at least as much.
 #[test]
 fn a_failing_write_leaves_a_prefix_of_the_text(rt: HostRuntime) -> Result<(), NoMemory> {
     let alloc = rt.alloc();
@@ -232,9 +232,9 @@ fn a_failing_write_leaves_a_prefix_of_the_text(rt: HostRuntime) -> Result<(), No
     Ok(())
 }
 
-/// What `talk` makes of the first vector's samples, where this call of the shelf fails and each moves at most so many bytes: how
-/// the run ends, and how many bytes the capture has, if it was made. The calls are one to open the input, those that read it
-/// and the one that finds its end, one to make the capture, and those that write it.
+/// What `talk` makes of the first vector's samples if this call of the shelf fails and each call moves at most `most` bytes:
+/// the status, and the size of the capture if it was made. The calls open the input, read it, find its end, make the capture
+/// and write it.
 fn made(call: usize, most: usize) -> (Status, Option<usize>) {
     let create = 24usize.div_ceil(most.max(1)).saturating_add(3);
     let writes = 106usize.div_ceil(most.max(1));

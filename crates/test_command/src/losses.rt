@@ -1,4 +1,5 @@
-//! Captures that lose, repeat and reorder a talker's packets, and its clock's: what is presented stands at the talker's instants.
+//! Captures in which packets of a talker and of its clock are lost, repeated and reordered: all that is presented is at the
+//! talker's instants.
 
 use crate::recipe::{bytes_of, number};
 use crate::transcript::{Bench, numbers_in, records_at, records_in};
@@ -43,10 +44,10 @@ const ROWS: &str = "\
 --crf 0200000000010002 --sparse --restart 64 --jump 4 --crf-interval 24 --crf-points 2 | --clock 0200000000010002 --crf-shift -1 | 64 | 12/5/0 | 50
 ";
 
-/// Packets of which some are lost, come again or overtake others, after restarts too.
+/// Record numbers with losses, repeats and reordering, also after restarts.
 const MIXED: &str = "0 1 1 3 2 5 6 8 9 7 9 11 13 12 14 16 17 19 18 20 23 25 24 26 32 33 33 39";
 
-/// The places of the records that come, of so many.
+/// The numbers of the records that are delivered, of a capture with `records` records.
 fn places_of(alloc: Global, comes: &str, records: usize) -> Result<Vec<usize>, NoMemory> {
     match comes {
         "mixed" => numbers_in(alloc, MIXED),
@@ -76,12 +77,12 @@ fn network_places(alloc: Global, comes: &str, records: usize) -> Result<Vec<usiz
     Ok(places)
 }
 
-/// Whether the number is one of each so many, where there are any.
+/// Whether `n`, counted from 0, is the last of every `each` numbers; never if `each` is 0.
 fn is_each(n: usize, each: usize) -> bool {
     each > 0 && n % each == each - 1
 }
 
-/// The line as the untouched capture has it, from which these records came, if it is one of a sample.
+/// The line that the complete capture has for this one, if it is the line of a sample.
 fn as_sent(alloc: Global, line: &str, places: &[usize]) -> Result<Option<String>, NoMemory> {
     if let Some((instant, rest)) = line.split_once(" frame ")
         && let Some((frame, sample)) = rest.split_once(" seq ")
@@ -97,8 +98,8 @@ fn as_sent(alloc: Global, line: &str, places: &[usize]) -> Result<Option<String>
     Ok(None)
 }
 
-/// Whether each sample that is presented of these records is one of the untouched capture's, at the same instant and in the
-/// same order.
+/// Whether each sample that is presented of these records is one of the complete capture's, at the same instant and in the same
+/// order.
 fn is_among(alloc: Global, whole: &str, text: &str, places: &[usize]) -> Result<bool, NoMemory> {
     let mut sent = whole.lines();
     for line in text.lines() {
@@ -111,7 +112,7 @@ fn is_among(alloc: Global, whole: &str, text: &str, places: &[usize]) -> Result<
     Ok(true)
 }
 
-/// Whether the text ends so, or presents at least as many packets.
+/// Whether the text ends like this, or presents at least as many packets.
 fn ends_as_stated(text: &str, end: &str) -> bool {
     if end.starts_with("presented") {
         return text.trim_ascii_end().ends_with(end);
@@ -125,7 +126,7 @@ fn ends_as_stated(text: &str, end: &str) -> bool {
     number(end) <= presented
 }
 
-/// The text of a capture that is whole, and of the records of it that come.
+/// The text of a complete capture, and the text of the records that are delivered.
 #[derive(Drop)]
 struct Heard {
     whole: String,
@@ -133,7 +134,7 @@ struct Heard {
     places: Vec<usize>,
 }
 
-/// What `listen` with these options and look-ahead prints of what is talked, and of the records of it that come.
+/// What `listen` prints, with these options and this look-ahead, of the complete capture and of the records that are delivered.
 fn hear<T: Threads + Sync>(
     rt: &T,
     alloc: Global,

@@ -12,7 +12,7 @@ use std::sync::atomic::{AtomicU64, Ordering};
 use std::test::Fail;
 use vectors_avtp::vector;
 
-/// A file that counts its bytes where the test sees it.
+/// A file that counts its bytes in memory that it shares with the test.
 #[derive(Drop)]
 struct Counting {
     bytes: Arc<AtomicU64, Global>,
@@ -29,8 +29,8 @@ impl Sink for Counting {
     }
 }
 
-/// A system with these arguments, or without the memory for any. The file `x` counts its bytes, and all others count theirs
-/// together.
+/// A system with these arguments, or one without the memory for any. The file `x` counts its bytes, and the other files count
+/// theirs together.
 #[derive(Drop)]
 struct Arguments {
     alloc: Global,
@@ -59,7 +59,7 @@ impl System<Counting> for Arguments {
     }
 }
 
-/// Arguments; the status; whether all of the text of `listen` came; and how many bytes the file `x` and the others have.
+/// Arguments; the status; whether the text of `listen` is complete; and the sizes of the file `x` and of the other files.
 const RUNS: [(Option<&str>, Status, bool, u64, u64); 5] = [
     (
         Some("listen --raw x --annexb y 0200000000010001 c.pcap"),

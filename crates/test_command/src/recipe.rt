@@ -12,7 +12,7 @@ use avtp_base::NoMemory;
 use std::alloc::Global;
 use vectors_avtp::vector;
 
-/// The bytes that the steps of each line make, one line's after the other's.
+/// The bytes that the steps of each line make, line after line.
 pub fn file_of(alloc: Global, lines: &str) -> Result<Vec<u8>, NoMemory> {
     let mut file = Vec::new(alloc);
     for steps in lines.lines() {

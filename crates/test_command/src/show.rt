@@ -105,7 +105,7 @@ fn a_capture_is_shown_up_to_its_end_its_limit_or_its_first_refusal(
     follow(&rt, rt.alloc(), CAPTURES)
 }
 
-/// Big and little endian, in microseconds and in nanoseconds.
+/// Big- and little-endian captures, in microseconds and in nanoseconds.
 const STYLES: &str = "\
 < c.pcap xd4c3b2a1020004000000000000000000000004000100000001000000000000004200000042000000
 + c.pcap V1/40

@@ -81,7 +81,7 @@ fn words_and_inputs_that_make_no_capture_leave_none(rt: HostRuntime) -> Result<(
     follow(&rt, rt.alloc(), REFUSED)
 }
 
-/// Sample 5 of packet 999 is 5,999 sample frames behind 1.002 s, and that of packet 3,999 is 23,999 behind.
+/// Sample 5 of packet 999 is 5,999 sample frames after 1.002 s, and that of packet 3,999 is 23,999 after it.
 const HEARD: &str = "\
 < a.raw noise:24000
 $ talk a.raw c.pcap
@@ -119,7 +119,7 @@ fn what_is_talked_is_heard_whole(rt: HostRuntime) -> Result<(), NoMemory> {
     follow(&rt, rt.alloc(), HEARD)
 }
 
-/// A second of stereo at 48 kHz. The packets before the clock's second point are on no line of it.
+/// A second of stereo at 48 kHz. The packets before the clock's second timestamp have no media clock.
 const CLOCKS: &str = "\
 < a.raw noise:192000
 $ talk --crf 0200000000010002 a.raw c.pcap
@@ -166,7 +166,7 @@ fn a_second_beside_a_clock_of_another_rate_is_heard_on_it(rt: HostRuntime) -> Re
     follow(&rt, rt.alloc(), OTHER_CLOCKS)
 }
 
-/// Sparse streams are known from the next stamped packet on. A stamp of 256 packets before is of no use.
+/// A sparse stream can be timed from its next stamped packet on. A stamp of 256 packets before does not count.
 const SPARSE: &str = "\
 < a.raw noise:384
 $ talk --sparse a.raw c.pcap
@@ -218,7 +218,7 @@ fn a_sparse_stream_is_known_from_a_stamp_of_its_own_run_on(
     follow(&rt, rt.alloc(), SPARSE)
 }
 
-/// Of one packet the only copy comes 0.48 ms after its presentation time; of two, the second comes exactly at its own.
+/// With one packet, its only copy comes 0.48 ms after its presentation time. With two, the second comes exactly at its own.
 const SOAKS: &str = "\
 $ soak 0
 soak 0 delivered 0 presented 0 late 0 repeat 0 untimed 0 full 0

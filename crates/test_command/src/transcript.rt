@@ -18,7 +18,7 @@ use std::alloc::Global;
 use std::process::Abort;
 use std::thread::Threads;
 
-/// The files of a shelf, the newest first, what is to fail in the next run, and what came of the last one.
+/// The files of a shelf, the newest first; what is to fail in the next run; and the result of the last one.
 #[derive(Drop)]
 pub struct Bench {
     alloc: Global,
@@ -92,7 +92,7 @@ impl Bench {
         Ok(MemoryShelf::over(self.alloc, files, fails))
     }
 
-    /// Runs the command, and answers its text. The file under the last word is then as the command left it.
+    /// Runs the command, and returns its text. The file that its last word names is then as the command left it.
     pub fn run<T: Threads + Sync>(&mut self, rt: &T, line: &str) -> Result<String, NoMemory> {
         let words = words_of(self.alloc, line)?;
         let mut shelf = self.shelf()?;
@@ -123,7 +123,7 @@ impl Bench {
         Ok(())
     }
 
-    /// Does what the lines say that are no words and no text.
+    /// Follows the lines that are neither a command line nor its text.
     fn follow(&mut self, rt: &impl Abort, lines: &str) -> Result<(), NoMemory> {
         for line in lines.lines() {
             if let Some((sign, rest)) = line.split_once(' ') {
@@ -210,7 +210,7 @@ pub fn records_in(alloc: Global, capture: &[u8]) -> Result<Vec<&[u8]>, NoMemory>
     Ok(records)
 }
 
-/// The capture of its records at these places, in this order.
+/// The capture with the records at these places, in this order.
 pub fn records_at(alloc: Global, capture: &[u8], places: &[usize]) -> Result<Vec<u8>, NoMemory> {
     let records = records_in(alloc, capture)?;
     let mut picked = Vec::from_slice(alloc, capture.get(..24).unwrap_or(&[]))?;
@@ -234,7 +234,7 @@ fn stated_status(lines: &str) -> usize {
     0
 }
 
-/// The lines of a text among others.
+/// The lines of the text that a transcript states.
 fn stated_text(alloc: Global, lines: &str) -> Result<Vec<&str>, NoMemory> {
     let mut text = Vec::new(alloc);
     for line in lines.lines() {
@@ -252,7 +252,7 @@ fn fits(line: &str, stated: &str) -> bool {
     }
 }
 
-/// The first line of a text that is not as stated.
+/// The first line of a text that differs from the one stated.
 fn other_line<'a>(text: &'a str, stated: &[&str]) -> Option<&'a str> {
     let mut place = 0usize;
     let mut skips = false;

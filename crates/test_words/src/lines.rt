@@ -4,7 +4,7 @@ use crate::packets::{CRF, DENSE, H264, IEC, OTHER, SPARSE};
 use aaf_format::{AafFormat, AafView};
 use avtp_base::{Failed, Field, NoMemory, Refusal};
 use avtp_memory::MemorySink;
-use avtp_text::Text;
+use avtp_text::{PacketPair, Text};
 use cvf_format::{CvfView, NalPart};
 use listener::Counts;
 use sample_schedule::Reason;
@@ -67,6 +67,13 @@ finding frame 18446744073709551615 id fedcba9876543210 stamp
 finding frame 2 malformed subtype at 14 short
 finding frame 2 malformed incl_len at 32
 end frames 1000000 streams 1024 findings 3
+differ frame 3 4 seq 7 count 6 5
+differ frame 18446744073709551615 18446744073709551615 seq 255 sample 4294967295 at -9223372036854775808 9223372036854775807
+differ frame 3 4 seq 7 sample 2 bytes
+end matched 8 only 1 2 differ 3
+gateway input: label at frame 12
+skip frame 5 overlap
+gateway batches 1000 packets 1001 skipped 1
 ";
 
 const SHORT: Refusal = Refusal {
@@ -185,7 +192,7 @@ fn print_talk(text: &mut Text, out: &mut MemorySink) -> Result<(), Failed> {
     text.soak(out, 1_000, &counts)
 }
 
-/// Each finding alone, nothing, and all of them with the longest numbers.
+/// Each finding alone, no finding, and all findings with the longest numbers.
 fn print_findings(text: &mut Text, out: &mut MemorySink) -> Result<(), Failed> {
     let alone = [
         NOTHING,
@@ -219,6 +226,29 @@ fn print_findings(text: &mut Text, out: &mut MemorySink) -> Result<(), Failed> {
     text.end_check(out, 1_000_000, 1_024, 3)
 }
 
+fn print_pairs(text: &mut Text, out: &mut MemorySink) -> Result<(), Failed> {
+    let pair = PacketPair {
+        frame_a: 3,
+        frame_b: 4,
+        seq: 7,
+    };
+    let longest = PacketPair {
+        frame_a: u64::MAX,
+        frame_b: u64::MAX,
+        seq: 255,
+    };
+    text.differ_count(out, pair, 6, 5)?;
+    text.differ_at(out, longest, u32::MAX, i64::MIN, i64::MAX)?;
+    text.differ_bytes(out, pair, 2)?;
+    text.end_agree(out, 8, 1, 2, 3)
+}
+
+fn print_gateway(text: &mut Text, out: &mut MemorySink) -> Result<(), Failed> {
+    text.gateway_input(out, "label", 12)?;
+    text.skip(out, 5, "overlap")?;
+    text.gateway(out, 1_000, 1_001, 1)
+}
+
 fn print_all(text: &mut Text, out: &mut MemorySink) -> Result<(), Failed> {
     print_packets(text, out)?;
     print_other_frames(text, out)?;
@@ -226,6 +256,8 @@ fn print_all(text: &mut Text, out: &mut MemorySink) -> Result<(), Failed> {
     print_listen(text, out)?;
     print_talk(text, out)?;
     print_findings(text, out)?;
+    print_pairs(text, out)?;
+    print_gateway(text, out)?;
     text.flush(out)
 }
 

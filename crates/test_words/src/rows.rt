@@ -104,7 +104,7 @@ talk --kind h264 --start 0 a b => talk H264 { last_stamp: false } rate 30 start 
 talk --kind h264 --lead 1 a b => talk H264 { last_stamp: false } rate 30 lead 1 (a) (b)
 ";
 
-/// Words that are no command line, and the position of the first that cannot stand or is missing.
+/// Bad command lines, and the position of the first argument that is not accepted there, or is missing.
 pub const OFFENCES: &str = "\
 => 1
 '' => 1
@@ -177,7 +177,7 @@ talk --sparse a b c => 5
 talk --channels 500 a => 5
 ";
 
-/// An option of a command with a value that it can have, and values that it cannot have.
+/// An option of a command, with a value that it accepts and values that it does not.
 pub const VALUES: &str = "\
 show --limit 1 : '' 0 01 +1 1099511627777
 check --limit 1 : 0 1099511627777
@@ -209,7 +209,7 @@ talk --crf-rate 1 : 0 200000001
 talk --crf-pull 0 : 6
 ";
 
-/// Words that can all stand, and break a rule over several of them.
+/// Words that are each accepted, but contradict one another.
 pub const RULES: &str = "\
 listen --silence zero 0200000000010001 c.pcap
 listen --silence am824 0200000000010001 c.pcap

@@ -76,22 +76,22 @@ fn add_names(text: &mut String, names: &[String]) -> Result<(), AllocError> {
 }
 
 fn add_listen(text: &mut String, asked: &Listen<'_>) -> Result<(), AllocError> {
-    write!(text, "listen {:016x}", asked.stream)?;
-    add(text, "limit", asked.limit, LIMIT)?;
-    add(text, "buffer", asked.buffer, 4_096)?;
-    add(text, "room", asked.room, 67_108_864)?;
-    add(text, "look", asked.look, 0)?;
-    add(text, "lead", asked.lead, 2_000_000)?;
-    if let Some(clock) = asked.clock {
+    write!(text, "listen {:016x}", asked.listener.stream)?;
+    add(text, "limit", asked.listener.limit, LIMIT)?;
+    add(text, "buffer", asked.listener.buffer, 4_096)?;
+    add(text, "room", asked.listener.room, 67_108_864)?;
+    add(text, "look", asked.listener.look, 0)?;
+    add(text, "lead", asked.listener.lead, 2_000_000)?;
+    if let Some(clock) = asked.listener.clock {
         write!(text, " clock {clock:016x}")?;
     }
-    add(text, "shift", asked.shift, 0)?;
+    add(text, "shift", asked.listener.shift, 0)?;
     add(text, "ring", asked.ring, 64)?;
     add_devices(text, asked)?;
     add_names(text, asked.files)
 }
 
-/// The files that are written, each with the place of its name among the words, from 0.
+/// The files that are written, each with the position of its name among the words, from 0.
 fn add_devices(text: &mut String, asked: &Listen<'_>) -> Result<(), AllocError> {
     if let Some(raw) = asked.raw {
         let silence = match raw.silence {
@@ -129,7 +129,7 @@ fn add_talk(text: &mut String, asked: &Talk<'_>) -> Result<(), AllocError> {
     add_name(text, asked.output)
 }
 
-/// The media clock, whose rate is the stream's where none is asked for.
+/// The media clock. Its rate is the stream's if none is given.
 fn add_crf(text: &mut String, crf: &Crf, rate: u32) -> Result<(), AllocError> {
     write!(text, " crf {:016x}", crf.id)?;
     add(text, "crf-rate", crf.rate, rate)?;

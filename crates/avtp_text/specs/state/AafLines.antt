@@ -1,5 +1,5 @@
--- Kept for proofs: what the code's own parts hold and do. No clause of a public call rests on it.
--- The line of an AAF packet, whose end stays for that of the next one.
+-- Kept for proofs: what the code's own parts hold and do. No clause of a public call rests on it. The line of an AAF packet,
+-- whose end is reused for the next packet.
 use Rattle.std.specs.Prelude.{◌≡◌, List, ℕ, ◌++◌, codes, decimal}
 use Rattle.aaf_format.specs.Aaf.{Aaf}
 use Rattle.avtp_text.specs.declared.aaf_line.AafEnd.{AafEnd}
@@ -10,7 +10,7 @@ use Rattle.avtp_text.specs.Show.{aaf_content}
 unfoldable pub aaf_start : Aaf → List ℕ
 aaf_start v = codes "aaf " ++ (codes "id " ++ id_text v.header.stream_id ++ codes " seq " ++ decimal v.header.seq ++ codes " ts " ++ decimal v.header.timestamp)
 
--- what it shows behind that
+-- what it shows after the timestamp
 abbrev pub end_of : Aaf → AafEnd
 end_of v = record {
   tv = v.header.tv;
@@ -26,6 +26,6 @@ end_of v = record {
   data_length = v.header.data_length;
 }
 
--- the line of each packet with this end ends in this text
+-- the line of each packet with this end has this text as its end
 abbrev pub IsEnd : AafEnd → List ℕ → Type 0
 IsEnd end text = (v : Aaf) → end_of v ≡ end → aaf_content v ++ newline ≡ aaf_start v ++ text

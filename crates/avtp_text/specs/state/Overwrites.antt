@@ -1,7 +1,7 @@
--- Kept for proofs: what the code's own parts hold and do. No clause of a public call rests on it.
--- A piece of a text that is written over.
+-- Kept for proofs: what the code's own parts hold and do. No clause of a public call rests on it. A piece of a text that is
+-- overwritten.
 use Rattle.std.specs.Prelude.{◌≡◌, ℕ, List, ◌++◌, length}
 
--- the piece stands where as many bytes stood, before the last `behind` ones
+-- the piece replaces as many bytes of the text, right before its last `behind` bytes
 abbrev pub Overwrites : List ℕ → List ℕ → List ℕ → ℕ → Type 0
 Overwrites old new piece behind = (before was after : List ℕ) → old ≡ before ++ was ++ after → length was ≡ length piece → length after ≡ behind → new ≡ before ++ piece ++ after

@@ -1,5 +1,5 @@
--- Kept for proofs: what the code's own parts hold and do. No clause of a public call rests on it.
--- The line of a sample, of which those of the next ones are made.
+-- Kept for proofs: what the code's own parts hold and do. No clause of a public call rests on it. The line of a sample, which
+-- is reused for the next samples.
 use Rattle.std.specs.Prelude.{◌≡◌, ℕ, ◌+◌, ◌*◌, ◌^◌, ◌<◌, ◌≤◌, ℤ, pos, ◌+ℤ◌, List, ◌++◌, length, take, codes, decimal}
 use Rattle.sample_schedule.specs.Batches.{Presented}
 use Rattle.avtp_text.specs.declared.sample_line.Numbers.{Numbers}
@@ -10,7 +10,7 @@ use Rattle.avtp_text.specs.SampleLines.{SamplePacket}
 abbrev pub seen_as : ℕ → ℕ → ℕ → SamplePacket
 seen_as frame seq size = record { frame = frame; seq = seq; size = size }
 
--- that of a batch
+-- the packet of a batch in a frame
 abbrev pub packet_of : Presented → ℕ → SamplePacket
 packet_of batch size = seen_as batch.frame batch.seq size
 
@@ -18,24 +18,24 @@ packet_of batch size = seen_as batch.frame batch.seq size
 abbrev pub hex_end : List ℕ → List ℕ
 hex_end hex = codes " " ++ hex ++ newline
 
--- what stands behind the sequence number, with a sample's number
+-- the rest of a line after the sequence number, with a sample's number
 abbrev pub behind_seq : List ℕ → List ℕ → List ℕ
 behind_seq number hex = codes " sample " ++ number ++ hex_end hex
 
--- behind the frame's number
+-- the rest of a line after the frame's number
 abbrev pub behind_frame : ℕ → List ℕ → List ℕ → List ℕ
 behind_frame seq number hex = codes " seq " ++ decimal seq ++ behind_seq number hex
 
--- and behind the instant
+-- the rest of a line after the instant
 unfoldable pub behind_instant : ℕ → ℕ → List ℕ → List ℕ → List ℕ
 behind_instant frame seq number hex = codes " frame " ++ decimal frame ++ behind_frame seq number hex
 
--- a line whose instant has these digits, and these as its last eight
+-- a line whose instant has these first digits, and this number as its last eight
 abbrev pub gapped : ℕ → List ℕ → ℕ → ℕ → List ℕ → List ℕ → List ℕ
 gapped high low frame seq number hex = codes "at " ++ decimal high ++ low ++ behind_instant frame seq number hex
 
--- The line of a sample of the packet is kept: all of it is known but the instant's last eight digits, the sample's number and its
--- bytes.
+-- A kept line is that of a sample of this packet: all of it is known except the instant's last eight digits, the sample's
+-- number and its bytes.
 pub record HasGaps (line : KeptLine) (packet : SamplePacket) : Type 0 where
   pub high : ℕ
   pub low : List ℕ
@@ -53,11 +53,11 @@ pub record HasGaps (line : KeptLine) (packet : SamplePacket) : Type 0 where
   pub frame : line.behind.frame ≡ length (behind_frame packet.seq number hex)
   pub seq : line.behind.seq ≡ length (behind_seq number hex)
 
--- where a line is kept, its gaps are known
+-- if a line is kept, its gaps are known
 abbrev pub KnowsGaps : KeptLine → SamplePacket → Type 0
 KnowsGaps line packet = line.numbers.least < line.numbers.limit → HasGaps line packet
 
--- the instant's digits are those of the start but for the last eight
+-- the instant has the digits of the start, except for the last eight
 pub record StartsAt (instant start : ℤ) : Type 0 where
   pub high : ℕ
   pub low : ℕ

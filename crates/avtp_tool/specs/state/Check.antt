@@ -22,7 +22,7 @@ use Rattle.avtp_tool.specs.Check.{noted, notes_of, found_lines, check_lines, joi
 
 -- ---- what is done
 
--- The lines of the findings in a record were printed, and counted, which are few; or where the sink failed, none of them.
+-- The lines of the findings in a record were printed and counted, and they are few; or none of them if the sink failed.
 pub record PrintsFound (out out' : SinkState) (waits waits' : List ℕ) (result : Result ℕ Failed) (lines : List (List ℕ)) : Type 0 where
   pub written : MatchResult result (λ _. Appends (written out.held waits) (written out'.held waits') (joined_lines lines)) (λ _. Keeps (written out.held waits) (written out'.held waits'))
   pub counted : IfOk result (λ n. n ≡ length lines)
@@ -36,7 +36,8 @@ pub record ChecksOne (tracker tracker' : List (StreamKey × StreamState)) (numbe
   pub few : IfOk result (λ n. n ≤ 5)
   pub sink : KeepsSink out out' result
 
--- The records of a file of these bytes, as far as it could be read, were checked and counted, and its reading ended so.
+-- The records of a file of these bytes, as far as it could be read, were checked and counted, and its reading ended in this
+-- way.
 pub record HasChecked (limit : ℕ) (name bytes : List ℕ) (fault : Type 0) (total : Total) (before now : Option (List ℕ)) : Type 0 where
   pub records : List Record
   pub ends : EndsAfter limit bytes fault total.end records
@@ -45,7 +46,7 @@ pub record HasChecked (limit : ℕ) (name bytes : List ℕ) (fault : Type 0) (to
   pub found : total.findings ≡ length (of_each check_lines records)
   pub lines : Appends before now (capture_line name ++ joined_lines (of_each check_lines records))
 
--- They were checked, or where the sink failed a prefix of their lines was printed.
+-- The records were checked, or a prefix of their lines was printed if the sink failed.
 abbrev pub ChecksRecords : ℕ → List ℕ → List ℕ → Type 0 → Option (List ℕ) → Option (List ℕ) → Result Total Failed → Type 0
 ChecksRecords limit name bytes fault before now (Ok total) = HasChecked limit name bytes fault total before now
 ChecksRecords limit name bytes fault before now (Err e) =

@@ -15,12 +15,12 @@ report_for (Listen asked) name = listen_report (listening_of asked.now) name
 
 abbrev pub limit_for : Reading → ℕ
 limit_for (Check limit) = limit
-limit_for (Listen asked) = asked.now.limit
+limit_for (Listen asked) = asked.now.listener.limit
 
 abbrev pub plan_for : Reading → List (List ℕ) → ReadPlan
 plan_for reading names = record { names = names; limit = limit_for reading; report = report_for reading }
 
--- it hands items on
+-- the command gives items to devices
 abbrev pub is_hearing : Reading → Bool
 is_hearing (Check limit) = false
 is_hearing (Listen asked) = true

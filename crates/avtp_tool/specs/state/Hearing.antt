@@ -23,7 +23,7 @@ use Rattle.avtp_tool.specs.state.Reading.{ReadsCapture}
 
 -- ---- stages
 
--- all is shown of a capture whose reading ends so, and not only what was due: it was not cut short
+-- everything is shown of a capture whose reading ends in this way, and not only what was due: it was not cut short
 abbrev pub is_all : End → Bool
 is_all end.Whole = true
 is_all (end.Refused refusal) = true
@@ -36,28 +36,28 @@ closed_at (Showing how) = is_all how
 closed_at (Ended how) = is_all how
 closed_at NoMemory = false
 
--- how the reading ended, where it did
+-- how the reading ended, if it ended
 abbrev pub read_end : Stage → Option End
 read_end Reading = None
 read_end (Showing how) = Some how
 read_end (Ended how) = Some how
 read_end NoMemory = None
 
--- what a receiver answers whose capture's reading ended so, once all was shown of it
+-- the answer of a receiver whose capture's reading ended in this way, once everything was shown of it
 abbrev pub pull_with : End → Pull
 pull_with end.Whole = pull.Done
 pull_with (end.Refused refusal) = pull.Refused refusal
 pull_with end.ReadFault = pull.ReadFault
 pull_with end.Limit = pull.Limit
 
--- the answer with which the hearing ended, where it did
+-- the answer with which the hearing ended, if it ended
 abbrev pub pull_at : Stage → Option Pull
 pull_at Reading = None
 pull_at (Showing how) = None
 pull_at (Ended how) = Some (pull_with how)
 pull_at NoMemory = Some pull.Memory
 
--- the same of a receiver: one whose file is not open cannot go on, and counts as ended by a fault of reading
+-- the answer with which a receiver ended, if it ended: a receiver whose file is not open counts as ended by a fault of reading
 abbrev pub ended_at : Option Open → Stage → Option Pull
 ended_at None stage = Some pull.ReadFault
 ended_at (Some file) stage = pull_at stage
@@ -67,7 +67,7 @@ abbrev pub heard_at : Stage → ListenState → Heard
 heard_at (Ended how) listener = heard.Ended how listener.counts
 heard_at stage listener = heard.NoMemory
 
--- the reading of the file has ended, though records are to be read still
+-- the reading of the file has ended, although records should still be read
 abbrev pub has_stopped : Stage → Sourcing → Bool
 has_stopped Reading source = is_some source.ended
 has_stopped stage source = false
@@ -80,7 +80,7 @@ IsGoing slots source stage = IsSome (slots (slot_of source)) × (pull_at stage �
 abbrev pub IsAtReading : Slots → Sourcing → Stage → Type 0
 IsAtReading slots source stage = IsSome (slots (slot_of source)) × (stage ≡ Reading)
 
--- The listener was closed where all is shown of a capture whose reading ended so, and not only what was due.
+-- The listener was closed if everything is shown of a capture whose reading ended in this way, and not only what was due.
 pub record ClosesAt (how : End) (old new : ListenState) : Type 0 where
   pub stands : (records : List Record) (given : ℕ) → StandsFor records given old → StandsFor records given new
   pub plan : new.plan ≡ old.plan
@@ -98,22 +98,22 @@ abbrev pub unread : Stage → Sourcing → ℕ
 unread Reading source = to_do source
 unread stage source = 0
 
--- the most items that can still be shown: one of each record that was taken or may still come, but for those that were shown
+-- the most items that can still be shown: one for each record that was taken or may still come, less those that were shown
 abbrev pub left_of : Stage → Sourcing → ListenState → ℕ
 left_of stage source listener = (listener.counts.frames + unread stage source) - (listener.counts.presented + listener.counts.flagged)
 
--- some records were given to the listener, and so many items of what it shows of them were shown
+-- some records were given to the listener, and it has shown this many of the items that it shows of them
 pub record WasGiven (listener : ListenState) : Type 0 where
   pub records : List Record
   pub given : ℕ
   pub stands : StandsFor records given listener
 
--- the same, though not which: it is not so that there are none
+-- some records were given to the listener, whichever they are
 abbrev pub IsStable : ListenState → Type 0
 IsStable listener = (WasGiven listener → ⊥) → ⊥
 
--- What holds of every hearing at this stage: as many records as may still come can be counted, the reading of the file ends
--- with the stage, and the listener is closed where all is shown.
+-- The invariant of every hearing at this stage: the number of records that may still come is bounded, the reading of the file
+-- ends with the stage, and the listener is closed if everything is shown.
 pub record IsSoundAt (stage : Stage) (source : Sourcing) (listener : ListenState) : Type 0 where
   pub bounded : listener.counts.frames + unread stage source ≤ 2 ^ 41
   pub going : has_stopped stage source ≡ false
@@ -122,14 +122,14 @@ pub record IsSoundAt (stage : Stage) (source : Sourcing) (listener : ListenState
 
 -- ---- what was shown
 
--- Of a file of these bytes the records were read to this stage.
+-- The records of a file of these bytes were read to this stage.
 abbrev pub ReadTo : Stage → ℕ → List ℕ → Type 0 → Option (List ℕ) → Sourcing → List Record → Type 0
 ReadTo Reading limit bytes fault remains source records = HasGiven limit bytes remains source records
 ReadTo (Showing how) limit bytes fault remains source records = EndsAfter limit bytes fault how records
 ReadTo (Ended how) limit bytes fault remains source records = EndsAfter limit bytes fault how records
 ReadTo NoMemory limit bytes fault remains source records = ⊤
 
--- Of a file of these bytes some records were read to this stage, and these items were shown of them: all, once that has ended.
+-- Some records of a file of these bytes were read to this stage, and these items were shown of them: all, once that has ended.
 pub record IsShown (stage : Stage) (limit : ℕ) (bytes : List ℕ) (fault : Type 0) (remains : Option (List ℕ)) (source : Sourcing) (listener : ListenState) (items : List Shown) : Type 0 where
   pub records : List Record
   pub first : IsPrefix records (records_in (take limit bytes))
@@ -138,7 +138,7 @@ pub record IsShown (stage : Stage) (limit : ℕ) (bytes : List ℕ) (fault : Typ
   pub given : IsPrefix items (out listener records)
   pub whole : (how : End) → stage ≡ Ended how → items ≡ out listener records
 
--- Since a capture was opened and a listener made for it, these items were shown, and nothing was done beside but to read it.
+-- Since a capture was opened and a listener made for it, these items were shown, and the capture was only read.
 pub record Shows (shelf shelf' : ShelfState)
     (old_source source : Sourcing) (old_listener listener : ListenState) (stage : Stage) (items : List Shown) : Type 0 where
   pub capture : ReadsCapture shelf shelf' (slot_of old_source) (slot_of source) (read_end stage)
@@ -146,14 +146,15 @@ pub record Shows (shelf shelf' : ShelfState)
   pub shown : (limit : ℕ) (bytes : List ℕ) → HasGiven limit bytes (left_in shelf.slots (slot_of old_source)) old_source [] → StandsFor [] 0 old_listener → is_closed old_listener ≡ false
       → IsShown stage limit bytes (Rose shelf.reading_faults shelf'.reading_faults) (left_in shelf'.slots (slot_of source)) source listener items
 
--- The hearing went on: whatever was shown since the capture was opened, these items more were, and fewer can still be shown.
+-- The hearing moved on: these items were shown after all that were shown since the capture was opened, and fewer can still be
+-- shown.
 pub record GoesOn (shelf shelf' : ShelfState) (old_source source : Sourcing) (old_listener listener : ListenState) (old_stage stage : Stage) (items : List Shown) : Type 0 where
   pub shows : (begun : ShelfState) (first : Sourcing) (fresh : ListenState) (earlier : List Shown)
       → Shows begun shelf first old_source fresh old_listener old_stage earlier → Shows begun shelf' first source fresh listener stage (earlier ++ items)
   pub live : IsSome (shelf'.slots (slot_of source))
   pub left : left_of stage source listener + length items ≤ left_of old_stage old_source old_listener
 
--- It went on to this answer: the next item, or that with which it ended.
+-- The hearing moved on to this answer: the next item, or the answer with which it ended.
 pub record GivesPull (shelf shelf' : ShelfState) (old_source source : Sourcing) (old_listener listener : ListenState) (old_stage stage : Stage) (answer : Pull) : Type 0 where
   pub on : GoesOn shelf shelf' old_source source old_listener listener old_stage stage (items_of answer)
   pub ended : pull_at stage ≡ ending_of answer

@@ -28,28 +28,28 @@ use Rattle.avtp_tool.specs.Listen.{plan_of, shown_by, shown_text, listen_report}
 
 -- ---- the records of a capture
 
--- The records of a file of these bytes, as far as it could be read, were heard, its reading ended so, and what is shown of them
--- then was printed, handed on and counted.
+-- The records of a file of these bytes, as far as it could be read, were heard, its reading ended in this way, and what is
+-- shown of them then was printed, given to devices and counted.
 pub record HasHeard (asked : Listening) (handed : List Shown → Type 0) (name bytes : List ℕ) (fault : Type 0) (how : End) (counts : Counts) (before now : Option (List ℕ)) : Type 0 where
   pub records : List Record
-  pub ends : EndsAfter asked.limit bytes fault how records
-  pub counted : counts ≡ counts_of (plan_of asked) records (shown_by (plan_of asked) records how)
-  pub lines : Appends before now (shown_text name (shown_by (plan_of asked) records how))
-  pub items : handed (shown_by (plan_of asked) records how)
+  pub ends : EndsAfter asked.listener.limit bytes fault how records
+  pub counted : counts ≡ counts_of (plan_of asked.listener) records (shown_by (plan_of asked.listener) records how)
+  pub lines : Appends before now (shown_text name (shown_by (plan_of asked.listener) records how))
+  pub items : handed (shown_by (plan_of asked.listener) records how)
 
--- They were heard; or where no memory was found or the sink failed, a part of what the file yields was given out.
+-- The records were heard; or a part of what the file yields was given out, if memory ran out or the sink failed.
 abbrev pub HearsRecords : Listening → (List Shown → Type 0) → List ℕ → List ℕ → Type 0 → Option (List ℕ) → Option (List ℕ) → Result Heard Failed → Type 0
 HearsRecords asked handed name bytes fault before now (Ok (Ended how counts)) = HasHeard asked handed name bytes fault how counts before now
-HearsRecords asked handed name bytes fault before now (Ok NoMemory) = GivesPart handed before now (file_yield (listen_report asked name) asked.limit (Some bytes))
-HearsRecords asked handed name bytes fault before now (Err e) = GivesPart handed before now (file_yield (listen_report asked name) asked.limit (Some bytes))
+HearsRecords asked handed name bytes fault before now (Ok NoMemory) = GivesPart handed before now (file_yield (listen_report asked name) asked.listener.limit (Some bytes))
+HearsRecords asked handed name bytes fault before now (Err e) = GivesPart handed before now (file_yield (listen_report asked name) asked.listener.limit (Some bytes))
 
--- how the reading of the records ended, where it did
+-- how the reading of the records ended, if it ended
 abbrev pub heard_end : Heard → Option End
 heard_end (Ended how counts) = Some how
 heard_end NoMemory = None
 
--- Items were shown, their lines printed and each handed on once its lines were; all of them where the hearing ended, or the
--- first where the sink failed.
+-- Items were shown: their lines were printed, and each item was given to the devices after its lines. These are all items if
+-- the hearing ended, or a prefix if the sink failed.
 pub record HearsItems (handed : List Shown → Type 0) (shelf shelf' : ShelfState)
     (old_source source : Sourcing) (old_listener listener : ListenState) (stage : Stage) (out out' : SinkState) (waits waits' : List ℕ) (result : Result Unit Failed) : Type 0 where
   pub items : List Shown
@@ -57,10 +57,10 @@ pub record HearsItems (handed : List Shown → Type 0) (shelf shelf' : ShelfStat
   pub gives : GivesItems handed out out' waits waits' result items
   pub over : OnOk result (IsSome (pull_at stage))
 
--- The records of an open capture were heard by this listener, and told of. The count of reading faults rose where a fault ended
+-- The records of an open capture were heard by this listener, and reported. The count of reading faults rose if a fault ended
 -- the reading, and the sink keeps what it held.
 pub record HearsCapture (handed : List Shown → Type 0) (name : List ℕ) (listener : ListenState) (shelf shelf' : ShelfState) (old new : Sourcing) (out out' : SinkState) (waits waits' : List ℕ) (result : Result Heard Failed) : Type 0 where
-  pub heard : (asked : Listening) (bytes : List ℕ) → listener.plan ≡ plan_of asked → HasGivenOf asked.limit bytes shelf old []
+  pub heard : (asked : Listening) (bytes : List ℕ) → listener.plan ≡ plan_of asked.listener → HasGivenOf asked.listener.limit bytes shelf old []
       → HearsRecords asked handed name bytes (Rose shelf.reading_faults shelf'.reading_faults) (written out.held waits) (written out'.held waits') result
   pub reads : ReadsSlot shelf shelf' (slot_of old) (slot_of new)
   pub counted : IfOk result (λ h. CountsFault None (heard_end h) shelf.reading_faults shelf'.reading_faults)

@@ -12,15 +12,15 @@ use Rattle.avtp_tool.specs.Outcome.{AsksFor}
 use Rattle.avtp_tool.specs.declared.status.Status.{Status}
 use Rattle.avtp_tool.specs.declared.status.Status.TheVariants as status
 
--- A run that makes the file of this name ended so. Where all was done the file has these bytes; where memory or a write
--- failed it is as it was or has a prefix of them; and else all files are as they were.
+-- A run that makes the file with this name ended in this way. If everything was done, the file has these bytes; if memory ran
+-- out or a write failed, it is unchanged or has a prefix of them; otherwise all files are unchanged.
 pub record Makes (name bytes : List ℕ) (files files' : Option Files) (result : Result Status Failed) : Type 0 where
   pub done : result ≡ Ok status.Done → PutsFile files files' name bytes
   pub part : MakesPrefix files files' name bytes
   pub untouched : IfOk result (λ s. s ≢ status.Done → s ≢ status.WriteFault → s ≢ status.Memory → KeepsFiles files files')
 
--- The count of writing faults where a run ended so: it never falls, it rose where a file could not be written, and it stays
--- as it was else; and where no file is written it stays.
+-- The count of writing faults when a run ended in this way: it never falls, it rose if a file could not be written, and it is
+-- otherwise unchanged, as it is if no file is written.
 pub record CountsWriting (name : Option (List ℕ)) (before after : ℕ) (result : Result Status Failed) : Type 0 where
   pub never_falls : before ≤ after
   pub failed : result ≡ Ok status.WriteFault → Rose before after
@@ -29,8 +29,8 @@ pub record CountsWriting (name : Option (List ℕ)) (before after : ℕ) (result
 
 -- ---- one file
 
--- A call made a file of these bytes, or answers why not. Where it was not made, it is as it was or has a prefix of them; the
--- cause is the count of writing faults, or want of memory. All else is as it was, and no other name was asked for.
+-- A call made a file of these bytes, or returns why not. If it was not made, it is unchanged or has a prefix of them; the cause
+-- is the count of writing faults, or memory. All else is unchanged, and no other name was asked for.
 pub record MakesFile (shelf shelf' : ShelfState) (name bytes : List ℕ) (result : Result Unit OpenFault) : Type 0 where
   pub made : OnOk result (PutsFile shelf.files shelf'.files name bytes)
   pub part : OnErr result (MakesPrefix shelf.files shelf'.files name bytes)
@@ -40,7 +40,7 @@ pub record MakesFile (shelf shelf' : ShelfState) (name bytes : List ℕ) (result
   pub writing : IsOpenCounted shelf.writing_faults shelf'.writing_faults result
   pub asked : AsksFor (name ∷ []) shelf shelf' (IsOk result)
 
--- a file is being written: it has all of these bytes, or where the shelf failed a prefix of them
+-- a file is being written: it has all of these bytes, or a prefix of them if the shelf failed
 pub record IsWritingPart (shelf shelf' : ShelfState) (writer : Writing) (name bytes : List ℕ) (result : Result Unit Failed) : Type 0 where
   pub prefix : List ℕ
   pub rest : List ℕ
@@ -48,7 +48,7 @@ pub record IsWritingPart (shelf shelf' : ShelfState) (writer : Writing) (name by
   pub whole : OnOk result (rest ≡ [])
   pub writing : IsWriting shelf shelf' writer name prefix
 
--- These bytes were written through a writer that had been given none, or where the shelf failed a prefix of them.
+-- These bytes were written through a writer that had been given none, or a prefix of them if the shelf failed.
 pub record WritesPart (before after : ShelfState) (old new : Writing) (bytes : List ℕ) (result : Result Unit Failed) : Type 0 where
   pub written : (begun : ShelfState) (name : List ℕ) → IsWriting begun before old name [] → IsWritingPart begun after new name bytes result
   pub writes : WritesSlot before after old new result

@@ -1,6 +1,5 @@
--- Kept for proofs: what the code's own parts hold and do. No clause of a public call rests on it.
--- What a command's run may come to: the status that it ends with and what it yields; and how much of that stands where it is
--- cut short.
+-- Kept for proofs: what the code's own parts hold and do. No clause of a public call rests on it. The possible outcomes of a
+-- command's run: the status that it ends with and what it yields; and how much of that stays if it is cut short.
 use Rattle.std.specs.Prelude.{◌≡◌, ◌≢◌, ◌⊎◌, ℕ, ◌≤◌, List, [], Option, Result, Ok, Err, IfOk, true, IsErr, MatchResult}
 use Rattle.avtp_base.specs.declared.failed.Failed.{Failed}
 use Rattle.avtp_base.specs.declared.failed.OpenFault.{OpenFault}
@@ -22,8 +21,8 @@ abbrev pub IsDone : Result Status Failed → Type 0
 IsDone (Ok ended) = is_done ended ≡ true
 IsDone (Err e) = ⊥
 
--- A run gave out what one of the outcomes that there can be yields. Where it ended with a status of its own, it is the
--- outcome's, and all of that was given; where memory or a write failed, a part of it was.
+-- A run gave out what one of the possible outcomes yields. If it ended with a status of its own, this is the outcome's, and all
+-- of that was given; if memory ran out or a write failed, a part of it was.
 pub record Tells {Y : Type 0} (Outcome : Status → Y → Type 0) (Whole Part : Y → Type 0) (result : Result Status Failed) : Type 0 where
   pub ended : Status
   pub yields : Y
@@ -31,16 +30,16 @@ pub record Tells {Y : Type 0} (Outcome : Status → Y → Type 0) (Whole Part : 
   pub whole : IfOk result (λ s. s ≢ status.Memory → s ≢ status.WriteFault → (s ≡ ended) × Whole yields)
   pub part : Part yields
 
--- the same of a text, by which known bytes grew from `before` to `now`
+-- a text was given out: known bytes grew by it from `before` to `now`
 abbrev pub TellsText : (Status → List ℕ → Type 0) → Option (List ℕ) → Option (List ℕ) → Result Status Failed → Type 0
 TellsText Outcome before now result = Tells Outcome (Appends before now) (AppendsPrefix before now) result
 
--- the same of a text and of items that were handed on
+-- a text and items for the devices were given out
 abbrev pub TellsYield : (Status → Yield → Type 0) → (List Shown → Type 0) → Option (List ℕ) → Option (List ℕ) → Result Status Failed → Type 0
 TellsYield Outcome handed before now result = Tells Outcome (Gives handed before now) (GivesPart handed before now) result
 
--- The same of a whole run, of which the files belong to an outcome to which it came: where it ended with a status of its own,
--- the shelf was asked for these and no other.
+-- A whole run gave out what an outcome yields, and the files belong to that outcome: if the run ended with a status of its own,
+-- the shelf was asked for exactly these.
 pub record TellsRun (Outcome : List (List ℕ) → Status → Yield → Type 0) (handed : List Shown → Type 0) (shelf shelf' : ShelfState) (before now : Option (List ℕ)) (result : Result Status Failed) : Type 0 where
   pub came : List (List ℕ)
   pub ended : Status
@@ -54,21 +53,28 @@ pub record KeepsSink {T : Type 0} (out out' : SinkState) (result : Result T Fail
   pub grows : Grows out.held out'.held
   pub counted : IsCounted out.faults out'.faults result
 
--- The last line of a run was printed whole, and it ends with this status; or the sink failed, and nothing of it was.
+-- The text that waited was written, or a part of it if the sink failed: what was written so far and what waits are together
+-- what they were.
+pub record WritesWaiting (out out' : SinkState) (waits waits' : List ℕ) (result : Result Unit Failed) : Type 0 where
+  pub kept : Keeps (written out.held waits) (written out'.held waits')
+  pub sink : KeepsSink out out' result
+
+-- The last line of a run was printed whole, and the run ends with this status; or the sink failed, and nothing of the line was
+-- printed.
 pub record EndsWith (ended : Status) (out out' : SinkState) (waits waits' : List ℕ) (result : Result Status Failed) (line : List ℕ) : Type 0 where
   pub status : IfOk result (λ s. s ≡ ended)
   pub written : MatchResult result (λ _. Appends (written out.held waits) (written out'.held waits') line) (λ _. Keeps (written out.held waits) (written out'.held waits'))
   pub sink : KeepsSink out out' result
 
--- A run ends since a file could not be opened: for want of memory with that status and nothing printed, and else with the
+-- A run ends because a file could not be opened: if memory ran out, with that status and without a line; otherwise with the
 -- line that says so.
 pub record EndsUnopened (fault : OpenFault) (out out' : SinkState) (waits waits' : List ℕ) (result : Result Status Failed) : Type 0 where
   pub memory : fault ≡ open_fault.Memory → (result ≡ Ok status.Memory) × Keeps (written out.held waits) (written out'.held waits')
   pub other : fault ≢ open_fault.Memory → EndsWith status.ReadFault out out' waits waits' result read_fault_line
   pub sink : KeepsSink out out' result
 
--- The text that waited was written, and the run ends with this status: that with which it had ended, where the sink took all;
--- and else with that of a failed write. What the sink held stays, and it has all that was written, or a prefix of it.
+-- The text that waited was written, and the run ends with this status: its own if the sink took everything, otherwise that of a
+-- failed write. What the sink held stays, and it has all that was written, or a prefix of it.
 pub record Finishes (out out' : SinkState) (waits waits' : List ℕ) (ended : Result Status Failed) (result : Status) : Type 0 where
   pub whole : result ≢ status.WriteFault → (ended ≡ Ok result) × (waits' ≡ [])
   pub kept : Keeps (written out.held waits) (written out'.held waits')
@@ -77,8 +83,8 @@ pub record Finishes (out out' : SinkState) (waits waits' : List ℕ) (ended : Re
   pub fault : result ≡ status.WriteFault → IsErr ended ⊎ ((ended ≡ Ok status.WriteFault) ⊎ Rose out.faults out'.faults)
   pub quiet : result ≢ status.WriteFault → out'.faults ≡ out.faults
 
--- A run that reads some of these files ended so. It is a fault of reading only where the count of these rose or the shelf
--- tells that one of the files is missing; where it ended otherwise, and was not cut short, the count is as it was.
+-- A run that reads some of these files ended in this way. It is a fault of reading only if the count of these rose or the shelf
+-- tells that one of the files is missing; if it ended otherwise, and was not cut short, the count is unchanged.
 pub record CountsReading (names : List (List ℕ)) (files : Option Files) (before after : ℕ) (result : Result Status Failed) : Type 0 where
   pub never_falls : before ≤ after
   pub fault : result ≡ Ok status.ReadFault → Rose before after ⊎ IsOneMissing names files

@@ -1,6 +1,6 @@
 -- Kept for proofs: what the code's own parts hold and do. No clause of a public call rests on it.
 -- Files that a command reads in order: what may become of each, and of all.
-use Rattle.std.specs.Prelude.{◌≡◌, ℕ, ◌^◌, ◌≤◌, List, [], ◌∷◌, length, take, Option, Some, None, IfOk, IsSome, Result, Ok, Err, Bool, true, false}
+use Rattle.std.specs.Prelude.{◌≡◌, ℕ, ◌^◌, ◌≤◌, List, [], ◌∷◌, length, take, Option, Some, None, IfOk, IsSome, OnErr, Result, Ok, Err, Bool, true, false}
 use Rattle.avtp_base.specs.declared.failed.Failed.{Failed}
 use Rattle.avtp_base.specs.Faults.{Rose}
 use Rattle.avtp_base.specs.Files.{Files, Slots}
@@ -9,7 +9,8 @@ use Rattle.avtp_text.specs.Written.{written}
 use Rattle.capture_io.specs.declared.end.End.{End}
 use Rattle.capture_io.specs.Ends.{CountsFault}
 use Rattle.capture_io.specs.Reads.{OnlyReads, ReadsSlot}
-use Rattle.capture_io.specs.Source.{HasGivenOf, Sourcing, slot_of, to_do}
+use Rattle.avtp_base.specs.Told.{Keeps}
+use Rattle.capture_io.specs.Source.{GivesNext, HasGivenOf, Sourcing, slot_of, to_do}
 use Rattle.avtp_tool.specs.declared.status.Status.{Status}
 use Rattle.avtp_tool.specs.declared.status.Status.TheVariants as status
 use Rattle.sample_schedule.specs.declared.shown.Shown.{Shown}
@@ -18,22 +19,30 @@ use Rattle.avtp_tool.specs.Reading.{Report, FileOutcome, ReadPlan, PlanOutcome}
 
 -- ---- an open capture
 
--- It may be read, up to so many bytes, and its reading has not ended.
+-- The file may be read, up to this many bytes, and its reading has not ended.
 abbrev pub IsOpen : Slots → Sourcing → Type 0
 IsOpen slots source = (source.ended ≡ None) × IsSome (slots (slot_of source)) × (to_do source ≤ 2 ^ 41)
 
--- how its reading ended, where all was done with its records
+-- how the reading of the file ended, if everything was done with its records
 abbrev pub ended_in : {T E : Type 0} → (T → End) → Result T E → Option End
 ended_in end (Ok x) = Some (end x)
 ended_in end (Err e) = None
 
--- It was read, and is still open; all else is as it was. The count of reading faults rose where a fault ended the reading, and
--- else it is as it was.
+-- The file was read, and is still open; all else is unchanged. The count of reading faults rose if a fault ended the reading,
+-- and is otherwise unchanged.
 pub record ReadsCapture (shelf shelf' : ShelfState) (k now : ℕ) (how : Option End) : Type 0 where
   pub reads : ReadsSlot shelf shelf' k now
   pub counted : CountsFault None how shelf.reading_faults shelf'.reading_faults
 
--- Its records were read, as far as could be, and told of. What they are told as is `Told`: it is said of how many bytes may be
+-- The next record was read, or the reading ended, after the text that waited was written; or the sink failed in that, and nothing
+-- was read.
+pub record ReadsAhead (shelf shelf' : ShelfState) (old new : Sourcing) (out out' : SinkState) (waits waits' : List ℕ) (result : Result (Option End) Failed) : Type 0 where
+  pub gives : IfOk result (λ how. GivesNext shelf shelf' old new how)
+  pub cut : OnErr result ((shelf' ≡ shelf) × (slot_of new ≡ slot_of old))
+  pub kept : Keeps (written out.held waits) (written out'.held waits')
+  pub sink : KeepsSink out out' result
+
+-- The records of the file were read, as far as could be, and reported. `Told` is the report: it relates how many bytes may be
 -- read, the bytes of the file, what a fault of reading needs, the text that was known before and now, and the result.
 pub record ReadsRecords {T : Type 0} (Told : ℕ → List ℕ → Type 0 → Option (List ℕ) → Option (List ℕ) → Result T Failed → Type 0) (ending : T → End)
     (shelf shelf' : ShelfState) (old new : Sourcing) (out out' : SinkState) (waits waits' : List ℕ) (result : Result T Failed) : Type 0 where
@@ -43,7 +52,7 @@ pub record ReadsRecords {T : Type 0} (Told : ℕ → List ℕ → Type 0 → Opt
 
 -- ---- what was done
 
--- A run that only reads can end so: with no failed write, no word, no device and no input for `talk`.
+-- The status of a run that only reads: no write fails, and it has neither words, devices nor an input of `talk`.
 abbrev pub is_of_reading : Status → Bool
 is_of_reading status.Words = false
 is_of_reading status.WriteFault = false
@@ -54,7 +63,7 @@ is_of_reading ended = true
 abbrev pub IsReadingStatus : Result Status Failed → Type 0
 IsReadingStatus result = IfOk result (λ s. is_of_reading s ≡ true)
 
--- The file of a name was read, of which `limit` bytes may be, and nothing else was done but that items were handed on.
+-- The file with a name was read, up to `limit` bytes, and nothing else was done, except that items were given to devices.
 pub record DoesFile (report : Report) (handed : List Shown → Type 0) (limit : ℕ) (name : List ℕ) (shelf shelf' : ShelfState) (out out' : SinkState) (waits waits' : List ℕ) (result : Result Status Failed) : Type 0 where
   pub tells : (all : Files) → shelf.files ≡ Some all → TellsYield (FileOutcome report limit (all name) (Rose shelf.reading_faults shelf'.reading_faults)) handed (written out.held waits) (written out'.held waits') result
   pub keeps : OnlyReads shelf shelf' (name ∷ [])
@@ -62,7 +71,8 @@ pub record DoesFile (report : Report) (handed : List Shown → Type 0) (limit : 
   pub own : IsReadingStatus result
   pub sink : KeepsSink out out' result
 
--- The files of a plan were read in order, as far as the run came, and nothing else was done but that items were handed on.
+-- The files of a plan were read in order, as far as the run came, and nothing else was done, except that items were given to
+-- devices.
 pub record DoesFiles (plan : ReadPlan) (handed : List Shown → Type 0) (shelf shelf' : ShelfState) (out out' : SinkState) (waits waits' : List ℕ) (result : Result Status Failed) : Type 0 where
   pub tells : (all : Files) → shelf.files ≡ Some all → IsSome shelf'.files → TellsRun (PlanOutcome plan all (Rose shelf.reading_faults shelf'.reading_faults)) handed shelf shelf' (written out.held waits) (written out'.held waits') result
   pub count : ℕ

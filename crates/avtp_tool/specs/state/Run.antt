@@ -26,7 +26,7 @@ abbrev pub MakesFrom : Talking → Option (List ℕ) → Option Files → Option
 MakesFrom asked None files files' result = KeepsFiles files files'
 MakesFrom asked (Some input) files files' result = Makes asked.output (capture (talk_plan asked) input) files files' result
 
--- What it makes of the files: `talk` the capture of its input, where it has one.
+-- What a run makes of the files: `talk` makes the capture of its input, if it has one.
 abbrev pub MakesOf : Request → Files → Option Files → Option Files → Result Status Failed → Type 0
 MakesOf (show limit file) all files files' result = KeepsFiles files files'
 MakesOf (check limit names) all files files' result = KeepsFiles files files'
@@ -38,13 +38,13 @@ abbrev pub IsThrough : Result Status Failed → Type 0
 IsThrough (Ok ended) = is_through ended ≡ true
 IsThrough (Err e) = ⊥
 
--- A run ends so since a device failed, and not else.
+-- A run ends with this status exactly because a device failed.
 pub record TellsDevices (request : Request) (failed : Bool) (result : Result Status Failed) : Type 0 where
   pub fault : result ≡ Ok status.DeviceFault → (is_listening request ≡ true) × (failed ≡ true)
   pub quiet : is_listening request ≡ true → result ≡ Ok status.Done → failed ≡ false
 
--- A run of the request left this: of the text and the items that were handed on, of the files and slots, of the counts of faults,
--- and of the names that were asked for. Whether a device failed is `failed`.
+-- What a run of the request left: the text and the items for the devices, the files and slots, the counts of faults, and the
+-- names that were asked for. `failed` says whether a device failed.
 pub record Runs (request : Request) (handed : List Shown → Type 0) (failed : Bool) (shelf shelf' : ShelfState)
     (out out' : SinkState) (waits waits' : List ℕ) (result : Result Status Failed) : Type 0 where
   pub tells : (all : Files) → shelf.files ≡ Some all → IsSome shelf'.files → TellsRun (Outcome request all (Rose shelf.reading_faults shelf'.reading_faults) failed) handed shelf shelf' (written out.held waits) (written out'.held waits') result
@@ -65,8 +65,8 @@ IsAsked words = ((request : Request) × IsCommandLine words request) ⊎ ((posit
 -- ---- what the words keep within bounds
 
 pub record IsListening (asked : Listening) : Type 0 where
-  pub limit : asked.limit ≤ 2 ^ 40
-  pub plan : IsSchedulePlan (schedule_plan (plan_of asked))
+  pub limit : asked.listener.limit ≤ 2 ^ 40
+  pub plan : IsSchedulePlan (schedule_plan (plan_of asked.listener))
   pub ring : (1 ≤ asked.ring) × (asked.ring ≤ 256)
 
 abbrev pub IsRequest : Request → Type 0

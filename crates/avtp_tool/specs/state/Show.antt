@@ -13,14 +13,15 @@ use Rattle.avtp_tool.specs.Show.{show_line}
 
 -- ---- the records of a capture
 
--- The records of a file of these bytes, as far as it could be read, were printed and counted, and its reading ended so.
+-- The records of a file of these bytes, as far as it could be read, were printed and counted, and its reading ended in this
+-- way.
 pub record HasPrinted (limit : ℕ) (bytes : List ℕ) (fault : Type 0) (printed : Printed) (before now : Option (List ℕ)) : Type 0 where
   pub records : List Record
   pub ends : EndsAfter limit bytes fault printed.end records
   pub counted : printed.frames ≡ length records
   pub lines : Appends before now (of_each show_line records)
 
--- They were printed, or where the sink failed a prefix of their lines was.
+-- The records were printed, or a prefix of their lines if the sink failed.
 abbrev pub PrintsRecords : ℕ → List ℕ → Type 0 → Option (List ℕ) → Option (List ℕ) → Result Printed Failed → Type 0
 PrintsRecords limit bytes fault before now (Ok printed) = HasPrinted limit bytes fault printed before now
 PrintsRecords limit bytes fault before now (Err e) = AppendsPrefix before now (of_each show_line (records_in (take limit bytes)))

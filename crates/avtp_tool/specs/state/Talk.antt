@@ -28,26 +28,27 @@ use Rattle.avtp_tool.specs.Talk.{TalkedOutcome}
 
 -- ---- the records of its capture
 
--- the record of a frame, where there is one
+-- the record of a frame, if there is one
 abbrev pub spelled_frame : Option SentFrame → List ℕ
 spelled_frame None = []
 spelled_frame (Some f) = record_spelling capture_style (record_of f)
 
--- that of the frame which a talker sends next
+-- the record of the frame that a talker sends next
 abbrev pub next_record : Sending → List ℕ
 next_record t = spelled_frame (slice_get (frames t.plan t.input) t.given)
 
 -- ---- what is done
 
--- A run over an input whose reading stopped so ends with a fault of reading exactly where that stopped it, and never for its
--- words or for a device.
+-- A run over an input whose reading stopped in this way ends with a fault of reading exactly if that stopped it, and never
+-- because of its words or a device.
 pub record FaultStops (halt : Stop) (result : Result Status Failed) : Type 0 where
   pub fault : result ≡ Ok status.ReadFault → halt ≡ stop.Fault
   pub quiet : IfOk result (λ s. s ≢ status.ReadFault → s ≢ status.Memory → s ≢ status.WriteFault → halt ≢ stop.Fault)
   pub no_words : result ≢ Ok status.Words
   pub no_devices : result ≢ Ok status.DeviceFault
 
--- A call that writes one file alone left this of all others, of the slots and of the counts, and asked for its name.
+-- The state of all other files, of the slots and of the counts after a call that writes only one file, and asked only for its
+-- name.
 pub record WritesOnly (shelf shelf' : ShelfState) (name : List ℕ) (result : Result Status Failed) : Type 0 where
   pub files : KeepsFilesBut (Some name) shelf.files shelf'.files
   pub slots : KeepsSlotsBut shelf.files shelf.slots shelf'.slots name
@@ -56,8 +57,8 @@ pub record WritesOnly (shelf shelf' : ShelfState) (name : List ℕ) (result : Re
   pub asked : AsksFor (name ∷ []) shelf shelf' (IsDone result)
   pub came : IfOk result (λ s. s ≢ status.Memory → s ≢ status.WriteFault → Asks (if is_done s then name ∷ [] else []) shelf shelf')
 
--- A call that makes the file of this name of these bytes told one of the outcomes that there can be; it wrote the file, and left
--- all else as it was.
+-- A call that makes the file with this name of these bytes reported one of the possible outcomes; it wrote the file, and left
+-- all else unchanged.
 pub record Talks (Outcome : Status → List ℕ → Type 0) (name bytes : List ℕ) (shelf shelf' : ShelfState)
     (out out' : SinkState) (waits waits' : List ℕ) (result : Result Status Failed) : Type 0 where
   pub tells : TellsText Outcome (written out.held waits) (written out'.held waits') result
@@ -65,7 +66,7 @@ pub record Talks (Outcome : Status → List ℕ → Type 0) (name bytes : List �
   pub writes : WritesOnly shelf shelf' name result
   pub sink : KeepsSink out out' result
 
--- The same of the capture of an input, by what was read of it.
+-- A call that makes the capture of an input reported one of the possible outcomes, by what was read of the input.
 pub record TalksContents (plan : TalkPlan) (contents : Contents) (name : List ℕ) (shelf shelf' : ShelfState)
     (out out' : SinkState) (waits waits' : List ℕ) (result : Result Status Failed) : Type 0 where
   pub tells : (bytes : List ℕ) → IsContents most_input bytes contents.stop contents.bytes.items → TellsText (TalkedOutcome plan bytes (contents.stop ≡ stop.Fault)) (written out.held waits) (written out'.held waits') result
@@ -74,7 +75,7 @@ pub record TalksContents (plan : TalkPlan) (contents : Contents) (name : List �
   pub counts : FaultStops contents.stop result
   pub sink : KeepsSink out out' result
 
--- A run ends since the input makes no stream: for want of memory with that status and nothing printed, and else with the line
+-- A run ends because the input makes no stream: if memory ran out, with that status and without a line; otherwise with the line
 -- that says why.
 pub record EndsRefused (why : TalkFault) (out out' : SinkState) (waits waits' : List ℕ) (result : Result Status Failed) : Type 0 where
   pub memory : why ≡ fault.Memory → (result ≡ Ok status.Memory) × Keeps (written out.held waits) (written out'.held waits')

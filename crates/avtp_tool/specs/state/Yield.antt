@@ -7,16 +7,16 @@ use Rattle.avtp_text.specs.Written.{AppendsPrefix}
 use Rattle.sample_schedule.specs.declared.shown.Shown.{Shown}
 use Rattle.avtp_tool.specs.Yield.{Yield}
 
--- none is handed on
+-- no item is given to devices
 abbrev pub HandsNothing : List Shown → Type 0
 HandsNothing items = items ≡ []
 
--- Known bytes grew by the text, and the items were handed. What it is that some items were handed is `handed`.
+-- Known bytes grew by the text, and the devices got the items, as `handed` says.
 pub record Gives (handed : List Shown → Type 0) (before now : Option (List ℕ)) (yields : Yield) : Type 0 where
   pub text : Appends before now yields.text
   pub items : handed yields.items
 
--- Known bytes grew by a prefix of the text, and the first of the items were handed.
+-- Known bytes grew by a prefix of the text, and the devices got a prefix of the items.
 pub record GivesPart (handed : List Shown → Type 0) (before now : Option (List ℕ)) (yields : Yield) : Type 0 where
   pub text : AppendsPrefix before now yields.text
   pub front : List Shown

@@ -4,7 +4,7 @@ use Rattle.std.specs.Prelude.{Bool, true, false}
 use Rattle.avtp_words.specs.declared.operand.Operand.{Operand}
 use Rattle.avtp_words.specs.declared.operand.Operand.TheVariants.{Id, Name, Names, Packets}
 
--- the operand takes all the words that are left
+-- the operand takes all remaining words
 abbrev pub takes_all : Operand → Bool
 takes_all Id = false
 takes_all Name = false

@@ -1,10 +1,11 @@
--- Kept for proofs: what the code's own parts hold and do. No clause of a public call rests on it.
--- What the steps of the reading answer, for any command's table of options.
+-- Kept for proofs: what the code's own parts hold and do. No clause of a public call rests on it. What the steps of reading
+-- return, for the table of options of any command.
 use Rattle.std.specs.Prelude.{◌≡◌, ◌≢◌, ℕ, ℤ, ◌+◌, ◌*◌, ◌^◌, ◌<◌, ◌≤◌, List, [], ◌∷◌, ◌++◌, map, flat_map, length, decimal, Bool, true, false, nat_le, nat_lt, ◌&&◌, Option, None, Some, option_to_list, if◌then◌else◌, IfSome, IfNone, ⊤, slice_get, get_or, take, All, IsSomeAnd, pos, codes, nat_eq, unsigned_abs}
 use Rattle.std.specs.List.{list_all}
 use Rattle.std.specs.Fmt.{signed_decimal}
 use Rattle.std.specs.Str.{bytes_eq}
 use Rattle.aaf_format.specs.declared.aaf.AafFormat.{AafFormat}
+use Rattle.avtp_words.specs.declared.listener.ListenerOptions.{ListenerOptions}
 use Rattle.avtp_words.specs.declared.option.Takes.{Takes}
 use Rattle.avtp_words.specs.declared.option.Takes.TheVariants.{Number, Signed, Id, Kind, Format, Name, Silence, Nothing}
 use Rattle.avtp_words.specs.declared.crf.Crf.{Crf}
@@ -24,7 +25,7 @@ use Rattle.avtp_words.specs.Limits.{NumberOption, default_rate, with_default}
 use Rattle.avtp_words.specs.Grammar.{Begins, Stops, StopsAt, Listening, NamedFile, NamedRaw, Talking}
 use Rattle.aaf_format.specs.declared.aaf.AafFormat.TheVariants.{Int16}
 
--- a row of the code, without where its name lies in memory
+-- a row of the code, without its name's location in memory
 abbrev pub row_of : OptionRow → Row
 row_of row = record { name = row.name.now; takes = row.takes }
 
@@ -45,7 +46,7 @@ is_sound Name = true
 is_sound Silence = true
 is_sound Nothing = true
 
--- the word begins with "--", as the name of each option does, and no value
+-- the word begins with "--", as the name of each option does, and no value does
 abbrev pub begins_with_dashes : List ℕ → Bool
 begins_with_dashes [] = false
 begins_with_dashes (first ∷ []) = false
@@ -59,41 +60,41 @@ abbrev pub value_after : List ℕ → List (List ℕ) → Option (List ℕ)
 value_after name [] = None
 value_after name (word ∷ words) = if bytes_eq word name then slice_get words 0 else value_after name words
 
--- What is read of a word: the number that it spells, below the bound; and without a word the default.
+-- What is read of a word: the number that it spells, below the bound, or the default if there is no word.
 pub record IsRead (bound default : ℕ) (word : Option (List ℕ)) (n : ℕ) : Type 0 where
   pub absent : IfNone word (n ≡ default)
   pub read : IfSome word (λ word. (k : ℕ) → k < bound → word ≡ decimal k → n ≡ k)
 
--- the same without a default
+-- What is read of a word: the number that it spells, below the bound, or none if there is no word.
 pub record IsReadIf (bound : ℕ) (word : Option (List ℕ)) (given : Option ℕ) : Type 0 where
   pub absent : IfNone word (given ≡ None)
   pub read : IfSome word (λ word. (k : ℕ) → k < bound → word ≡ decimal k → given ≡ Some k)
 
--- the same of a stream id
+-- What is read of a word: the stream id that it spells, or the default if there is no word.
 pub record IsReadId (default : ℕ) (word : Option (List ℕ)) (n : ℕ) : Type 0 where
   pub absent : IfNone word (n ≡ default)
   pub read : IfSome word (λ word. (id : ℕ) → IsId word id → n ≡ id)
 
--- the same of a stream id without a default
+-- What is read of a word: the stream id that it spells, or none if there is no word.
 pub record IsReadIdIf (word : Option (List ℕ)) (given : Option ℕ) : Type 0 where
   pub absent : IfNone word (given ≡ None)
   pub read : IfSome word (λ word. (id : ℕ) → IsId word id → given ≡ Some id)
 
--- the same of a number that may be below 0
+-- What is read of a word: the number that it spells, which may be negative, or the default if there is no word.
 pub record IsReadSigned (default : ℤ) (word : Option (List ℕ)) (z : ℤ) : Type 0 where
   pub absent : IfNone word (z ≡ default)
   pub read : IfSome word (λ word. (k : ℤ) → unsigned_abs k < 2 ^ 63 → word ≡ signed_decimal k → z ≡ k)
 
--- the same of a format
+-- What is read of a word: the format that it names, or the default if there is no word.
 pub record IsReadFormat (default : AafFormat) (word : Option (List ℕ)) (format : AafFormat) : Type 0 where
   pub absent : IfNone word (format ≡ default)
   pub read : IfSome word (λ word. (named : AafFormat) → word ≡ format_name named → format ≡ named)
 
--- the number that is read of an option with a default, among the options
+-- the number that is read of an option with a default, in a list of options
 abbrev pub IsReadOf : ℕ → NumberOption → List (List ℕ) → ℕ → Type 0
 IsReadOf bound option options n = IsSomeAnd option.default (λ default. IsRead bound default (value_after option.name options) n)
 
--- What is read of the name of a file after the option of this name. The place of the name counts the command in.
+-- What is read of the name of a file after the option with this name. The place of the name counts the command, too.
 pub record ReadsFile (name : List ℕ) (options : List (List ℕ)) (file : NamedFile) : Type 0 where
   pub value : value_after name options ≡ Some file.name
   pub before : ℕ
@@ -119,8 +120,8 @@ abbrev pub IsReadRaw : List (List ℕ) → Option NamedRaw → Type 0
 IsReadRaw options None = value_after (codes "--raw") options ≡ None
 IsReadRaw options (Some raw) = ReadsRaw options raw
 
--- what is read of the options of `listen`
-pub record AreHeard (options : List (List ℕ)) (asked : Listening) : Type 0 where
+-- what is read of the options that make a listener
+pub record IsReadListener (options : List (List ℕ)) (asked : ListenerOptions) : Type 0 where
   pub limit : IsReadOf (2 ^ 64) limits.limit options asked.limit
   pub buffer : IsReadOf (2 ^ 32) limits.buffer options asked.buffer
   pub room : IsReadOf (2 ^ 32) limits.room options asked.room
@@ -128,11 +129,15 @@ pub record AreHeard (options : List (List ℕ)) (asked : Listening) : Type 0 whe
   pub lead : IsReadOf (2 ^ 32) limits.listen_lead options asked.lead
   pub clock : IsReadIdIf (value_after (codes "--clock") options) asked.clock
   pub shift : IsReadSigned limits.crf_shift.default (value_after limits.crf_shift.name options) asked.shift
+
+-- what is read of the options of `listen`
+pub record AreHeard (options : List (List ℕ)) (asked : Listening) : Type 0 where
+  pub listener : IsReadListener options asked.listener
   pub ring : IsReadOf (2 ^ 32) limits.ring options asked.ring
   pub raw : IsReadRaw options asked.raw
   pub annexb : IsReadFile (codes "--annexb") options asked.annexb
 
--- What is read of the kind of a stream. Whether the words for `--sparse` and `--last-stamp` stand among all words is told.
+-- What is read of the kind of a stream. `tells` says whether the word `--sparse` or `--last-stamp` is among all words.
 pub record IsReadAaf (options : List (List ℕ)) (tells : Bool) (format : AafFormat) (sparse : Bool) : Type 0 where
   pub no_blocks : IfSome (value_after (codes "--kind") options) (λ word. word ≢ codes "am824")
   pub no_video : IfSome (value_after (codes "--kind") options) (λ word. word ≢ codes "h264")
@@ -148,7 +153,7 @@ IsReadKind options tells_sparse tells_last (Aaf format sparse) = IsReadAaf optio
 IsReadKind options tells_sparse tells_last Am824 = value_after (codes "--kind") options ≡ Some (codes "am824")
 IsReadKind options tells_sparse tells_last (H264 last_stamp) = IsReadVideo options tells_last last_stamp
 
--- What is read of a media clock beside a stream of this rate.
+-- What is read of a media clock with a stream of this rate.
 pub record IsReadCrf (options : List (List ℕ)) (rate : ℕ) (crf : Crf) : Type 0 where
   pub id : IsReadIdIf (value_after (codes "--crf") options) (Some crf.id)
   pub base : IsReadOf (2 ^ 32) (with_default limits.crf_rate rate) options crf.rate
@@ -172,7 +177,7 @@ abbrev pub ClockIsWithin : Option Crf → ℕ → Type 0
 ClockIsWithin None rate = ⊤
 ClockIsWithin (Some crf) rate = IsWithin crf rate
 
--- what is read of the options of `talk` beside the kind
+-- what is read of the options of `talk` other than the kind
 pub record AreRead (options : List (List ℕ)) (asked : Talking) : Type 0 where
   pub rate : IsReadOf (2 ^ 32) (with_default limits.rate (default_rate asked.kind)) options asked.rate
   pub channels : IsReadOf (2 ^ 16) limits.channels options asked.channels
@@ -184,14 +189,14 @@ pub record AreRead (options : List (List ℕ)) (asked : Talking) : Type 0 where
   pub jump : IsReadOf (2 ^ 32) limits.jump options asked.jump
   pub crf : IsReadClock options asked.rate asked.crf
 
--- the words from a place on begin with a value that such an option takes, of so many words
+-- the words from a place on begin with a value that such an option takes, which is `len` words long
 pub record IsTakenAt (takes : Takes) (words : List (List ℕ)) (place len : ℕ) : Type 0 where
   pub value : Option (List ℕ)
   pub taken : IsTaken takes value
   pub here : IfSome value (λ word. slice_get words place ≡ Some word)
   pub size : len ≡ length (option_to_list value)
 
--- they do not
+-- the words from a place on do not begin with a value that such an option takes
 pub record LacksValue (takes : Takes) (words : List (List ℕ)) (place : ℕ) : Type 0 where
   pub wanted : stands_alone takes ≡ false
   pub none : IfSome (slice_get words place) (λ word. IsValue takes word → ⊥)
@@ -202,7 +207,7 @@ pub record AreOptions (rows : List Row) (words : List (List ℕ)) : Type 0 where
   pub spelled : words ≡ flat_map words_of settings
   pub options : AreSettings rows settings
 
--- options, then names, however many
+-- options, then any number of names
 pub record IsTail (rows : List Row) (words : List (List ℕ)) : Type 0 where
   pub settings : List Setting
   pub names : List (List ℕ)
@@ -210,7 +215,7 @@ pub record IsTail (rows : List Row) (words : List (List ℕ)) : Type 0 where
   pub options : AreSettings rows settings
   pub named : All IsName names
 
--- a command line less the command: options, then the operands
+-- a command line without the command: options, then the operands
 pub record IsRest (rows : List Row) (operands : List Operand) (words : List (List ℕ)) : Type 0 where
   pub settings : List Setting
   pub names : List (List ℕ)
@@ -218,7 +223,7 @@ pub record IsRest (rows : List Row) (operands : List Operand) (words : List (Lis
   pub options : AreSettings rows settings
   pub named : AreOperands operands names
 
--- the same, with the place, from 0, of the first operand
+-- a command line without the command: options, then the operands, of which the first is at this place, from 0
 pub record IsRestTo (rows : List Row) (operands : List Operand) (words : List (List ℕ)) (place : ℕ) : Type 0 where
   pub rest : IsRest rows operands words
   pub here : place ≡ length (flat_map words_of rest.settings)
@@ -231,7 +236,7 @@ pub record AreOptionsTo (rows : List Row) (words : List (List ℕ)) (place : ℕ
   pub here : place ≡ length (flat_map words_of settings)
   pub options : AreSettings rows settings
 
--- and no option stands there
+-- the words before the place, from 0, are options, and no option begins there
 pub record EndsOptions (rows : List Row) (words : List (List ℕ)) (place : ℕ) : Type 0 where
   pub options : AreOptionsTo rows words place
   pub ends : IfSome (slice_get words place) (λ word. BeginsWithDash word → ⊥)
@@ -245,23 +250,23 @@ pub record StopsOptions (rows : List Row) (words : List (List ℕ)) (place : ℕ
   pub begins : Begins (AreOptions rows) before
   pub stops : Stops (IsTail rows) before rest
 
--- words after a command stop being such at a position among all words, from 1
+-- the words after a command stop being such a line at a position, counted from 1 over all words
 pub record StopsAfter (L : List (List ℕ) → Type 0) (words : List (List ℕ)) (position : ℕ) : Type 0 where
   pub place : ℕ
   pub here : position ≡ place + 2
   pub stops : StopsAt L words place
 
--- the word at the place is no name, and all before it are
+-- the word at the place is the first that is not a name
 pub record IsFirstUnnamed (words : List (List ℕ)) (place : ℕ) : Type 0 where
   pub within : place < length words
   pub named : All IsName (take place words)
   pub here : IsName (get_or words place []) → ⊥
 
--- a packet of so many blocks has at least an eighth of the interval
+-- a packet of this many blocks has at least an eighth of the interval
 abbrev pub is_long_enough : Option ℕ → ℕ → Bool
 is_long_enough None count = false
 is_long_enough (Some interval) count = nat_le interval (8 * count)
 
--- the code of IEC 61883-6 names the sample rate, and a packet of so many blocks is long enough at it
+-- the code of IEC 61883-6 names the sample rate, and a packet of this many blocks is long enough for it
 abbrev pub suits : ℕ → ℕ → ℕ → Bool
 suits rate count fdf = option_eq nat_eq (rate_of_fdf fdf) (Some rate) && is_long_enough (syt_interval fdf) count

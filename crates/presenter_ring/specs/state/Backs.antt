@@ -1,18 +1,20 @@
 -- Kept for proofs: what the code's own parts hold and do. No clause of a public call rests on it.
 -- The presenter's side of a ring.
-use Rattle.std.specs.Prelude.{◌≡◌, ◌+◌, ◌++◌, List, [], length}
+use Rattle.std.specs.Prelude.{◌≡◌, ℕ, ◌+◌, ◌<◌, ◌++◌, List, [], length, OnErr, Result}
+use Rattle.avtp_base.specs.declared.failed.Failed.{Failed}
+use Rattle.avtp_base.specs.Faults.{IsCounted}
 use Rattle.rtrb.specs.Ring.{received, known_items, SameConsumer}
 use Rattle.sample_schedule.specs.declared.shown.Shown.{Shown}
 use Rattle.presenter_ring.specs.declared.back.Back.{Back}
 
--- What the presenter's side did. The meaning of a presenter is the items that it was handed.
+-- What the presenter's side did. A presenter is seen as the items that it got.
 pub record HasPresented {P : Type 0} (handed : P → P → List Shown → Type 0) (presenter presenter' : P) (before after : Back) : Type 0 where
   pub presented : List Shown
   pub hands : (begun : P) (items : List Shown) → handed begun presenter items → handed begun presenter' (items ++ presented)
   pub receives : received after.consumer ≡ received before.consumer ++ presented
   pub same_ring : SameConsumer before.consumer after.consumer
 
--- one item more was popped
+-- one more item was popped
 abbrev pub IsOneMore : Back → Back → Type 0
 IsOneMore before after = length (received after.consumer) ≡ length (received before.consumer) + 1
 
@@ -21,7 +23,15 @@ pub record IsIdle (before after : Back) : Type 0 where
   pub none : length (received after.consumer) ≡ length (received before.consumer)
   pub empty : known_items before.consumer ≡ []
 
--- the same end of the ring, from which nothing was popped
+-- The presenter's side took a turn, and presented items. If it popped none, no item was known to be in the ring; it failed only
+-- after a pop, and then a fault was counted.
+pub record TakesBackTurn {P : Type 0} (handed : P → P → List Shown → Type 0) (faults : P → ℕ) (presenter presenter' : P) (before after : Back) (result : Result Unit Failed) : Type 0 where
+  pub presented : HasPresented handed presenter presenter' before after
+  pub idle : length (received after.consumer) ≡ length (received before.consumer) → IsIdle before after
+  pub failed : OnErr result (length (received before.consumer) < length (received after.consumer))
+  pub counted : IsCounted (faults presenter) (faults presenter') result
+
+-- the end of the ring is unchanged, and nothing was popped
 pub record KeepsBack (before after : Back) : Type 0 where
   pub same_ring : SameConsumer before.consumer after.consumer
   pub receives : received after.consumer ≡ received before.consumer

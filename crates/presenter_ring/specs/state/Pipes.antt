@@ -16,7 +16,7 @@ pub record IsStill (before after : Pipe) : Type 0 where
 abbrev pub HasStepped : Pipe → Pipe → Type 0
 HasStepped before after = length (pushed_by before) + length (popped_by before) < length (pushed_by after) + length (popped_by after)
 
--- nothing changed but the hand
+-- nothing changed except the item in hand
 pub record KeepsRing (before after : Pipe) : Type 0 where
   pub producer : after.front.producer ≡ before.front.producer
   pub back : after.back ≡ before.back

@@ -6,8 +6,8 @@ use Rattle.avtp_tool.proofs.CheckedTo.{IsCheckedTo}
 use Rattle.avtp_tool.proofs.Leaving.{IsAmid}
 use Rattle.avtp_tool.proofs.check.check_records.Given as goal
 
-abbrev pub invariant-loop-end : goal.invariant-loop-end
-invariant-loop-end g l =
+abbrev pub invariant-loop-tracker : goal.invariant-loop-tracker
+invariant-loop-tracker g l =
     record {
       amid : IsAmid (g.F.Shelf.state l.fn.shelf) (g.F.Shelf.state l.shelf) l.fn.source l.source l.frames;
       few : l.findings ≤ 5 * l.frames;
@@ -16,5 +16,5 @@ invariant-loop-end g l =
           → IsCheckedTo limit l.file bytes (remains_of (g.F.Shelf.state l.shelf) l.source) l.source l.tracker l.frames l.findings (written (g.S.Sink.state l.fn.out).held l.fn.text) (written (g.S.Sink.state l.out).held l.text);
     }
 
-abbrev pub decreases-loop-end : goal.decreases-loop-end
-decreases-loop-end g l = to_do l.source
+abbrev pub decreases-loop-tracker : goal.decreases-loop-tracker
+decreases-loop-tracker g l = to_do l.source

@@ -19,12 +19,12 @@ returns-in_default g c = record {
   sink = sink_still _ _;
 }
 
-pub returns-in_err-capture : goal.returns-in_err-capture
-returns-in_err-capture g c = on_err (HearsCapture _ _ _ _ _ _ _ _ _ _ _) c.from_residual.result c.from_residual.ensures.0 (λ e. record {
-  heard = λ asked bytes plan given. name_cut asked c.args.file.now bytes (hands_nothing g.D.Devices.handed _) c.in_err-capture.ensures.written;
+pub returns-in_err-print_name : goal.returns-in_err-print_name
+returns-in_err-print_name g c = on_err (HearsCapture _ _ _ _ _ _ _ _ _ _ _) c.from_residual.result c.from_residual.ensures.0 (λ e. record {
+  heard = λ asked bytes plan given. name_cut asked c.args.file.now bytes (hands_nothing g.D.Devices.handed _) c.in_err-print_name.ensures.written;
   reads = reads_nothing _ _ c.requires.reading.0;
   counted = tt;
-  sink = sink_err (sink_part c.in_err-capture.ensures);
+  sink = sink_err (sink_part c.in_err-print_name.ensures);
 })
 
 pub returns-in_err-hear_items : goal.returns-in_err-hear_items
@@ -32,11 +32,11 @@ returns-in_err-hear_items g c =
     let items = c.in_err-hear_items.ensures in
     on_err (HearsCapture _ _ _ _ _ _ _ _ _ _ _) c.from_residual-in_err-hear_items.result c.from_residual-in_err-hear_items.ensures.0 (λ e. record {
       heard = λ asked bytes plan given.
-          let shown = items.shows.shown asked.limit bytes given c.requires.stands (open_at c.args.hearing.now.sound c.requires.reading.1) in
-          items_cut asked c.args.file.now bytes _ _ _ _ _ items.items items.gives.front (items.shows.plan ∙ plan) c.hear_items.new.hearing.sound.closed shown (prefix_after _ _ _ _ _ c.in_ok-capture.ensures.written items.gives.prints.written) items.gives.first items.gives.hands;
+          let shown = items.shows.shown asked.listener.limit bytes given c.requires.stands (open_at c.args.hearing.now.sound c.requires.reading.1) in
+          items_cut asked c.args.file.now bytes _ _ _ _ _ items.items items.gives.front (items.shows.plan ∙ plan) c.hear_items.new.hearing.sound.closed shown (prefix_after _ _ _ _ _ c.in_ok-print_name.ensures.written items.gives.prints.written) items.gives.first items.gives.hands;
       reads = items.shows.capture.reads;
       counted = tt;
-      sink = sink_err (sink_then (sink_part c.in_ok-capture.ensures) (sink_part items.gives.prints));
+      sink = sink_err (sink_then (sink_part c.in_ok-print_name.ensures) (sink_part items.gives.prints));
     })
 
 pub returns : goal.returns
@@ -45,9 +45,9 @@ returns g c =
     rw c.heard.ensures
     (record {
       heard = λ asked bytes plan given.
-          let shown = items.shows.shown asked.limit bytes given c.requires.stands (open_at c.args.hearing.now.sound c.requires.reading.1) in
-          hears (HandsOn g.D.Devices.handed c.args.rack.now c.hear_items.new.rack) _ _ asked c.args.file.now bytes _ _ _ _ _ items.items items.over (items.shows.plan ∙ plan) c.hear_items.new.hearing.sound.closed shown (Appends-trans _ _ _ _ _ c.in_ok-capture.ensures.written items.gives.prints.written) (subst (HandsOn g.D.Devices.handed c.args.rack.now c.hear_items.new.rack) items.gives.all items.gives.hands);
+          let shown = items.shows.shown asked.listener.limit bytes given c.requires.stands (open_at c.args.hearing.now.sound c.requires.reading.1) in
+          hears (HandsOn g.D.Devices.handed c.args.rack.now c.hear_items.new.rack) _ _ asked c.args.file.now bytes _ _ _ _ _ items.items items.over (items.shows.plan ∙ plan) c.hear_items.new.hearing.sound.closed shown (Appends-trans _ _ _ _ _ c.in_ok-print_name.ensures.written items.gives.prints.written) (subst (HandsOn g.D.Devices.handed c.args.rack.now c.hear_items.new.rack) items.gives.all items.gives.hands);
       reads = items.shows.capture.reads;
       counted = hears_counted _ _ _ _ items.over items.shows.capture.counted;
-      sink = sink_ok _ (sink_then (sink_part c.in_ok-capture.ensures) (sink_part items.gives.prints));
+      sink = sink_ok _ (sink_then (sink_part c.in_ok-print_name.ensures) (sink_part items.gives.prints));
     })

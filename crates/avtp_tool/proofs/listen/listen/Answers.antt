@@ -15,7 +15,7 @@ use Rattle.avtp_tool.proofs.listen.listen.Goals as goal
 
 pub returns-in-Err : goal.returns-in-Err
 returns-in-Err g c =
-    does_unopened (listen_report (listening_of c.args.asked.now) c.args.file.now) c.args.asked.now.limit c.in-Err.fault (hands_nothing g.D.Devices.handed _) c.in-Err.ensures.tries c.print_unopened.ensures
+    does_unopened (listen_report (listening_of c.args.asked.now) c.args.file.now) c.args.asked.now.listener.limit c.in-Err.fault (hands_nothing g.D.Devices.handed _) c.in-Err.ensures.tries c.print_unopened.ensures
 
 pub returns-in_default : goal.returns-in_default
 returns-in_default g c =

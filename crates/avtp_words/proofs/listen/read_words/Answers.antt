@@ -20,6 +20,6 @@ unreachable-requires-in_default-id_of c = listen_id (texts c.args.words.now) c.i
 pub returns-clause-ok : goal.returns-clause-ok
 returns-clause-ok c =
     let asked = listening_of c.read_options.result in
-    let stream : IsId c.in-Some.id.now asked.stream = rw c.read_options.ensures.stream c.in-Some-id_of.ensures.spelled in
+    let stream : IsId c.in-Some.id.now asked.listener.stream = rw c.read_options.ensures.stream c.in-Some-id_of.ensures.spelled in
     let files : drop (c.in_ok-place.place + 1) (texts c.args.words.now) ≡ asked.files = rw c.read_options.ensures.files (sym (words_after c.args.words.now (c.in_ok-place.place + 1))) in
     listen_says c.args.words.now c.in_ok-place.place c.in-Some.id.now asked c.in_ok-place.ensures.ok (sym c.in-Some.ensures) stream files c.read_options.ensures.read

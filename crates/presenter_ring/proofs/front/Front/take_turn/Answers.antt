@@ -2,15 +2,18 @@ use Rattle.std.proofs.Common.{rules, arith}
 use Rattle.presenter_ring.proofs.FrontLemmas.{HasFed-none, HasFed-then}
 use Rattle.presenter_ring.proofs.front.Front.take_turn.Goals as goal
 
-pub loop-init : goal.loop-init
-loop-init g c = record { fed = HasFed-none _ _ _ _ _ c.requires.live; pushed = omega arith; known = λ h. search rules }
+pub loop-turn-init : goal.loop-turn-init
+loop-turn-init g c = record { fed = HasFed-none _ _ _ _ _ c.requires.live; pushed = omega arith; known = λ h. search rules }
 
 pub returns-then-not-push_next-clause-fed : goal.returns-then-not-push_next-clause-fed
-returns-then-not-push_next-clause-fed g c = HasFed-then _ _ _ _ _ _ _ _ _ c.loop.invariant.fed c.push_next.ensures.fed
+returns-then-not-push_next-clause-fed g c = HasFed-then _ _ _ _ _ _ _ _ _ c.loop-turn.invariant.fed c.push_next.ensures.fed
 
-pub loop-preserved : goal.loop-preserved
-loop-preserved g c = record {
-  fed = HasFed-then _ _ _ _ _ _ _ _ _ c.loop.invariant.fed c.push_next.ensures.fed;
+pub loop-turn-preserved : goal.loop-turn-preserved
+loop-turn-preserved g c = record {
+  fed = HasFed-then _ _ _ _ _ _ _ _ _ c.loop-turn.invariant.fed c.push_next.ensures.fed;
   pushed = search rules;
   known = λ h. absurd (omega arith);
 }
+
+pub returns-then-may_wait-clause-fed : goal.returns-then-may_wait-clause-fed
+returns-then-may_wait-clause-fed g c = c.loop-turn.invariant.fed

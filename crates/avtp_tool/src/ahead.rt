@@ -1,0 +1,37 @@
+//! Text that is written before a read that may wait.
+
+ghost use Rattle.std.specs.Prelude.{IsSome};
+ghost use Rattle.capture_io.specs.Source.{slot_of};
+ghost use Rattle.avtp_tool.specs.state.Outcome.{WritesWaiting};
+ghost use Rattle.avtp_tool.specs.state.Reading.{ReadsAhead};
+
+use avtp_base::Failed;
+use avtp_files::{Shelf, Sink};
+use avtp_text::Text;
+use capture_io::{End, Source};
+
+/// Reads on to the next record. If it does not lie whole in what was read, the text that waits is written first: whoever
+/// watches a capture grow sees each line as soon as its packet has come.
+#[inline(always)]
+pub fn next_record<F: Shelf, S: Sink>(
+    source: &mut Source,
+    shelf: &mut F,
+    text: &mut Text,
+    out: &mut S,
+) -> Result<Option<End>, Failed>
+    requires { IsSome ((F.state shelf.old).slots (slot_of source.old)) }
+    ensures { ReadsAhead (F.state shelf.old) (F.state shelf.new) source.old source.new (S.state out.old) (S.state out.new) text.old text.new result }
+{
+    if source.advance() {
+        return Ok(None);
+    }
+    write_waiting(text, out)?;
+    Ok(source.next(shelf))
+}
+
+/// Writes the text that waits.
+pub fn write_waiting<S: Sink>(text: &mut Text, out: &mut S) -> Result<(), Failed>
+    ensures { WritesWaiting (S.state out.old) (S.state out.new) text.old text.new result }
+{
+    text.flush(out)
+}

@@ -1,0 +1,50 @@
+//! A listener, as the words of any command that listens ask for it.
+
+ghost use Rattle.std.specs.Prelude.{◌≡◌};
+ghost use Rattle.avtp_words.specs.state.Reading.{IsReadListener};
+ghost use Rattle.avtp_words.specs.Word.{texts};
+
+use crate::limits::{
+    BUFFER, BUFFER_DEFAULT, CLOCK, CRF_SHIFT, CRF_SHIFT_DEFAULT, LEAD_DEFAULT, LIMIT, LISTEN_LEAD,
+    LOOK, LOOK_DEFAULT, MAX_LIMIT, ROOM, ROOM_DEFAULT,
+};
+use crate::value::{id_if, number_after, signed_number_after, small_number_after};
+
+/// A stream to listen to, and the bounds and the media clock of its listener.
+#[derive(Clone, Copy, Debug, PartialEq, Eq)]
+pub struct ListenerOptions {
+    /// The stream ID.
+    pub stream: u64,
+    /// The most bytes of each capture that are read, 1 to 2^40.
+    pub limit: u64,
+    /// The most packets that wait for their presentation time, 1 to 65,536.
+    pub buffer: u32,
+    /// The most bytes in them, 1 to 1,073,741,824.
+    pub room: u32,
+    /// How many later items are read before an item is judged, 0 to 64.
+    pub look: u32,
+    /// The max transit time, in nanoseconds, 0 to 1,000,000,000: how long before its presentation time a packet is
+    /// expected.
+    pub lead: u32,
+    /// The stream ID of the media clock whose timestamps time the samples, if one is asked for.
+    pub clock: Option<u64>,
+    /// What is added to each timestamp of the clock, in nanoseconds, from -1,000,000,000 to 1,000,000,000.
+    pub shift: i64,
+}
+
+/// A listener to this stream, by the options of its command.
+pub fn listener_after(options: &[String], stream: u64) -> ListenerOptions
+    ensures stream { result.stream ≡ stream }
+    ensures read { IsReadListener (texts options.now) result }
+{
+    ListenerOptions {
+        stream,
+        limit: number_after(options, LIMIT.name, MAX_LIMIT),
+        buffer: small_number_after(options, BUFFER.name, BUFFER_DEFAULT),
+        room: small_number_after(options, ROOM.name, ROOM_DEFAULT),
+        look: small_number_after(options, LOOK.name, LOOK_DEFAULT),
+        lead: small_number_after(options, LISTEN_LEAD.name, LEAD_DEFAULT),
+        clock: id_if(options, CLOCK.name),
+        shift: signed_number_after(options, CRF_SHIFT.name, CRF_SHIFT_DEFAULT),
+    }
+}
