@@ -12,8 +12,11 @@ pub struct Heading {
     pub meaning: &'static str,
 }
 
-/// The columns. The last holds words with spaces between them.
-pub const HEADINGS: [Heading; 34] = [
+/// How many columns there are. The last holds words with spaces between them.
+pub const COLUMNS: usize = 34;
+
+/// The columns.
+pub static HEADINGS: [Heading; COLUMNS] = [
     Heading {
         name: "id",
         meaning: "the stream id",
@@ -152,7 +155,7 @@ pub const HEADINGS: [Heading; 34] = [
     },
 ];
 
-/// The cell of a value that is not known.
+/// The cell of an unknown value.
 const NONE: &str = "-";
 
 /// The cells of a stream's row.
@@ -160,7 +163,7 @@ pub fn cells_of(alloc: Global, stream: &Stream) -> Result<Vec<String>, AllocErro
     let mut cells = Vec::new(alloc);
     add_sender(alloc, &mut cells, stream)?;
     add_rates(alloc, &mut cells, stream)?;
-    for tally in [stream.lost, stream.repeated, stream.reordered] {
+    for tally in [stream.lost(), stream.repeated(), stream.reordered()] {
         add_tally(alloc, &mut cells, tally)?;
     }
     add_spread(alloc, &mut cells, &stream.distances)?;

@@ -1,10 +1,10 @@
-//! The pictures of a stream: lines from the least to the greatest value of each stretch of time.
+//! The pictures of a stream: each stretch of time is a line from its least to its greatest value.
 
 use crate::units::Signed;
 use std::io::{self, Write};
 use stream_report::{Column, Range, Spread, Stream};
 
-/// A picture is so wide and high, in units of its own.
+/// The width and height of a picture, in its own units.
 const WIDTH: u64 = 1000;
 
 const HEIGHT: u64 = 100;
@@ -23,7 +23,7 @@ struct Scale {
     high: i64,
 }
 
-/// Two decimals of a place in a picture.
+/// Writes a place in a picture with two decimals.
 #[derive(Clone, Copy)]
 struct Place(u64);
 
@@ -36,7 +36,7 @@ impl std::fmt::Display for Place {
     }
 }
 
-/// Writes a picture of a stream, over the capture's time.
+/// Writes a picture of a stream over the capture's time.
 pub fn write_chart<W: Write>(
     out: &mut W,
     stream: &Stream,
@@ -74,8 +74,8 @@ pub fn write_chart<W: Write>(
     )
 }
 
-/// The scale of most values: from the 1st percentile to the 99th, and a quarter as much below and above. Values outside are drawn at
-/// the edge.
+/// A scale for most values: from the 1st percentile to the 99th, with a quarter of that range below and above. Values outside
+/// are drawn at the edge.
 fn scale_of(spread: &Spread) -> Option<Scale> {
     let low = spread.percentile(1)?;
     let high = spread.percentile(99)?;
@@ -118,7 +118,7 @@ fn begin_of(stream: &Stream, column: &Column) -> u64 {
     column.slot.saturating_mul(stream.trace.width())
 }
 
-/// Three lines across, and one at 0 where that is shown.
+/// Three lines across, and one at 0 if that is in the picture.
 fn write_rules<W: Write>(out: &mut W, scale: Scale) -> io::Result<()> {
     write!(
         out,
@@ -131,9 +131,9 @@ fn write_rules<W: Write>(out: &mut W, scale: Scale) -> io::Result<()> {
     write!(out, "\"/>")
 }
 
-/// A line from top to bottom wherever packets are missing.
+/// A line from top to bottom at each place where packets are missing.
 fn write_losses<W: Write>(out: &mut W, stream: &Stream, duration: u64) -> io::Result<()> {
-    if stream.lost.count == 0 {
+    if stream.lost().count == 0 {
         return Ok(());
     }
     write!(out, "<path class=\"loss\" d=\"")?;

@@ -11,18 +11,20 @@ use stream_report::{
     iec_facts, other_frame, unread_format,
 };
 
-/// The most streams that are told apart.
+/// The most streams that are counted apart.
 pub const MOST_STREAMS: usize = 1024;
 
-/// What is counted of captures, one after the other as one.
+/// What is counted for captures, which are read as one.
 #[derive(Drop)]
 pub struct Report {
     alloc: Global,
     places: HashMap<StreamKey, usize>,
-    /// In the order in which they were first seen.
+    /// The stream of the last packet, which often is that of the next.
+    last: Option<(StreamKey, usize)>,
+    /// The streams, in the order in which they were first seen.
     pub streams: Vec<Stream>,
     pub others: Others,
-    /// The frames of all files.
+    /// The number of frames of all files.
     pub frames: u64,
     /// When the first frame arrived.
     first_arrival: Option<i64>,
@@ -43,6 +45,7 @@ impl Report {
         Report {
             alloc,
             places: HashMap::new(alloc),
+            last: None,
             streams: Vec::new(alloc),
             others: Others::new(alloc),
             frames: 0,
@@ -51,7 +54,7 @@ impl Report {
         }
     }
 
-    /// Counts a record of a capture. After `NoMemory` the report is not to be used.
+    /// Counts a record of a capture. After `NoMemory` the report must not be used.
     pub fn note(&mut self, at: At, record: &RecordView<'_>) -> Result<(), NoMemory> {
         self.frames = self.frames.saturating_add(1);
         let begin = self.first_arrival.unwrap_or(record.arrival);
@@ -136,32 +139,42 @@ impl Report {
         }
     }
 
-    /// The stream of this key, which begins here if it is new. `None` if the most streams are tracked already.
+    /// The stream with this key, which begins here if it is new. `None` if the most streams are counted already.
     fn stream(
         &mut self,
         key: StreamKey,
         sender: Sender,
         at: At,
     ) -> Result<Option<&mut Stream>, NoMemory> {
-        let known = self.places.get(&key).copied();
-        let place = match known {
+        let place = match self.known(key) {
             Some(place) => place,
-            None => {
-                let place = self.streams.len();
-                if place >= MOST_STREAMS {
-                    return Ok(None);
-                }
-                self.streams
-                    .push(Stream::new(self.alloc, key, sender, at)?)?;
-                self.places.insert(key, place)?;
-                place
-            }
+            None => self.begin(key, sender, at)?,
         };
+        self.last = Some((key, place));
         Ok(self.streams.get_mut(place))
+    }
+
+    /// Begins a stream, and answers its place: one where there is none if the most streams are tracked already.
+    fn begin(&mut self, key: StreamKey, sender: Sender, at: At) -> Result<usize, NoMemory> {
+        let place = self.streams.len();
+        if place < MOST_STREAMS {
+            self.streams
+                .push(Stream::new(self.alloc, key, sender, at)?)?;
+            self.places.insert(key, place)?;
+        }
+        Ok(place)
+    }
+
+    /// The place of the stream of this key, if it has begun.
+    fn known(&self, key: StreamKey) -> Option<usize> {
+        match self.last {
+            Some((last, place)) if last == key => Some(place),
+            _ => self.places.get(&key).copied(),
+        }
     }
 }
 
-/// The facts of a packet. `None` comes for one of a format that is not read.
+/// The facts of a packet. `None` if its format is not read.
 fn facts_of(packet: &Packet<'_>) -> Option<Facts> {
     match packet {
         Packet::Aaf(view) => Some(aaf_facts(view)),

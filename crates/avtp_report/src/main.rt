@@ -24,7 +24,7 @@ use std::process::ExitCode;
 use std::{env, fs, io};
 use stream_report::{Verdict, verdicts_of};
 
-/// How a run ends, as the command `avtp` does.
+/// How a run ends, with the statuses of the command `avtp`.
 #[derive(Clone, Copy)]
 enum Status {
     Done,
@@ -52,7 +52,7 @@ impl Status {
 
 const USAGE: &str = "usage: avtp-report [--html OUT] FILE..";
 
-const HELP: &str = "usage: avtp-report [--html OUT] FILE..
+static HELP: &str = "usage: avtp-report [--html OUT] FILE..
 
 Tells of each AVTP stream (IEEE 1722) in the captures FILE.., which are read as one, what
 is counted of it, and what is wrong with it. With --html the same is written to OUT as one
@@ -94,10 +94,10 @@ fn words_of(rt: &HostRuntime) -> Result<Vec<String>, Status> {
         Err(error) if error.kind() == ErrorKind::OutOfMemory => return Err(Status::Memory),
         Err(_) => return Err(Status::Words),
     };
-    arguments
-        .skip(1)
-        .collect(rt.alloc())
-        .map_err(|_| Status::Memory)
+    match arguments.skip(1).collect(rt.alloc()) {
+        Ok(words) => Ok(words),
+        Err(_) => Err(Status::Memory),
+    }
 }
 
 fn print_status(written: io::Result<()>) -> Status {
@@ -115,17 +115,16 @@ fn written_status(error: &io::Error) -> Status {
     }
 }
 
-/// Reads the captures and writes what is told of them.
+/// Reads the captures and writes what was found.
 fn report(rt: &HostRuntime, words: &[String], html: Option<usize>) -> Status {
     let alloc = rt.alloc();
-    let Ok(reading) = read_files(rt, alloc, words) else {
+    let Ok(reading) = read_files(rt, alloc, words, html) else {
         return Status::Memory;
     };
     let Ok(verdicts) = all_verdicts(alloc, &reading) else {
         return Status::Memory;
     };
-    let order = worst_first(alloc, &verdicts);
-    let Ok(order) = order else {
+    let Ok(order) = worst_first(alloc, &verdicts) else {
         return Status::Memory;
     };
     let told = Told {
@@ -136,16 +135,21 @@ fn report(rt: &HostRuntime, words: &[String], html: Option<usize>) -> Status {
     if let Err(error) = print_table(rt, &told) {
         return written_status(&error);
     }
-    if let Some(name) = html.and_then(|place| words.get(place)) {
-        if let Err(error) = make_page(rt, name.as_str(), &told) {
-            let _ = eprintln!(rt; "avtp-report: {name}: {error}");
-            return written_status(&error);
-        }
+    let Some(place) = html else {
+        return ended(&told);
+    };
+    let name = match words.get(place) {
+        Some(name) => name.as_str(),
+        None => return Status::Words,
+    };
+    if let Err(error) = make_page(rt, name, &told) {
+        let _ = eprintln!(rt; "avtp-report: {name}: {error}");
+        return written_status(&error);
     }
     ended(&told)
 }
 
-/// All that is told of the captures.
+/// What was found in the captures.
 #[derive(Clone, Copy)]
 pub struct Told<'a> {
     pub reading: &'a Reading,
@@ -153,6 +157,18 @@ pub struct Told<'a> {
     pub verdicts: &'a Vec<Vec<Verdict>>,
     /// The places of the streams, the worst first.
     pub order: &'a Vec<usize>,
+}
+
+impl Told<'_> {
+    /// Whether nothing is wrong with any stream.
+    pub fn is_good(&self) -> bool {
+        for of in self.verdicts.iter() {
+            if !of.is_empty() {
+                return false;
+            }
+        }
+        true
+    }
 }
 
 fn all_verdicts(alloc: Global, reading: &Reading) -> Result<Vec<Vec<Verdict>>, NoMemory> {
@@ -163,11 +179,14 @@ fn all_verdicts(alloc: Global, reading: &Reading) -> Result<Vec<Vec<Verdict>>, N
     Ok(all)
 }
 
-/// The places of the streams, by their worst verdict; those with none come last, and the others as they came.
+/// The places of the streams, by their worst verdict; those without one come last; equal ones stay in order.
 fn worst_first(alloc: Global, verdicts: &[Vec<Verdict>]) -> Result<Vec<usize>, NoMemory> {
     let mut order = Vec::new(alloc);
     for (place, of) in verdicts.iter().enumerate() {
-        let rank = of.first().map_or(u8::MAX, |verdict| verdict.rank());
+        let rank = match of.first() {
+            Some(verdict) => verdict.rank(),
+            None => u8::MAX,
+        };
         order.push((rank, place))?;
     }
     order.sort()?;
@@ -190,7 +209,7 @@ fn make_page(rt: &HostRuntime, name: &str, told: &Told<'_>) -> io::Result<()> {
     out.flush()
 }
 
-/// How a run ends whose table and page were written.
+/// How a run ends after its table and page were written.
 fn ended(told: &Told<'_>) -> Status {
     for file in told.reading.files.iter() {
         match file.ending {
@@ -199,7 +218,7 @@ fn ended(told: &Told<'_>) -> Status {
             Ending::Fault => return Status::ReadFault,
         }
     }
-    if told.verdicts.iter().all(|of| of.is_empty()) {
+    if told.is_good() {
         Status::Done
     } else {
         Status::Found

@@ -1,11 +1,11 @@
-//! Streams in words.
+//! Streams described in words.
 
 use aaf_format::AafFormat;
 use avtp_header::subtype;
 use std::fmt;
 use stream_report::{Class, Format, Stream};
 
-/// What a stream's kind is called.
+/// The name of a stream's kind.
 pub fn kind_of(stream: &Stream) -> &'static str {
     match stream.key.subtype {
         subtype::IEC_61883 => "iec",

@@ -13,7 +13,7 @@ use std::alloc::Global;
 use std::io::{self, Write};
 use stream_report::{Stream, Verdict};
 
-/// Writes the page. It is whole by itself: nothing is fetched.
+/// Writes the page. It is complete in itself: a browser fetches nothing for it.
 pub fn write_page<W: Write>(alloc: Global, out: &mut W, told: &Told<'_>) -> io::Result<()> {
     write_head(out, told.reading)?;
     write_summary(out, told)?;
@@ -68,7 +68,7 @@ fn write_head<W: Write>(out: &mut W, reading: &Reading) -> io::Result<()> {
 /// Writes all verdicts, the worst streams first.
 fn write_summary<W: Write>(out: &mut W, told: &Told<'_>) -> io::Result<()> {
     writeln!(out, "<h2>Verdicts</h2>")?;
-    if told.verdicts.iter().all(|of| of.is_empty()) {
+    if told.is_good() {
         return writeln!(
             out,
             "<p class=\"good\">Nothing is wrong with any stream.</p>"
@@ -84,7 +84,7 @@ fn write_summary<W: Write>(out: &mut W, told: &Told<'_>) -> io::Result<()> {
                 write!(out, "<li><a href=\"#s{place}\">")?;
                 write_name(out, stream)?;
                 writeln!(out, "</a>")?;
-                write_verdicts(out, verdicts, told.reading)?;
+                write_verdicts(out, stream, verdicts, told.reading)?;
                 writeln!(out, "</li>")?;
             }
         }
@@ -100,6 +100,7 @@ fn write_name<W: Write>(out: &mut W, stream: &Stream) -> io::Result<()> {
 
 fn write_verdicts<W: Write>(
     out: &mut W,
+    stream: &Stream,
     verdicts: &[Verdict],
     reading: &Reading,
 ) -> io::Result<()> {
@@ -108,6 +109,7 @@ fn write_verdicts<W: Write>(
     for verdict in verdicts.iter() {
         let said = Said {
             verdict: *verdict,
+            fields: stream.fields.as_slice(),
             many_files,
         };
         writeln!(out, "<li>{said}</li>")?;
@@ -152,7 +154,7 @@ fn write_stream<W: Write>(
         writeln!(out, "<p class=\"good\">Nothing is wrong with it.</p>")?;
     } else {
         writeln!(out, "<div class=\"bad\">")?;
-        write_verdicts(out, verdicts, reading)?;
+        write_verdicts(out, stream, verdicts, reading)?;
         writeln!(out, "</div>")?;
     }
     let duration = reading.report.duration;

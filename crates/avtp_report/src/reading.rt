@@ -13,7 +13,7 @@ use std::fs;
 use stream_report::At;
 
 /// How the reading of a file ended.
-#[derive(Clone, Copy, PartialEq, Eq)]
+#[derive(Clone, Copy)]
 pub enum Ending {
     Whole,
     Refused(Refusal),
@@ -24,7 +24,7 @@ pub enum Ending {
 #[derive(Drop)]
 pub struct File {
     pub name: String,
-    /// Its frames, as far as it was read.
+    /// Its frames, up to where it was read.
     pub frames: u64,
     pub ending: Ending,
 }
@@ -39,13 +39,18 @@ pub struct Reading {
 /// The most bytes of a file that are read.
 const LIMIT: u64 = 1 << 62;
 
-/// Reads the captures that the words name. The first that is not read to its end is the last, and standard error says why.
-pub fn read_files(rt: &HostRuntime, alloc: Global, words: &[String]) -> Result<Reading, NoMemory> {
+/// Reads the captures that the words name, of which one may be that of the page. The first that is not read to its end is the last, and standard error says why.
+pub fn read_files(
+    rt: &HostRuntime,
+    alloc: Global,
+    words: &[String],
+    html: Option<usize>,
+) -> Result<Reading, NoMemory> {
     let mut files = Vec::new(alloc);
     let mut report = Report::new(alloc);
     let mut shelf = FileShelf::new(alloc, rt);
     for (place, word) in words.iter().enumerate() {
-        if !is_capture(words, place) {
+        if !is_capture(html, place) {
             continue;
         }
         let number = u32::try_from(files.len())
@@ -58,28 +63,33 @@ pub fn read_files(rt: &HostRuntime, alloc: Global, words: &[String]) -> Result<R
             frames: read.frames,
             ending,
         })?;
-        if ending != Ending::Whole {
-            say_why(rt, word.as_str(), ending);
+        if is_last(rt, word.as_str(), ending) {
             break;
         }
     }
     Ok(Reading { files, report })
 }
 
-/// Says why a file was not read to its end.
-fn say_why(rt: &HostRuntime, name: &str, ending: Ending) {
-    let _ = match ending {
-        Ending::Whole => Ok(()),
+/// Whether a file was not read to its end; then it says why.
+fn is_last(rt: &HostRuntime, name: &str, ending: Ending) -> bool {
+    match ending {
+        Ending::Whole => return false,
         Ending::Refused(refusal) => {
             let field = refusal.field.name();
             let at = refusal.at;
             let short = if refusal.short { " short" } else { "" };
-            eprintln!(rt; "avtp-report: {name}: capture refused: {field} at {at}{short}")
+            let _ = eprintln!(rt; "avtp-report: {name}: capture refused: {field} at {at}{short}");
         }
-        Ending::Fault => match fs::open(rt, name) {
-            Ok(_) => eprintln!(rt; "avtp-report: {name}: read fault"),
-            Err(error) => eprintln!(rt; "avtp-report: {name}: {error}"),
-        },
+        Ending::Fault => say_fault(rt, name),
+    }
+    true
+}
+
+/// Says why a file cannot be read: the system's reason, if opening it fails again.
+fn say_fault(rt: &HostRuntime, name: &str) {
+    let _ = match fs::open(rt, name) {
+        Ok(_) => eprintln!(rt; "avtp-report: {name}: read fault"),
+        Err(error) => eprintln!(rt; "avtp-report: {name}: {error}"),
     };
 }
 

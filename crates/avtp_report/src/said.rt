@@ -2,43 +2,37 @@
 
 use crate::units::{Grouped, Packets, Signed, Span, Thousandths};
 use std::fmt;
-use stream_report::{At, ClockGuess, Tally, Verdict};
+use stream_report::{At, ClockGuess, FieldCount, Tally, Verdict};
 
-/// A verdict in words. Where there are several files, a frame is told with its file's number.
+/// A verdict on a stream in words. Where there are several files, a frame is told with its file's number.
 #[derive(Clone, Copy)]
-pub struct Said {
+pub struct Said<'a> {
     pub verdict: Verdict,
+    /// By which fields the stream's malformed packets are refused.
+    pub fields: &'a [FieldCount],
     pub many_files: bool,
 }
 
-impl fmt::Display for Said {
+impl fmt::Display for Said<'_> {
     fn fmt<W: fmt::Write>(&self, f: &mut fmt::Formatter<W>) -> fmt::Result {
         match self.verdict {
             Verdict::Swapped { .. } | Verdict::NotInOrder { .. } => say_order(self.verdict, f),
             Verdict::Clocks { lead, guess, exact } => say_clocks(lead, guess, exact, f),
             Verdict::FirstStamp { found, wanted } => say_first(found, wanted, f),
-            Verdict::Steps {
-                off,
-                compared,
-                first,
-            } => {
-                let off = Grouped(off);
-                let compared = Grouped(compared);
-                let found = Signed(first.found);
-                let wanted = Span(first.wanted);
-                let place = self.place("in", first.at);
-                write!(
-                    f,
-                    "{off} of {compared} timestamps step off their packets' time, first {place}: by {found}, {wanted} expected"
-                )
-            }
+            Verdict::Steps { .. } => self.say_steps(f),
             Verdict::Drift { parts } => say_drift(parts, f),
-            _ => self.say_packets(f),
+            Verdict::Malformed { packets } => self.say_malformed(packets, f),
+            Verdict::Lost { packets, most } => self.say_lost(packets, most, f),
+            Verdict::Late { .. } => self.say_late(f),
+            Verdict::Jitter { .. } => self.say_jitter(f),
+            Verdict::Labels { quadlets, label } => self.say_labels(quadlets, label, f),
+            Verdict::Flapping { restarts } => self.say_flapping(restarts, f),
+            other => self.say_plain(other, f),
         }
     }
 }
 
-/// Which frame, of which file.
+/// A frame, with its file.
 #[derive(Clone, Copy)]
 struct Place {
     word: &'static str,
@@ -58,7 +52,7 @@ impl fmt::Display for Place {
     }
 }
 
-impl Said {
+impl Said<'_> {
     fn place(&self, word: &'static str, at: At) -> Place {
         Place {
             word,
@@ -67,75 +61,13 @@ impl Said {
         }
     }
 
-    /// Says what was counted, and where first.
-    fn say_packets<W: fmt::Write>(&self, f: &mut fmt::Formatter<W>) -> fmt::Result {
-        let (tally, word) = match self.verdict {
-            Verdict::Malformed { packets, field } => {
-                let name = field.name();
-                say(packets, f, "malformed, most often in ")?;
-                write!(f, "{name}")?;
-                (packets, "in")
-            }
-            Verdict::Lost { packets, most } => {
-                let most = Grouped(most);
-                say(packets, f, "lost, up to ")?;
-                write!(f, "{most} in a row")?;
-                (packets, "before")
-            }
-            Verdict::Late {
-                packets,
-                stamped,
-                most,
-            } => {
-                let late = Grouped(packets.count);
-                let stamped = Packets(stamped);
-                let most = Span(most);
-                write!(
-                    f,
-                    "{late} of {stamped} after their presentation time, by up to {most}"
-                )?;
-                (packets, "in")
-            }
-            Verdict::Jitter {
-                packets,
-                compared,
-                bursts,
-            } => {
-                let head = if bursts {
-                    "packets come in bursts: "
-                } else {
-                    ""
-                };
-                let uneven = Grouped(packets.count);
-                let compared = Packets(compared);
-                write!(
-                    f,
-                    "{head}{uneven} of {compared} come more than half a packet's time early or late"
-                )?;
-                (packets, "in")
-            }
-            Verdict::Labels { quadlets, label } => {
-                let count = Grouped(quadlets.count);
-                write!(
-                    f,
-                    "{count} AM824 quadlets with a label that has no meaning ({label:#04x})"
-                )?;
-                (quadlets, "in")
-            }
-            Verdict::Flapping { restarts } => {
-                let count = Grouped(restarts.count);
-                write!(
-                    f,
-                    "media clock restart (mr) changed after fewer than 8 packets: {count} times"
-                )?;
-                (restarts, "in")
-            }
-            other => {
-                let (packets, words) = plain(other);
-                say(packets, f, words)?;
-                (packets, "in")
-            }
-        };
+    /// Says where something was seen first.
+    fn say_where<W: fmt::Write>(
+        &self,
+        word: &'static str,
+        tally: Tally,
+        f: &mut fmt::Formatter<W>,
+    ) -> fmt::Result {
         match tally.first {
             Some(at) => {
                 let place = self.place(word, at);
@@ -143,6 +75,130 @@ impl Said {
             }
             None => Ok(()),
         }
+    }
+
+    fn say_steps<W: fmt::Write>(&self, f: &mut fmt::Formatter<W>) -> fmt::Result {
+        let Verdict::Steps {
+            off,
+            compared,
+            first,
+        } = self.verdict
+        else {
+            return Ok(());
+        };
+        let off = Grouped(off);
+        let compared = Grouped(compared);
+        let found = Signed(first.found);
+        let wanted = Span(first.wanted);
+        let place = self.place("in", first.at);
+        write!(
+            f,
+            "{off} of {compared} timestamps step off their packets' time, first {place}: by {found}, {wanted} expected"
+        )
+    }
+
+    fn say_malformed<W: fmt::Write>(
+        &self,
+        packets: Tally,
+        f: &mut fmt::Formatter<W>,
+    ) -> fmt::Result {
+        say(packets, f, "malformed, by")?;
+        for (place, counted) in self.fields.iter().enumerate() {
+            let comma = if place > 0 { "," } else { "" };
+            let name = counted.field.name();
+            let count = Grouped(counted.count);
+            write!(f, "{comma} {name} {count}")?;
+        }
+        self.say_where("in", packets, f)
+    }
+
+    fn say_lost<W: fmt::Write>(
+        &self,
+        packets: Tally,
+        most: u64,
+        f: &mut fmt::Formatter<W>,
+    ) -> fmt::Result {
+        let most = Grouped(most);
+        say(packets, f, "lost, up to ")?;
+        write!(f, "{most} in a row")?;
+        self.say_where("before", packets, f)
+    }
+
+    fn say_late<W: fmt::Write>(&self, f: &mut fmt::Formatter<W>) -> fmt::Result {
+        let Verdict::Late {
+            packets,
+            stamped,
+            most,
+        } = self.verdict
+        else {
+            return Ok(());
+        };
+        let late = Grouped(packets.count);
+        let stamped = Packets(stamped);
+        let most = Span(most);
+        write!(
+            f,
+            "{late} of {stamped} after their presentation time, by up to {most}"
+        )?;
+        self.say_where("in", packets, f)
+    }
+
+    fn say_jitter<W: fmt::Write>(&self, f: &mut fmt::Formatter<W>) -> fmt::Result {
+        let Verdict::Jitter {
+            packets,
+            compared,
+            bursts,
+        } = self.verdict
+        else {
+            return Ok(());
+        };
+        let head = if bursts {
+            "packets come in bursts: "
+        } else {
+            ""
+        };
+        let uneven = Grouped(packets.count);
+        let compared = Packets(compared);
+        write!(
+            f,
+            "{head}{uneven} of {compared} come more than half a packet's time early or late"
+        )?;
+        self.say_where("in", packets, f)
+    }
+
+    fn say_labels<W: fmt::Write>(
+        &self,
+        quadlets: Tally,
+        label: u8,
+        f: &mut fmt::Formatter<W>,
+    ) -> fmt::Result {
+        let count = Grouped(quadlets.count);
+        write!(
+            f,
+            "{count} AM824 quadlets with a label that has no meaning ({label:#04x})"
+        )?;
+        self.say_where("in", quadlets, f)
+    }
+
+    fn say_flapping<W: fmt::Write>(
+        &self,
+        restarts: Tally,
+        f: &mut fmt::Formatter<W>,
+    ) -> fmt::Result {
+        let count = Grouped(restarts.count);
+        let times = if restarts.count == 1 { "time" } else { "times" };
+        write!(
+            f,
+            "media clock restart (mr) changed after fewer than 8 packets: {count} {times}"
+        )?;
+        self.say_where("in", restarts, f)
+    }
+
+    /// Says how many packets, and what of them.
+    fn say_plain<W: fmt::Write>(&self, verdict: Verdict, f: &mut fmt::Formatter<W>) -> fmt::Result {
+        let (packets, words) = plain(verdict);
+        say(packets, f, words)?;
+        self.say_where("in", packets, f)
     }
 }
 
@@ -232,7 +288,7 @@ fn say_first<W: fmt::Write>(found: i64, wanted: u64, f: &mut fmt::Formatter<W>) 
     )
 }
 
-/// A clock is no further off than this, in parts of 10^9: 1,000 ppm.
+/// A clock is off by at most this much, in parts of 10^9: 1,000 ppm.
 const MOST_DRIFT: u64 = 1_000_000;
 
 fn say_drift<W: fmt::Write>(parts: i64, f: &mut fmt::Formatter<W>) -> fmt::Result {

@@ -1,6 +1,6 @@
 //! How the page looks: on a screen in light and dark, on a phone, and on paper.
 
-pub const STYLE: &str = "
+pub static STYLE: &str = "
 :root { color-scheme: light dark; --paper: #ffffff; --ink: #1c2430; --faint: #5d6878; --line: #d8dee6; --card: #f6f8fa;
   --lead: #1f5fa8; --gap: #2f7d4f; --loss: #c62f2f; --bad: #a32222; --good: #2f7d4f; }
 @media (prefers-color-scheme: dark) { :root { --paper: #14181d; --ink: #e3e8ee; --faint: #97a3b2; --line: #313a45; --card: #1b2128;

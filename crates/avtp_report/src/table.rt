@@ -1,7 +1,7 @@
 //! The table on standard output.
 
 use crate::Told;
-use crate::cells::{HEADINGS, cells_of};
+use crate::cells::{COLUMNS, HEADINGS, cells_of};
 use crate::named::kind_of;
 use crate::said::Said;
 use crate::units::Grouped;
@@ -67,7 +67,7 @@ fn write_cell<W: Write>(out: &mut W, place: usize, text: &str, width: usize) -> 
     if place > 0 {
         write!(out, "  ")?;
     }
-    if place >= HEADINGS.len() - 1 {
+    if place >= COLUMNS - 1 {
         return write!(out, "{text}");
     }
     let spaces = width.saturating_sub(text.len());
@@ -98,6 +98,7 @@ fn write_verdicts<W: Write>(out: &mut W, told: &Told<'_>) -> io::Result<()> {
         for verdict in verdicts.iter() {
             let said = Said {
                 verdict: *verdict,
+                fields: stream.fields.as_slice(),
                 many_files,
             };
             writeln!(out, "{kind} {id:016x}: {said}")?;

@@ -1,8 +1,8 @@
-//! Numbers as they are read best.
+//! Numbers as they are easiest to read.
 
 use std::fmt;
 
-/// A number with a comma after each three digits.
+/// A number with a comma before each group of three digits.
 #[derive(Clone, Copy)]
 pub struct Grouped(pub u64);
 
@@ -55,7 +55,7 @@ impl fmt::Display for Thousandths {
     }
 }
 
-/// Nanoseconds, in the unit that is read best, without a sign.
+/// Nanoseconds, in the unit that is easiest to read, without a sign.
 #[derive(Clone, Copy)]
 pub struct Span(pub u64);
 
@@ -95,7 +95,7 @@ fn write_decimals<W: fmt::Write>(
     }
 }
 
-/// Nanoseconds as `Span`, with a sign where they are below 0.
+/// Nanoseconds as `Span` writes them, with a sign if they are below 0.
 #[derive(Clone, Copy)]
 pub struct Signed(pub i64);
 
@@ -108,7 +108,7 @@ impl fmt::Display for Signed {
     }
 }
 
-/// So many packets.
+/// A number of packets.
 #[derive(Clone, Copy)]
 pub struct Packets(pub u64);
 

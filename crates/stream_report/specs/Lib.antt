@@ -1,2 +1,3 @@
 pub mod Sequence
+pub mod Spreads
 pub mod state

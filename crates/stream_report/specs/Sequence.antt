@@ -1,11 +1,13 @@
--- The numbers of a stream's packets. A talker counts its packets without end; a packet's sequence number is its number modulo 256.
--- Of a stream are given the number of its first packet, and those of the packets after it, the last of them first.
-use Rattle.std.specs.Prelude.{◌≡◌, ℕ, zero, suc, ◌+◌, ◌-◌, ◌%◌, ◌≤◌, ◌<◌, ◌==◌, ◌||◌, max, min, nat_lt, Bool, if◌then◌else◌, List, [], ◌∷◌}
+-- The numbers of a stream's packets. A talker counts its packets without end; a packet's sequence number is its number modulo
+-- 256. A stream is given by the number of its first packet and a list of the numbers of the packets after it, the last one
+-- first.
+use Rattle.std.specs.Prelude.{◌≡◌, ℕ, zero, suc, ◌+◌, ◌-◌, ◌%◌, ◌≤◌, ◌<◌, ◌==◌, ◌||◌, max, min, nat_lt, Bool, if◌then◌else◌, List, [], ◌∷◌, length, ◌^◌}
 use Rattle.std.specs.Int.{bit_at}
 use Rattle.std.specs.List.{list_any}
 use Rattle.stream_report.specs.declared.sequence.Place.{Place}
 use Rattle.stream_report.specs.declared.sequence.Place.TheVariants.{Ahead, Late, Early, Repeat}
 use Rattle.stream_report.specs.declared.sequence.Window.{Window}
+use Rattle.stream_report.specs.declared.order.Order.{Order}
 
 -- how far a sequence number is ahead of the newest, from 1 to 256
 abbrev pub ahead_of : ℕ → ℕ → ℕ
@@ -16,35 +18,52 @@ abbrev pub greatest : ℕ → List ℕ → ℕ
 greatest first [] = first
 greatest first (number ∷ later) = max number (greatest first later)
 
--- whether the packet of a number has come
+-- the packet with a number has come
 abbrev pub has_come : ℕ → List ℕ → ℕ → Bool
 has_come first later number = first == number || list_any (λ come. come == number) later
 
--- The place of the packet of a number that comes next. Ahead of all others it tells how many numbers it passes over. Else it repeats
--- one that has come, or it comes late: it was passed over, or it lies before the stream's first packet.
+-- The place of the packet that comes next, by its number. If it is ahead of all others, the place says how many numbers it
+-- skips. Otherwise it repeats a packet that has come, or it is late (its number was skipped), or it is from before the stream's
+-- first packet.
 abbrev pub place_of : ℕ → List ℕ → ℕ → Place
 place_of first later number =
     if nat_lt (greatest first later) number then Ahead (number - greatest first later - 1) else
     if has_come first later number then Repeat else
     if nat_lt number first then Early else Late
 
--- how many of so many numbers, from the first packet's on, have not come
+-- how many of the first `count` numbers, from the first packet's on, have not come
 abbrev pub missing_among : ℕ → List ℕ → ℕ → ℕ
 missing_among first later zero = 0
 missing_among first later (suc count) = missing_among first later count + (if has_come first later (first + count) then 0 else 1)
 
--- how many packets are lost: the numbers from the first packet's up to the greatest that have not come
+-- the number of lost packets: the numbers from the first packet's to the greatest that have not come
 abbrev pub lost : ℕ → List ℕ → ℕ
 lost first later = missing_among first later (greatest first later - first)
 
--- what is lost after a packet in this place: what it passes over more, and one less if it is late
+-- the number of lost packets after a packet at this place: it rises by what the packet skips, and falls by one if the packet is
+-- late
 abbrev pub lost_with : ℕ → Place → ℕ
 lost_with before (Ahead missing) = before + missing
 lost_with before Late = before - 1
 lost_with before Early = before
 lost_with before Repeat = before
 
--- a number of which a sequence number tells the place: at most 192 after the greatest, or one of the 64 up to it
+-- how many packets came whose number had come before
+abbrev pub repeats : ℕ → List ℕ → ℕ
+repeats first [] = 0
+repeats first (number ∷ later) = repeats first later + (if has_come first later number then 1 else 0)
+
+-- how many packets came for the first time, and not ahead of all that had come
+abbrev pub late : ℕ → List ℕ → ℕ
+late first [] = 0
+late first (number ∷ later) = late first later + (if nat_lt (greatest first later) number then 0 else if has_come first later number then 0 else 1)
+
+-- the most numbers in a row that a packet passed over when it came
+abbrev pub most_passed : ℕ → List ℕ → ℕ
+most_passed first [] = 0
+most_passed first (number ∷ later) = max (most_passed first later) (number - greatest first later - 1)
+
+-- a number whose place its sequence number shows: at most 192 after the greatest, or one of the 64 up to it
 pub record Follows (first : ℕ) (later : List ℕ) (number : ℕ) : Type 0 where
   pub most : number ≤ greatest first later + 192
   pub least : greatest first later < number + 64
@@ -54,14 +73,27 @@ pub record Passes (first : ℕ) (later : List ℕ) (number : ℕ) : Type 0 where
   pub ahead : greatest first later < number
   pub most : number ≤ greatest first later + 256
 
--- a number that is so far before the greatest, and one of the 64 up to it
+-- a number this far before the greatest, and one of the 64 up to it
 pub record Returns (first : ℕ) (later : List ℕ) (number behind : ℕ) : Type 0 where
   pub place : number + behind ≡ greatest first later
   pub near : behind < 64
 
--- A window tells of a stream's packets: its newest number is the greatest modulo 256, of the 64 up to that it knows which have come, and
--- how far before it the first one is.
+-- A window describes a stream's packets: its newest number is the greatest modulo 256; it knows which of the 64 numbers up to
+-- that have come, and how far before it the first one is.
 pub record StandsFor (window : Window) (first : ℕ) (later : List ℕ) : Type 0 where
   pub newest : window.newest ≡ greatest first later % 256
   pub came : (number behind : ℕ) → Returns first later number behind → (bit_at window.came behind == 1) ≡ has_come first later number
   pub begin : window.begin ≡ min 64 (greatest first later - first)
+
+-- the packets and their numbers are few enough to be counted in 64 bits
+pub record Few (first : ℕ) (later : List ℕ) : Type 0 where
+  pub numbers : greatest first later < 2 ^ 64
+  pub packets : length later < 2 ^ 64
+
+-- What is counted of a stream's packets: how many are lost, were repeated and came late, and the most that were passed over at once.
+pub record CountsOf (order : Order) (first : ℕ) (later : List ℕ) : Type 0 where
+  pub window : StandsFor order.window first later
+  pub lost : order.lost.count ≡ lost first later
+  pub most_lost : order.most_lost ≡ most_passed first later
+  pub repeated : order.repeated.count ≡ repeats first later
+  pub late : order.late.count ≡ late first later

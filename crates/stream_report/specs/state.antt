@@ -1,2 +1,4 @@
 -- Kept for proofs alone: no clause of a public call rests on what lies here.
 pub mod Bits
+pub mod Places
+pub mod Orders

@@ -19,14 +19,14 @@ pub enum Format {
         depth: u8,
         sparse: bool,
     },
-    /// AM824 blocks of IEC 61883-6 and the quadlets of each. A packet without data tells no rate.
+    /// AM824 blocks of IEC 61883-6 and the quadlets of each. A packet without data has no rate.
     Iec {
         rate: Option<u32>,
         quadlets: u16,
     },
     /// H.264.
     H264,
-    /// A media clock: the type of its events, its base frequency and the code of its factor, the events between two timestamps
+    /// A media clock: the type of its events, its base frequency, the code of its factor, the events between two timestamps,
     /// and the timestamps of a packet.
     Crf {
         kind: u8,
@@ -35,7 +35,7 @@ pub enum Format {
         interval: u16,
         points: u32,
     },
-    /// No packet was read yet: those that came were refused.
+    /// Unknown, because no packet was accepted yet.
     Unknown,
 }
 
@@ -44,7 +44,7 @@ pub enum Format {
 pub struct Labels {
     /// Those other than 0x40.
     pub other: u32,
-    /// Those that IEC 61883-6 keeps for later, and the first of them.
+    /// The number of those that IEC 61883-6 reserves, and the first of them.
     pub reserved: u32,
     pub first_reserved: u8,
 }
@@ -54,7 +54,7 @@ pub struct Labels {
 pub struct Facts {
     pub format: Format,
     pub rate: Option<Rate>,
-    /// Its sample frames, data blocks, or events of a media clock; 0 for H.264.
+    /// The number of its sample frames, data blocks, or events of a media clock; 0 for H.264.
     pub count: u32,
     /// The event that its timestamp belongs to, counted from its first.
     pub anchor: u32,
@@ -164,7 +164,7 @@ fn first_point(view: &CrfView<'_>) -> Option<Stamp> {
 }
 
 impl Labels {
-    /// Counts one more label, unless it is 0x40.
+    /// Counts one more label if it is not 0x40.
     fn note(&mut self, label: u8) {
         if label == PLAIN_LABEL {
             return;
@@ -179,7 +179,7 @@ impl Labels {
     }
 }
 
-/// The labels of quadlets, one after the other.
+/// Counts the labels of successive quadlets.
 fn labels_in(quadlets: &[u8]) -> Labels {
     let mut labels = NO_LABELS;
     for quadlet in quadlets.chunks_exact(4) {
@@ -198,7 +198,7 @@ fn is_reserved_label(label: u8) -> bool {
     matches!(label, 0x44..=0x47 | 0x5c..=0x7f | 0x84..=0x87 | 0x90..=0xbf | 0xf0..=0xff)
 }
 
-/// What a subtype of AVTP is called (IEEE 1722-2016, table 6).
+/// The name of a subtype of AVTP (IEEE 1722-2016, table 6).
 pub fn subtype_name(code: u8) -> Option<&'static str> {
     Some(match code {
         subtype::IEC_61883 => "iec",

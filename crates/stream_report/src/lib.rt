@@ -1,8 +1,9 @@
-//! What is counted of each AVTP stream of a capture, and what is wrong with it.
+//! What is counted for each AVTP stream of a capture, and what is wrong with it.
 #![tactic(auto)]
 
 mod facts;
 mod limits;
+mod order;
 mod others;
 mod pace;
 mod rate;
@@ -16,9 +17,10 @@ mod verdict;
 mod verdicts;
 
 pub use facts::{Facts, Format, Labels, aaf_facts, crf_facts, h264_facts, iec_facts, subtype_name};
+pub use order::Order;
 pub use others::{Other, OtherCount, Others, other_frame, unread_format};
 pub use pace::{Advance, Miss, Misses, Pace, Stamp, Stamped};
-pub use rate::Rate;
+pub use rate::{Beat, Rate};
 pub use sequence::{Place, Window, places_tell_what_is_lost};
 pub use spread::Spread;
 pub use stream::{FieldCount, Noted, Sender, Stream, StreamKey};

@@ -1,4 +1,4 @@
-//! What else a capture holds, by name and number.
+//! What else a capture holds, with names and numbers.
 
 use crate::facts::subtype_name;
 use avtp_base::{Field, NoMemory};
@@ -6,7 +6,7 @@ use pcap_frames::FrameView;
 use std::alloc::Global;
 use std::fmt;
 
-/// Something that is no packet of a stream that is read.
+/// Something that is not a packet of a stream that is read.
 #[derive(Clone, Copy, PartialEq, Eq)]
 pub enum Other {
     /// A frame of another EtherType.
@@ -17,17 +17,17 @@ pub enum Other {
     TwoTags,
     /// An AVTP packet of a subtype that is not read.
     Subtype(u8),
-    /// An AAF packet of AES3, or of a format of the user's.
+    /// An AAF packet of AES3 or of a user-specified format.
     AafFormat(u8),
     /// A CVF packet of a format other than H.264, by its two codes.
     CvfFormat { format: u8, subtype: u8 },
-    /// An IEC 61883 packet of another part than 6, by its code FMT.
+    /// An IEC 61883 packet of a part other than 6, by its code FMT.
     IecFormat(u8),
     /// A stream packet whose stream id is not valid.
     NoStream(u8),
-    /// A frame that is cut off, or an AVTP packet that is refused and tells no stream.
+    /// A frame that is cut off, or an AVTP packet that is refused before its stream is known.
     Malformed(Field),
-    /// A packet of a stream after the first 1,024.
+    /// A packet of a stream after the first 1,024 streams.
     Untracked,
 }
 
@@ -38,15 +38,15 @@ pub struct OtherCount {
     pub count: u64,
 }
 
-/// What was seen. At most 256 kinds are told apart.
+/// What was seen. At most 256 kinds are counted apart.
 #[derive(Drop)]
 pub struct Others {
     pub counts: Vec<OtherCount>,
-    /// What was seen of further kinds.
+    /// The number of frames of further kinds.
     pub further: u64,
 }
 
-/// The most kinds that are told apart.
+/// The most kinds that are counted apart.
 const MOST_KINDS: usize = 256;
 
 impl Others {
@@ -89,10 +89,10 @@ const STREAM_PORT: u16 = 17220;
 
 const CONTROL_PORT: u16 = 17221;
 
-/// The number of UDP in IP.
+/// The protocol number of UDP in IP.
 const UDP: u8 = 17;
 
-/// What a frame is that holds no AVTP packet right after its header.
+/// What a frame is that has no AVTP packet directly after its header.
 pub fn other_frame(frame: &FrameView<'_>) -> Other {
     match frame.ethertype {
         SERVICE_TAG | OLD_SERVICE_TAG | CUSTOMER_TAG => Other::TwoTags,
@@ -126,7 +126,7 @@ fn is_avtp_port(port: u16) -> bool {
 /// The code of IEC 61883-6 in FMT.
 const AM824: u8 = 0x10;
 
-/// What a refused packet is, where it is of a format that is not read and not malformed. It has this subtype.
+/// What a refused packet of this subtype is, if it is of a format that is not read, rather than malformed.
 pub fn unread_format(subtype: u8, field: Field, pdu: &[u8]) -> Option<Other> {
     match field {
         Field::Format => Some(Other::AafFormat(byte_at(pdu, 16))),
@@ -141,7 +141,8 @@ pub fn unread_format(subtype: u8, field: Field, pdu: &[u8]) -> Option<Other> {
     }
 }
 
-/// Whether an IEC 61883 packet is of another part than 6: its header is whole, and it was refused at what differs between parts.
+/// Whether an IEC 61883 packet is of a part other than 6: its header is whole, and it was refused at a field that differs
+/// between parts.
 fn is_other_part(field: Field, pdu: &[u8]) -> bool {
     let differs = matches!(field, Field::FnBits | Field::Qpc | Field::Sph | Field::Fmt);
     differs && pdu.len() >= 32 && byte_at(pdu, 28) % 64 != AM824

@@ -1,16 +1,16 @@
 //! Whether the timestamps of a stream advance as its packets do.
 
-use crate::rate::Rate;
+use crate::rate::Beat;
 use crate::tally::At;
 
-/// A timestamp may be off by this part of its packet's time, and by this part of the time since the one before: a talker rounds,
-/// and its media clock is not of nominal speed.
+/// A timestamp may be off by this part of its packet's time, and by this part of the time since the one before, because a
+/// talker rounds and its media clock is not exactly at its nominal speed.
 const PART_OF_PACKET: u64 = 8;
 
 const PART_OF_ADVANCE: u64 = 1024;
 
-/// Of a stream without a rate, whose packets share a timestamp or follow at a distance that is not told, this is the most that
-/// timestamps may advance by, in nanoseconds.
+/// The most, in nanoseconds, that timestamps may advance by in a stream without a rate, whose packets share a timestamp or
+/// follow at an unknown distance.
 const MOST_ADVANCE: i64 = 1_000_000_000;
 
 /// A timestamp of 32 or 64 bits.
@@ -23,7 +23,7 @@ pub enum Stamp {
 }
 
 impl Stamp {
-    /// How far it is from another, modulo 2^32 or 2^64.
+    /// How far it is from another timestamp, modulo 2^32 or 2^64.
     fn since(self, other: Stamp) -> i64 {
         match (self, other) {
             (Stamp::Short(now), Stamp::Short(then)) => {
@@ -34,7 +34,7 @@ impl Stamp {
         }
     }
 
-    /// The same with its bytes in the other order.
+    /// This timestamp with its bytes in the reverse order.
     fn swapped(self) -> Stamp {
         match self {
             Stamp::Short(stamp) => Stamp::Short(stamp.swap_bytes()),
@@ -42,7 +42,7 @@ impl Stamp {
         }
     }
 
-    /// A difference of two leads, the nearest to 0 of those that it may be.
+    /// A difference of two leads: of the values that it may have, the nearest to 0.
     pub fn wrapped(self, difference: i64) -> i64 {
         match self {
             Stamp::Short(_) => {
@@ -53,7 +53,7 @@ impl Stamp {
         }
     }
 
-    /// How long after an arrival it lies, modulo 2^32 or 2^64.
+    /// How long after an arrival it is, modulo 2^32 or 2^64.
     pub fn lead(self, arrival: i64) -> i64 {
         let arrival = arrival.cast_unsigned();
         match self {
@@ -71,11 +71,11 @@ impl Stamp {
 pub struct Stamped {
     pub at: At,
     pub stamp: Stamp,
-    /// The number of its first event in the stream, missing packets counted as well.
+    /// The number of its first event in the stream, without the events of missing packets.
     pub first: u64,
-    /// The event, counted from its first, that the timestamp belongs to by the standard.
+    /// The event that the timestamp belongs to by the standard, counted from the packet's first.
     pub anchor: u32,
-    /// Its events.
+    /// The number of its events.
     pub count: u32,
 }
 
@@ -117,20 +117,20 @@ impl Misses {
     }
 }
 
-/// How the timestamps of a stream advance: as they stand, and with their bytes swapped.
+/// How the timestamps of a stream advance: unchanged, and with their bytes swapped.
 #[derive(Clone, Copy)]
 pub struct Pace {
     last: Option<Stamped>,
-    /// How many timestamps were compared with the one before.
+    /// The number of timestamps that were compared with the one before.
     pub compared: u64,
-    /// By the event that a timestamp belongs to by the standard.
+    /// The misses if each timestamp belongs to the event that the standard says.
     pub by_anchor: Misses,
-    /// By the first event of each packet, as some talkers stamp.
+    /// The misses if each timestamp belongs to the packet's first event, as some talkers stamp.
     pub by_first: Misses,
-    /// Like `by_anchor` and `by_first`, with swapped bytes.
+    /// Like `by_anchor` and `by_first`, with swapped bytes, of the timestamps that miss as they stand.
     pub swapped_by_anchor: Misses,
     pub swapped_by_first: Misses,
-    /// Over timestamps that advanced as they should: the time by the nominal rate, and by the timestamps.
+    /// The time that passed over the timestamps that advanced as they should: by the nominal rate, and by the timestamps.
     pub nominal: u64,
     pub told: u64,
 }
@@ -138,7 +138,7 @@ pub struct Pace {
 /// How a timestamp compares with the one before.
 #[derive(Clone, Copy, PartialEq, Eq)]
 pub enum Advance {
-    /// It was the first, or not to be compared.
+    /// It was the first, or could not be compared.
     Begun,
     /// It advanced as it should.
     Even,
@@ -158,30 +158,33 @@ impl Pace {
         told: 0,
     };
 
-    /// The next timestamp is not compared with those before, as after a restart of the media clock.
+    /// The next timestamp is not compared with earlier ones, as after a restart of the media clock.
     pub fn restart(&mut self) {
         self.last = None;
     }
 
-    /// The misses of the better reading of the timestamps as they stand.
+    /// The misses of the better reading of the timestamps, unchanged.
     pub fn misses(&self) -> &Misses {
         better(&self.by_anchor, &self.by_first)
     }
 
-    /// The same, were their bytes swapped.
+    /// The misses of the better reading if the bytes of each timestamp are swapped.
     pub fn swapped_misses(&self) -> &Misses {
         better(&self.swapped_by_anchor, &self.swapped_by_first)
     }
 
-    /// By how much the first timestamp that missed should have advanced, in the reading of which fewer would miss were their
-    /// bytes swapped.
+    /// By how much the first timestamp that missed should have advanced, in the reading that has fewer misses if the bytes are
+    /// swapped.
     pub fn wanted(&self) -> u64 {
         let misses = if self.swapped_by_first.count < self.swapped_by_anchor.count {
             &self.by_first
         } else {
             &self.by_anchor
         };
-        misses.first.map_or(0, |miss| miss.wanted)
+        match misses.first {
+            Some(miss) => miss.wanted,
+            None => 0,
+        }
     }
 
     /// By how many parts of 10^9 the media runs faster than nominal, by the timestamps.
@@ -192,51 +195,53 @@ impl Pace {
             .checked_div(i128::from(self.told))
     }
 
-    /// Notes a timestamp that follows the one that was noted before.
-    pub fn note(&mut self, stamped: Stamped, rate: Option<Rate>) -> Advance {
+    /// Notes a timestamp, after the one that was noted before.
+    pub fn note(&mut self, stamped: Stamped, beat: Option<Beat>) -> Advance {
         let Some(last) = self.last.replace(stamped) else {
             return Advance::Begun;
         };
         let is_first = self.compared == 0;
         self.compared = self.compared.saturating_add(1);
-        let Some(rate) = rate else {
+        let Some(beat) = beat else {
             return self.note_unpaced(last, stamped, is_first);
         };
-        let slack = rate.time_of(u64::from(last.count)) / PART_OF_PACKET;
+        let slack = beat.time_of(u64::from(last.count)) / PART_OF_PACKET;
         let events = stamped.first.saturating_sub(last.first);
-        let by_first = rate.time_of(events);
-        let by_anchor = rate.time_of(
+        let by_first = beat.time_of(events);
+        let by_anchor = beat.time_of(
             events
                 .saturating_add(u64::from(stamped.anchor))
                 .saturating_sub(u64::from(last.anchor)),
         );
         let plain = stamped.stamp.since(last.stamp);
-        let swapped = stamped.stamp.swapped().since(last.stamp.swapped());
         let even = self
             .by_anchor
             .compare(stamped.at, by_anchor, plain, slack, is_first);
         let even_first = self
             .by_first
             .compare(stamped.at, by_first, plain, slack, is_first);
+        if even || even_first {
+            let wanted = if even { by_anchor } else { by_first };
+            self.nominal = self.nominal.saturating_add(wanted);
+            self.told = self.told.saturating_add(plain.unsigned_abs());
+            return Advance::Even;
+        }
+        let swapped = stamped.stamp.swapped().since(last.stamp.swapped());
         let _ = self
             .swapped_by_anchor
             .compare(stamped.at, by_anchor, swapped, slack, is_first);
         let _ = self
             .swapped_by_first
             .compare(stamped.at, by_first, swapped, slack, is_first);
-        if even || even_first {
-            let wanted = if even { by_anchor } else { by_first };
-            self.nominal = self.nominal.saturating_add(wanted);
-            self.told = self.told.saturating_add(plain.unsigned_abs());
-            Advance::Even
-        } else {
-            Advance::Missed
-        }
+        Advance::Missed
     }
 
-    /// Notes a timestamp of a stream without a rate: it may stay or advance, and not by too much.
+    /// Notes a timestamp of a stream without a rate: it may stay, or advance by a limited amount.
     fn note_unpaced(&mut self, last: Stamped, stamped: Stamped, is_first: bool) -> Advance {
         let plain = stamped.stamp.since(last.stamp);
+        if is_advance(plain) {
+            return Advance::Even;
+        }
         let swapped = stamped.stamp.swapped().since(last.stamp.swapped());
         if !is_advance(swapped) {
             let miss = Miss {
@@ -246,9 +251,6 @@ impl Pace {
             };
             self.swapped_by_anchor.note(miss, is_first);
             self.swapped_by_first.note(miss, is_first);
-        }
-        if is_advance(plain) {
-            return Advance::Even;
         }
         let miss = Miss {
             at: stamped.at,

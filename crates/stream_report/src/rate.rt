@@ -1,4 +1,4 @@
-//! How many events a second a stream tells, and how long they take.
+//! The number of events a second in a stream, and how long they take.
 
 /// Events a second, as a fraction: sample frames, data blocks or events of a media clock.
 #[derive(Clone, Copy)]
@@ -11,7 +11,7 @@ pub struct Rate {
 const SECOND: u64 = 1_000_000_000;
 
 impl Rate {
-    /// So many events each second.
+    /// This many events each second.
     pub fn of(events: u32) -> Rate {
         Rate {
             events: u64::from(events),
@@ -19,8 +19,8 @@ impl Rate {
         }
     }
 
-    /// The rate of a media clock, whose base frequency is multiplied by the factor that the code `pull` names (IEEE
-    /// 1722-2016, 10.4.11). `None` comes for a reserved code.
+    /// The rate of a media clock: its base frequency multiplied by the factor of the code `pull` (IEEE 1722-2016, 10.4.11).
+    /// `None` for a reserved code.
     pub fn of_clock(base: u32, pull: u8) -> Option<Rate> {
         let (up, down) = match pull {
             0 => (1, 1),
@@ -46,5 +46,36 @@ impl Rate {
         let product = u128::from(events).saturating_mul(u128::from(nanoseconds));
         let time = product.checked_div(u128::from(self.events)).unwrap_or(0);
         u64::try_from(time).unwrap_or(u64::MAX)
+    }
+}
+
+/// A rate, and the time of as many events as a packet mostly has: it is not divided anew for each packet.
+#[derive(Clone, Copy)]
+pub struct Beat {
+    pub rate: Rate,
+    events: u64,
+    time: u64,
+}
+
+impl Beat {
+    /// The beat of packets that mostly have so many events.
+    pub fn new(rate: Rate, events: u32) -> Beat {
+        let events = u64::from(events);
+        Beat {
+            rate,
+            events,
+            time: rate.time_of(events),
+        }
+    }
+
+    /// The duration of a number of events in nanoseconds, as the rate has it.
+    pub fn time_of(self, events: u64) -> u64 {
+        if events == self.events {
+            self.time
+        } else if events == 0 {
+            0
+        } else {
+            self.rate.time_of(events)
+        }
     }
 }

@@ -5,32 +5,33 @@ ghost use Rattle.std.specs.Int.{bit_at};
 ghost use Rattle.stream_report.specs.Sequence.{Follows, Passes, Returns, StandsFor, ahead_of, greatest, lost, lost_with, place_of};
 ghost use Rattle.stream_report.specs.state.Bits.{Moves, Marks};
 
-/// A sequence number this far ahead or less is one that follows; one further is one that came before.
+/// A sequence number that is at most this far ahead of the newest is a later packet's; one that is further ahead is an earlier
+/// one's.
 const FARTHEST: u8 = 192;
 
-/// The packets before the newest of which it is known whether they have come, and the newest itself.
+/// The number of packets, up to and including the newest, of which the window knows whether they have come.
 const KNOWN: u64 = 64;
 
 /// The newest sequence number of a stream, and which of the 64 up to it have come.
 #[derive(Clone, Copy)]
 pub struct Window {
     newest: u8,
-    /// Bit `i` is set where the number `i` before the newest has come.
+    /// Bit `i` is set if the number `i` before the newest has come.
     came: u64,
-    /// How far before the newest number the first one is, counted up to 64.
+    /// How far before the newest number the first one is, at most 64.
     begin: u64,
 }
 
 /// The place of a packet.
 #[derive(Clone, Copy)]
 pub enum Place {
-    /// Right after the newest packet, or ahead of it with packets missing between.
+    /// Directly after the newest packet, or further ahead, with packets missing between.
     Ahead { missing: u8 },
-    /// Between the first packet and the newest, where none had come: it is late, and was counted as missing.
+    /// Between the first packet and the newest, with a number that had not come: it is late, and was counted as missing.
     Late,
-    /// Before the first packet, where none had come: it is late, and was not counted as missing.
+    /// Before the first packet, with a number that had not come: it is late, and was not counted as missing.
     Early,
-    /// Where one has come already.
+    /// With a number that has come already.
     Repeat,
 }
 
@@ -60,7 +61,7 @@ impl Window {
         self.place_behind(self.newest.wrapping_sub(seq))
     }
 
-    /// The place of a packet so far behind the newest.
+    /// The place of a packet this far before the newest.
     fn place_behind(&self, behind: u8) -> Place
         ensures place { (first : ℕ) → (later : List ℕ) → (number : ℕ) → StandsFor self.now first later → Returns first later number behind
             → result ≡ place_of first later number }
@@ -74,7 +75,7 @@ impl Window {
         }
     }
 
-    /// Whether the number so far behind the newest has come.
+    /// Whether the number this far before the newest has come.
     fn has_come(&self, behind: u8) -> bool
         ensures { behind < 64 → result ≡ (bit_at self.now.came behind == 1) }
     {
@@ -99,7 +100,7 @@ impl Window {
         self.newest = seq;
     }
 
-    /// Notes a packet that came late, or once more.
+    /// Notes a packet that came late, or again.
     pub fn fill(&mut self, seq: u8)
         ensures stands { (first : ℕ) → (later : List ℕ) → (number : ℕ) → StandsFor self.old first later → Follows first later number
             → number ≤ greatest first later → number % 256 ≡ seq → StandsFor self.new first (number ∷ later) }
@@ -108,21 +109,21 @@ impl Window {
     }
 }
 
-/// A law: where each place is counted as it comes, the count is at any time that of the packets which are lost, so those that
-/// came later, or twice, do not count.
+/// A law: if each packet is counted by its place as it comes, the count is always the number of lost packets. Packets that came
+/// late or twice are not in it.
 pub fn places_tell_what_is_lost()
     ensures { (first : ℕ) → (later : List ℕ) → (number : ℕ)
         → lost first (number ∷ later) ≡ lost_with (lost first later) (place_of first later number) }
 {}
 
-/// The bits of what has come, when the newest number is one that is so far ahead.
+/// The bits of what has come, after a packet this far ahead of the newest.
 fn moved(came: u64, ahead: u64) -> u64
     ensures { 1 ≤ ahead → Moves came ahead result }
 {
     if ahead < KNOWN { came << ahead | 1 } else { 1 }
 }
 
-/// The bits of what has come, and of the number so far behind the newest.
+/// The bits of what has come, after the packet with the number this far before the newest.
 fn marked(came: u64, behind: u8) -> u64
     ensures { behind < 64 → Marks came behind result }
 {

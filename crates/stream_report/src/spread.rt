@@ -1,20 +1,22 @@
-//! How values spread: the least, the greatest, and percentiles from a histogram.
+//! The spread of values: the least, the greatest, and percentiles from a histogram.
 
-ghost use Rattle.std.specs.Prelude.{◌≡◌, ◌≤ℤ◌, ◌↔◌, IsNone, IfSome};
+ghost use Rattle.std.specs.Prelude.{◌≡◌, ◌≤ℤ◌, ◌<◌, ◌≤◌, ◌^◌, ◌+◌, ◌-◌, ◌*◌, ◌-ℤ◌, pos, ◌↔◌, IsNone, IfSome, OnOk, IfOk, ℤ, List, [], ◌∷◌, length, get_or, set, min};
+ghost use Rattle.stream_report.specs.Spreads.{NearestRank, RoundedUp, TellsOf, edge, first_in, most_values, rank, side};
+ghost use Rattle.stream_report.specs.state.Places.{HasPlace, InBucket, Reaches};
 
 use avtp_base::NoMemory;
 use std::alloc::Global;
 
-/// The bits of a value that a bucket keeps: a bucket is at most a 64th of its values wide.
-const BITS: u32 = 6;
+/// The buckets of one sign: one for each of the first 64 magnitudes, and 64 for each power of two from 2^6 to 2^62.
+const SIDE: usize = 58 * 64;
 
-/// The buckets of one sign: for each value below 64 one, and 64 for each power of two up to 2^63.
-const SIDE: usize = 58 * 64 + 64;
+/// The magnitudes below this have a bucket each.
+const NARROW: u64 = 128;
 
-/// How many values fell where. A value's bucket is at most a 64th of its magnitude wide, so a percentile is exact to 1.6 %.
+/// The number of values in each bucket. A bucket's width is at most a 64th of its values, so a percentile is exact to 1.6 %.
 #[derive(Drop)]
 pub struct Spread {
-    /// First those below 0, from the lowest on, then the others.
+    /// First those of negative values, from the lowest on, then the others.
     counts: Vec<u32>,
     pub count: u64,
     pub least: i64,
@@ -22,57 +24,72 @@ pub struct Spread {
 }
 
 /// The bucket of a magnitude.
-fn bucket_of(magnitude: u64) -> usize {
-    let octave = magnitude.checked_ilog2().unwrap_or(0);
-    let shift = octave.saturating_sub(BITS);
-    let top = magnitude.checked_shr(shift).unwrap_or(0);
-    let bucket = u64::from(shift).saturating_mul(64).saturating_add(top);
-    usize::try_from(bucket).unwrap_or(0)
-}
-
-/// The greatest magnitude of a bucket.
-fn greatest_in(bucket: usize) -> u64 {
-    let bucket = bucket as u64;
-    let shift = (bucket / 64).saturating_sub(1);
-    let top = bucket.saturating_sub(shift.saturating_mul(64));
-    let shift = u32::try_from(shift).unwrap_or(0);
-    let width = 1u64.checked_shl(shift).unwrap_or(u64::MAX);
-    width
-        .saturating_mul(top)
-        .saturating_add(width.saturating_sub(1))
+fn bucket_of(magnitude: u64) -> usize
+    requires { magnitude < 2 ^ 63 }
+    ensures { InBucket magnitude result }
+{
+    if magnitude < NARROW {
+        return magnitude as usize;
+    }
+    let shift = magnitude.ilog2() - 6;
+    64 * shift as usize + (magnitude >> shift) as usize
 }
 
 /// The least magnitude of a bucket.
-fn least_in(bucket: usize) -> u64 {
-    match bucket.checked_sub(1) {
-        Some(before) => greatest_in(before).saturating_add(1),
-        None => 0,
-    }
+fn first_in(bucket: usize) -> u64
+    requires { bucket ≤ side }
+    ensures { result ≡ first_in bucket }
+{
+    let shift = (bucket / 64).saturating_sub(1);
+    ((bucket - 64 * shift) as u64) << shift
 }
 
 /// The place of a value's bucket among all.
-fn place_of(value: i64) -> usize {
+fn place_of(value: i64) -> usize
+    ensures { HasPlace value result }
+{
     if value < 0 {
-        let magnitude = value.unsigned_abs().saturating_sub(1);
-        (SIDE - 1).saturating_sub(bucket_of(magnitude))
+        SIDE - 1 - bucket_of(value.unsigned_abs() - 1)
     } else {
-        SIDE.saturating_add(bucket_of(value.unsigned_abs()))
+        SIDE + bucket_of(value.unsigned_abs())
+    }
+}
+
+/// Counts one more at a place.
+fn count_at(counts: &mut Vec<u32>, place: usize)
+    ensures { counts.new.items ≡ set counts.old.items place (min (get_or counts.old.items place 0 + 1) (2 ^ 32 - 1)) }
+{
+    if place < counts.len() {
+        counts[place] = counts[place].saturating_add(1);
     }
 }
 
 /// The greatest value of the bucket at a place.
-fn greatest_at(place: usize) -> i64 {
+fn last_at(place: usize) -> i64
+    requires { place < 2 * side }
+    ensures { result ≡ edge (place + 1) -ℤ pos 1 }
+{
     if place < SIDE {
-        let least = least_in((SIDE - 1).saturating_sub(place)).saturating_add(1);
-        i64::try_from(least).map_or(i64::MIN, |least| least.saturating_neg())
+        -1 - first_in(SIDE - 1 - place) as i64
     } else {
-        i64::try_from(greatest_in(place.saturating_sub(SIDE))).unwrap_or(i64::MAX)
+        (first_in(place + 1 - SIDE) - 1) as i64
     }
 }
 
+/// The rank of a percentile of so many values.
+fn rank_of(count: u64, hundredths: u64) -> u128
+    ensures { result ≡ rank count hundredths }
+{
+    (u128::from(count) * u128::from(hundredths))
+        .div_ceil(100)
+        .max(1)
+}
+
 impl Spread {
-    /// No values yet. It takes its memory here, and no more later.
-    pub fn new(alloc: Global) -> Result<Self, NoMemory> {
+    /// No values yet. It allocates its memory here, and none later.
+    pub fn new(alloc: Global) -> Result<Self, NoMemory>
+        ensures { IfOk result (λ spread. TellsOf spread []) }
+    {
         let counts = vec![in alloc; 0u32; 2 * SIDE]?;
         Ok(Spread {
             counts,
@@ -82,34 +99,42 @@ impl Spread {
         })
     }
 
-    pub fn note(&mut self, value: i64) {
-        if let Some(count) = self.counts.get_mut(place_of(value)) {
-            *count = count.saturating_add(1);
-        }
+    /// Notes one more value. Of up to 4,294,967,295 values percentiles are told.
+    pub fn note(&mut self, value: i64)
+        ensures { (values : List ℤ) → TellsOf self.old values → length values < most_values → TellsOf self.new (value ∷ values) }
+    {
+        count_at(&mut self.counts, place_of(value));
         self.count = self.count.saturating_add(1);
         self.least = self.least.min(value);
         self.greatest = self.greatest.max(value);
     }
 
-    /// The percentile, rounded up to the greatest value of its bucket. `None` if no value was noted.
+    /// The nearest-rank percentile, rounded up by at most a 64th of its magnitude. `None` if no value was noted.
     pub fn percentile(&self, hundredths: u64) -> Option<i64>
         ensures none { IsNone result ↔ (self.now.count ≡ 0) }
-        ensures most { IfSome result (λ value. value ≤ℤ self.now.greatest) }
+        ensures told { (values : List ℤ) → TellsOf self.now values → hundredths ≤ 100 → IfSome result (RoundedUp values hundredths) }
     {
         if self.count == 0 {
             return None;
         }
-        let wanted = u128::from(self.count)
-            .saturating_mul(u128::from(hundredths))
-            .div_ceil(100)
-            .max(1);
+        let place = self.place_of_rank(rank_of(self.count, hundredths));
+        Some(last_at(place).max(self.least).min(self.greatest))
+    }
+
+    /// The place of the bucket that holds the value of a rank.
+    fn place_of_rank(&self, rank: u128) -> usize
+        requires { 0 < rank }
+        ensures within { result < 2 * side }
+        ensures reaches { (values : List ℤ) → TellsOf self.now values → rank ≤ length values → Reaches values rank result }
+    {
         let mut below: u128 = 0;
-        for (place, count) in self.counts.iter().enumerate() {
-            below = below.saturating_add(u128::from(*count));
-            if below >= wanted {
-                return Some(greatest_at(place).max(self.least).min(self.greatest));
+        for place in 0..2 * SIDE {
+            let count = self.counts.get(place).copied().unwrap_or(0);
+            below = below.saturating_add(u128::from(count));
+            if below >= rank {
+                return place;
             }
         }
-        Some(self.greatest)
+        place_of(self.greatest)
     }
 }

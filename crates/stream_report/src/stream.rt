@@ -1,10 +1,11 @@
-//! One stream, and what is counted of it.
+//! A stream, and what is counted for it.
 
 use crate::facts::{Facts, Format};
 use crate::limits::{LEAST_STEP, LEAST_UNEVEN};
+use crate::order::Order;
 use crate::pace::{Advance, Pace, Stamp, Stamped};
-use crate::rate::Rate;
-use crate::sequence::{Place, Window};
+use crate::rate::Beat;
+use crate::sequence::Place;
 use crate::spread::Spread;
 use crate::tally::{At, Tally};
 use crate::trace::{Column, Range, Trace};
@@ -21,7 +22,7 @@ pub struct StreamKey {
     pub id: u64,
 }
 
-/// Who sends a stream, and where to: the Ethernet header.
+/// The sender and the destination of a stream, from the Ethernet header.
 #[derive(Clone, Copy, PartialEq, Eq)]
 pub struct Sender {
     /// The source and the destination address, 48 bits each.
@@ -30,7 +31,7 @@ pub struct Sender {
     pub tag: Option<Tag>,
 }
 
-/// A packet of a stream, as it is noted.
+/// A packet of a stream, as it is counted.
 #[derive(Clone, Copy)]
 pub struct Noted {
     pub at: At,
@@ -43,11 +44,11 @@ pub struct Noted {
     pub facts: Facts,
     /// A reserved bit is set.
     pub reserved: bool,
-    /// It has a timestamp where none belongs, or none where one belongs.
+    /// It has a timestamp that it should not have, or lacks one that it should have.
     pub stamp_wrong: bool,
 }
 
-/// How often packets were refused by a field.
+/// The number of packets that were refused by a field.
 #[derive(Clone, Copy)]
 pub struct FieldCount {
     pub field: Field,
@@ -60,47 +61,42 @@ struct Last {
     count: u32,
     dbc: Option<u8>,
     mr: bool,
-    /// For how many packets `mr` has stood, where it came by a change.
+    /// The number of packets since `mr` last changed, if it did.
     held: Option<u64>,
 }
 
-/// A media clock restart is held for at least this many packets (IEEE 1722-2016, 4.4.4).
+/// A media clock restart must last for at least this many packets (IEEE 1722-2016, 4.4.4).
 const LEAST_HOLD: u64 = 8;
 
-/// After this many packets' times without a packet a stream has gone on, whatever its sequence numbers say.
+/// If no packet comes for this many packets' times, the next one is a later one, whatever its sequence number is.
 const LONG_PAUSE: u64 = 64;
 
-/// What is counted of a stream.
+/// What is counted for a stream.
 #[derive(Drop)]
 pub struct Stream {
     pub key: StreamKey,
     pub sender: Sender,
     pub first: At,
     pub format: Format,
-    pub rate: Option<Rate>,
-    /// The events of its first packet that has any.
+    /// The number of events of the first packet that has any.
     pub count: u32,
-    /// The time of that packet by the nominal rate, in nanoseconds; 0 where it is not known.
+    /// The time of that packet by the nominal rate, in nanoseconds; 0 if it is not known.
     pub packet_time: u64,
-    /// Its packets that are not refused.
+    /// The number of its packets that are not refused.
     pub packets: u64,
     /// When the first and the last of these arrived.
     pub first_arrival: i64,
     pub last_arrival: i64,
-    /// Packets that are missing, and the most in a row. It counts at most 191 in a row.
-    pub lost: Tally,
-    pub most_lost: u64,
-    pub repeated: Tally,
-    pub reordered: Tally,
     /// The time from each packet to the next in the capture, in nanoseconds.
     pub distances: Spread,
-    /// Timestamp minus arrival, in nanoseconds: modulo 2^32, from -2^31 on, but of a media clock whole.
+    /// Timestamp minus arrival, in nanoseconds: for a media clock exactly; otherwise modulo 2^32, from -2^31 on.
     pub leads: Spread,
-    /// Of these the ones below 0.
+    /// The leads below 0.
     pub late: Tally,
     pub pace: Pace,
     pub trend: Trend,
-    /// The packets right after the one before whose arrival was compared with that one's time, and those that were uneven.
+    /// The number of packets directly after another whose arrival was compared with that one's time, and the number of uneven
+    /// ones.
     pub compared: u64,
     pub uneven: Tally,
     pub restarts: Tally,
@@ -111,54 +107,61 @@ pub struct Stream {
     pub reserved: Tally,
     /// Block counts that do not continue.
     pub blocks: Tally,
-    /// Quadlets with a label other than 0x40, and those with a label of no meaning.
+    /// Quadlets with a label other than 0x40, and those with a reserved label.
     pub labels: Tally,
     pub reserved_labels: Tally,
     pub first_label: u8,
     pub malformed: Tally,
     pub fields: Vec<FieldCount>,
-    /// Packets of another sender, and of another format, than the first.
+    /// Packets of a sender, and of a format, other than the first packet's.
     pub senders: Tally,
     pub formats: Tally,
     pub trace: Trace,
-    window: Option<Window>,
+    /// None before a packet tells its rate.
+    beat: Option<Beat>,
+    /// None before its first packet that is not refused.
+    order: Option<Order>,
     last: Option<Last>,
-    /// The events of all packets that followed each other before the newest.
+    /// The events of the packets that came in order, before the newest.
     events: u64,
     last_lead: Option<i64>,
 }
 
-/// How a packet follows those before it.
+/// How a packet follows the ones before it.
 #[derive(Clone, Copy, PartialEq, Eq)]
 enum Step {
     First,
     Next,
-    /// So many are missing before it.
+    /// This many packets are missing before it.
     After(u64),
+    /// It came after later ones.
     Late,
-    /// It is from before the stream's first packet, so it was not counted as missing.
-    Early,
     Repeat,
 }
 
+impl Step {
+    /// How many packets are missing before it.
+    fn missing(self) -> u64 {
+        match self {
+            Step::After(missing) => missing,
+            _ => 0,
+        }
+    }
+}
+
 impl Stream {
-    /// A stream of which nothing is counted yet, given its first packet.
+    /// A stream for which nothing is counted yet, given its first packet.
     pub fn new(alloc: Global, key: StreamKey, sender: Sender, first: At) -> Result<Self, NoMemory> {
         Ok(Stream {
             key,
             sender,
             first,
             format: Format::Unknown,
-            rate: None,
             count: 0,
             packet_time: 0,
             packets: 0,
             first_arrival: 0,
             last_arrival: 0,
-            lost: Tally::NONE,
-            most_lost: 0,
-            repeated: Tally::NONE,
-            reordered: Tally::NONE,
             distances: Spread::new(alloc)?,
             leads: Spread::new(alloc)?,
             late: Tally::NONE,
@@ -181,7 +184,8 @@ impl Stream {
             senders: Tally::NONE,
             formats: Tally::NONE,
             trace: Trace::new(alloc),
-            window: None,
+            beat: None,
+            order: None,
             last: None,
             events: 0,
             last_lead: None,
@@ -205,10 +209,9 @@ impl Stream {
     pub fn note(&mut self, noted: &Noted) -> Result<(), NoMemory> {
         let distance = self.note_arrival(noted.arrival);
         self.note_kind(noted);
-        let step = self.step(noted.seq, distance);
-        let lost = self.note_step(noted.at, step);
+        let step = self.note_order(noted, distance);
         if matches!(step, Step::First | Step::Next | Step::After(_)) {
-            self.note_order(noted, step, distance);
+            self.note_next(noted, step, distance);
         }
         let lead = if step == Step::Repeat {
             None
@@ -219,12 +222,12 @@ impl Stream {
             slot: 0,
             lead: lead.map(Range::of),
             distance: distance.map(Range::of),
-            lost,
+            lost: step.missing(),
         };
         self.trace.note(noted.since, column)
     }
 
-    /// Counts its arrival, and answers how long it came after the packet before.
+    /// Counts its arrival. Returns how long after the packet before it came.
     fn note_arrival(&mut self, arrival: i64) -> Option<i64> {
         let before = self.last_arrival;
         self.last_arrival = arrival;
@@ -238,7 +241,7 @@ impl Stream {
         Some(distance)
     }
 
-    /// Counts what is told of a packet by itself.
+    /// Counts what a packet shows by itself.
     fn note_kind(&mut self, noted: &Noted) {
         let at = noted.at;
         if noted.sender != self.sender {
@@ -268,78 +271,68 @@ impl Stream {
 
     /// Keeps the rate and the events of the first packet that has them.
     fn note_time(&mut self, facts: &Facts) {
-        if self.rate.is_none() {
-            self.rate = facts.rate;
-        }
         if self.count == 0 {
             self.count = facts.count;
         }
-        if let Some(rate) = self.rate {
+        let rate = match self.beat {
+            Some(beat) => Some(beat.rate),
+            None => facts.rate,
+        };
+        if let Some(rate) = rate {
+            self.beat = Some(Beat::new(rate, self.count));
             self.packet_time = rate.time_of(u64::from(self.count));
         }
     }
 
-    /// How a packet with this number follows those before, and the number is noted.
-    fn step(&mut self, seq: u8, distance: Option<i64>) -> Step {
+    /// What is counted by sequence numbers: nothing before the first packet.
+    fn counted(&self) -> Order {
+        match self.order {
+            Some(order) => order,
+            None => Order::first(0),
+        }
+    }
+
+    /// Packets that are missing. At most 191 in a row are told from packets that came before, unless the stream paused.
+    pub fn lost(&self) -> Tally {
+        self.counted().lost
+    }
+
+    /// The most packets that are missing in a row.
+    pub fn most_lost(&self) -> u64 {
+        self.counted().most_lost
+    }
+
+    /// Packets that came more than once.
+    pub fn repeated(&self) -> Tally {
+        self.counted().repeated
+    }
+
+    /// Packets that came after later ones.
+    pub fn reordered(&self) -> Tally {
+        self.counted().late
+    }
+
+    /// Counts a packet by its sequence number, and answers how it follows those before.
+    fn note_order(&mut self, noted: &Noted, distance: Option<i64>) -> Step {
         let pause = self.packet_time.saturating_mul(LONG_PAUSE);
-        let Some(window) = &mut self.window else {
-            self.window = Some(Window::first(seq));
+        let paused = pause > 0 && distance.unwrap_or(0).unsigned_abs() >= pause;
+        let Some(order) = &mut self.order else {
+            self.order = Some(Order::first(noted.seq));
             return Step::First;
         };
-        let paused = pause > 0 && distance.unwrap_or(0).unsigned_abs() >= pause;
-        match window.place(seq) {
-            Place::Ahead { missing } => {
-                window.pass(seq);
-                after(u64::from(missing))
-            }
-            _ if paused => {
-                let missing = window.ahead(seq).saturating_sub(1);
-                window.pass(seq);
-                after(missing)
-            }
-            Place::Late => {
-                window.fill(seq);
-                Step::Late
-            }
-            Place::Early => {
-                window.fill(seq);
-                Step::Early
-            }
+        if paused {
+            return after(order.resume(noted.seq, noted.at));
+        }
+        match order.note(noted.seq, noted.at) {
+            Place::Ahead { missing } => after(u64::from(missing)),
+            Place::Late | Place::Early => Step::Late,
             Place::Repeat => Step::Repeat,
         }
     }
 
-    /// Counts losses, repeats and disorder, and answers how many are missing before this packet.
-    fn note_step(&mut self, at: At, step: Step) -> u64 {
-        match step {
-            Step::First | Step::Next => 0,
-            Step::After(missing) => {
-                self.lost.add(missing, at);
-                self.most_lost = self.most_lost.max(missing);
-                missing
-            }
-            Step::Late => {
-                self.lost.take_back();
-                self.reordered.note(at);
-                0
-            }
-            Step::Early => {
-                self.reordered.note(at);
-                0
-            }
-            Step::Repeat => {
-                self.repeated.note(at);
-                0
-            }
-        }
-    }
-
-    /// Counts what is told of a packet and the one before it in the stream.
-    fn note_order(&mut self, noted: &Noted, step: Step, distance: Option<i64>) {
-        let missing = match step {
-            Step::After(missing) => missing,
-            _ => 0,
-        };
+    /// Counts what a packet shows together with the one before it in the stream.
+    fn note_next(&mut self, noted: &Noted, step: Step, distance: Option<i64>) {
+        let missing = step.missing();
         let last = self.last;
         let restarted = self.note_restart(noted, last, missing);
         let steady = self.note_block_count(noted, last, step);
@@ -357,7 +350,7 @@ impl Stream {
         }
     }
 
-    /// Counts a restart of the media clock, and keeps the packet as the last. Answers whether it is one.
+    /// Counts a restart of the media clock, and keeps the packet as the last one. Returns whether it is a restart.
     fn note_restart(&mut self, noted: &Noted, last: Option<Last>, missing: u64) -> bool {
         let mr = noted.facts.mr;
         let restarted = last.is_some_and(|last| last.mr != mr);
@@ -381,7 +374,7 @@ impl Stream {
         restarted
     }
 
-    /// Counts a block count that does not continue. Answers whether it does, as far as that is known.
+    /// Counts a block count that does not continue. Returns false only in that case.
     fn note_block_count(&mut self, noted: &Noted, last: Option<Last>, step: Step) -> bool {
         if step != Step::Next {
             return true;
@@ -402,10 +395,10 @@ impl Stream {
 
     /// Counts an arrival that is off the time of the packet before.
     fn note_evenness(&mut self, at: At, last: Option<Last>, distance: Option<i64>) {
-        let (Some(rate), Some(last), Some(distance)) = (self.rate, last, distance) else {
+        let (Some(beat), Some(last), Some(distance)) = (self.beat, last, distance) else {
             return;
         };
-        let time = rate.time_of(u64::from(last.count));
+        let time = beat.time_of(u64::from(last.count));
         let wanted = i64::try_from(time).unwrap_or(i64::MAX);
         self.compared = self.compared.saturating_add(1);
         if distance.abs_diff(wanted) > (time / 2).max(LEAST_UNEVEN) {
@@ -413,7 +406,7 @@ impl Stream {
         }
     }
 
-    /// Counts a timestamp that is missing or unwanted, and compares one with the one before.
+    /// Counts a timestamp that is missing or unwanted, and compares a timestamp with the one before.
     fn note_stamp(&mut self, noted: &Noted, restarted: bool) {
         let facts = &noted.facts;
         if noted.stamp_wrong {
@@ -435,16 +428,16 @@ impl Stream {
             anchor: facts.anchor,
             count: facts.count,
         };
-        let advance = self.pace.note(stamped, self.rate);
+        let advance = self.pace.note(stamped, self.beat);
         let advance = if restarted { Advance::Missed } else { advance };
         self.note_trend(noted, stamp, advance);
     }
 
-    /// Adds a timestamp to the line of the drift, by the lead of its packet's first event. Where the timestamps step, the line
-    /// goes on as it was. A timestamp that advances by its packets' time is no step, however late its packet arrives.
+    /// Adds a timestamp to the line of the drift, by the lead of its packet's first event. If the timestamps step, the line
+    /// goes on unchanged. A timestamp that advances by its packets' time is not a step, however late its packet arrives.
     fn note_trend(&mut self, noted: &Noted, stamp: Stamp, advance: Advance) {
-        let before_anchor = match self.rate {
-            Some(rate) => rate.time_of(u64::from(noted.facts.anchor)),
+        let before_anchor = match self.beat {
+            Some(beat) => beat.time_of(u64::from(noted.facts.anchor)),
             None => 0,
         };
         let lead = stamp
@@ -455,7 +448,7 @@ impl Stream {
             None => 0,
         };
         let goes_on = match advance {
-            Advance::Even if self.rate.is_some() => true,
+            Advance::Even if self.beat.is_some() => true,
             Advance::Even | Advance::Begun => change.unsigned_abs() <= LEAST_STEP,
             Advance::Missed => false,
         };
@@ -465,7 +458,7 @@ impl Stream {
         self.trend.note(u64::try_from(since).unwrap_or(0), change);
     }
 
-    /// Counts the lead of a packet, where it has one.
+    /// Counts the lead of a packet, if it has one.
     fn note_lead(&mut self, noted: &Noted) -> Option<i64> {
         let stamp = noted.facts.stamp?;
         if noted.facts.tu {
@@ -489,8 +482,8 @@ fn after(missing: u64) -> Step {
     }
 }
 
-/// Whether a packet has another format than the stream. A packet of no data tells no rate, and a media clock's packet may have
-/// fewer timestamps.
+/// Whether a packet has another format than the stream. A packet without data has no rate, and a packet of a media clock may
+/// have fewer timestamps.
 fn is_change(was: &Format, now: &Format) -> bool {
     match (*was, *now) {
         (

@@ -1,17 +1,19 @@
-//! How often something was seen, and where first.
+//! The number of times that something was seen, and the first frame of them.
 
-/// Which frame: the number of its file, and its number in the file, both from 1.
+ghost use Rattle.std.specs.Prelude.{◌≡◌, ◌+◌, ◌-◌, ◌^◌, min};
+
+/// A frame: the number of its file, and its number in the file, both from 1.
 #[derive(Clone, Copy, PartialEq, Eq)]
 pub struct At {
     pub file: u32,
     pub frame: u64,
 }
 
-/// How often something was seen, and the frame in which it was seen first.
+/// The number of times that something was seen, and the frame in which it was seen first.
 #[derive(Clone, Copy)]
 pub struct Tally {
     pub count: u64,
-    /// The first frame; none while the count is 0.
+    /// The first frame; `None` while the count is 0.
     pub first: Option<At>,
 }
 
@@ -22,23 +24,26 @@ impl Tally {
     };
 
     /// Counts one more, in this frame.
-    pub fn note(&mut self, at: At) {
+    pub fn note(&mut self, at: At)
+        ensures count { self.new.count ≡ min (self.old.count + 1) (2 ^ 64 - 1) }
+    {
         self.add(1, at);
     }
 
     /// Adds to the count, in this frame.
-    pub fn add(&mut self, more: u64, at: At) {
-        if more == 0 {
-            return;
-        }
+    pub fn add(&mut self, more: u64, at: At)
+        ensures count { self.new.count ≡ min (self.old.count + more) (2 ^ 64 - 1) }
+    {
         self.count = self.count.saturating_add(more);
-        if self.first.is_none() {
+        if more > 0 && self.first.is_none() {
             self.first = Some(at);
         }
     }
 
-    /// Takes back one that was counted too early, as a packet that was only late.
-    pub fn take_back(&mut self) {
+    /// Takes back one that was counted too early, because the packet was only late.
+    pub fn take_back(&mut self)
+        ensures count { self.new.count ≡ self.old.count - 1 }
+    {
         self.count = self.count.saturating_sub(1);
         if self.count == 0 {
             self.first = None;

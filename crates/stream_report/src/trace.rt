@@ -1,10 +1,10 @@
-//! What the pictures of a stream are drawn from: the lead and the arrival distance over time, thinned as it grows.
+//! The data of a stream's pictures: its leads and arrival distances over time, with fewer columns as they grow.
 
 use avtp_base::NoMemory;
 use std::alloc::Global;
 use std::mem;
 
-/// The most columns of a stream. Where one more is wanted, each two are made one.
+/// The most columns of a stream. If one more is needed, each two are merged into one.
 const MOST_COLUMNS: usize = 512;
 
 /// The first columns are 2^16 ns wide, some 66 microseconds.
@@ -48,7 +48,7 @@ fn either(one: Option<Range>, other: Option<Range>) -> Option<Range> {
 /// The packets of a stretch of time.
 #[derive(Clone, Copy)]
 pub struct Column {
-    /// The number of the stretch: it begins at `slot` times the columns' width after the capture's first packet.
+    /// The number of the stretch, which begins `slot` times the columns' width after the capture's first packet.
     pub slot: u64,
     pub lead: Option<Range>,
     pub distance: Option<Range>,
@@ -64,7 +64,7 @@ impl Column {
     }
 }
 
-/// A stream over time. Each value lies within the range of its column, so no peak is thinned out.
+/// A stream over time. Each value is within the range of its column, so no peak is lost when columns are merged.
 #[derive(Drop)]
 pub struct Trace {
     columns: Vec<Column>,
@@ -89,7 +89,7 @@ impl Trace {
         1u64.checked_shl(self.shift).unwrap_or(u64::MAX)
     }
 
-    /// Notes a packet, given the nanoseconds from the capture's first packet to it.
+    /// Notes a packet, given how long after the capture's first packet it came, in nanoseconds.
     pub fn note(&mut self, since: u64, mut added: Column) -> Result<(), NoMemory> {
         for _ in FIRST_SHIFT..LAST_SHIFT {
             if self.columns.len() < MOST_COLUMNS {

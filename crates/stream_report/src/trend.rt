@@ -3,15 +3,18 @@
 /// The time of an arrival is counted in units of 2^20 ns, about a millisecond.
 const UNIT: u32 = 20;
 
-/// A lead that has moved further than this, some 18 minutes, is no drift.
+/// If a lead moves further than this, some 18 minutes, that is no drift.
 const FARTHEST: i64 = 1 << 40;
 
-/// Sums over packets of their time and lead, from which the straight line through them is had (least squares). A step of the
-/// timestamps, as at a restart of the media clock, is taken out, so that the line goes on.
+/// No more packets are summed up: times are less than 2^44 and leads at most 2^40, so no sum reaches 2^127.
+const MOST: u64 = 1 << 32;
+
+/// Sums over packets of their time and lead, for the straight line through them (least squares). Steps of the timestamps, as at
+/// a restart of the media clock, are left out, so that the line goes on.
 #[derive(Clone, Copy)]
 pub struct Trend {
     count: u64,
-    /// The lead of the last packet, less all steps.
+    /// The lead of the last packet, without steps.
     lead: i64,
     least: i64,
     greatest: i64,
@@ -36,11 +39,11 @@ impl Trend {
         products: 0,
     };
 
-    /// Notes a packet that came so many nanoseconds after the first, and whose lead is by so much greater than that of the
-    /// packet before.
+    /// Notes a packet that came this many nanoseconds after the first, with a lead that is greater by this much than that of
+    /// the packet before.
     pub fn note(&mut self, since: u64, change: i64) {
         let lead = self.lead.saturating_add(change);
-        if lead.unsigned_abs() > FARTHEST.unsigned_abs() {
+        if lead.unsigned_abs() > FARTHEST.unsigned_abs() || self.count >= MOST {
             return;
         }
         self.lead = lead;
@@ -50,14 +53,14 @@ impl Trend {
         self.count = self.count.saturating_add(1);
         let time = i128::from(since >> UNIT);
         let lead = i128::from(lead);
-        self.times = self.times.saturating_add(time);
-        self.leads = self.leads.saturating_add(lead);
-        self.squares = self.squares.saturating_add(time.saturating_mul(time));
-        self.products = self.products.saturating_add(time.saturating_mul(lead));
+        self.times = self.times.wrapping_add(time);
+        self.leads = self.leads.wrapping_add(lead);
+        self.squares = self.squares.wrapping_add(time.wrapping_mul(time));
+        self.products = self.products.wrapping_add(time.wrapping_mul(lead));
     }
 
-    /// The drift in parts of 10^9: by how many nanoseconds a second the lead grows. `None` comes where too few packets tell it,
-    /// or the sums are too great.
+    /// The drift in parts of 10^9: by how many nanoseconds a second the lead grows. `None` if there are too few packets to
+    /// tell, or the sums are too great.
     pub fn drift(&self) -> Option<i64> {
         let count = i128::from(self.count);
         let rise = count
@@ -69,7 +72,7 @@ impl Trend {
         quotient(rise, run)
     }
 
-    /// How far apart the least and the greatest lead are, steps taken out.
+    /// The difference of the greatest and the least lead, without steps.
     pub fn spread(&self) -> u64 {
         self.greatest.abs_diff(self.least)
     }
@@ -80,8 +83,7 @@ impl Trend {
     }
 }
 
-/// The parts of 10^9 that `rise` nanoseconds are of `run` units. Both are divided alike by a power of two, where a product would
-/// not fit.
+/// `rise` nanoseconds as parts of 10^9 of `run` units. If a product would not fit, both are divided by the same power of two.
 fn quotient(rise: i128, run: i128) -> Option<i64> {
     let cut = bits_of(rise)
         .saturating_sub(96)

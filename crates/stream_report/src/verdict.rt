@@ -2,45 +2,43 @@
 
 use crate::pace::Miss;
 use crate::tally::Tally;
-use avtp_base::Field;
 
-/// What clocks that differ by so much may be.
+/// What the clocks may be, if they differ by the lead.
 #[derive(Clone, Copy)]
 pub enum ClockGuess {
     /// Presentation times are 37 s after their arrivals: the capture's clock is UTC, and the talker's TAI.
     CaptureBehind,
     /// Presentation times are 37 s before their arrivals.
     CaptureAhead,
-    /// Some other distance.
+    /// Any other distance.
     Apart,
 }
 
 /// A verdict, the worst first. Times are in nanoseconds.
 #[derive(Clone, Copy)]
 pub enum Verdict {
-    /// Most timestamps do not advance as their packets, and with swapped bytes they would.
+    /// Most timestamps do not advance as their packets do, and with swapped bytes they would.
     Swapped {
         off: u64,
         compared: u64,
         wanted: u64,
     },
-    /// Most timestamps do not advance as their packets.
+    /// Most timestamps do not advance as their packets do.
     NotInOrder {
         off: u64,
         compared: u64,
         wanted: u64,
     },
-    /// Presentation times are far from their arrivals, most of them at this lead. `exact` says that it is known and not only
-    /// modulo 2^32.
+    /// Presentation times are far from their arrivals: `lead` is the median distance. It is exact if `exact` is set; otherwise
+    /// it is known modulo 2^32.
     Clocks {
         lead: i64,
         guess: ClockGuess,
         exact: bool,
     },
-    /// Packets that their format refuses, most often by this field.
+    /// Packets that their format refuses.
     Malformed {
         packets: Tally,
-        field: Field,
     },
     /// Packets of another sender, or to another destination.
     Senders {
@@ -51,7 +49,7 @@ pub enum Verdict {
         packets: Tally,
         most: u64,
     },
-    /// Packets that came after their presentation time, by up to so much.
+    /// Packets that came after their presentation time, and by how much at most.
     Late {
         packets: Tally,
         stamped: u64,
@@ -62,7 +60,7 @@ pub enum Verdict {
         found: i64,
         wanted: u64,
     },
-    /// Timestamps that do not advance as their packets.
+    /// Timestamps that do not advance as their packets do.
     Steps {
         off: u64,
         compared: u64,
@@ -80,23 +78,23 @@ pub enum Verdict {
     Reordered {
         packets: Tally,
     },
-    /// Restarts of the media clock that stood for fewer than 8 packets.
+    /// Restarts of the media clock that lasted for fewer than 8 packets.
     Flapping {
         restarts: Tally,
     },
-    /// Packets without a timestamp where one belongs.
+    /// Packets without a timestamp that should have one.
     Missing {
         packets: Tally,
     },
-    /// Packets with a timestamp where none belongs.
+    /// Packets with a timestamp that should have none.
     Unwanted {
         packets: Tally,
     },
-    /// Timestamps drift against their arrivals, in parts of 10^9.
+    /// Timestamps drift against their arrivals, by parts of 10^9.
     Drift {
         parts: i64,
     },
-    /// Arrivals that are off their packets' time. In bursts most packets come right after the one before.
+    /// Arrivals that are off their packets' time. In a burst most packets come directly after the one before.
     Jitter {
         packets: Tally,
         compared: u64,
@@ -106,7 +104,7 @@ pub enum Verdict {
     Formats {
         packets: Tally,
     },
-    /// Quadlets with a label that has no meaning.
+    /// Quadlets with a reserved label.
     Labels {
         quadlets: Tally,
         label: u8,
@@ -122,7 +120,7 @@ pub enum Verdict {
 }
 
 impl Verdict {
-    /// How bad it is: 0 is the worst.
+    /// How bad it is; 0 is the worst.
     pub fn rank(&self) -> u8 {
         match self {
             Verdict::Swapped { .. } => 0,

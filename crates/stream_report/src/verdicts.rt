@@ -11,7 +11,7 @@ use avtp_base::NoMemory;
 use avtp_header::subtype;
 use std::alloc::Global;
 
-/// The class whose max transit time a stream's leads keep.
+/// The class whose max transit time the leads of a stream keep.
 #[derive(Clone, Copy, PartialEq, Eq)]
 pub enum Class {
     /// 2 ms.
@@ -20,11 +20,11 @@ pub enum Class {
     B,
     /// Longer.
     Longer,
-    /// Most presentation times are past, or far away: the lead is no transit time.
+    /// Most presentation times are in the past or far away, so the lead is no transit time.
     Unknown,
 }
 
-/// The class that the median of the leads keeps. `None` comes where no packet is stamped.
+/// The class whose max transit time the median of the leads keeps. `None` if no packet has a timestamp.
 pub fn class_of(stream: &Stream) -> Option<Class> {
     let median = stream.leads.percentile(50)?;
     Some(match median {
@@ -52,50 +52,10 @@ pub fn verdicts_of(alloc: Global, stream: &Stream) -> Result<Vec<Verdict>, NoMem
         add(&mut verdicts, steps_verdict(stream))?;
         add(&mut verdicts, drift_verdict(stream))?;
     }
-    add(&mut verdicts, malformed_verdict(stream))?;
     add(&mut verdicts, lost_verdict(stream))?;
     add(&mut verdicts, jitter_verdict(stream))?;
     add(&mut verdicts, labels_verdict(stream))?;
-    add(
-        &mut verdicts,
-        counted(stream.senders, |packets| Verdict::Senders { packets }),
-    )?;
-    add(
-        &mut verdicts,
-        counted(stream.blocks, |packets| Verdict::Blocks { packets }),
-    )?;
-    add(
-        &mut verdicts,
-        counted(stream.repeated, |packets| Verdict::Repeated { packets }),
-    )?;
-    add(
-        &mut verdicts,
-        counted(stream.reordered, |packets| Verdict::Reordered { packets }),
-    )?;
-    add(
-        &mut verdicts,
-        counted(stream.flapping, |restarts| Verdict::Flapping { restarts }),
-    )?;
-    add(
-        &mut verdicts,
-        counted(stream.missing, |packets| Verdict::Missing { packets }),
-    )?;
-    add(
-        &mut verdicts,
-        counted(stream.unwanted, |packets| Verdict::Unwanted { packets }),
-    )?;
-    add(
-        &mut verdicts,
-        counted(stream.formats, |packets| Verdict::Formats { packets }),
-    )?;
-    add(
-        &mut verdicts,
-        counted(stream.reserved, |packets| Verdict::Reserved { packets }),
-    )?;
-    add(
-        &mut verdicts,
-        counted(stream.uncertain, |packets| Verdict::Uncertain { packets }),
-    )?;
+    add_counted(&mut verdicts, stream)?;
     verdicts.sort_by_key(|verdict| verdict.rank())?;
     Ok(verdicts)
 }
@@ -136,7 +96,7 @@ fn order_verdict(stream: &Stream) -> Option<Verdict> {
     }
 }
 
-/// Presentation times are far from arrivals. A media clock's timestamps are those of its events, which may be past.
+/// Presentation times are far from arrivals. The timestamps of a media clock are those of its events, which may be in the past.
 fn clocks_verdict(stream: &Stream) -> Option<Verdict> {
     let lead = stream.leads.percentile(50)?;
     let exact = stream.key.subtype == subtype::CRF;
@@ -162,7 +122,7 @@ fn guess_of(lead: i64, exact: bool) -> ClockGuess {
     }
 }
 
-/// Whether the lead is a transit time where the clocks are so far apart.
+/// Whether the lead is a transit time if the clocks differ by `apart`.
 fn is_transit(lead: i64, apart: i64, exact: bool) -> bool {
     let rest = lead.saturating_sub(apart);
     let rest = if exact { rest } else { near_zero(rest) };
@@ -175,7 +135,7 @@ fn near_zero(number: i64) -> i64 {
     i64::from(u32::try_from(low).unwrap_or(0).cast_signed())
 }
 
-/// Some packets came after their presentation time, more than timestamps are off.
+/// More packets came after their presentation time than timestamps are off.
 fn late_verdict(stream: &Stream) -> Option<Verdict> {
     let explained = stream.pace.misses().count;
     if stream.key.subtype == subtype::CRF || stream.late.count <= explained {
@@ -200,7 +160,7 @@ fn first_stamp_verdict(stream: &Stream) -> Option<Verdict> {
     })
 }
 
-/// Some timestamps, the first two apart, do not advance as their packets do.
+/// Some timestamps do not advance as their packets do; the first comparison does not count.
 fn steps_verdict(stream: &Stream) -> Option<Verdict> {
     let misses = stream.pace.misses();
     let first = if misses.at_begin {
@@ -215,7 +175,7 @@ fn steps_verdict(stream: &Stream) -> Option<Verdict> {
     })
 }
 
-/// The drift of timestamps against arrivals, in parts of 10^9. `None` comes where too little time tells it.
+/// The drift of timestamps against arrivals, in parts of 10^9. `None` if the capture is too short to tell.
 pub fn drift_of(stream: &Stream) -> Option<i64> {
     if stream.trend.time() < LEAST_DRIFT_TIME {
         return None;
@@ -236,22 +196,9 @@ fn drift_verdict(stream: &Stream) -> Option<Verdict> {
     is_drift.then_some(Verdict::Drift { parts })
 }
 
-fn malformed_verdict(stream: &Stream) -> Option<Verdict> {
-    let mut most = *stream.fields.first()?;
-    for field in stream.fields.iter() {
-        if field.count > most.count {
-            most = *field;
-        }
-    }
-    Some(Verdict::Malformed {
-        packets: stream.malformed,
-        field: most.field,
-    })
-}
-
 fn lost_verdict(stream: &Stream) -> Option<Verdict> {
-    let packets = stream.lost;
-    let most = stream.most_lost;
+    let packets = stream.lost();
+    let most = stream.most_lost();
     (packets.count > 0).then_some(Verdict::Lost { packets, most })
 }
 
@@ -276,12 +223,90 @@ fn labels_verdict(stream: &Stream) -> Option<Verdict> {
     (quadlets.count > 0).then_some(Verdict::Labels { quadlets, label })
 }
 
-/// A verdict where something was counted.
-fn counted<F: FnOnce(Tally) -> Verdict>(tally: Tally, verdict: F) -> Option<Verdict>
-    requires { F.IsAlwaysCallable verdict }
-{
-    if tally.count == 0 {
-        return None;
+/// Adds a verdict for whatever was counted that is wrong wherever it is.
+fn add_counted(verdicts: &mut Vec<Verdict>, stream: &Stream) -> Result<(), NoMemory> {
+    add_if_any(
+        verdicts,
+        stream.malformed,
+        Verdict::Malformed {
+            packets: stream.malformed,
+        },
+    )?;
+    add_if_any(
+        verdicts,
+        stream.senders,
+        Verdict::Senders {
+            packets: stream.senders,
+        },
+    )?;
+    add_if_any(
+        verdicts,
+        stream.blocks,
+        Verdict::Blocks {
+            packets: stream.blocks,
+        },
+    )?;
+    add_if_any(
+        verdicts,
+        stream.repeated(),
+        Verdict::Repeated {
+            packets: stream.repeated(),
+        },
+    )?;
+    add_if_any(
+        verdicts,
+        stream.reordered(),
+        Verdict::Reordered {
+            packets: stream.reordered(),
+        },
+    )?;
+    add_if_any(
+        verdicts,
+        stream.flapping,
+        Verdict::Flapping {
+            restarts: stream.flapping,
+        },
+    )?;
+    add_if_any(
+        verdicts,
+        stream.missing,
+        Verdict::Missing {
+            packets: stream.missing,
+        },
+    )?;
+    add_if_any(
+        verdicts,
+        stream.unwanted,
+        Verdict::Unwanted {
+            packets: stream.unwanted,
+        },
+    )?;
+    add_if_any(
+        verdicts,
+        stream.formats,
+        Verdict::Formats {
+            packets: stream.formats,
+        },
+    )?;
+    add_if_any(
+        verdicts,
+        stream.reserved,
+        Verdict::Reserved {
+            packets: stream.reserved,
+        },
+    )?;
+    add_if_any(
+        verdicts,
+        stream.uncertain,
+        Verdict::Uncertain {
+            packets: stream.uncertain,
+        },
+    )
+}
+
+fn add_if_any(verdicts: &mut Vec<Verdict>, tally: Tally, verdict: Verdict) -> Result<(), NoMemory> {
+    if tally.count > 0 {
+        verdicts.push(verdict)?;
     }
-    Some(verdict(tally))
+    Ok(())
 }

@@ -3,13 +3,13 @@
 use Rattle.std.specs.Prelude.{◌≡◌, ◌≢◌, ℕ, ◌+◌, ◌<◌}
 use Rattle.std.specs.Int.{bit_at}
 
--- the newest number is now one that is so far ahead of the old one
+-- the newest number is now one this far ahead of the old one
 pub record Moves (came ahead now : ℕ) : Type 0 where
   pub newest : bit_at now 0 ≡ 1
   pub between : (behind : ℕ) → 0 < behind → behind < ahead → behind < 64 → bit_at now behind ≡ 0
   pub before : (behind : ℕ) → behind + ahead < 64 → bit_at now (behind + ahead) ≡ bit_at came behind
 
--- one number more has come
+-- one more number has come
 pub record Marks (came behind now : ℕ) : Type 0 where
   pub same : bit_at now behind ≡ 1
   pub other : (place : ℕ) → place ≢ behind → bit_at now place ≡ bit_at came place

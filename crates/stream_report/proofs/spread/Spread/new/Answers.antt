@@ -1,0 +1,6 @@
+use Rattle.std.proofs.Common.{refl}
+use Rattle.stream_report.proofs.Spreads.{tells-none}
+use Rattle.stream_report.proofs.spread.Spread.new.Goals as goal
+
+pub returns : goal.returns
+returns c = tells-none _ (c.in_ok-counts.ensures.items_if_clones_equal (λ y h. h)) refl refl refl

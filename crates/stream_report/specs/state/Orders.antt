@@ -1,0 +1,11 @@
+-- Kept for proofs: what the code's own parts hold and do. No clause of a public call rests on it.
+-- What is counted of a packet that is ahead of all others.
+use Rattle.std.specs.Prelude.{◌≡◌, ℕ, ◌+◌, ◌-◌, ◌^◌, max, min}
+use Rattle.stream_report.specs.declared.order.Order.{Order}
+
+-- a packet with so many missing before it was counted
+pub record Passed (old new : Order) (missing : ℕ) : Type 0 where
+  pub lost : new.lost.count ≡ min (old.lost.count + missing) (2 ^ 64 - 1)
+  pub most_lost : new.most_lost ≡ max old.most_lost missing
+  pub repeated : new.repeated.count ≡ old.repeated.count
+  pub late : new.late.count ≡ old.late.count

@@ -1,0 +1,21 @@
+-- Kept for proofs: what the code's own parts hold and do. No clause of a public call rests on it.
+-- The buckets of a spread, and the one in which a rank is reached.
+use Rattle.std.specs.Prelude.{ℕ, ◌+◌, ◌*◌, ◌<◌, ◌≤◌, ℤ, ◌≤ℤ◌, ◌<ℤ◌, List}
+use Rattle.stream_report.specs.Spreads.{edge, first_in, number_below, side}
+
+-- a magnitude lies in this bucket
+pub record InBucket (magnitude bucket : ℕ) : Type 0 where
+  pub first : first_in bucket ≤ magnitude
+  pub next : magnitude < first_in (bucket + 1)
+  pub within : bucket < side
+
+-- a value lies in the bucket at this place
+pub record HasPlace (value : ℤ) (place : ℕ) : Type 0 where
+  pub first : edge place ≤ℤ value
+  pub next : value <ℤ edge (place + 1)
+  pub within : place < 2 * side
+
+-- the value of this rank lies in the bucket at this place
+pub record Reaches (values : List ℤ) (rank place : ℕ) : Type 0 where
+  pub before : number_below (edge place) values < rank
+  pub reached : rank ≤ number_below (edge (place + 1)) values

@@ -1,0 +1,84 @@
+//! How many packets of a stream are lost, came more than once, and came after later ones.
+
+ghost use Rattle.std.specs.Prelude.{◌≡◌, ◌%◌, ◌≤◌, ℕ, List, [], ◌∷◌};
+ghost use Rattle.stream_report.specs.Sequence.{CountsOf, Few, Follows, Passes, StandsFor, place_of};
+ghost use Rattle.stream_report.specs.state.Orders.{Passed};
+
+use crate::sequence::{Place, Window};
+use crate::tally::{At, Tally};
+
+/// What is counted of a stream by its sequence numbers.
+#[derive(Clone, Copy)]
+pub struct Order {
+    /// Packets that are missing, and the most of them in a row.
+    pub lost: Tally,
+    pub most_lost: u64,
+    /// Packets that came before.
+    pub repeated: Tally,
+    /// Packets that came after later ones.
+    pub late: Tally,
+    window: Window,
+}
+
+impl Order {
+    /// The first packet has this number.
+    pub fn first(seq: u8) -> Self
+        ensures counts { (first : ℕ) → first % 256 ≡ seq → CountsOf result first [] }
+    {
+        Order {
+            lost: Tally::NONE,
+            most_lost: 0,
+            repeated: Tally::NONE,
+            late: Tally::NONE,
+            window: Window::first(seq),
+        }
+    }
+
+    /// Counts the next packet, and answers its place.
+    pub fn note(&mut self, seq: u8, at: At) -> Place
+        ensures counts { (first : ℕ) → (later : List ℕ) → (number : ℕ) → CountsOf self.old first later → Follows first later number → number % 256 ≡ seq
+            → Few first (number ∷ later) → CountsOf self.new first (number ∷ later) }
+        ensures place { (first : ℕ) → (later : List ℕ) → (number : ℕ) → CountsOf self.old first later → Follows first later number → number % 256 ≡ seq
+            → result ≡ place_of first later number }
+    {
+        let place = self.window.place(seq);
+        match place {
+            Place::Ahead { missing } => self.pass(seq, u64::from(missing), at),
+            Place::Late => {
+                self.window.fill(seq);
+                self.lost.take_back();
+                self.late.note(at);
+            }
+            Place::Early => {
+                self.window.fill(seq);
+                self.late.note(at);
+            }
+            Place::Repeat => {
+                self.window.fill(seq);
+                self.repeated.note(at);
+            }
+        }
+        place
+    }
+
+    /// Counts the next packet as one that is ahead, by at most 256, and answers how many are missing before it.
+    pub fn resume(&mut self, seq: u8, at: At) -> u64
+        ensures counts { (first : ℕ) → (later : List ℕ) → (number : ℕ) → CountsOf self.old first later → Passes first later number → number % 256 ≡ seq
+            → Few first (number ∷ later) → CountsOf self.new first (number ∷ later) }
+    {
+        let missing = self.window.ahead(seq).saturating_sub(1);
+        self.pass(seq, missing, at);
+        missing
+    }
+
+    /// Counts a packet that is ahead, with so many missing before it.
+    fn pass(&mut self, seq: u8, missing: u64, at: At)
+        ensures stands { (first : ℕ) → (later : List ℕ) → (number : ℕ) → StandsFor self.old.window first later → Passes first later number → number % 256 ≡ seq
+            → StandsFor self.new.window first (number ∷ later) }
+        ensures passed { Passed self.old self.new missing }
+    {
+        self.window.pass(seq);
+        self.lost.add(missing, at);
+        self.most_lost = self.most_lost.max(missing);
+    }
+}
