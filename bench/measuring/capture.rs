@@ -3,36 +3,49 @@
 //!
 //! - `capture OUT COUNT`: COUNT packets, in little-endian nanoseconds.
 //! - `capture OUT COUNT ng`: these packets as a pcapng capture, in nanoseconds.
-//! - `capture OUT COUNT STREAMS`: packets of STREAMS streams in turn, each with sequence numbers of its own.
+//! - `capture OUT COUNT STREAMS`: packets of STREAMS streams in turn, each with sequence numbers of its own and one
+//!   packet in 125 us.
+//! - `capture OUT COUNT STREAMS faulty`: the same with faults. Of 64 packets, some 4 are lost, 4 come twice, in 8 the restart
+//!   bit turns, and one each has a reserved bit set, no timestamp, or a stream id that is not valid.
+//! - `capture OUT COUNT damaged IN`: the packets of the classic capture IN in turn. Half of them are damaged, and one in 16 comes
+//!   twice.
 //! - `capture OUT COUNT STYLE`: packets in `le-ns`, `le-us`, `be-ns` or `be-us`. Half of them are damaged, of every 2,048 the
 //!   latter 1,024 are sparse, which leaves one timestamp in eight, and one in 16 comes twice. Then come a frame of the
 //!   greatest length and a record that is cut off.
 
 #[path = "../yardsticks/packets.rs"]
 mod packets;
+#[path = "../yardsticks/pcap.rs"]
+mod pcap;
 
 use packets::{Capture, LONGEST, TIMESTAMP, packet, packet_of};
+use pcap::read_records;
 use std::env;
 use std::fs::File;
 use std::io::{self, BufWriter, Error, Write};
 
-/// Where `tv` and `sp` stand in the frame.
-const TV: usize = 19;
+/// Where `sv`, `mr`, two reserved bits and `tv` stand in the frame.
+const FLAGS: usize = 19;
+const SV: u8 = 0x80;
+const MR: u8 = 0x08;
+const RESERVED: u8 = 0x06;
+const TV: u8 = 0x01;
+
+/// Where `sp` stands in the frame.
 const SP: usize = 40;
 
-fn put_damaged_packets(capture: &mut Capture<impl Write>, count: u64) -> io::Result<()> {
+/// Packets that `packet_at` makes, half of them damaged, and one in 16 twice.
+fn put_damaged_packets(
+    capture: &mut Capture<impl Write>,
+    count: u64,
+    packet_at: impl Fn(u64) -> Vec<u8>,
+) -> io::Result<()> {
     let mut noise = 1;
     for n in 0..count {
-        let whole = if n % 2048 < 1024 {
-            packet(n)
-        } else {
-            sparse_packet(n)
-        };
-        let frame = if n % 2 == 1 {
-            damaged(whole, &mut noise)
-        } else {
-            whole.to_vec()
-        };
+        let mut frame = packet_at(n);
+        if n % 2 == 1 {
+            damage(&mut frame, &mut noise);
+        }
         for _ in 0..if n % 16 == 2 { 2 } else { 1 } {
             capture.record(n, &frame)?;
         }
@@ -40,29 +53,85 @@ fn put_damaged_packets(capture: &mut Capture<impl Write>, count: u64) -> io::Res
     Ok(())
 }
 
-/// The same packet of a sparse stream.
-fn sparse_packet(n: u64) -> [u8; 66] {
-    let mut frame = packet(n);
+/// The packet of a stream of which the latter half of each 2,048 packets is sparse.
+fn half_sparse_packet(n: u64) -> Vec<u8> {
+    let mut frame = packet(n).to_vec();
+    if n % 2048 < 1024 {
+        return frame;
+    }
     frame[SP] |= 0x10;
     if n % 8 != 0 {
-        frame[TV] &= 0xfe;
+        frame[FLAGS] &= !TV;
         frame[TIMESTAMP..TIMESTAMP + 4].fill(0);
     }
     frame
 }
 
-/// The frame with two bytes changed, and one in four cut off somewhere.
-fn damaged(mut frame: [u8; 66], noise: &mut u64) -> Vec<u8> {
-    let mut draw = |below: usize| {
-        *noise = noise
-            .wrapping_mul(6_364_136_223_846_793_005)
-            .wrapping_add(1_442_695_040_888_963_407);
-        (*noise >> 33) as usize % below
-    };
-    frame[draw(66)] = draw(256) as u8;
-    frame[draw(66)] = draw(256) as u8;
-    let len = if draw(4) == 0 { draw(66) } else { 66 };
-    frame[..len].to_vec()
+fn draw(noise: &mut u64, below: usize) -> usize {
+    *noise = noise
+        .wrapping_mul(6_364_136_223_846_793_005)
+        .wrapping_add(1_442_695_040_888_963_407);
+    (*noise >> 33) as usize % below
+}
+
+/// Changes two bytes among the first 66 of the frame, and cuts one frame in four off somewhere among them.
+fn damage(frame: &mut Vec<u8>, noise: &mut u64) {
+    let head = frame.len().min(66);
+    for _ in 0..2 {
+        frame[draw(noise, head)] = draw(noise, 256) as u8;
+    }
+    if draw(noise, 4) == 0 {
+        frame.truncate(draw(noise, head));
+    }
+}
+
+/// The arrival of the packet with this number of all, of so many streams in turn. Each of them sends one in 125 us.
+fn arrival_of(n: u64, streams: u64) -> u64 {
+    1_000_000_000 + n * 125_000 / streams
+}
+
+/// The packet with this number of all, of one of so many streams.
+fn paced_packet(n: u64, streams: u64) -> [u8; 66] {
+    let mut frame = packet_of(n, streams);
+    let due = arrival_of(n, streams) + 2_000_000;
+    frame[TIMESTAMP..TIMESTAMP + 4].copy_from_slice(&(due as u32).to_be_bytes());
+    frame
+}
+
+/// Packets of so many streams in turn, with faults.
+fn put_faulty_packets(capture: &mut Capture<impl Write>, count: u64, streams: u64) -> io::Result<()> {
+    let mut restarts = vec![0; streams as usize];
+    let mut noise = 1;
+    for n in 0..count {
+        let mut frame = paced_packet(n, streams);
+        let restart = &mut restarts[(n % streams) as usize];
+        let fault = draw(&mut noise, 64);
+        match fault {
+            0..4 => continue,
+            8..16 => *restart ^= MR,
+            16 => frame[FLAGS] |= RESERVED,
+            17 => frame[FLAGS] &= !TV,
+            18 => frame[FLAGS] &= !SV,
+            _ => {}
+        }
+        frame[FLAGS] |= *restart;
+        for _ in 0..if (4..8).contains(&fault) { 2 } else { 1 } {
+            capture.record_at(arrival_of(n, streams), &frame)?;
+        }
+    }
+    Ok(())
+}
+
+fn frames_of(path: &str) -> io::Result<Vec<Vec<u8>>> {
+    let mut frames = Vec::new();
+    let end = read_records(File::open(path)?, |_, _, frame| {
+        frames.push(frame.to_vec());
+        Ok(())
+    })?;
+    match end {
+        Ok(1..) => Ok(frames),
+        _ => Err(Error::other(format!("{path} is no classic capture with packets"))),
+    }
 }
 
 /// A section header, an interface in nanoseconds, and an enhanced packet block for each packet.
@@ -91,36 +160,45 @@ fn write_pcapng(path: &str, count: u64) -> io::Result<()> {
 
 fn main() -> io::Result<()> {
     let words: Vec<String> = env::args().skip(1).collect();
-    let [path, count, style @ ..] = words.as_slice() else {
-        return Err(Error::other("capture OUT COUNT [STREAMS or STYLE]"));
+    let words: Vec<&str> = words.iter().map(String::as_str).collect();
+    let [path, count, how @ ..] = words.as_slice() else {
+        return Err(Error::other("capture OUT COUNT [ng, STREAMS [faulty], damaged IN, or STYLE]"));
     };
     let count: u64 = count.parse().map_err(Error::other)?;
-    if style.first().is_some_and(|style| style == "ng") {
+    if how == ["ng"] {
         return write_pcapng(path, count);
     }
-    let streams: Option<u64> = style.first().and_then(|word| word.parse().ok());
-    let style = style.first().filter(|_| streams.is_none());
+    let style = how.first().copied().unwrap_or_default();
     let mut capture = Capture {
         out: BufWriter::new(File::create(path)?),
-        big_endian: style.is_some_and(|style| style.starts_with("be")),
-        unit: if style.is_some_and(|style| style.ends_with("us")) {
-            1000
-        } else {
-            1
-        },
+        big_endian: style.starts_with("be"),
+        unit: if style.ends_with("us") { 1000 } else { 1 },
     };
     capture.header()?;
-    if style.is_some() {
-        put_damaged_packets(&mut capture, count)?;
-        capture.record(count, &[0; LONGEST])?;
-        capture.numbers(&[0, 0, 66])?;
-    } else if let Some(streams) = streams {
-        for n in 0..count {
-            capture.record(n, &packet_of(n, streams))?;
+    match how {
+        [] => {
+            for n in 0..count {
+                capture.record(n, &packet(n))?;
+            }
         }
-    } else {
-        for n in 0..count {
-            capture.record(n, &packet(n))?;
+        ["damaged", whole] => {
+            let frames = frames_of(whole)?;
+            put_damaged_packets(&mut capture, count, |n| frames[n as usize % frames.len()].clone())?;
+        }
+        ["le-ns" | "le-us" | "be-ns" | "be-us"] => {
+            put_damaged_packets(&mut capture, count, half_sparse_packet)?;
+            capture.record(count, &[0; LONGEST])?;
+            capture.numbers(&[0, 0, 66])?;
+        }
+        [streams, faulty @ ..] => {
+            let streams = streams.parse().map_err(Error::other)?;
+            if faulty == ["faulty"] {
+                put_faulty_packets(&mut capture, count, streams)?;
+            } else {
+                for n in 0..count {
+                    capture.record_at(arrival_of(n, streams), &paced_packet(n, streams))?;
+                }
+            }
         }
     }
     capture.out.flush()

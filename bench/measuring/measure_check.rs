@@ -1,6 +1,6 @@
-//! `measure_check AVTP REPORT PACKETS [STREAMS CAPTURE] ..`: runs `avtp check`, `avtp show` and `avtp-report` in turn, to nothing,
-//! on captures of that many packets and streams, which have no findings. Prints a row of `check` beside `show` and of the
-//! report beside `check`, for their best runs.
+//! `measure_check AVTP YARDSTICK REPORT PACKETS [STREAMS CAPTURE] ..`: runs `avtp check`, its yardstick and `avtp-report` in turn,
+//! to nothing, on captures of that many packets and streams, which have no findings. Prints a row of `check` beside its
+//! yardstick and of the report beside `check`, for their best runs.
 
 mod row;
 mod runner;
@@ -14,20 +14,20 @@ const ROUNDS: usize = 20;
 
 fn main() -> io::Result<()> {
     let words: Vec<String> = env::args().skip(1).collect();
-    let [avtp, report, packets, captures @ ..] = words.as_slice() else {
-        return Err(Error::other("measure_check AVTP REPORT PACKETS [STREAMS CAPTURE] .."));
+    let [avtp, yardstick, report, packets, captures @ ..] = words.as_slice() else {
+        return Err(Error::other("measure_check AVTP YARDSTICK REPORT PACKETS [STREAMS CAPTURE] .."));
     };
     let count: f64 = packets.parse().map_err(Error::other)?;
     for pair in captures.chunks_exact(2) {
         let streams = &pair[0];
         let mut runners = [
-            Runner::new(&format!("`check`, streams: {streams}, beside `show`"), avtp, &["check", &pair[1]], None),
-            Runner::new("`show`", avtp, &["show", &pair[1]], None),
+            Runner::new(&format!("`check`, streams: {streams}"), avtp, &["check", &pair[1]], None),
+            Runner::new("yardstick", yardstick, &[&pair[1]], None),
             Runner::new(&format!("`avtp-report`, streams: {streams}, beside `check`"), report, &[&pair[1]], None),
         ];
         best_of(ROUNDS, &mut runners)?;
-        let [check, show, report] = &runners;
-        for (runner, beside) in [(check, show), (report, check)] {
+        let [check, yardstick, report] = &runners;
+        for (runner, beside) in [(check, yardstick), (report, check)] {
             let row = Row {
                 what: &runner.name,
                 seconds: runner.seconds,

@@ -46,7 +46,11 @@ impl<W: Write> Capture<W> {
     }
 
     pub fn record(&mut self, n: u64, frame: &[u8]) -> io::Result<()> {
-        let arrival = 1_000_000_000 + n * 125_000;
+        self.record_at(1_000_000_000 + n * 125_000, frame)
+    }
+
+    /// A record that arrives at so many nanoseconds.
+    pub fn record_at(&mut self, arrival: u64, frame: &[u8]) -> io::Result<()> {
         let fraction = arrival % 1_000_000_000 / self.unit;
         let len = frame.len() as u32;
         self.numbers(&[(arrival / 1_000_000_000) as u32, fraction as u32, len, len])?;

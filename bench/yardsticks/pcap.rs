@@ -125,6 +125,14 @@ fn whole_record(style: Style, bytes: &[u8], start: usize) -> Result<usize, Refus
     Err(cut_off(&FIELDS, bytes.len(), start).unwrap())
 }
 
+/// The arrival of a record in nanoseconds.
+#[inline(always)]
+fn arrival(style: Style, record: &[u8]) -> u64 {
+    let seconds = u64::from(style.u32_at(record, 0));
+    let fraction = u64::from(style.u32_at(record, 4));
+    seconds * 1_000_000_000 + fraction * style.unit
+}
+
 /// What was read of a source and is not used yet, in a buffer that has room for a record and a piece.
 struct Input<R: Read> {
     source: R,
@@ -156,6 +164,16 @@ impl<R: Read> Input<R> {
         self.len += moved;
         Ok(moved > 0)
     }
+
+    /// Reads the header of the capture.
+    #[cold]
+    fn read_header(&mut self) -> io::Result<Result<Style, Refusal>> {
+        while self.len < FILE_HEADER && self.read()? {}
+        let header = self.unused();
+        let style = read_style(&header[..header.len().min(FILE_HEADER)]);
+        self.used = self.len.min(FILE_HEADER);
+        Ok(style)
+    }
 }
 
 /// The records of a capture, one after the other.
@@ -181,34 +199,22 @@ impl<R: Read> Records<R> {
         }
     }
 
-    /// Reads the header of the capture.
-    #[cold]
-    fn read_header(&mut self) -> io::Result<Result<(), Refusal>> {
-        while self.input.len < FILE_HEADER && self.input.read()? {}
-        let header = self.input.unused();
-        Ok(read_style(&header[..header.len().min(FILE_HEADER)]).map(|style| {
-            self.style = style;
-            self.start = FILE_HEADER;
-            self.input.used = FILE_HEADER;
-        }))
-    }
-
     /// Goes on to the next record. Answers whether there is one, or the capture's first refusal.
     #[inline(always)]
     pub fn advance(&mut self) -> io::Result<Result<bool, Refusal>> {
-        if self.start == 0
-            && let Err(refusal) = self.read_header()?
-        {
-            return Ok(Err(refusal));
+        if self.start == 0 {
+            match self.input.read_header()? {
+                Ok(style) => self.style = style,
+                Err(refusal) => return Ok(Err(refusal)),
+            }
+            self.start = FILE_HEADER;
         }
         loop {
             let bytes = self.input.unused();
             match whole_record(self.style, bytes, self.start) {
                 Ok(len) => {
                     self.frames += 1;
-                    let seconds = u64::from(self.style.u32_at(bytes, 0));
-                    let fraction = u64::from(self.style.u32_at(bytes, 4));
-                    self.arrival = seconds * 1_000_000_000 + fraction * self.style.unit;
+                    self.arrival = arrival(self.style, bytes);
                     self.frame_len = len;
                     self.start += RECORD_HEADER + len;
                     self.input.used += RECORD_HEADER + len;
@@ -244,18 +250,43 @@ impl<R: Read> Records<R> {
 }
 
 /// Gives each whole record of the capture to `take`: its number, from 1, its arrival in nanoseconds, and its frame. Answers
-/// the number of records, or the capture's first refusal.
+/// the number of records, or the capture's first refusal. Unlike `Records` it keeps nothing of a record, so that all of it
+/// stands in registers until a piece is used up.
 #[inline(always)]
 pub fn read_records(
     source: impl Read,
     mut take: impl FnMut(u64, u64, &[u8]) -> io::Result<()>,
 ) -> io::Result<Result<u64, Refusal>> {
-    let mut records = Records::of(source);
+    let mut input = Input::new(source);
+    let style = match input.read_header()? {
+        Ok(style) => style,
+        Err(refusal) => return Ok(Err(refusal)),
+    };
+    let mut start = FILE_HEADER;
+    let mut number = 0;
     loop {
-        match records.advance()? {
-            Ok(true) => take(records.number(), records.arrival(), records.frame())?,
-            Ok(false) => return Ok(Ok(records.number())),
-            Err(refusal) => return Ok(Err(refusal)),
+        let unused = input.unused();
+        let mut bytes = unused;
+        let Refusal(field, at, short) = loop {
+            match whole_record(style, bytes, 0) {
+                Ok(len) => {
+                    number += 1;
+                    let frame = &bytes[RECORD_HEADER..RECORD_HEADER + len];
+                    take(number, arrival(style, bytes), frame)?;
+                    bytes = &bytes[RECORD_HEADER + len..];
+                }
+                Err(refusal) => break refusal,
+            }
+        };
+        let used = unused.len() - bytes.len();
+        input.used += used;
+        start += used;
+        let refusal = Refusal(field, start + at, short);
+        if !short {
+            return Ok(Err(refusal));
+        }
+        if !input.read()? {
+            return Ok(if input.len == 0 { Ok(number) } else { Err(refusal) });
         }
     }
 }
