@@ -12,7 +12,7 @@ use Rattle.aaf_format.specs.declared.aaf.AafFormat.{AafFormat}
 use Rattle.aaf_format.specs.declared.aaf.AafFormat.TheVariants.{Float32, Int32, Int24, Int16}
 use Rattle.aaf_format.specs.declared.aaf.AafView.{AafView}
 
--- a PCM packet, apart from where its samples lie in memory
+-- a PCM packet, without its samples' location in memory
 pub record Aaf : Type 0 where
   pub header : StreamHeader
   pub format : AafFormat
@@ -25,7 +25,7 @@ pub record Aaf : Type 0 where
   pub payload : List ℕ
   pub reserved : Bool
 
--- the packet that a view shows, apart from where its samples lie in memory
+-- the packet that a view shows, without its samples' location in memory
 abbrev pub aaf_shape : AafView → Aaf
 aaf_shape v = record {
   header = v.header;
@@ -76,7 +76,7 @@ rate_of nsr =
     if nsr == 9 then Some 192000 else
     if nsr == 10 then Some 24000 else None
 
--- the format of samples that byte 16 of a packet names, and Int16 if it names none, which is refused
+-- the format of samples that byte 16 of a packet names, or Int16 if it names none, which is refused
 abbrev pub format_of : List ℕ → AafFormat
 format_of bytes = unwrap_or (named_format (bits 16 0 8 bytes)) Int16
 
@@ -106,7 +106,7 @@ sample_rows bytes =
     row ChannelsPerFrame 17 (bits 17 6 10 bytes == 0) ∷
     row BitDepth 19 (nat_lt (8 * width_of (format_of bytes)) (bits 19 0 8 bytes)) ∷ []
 
--- the rows of the stated length, which come last: it is more than what follows the header, or no whole number of sample
+-- the rows of the stated length, which come last: it is more than what follows the header, or not a whole number of sample
 -- frames
 abbrev pub length_rows : List ℕ → List Row
 length_rows bytes =
@@ -114,8 +114,8 @@ length_rows bytes =
     row StreamDataLength 20
     (not (bits 20 0 16 bytes % frame_size (bits 17 6 10 bytes) (format_of bytes) == 0)) ∷ []
 
--- Why bytes are no PCM packet. In a packet that is cut off, bytes 16 to 19, 22 and 23 are refused by the names they
--- have in the stream header: `format_data` and `format_flags`.
+-- Why bytes are not a PCM packet. In a packet that is cut off, bytes 16 to 19, 22 and 23 are refused by their names in the
+-- stream header: `format_data` and `format_flags`.
 abbrev pub aaf_refusal : List ℕ → Option Refusal
 aaf_refusal bytes =
     or_else (kind_refusal aaf_subtype bytes)

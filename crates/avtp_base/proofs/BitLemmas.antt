@@ -7,7 +7,7 @@ use Rattle.std.specs.Prelude.{bit_and}
 use Rattle.byteorder.specs.Endian.{big_from}
 use Rattle.avtp_base.specs.Octets.{AreBytes, bits, flag, is_set}
 
--- a number of the rest of a list
+-- a number in the rest of a list
 pub big_from-drop : (i n at : ℕ) (xs : List ℕ) → big_from i n (drop at xs) ≡ big_from (at + i) n xs
 big_from-drop i zero at xs = refl
 big_from-drop i (suc n) at xs =
@@ -54,7 +54,7 @@ pub bits-below : (at first width : ℕ) (xs : List ℕ) → bits at first width 
 unfolding bits
 bits-below at first width xs = mod_below (big_from at ((first + width + 7) / 8) xs / 2 ^ (8 * ((first + width + 7) / 8) - (first + width))) (2 ^ width) (pow_pos width)
 
--- a bit is set where it is 1
+-- a bit is set if it is 1
 pub bit_of_flag : (n : ℕ) (b : Bool) → n ≡ flag b → eqb n 1 ≡ b
 bit_of_flag n true e = rw e refl
 bit_of_flag n false e = rw e refl

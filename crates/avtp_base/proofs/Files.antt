@@ -1,4 +1,4 @@
--- What two calls after each other do to the files and slots of a shelf.
+-- What two successive calls do to the files and slots of a shelf.
 use Rattle.std.proofs.Common.{◌≡◌, ℕ, List, ◌++◌, Option, Some, None, inl, inr, refl, sym, ap, subst, ◌∙◌}
 use Rattle.std.specs.Prelude.{IsSome, option_map, option_and_then}
 use Rattle.std.proofs.lemmas.Bool.Decides.{eqb_tells}
@@ -17,7 +17,7 @@ KeepsFiles-trans (Some a) b None p q = tt
 KeepsFiles-trans (Some a) None (Some c) p q = absurd q
 KeepsFiles-trans (Some a) (Some b) (Some c) p q = λ name. q name ∙ p name
 
--- all stayed, and then the file was put
+-- all files stayed, and then one was put
 pub KeepsFiles-puts : (a b c : Option Files) (name bytes : List ℕ) → KeepsFiles a b → PutsFile b c name bytes → PutsFile a c name bytes
 KeepsFiles-puts None None None name bytes p q = tt
 KeepsFiles-puts None None (Some c) name bytes p q = absurd q
@@ -26,7 +26,7 @@ KeepsFiles-puts (Some a) b None name bytes p q = tt
 KeepsFiles-puts (Some a) None (Some c) name bytes p q = absurd q
 KeepsFiles-puts (Some a) (Some b) (Some c) name bytes p q = (q.0, λ other differs. q.1 other differs ∙ p other)
 
--- the file was put, and then all stayed
+-- a file was put, and then all stayed
 pub PutsFile-kept : (a b c : Option Files) (name bytes : List ℕ) → PutsFile a b name bytes → KeepsFiles b c → PutsFile a c name bytes
 PutsFile-kept None None None name bytes p q = tt
 PutsFile-kept None None (Some c) name bytes p q = absurd q
@@ -35,7 +35,7 @@ PutsFile-kept (Some a) b None name bytes p q = tt
 PutsFile-kept (Some a) None (Some c) name bytes p q = absurd q
 PutsFile-kept (Some a) (Some b) (Some c) name bytes p q = (q name ∙ p.0, λ other differs. q other ∙ p.1 other differs)
 
--- the file was put, and then put again
+-- a file was put, and then put again
 pub PutsFile-again : (a b c : Option Files) (name before bytes : List ℕ) → PutsFile a b name before → PutsFile b c name bytes → PutsFile a c name bytes
 PutsFile-again None None None name before bytes p q = tt
 PutsFile-again None None (Some c) name before bytes p q = absurd q
@@ -50,7 +50,7 @@ more_of b c name held bytes has more =
     let same : more.0 ≡ held = cc in
     (more.2.0 ∙ ap (λ (x : List ℕ). Some (x ++ bytes)) same, more.2.1)
 
--- the file was put, and then bytes were appended to it; where the first files are told, so is its name
+-- the file was put, and then bytes were appended to it; if the first files are shown, so is its name
 pub PutsFile-appends : (a b c : Option Files) (name held bytes : List ℕ) (of : Option (List ℕ)) → (IsSome a → of ≡ Some name) → PutsFile a b name held → AppendsTo b c of bytes → PutsFile a c name (held ++ bytes)
 PutsFile-appends None None None name held bytes of named p q = tt
 PutsFile-appends None None (Some c) name held bytes of named p q = absurd q

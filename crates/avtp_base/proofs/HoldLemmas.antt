@@ -1,4 +1,4 @@
--- What a reader sees in a header, and what a writer puts there, are one where no reserved bit is set.
+-- If no reserved bit is set, a reader sees in a header what a writer puts there.
 use Rattle.std.proofs.Common.{◌≡◌, ℕ, ◌+◌, Bool, true, false, cond, eqb, List, [], ◌∷◌, ◌++◌, Option, Some, None, sym, ◌∙◌, refl}
 use Rattle.std.specs.Prelude.{is_some, ◌&&◌}
 use Rattle.std.proofs.lemmas.Bool.{eqb-true, and_parts}
@@ -13,9 +13,9 @@ unset-split (x ∷ xs) ys bytes e =
     let rest = unset-split xs ys bytes parts.1 in
     (rw (parts.0) rest.0, rest.1)
 
--- ---- from what is seen to what is put
+-- ---- from what a reader sees to what a writer puts
 
--- each bit is reserved or shows what it holds
+-- each bit is reserved, or a view shows what it holds
 abbrev pub bits_told : {V : Type 0} → List (Bits V) → Bool
 bits_told [] = true
 bits_told (b ∷ bs) = cond b.free true (is_some b.shown) && bits_told bs
@@ -50,7 +50,7 @@ spelled_holds (p ∷ parts) v bytes told spells unset =
     let split = unset-split (free_ranges p.at 0 p.bits) (reserved_ranges parts) bytes unset in
     (held_bits p.bits v p.at 0 bytes both_told.0 spells.0 split.0, spelled_holds parts v bytes both_told.1 spells.1 split.1)
 
--- ---- from what is put to what is seen
+-- ---- from what a writer puts to what a reader sees
 
 -- reserved bits that a view shows are 0 in it
 abbrev pub bits_plain : {V : Type 0} → List (Bits V) → V → Bool

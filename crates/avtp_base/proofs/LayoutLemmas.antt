@@ -1,4 +1,4 @@
--- What a writer puts into the bits of a header stands there.
+-- The bits of a header hold what a writer puts there.
 use Rattle.std.proofs.Common.{◌≡◌, ℕ, zero, suc, ◌+◌, ◌-◌, ◌*◌, ◌/◌, ◌%◌, ◌^◌, ◌<◌, ◌≤◌, Bool, true, false, cond, eqb, List, [], ◌∷◌, ◌++◌, length, get_or, refl, sym, ap, ◌∙◌, append_assoc, arith}
 use Rattle.std.specs.Int.{byte_at, bytes_high_first}
 use Rattle.std.proofs.Math.Nat.{add-mul, div-one, mul_assoc, pow-suc, zero-mul}
@@ -42,7 +42,7 @@ number-split (suc s) m at xs =
     let rest = number-split s m (suc at) xs in
     rw (more, rest, place, power) (regroup (get_or xs at 0) (256 ^ s) (256 ^ m) (big_from (suc at) s xs) (big_from (suc at + s) m xs))
 
--- what stands k bits from the front of the first s bytes stands there in s + m bytes
+-- bits at k from the front have one value in the first s bytes and in s + m bytes
 shifted : (s m k whole front rest : ℕ) → whole ≡ front * 256 ^ m + rest → rest < 256 ^ m → k ≤ 8 * s
     → front / 2 ^ (8 * s - k) ≡ whole / 2 ^ (8 * (s + m) - k)
 shifted s m k whole front rest e below within =
@@ -63,9 +63,9 @@ bits-wide n at first width xs fits within =
     let there : big_from at s xs / 2 ^ (8 * s - (first + width)) ≡ big_from at n xs / 2 ^ (8 * n - (first + width)) = rw all at moved in
     ap (λ (x : ℕ). x % 2 ^ width) there
 
--- ---- numbers that fields spell beside each other
+-- ---- numbers that adjacent fields spell
 
--- what stands before bits
+-- the bits before these
 packed_front : {V : Type 0} (bs : List (Bits V)) (v : V) (n : ℕ) → FitsBits bs v → packed_behind n bs v / 2 ^ total_width bs ≡ n
 packed_front [] v n fits = div-one n
 packed_front (b ∷ bs) v n fits =
@@ -137,7 +137,7 @@ number_at front rest n x =
 
 -- ---- whole headers
 
--- the parts stand one after the other from byte `at` on, in whole bytes
+-- the parts are one after the other from byte `at` on, in whole bytes
 abbrev pub IsLaid : {V : Type 0} → ℕ → Layout V → Type 0
 IsLaid at [] = Unit {0}
 IsLaid at (p ∷ parts) = (p.at ≡ at) × (total_width p.bits ≡ 8 * size_of p) × IsLaid (at + size_of p) parts

@@ -40,7 +40,7 @@ number_of_part bs v size at xs bytes whole h =
     let none : big_from at size xs / 2 ^ (8 * size - 0) ≡ 0 = rw (places, ← pow256 size) (div-eq_of_lt below) in
     packed_is bs v ∙ sym (ap (λ (n : ℕ). packed_behind n bs v) none) ∙ packed_from_bits bs v size at 0 xs bytes (omega arith) h
 
--- bytes further on
+-- later bytes
 bytes_behind : (n at : ℕ) (xs : List ℕ) → AreBytesAt at (suc n) xs → AreBytesAt (suc at) n xs
 bytes_behind n at xs bytes i lt =
     let h = bytes (suc i) (omega arith) in
@@ -89,7 +89,7 @@ same_parts (part ∷ parts) v at xs ys laid p q h g k low high =
       | inr behind ↦ same_parts parts v (at + n) xs ys laid.2 p q h.1 g.1 k behind (omega arith)
     ]
 
--- what bits hold fits them
+-- the value in some bits fits them
 holds_fit_bits : {V : Type 0} (bs : List (Bits V)) (v : V) (at first : ℕ) (bytes : List ℕ) → HoldsBits at first bs v bytes → FitsBits bs v
 holds_fit_bits [] v at first bytes h = tt
 holds_fit_bits (b ∷ bs) v at first bytes h =

@@ -1,4 +1,4 @@
--- What an answer says, by whether it is an error, and that one that is not there is None.
+-- What a result says, by whether it is an error; a missing one is `None`.
 use Rattle.std.proofs.Common.{◌≡◌, true, false, Option, Some, None, Result, Ok, Err, refl}
 use Rattle.std.specs.Prelude.{is_err, is_some, MatchResult}
 

@@ -1,4 +1,4 @@
--- What two calls after each other do to told bytes, and what a buffer after them does.
+-- What two successive calls do to the bytes that are shown, and to a buffer before them.
 use Rattle.std.proofs.Common.{◌≡◌, ℕ, List, [], ◌++◌, Option, None, Some, refl, sym, ap, ◌∙◌, append_assoc, append-nil}
 use Rattle.avtp_base.specs.Told.{Keeps, Appends, append_known}
 

@@ -17,15 +17,15 @@ Rose before after = min (before + 1) last_count ≤ after
 abbrev pub IsQuiet : ℕ → ℕ → Type 0
 IsQuiet before after = after < min (before + 1) last_count
 
--- The count of faults before and after a call to the outside with this result: it never falls, stays as it was at Ok,
--- and rose at a failure.
+-- The count of faults before and after a call to the outside with this result: it never falls, is unchanged at `Ok`, and rose
+-- at a failure.
 pub record IsCounted {T : Type 0} (before after : ℕ) (result : Result T Failed) : Type 0 where
   pub never_falls : before ≤ after
   pub ok : OnOk result (after ≡ before)
   pub failed : OnErr result (Rose before after)
 
--- The count of faults before and after a call that opens or makes a file, with this result: it never falls, stays as it
--- was at Ok, and rose at `Failed`. Neither a missing file nor want of memory is counted.
+-- The count of faults before and after a call that opens or makes a file, with this result: it never falls, is unchanged at
+-- `Ok`, and rose at `Failed`. A missing file and missing memory are not counted.
 pub record IsOpenCounted {T : Type 0} (before after : ℕ) (result : Result T OpenFault) : Type 0 where
   pub never_falls : before ≤ after
   pub ok : OnOk result (after ≡ before)

@@ -1,9 +1,8 @@
--- What the calls of a shelf do to its files and to its open files, if the shelf shows them. A shelf may stop showing
--- its files, and then never shows them again; what is said of files holds if they are shown before and after. A name is
--- its bytes.
+-- What the calls of a shelf do to its files and to its open files, if the shelf shows them. A shelf may stop showing its files,
+-- and then never shows them again; a statement about files holds if they are shown before and after. A name is its bytes.
 use Rattle.std.specs.Prelude.{◌≡◌, ◌≢◌, ℕ, Bool, true, false, List, ◌++◌, Option, Some, None, option_map, option_and_then, IsSome, IsSomeAnd, ⊤}
 
--- files by name: the bytes of the file, or None if no file has the name
+-- files by name: the bytes of the file, or `None` if no file has the name
 abbrev pub Files : Type 0
 Files = List ℕ → Option (List ℕ)
 
@@ -14,7 +13,7 @@ pub record Open : Type 0 where
   pub name : Option (List ℕ)
   pub left : Option (List ℕ)
 
--- open files by slot: None if the slot is not live
+-- open files by slot: `None` if the slot is not live
 abbrev pub Slots : Type 0
 Slots = ℕ → Option Open
 
@@ -22,11 +21,11 @@ Slots = ℕ → Option Open
 abbrev pub file_of : Open → Bool × Option (List ℕ)
 file_of o = (o.made, o.name)
 
--- the name of the file that is open in slot k; None if the slot is not live or the name is not shown
+-- the name of the file that is open in slot k; `None` if the slot is not live or the name is not shown
 abbrev pub name_in : Slots → ℕ → Option (List ℕ)
 name_in slots k = option_and_then (λ o. o.name) (slots k)
 
--- the bytes that are left to read of the file in slot k; None if the slot is not live or they are not shown
+-- the bytes that are left to read of the file in slot k; `None` if the slot is not live or they are not shown
 abbrev pub left_in : Slots → ℕ → Option (List ℕ)
 left_in slots k = option_and_then (λ o. o.left) (slots k)
 
@@ -35,14 +34,14 @@ abbrev pub IsMissing : Option Files → List ℕ → Type 0
 IsMissing None name = ⊥
 IsMissing (Some files) name = files name ≡ None
 
--- all files stay as they were, as far as the shelf shows them
+-- all files are unchanged, as far as the shelf shows them
 abbrev pub KeepsFiles : Option Files → Option Files → Type 0
 KeepsFiles None None = ⊤
 KeepsFiles None (Some new) = ⊥
 KeepsFiles (Some old) None = ⊤
 KeepsFiles (Some old) (Some new) = (name : List ℕ) → new name ≡ old name
 
--- the file of this name has these bytes now, and all other files stay as they were, as far as the shelf shows them
+-- the file with this name has these bytes now, and all other files are unchanged, as far as the shelf shows them
 abbrev pub PutsFile : Option Files → Option Files → List ℕ → List ℕ → Type 0
 PutsFile None None name bytes = ⊤
 PutsFile None (Some new) name bytes = ⊥
@@ -50,11 +49,11 @@ PutsFile (Some old) None name bytes = ⊤
 PutsFile (Some old) (Some new) name bytes =
     (new name ≡ Some bytes) × ((other : List ℕ) → other ≢ name → new other ≡ old other)
 
--- all slots but slot k stay as they were
+-- all slots except slot k are unchanged
 abbrev pub KeepsOthers : Slots → Slots → ℕ → Type 0
 KeepsOthers old new k = (j : ℕ) → j ≢ k → new j ≡ old j
 
--- every slot stays as it was
+-- every slot is unchanged
 abbrev pub KeepsSlots : Slots → Slots → Type 0
 KeepsSlots old new = (j : ℕ) → new j ≡ old j
 
@@ -68,20 +67,19 @@ IsOpened (Some files) slot name =
 abbrev pub IsMade : Option Files → Option Open → List ℕ → Type 0
 IsMade files slot name = IsSomeAnd slot (λ o. (o.made ≡ true) × (IsSome files → o.name ≡ Some name))
 
--- every slot stays live or free as it was and keeps its file, and what is left to read stays in each slot whose file
--- has another name than this
+-- every slot stays live or free as it was and keeps its file, and what is left to read is unchanged in each slot whose file has
+-- a different name from this
 pub record KeepsOtherFiles (old new : Slots) (name : Option (List ℕ)) : Type 0 where
   pub same : (j : ℕ) → option_map file_of (new j) ≡ option_map file_of (old j)
   pub left : (j : ℕ) → name_in old j ≢ name → left_in new j ≡ left_in old j
 
--- every slot but slot k stays live or free as it was and keeps its file, and what is left to read stays in each of them
--- whose file has another name than this
+-- every slot except slot k stays live or free as it was and keeps its file, and what is left to read is unchanged in each of
+-- them whose file has a different name from this
 pub record KeepsOthersFiles (old new : Slots) (k : ℕ) (name : List ℕ) : Type 0 where
   pub same : (j : ℕ) → j ≢ k → option_map file_of (new j) ≡ option_map file_of (old j)
   pub left : (j : ℕ) → j ≢ k → name_in old j ≢ Some name → left_in new j ≡ left_in old j
 
--- the file of this name gained these bytes at its end, and all other files stay as they were, as far as the shelf shows
--- them
+-- the file with this name gained these bytes at its end, and all other files are unchanged, as far as the shelf shows them
 abbrev pub AppendsTo : Option Files → Option Files → Option (List ℕ) → List ℕ → Type 0
 AppendsTo None None name bytes = ⊤
 AppendsTo None (Some new) name bytes = ⊥

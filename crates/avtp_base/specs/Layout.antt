@@ -1,4 +1,4 @@
--- Headers as tables: what each bit belongs to, part by part, as the standards print it. One table is used for reading
+-- Headers as tables: which value each bit belongs to, part by part, as the standards print it. One table is used for reading
 -- and for writing.
 use Rattle.std.specs.Prelude.{◌≡◌, ℕ, ◌+◌, ◌*◌, ◌/◌, ◌^◌, ◌<◌, Bool, true, false, nat_lt, if◌then◌else◌, List, [], ◌∷◌, map, Option, Some, None, ⊤}
 use Rattle.std.specs.List.{flat_map}
@@ -8,14 +8,14 @@ use Rattle.avtp_base.specs.declared.refusal.Refusal.{Refusal}
 use Rattle.avtp_base.specs.Octets.{bits, Range, range}
 use Rattle.avtp_base.specs.Rows.{Row, first_row}
 
--- Adjacent bits of a header: their width; what they hold of a view of type V, if it shows them; and whether they are
--- free (reserved), so that a packet may hold anything there and a writer writes 0.
+-- Adjacent bits of a header: their width; the value of a view of type V that they hold, if the view shows it; and whether they
+-- are free (reserved), so that a packet may hold anything there and a writer writes 0.
 pub record Bits (V : Type 0) : Type 0 where
   pub width : ℕ
   pub shown : Option (V → ℕ)
   pub free : Bool
 
--- Whole bytes of a header from byte `at` on, and the field by which a packet that ends before their end is refused.
+-- Whole bytes of a header from byte `at` on, and the field that refuses a packet that ends before their end.
 pub record Part (V : Type 0) : Type 0 where
   pub field : Field
   pub at : ℕ
@@ -38,7 +38,7 @@ holds width value = record { width = width; shown = Some value; free = false }
 abbrev pub reserved : {V : Type 0} → ℕ → Bits V
 reserved width = record { width = width; shown = None; free = true }
 
--- reserved bits of a header that a view shows all the same
+-- reserved bits of a header that a view shows nevertheless
 abbrev pub reserved_shown : {V : Type 0} → ℕ → (V → ℕ) → Bits V
 reserved_shown width value = record { width = width; shown = Some value; free = true }
 
@@ -81,12 +81,12 @@ total_width (b ∷ bs) = b.width + total_width bs
 abbrev pub size_of : {V : Type 0} → Part V → ℕ
 size_of p = total_width p.bits / 8
 
--- the row that refuses n bytes if this part of the header does not lie wholly in them
+-- the row that refuses n bytes if this part of the header is cut off in them
 abbrev pub short_row : {V : Type 0} → ℕ → Part V → Row
 short_row n p =
     record { refusal = record { field = p.field; at = p.at; short = true }; holds = nat_lt n (p.at + size_of p) }
 
--- the refusal of n bytes by the first part of the header that does not lie wholly in them, if there is one
+-- the refusal of n bytes by the first part of the header that is cut off in them, if there is one
 abbrev pub first_short : {V : Type 0} → Layout V → ℕ → Option Refusal
 first_short layout n = first_row (map (short_row n) layout)
 

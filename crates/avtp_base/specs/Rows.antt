@@ -23,13 +23,13 @@ abbrev pub or_else : Option Refusal → Option Refusal → Option Refusal
 or_else None second = second
 or_else (Some refusal) second = Some refusal
 
--- A reader's result: Ok with the view that the bytes spell if nothing refuses them, otherwise the refusal.
+-- A reader's result: `Ok` with the view that the bytes spell if nothing refuses them, otherwise the refusal.
 abbrev pub Reads : {X V : Type 0} → (X → V) → Option Refusal → V → Result X Refusal → Type 0
 Reads shape refusal view (Ok x) = (refusal ≡ None) × (shape x ≡ view)
 Reads shape refusal view (Err r) = refusal ≡ Some r
 
--- A writer's result: it put the spelling at the front of the slice, left the rest as it was and answered the spelling's
--- length; or the slice is too short, it left all as it was, and answered the room that is needed and the room there is.
+-- A writer's result: it put the spelling at the front of the slice, left the rest unchanged and returned the spelling's length;
+-- or the slice is too short, it left everything unchanged, and returned the room that is needed and the room there is.
 abbrev pub Writes : List ℕ → List ℕ → List ℕ → Result ℕ Room → Type 0
 Writes spelling old new (Ok n) =
     (n ≡ length spelling) × (length spelling ≤ length old) × (new ≡ spelling ++ drop (length spelling) old)

@@ -32,8 +32,7 @@ abbrev pub AreNames : Bool → List (List ℕ) → List (List ℕ) → Type 0
 AreNames true kept names = names ≡ kept
 AreNames false kept names = (rest : List (List ℕ)) × (names ≡ kept ++ rest)
 
--- A shelf may have been asked for these names so far, in this order: for those of its account, and for any if it keeps
--- none.
+-- A shelf may have been asked for these names so far, in this order: for those of its account, or for any if it keeps none.
 abbrev pub WasAsked : Option Account → List (List ℕ) → Type 0
 WasAsked None names = ⊤
 WasAsked (Some account) names = AreNames account.all account.kept names

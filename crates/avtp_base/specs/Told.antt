@@ -1,8 +1,8 @@
--- What an object of the outside shows of the bytes that it holds. It may show them, or not, or stop showing them, and
--- then it never shows them again. What is said of the bytes holds if they are shown before and after.
+-- What an object of the outside shows of the bytes that it holds. It may show them, or not, or stop showing them, and then it
+-- never shows them again. A statement about the bytes holds if they are shown before and after.
 use Rattle.std.specs.Prelude.{◌≡◌, ℕ, List, ◌++◌, take, ⊤, Option, None, Some, Result, MatchResult, option_map}
 
--- the bytes that are shown stay as they were
+-- the bytes that are shown are unchanged
 abbrev pub Keeps : Option (List ℕ) → Option (List ℕ) → Type 0
 Keeps None None = ⊤
 Keeps None (Some ys) = ⊥

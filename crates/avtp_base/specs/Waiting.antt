@@ -1,4 +1,4 @@
--- What a buffer is once the bytes that it lent are given back.
+-- A buffer after the bytes that it lent are given back.
 use Rattle.std.specs.Prelude.{ℕ, List, length}
 use Rattle.std.specs.List.{refill}
 use Rattle.std.specs.Borrow.{Lends, MutBor, Fml, Array, u8}

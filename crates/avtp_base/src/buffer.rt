@@ -7,10 +7,10 @@ use crate::spelled::Spelled;
 use std::alloc::Global;
 use std::marker::Model;
 
-/// Bytes that wait to be written, which contracts see as their list: at most 65,536. Their memory is reserved once.
+/// Bytes that wait to be written, at most 65,536. Contracts see them as a list. Their memory is reserved once.
 #[derive(Drop)]
 pub struct Buffer {
-    /// The bytes that wait, and after them bytes that will be overwritten.
+    /// The bytes that wait, followed by bytes that will be overwritten.
     bytes: Vec<u8>,
     /// How many bytes wait.
     len: usize,
@@ -33,11 +33,11 @@ impl Buffer {
     /// The most bytes that wait.
     pub const ROOM: usize = 65_536;
 
-    /// A buffer in which nothing waits. Reserves all the memory that its bytes will take.
+    /// A buffer in which nothing waits. Reserves all the memory that its bytes will need.
     pub fn new(alloc: Global) -> Result<Self, NoMemory>
         ensures { IfOk result (λ buffer. buffer ≡ []) }
     {
-        // The memory is written here, since a slice of it must have values.
+        // The memory is filled here, because a slice of it must have values.
         match vec![in alloc; 0; Self::ROOM] {
             Ok(bytes) => Ok(Buffer { bytes, len: 0 }),
             Err(_) => Err(NoMemory),
@@ -62,8 +62,8 @@ impl Buffer {
         self.len = end;
     }
 
-    /// Adds the first `len` of these bytes at the end. There must be room for all of them, since all are moved: if the
-    /// compiler knows their number, it does that in place and without a call.
+    /// Adds the first `len` of these bytes at the end. There must be room for all of them, because all are moved: if the
+    /// compiler knows their number, it moves them in place and without a call.
     #[inline(always)]
     pub fn push_first(&mut self, bytes: &[u8], len: usize)
         requires some { len ≤ length bytes.now }
@@ -75,7 +75,7 @@ impl Buffer {
         self.len = end;
     }
 
-    /// Adds what is spelled at the end, and writes it there in place. There must be room for them.
+    /// Adds the encoding of a value at the end, written in place. There must be room for it.
     #[inline(always)]
     pub fn add<W: Spelled>(&mut self, added: &W)
         requires { length self.old + length (W.spelling added.now) ≤ Self.ROOM }

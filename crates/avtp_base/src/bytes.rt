@@ -4,7 +4,7 @@ ghost use Rattle.std.specs.Prelude.{◌≡◌};
 
 use std::marker::Model;
 
-/// Bytes, which contracts see as their list.
+/// Bytes. Contracts see them as a list.
 #[derive(Debug, Drop)]
 pub struct Bytes {
     items: Vec<u8>,
@@ -19,7 +19,7 @@ impl Model for Bytes {
 }
 
 impl Bytes {
-    /// The bytes of the vector. Takes no memory.
+    /// The bytes of the vector. Allocates nothing.
     pub fn over(items: Vec<u8>) -> Self
         ensures { result ≡ items.items }
     {

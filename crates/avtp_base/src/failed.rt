@@ -8,7 +8,7 @@ use thiserror::Error;
 #[error("a call of the outside failed")]
 pub struct Failed;
 
-/// No memory was found.
+/// Memory ran out.
 #[derive(Clone, Copy, Debug, PartialEq, Eq, Error)]
 #[error("out of memory")]
 pub struct NoMemory;
@@ -22,7 +22,7 @@ pub enum OpenFault {
     /// The outside failed, and the shelf counts it.
     #[error("the file could not be opened")]
     Failed,
-    /// No memory was found.
+    /// Memory ran out.
     #[error("out of memory")]
     Memory,
 }

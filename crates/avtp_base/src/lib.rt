@@ -1,4 +1,4 @@
-//! What every crate of the product is based on: what contracts see of the outside, why something is refused, and numbers in bytes.
+//! The base of every crate: what contracts see of the outside, why something is refused, and numbers in bytes.
 #![tactic(auto)]
 
 mod buffer;

@@ -8,7 +8,7 @@ pub struct Refusal {
     pub field: Field,
     /// The offset of the field's first byte in the bytes that were read.
     pub at: u64,
-    /// The field does not lie wholly in the part that should hold it.
+    /// The part that should hold the field is too short for it.
     pub short: bool,
 }
 

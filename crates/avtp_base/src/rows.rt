@@ -16,7 +16,7 @@ pub fn refused(field: Field, at: u64) -> Refusal
     }
 }
 
-/// The refusal of a field that does not lie wholly in the part that should hold it.
+/// The refusal of a field that is cut off in the part that should hold it.
 pub fn cut_off(field: Field, at: u64) -> Refusal
     ensures { result ≡ record { field = field; at = at; short = true } }
 {

@@ -1,9 +1,9 @@
-//! What is written in place.
+//! Values that are written in place.
 
 ghost use Rattle.std.specs.Prelude.{◌≡◌, length};
 
-/// What knows how many bytes it is written as, and writes them in their final place: a frame that is made first and
-/// then copied after its record's header takes longer, since the copy waits for what was just written.
+/// A value with a known encoded length that writes itself into a slice of that length. A frame that was built first and then
+/// copied after its record's header would take longer, because the copy waits for the bytes that were just written.
 pub trait Spelled {
     ghost use Rattle.std.specs.Prelude.{List, ℕ};
 

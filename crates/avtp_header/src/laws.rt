@@ -1,4 +1,4 @@
-//! Laws of stream headers. Each is stated by a contract; the call does nothing.
+//! Laws of stream headers. Each call only states its contract, and does nothing.
 
 ghost use Rattle.std.specs.Prelude.{◌≡◌, ◌≤◌, ◌++◌, false, length, drop, List, ℕ};
 ghost use Rattle.avtp_base.specs.Layout.{Fits, reserved_ranges, spelling};

@@ -13,7 +13,7 @@ use avtp_base::octets::{bit_at, bits_at, u16_at, u32_at, u64_at};
 use avtp_base::rows::{cut_off, refused};
 use avtp_base::{Field, Refusal};
 
-/// The refusal of a packet of `len` bytes by the header's first field that does not lie wholly in it.
+/// The refusal of a packet of `len` bytes by the first field of the header that is cut off.
 fn short_field(len: usize) -> Option<Refusal>
     ensures { result ≡ first_short header_layout len }
 {

@@ -35,7 +35,7 @@ is_found p xs i x e there =
     let found : find p xs ≡ Some x = at ∙ slice_get-get_or xs i x inside ∙ ap (λ y. Some y) (sym there) in
     record { first = first; inside = inside; found = found; passes = find_passes p xs x found }
 
--- a name that is not this one is told from it
+-- a name that differs from this one is told apart
 other_name : (other name : List ℕ) (entry : String Global × Vec ℕ) → other ≢ name → has_name name entry ≡ true → has_name other entry ≡ false
 other_name other name entry differ same =
     let is : string_bytes entry.0 ≡ name = (bytes_eq-Decides (string_bytes entry.0) name).0 same in
@@ -162,7 +162,7 @@ pub capacity_none : (entries : List (String Global × Vec ℕ)) (name : List ℕ
 unfolding size_of_found
 capacity_none entries name e = ap size_of_found (find_none (has_name name) entries e)
 
--- what holds, holds at an error
+-- a fact that always holds also holds at an error
 pub on_err : {T E : Type 0} (r : Result T E) (P : Type 0) → P → OnErr r P
 on_err (Ok x) P h = tt
 on_err (Err e) P h = h

@@ -1,4 +1,4 @@
--- The names that a shelf was asked for, in order, of which one in memory keeps those that it finds memory for.
+-- The names that a shelf was asked for, in order. A shelf in memory keeps those that it has memory for.
 use Rattle.std.specs.Prelude.{ℕ, List, map, string_bytes, String}
 use Rattle.std.specs.Global.{Global}
 use Rattle.avtp_memory.specs.declared.asked_names.AskedNames.{AskedNames}
@@ -8,5 +8,6 @@ use Rattle.avtp_base.specs.States.{AreNames}
 abbrev pub names_kept : AskedNames → List (List ℕ)
 names_kept asked = map (λ (name : String Global). string_bytes name) asked.names.items
 
+-- a shelf that keeps these names may have been asked for these ones
 abbrev pub StandsForNames : AskedNames → List (List ℕ) → Type 0
 StandsForNames asked names = AreNames asked.all (names_kept asked) names

@@ -25,7 +25,8 @@ slots_in held k = option_map (open_in held.files.entries.items) (entry_at held.l
 abbrev pub room_in : MemoryFiles → ℕ
 room_in held = held.room
 
--- The named file keeps what fits its room of a piece, which is said to be all of it or not, and every other file stays.
+-- The named file keeps as much of a piece as fits its room, the answer says whether that is all of it, and every other file
+-- stays.
 pub record KeepsPart (old new : Files) (named : Option (List ℕ)) (room : ℕ) (piece : List ℕ) (fits : Bool) : Type 0 where
   pub name : List ℕ
   pub is_named : named ≡ Some name

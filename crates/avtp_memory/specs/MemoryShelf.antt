@@ -34,14 +34,15 @@ failing_calls shelf = shelf.calls.fails.items
 abbrev pub most : MemoryShelf → ℕ
 most shelf = shelf.most
 
--- the numbers of faults so far
+-- the count of reading faults so far
 abbrev pub reading_count : MemoryShelf → ℕ
 reading_count shelf = shelf.reading_faults
 
+-- the count of writing faults so far
 abbrev pub writing_count : MemoryShelf → ℕ
 writing_count shelf = shelf.writing_faults
 
--- the next call fails, since its number is among those that do
+-- the next call fails, because its number is among those that do
 abbrev pub IsToFail : MemoryShelf → Type 0
 IsToFail shelf = Contains (failing_calls shelf) (next_number (calls shelf))
 
@@ -51,7 +52,7 @@ pub record CountsCall (old new : MemoryShelf) : Type 0 where
   pub fails : failing_calls new ≡ failing_calls old
   pub most : most new ≡ most old
 
--- ---- what a call does beside what it does on each shelf
+-- ---- what a call does beyond what it does on every shelf
 
 -- A file was opened or made, or not: at `Failed` exactly if the call's number is among those that fail. The call was
 -- counted.
@@ -59,14 +60,14 @@ pub record OpensByNumber (old new : MemoryShelf) (result : Result Slot OpenFault
   pub failed : IsErrOf result open_fault.Failed ↔ IsToFail old
   pub call : CountsCall old new
 
--- A read of slot k into a buffer of so many bytes: it moved as many bytes as are left, fit and are allowed, or failed,
+-- A read of slot k into a buffer of this many bytes: it moved as many bytes as are left, fit and are allowed, or failed,
 -- exactly if its number is among those that fail. The call was counted.
 pub record ReadsByNumber (old new : MemoryShelf) (k room : ℕ) (result : Result ℕ Failed) : Type 0 where
   pub whole : IfOk result (λ n. IfSome (left_in (slots_of old) k) (λ left. n ≡ min (length left) (min room (most old))))
   pub failed : IsErr result ↔ IsToFail old
   pub call : CountsCall old new
 
--- A write of a piece: it took as many bytes as it has and are allowed, or failed, and always if its number is among those
+-- A write of a piece: it took as many bytes as it has and are allowed, or failed; it always fails if its number is among those
 -- that fail. The call was counted.
 pub record WritesByNumber (old new : MemoryShelf) (piece : List ℕ) (result : Result ℕ Failed) : Type 0 where
   pub whole : IfOk result (λ n. n ≡ min (length piece) (most old))

@@ -24,8 +24,9 @@ most sink = sink.most
 abbrev pub fault_count : MemorySink → ℕ
 fault_count sink = sink.faults
 
--- What a write does beside what it does on each sink: it took as many bytes as the piece has and are allowed, or failed,
--- and always if its number is among those that fail. The call was counted, and the sink fails and takes bytes as before.
+-- What a write does beyond what it does on every sink: it took as many bytes as the piece has and are allowed, or failed; it
+-- always fails if its number is among those that fail. The call was counted, and the sink keeps its other failing calls and its
+-- limit.
 pub record TakesByNumber (old new : MemorySink) (piece : List ℕ) (result : Result ℕ Failed) : Type 0 where
   pub told : Contains (failing_calls old) (next_number (calls old)) → IsErr result
   pub whole : IfOk result (λ n. n ≡ min (length piece) (most old))

@@ -33,38 +33,38 @@ slots_of shelf = slots_in shelf.held
 abbrev pub asked_of : QuietShelf → List (List ℕ) → Type 0
 asked_of shelf = StandsForNames shelf.asked
 
--- The named file keeps what fits its room of a piece, every other file stays, and all is kept where it was and the piece
--- fits.
+-- The named file keeps as much of a piece as fits its room, every other file stays, and all is kept if it was before and the
+-- piece fits.
 abbrev pub KeepsPiece : QuietShelf → QuietShelf → Option (List ℕ) → List ℕ → Type 0
 KeepsPiece old new name piece =
     (fits : Bool) × KeepsPart (kept_files old) (kept_files new) name (room_of old) piece fits × (keeps_all new ≡ (keeps_all old && fits))
 
--- ---- what a call does beside what it does on each shelf
+-- ---- what a call does beyond what it does on every shelf
 
--- what is kept stays as it was, and so does whether that is all, and the room of files that are made
+-- what is kept is unchanged, and so are whether that is all, and the room of files that are made
 pub record KeepsKept (old new : QuietShelf) : Type 0 where
   pub kept : KeepsFiles (Some (kept_files old)) (Some (kept_files new))
   pub all : keeps_all new ≡ keeps_all old
   pub room : room_of new ≡ room_of old
 
--- a file of this name was opened, if one is kept, and what is kept of it is left to read
+-- a file with this name was opened, if one is kept, and what is kept of it is left to read
 pub record OpensQuietly (old new : QuietShelf) (name : List ℕ) (result : Result Slot OpenFault) : Type 0 where
   pub found : IfOk result (λ slot. IsOpened (Some (kept_files old)) (slots_of new slot.0) name)
   pub keeps : KeepsKept old new
 
--- nothing is kept of the file of this name, which was made; or all that is kept stays as it was
+-- the file with this name was made, and nothing is kept of it yet; or all that is kept is unchanged
 pub record MakesQuietly (old new : QuietShelf) (name : List ℕ) (result : Result Slot OpenFault) : Type 0 where
   pub kept : OnOk result (PutsFile (Some (kept_files old)) (Some (kept_files new)) name [])
   pub as_before : OnErr result (KeepsFiles (Some (kept_files old)) (Some (kept_files new)))
   pub all : keeps_all new ≡ keeps_all old
   pub room : room_of new ≡ room_of old
 
--- a read of slot k into a buffer of so many bytes moved as many as are left and fit
+-- a read of slot k into a buffer of this many bytes moved as many as are left and fit
 pub record ReadsQuietly (old new : QuietShelf) (k room : ℕ) (result : Result ℕ Failed) : Type 0 where
   pub whole : IfSome (left_in (slots_of old) k) (λ left. result ≡ Ok (min (length left) room))
   pub keeps : KeepsKept old new
 
--- a write to slot k took the whole piece, and what fits the room of the file is kept of it
+-- a write to slot k took the whole piece, and as much of it as fits the room of the file is kept
 pub record WritesQuietly (old new : QuietShelf) (k : ℕ) (piece : List ℕ) (result : Result ℕ Failed) : Type 0 where
   pub whole : result ≡ Ok (length piece)
   pub kept : KeepsPiece old new (name_in (slots_of old) k) piece

@@ -20,7 +20,7 @@ keeps_all sink = sink.all
 abbrev pub told : QuietSink → Option (List ℕ)
 told sink = told_while (keeps_all sink) (kept sink)
 
--- What a write does beside what it does on each sink: it took the whole piece, and what fits the room is kept of it.
+-- What a write does beyond what it does on every sink: it took the whole piece, and as much of it as fits the room is kept.
 pub record TakesQuietly (old new : QuietSink) (piece : List ℕ) (result : Result ℕ Failed) : Type 0 where
   pub whole : result ≡ Ok (length piece)
   pub all : IsTrue (keeps_all new) ↔ IsTrue (keeps_all old) × FitsRoom (room_of old) (kept old) piece

@@ -7,8 +7,7 @@ ghost use Rattle.avtp_memory.specs.state.Asked.{NamePushed};
 
 use std::alloc::Global;
 
-/// Names in the order in which they were asked for. Where no memory is found for one, it and all later ones are not
-/// kept.
+/// Names in the order in which they were asked for. If there is no memory for one, neither it nor any later one is kept.
 #[derive(Debug, Drop)]
 pub struct AskedNames {
     alloc: Global,
@@ -38,7 +37,7 @@ impl AskedNames {
     }
 }
 
-// Appends a name, and says whether memory was found for it.
+// Appends a name, and returns whether there was memory for it.
 fn push_name(alloc: Global, names: &mut Vec<String>, name: &str) -> bool
     ensures { NamePushed result (map (λ (n : String Global). string_bytes n) names.old.items) (map (λ (n : String Global). string_bytes n) names.new.items) name.now }
 {

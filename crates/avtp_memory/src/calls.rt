@@ -1,9 +1,9 @@
-//! The calls of an object in memory, of which some are to fail.
+//! The calls of an object in memory, some of which are to fail.
 
 ghost use Rattle.std.specs.Prelude.{◌≡◌, ◌↔◌, Contains, IsTrue};
 ghost use Rattle.avtp_memory.specs.Calls.{next_number};
 
-/// Numbers the calls from 1, and knows which of them fail. The number stops at the greatest `u64`.
+/// Numbers the calls from 1, and holds the numbers of those that fail. The number stops at the greatest `u64`.
 #[derive(Debug, Drop)]
 pub struct Calls {
     pub fails: Vec<u64>,
@@ -18,7 +18,7 @@ impl Calls {
         Calls { fails, count: 0 }
     }
 
-    /// Counts the next call, and says whether it fails.
+    /// Counts the next call, and returns whether it fails.
     pub fn next_fails(&mut self) -> bool
         ensures fails { IsTrue result ↔ Contains self.old.fails.items (next_number self.old.count) }
         ensures count { self.new.count ≡ next_number self.old.count }

@@ -1,4 +1,4 @@
-//! Files in memory, with what is open of them: what both shelves in memory stand on.
+//! Files in memory, and those of them that are open. Both shelves in memory are built on it.
 
 ghost use Rattle.std.specs.Prelude.{◌≤◌};
 ghost use Rattle.avtp_memory.specs.state.OpenFile.{AreNamed, HaveRoom};
@@ -10,8 +10,7 @@ use avtp_files::Slot;
 use avtp_files::slots::Slots;
 use std::alloc::Global;
 
-/// Files by name, and by slot those of them that are open. A file that is made has memory for so many bytes from its
-/// start.
+/// Files by name, and the open ones by slot. A file that is made has memory for this many bytes from its start.
 #[derive(Debug, Drop)]
 pub struct MemoryFiles {
     alloc: Global,
@@ -29,7 +28,7 @@ impl MemoryFiles {
     ghost use Rattle.avtp_memory.specs.MemoryFiles.{files_in, slots_in, room_in, KeepsPart};
     ghost use Rattle.avtp_memory.specs.NamedFiles.{bytes_under};
 
-    /// These files, each under its name, of which none is open. Of two files of one name the first counts.
+    /// These files, each under its name, none of them open. If two files have one name, the first counts.
     pub fn over(alloc: Global, files: Vec<(String, Vec<u8>)>, room: usize) -> Self
         ensures files { files_in result ≡ bytes_under files.items }
         ensures closed { (k : ℕ) → slots_in result k ≡ None }
@@ -50,7 +49,7 @@ impl MemoryFiles {
         self.files.bytes(name)
     }
 
-    /// Opens a file for reading, and answers `Missing` where none has the name.
+    /// Opens a file for reading, or returns `Missing` if no file has the name.
     pub fn open(&mut self, name: &str) -> Result<Slot, OpenFault>
         ensures opened { IfOk result (λ slot. IsOpened (Some (files_in self.old)) (slots_in self.new slot.0) name.now) }
         ensures fresh { IfOk result (λ slot. slots_in self.old slot.0 ≡ None) }
@@ -91,7 +90,7 @@ impl MemoryFiles {
         Ok(slot)
     }
 
-    /// Moves bytes from the front of what is left, as many as are left, fit the buffer and are allowed.
+    /// Moves bytes from the front of what is left: as many as are left, fit the buffer and are allowed.
     pub fn read(&mut self, slot: Slot, most: usize, buf: &mut [u8]) -> usize
         requires live { IsSome (slots_in self.old slot.0) }
         requires some { 0 < most }
@@ -114,7 +113,7 @@ impl MemoryFiles {
         moved
     }
 
-    /// Appends a piece to the file of a slot, whole, or nothing where no memory is found.
+    /// Appends a piece to the file of a slot, whole, or nothing if there is no memory.
     pub fn append(&mut self, slot: Slot, piece: &[u8]) -> Result<(), NoMemory>
         requires live { option_map (λ o. o.made) (slots_in self.old slot.0) ≡ Some true }
         ensures appended { OnOk result (AppendsTo (Some (files_in self.old)) (Some (files_in self.new)) (name_in (slots_in self.old) slot.0) piece.now) }
@@ -130,7 +129,7 @@ impl MemoryFiles {
         self.files.append(file.name.as_str(), piece)
     }
 
-    /// Keeps what fits the room of the slot's file of a piece, and says whether all of it did.
+    /// Keeps as much of a piece as fits the room of the slot's file, and returns whether that is all of it.
     pub fn keep(&mut self, slot: Slot, piece: &[u8]) -> bool
         requires live { option_map (λ o. o.made) (slots_in self.old slot.0) ≡ Some true }
         ensures kept { KeepsPart (files_in self.old) (files_in self.new) (name_in (slots_in self.old) slot.0) (room_in self.old) piece.now result }
@@ -144,7 +143,7 @@ impl MemoryFiles {
         self.files.keep(file.name.as_str(), self.room, piece)
     }
 
-    /// Ends the slot.
+    /// Frees the slot.
     pub fn close(&mut self, slot: Slot)
         requires { IsSome (slots_in self.old slot.0) }
         ensures ended { slots_in self.new slot.0 ≡ None }

@@ -1,4 +1,4 @@
-//! A shelf in memory, which fails where it is told to.
+//! A shelf in memory, which fails at chosen calls.
 
 ghost use Rattle.std.specs.Prelude.{◌<◌};
 
@@ -9,8 +9,8 @@ use avtp_base::{Failed, NoMemory, OpenFault};
 use avtp_files::{Shelf, Slot};
 use std::alloc::Global;
 
-/// Keeps files by name. Its calls, but those of `close_file`, are numbered from 1, and those whose numbers it was
-/// given fail.
+/// Keeps files by name. Its calls, except those of `close_file`, are numbered from 1, and those whose numbers it was given
+/// fail.
 #[derive(Debug, Drop)]
 pub struct MemoryShelf {
     held: MemoryFiles,
@@ -27,8 +27,8 @@ impl MemoryShelf {
     ghost use Rattle.avtp_memory.specs.NamedFiles.{bytes_under};
     ghost use Rattle.avtp_memory.specs.MemoryShelf.{files_of, slots_of, asked_of, calls, failing_calls, most, reading_count, writing_count};
 
-    /// A shelf of these files, each under its name, whose calls with these numbers fail. Of two files of one name
-    /// the first counts.
+    /// A shelf of these files, each under its name, whose calls with these numbers fail. If two files have one name, the first
+    /// counts.
     pub fn over(alloc: Global, files: Vec<(String, Vec<u8>)>, fails: Vec<u64>) -> Self
         ensures files { files_of result ≡ bytes_under files.items }
         ensures closed { (k : ℕ) → slots_of result k ≡ None }
@@ -86,8 +86,7 @@ impl MemoryShelf {
         self.held.file(name)
     }
 
-    /// The names that `open_file` and `create_file` were called with, in order, up to the first for which no memory was
-    /// found.
+    /// The names that `open_file` and `create_file` were called with, in order, up to the first for which there was no memory.
     pub fn asked(&self) -> &[String]
         ensures { result.now ≡ self.now.asked.names.items }
     {
@@ -96,6 +95,7 @@ impl MemoryShelf {
 }
 
 impl Shelf for MemoryShelf {
+    ghost use Rattle.std.specs.Prelude.{length};
     ghost use Rattle.avtp_memory.specs.state.MemoryFiles.{told_of_live};
     ghost use Rattle.avtp_memory.specs.MemoryShelf.{OpensByNumber, ReadsByNumber, WritesByNumber, KeepsNumber};
     ghost use Rattle.avtp_memory.specs.state.MemoryShelf.{state_of};
@@ -106,7 +106,7 @@ impl Shelf for MemoryShelf {
 
     ghost makes = { λ old new name result. OpensByNumber old new result };
 
-    ghost reads = { λ old new slot room result. ReadsByNumber old new slot room result };
+    ghost reads = { λ old new slot buffer result. ReadsByNumber old new slot (length buffer) result };
 
     ghost writes = { λ old new slot piece result. WritesByNumber old new piece result };
 
@@ -114,7 +114,7 @@ impl Shelf for MemoryShelf {
 
     ghost told = { λ shelf k told live. told_of_live shelf.held k live };
 
-    /// Fails exactly where its number is among those that fail.
+    /// Fails exactly if its number is among those that fail.
     fn open_file(&mut self, name: &str) -> Result<Slot, OpenFault> {
         self.asked.note(name);
         if self.calls.next_fails() {
@@ -124,7 +124,7 @@ impl Shelf for MemoryShelf {
         self.held.open(name)
     }
 
-    /// Fails exactly where its number is among those that fail.
+    /// Fails exactly if its number is among those that fail.
     fn create_file(&mut self, name: &str) -> Result<Slot, OpenFault> {
         self.asked.note(name);
         if self.calls.next_fails() {
@@ -137,7 +137,7 @@ impl Shelf for MemoryShelf {
         Ok(slot)
     }
 
-    /// Fails exactly where its number is among those that fail. It moves as many bytes as are left and fit.
+    /// Fails exactly if its number is among those that fail. It moves as many bytes as are left and fit.
     fn read(&mut self, slot: Slot, buf: &mut [u8]) -> Result<usize, Failed> {
         if self.calls.next_fails() {
             self.reading_faults = self.reading_faults.saturating_add(1);
@@ -146,8 +146,8 @@ impl Shelf for MemoryShelf {
         Ok(self.held.read(slot, self.most, buf))
     }
 
-    /// Fails where its number is among those that fail, and where no memory is found to keep the piece. It takes
-    /// the whole piece.
+    /// Fails if its number is among those that fail, or if there is no memory to keep the piece. Otherwise it takes the whole
+    /// piece.
     fn write(&mut self, slot: Slot, piece: &[u8]) -> Result<usize, Failed> {
         if self.calls.next_fails() {
             self.writing_faults = self.writing_faults.saturating_add(1);
@@ -163,7 +163,7 @@ impl Shelf for MemoryShelf {
         }
     }
 
-    /// Ends the slot. The call has no number.
+    /// Frees the slot. The call has no number.
     fn close_file(&mut self, slot: Slot) {
         self.held.close(slot);
     }

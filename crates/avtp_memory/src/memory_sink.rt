@@ -1,4 +1,4 @@
-//! A sink in memory, which fails where it is told to.
+//! A sink in memory, which fails at chosen calls.
 
 ghost use Rattle.std.specs.Prelude.{◌<◌};
 
@@ -76,7 +76,7 @@ impl Sink for MemorySink {
 
     ghost writes = { λ old new piece result. TakesByNumber old new piece result };
 
-    /// Fails where the number of the call is among those that fail, and where no memory is found to keep the piece.
+    /// Fails if the number of the call is among those that fail, or if there is no memory to keep the piece.
     fn write(&mut self, piece: &[u8]) -> Result<usize, Failed> {
         if self.calls.next_fails() {
             self.faults = self.faults.saturating_add(1);

@@ -8,7 +8,7 @@ use crate::room::{empty_with_room, keep_within};
 use avtp_base::NoMemory;
 use std::alloc::Global;
 
-/// Names with their bytes. Of two entries of one name the first counts.
+/// Names with their bytes. If two entries have one name, the first counts.
 #[derive(Debug, Drop)]
 pub struct NamedFiles {
     pub entries: Vec<(String, Vec<u8>)>,
@@ -51,7 +51,7 @@ impl NamedFiles {
         Ok(())
     }
 
-    /// Appends what fits the room of a piece to the file with the name, and says whether all of it did.
+    /// Appends as much of a piece as fits the room to the file with the name, and returns whether that is all of it.
     pub fn keep(&mut self, name: &str, room: usize, piece: &[u8]) -> bool
         requires named { IsSome (bytes_under self.old.entries.items name.now) }
         requires roomy { room ≤ capacity_under self.old.entries.items name.now }

@@ -1,4 +1,4 @@
-//! A file of a shelf in memory that is open.
+//! An open file of a shelf in memory.
 
 ghost use Rattle.std.specs.Prelude.{◌≡◌, ◌+◌, ◌-◌, ◌^◌, ◌<◌, ◌++◌, [], length, min, take, drop, option_map, IsSome, IfOk, IfSome, string_bytes};
 ghost use Rattle.avtp_files.specs.Entries.{entry_at, SetsEntry};
@@ -9,7 +9,7 @@ use avtp_files::Slot;
 use avtp_files::slots::Slots;
 use std::alloc::Global;
 
-/// A file that is open: how many of its bytes were read, and whether it was made for writing.
+/// An open file: how many of its bytes were read, and whether it was made for writing.
 #[derive(Debug, Drop)]
 pub struct OpenFile {
     pub name: String,
@@ -44,7 +44,7 @@ pub fn advance(live: &mut Slots<OpenFile>, slot: Slot, by: usize)
     }
 }
 
-/// Copies from a place of a file's bytes into the buffer, at most as many bytes as said.
+/// Copies a file's bytes from a place on into the buffer, at most `most` of them.
 pub fn copy_from(bytes: &[u8], place: usize, most: usize, buf: &mut [u8]) -> usize
     requires some { 0 < most }
     requires room { 0 < length buf.old }

@@ -1,4 +1,4 @@
-//! A shelf that never fails, and whose written files take memory only where they are made.
+//! A shelf that never fails. It allocates for a written file only when the file is made.
 
 use crate::asked_names::AskedNames;
 use crate::memory_files::MemoryFiles;
@@ -6,8 +6,8 @@ use avtp_base::{Failed, OpenFault};
 use avtp_files::{Shelf, Slot};
 use std::alloc::Global;
 
-/// Keeps what fits the room of each file that is written, and takes the rest without keeping it. It tells its files
-/// only while all that was written fits, and never again after.
+/// Keeps as much of each written file as fits its room, and takes the rest without keeping it. It tells its files only while
+/// everything that was written fits, and never again after that.
 #[derive(Debug, Drop)]
 pub struct QuietShelf {
     held: MemoryFiles,
@@ -20,8 +20,8 @@ impl QuietShelf {
     ghost use Rattle.avtp_memory.specs.NamedFiles.{bytes_under};
     ghost use Rattle.avtp_memory.specs.QuietShelf.{kept_files, keeps_all, room_of, slots_of, asked_of};
 
-    /// A shelf of these files, each under its name, with room for `room` bytes in each file that is made. Of two files
-    /// of one name the first counts.
+    /// A shelf of these files, each under its name, with room for `room` bytes in each file that is made. If two files have one
+    /// name, the first counts.
     pub fn over(alloc: Global, files: Vec<(String, Vec<u8>)>, room: usize) -> Self
         ensures files { kept_files result ≡ bytes_under files.items }
         ensures all { IsTrue (keeps_all result) }
@@ -45,6 +45,7 @@ impl QuietShelf {
 }
 
 impl Shelf for QuietShelf {
+    ghost use Rattle.std.specs.Prelude.{length};
     ghost use Rattle.avtp_memory.specs.state.MemoryFiles.{told_of_live};
     ghost use Rattle.avtp_memory.specs.QuietShelf.{OpensQuietly, MakesQuietly, ReadsQuietly, WritesQuietly, KeepsKept};
     ghost use Rattle.avtp_memory.specs.state.QuietShelf.{state_of};
@@ -55,7 +56,7 @@ impl Shelf for QuietShelf {
 
     ghost makes = { λ old new name result. MakesQuietly old new name result };
 
-    ghost reads = { λ old new slot room result. ReadsQuietly old new slot room result };
+    ghost reads = { λ old new slot buffer result. ReadsQuietly old new slot (length buffer) result };
 
     ghost writes = { λ old new slot piece result. WritesQuietly old new slot piece result };
 
@@ -63,7 +64,7 @@ impl Shelf for QuietShelf {
 
     ghost told = { λ shelf k told live. told_of_live shelf.held k live };
 
-    /// Never fails. A shelf that no longer tells its files cannot say that one is missing, and answers `Memory`.
+    /// Never fails. A shelf that no longer tells its files cannot say that one is missing, and returns `Memory`.
     fn open_file(&mut self, name: &str) -> Result<Slot, OpenFault> {
         self.asked.note(name);
         match self.held.open(name) {
@@ -87,14 +88,14 @@ impl Shelf for QuietShelf {
         Ok(self.held.read(slot, usize::MAX, buf))
     }
 
-    /// Never fails. Takes the whole piece, and keeps what fits the room of the file.
+    /// Never fails. Takes the whole piece, and keeps as much of it as fits the room of the file.
     fn write(&mut self, slot: Slot, piece: &[u8]) -> Result<usize, Failed> {
         let fits = self.held.keep(slot, piece);
         self.all = self.all && fits;
         Ok(piece.len())
     }
 
-    /// Ends the slot.
+    /// Frees the slot.
     fn close_file(&mut self, slot: Slot) {
         self.held.close(slot);
     }

@@ -1,4 +1,4 @@
-//! A sink that never fails and takes no memory.
+//! A sink that never fails and allocates nothing.
 
 ghost use Rattle.std.specs.Prelude.{◌≤◌, vec_capacity};
 
@@ -7,7 +7,7 @@ use avtp_base::{Failed, NoMemory};
 use avtp_files::Sink;
 use std::alloc::Global;
 
-/// Keeps what fits its room, and takes the rest without keeping it. It tells what it holds only while all of it fits.
+/// Keeps as much as fits its room, and takes the rest without keeping it. It tells what it holds only while all of it fits.
 #[derive(Debug, Drop)]
 pub struct QuietSink {
     bytes: Vec<u8>,
@@ -49,7 +49,7 @@ impl Sink for QuietSink {
 
     ghost writes = { λ old new piece result. TakesQuietly old new piece result };
 
-    /// Takes the whole piece, and keeps what fits of it.
+    /// Takes the whole piece, and keeps as much of it as fits.
     fn write(&mut self, piece: &[u8]) -> Result<usize, Failed> {
         let fits = keep_within(&mut self.bytes, self.room, piece);
         self.all = self.all && fits;

@@ -1,11 +1,11 @@
-//! Bytes that are kept only as far as their room reaches.
+//! Bytes that are kept up to a limit.
 
 ghost use Rattle.std.specs.Prelude.{◌≡◌, ◌≤◌, ◌+◌, ◌↔◌, ◌++◌, [], IsTrue, OnOk, OnErr, length, vec_len, vec_capacity};
 ghost use Rattle.avtp_memory.specs.Room.{kept_within, FitsRoom};
 
 use avtp_base::NoMemory;
 
-/// Appends what fits the room of a piece, and says whether all of it did. The memory was reserved before.
+/// Appends as much of a piece as fits the room, and returns whether that is all of it. The memory was reserved before.
 pub fn keep_within(bytes: &mut Vec<u8>, room: usize, piece: &[u8]) -> bool
     requires { room ≤ vec_capacity bytes.old }
     ensures kept { bytes.new.items ≡ kept_within room bytes.old.items piece.now }

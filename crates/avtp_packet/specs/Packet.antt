@@ -19,7 +19,7 @@ pub data AnyPacket : Type 0 where
   OfCrf : Crf → AnyPacket
   OfOther : ℕ → AnyPacket
 
--- the packet that a view shows, apart from where its payload lies in memory
+-- the packet that a view shows, without its payload's location in memory
 abbrev pub packet_shape : PacketView → AnyPacket
 packet_shape (view.Iec v) = OfIec (iec_shape v)
 packet_shape (view.Aaf v) = OfAaf (aaf_shape v)
@@ -38,7 +38,7 @@ kind_of subtype pdu =
     if subtype == crf_subtype then OfCrf (crf_of pdu) else
     OfOther subtype
 
--- why bytes of this subtype are no packet; None for a format that is not read
+-- why bytes of this subtype are not a packet; `None` for a format that is not read
 unfoldable pub kind_refusal : ℕ → List ℕ → Option Refusal
 kind_refusal subtype pdu =
     if subtype == iec_subtype then iec_refusal pdu else
@@ -57,11 +57,11 @@ subtype_refusal pdu = if nat_lt (length pdu) 1 then Some (record { field = Subty
 abbrev pub packet_of : List ℕ → AnyPacket
 packet_of pdu = kind_of (bits 0 0 8 pdu) pdu
 
--- why bytes are no packet: they have no subtype, or the format of their subtype refuses them
+-- why bytes are not a packet: they have no subtype, or the format of their subtype refuses them
 abbrev pub packet_refusal : List ℕ → Option Refusal
 packet_refusal pdu = or_else (subtype_refusal pdu) (kind_refusal (bits 0 0 8 pdu) pdu)
 
--- a clock reference packet has at least one timestamp; nothing is asked of others
+-- a clock reference packet has at least one timestamp; other packets have no such condition
 abbrev pub HasPoint : PacketView → Type 0
 HasPoint (view.Crf v) = 8 ≤ length v.payload.now
 HasPoint packet = ⊤

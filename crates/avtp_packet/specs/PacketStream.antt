@@ -14,7 +14,7 @@ header_stream subtype header = record { subtype = subtype; id = header.stream_id
 abbrev pub clock_stream : Crf → PacketStream
 clock_stream v = record { subtype = crf_subtype; id = v.stream_id; sv = v.sv; seq = v.seq; mr = v.mr }
 
--- the stream of a packet, and its place in it; None for a format that is not read
+-- the stream of a packet, and its place in it; `None` for a format that is not read
 abbrev pub stream_of : AnyPacket → Option PacketStream
 stream_of (OfIec v) = Some (header_stream iec_subtype v.header)
 stream_of (OfAaf v) = Some (header_stream aaf_subtype v.header)

@@ -9,8 +9,8 @@ use Rattle.cvf_format.specs.Cvf.{Cvf}
 use Rattle.iec61883_format.specs.Iec.{Iec, anchor_index, syt_interval}
 use Rattle.avtp_packet.specs.Packet.{AnyPacket, OfAaf, OfCrf, OfH264, OfIec, OfOther}
 
--- A packet with `count` samples has a timestamp that it must not have, or lacks one that it must have. A packet of no
--- samples may do either.
+-- A packet with `count` samples has a timestamp that it must not have, or lacks one that it must have. A packet without samples
+-- may have one or not.
 abbrev pub is_off : ℕ → Bool → Bool → Bool
 is_off count stamped must = nat_lt 0 count && not (beq stamped must)
 
@@ -22,9 +22,9 @@ must_stamp_aaf v = if v.sparse then v.header.seq % 8 == 0 else true
 abbrev pub aaf_is_off : Aaf → Bool
 aaf_is_off v = is_off v.count v.header.tv (must_stamp_aaf v)
 
--- An AM824 packet with this SYT_INTERVAL has a timestamp that it must not have, or lacks one that it must have: it must
--- have one if it has the data block to which a timestamp belongs. A packet of no data has no interval and no block, and
--- may do either.
+-- An AM824 packet with this SYT_INTERVAL has a timestamp that it must not have, or lacks one that it must have. It must have
+-- one if it has the data block that a timestamp belongs to. A no-data packet has no interval and no block, and may have one or
+-- not.
 abbrev pub iec_is_off_by : Option ℕ → Iec → Bool
 iec_is_off_by None v = false
 iec_is_off_by (Some interval) v = is_off v.count v.header.tv (nat_lt (anchor_index v.cip.dbc interval) v.count)

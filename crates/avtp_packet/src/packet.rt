@@ -26,7 +26,7 @@ pub enum Packet<'a> {
     H264(CvfView<'a>),
     /// Timestamps of a media clock (IEEE 1722-2016, 10).
     Crf(CrfView<'a>),
-    /// A packet of another subtype: this one.
+    /// A packet of another subtype, which is given.
     Other(u8),
 }
 

@@ -39,9 +39,9 @@ fn h264_is_off(view: &CvfView<'_>) -> bool
 
 /// Whether the packet has a timestamp that its format does not want, or lacks one that it wants.
 ///
-/// PCM must be stamped in every packet, sparse PCM in exactly those whose sequence number is a multiple of 8, and AM824
-/// in exactly those that have a data block whose block count is a multiple of SYT_INTERVAL; packets without samples may
-/// do either. H.264 must be stamped in every packet that ends a NAL unit. Other packets have no rule.
+/// PCM must be stamped in every packet, sparse PCM in exactly those whose sequence number is a multiple of 8, and AM824 in
+/// exactly those that have a data block whose block count is a multiple of SYT_INTERVAL. Packets without samples may be stamped
+/// or not. H.264 must be stamped in every packet that ends a NAL unit. Other packets have no rule.
 pub fn stamp_is_wrong(packet: &Packet<'_>) -> bool
     ensures { result ≡ stamp_is_off (packet_shape packet.now) }
 {

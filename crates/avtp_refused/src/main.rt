@@ -1,4 +1,4 @@
-//! The command `avtp` once more, beside a capture that it refuses: its exit status is the refusal's.
+//! The command `avtp` once more, next to a capture that it refuses: its exit status is that of the refusal.
 #![tactic(auto)]
 
 use avtp_system::run_program;

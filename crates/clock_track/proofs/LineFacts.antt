@@ -1,4 +1,4 @@
--- What holds of the line behind a joined pair that covers an instant.
+-- Facts about the line after a joined pair that covers an instant.
 use Rattle.std.proofs.Common.{◌≡◌, inl, inr, ℕ, ◌+◌, ◌*◌, ◌^◌, ◌<◌, ◌≤◌, Bool, true, false, ℤ, pos, neg_ℤ, ◌+ℤ◌, ◌-ℤ◌, ◌*ℤ◌, ◌≤ℤ◌, ◌<ℤ◌, refl, ap, arith}
 use Rattle.std.specs.Prelude.{◌==◌, if◌then◌else◌}
 use Rattle.std.proofs.Math.Nat.{mul-le-mul_left}
@@ -101,11 +101,11 @@ most_den p rate is fits =
 pub spaced : (i down rate step : ℕ) → 8 * step ≤ 9 * (i * 1000000000 * down) → 8 * (rate * step) ≤ 9000000000 * (i * rate * down)
 spaced i down rate step h = let times : rate * (8 * step) ≤ rate * (9 * (i * 1000000000 * down)) = mul-le-mul_left rate h in omega arith
 
--- where the clock's frequency is the stream's rate
+-- if the clock's frequency is the stream's rate
 pub spaced_own : (i down rate d : ℕ) → 1 ≤ down → 8 * (d * (rate * down)) ≤ 9 * (i * 1000000000 * down) → 8 * (rate * d) ≤ 9000000000 * i
 spaced_own i down rate d some h = at_most down (8 * (rate * d)) (9000000000 * i) some (omega arith)
 
--- the same of the least spacing
+-- the least spacing
 pub spaced_least : (i down rate step : ℕ) → 7 * (i * 1000000000 * down) ≤ 8 * step → 7000000000 * (i * rate * down) ≤ 8 * (rate * step)
 spaced_least i down rate step h = let times : rate * (7 * (i * 1000000000 * down)) ≤ rate * (8 * step) = mul-le-mul_left rate h in omega arith
 
@@ -176,7 +176,7 @@ is_event p rate instant some is own =
     (rw own at is.covers.from) (rw own at is.covers.to) in
     record { from = parts.0; to = parts.1 }
 
--- ---- all of it
+-- ---- all facts together
 
 own_line : (p : Pair) (rate : ℕ) (instant : ℤ) → 1 ≤ rate → IsCovering rate instant p → p.up ≡ rate * p.down → IsClockLine rate instant (record { line = event_line p; from = nearest_event p instant })
 own_line p rate instant some is own =

@@ -24,7 +24,7 @@ last_by : {X : Type 0} (f : X → Option Pair) (test : Pair → Bool) (xs : List
 last_by f test xs x None e = rw e (ap (λ (l : List Pair). find_last test l) (append-nil (filter_map f xs)))
 last_by f test xs x (Some p) e = rw e (kept_last test (filter_map f xs) p (test p) refl)
 
--- with one item more, the last pair is the one that it gives, where that passes
+-- with one item more, the last pair is the one that it gives, if that passes
 pub last-more : {X : Type 0} (f : X → Option Pair) (test : Pair → Bool) (xs : List X) (x : X)
     → find_last test (filter_map f (xs ++ x ∷ [])) ≡ option_or (kept test (f x)) (find_last test (filter_map f xs))
 last-more f test xs x = ap (λ (l : List Pair). find_last test l) (filter_map-append f xs (x ∷ [])) ∙ last_by f test xs x (f x) refl
@@ -107,7 +107,7 @@ take-next [] k row e = absurd cc
 take-next (x ∷ xs) zero row e = let same : x ≡ row = cc in rw same refl
 take-next (x ∷ xs) (suc k) row e = ap (λ (l : List ClockRow). x ∷ l) (take-next xs k row e)
 
--- the first packets, and the one behind them
+-- the first packets, and the one after them
 take-more : (rows : List ClockRow) (left : ℕ) (row : ClockRow) → 0 < left → slice_get rows (left - 1) ≡ Some row → take left rows ≡ take (left - 1) rows ++ row ∷ []
 take-more rows left row some e =
     let next : left ≡ suc (left - 1) = omega arith in
@@ -116,7 +116,7 @@ take-more rows left row some e =
 given : (b c : Bool) (o r : Option Pair) → b ≡ c → r ≡ (if b then o else None) → r ≡ (if c then o else None)
 given b c o r u f = rw (← u) f
 
--- what is looked for among the first packets is what the last of them gives, or else what is looked for among those before
+-- a search through the first packets finds what the last of them gives, or else what the packets before it give
 row-found : (g : List ClockRow → List Pair) (h : ClockRow → List Pair) (test : Pair → Bool) (rows : List ClockRow) (left : ℕ) (row : ClockRow) (r whole : Option Pair)
     → ((xs : List ClockRow) (x : ClockRow) → g (xs ++ x ∷ []) ≡ g xs ++ h x)
     → 0 < left → slice_get rows (left - 1) ≡ Some row → r ≡ (if row.usable then find_last test (h row) else None)
@@ -171,7 +171,7 @@ pairs-found pairs test rows left r whole some within is same =
     let at = row_at rows (left - 1) (omega arith) in
     row-found (flat_map pairs) pairs test rows left at.0 r whole (λ xs x. flat_map-append pairs xs (x ∷ []) ∙ ap (λ (l : List Pair). flat_map pairs xs ++ l) (append-nil (pairs x))) some at.1 (is at.0 at.1) same
 
--- at first all packets are left, and at last none
+-- at first all packets are left, and at the end none
 pub all-taken : (rows : List ClockRow) (n : ℕ) → n ≡ length rows → take n rows ≡ rows
 all-taken rows n e = rw e (take-length rows)
 
@@ -196,7 +196,7 @@ inside-last shift used_rows test row other o r e u is some f =
     one-row (pairs_at shift used_rows) test row other o r e f u
     (sym (or-some r (find_last test xs) some) ∙ ap (λ (p : Option Pair). option_or p (find_last test xs)) is ∙ sym (last-split test xs ys))
 
--- and where there is none, one that ends at its first timestamp does
+-- if no pair inside the packet passes, one that ends at its first timestamp comes last
 pub across-last : (shift : ℤ) (used_rows : List ClockRow) (test : Pair → Bool) (row other : ClockRow) (o : Option ClockRow) (p r : Option Pair) → o ≡ Some row → row.usable ≡ true
     → p ≡ find_last test (filter_map (inside shift row) (range_with_len 0 (timestamps row - 1))) → is_some p ≡ false
     → r ≡ find_last test (filter_map (across shift row) used_rows)

@@ -40,7 +40,7 @@ window-noted old new kept spare left is e room notable left_room count =
           (all-one IsNotable (drop (length (map kept_row old.items) - 63) (map kept_row old.items)) (kept_row kept) (All-drop IsNotable (length (map kept_row old.items) - 63) (map kept_row old.items) is.notable) notable);
     }
 
--- it stands for the packets so far and this one
+-- the clock has noted the packets so far and this one
 pub stands-noted : (old new : Buffer Kept) (kept : Kept) (rows : List ClockRow) (row : ClockRow) → IsNoted old new kept → kept_row kept ≡ row → row.usable ≡ true → map kept_row old.items ≡ window rows
     → map kept_row new.items ≡ window (rows ++ row ∷ [])
 stands-noted old new kept rows row e same usable stands =

@@ -46,11 +46,11 @@ across_by shift row before rate instant none = cases (seems_next row before) (na
     cases true false d = refl
     cases false b d = refl
 
--- one whose first is too late
+-- a pair whose later point is too late
 pub late-none : (shift : ℤ) (row before : ClockRow) (rate : ℕ) (instant : ℤ) → IsAfter (pair_of shift row (timestamp row 0) (timestamp row 0)) rate instant → kept (test rate instant) (across shift row before) ≡ None
 late-none shift row before rate instant after = across_by shift row before rate instant (λ first. joined_none shift row first (timestamp row 0) rate instant after)
 
--- so nothing is found
+-- nothing is found if the later point is too late
 pub none-found : (f : ClockRow → Option Pair) (test : Pair → Bool) (xs : List ClockRow) → ((x : ClockRow) → kept test (f x) ≡ None) → find_last test (filter_map f xs) ≡ None
 none-found f test [] none = refl
 none-found f test (x ∷ xs) none = cases (f x) (none x) (none-found f test xs none)

@@ -6,7 +6,7 @@ use Rattle.clock_track.specs.Examples.{worked_row, worked_rows}
 use Rattle.clock_track.specs.Pairs.{IsJoined}
 use Rattle.clock_track.specs.Rows.{pair_of, seems_next, timestamp, timestamps}
 
--- two timestamps are taken for points of a packet's clock: both are below 2^62, and they are joined
+-- two timestamps are accepted as adjacent points of a packet's clock: both are below 2^62, and they are joined
 pub record AreTaken (shift : ℤ) (row : ClockRow) (first second : ℕ) : Type 0 where
   pub earlier : first < 2 ^ 62
   pub later : second < 2 ^ 62
@@ -16,7 +16,7 @@ pub record AreTaken (shift : ℤ) (row : ClockRow) (first second : ℕ) : Type 0
 abbrev pub pair_inside : ℤ → ClockRow → ℕ → Pair
 pair_inside shift row i = pair_of shift row (timestamp row i) (timestamp row (i + 1))
 
--- timestamps i and i + 1 of one packet are taken for adjacent points
+-- timestamps i and i + 1 of one packet are accepted as adjacent points
 pub record AreInside (shift : ℤ) (row : ClockRow) (i : ℕ) : Type 0 where
   pub within : i + 1 < timestamps row
   pub taken : AreTaken shift row (timestamp row i) (timestamp row (i + 1))
@@ -25,7 +25,7 @@ pub record AreInside (shift : ℤ) (row : ClockRow) (i : ℕ) : Type 0 where
 abbrev pub pair_across : ℤ → ClockRow → ClockRow → Pair
 pair_across shift row before = pair_of shift row (timestamp before (timestamps before - 1)) (timestamp row 0)
 
--- the last timestamp of a packet and the first of another, which seems to be the next one, are taken for adjacent points
+-- the last timestamp of a packet and the first of another, which seems to be the next one, are accepted as adjacent points
 pub record AreAcross (shift : ℤ) (row before : ClockRow) : Type 0 where
   pub next : seems_next row before ≡ true
   pub some_before : 0 < timestamps before
@@ -34,10 +34,10 @@ pub record AreAcross (shift : ℤ) (row before : ClockRow) : Type 0 where
 
 -- ---- the last packets
 
--- a clock packet of the worked clock that is joined to no other: its number is no other's, or the next of any
+-- a clock packet of the worked clock that joins no other, because its number is not next to any other's
 abbrev pub lone_row : ClockRow
 lone_row = worked_row 100 false 48000 1006000000
 
--- The two worked packets, whose points are 2 ms apart, and then this many lone ones.
+-- The two worked packets, whose points are 2 ms apart, followed by this many lone ones.
 abbrev pub followed_rows : ℕ → List ClockRow
 followed_rows others = worked_rows 48000 false ++ replicate others lone_row

@@ -1,4 +1,4 @@
--- What is asked of the packets of a clock.
+-- The conditions on the packets of a clock.
 use Rattle.std.specs.Prelude.{◌≡◌, ◌⊎◌, ℕ, ◌+◌, ◌*◌, ◌%◌, ◌^◌, ◌≤◌, ◌<◌, true, length, ℤ, pos, neg_ℤ, ◌+ℤ◌, ◌-ℤ◌, ◌≤ℤ◌, ◌<ℤ◌}
 use Rattle.time_unfold.specs.Lines.{instant_at}
 use Rattle.clock_track.specs.declared.clock_row.ClockRow.{ClockRow}
@@ -48,8 +48,7 @@ pub record IsShift (shift : ℤ) : Type 0 where
 
 -- ---- a line that a clock answers
 
--- What holds of the line and the number of a sample on it that a clock answers, for a stream of this rate and the
--- instant that was asked for.
+-- The limits of the line, and of the number of a sample on it, that a clock answers for a stream of this rate and an instant.
 pub record IsClockLine (rate : ℕ) (instant : ℤ) (spot : Spot) : Type 0 where
   pub some_num : 1 ≤ spot.line.num
   pub num : spot.line.num ≤ 2 ^ 60

@@ -1,6 +1,5 @@
 -- Two points of a media clock: reference timestamps that are an interval of events of a nominal frequency apart (IEEE
--- 1722-2016, 10), and the line of events after them. What is said of whole numbers here is said of fractions,
--- multiplied out.
+-- 1722-2016, 10), and the line of events after them. Fractions are compared as whole numbers, multiplied out.
 use Rattle.std.specs.Prelude.{◌≡◌, ℕ, ◌*◌, ◌==◌, ◌≤◌, nat_le, if◌then◌else◌, Bool, false, ℤ, pos, negsuc, ◌+ℤ◌, ◌-ℤ◌, ◌*ℤ◌, ◌≤ℤ◌, ◌<ℤ◌, int_le, int_lt}
 use Rattle.clock_track.specs.declared.pair.Pair.{Pair}
 use Rattle.time_unfold.specs.declared.line.Line.{Line}
@@ -32,7 +31,7 @@ abbrev pub at_least_0 : ℤ → ℕ
 at_least_0 (pos n) = n
 at_least_0 (negsuc n) = 0
 
--- the time from the earlier point to the later, in nanoseconds; 0 if the second isn't later
+-- the time from the earlier point to the later, in nanoseconds; 0 if the second is not later
 abbrev pub period : Pair → ℕ
 period p = at_least_0 (p.later -ℤ p.earlier)
 
@@ -72,7 +71,7 @@ pub record Covers (p : Pair) (rate : ℕ) (instant : ℤ) : Type 0 where
 abbrev pub IsOfRate : Pair → ℕ → Type 0
 IsOfRate p rate = p.up ≡ rate * p.down
 
--- the line of a clock on which a sample lies, and its number on it
+-- the line of a clock that a sample is on, and the sample's number on it
 pub record Spot : Type 0 where
   pub line : Line
   pub from : ℤ
@@ -85,7 +84,7 @@ event_line p = record { base = p.later; num = period p; den = p.interval }
 abbrev pub nearest_event : Pair → ℤ → ℤ
 nearest_event p instant = floor_of ((instant -ℤ p.later) *ℤ pos (2 * p.interval) +ℤ pos (period p)) (2 * period p)
 
--- The line and the number on it of a sample that is stamped with an instant, by a pair: if the clock's frequency is the
+-- The line of a sample that is stamped with an instant, and its number on it, by a pair: if the clock's frequency is the
 -- stream's rate, it is the nearest event; otherwise samples are counted from the instant, in the pair's spacing.
 abbrev pub spot_by : Pair → ℕ → ℤ → Spot
 spot_by p rate instant =

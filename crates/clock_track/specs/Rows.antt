@@ -58,7 +58,7 @@ across shift row before =
 
 -- ---- all pairs
 
--- the joined pairs whose later point this packet has, in the order of the later points, and for one later point in the
+-- the joined pairs whose later point this packet has, in the order of the later points; pairs with one later point are in the
 -- order of the earlier
 abbrev pub pairs_at : ℤ → List ClockRow → ClockRow → List Pair
 pairs_at shift rows row =
@@ -95,7 +95,7 @@ abbrev pub IsLatest : ℕ → ℤ → List Pair → Option Pair → Type 0
 IsLatest rate instant pairs None = All (λ pair. ¬ Covers pair rate instant) pairs
 IsLatest rate instant pairs (Some pair) = IsLastCovering rate instant pairs pair
 
--- The line and the number on it of a sample that is stamped with an instant, by a clock's packets so far; None if no
--- pair covers the instant.
+-- The line of a sample that is stamped with an instant, and its number on it, by a clock's packets so far; `None` if no pair
+-- covers the instant.
 abbrev pub clock_spot : List ClockRow → ℤ → ℤ → ℕ → Option Spot
 clock_spot rows shift instant rate = option_map (λ pair. spot_by pair rate instant) (latest shift instant rate (window rows))

@@ -1,4 +1,4 @@
--- A clock packet that is lent, and what a search for a line answers.
+-- A borrowed clock packet, and the answer of a search for a line.
 use Rattle.std.specs.Prelude.{pos, Option, Some, None}
 use Rattle.clock_track.specs.declared.clock_row.ClockRow.{ClockRow}
 use Rattle.clock_track.specs.declared.clock_row.Points.{Points}
@@ -6,7 +6,7 @@ use Rattle.clock_track.specs.declared.answer.ClockAnswer.{ClockAnswer}
 use Rattle.clock_track.specs.declared.answer.ClockAnswer.TheVariants.{OnLine, NoClock}
 use Rattle.clock_track.specs.Pairs.{Spot}
 
--- the clock packet whose timestamps are lent
+-- the clock packet whose timestamps are borrowed
 abbrev pub row_of : Points → ClockRow
 row_of points = record {
   usable = points.usable;
@@ -18,7 +18,7 @@ row_of points = record {
   payload = points.payload.now;
 }
 
--- the line and the number on it that a search answers, if it found any
+-- the line, and the number on it, of an answer, if there is one
 abbrev pub answered : ClockAnswer → Option Spot
 answered (OnLine line offset) = Some (record { line = line; from = pos offset })
 answered NoClock = None

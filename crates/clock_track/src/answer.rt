@@ -2,7 +2,7 @@
 
 use time_unfold::Line;
 
-/// Which sample of a clock's line a sample is that is stamped with an instant.
+/// The answer of a clock for a sample that is stamped with an instant.
 #[derive(Clone, Copy, Debug, PartialEq, Eq)]
 pub enum ClockAnswer {
     /// It is the sample with this number of this line.

@@ -21,7 +21,7 @@ use std::marker::Model;
 /// The bytes of the most timestamps that a packet has.
 const ROOM: usize = 65_528;
 
-/// What is kept of a packet, in memory that is reused: noting one takes no memory.
+/// What is kept of a packet, in memory that is reused: noting a packet allocates nothing.
 #[derive(Drop)]
 struct Kept {
     usable: bool,
@@ -34,7 +34,7 @@ struct Kept {
 }
 
 impl Kept {
-    /// The packet, with its timestamps in the room that is given. Takes no memory.
+    /// The packet, with its timestamps in the given room. Allocates nothing.
     fn in_room(mut room: Vec<u8>, points: &Points<'_>) -> Self
         requires room { 65528 ≤ vec_capacity room }
         requires size { length points.now.payload.now ≤ 65528 }
@@ -92,8 +92,7 @@ impl Rows for Ring<'_> {
     }
 }
 
-/// Room for the timestamps of one more packet: some that was never used, or that of the oldest packet, which is
-/// dropped.
+/// Room for the timestamps of one more packet: unused room, or that of the oldest packet, which is dropped.
 fn take_room(rows: &mut HeapCircularBuffer<Kept>, spare: &mut Vec<Vec<u8>>) -> Vec<u8>
     requires room { All HasRoom rows.old.items }
     requires spare { All IsRoom spare.old.items }
@@ -112,7 +111,7 @@ fn take_room(rows: &mut HeapCircularBuffer<Kept>, spare: &mut Vec<Vec<u8>>) -> V
     }
 }
 
-/// Puts a packet after those that are kept, of which there are fewer than 64.
+/// Puts a packet after those that are kept, which are fewer than 64.
 fn put_behind(rows: &mut HeapCircularBuffer<Kept>, kept: Kept)
     requires capacity { rows.old.capacity ≡ 64 }
     requires room { length rows.old.items < 64 }
@@ -128,7 +127,7 @@ fn put_behind(rows: &mut HeapCircularBuffer<Kept>, kept: Kept)
 pub struct Clock {
     shift: i64,
     rows: HeapCircularBuffer<Kept>,
-    /// Room for as many packets as are missing.
+    /// Room for as many packets as are missing to 64.
     spare: Vec<Vec<u8>>,
 }
 
@@ -161,9 +160,9 @@ impl Clock {
         Ok(Clock { shift, rows, spare })
     }
 
-    /// Notes a packet of the clock, and drops the oldest of 64. One that gives no points leaves the clock as it is. Of
-    /// any other the timestamps are whole and at most 8,191, the pull is at most 5, the base frequency 1 to 2^29 - 1,
-    /// and the interval at least 1. Takes no memory.
+    /// Notes a packet of the clock, and drops the oldest of 64. A packet that gives no points is ignored. In any other the
+    /// timestamps are whole and at most 8,191, the pull is at most 5, the base frequency 1 to 2^29 - 1, and the interval at
+    /// least 1. Allocates nothing.
     pub fn note(&mut self, points: &Points<'_>)
         requires { IsNotable (row_of points.now) }
         ensures noted { (rows : List ClockRowValue) → StandsFor self.old rows → StandsFor self.new (rows ++ row_of points.now ∷ []) }
@@ -175,9 +174,9 @@ impl Clock {
         }
     }
 
-    /// The line and the number on it of a sample that is stamped with an instant, in nanoseconds of gPTP, by the clock,
-    /// for a stream of a rate in Hz: what `line_over` answers for all packets that were noted. It is `NoClock` exactly
-    /// if no pair covers the instant. The rate is at least 1. Takes no memory.
+    /// The line of a sample that is stamped with an instant, in nanoseconds of gPTP, and its number on it, for a stream of a
+    /// rate in Hz: the answer of `line_over` for all packets that were noted. It is `NoClock` exactly if no pair covers the
+    /// instant. The rate is at least 1. Allocates nothing.
     pub fn line_for(&self, instant: i64, rate: u32) -> ClockAnswer
         requires { 1 ≤ rate }
         ensures value { (rows : List ClockRowValue) → StandsFor self.now rows → answered result ≡ clock_spot rows self.now.shift instant rate }

@@ -2,7 +2,7 @@
 
 use avtp_base::Bytes;
 
-/// A clock packet, as far as it gives points of the clock (IEEE 1722-2016, 10), with its timestamps lent.
+/// The points in a clock packet (IEEE 1722-2016, 10), with its timestamps borrowed.
 #[derive(Clone, Copy, Debug)]
 pub struct Points<'a> {
     /// The packet gives points: it is well formed, of the type for audio samples, and its timestamps are certain.
@@ -37,7 +37,7 @@ impl ClockRow {
     ghost use Rattle.std.specs.Prelude.{◌≡◌};
     ghost use Rattle.clock_track.specs.Views.{row_of};
 
-    /// The clock packet with its timestamps lent.
+    /// The clock packet with its timestamps borrowed.
     pub fn points(&self) -> Points<'_>
         ensures { row_of result ≡ self.now }
     {

@@ -1,4 +1,4 @@
-//! Laws of a clock's lines. Each is stated by a contract; the call does nothing.
+//! Laws of a clock's lines. Each call only states its contract, and does nothing.
 
 ghost use Rattle.std.specs.Prelude.{Contains, ◌≢◌, ◌≡◌, ◌+◌, ◌*◌, ◌≤◌, ℕ, ℤ, List, All, None, Some, false, true, pos};
 ghost use Rattle.clock_track.specs.declared.clock_row.ClockRow.{ClockRow};
@@ -14,9 +14,8 @@ pub fn last_covering_pair_counts()
     ensures latest { (shift instant : ℤ) (rate : ℕ) (rows : List ClockRow) → IsLatest rate instant (joined_pairs shift rows) (latest shift instant rate rows) }
 {}
 
-/// A clock of 44.1 kHz and 147 events, and a stream of 48 kHz whose packets are 125,000 ns apart: its second point is
-/// 3,333,333 ns after the first, so packets 0 to 26 have no line, and those up to packet 53 have one by these two
-/// points.
+/// A clock of 44.1 kHz and 147 events, and a stream of 48 kHz whose packets are 125,000 ns apart. The second point is 3,333,333
+/// ns after the first, so packets 0 to 26 have no line, and packets 27 to 53 have one by these two points.
 pub fn second_point_is_waited_for()
     ensures joined { IsJoined second_pair }
     ensures before { (n : ℕ) → n ≤ 26 → ¬ Covers second_pair 48000 (pos (1002000000 + n * 125000)) }
@@ -24,9 +23,9 @@ pub fn second_point_is_waited_for()
     ensures spot { (instant : ℤ) → spot_by second_pair 48000 instant ≡ record { line = record { base = instant; num = 146999985300; den = 7056000 }; from = pos 0 } }
 {}
 
-/// Two packets of one point each, 2 ms apart: at 48 kHz and 96 events a timestamp is the nearest event; at 44.1 kHz the
-/// samples of a stream of 48 kHz are counted from the timestamp on, 19,140.625 ns apart; before half a sample to the
-/// second point there is no line, and across a restart there is none.
+/// Two packets of one point each, 2 ms apart. At 48 kHz and 96 events a timestamp is the nearest event; at 44.1 kHz the samples
+/// of a stream of 48 kHz are counted from the timestamp on, 19,140.625 ns apart. Earlier than half a sample before the second
+/// point there is no line, and across a restart there is none.
 pub fn worked_lines_are_so()
     ensures own { clock_spot (worked_rows 48000 false) (pos 0) (pos 1004125000) 48000 ≡ Some (record { line = record { base = pos 1004000000; num = 2000000; den = 96 }; from = pos 6 }) }
     ensures other { clock_spot (worked_rows 44100 false) (pos 0) (pos 1004125000) 48000 ≡ Some (record { line = record { base = pos 1004125000; num = 88200000000; den = 4608000 }; from = pos 0 }) }

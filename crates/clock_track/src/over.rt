@@ -10,7 +10,7 @@ use crate::answer::ClockAnswer;
 use crate::clock_row::{ClockRow, Points};
 use crate::search::{Query, Rows, latest};
 
-/// How many packets that give points are looked at.
+/// How many packets that give points are searched.
 pub const WINDOW: usize = 64;
 
 /// The packets of a slice.
@@ -31,7 +31,7 @@ impl Rows for Listed<'_> {
     }
 }
 
-/// The rows from the first of the last 64 that give points on.
+/// The rows from the first of the last 64 that give points.
 fn recent(rows: &[ClockRow]) -> &[ClockRow]
     requires { All IsNotable rows.now }
     ensures window { used result.now ≡ window rows.now }
@@ -62,21 +62,21 @@ pub fn line_among<R: Rows>(rows: &R, query: &Query) -> ClockAnswer
     }
 }
 
-/// The line and the number on it of a sample that is stamped with an instant, in nanoseconds of gPTP, by a media clock,
-/// for a stream of a rate in Hz (IEEE 1722-2016, 10). The clock is that of the last 64 rows that give points; `shift`
-/// nanoseconds, at most a second either way, are added to each of its timestamps.
+/// The line of a sample that is stamped with an instant, in nanoseconds of gPTP, and its number on it, by a media clock, for a
+/// stream of a rate in Hz (IEEE 1722-2016, 10). The clock is that of the last 64 rows that give points; `shift` nanoseconds, at
+/// most a second either way, are added to each of its timestamps.
 ///
-/// Two timestamps below 2^62 are a pair if they are adjacent in a packet, or are the last of one packet and the first
-/// of another that has the next number with the same restart bit, frequency and interval; and if they are within 1/8 of
-/// the nominal time of the interval apart. A pair covers the instants from half a sample before its later point to half
-/// a sample before one more period. The last pair that covers the instant counts: the one whose later point comes last,
-/// and among those of one later point the one whose earlier point comes last. It is `NoClock` exactly if there is none.
+/// Two timestamps below 2^62 are a pair if they are adjacent in a packet, or are the last of one packet and the first of
+/// another that has the next number with the same restart bit, frequency and interval; and if the time between them is within
+/// 1/8 of the nominal time of the interval. A pair covers the instants from half a sample before its later point to half a
+/// sample before one more period. The last pair that covers the instant counts: the one whose later point comes last, and among
+/// those with one later point the one whose earlier point comes last. The answer is `NoClock` exactly if there is none.
 ///
-/// If the clock's frequency is the rate, the sample is the nearest event of the clock, on the line of its events;
-/// otherwise samples are counted from the instant, in the pair's spacing.
+/// If the clock's frequency is the rate, the sample is the nearest event of the clock, on the line of its events; otherwise
+/// samples are counted from the instant, in the pair's spacing.
 ///
-/// A row that gives points has whole timestamps, at most 8,191 of them, a pull of at most 5, a base frequency of 1 to
-/// 2^29 - 1 and an interval of at least 1. The rate is at least 1.
+/// A row that gives points has whole timestamps, at most 8,191 of them, a pull of at most 5, a base frequency of 1 to 2^29 - 1
+/// and an interval of at least 1. The rate is at least 1.
 pub fn line_over(rows: &[ClockRow], shift: i64, instant: i64, rate: u32) -> ClockAnswer
     requires rows { All IsNotable rows.now }
     requires shift { IsShift shift }

@@ -41,7 +41,7 @@ fn doubled(period: u64, den: u64) -> i128
 }
 
 impl Pair {
-    /// The time from one point to the other; 0 if the second isn't later.
+    /// The time from one point to the other; 0 if the second is not later.
     fn period(&self) -> u64
         requires { IsSmall self.now }
         ensures { result ≡ period_of self.now }
@@ -62,7 +62,7 @@ impl Pair {
         u64::from(self.interval) * NANOSECONDS * self.down
     }
 
-    /// Whether the points are within 1/8 of the nominal time of the interval apart.
+    /// Whether the time between the points is within 1/8 of the nominal time of the interval.
     #[tactic(auto, using(crate::proofs::Pairs::joins))]
     pub fn is_joined(&self) -> bool
         requires { IsSmall self.now }
@@ -105,8 +105,7 @@ impl Pair {
         0 <= reach && reach < doubled(self.period(), den)
     }
 
-    /// Whether an instant lies before all that the later point covers in a stream of this rate, whatever the earlier
-    /// point.
+    /// Whether an instant is before all that the later point covers in a stream of this rate, whatever the earlier point.
     pub fn is_after(&self, rate: u32, instant: i64) -> bool
         requires { IsSmall self.now }
         ensures { IsTrue result ↔ IsAfter self.now rate instant }
@@ -124,13 +123,13 @@ impl Pair {
     {
         let period = self.period();
         let behind = scaled(instant, self.later, period, u64::from(self.interval));
-        // It is never negative, since the pair covers the instant, so rounding down and towards zero are one.
+        // It is never negative, because the pair covers the instant, so rounding down is rounding towards zero.
         behind.div_euclid(i128::from(2 * period)) as u64
     }
 
-    /// The line and the number on it of a sample that is stamped with an instant which the pair covers, in a stream of
-    /// this rate. If the clock's frequency is the rate, it is the nearest event; otherwise samples are counted from the
-    /// instant, in the pair's spacing.
+    /// The line of a sample that is stamped with an instant covered by the pair, and its number on it, in a stream of this
+    /// rate. If the clock's frequency is the rate, it is the nearest event; otherwise samples are counted from the instant, in
+    /// the pair's spacing.
     pub fn answer(&self, rate: u32, instant: i64) -> ClockAnswer
         requires rate { 1 ≤ rate }
         requires covering { IsCovering rate instant self.now }

@@ -16,7 +16,7 @@ use crate::pair::Pair;
 use crate::pull::{pull_down, pull_up};
 use avtp_base::octets::u64_at;
 
-/// Timestamps from here on are no points.
+/// Timestamps from here on are not points.
 const POINTS_END: u64 = 1 << 62;
 
 /// What is looked for: the instant that it covers, for a stream of this rate in Hz; and what is added to the clock's
@@ -154,8 +154,8 @@ fn covering_from<R: Rows>(rows: &R, place: usize, row: &Points<'_>, query: &Quer
     }
 }
 
-/// Whether no pair that ends at the first timestamp of a packet can cover the instant: there is none, it is no point,
-/// or it is too late, whatever the other point.
+/// Whether no pair that ends at the first timestamp of a packet can cover the instant: there is no such timestamp, it is not a
+/// point, or it is too late, whatever the other point.
 fn is_too_late(row: &Points<'_>, query: &Query) -> bool
     requires row { IsRow (row_of row.now) }
     requires shift { IsShift query.now.shift }
@@ -209,8 +209,8 @@ fn latest_at<R: Rows>(rows: &R, place: usize, query: &Query) -> Option<Pair>
     latest_across(rows, &row, query)
 }
 
-/// The last joined pair of a clock's packets that covers the instant: the search goes from the end of the list of all
-/// joined pairs, and stops at the first that covers.
+/// The last joined pair of a clock's packets that covers the instant. The search begins at the end of the list of all joined
+/// pairs, and stops at the first that covers.
 pub fn latest<R: Rows>(rows: &R, query: &Query) -> Option<Pair>
     requires rows { All IsNotable (R.rows rows.now) }
     requires shift { IsShift query.now.shift }

@@ -9,7 +9,7 @@ use Rattle.avtp_header.specs.Header.{exceeds, subtype_row, version_row}
 pub use Rattle.avtp_header.specs.Numbers.{crf_subtype}
 use Rattle.crf_format.specs.declared.crf.CrfView.{CrfView}
 
--- a clock reference packet, apart from where its timestamps lie in memory
+-- a clock reference packet, without its timestamps' location in memory
 pub record Crf : Type 0 where
   pub sv : Bool
   pub mr : Bool
@@ -24,7 +24,7 @@ pub record Crf : Type 0 where
   pub payload : List ℕ
   pub reserved : Bool
 
--- the packet that a view shows, apart from where its timestamps lie in memory
+-- the packet that a view shows, without its timestamps' location in memory
 abbrev pub crf_shape : CrfView → Crf
 crf_shape v = record {
   sv = v.sv;
@@ -73,7 +73,7 @@ point_at i payload = bits (8 * i) 0 64 payload
 abbrev pub last_pull : ℕ
 last_pull = 5
 
--- a stated length is 0, is no multiple of a timestamp's 8 bytes, or is more than what n bytes hold after the header
+-- a stated length is 0, is not a multiple of a timestamp's 8 bytes, or is more than what n bytes hold after the header
 abbrev pub misses_timestamps : ℕ → ℕ → Bool
 misses_timestamps stated n = stated == 0 || not (stated % 8 == 0) || exceeds 20 stated n
 
@@ -90,7 +90,7 @@ clock_rows bytes =
     row CrfDataLength 16 (misses_timestamps (bits 16 0 16 bytes) (length bytes)) ∷
     row TimestampInterval 18 (bits 18 0 16 bytes == 0) ∷ []
 
--- why bytes are no clock reference packet
+-- why bytes are not a clock reference packet
 abbrev pub crf_refusal : List ℕ → Option Refusal
 crf_refusal bytes =
     or_else (first_short crf_layout (length bytes))

@@ -1,4 +1,4 @@
-//! Laws of packets of the clock reference format. Each is stated by a contract; the call does nothing.
+//! Laws of packets of the clock reference format. Each call only states its contract, and does nothing.
 
 ghost use Rattle.std.specs.Prelude.{◌≡◌, ◌+◌, ◌++◌, false, length, List, ℕ};
 ghost use Rattle.avtp_base.specs.Layout.{Fits};

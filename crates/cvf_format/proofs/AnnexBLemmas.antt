@@ -1,4 +1,4 @@
--- Where start codes and the ends of units stand.
+-- Where start codes and the ends of units are.
 use Rattle.std.proofs.Common.{◌≡◌, ℕ, zero, suc, ◌+◌, ◌-◌, ◌<◌, ◌≤◌, true, false, inl, inr, List, [], ◌∷◌, length, take, drop, get_or, leb, Option, None, Some, refl, sym, ap, subst, ◌∙◌, arith}
 use Rattle.std.specs.Prelude.{filter, find, unwrap_or}
 use Rattle.std.specs.List.{cons_option, filter_map, last_or, range_with_len}
@@ -47,7 +47,7 @@ first_there hay needle from within (Some k) found = (
   occurs_there hay needle from k within found.1,
 )
 
--- the same of the slice that the code searches
+-- also for the slice that the code searches
 pub found_there : (hay needle : List ℕ) (from : ℕ) → from ≤ length hay → (r s : Option ℕ) → r ≡ s
     → FindsNeedle (take (length hay - from) (drop from hay)) needle 0 r → IsFirst (OccursAt hay needle) from (length hay + 1) (option_map (λ k. from + k) s)
 found_there hay needle from within r s e found =
@@ -89,7 +89,7 @@ two_of_three bytes at c o = record {
     two_read bytes at p q (suc zero) lt = q
     two_read bytes at p q (suc (suc j)) lt = absurd (omega arith)
 
--- a unit ends where a third byte of at most 1 follows two zeros
+-- a unit ends at two zeros that are followed by a byte of at most 1
 third_ends : (bytes : List ℕ) (at : ℕ) → OccursAt bytes (0 ∷ 0 ∷ []) at → at + 2 < length bytes → get_or bytes (at + 2) 0 ≤ 1 → is_end bytes at ≡ true
 third_ends bytes at two more few = ends_by (get_or bytes (at + 2) 0) refl few
   where
@@ -109,7 +109,7 @@ third_passes bytes at two many =
     not_there : (c : ℕ) → c ≤ 1 → OccursAt bytes (0 ∷ 0 ∷ c ∷ []) at → ⊥
     not_there c few o = let third : get_or bytes (at + 2) 0 ≡ c = o.reads 2 (omega arith) in let fits : at + 2 < length bytes = omega (arith, o.fits) in let more = many fits in absurd (omega arith)
 
--- where no two zeros stand, no unit ends
+-- without two zeros no unit ends
 passes_without : (bytes : List ℕ) (at : ℕ) → ¬ OccursAt bytes (0 ∷ 0 ∷ []) at → is_end bytes at ≡ false
 passes_without bytes at none =
     or_from (occurs_at bytes start_code at) (occurs_at bytes three_zeros at)
@@ -186,7 +186,7 @@ not_code bytes k at j code e few = false_from_ne_true (is_start_code bytes k) (�
     zero_there (suc zero) few here e one = let z = here.reads 1 (omega arith) in let same : get_or bytes (at + 2) 0 ≡ 0 = rw (← e) z in absurd (omega arith)
     zero_there (suc (suc j)) few here e one = absurd (omega arith)
 
--- no start code stands between a start code and the end of what is after it
+-- no start code is between a start code and the end of what is after it
 pub code_apart : (bytes : List ℕ) (code : ℕ) → OccursAt bytes start_code code → NonePasses (is_start_code bytes) (code + 1) (end_behind bytes (code + 3))
 code_apart bytes code there k from below =
     let ends = end_first bytes (code + 3) (omega (arith, there.fits)) in

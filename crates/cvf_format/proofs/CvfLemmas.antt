@@ -129,7 +129,7 @@ accepted_so bytes e =
 
 -- ---- the part and the first byte of a NAL unit
 
--- what a part tells of the bits that name it
+-- which values a part has in the bits that name it
 single_bits : (fragment start end : Bool) → cond fragment (fragment_of start end) Single ≡ Single → fragment ≡ false
 single_bits false start end e = refl
 single_bits true true end e = absurd cc
@@ -338,7 +338,7 @@ held_plain First v bytes h = held_spells (layout_of First) (plain_cvf v) bytes r
 held_plain Middle v bytes h = held_spells (layout_of Middle) (plain_cvf v) bytes refl h
 held_plain Last v bytes h = held_spells (layout_of Last) (plain_cvf v) bytes refl h
 
--- and no row refuses them
+-- no row refuses the bytes of a fragment
 fragment_accepted : (part : NalPart) (v : Cvf) (bytes : List ℕ) → v.part ≡ part → (starts part && ends part) ≡ false
     → is_single_type (type_of v.nal) ≡ true → 6 ≤ bits 20 0 16 bytes → Spells fragment_headers (plain_cvf v) bytes → first_row (nal_rows bytes) ≡ None
 fragment_accepted part v bytes is apart single long spells =

@@ -16,7 +16,7 @@ joined at xs =
     let whole : bits 28 0 3 xs * 32 % 256 ≡ bits 28 0 3 xs * 2 ^ 5 = omega arith in
     rw whole (or_shifted (bits 28 0 3 xs) 5 (bits at 3 5 xs) b)
 
--- where none of the first ranges has a bit that is set, the others decide
+-- if none of the first ranges has a bit that is set, the others decide
 unset_before : (xs ys : List Range) (bytes : List ℕ) → any_set xs bytes ≡ false → any_set (xs ++ ys) bytes ≡ any_set ys bytes
 unset_before [] ys bytes unset = refl
 unset_before (x ∷ xs) ys bytes unset =
@@ -27,7 +27,7 @@ not_unset : (unset : Bool) → cond unset false true ≡ not unset
 not_unset true = refl
 not_unset false = refl
 
--- the reserved bit of a fragment decides where the shared ones are 0
+-- the reserved bit of a fragment decides if the shared ones are 0
 pub fragment_reserved : (part : NalPart) (bytes : List ℕ) → (part ≡ First) ⊎ ((part ≡ Middle) ⊎ (part ≡ Last))
     → any_set (reserved_ranges (cvf_layout [])) bytes ≡ false → sets_reserved part bytes ≡ not (eqb (bits 29 2 1 bytes) 0)
 fragment_reserved part bytes is unset =

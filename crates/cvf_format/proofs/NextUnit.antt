@@ -1,4 +1,4 @@
--- How long the unit is that the next packet makes whole.
+-- The size of the unit that the next packet completes.
 use Rattle.std.proofs.Common.{◌≡◌, ℕ, ◌+◌, ◌≤◌, Bool, true, false, List, [], ◌∷◌, ◌++◌, length, arith, refl, sym, ap, ◌∙◌, length-append}
 use Rattle.std.specs.Prelude.{◌&&◌, not, if◌then◌else◌}
 use Rattle.cvf_format.specs.Stretches.{Fragment, Event, packet, begins, completes, whole_unit}

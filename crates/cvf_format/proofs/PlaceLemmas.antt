@@ -1,4 +1,4 @@
--- The first, the last and all of some places beside each other that pass a test.
+-- The first, the last and all of adjacent places that pass a test.
 use Rattle.std.proofs.Common.{◌≡◌, ℕ, zero, suc, ◌+◌, ◌-◌, ◌<◌, ◌≤◌, Bool, true, false, cond, not, eqb, ◌⊎◌, List, [], ◌∷◌, Option, None, Some, refl, sym, ap, subst, ◌∙◌, inl, inr, arith}
 use Rattle.std.proofs.lemmas.Bool.{cases_lt}
 use Rattle.avtp_base.proofs.RowLemmas.{unequal}
@@ -92,7 +92,7 @@ last_none test low high order none = last_kept test (high - low) low None (λ i 
 pub other_byte : (byte : ℕ) → (byte ≡ 0 → ⊥) → not (eqb byte 0) ≡ true
 other_byte byte some = ap not (unequal byte 0 some)
 
--- the first place from `low` up to `high` that passes, and `high` where none does
+-- the first place from `low` up to `high` that passes, and `high` if none does
 pub record FirstPlace (test : ℕ → Bool) (low high first : ℕ) : Type 0 where
   pub from : low ≤ first
   pub within : first ≤ high

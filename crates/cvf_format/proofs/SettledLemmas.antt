@@ -36,7 +36,7 @@ adds_one before f = by (is_within (f ∷ [])) (is_complete (f ∷ [])) refl refl
     by true true p q = adds_lost before f (f ∷ []) refl (rw (p, q) refl) (rw (p, q) refl)
     by true false p q = rw (p, q) (ap (λ (xs : List Fragment). xs ++ f ∷ []) (sym (append_none (waiting before))))
 
--- the stretch was open and within the limits, since it is with one packet more
+-- the stretch was open and within the limits, because it still is with one more packet
 was_waiting : (g : Fragment) (gs : List Fragment) (f : Fragment) → continues g gs f ≡ true → is_within (g ∷ (gs ++ f ∷ [])) ≡ true → waiting (g ∷ gs) ≡ g ∷ gs
 was_waiting g gs f goes within = by (is_within (g ∷ gs)) (is_complete (g ∷ gs)) refl refl
   where
@@ -110,7 +110,7 @@ ends_more events (f ∷ rest) =
     ∙ ap (λ (fs : List Fragment). fs ++ rest) (after_packet events f)
     ∙ append_assoc (after_cuts events) (f ∷ []) rest
 
--- nothing goes on with a packet that begins a unit
+-- a packet that begins a unit continues none
 not_linked : (x : Fragment) (xs : List Fragment) (f : Fragment) (rest : List Fragment) → goes_on f.part ≡ false → are_linked x (xs ++ f ∷ rest) ≡ false
 not_linked x [] f rest e = rw (e, and-false (not (completes x.part))) refl
 not_linked x (y ∷ ys) f rest e = rw (not_linked y ys f rest e) (and-false (follows x y))

@@ -89,7 +89,7 @@ equal_stamps : (ts : List ℤ) (g : Fragment) (t : Option ℤ) → g.instant ≡
 equal_stamps ts g None e = rw (e, append_none ts, agree_none (first_stamp ts), and-true (all_equal ts)) refl
 equal_stamps ts g (Some t) e = rw e (equal_more ts t)
 
--- the fragment goes on with the stretch
+-- the fragment continues the stretch
 abbrev pub continues : Fragment → List Fragment → Fragment → Bool
 continues f rest g = follows (last_of f rest) g && agree (first_stamp (stamps (f ∷ rest))) g.instant
 
@@ -127,7 +127,7 @@ follows_goes_on : (f g : Fragment) → follows f g ≡ true → goes_on g.part �
 follows_goes_on f g e =
     and_right _ _ (and_left _ _ (and_left _ _ e))
 
--- no end of what goes on with a stretch is itself one
+-- no end of what continues a stretch is itself one
 rest_none : (f : Fragment) (rest : List Fragment) → are_linked f rest ≡ true → stretch_of rest ≡ []
 rest_none f [] e = refl
 rest_none f (g ∷ rest) e =

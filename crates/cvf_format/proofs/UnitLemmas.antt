@@ -32,7 +32,7 @@ contains_option : {X : Type 0} (o : Option X) (ys : List X) (x : X) → Contains
 contains_option None ys x c = inr c
 contains_option (Some y) ys x c = elim (contains_cases y ys x c) [ inl same ↦ inl (ap (λ z. Some z) same) | inr later ↦ inr later ]
 
--- ---- what comes of the places that pass a test
+-- ---- the items that the places which pass a test give
 
 record Comes {X : Type 0} (test : ℕ → Bool) (gives : ℕ → Option X) (low high : ℕ) (x : X) (place : ℕ) : Type 0 where
   from : low ≤ place
@@ -82,7 +82,7 @@ comes_there {X} test gives (suc n) low x place p =
           rw (t, g) (contains_here x later)
     ]
 
--- what comes of later places comes later
+-- the items of later places come later
 comes_in_order : {X : Type 0} (R : X → X → Type 0) (test : ℕ → Bool) (gives : ℕ → Option X) (high : ℕ)
     → ((x y : X) (i j : ℕ) → Comes test gives 0 high x i → Comes test gives (i + 1) high y j → R x y)
     → (n low : ℕ) → low + n ≡ high → AllPairs R (filter_map gives (filter test (range_with_len low n)))

@@ -32,7 +32,7 @@ longest_body = 65530
 
 -- ---- the state that a list of events leaves
 
--- the first instant of a list, and None of an empty one
+-- the first instant of a list, and `None` of an empty one
 abbrev pub first_stamp : List ℤ → Option ℤ
 first_stamp [] = None
 first_stamp (instant ∷ rest) = Some instant
@@ -42,7 +42,7 @@ abbrev pub last_of : Fragment → List Fragment → Fragment
 last_of fragment [] = fragment
 last_of fragment (next ∷ rest) = last_of next rest
 
--- the assembler keeps these packets, at least one, which wait for the rest of their unit
+-- the packets that the assembler keeps, at least one: they wait for the rest of their unit
 pub record Keeps (a : Assembly) (first : Fragment) (rest : List Fragment) : Type 0 where
   pub marks : a.held ≡ map mark_of (first ∷ rest)
   pub bytes : a.bytes ≡ unit_of (first ∷ rest)
@@ -50,7 +50,7 @@ pub record Keeps (a : Assembly) (first : Fragment) (rest : List Fragment) : Type
   pub next_seq : a.next_seq ≡ ((last_of first rest).mark.seq + 1) % sequence_numbers
   pub instant : a.instant ≡ first_stamp (stamps (first ∷ rest))
 
--- the assembler keeps these packets, or none, which wait for the rest of their unit
+-- the packets that the assembler keeps, possibly none: they wait for the rest of their unit
 abbrev pub KeepsAll : Assembly → List Fragment → Type 0
 KeepsAll a [] = a.held ≡ []
 KeepsAll a (first ∷ rest) = Keeps a first rest
@@ -59,8 +59,8 @@ KeepsAll a (first ∷ rest) = Keeps a first rest
 abbrev pub shown_unit : Assembly → List ℕ
 shown_unit a = if a.whole then a.bytes else []
 
--- An assembler that was given these events, and nothing else: it keeps the packets that wait, the marks of those that
--- the last event gave up, and the unit that it made whole.
+-- An assembler that was given these events, and no others: it keeps the packets that wait, the marks of those that the last
+-- event gave up, and the unit that it completed.
 pub record StandsFor (a : Assembly) (events : List Event) : Type 0 where
   pub waits : KeepsAll a (held events)
   pub lost : a.lost ≡ lost_marks events

@@ -13,7 +13,7 @@ use Rattle.cvf_format.specs.declared.cvf.NalPart.{NalPart}
 use Rattle.cvf_format.specs.declared.cvf.NalPart.TheVariants.{Single, First, Middle, Last}
 use Rattle.cvf_format.specs.declared.cvf.CvfView.{CvfView}
 
--- an H.264 packet, apart from where its body lies in memory
+-- an H.264 packet, without its body's location in memory
 pub record Cvf : Type 0 where
   pub header : StreamHeader
   pub ptv : Bool
@@ -25,7 +25,7 @@ pub record Cvf : Type 0 where
   pub body : List ℕ
   pub reserved : Bool
 
--- the packet that a view shows, apart from where its body lies in memory
+-- the packet that a view shows, without its body's location in memory
 abbrev pub cvf_shape : CvfView → Cvf
 cvf_shape v = record {
   header = v.header;
@@ -81,9 +81,9 @@ ends Single = false
 ends First = false
 ends Middle = false
 
--- The table of an H.264 packet: 28 bytes that whole NAL units and fragments share, and then the headers of the unit,
--- which are given. The two format bits of the stream header are reserved, and a view shows them. The stated length
--- counts from the H.264 timestamp on, so a packet that ends within that timestamp is refused by the stated length.
+-- The table of an H.264 packet: 28 bytes that whole NAL units and fragments share, and then the given headers of the unit. The
+-- two format bits of the stream header are reserved, and a view shows them. The stated length counts from the H.264 timestamp
+-- on, so a packet that ends within that timestamp is refused by the stated length.
 abbrev pub cvf_layout : Layout Cvf → Layout Cvf
 cvf_layout nal_headers = stream_layout (λ v. v.header)
     (reserved_shown 2 (λ v. v.header.format_bits) ∷ [])
@@ -147,8 +147,8 @@ is_fragment bytes = bits 28 3 5 bytes == fu_a
 abbrev pub cut_off : Field → ℕ → Bool → Row
 cut_off field at holds = record { refusal = record { field = field; at = at; short = true }; holds = holds }
 
--- The rows of the NAL unit's headers, which come last: the type is neither that of a single unit nor FU-A; the FU
--- header is cut off, has both S and E, or names a type that is none of a single unit.
+-- The rows of the NAL unit's headers, which come last: the type is neither that of a single unit nor FU-A; the FU header is cut
+-- off, has both S and E, or names a type that is not that of a single unit.
 abbrev pub nal_rows : List ℕ → List Row
 nal_rows bytes =
     row NalType 28 (not (is_single_type (bits 28 3 5 bytes) || is_fragment bytes)) ∷
@@ -156,7 +156,7 @@ nal_rows bytes =
     row FuHeader 29 (is_fragment bytes && is_set 29 0 bytes && is_set 29 1 bytes) ∷
     row FuHeader 29 (is_fragment bytes && not (is_single_type (bits 29 3 5 bytes))) ∷ []
 
--- why bytes are no H.264 packet
+-- why bytes are not an H.264 packet
 abbrev pub cvf_refusal : List ℕ → Option Refusal
 cvf_refusal bytes =
     or_else (kind_refusal cvf_subtype bytes)

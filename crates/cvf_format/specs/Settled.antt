@@ -18,14 +18,14 @@ settled_as Whole fragment stretch = stretch
 settled_as Held fragment stretch = []
 settled_as (Lost why) fragment stretch = fragment ∷ []
 
--- what an event settles after those before it: the packets that it gives up, and then what it settles itself
+-- the packets that an event settles after the events before it: those that it gives up, and then those that it settles itself
 abbrev pub settled_by : List Event → Event → List Fragment
 settled_by before cut = given_up (before ++ cut ∷ [])
 settled_by before (packet fragment) =
     given_up (before ++ packet fragment ∷ [])
     ++ settled_as (piece (before ++ packet fragment ∷ [])) fragment (last_stretch (before ++ packet fragment ∷ []))
 
--- what these events settle, one after the other, after the events before them
+-- the packets that these events settle, one after the other, after the events before them
 abbrev pub settled : List Event → List Event → List Fragment
 settled before [] = []
 settled before (event ∷ events) = settled_by before event ++ settled (before ++ event ∷ []) events

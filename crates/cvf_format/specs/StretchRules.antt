@@ -1,4 +1,4 @@
--- What a stretch is, in the words of the rules (RFC 6184, 5.8).
+-- The definition of a stretch in terms of the rules (RFC 6184, 5.8).
 use Rattle.std.specs.Prelude.{◌≡◌, ◌≢◌, ◌+◌, ◌%◌, true, false, ℤ, List, [], ◌∷◌, ◌++◌, map}
 use Rattle.std.specs.List.{All}
 use Rattle.std.specs.Option.{IfSome}

@@ -32,7 +32,7 @@ pub record Fragment : Type 0 where
   pub part : NalPart
   pub body : List ℕ
 
--- a packet, or a cut between two packets, over which no NAL unit continues
+-- a packet, or a cut between two packets: no NAL unit continues across a cut
 pub data Event : Type 0 where
   packet : Fragment → Event
   cut : Event
@@ -144,14 +144,14 @@ held events = waiting (last_stretch events)
 abbrev pub is_passed : List Fragment → Bool
 is_passed stretch = not (is_within stretch) && is_within (before_last stretch)
 
--- what becomes of the last packet of a stretch, or of a packet that is in none, as far as is known when it comes
+-- what becomes of the last packet of a stretch, or of a packet that is in none, by what is known when it comes
 abbrev pub piece_of : List Fragment → Piece
 piece_of [] = variant.Lost Broken
 piece_of (first ∷ rest) =
     if is_within (first ∷ rest) then (if is_complete (first ∷ rest) then variant.Whole else variant.Held)
     else if is_passed (first ∷ rest) then variant.Lost Long else variant.Lost Broken
 
--- what becomes of the last packet of these events, as far as is known when it comes
+-- what becomes of the last packet of these events, by what is known when it comes
 abbrev pub piece : List Event → Piece
 piece events = piece_of (last_stretch events)
 
@@ -176,7 +176,7 @@ reason events = reason_of (last_stretch events)
 abbrev pub whole_of : List Fragment → List ℕ
 whole_of stretch = if is_within stretch && is_complete stretch then unit_of stretch else []
 
--- the bytes of the unit that the last event made whole; none if it made none
+-- the bytes of the unit that the last event completed; none if it completed none
 abbrev pub whole_unit : List Event → List ℕ
 whole_unit events = whole_of (last_stretch events)
 

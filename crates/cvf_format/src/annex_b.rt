@@ -86,12 +86,12 @@ pub fn next_unit(bytes: &[u8], from: usize) -> Option<(usize, usize)>
     None
 }
 
-/// The NAL units of a byte stream, in order: of each the place of its first byte, and the place after its last.
+/// The NAL units of a byte stream, in order: for each, the place of its first byte, and the place after its last.
 ///
-/// A start code is 00 00 01. A unit begins after a start code and ends before the next 00 00 01 or 00 00 00, or at the
-/// end of the bytes. Zero bytes at its end are dropped, and so is a unit that has no other bytes. Bytes before the
-/// first start code belong to no unit, and neither do those from 00 00 00 to the next start code. Returns `NoMemory` if
-/// the list cannot be allocated; nothing else is allocated.
+/// A start code is 00 00 01. A unit begins after a start code and ends before the next 00 00 01 or 00 00 00, or at the end of
+/// the bytes. Zero bytes at its end are dropped, and so is a unit that has no other bytes. Bytes before the first start code
+/// belong to no unit, and neither do those from 00 00 00 to the next start code. Returns `NoMemory` if the list cannot be
+/// allocated; nothing else is allocated.
 pub fn split_annex_b(alloc: Global, bytes: &[u8]) -> Result<Vec<(usize, usize)>, NoMemory>
     ensures units { IfOk result (λ units. AreUnits bytes.now units.items) }
     ensures value { IfOk result (λ units. units.items ≡ nal_units bytes.now) }

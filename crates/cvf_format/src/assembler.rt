@@ -156,8 +156,7 @@ impl Assembler {
         self.lost[i as usize]
     }
 
-    /// Marks a cut, over which no unit continues. Gives up the waiting fragments and returns their number. Allocates
-    /// nothing.
+    /// Marks a cut: no unit continues across it. Gives up the waiting fragments and returns their number. Allocates nothing.
     pub fn cut(&mut self) -> u32
         ensures stands { (events : List Event) → StandsFor self.old events → StandsFor self.new (events ++ cut_event ∷ []) }
         ensures lost { (events : List Event) → StandsFor self.old events → result ≡ length (given_up (events ++ cut_event ∷ [])) }
@@ -166,7 +165,7 @@ impl Assembler {
         self.give_up()
     }
 
-    /// The bytes of the unit that the last packet made whole; none if it made none.
+    /// The bytes of the unit that the last packet completed; none if it completed none.
     pub fn unit(&self) -> &[u8]
         ensures { (events : List Event) → StandsFor self.now events → result.now ≡ whole_unit events }
     {
@@ -288,7 +287,7 @@ impl Assembler {
         self.next_seq = mark.seq.wrapping_add(1);
     }
 
-    /// The packet waits, or the unit is whole with it.
+    /// The packet waits, or it completes the unit.
     fn settle(&mut self, mark: Mark, part: NalPart) -> Piece
         requires { length self.old.held < MOST_FRAGMENTS }
         ensures left { self.new ≡ record self.old { held = if completes part then [] else self.old.held ++ mark ∷ []; whole = completes part } }

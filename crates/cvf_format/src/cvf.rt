@@ -34,7 +34,7 @@ pub struct CvfView<'a> {
     /// The H.264 timestamp, in nanoseconds of gPTP modulo 2^32 like the header's.
     pub h264_timestamp: u32,
     /// The first byte of the NAL unit: F in one bit, NRI in two, and the type, 1 to 23, in five. All fragments of a
-    /// unit carry the same, in their two headers.
+    /// unit carry the same first byte, in their two headers.
     pub nal: u8,
     pub part: NalPart,
     /// The bytes of the NAL unit after its first that this packet carries.

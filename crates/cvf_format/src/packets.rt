@@ -6,11 +6,11 @@ ghost use Rattle.cvf_format.specs.Packets.{IsCut, packets_of};
 /// The bytes of the longest NAL unit that is sent whole.
 const LONGEST_SINGLE: usize = 1400;
 
-/// The bytes of the body of each fragment but the last.
+/// The bytes of the body of each fragment except the last.
 const FULL_BODY: usize = 1398;
 
-/// The number of packets that carry a NAL unit of `len` bytes, 1 to 268,435,456: one for a unit of at most 1400 bytes,
-/// otherwise the number of fragments (FU-A) for the bytes that follow its first, 1398 in each but the last.
+/// The number of packets that carry a NAL unit of `len` bytes, 1 to 268,435,456: one for a unit of at most 1400 bytes;
+/// otherwise the number of fragments (FU-A) for the bytes that follow its first byte, 1398 in each fragment except the last.
 pub fn fragments(len: usize) -> u32
     requires some { 1 ≤ len }
     requires most { len ≤ 268435456 }

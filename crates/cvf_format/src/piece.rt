@@ -18,7 +18,7 @@ pub enum Lost {
     Long,
 }
 
-/// What becomes of a packet, as far as is known when it comes.
+/// What becomes of a packet, by what is known when it comes.
 #[derive(Clone, Copy, Debug, PartialEq, Eq)]
 pub enum Piece {
     /// Its unit is whole.

@@ -1,4 +1,4 @@
-//! Laws of the units that packets make. Each is stated by a contract; the call does nothing.
+//! Laws of the units that packets make. Each call only states its contract, and does nothing.
 
 ghost use Rattle.std.specs.Prelude.{◌≡◌, ◌≤◌, ◌++◌, ◌∷◌, ◌↔◌, ◌⊎◌, true, [], length, List};
 ghost use Rattle.cvf_format.specs.Settled.{packets, settled, settled_by};
@@ -16,14 +16,14 @@ pub fn one_stretch()
     ensures some { (events : List Event) → (last_stretch events ≡ []) ⊎ EndsWith events (last_stretch events) }
 {}
 
-/// Each packet is settled exactly once, in the order in which they came: it is given up by a later event, or lost when
-/// it comes, or it is in a unit that a packet makes whole, or it waits at the end.
+/// Each packet is settled exactly once, in the order in which the packets came: a later event gives it up, it is lost when it
+/// comes, it is in a unit that a packet completes, or it waits at the end.
 pub fn each_packet_once()
     ensures all { (events : List Event) → packets events ≡ settled [] events ++ held events }
     ensures next { (before : List Event) (event : Event) → held before ++ packets (event ∷ []) ≡ settled_by before event ++ held (before ++ event ∷ []) }
 {}
 
-/// What waits, what an event gives up, and a unit that is whole are within the limits.
+/// The packets that wait, those that an event gives up, and those of a complete unit are within the limits.
 pub fn within_the_limits()
     ensures held { (events : List Event) → length (held events) ≤ most_fragments }
     ensures given_up { (events : List Event) → length (given_up events) ≤ most_fragments }

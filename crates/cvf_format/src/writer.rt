@@ -23,7 +23,7 @@ fn format_flags(view: &CvfView<'_>) -> u16
     (flags << 4 | u16::from(view.evt)) << 8
 }
 
-/// Bytes 28 and 29: the headers of the NAL unit; one that is whole has only the first.
+/// Bytes 28 and 29: the headers of the NAL unit; a whole unit has only the first.
 fn nal_headers(view: &CvfView<'_>) -> [u8; 2]
     ensures { take (size_of_header view.now.part - 28) result ≡ spelling (headers_of view.now.part) (cvf_shape view.now) }
 {
@@ -37,7 +37,7 @@ fn nal_headers(view: &CvfView<'_>) -> [u8; 2]
     }
 }
 
-/// The bytes before the body, and one more for a NAL unit that is whole.
+/// The bytes before the body, and one unused byte if the NAL unit is whole.
 fn packet_header(view: &CvfView<'_>) -> [u8; 30]
     requires { IsWritableCvf (cvf_shape view.now) }
     ensures spelled { take (size_of_header view.now.part) result ≡ spelling (layout_of view.now.part) (cvf_shape view.now) }

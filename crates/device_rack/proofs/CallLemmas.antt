@@ -23,7 +23,7 @@ first_or_other n ns x has =
       | inr there ↦ inr there
     ]
 
--- counted after one call more
+-- the calls counted after one more call
 pub later-again : (k : ℕ) (ns : List ℕ) → later 1 (later k ns) ≡ later (k + 1) ns
 later-again k [] = refl
 later-again k (n ∷ ns) =
@@ -36,7 +36,7 @@ later-again k (n ∷ ns) =
       | inr h ↦ rw (gone k n ns h, gone (k + 1) n ns (omega arith)) (later-again k ns)
     ]
 
--- the next call is told where it is among those that fail
+-- the device reports the next call if it is among those that fail
 pub next_is_told : (k : ℕ) (ns : List ℕ) → Contains ns (k + 1) → Contains (later k ns) 1
 next_is_told k [] has = absurd (none (k + 1) has)
 next_is_told k (n ∷ ns) has =
@@ -66,7 +66,7 @@ told_is_next k (n ∷ ns) told =
       | inr past ↦ Contains-append_right (n ∷ []) ns (k + 1) (told_is_next k ns (rw (gone k n ns past) at told))
     ]
 
--- after the last call that has a number, none is to come
+-- after the last call that has a number, no failing call is left
 pub later-last : (k : ℕ) (ns : List ℕ) → All (λ n. n ≤ k) ns → later k ns ≡ []
 later-last k [] all = refl
 later-last k (n ∷ ns) all = gone k n ns (All-head (λ n. n ≤ k) n ns all) ∙ later-last k ns (All-tail (λ n. n ≤ k) n ns all)

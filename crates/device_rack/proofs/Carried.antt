@@ -15,9 +15,9 @@ use Rattle.device_rack.specs.Laws.{IsCarried}
 use Rattle.cvf_format.proofs.PlaceLemmas.{filter_skip, find_skip, NonePasses}
 use Rattle.cvf_format.proofs.AnnexBLemmas.{three_read}
 
--- ---- places that pass no test are passed over
+-- ---- places that pass no test are skipped
 
--- the last place that passes is the last one
+-- the last place passes, so it is the last that passes
 last_passes : (test : ℕ → Bool) (m a : ℕ) (o : Option ℕ) → test (a + m) ≡ true → last_or o (filter test (range_with_len a (suc m))) ≡ Some (a + m)
 last_passes test zero a o there = let here : a + 0 ≡ a = omega arith in let t : test a ≡ true = rw here at there in rw (here, t) refl
 last_passes test (suc m) a o there =
@@ -30,7 +30,7 @@ last_passes test (suc m) a o there =
     either true rest = rest (Some a)
     either false rest = rest o
 
--- ---- a unit after its start code, in the midst of bytes
+-- ---- a unit after its start code, in the middle of bytes
 
 not_there : (bytes needle : List ℕ) (k : ℕ) → ¬ OccursAt bytes needle k → occurs_at bytes needle k ≡ false
 not_there bytes needle k never = by (occurs_at bytes needle k) refl
@@ -39,7 +39,7 @@ not_there bytes needle k never = by (occurs_at bytes needle k) refl
     by true t = absurd (never (OccursAt-true bytes needle k t))
     by false f = f
 
--- Where the bytes of a unit stand, neither a start code nor three zeros begin, as its last byte is not zero.
+-- Where the bytes of a unit are, neither a start code nor three zeros begin, because its last byte is not zero.
 module _ (bytes unit rest : List ℕ) (at : ℕ) (carried : IsCarried unit) (stands : drop at bytes ≡ unit ++ rest) where
   unit_byte : (i : ℕ) → i < length unit → get_or bytes (at + i) 0 ≡ get_or unit i 0
   unit_byte i inside = sym (get_or-drop at bytes i 0) ∙ ap (λ (xs : List ℕ). get_or xs i 0) stands ∙ get_or_append_left unit rest 0 i inside
@@ -93,7 +93,7 @@ module _ (bytes unit rest : List ℕ) (at : ℕ) (carried : IsCarried unit) (sta
 abbrev coded : List Presented → List ℕ
 coded us = flat_map (λ (unit : Presented). 0 ∷ 0 ∷ 0 ∷ 1 ∷ unit.bytes) us
 
--- A unit after its start code, and more of them behind it.
+-- A unit after its start code, followed by more units.
 module _ (bytes unit : List ℕ) (us : List Presented) (at : ℕ) (carried : IsCarried unit) (starts : drop at bytes ≡ 0 ∷ 0 ∷ 0 ∷ 1 ∷ (unit ++ coded us)) where
   total : length bytes ≡ at + 4 + length unit + length (coded us)
   total =
@@ -122,7 +122,7 @@ module _ (bytes unit : List ℕ) (us : List Presented) (at : ℕ) (carried : IsC
         three_read bytes (at + 1) 0 0 1 (header_byte 1) (ap (λ (k : ℕ). get_or bytes k 0) second ∙ header_byte 2) (ap (λ (k : ℕ). get_or bytes k 0) third ∙ header_byte 3);
   }
 
-  -- a start code that would need a byte to be another
+  -- no start code begins where one of its bytes would be different
   no_code_by : (k j byte : ℕ) → j < 3 → get_or bytes (k + j) 0 ≡ byte → byte ≢ get_or start_code j 0 → is_start_code bytes k ≡ false
   no_code_by k j byte few is differs = not_there bytes start_code k (λ o. differs (sym is ∙ o.reads j few))
 
@@ -173,7 +173,7 @@ module _ (bytes unit : List ℕ) (us : List Presented) (at : ℕ) (carried : IsC
       rw (place, ends, count)
       (ap (option_map (λ last. (at + 4, last + 1))) (last_passes (is_other_byte bytes) m (at + 4) None (other_there bytes unit (coded us) (at + 4) carried stands m is)))
 
-  -- the units from here on are this one and those behind it
+  -- the units from here on are this one and those after it
   one_more : (m : ℕ) → m + 1 ≡ length unit → units_from bytes at ≡ (at + 4, at + 4 + m + 1) ∷ units_from bytes (at + 4 + length unit)
   unfolding units_from
   one_more m is =

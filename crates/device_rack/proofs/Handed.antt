@@ -1,4 +1,4 @@
--- Items that were handed to places one after the other: none, one, one list behind another, and what is so of each place.
+-- Items given to places one after the other: none, one, one list after another, and what holds for each place.
 use Rattle.std.proofs.Common.{◌≡◌, ◌≢◌, ℕ, zero, suc, ◌-◌, ◌==◌, ◌<◌, ◌≤◌, ◌⊎◌, ◌↔◌, Bool, true, false, cond, not, inl, inr, List, [], ◌∷◌, ◌++◌, length, get_or, Any, Contains, MatchBool, Option, None, Some, IfSome, refl, sym, ap, subst, ◌∙◌, arith, append_assoc, append-nil, true≢false, ne_eqb}
 use Rattle.std.specs.Global.{Global}
 use Rattle.std.specs.List.{AllZip}
@@ -73,7 +73,7 @@ within_later n (k ∷ ks) none a =
 -- ---- a device
 
 module _ {Device : Type 0} (took : Device → List Shown → Type 0) (faults : Device → ℕ) (failing : Device → Option (List ℕ)) where
-  -- it was handed none
+  -- the device was given no item
   none_handed : (device : Device) → WasHandedAll took faults failing [] device device true
   none_handed device = record {
     takes = λ live earlier t. subst (took device) (sym (append-nil earlier)) t;
@@ -87,7 +87,7 @@ module _ {Device : Type 0} (took : Device → List Shown → Type 0) (faults : D
       by None = tt
       by (Some numbers) = (λ live. absurd (true≢false live), λ a. absurd (none_within numbers a))
 
-  -- it did not take the first
+  -- the device did not take the first item
   turned : (shown : Shown) (items : List Shown) (before after : Device) → WasHanded took faults failing shown before after false → WasHandedAll took faults failing (shown ∷ items) before after false
   turned shown items before after was = record {
     takes = λ live. absurd (true≢false (sym live));
@@ -102,7 +102,7 @@ module _ {Device : Type 0} (took : Device → List Shown → Type 0) (faults : D
       by None told = tt
       by (Some numbers) told = (λ live. contains_first (length items) numbers (told.0.0 refl), λ a. refl)
 
-  -- it took the first, and was handed the others
+  -- the device took the first item, and was given the others
   went_on : (shown : Shown) (items : List Shown) (before between after : Device) (live : Bool)
       → WasHanded took faults failing shown before between true → WasHandedAll took faults failing items between after live → WasHandedAll took faults failing (shown ∷ items) before after live
   went_on shown items before between after live was all = record {

@@ -8,7 +8,7 @@ use Rattle.device_rack.specs.declared.silence.Silence.{Silence}
 use Rattle.device_rack.specs.declared.silence.Silence.TheVariants.{Zero, Am824}
 use Rattle.device_rack.specs.Output.{silence_of, silent_byte}
 
--- it repeats with each quadlet
+-- silence repeats with each quadlet
 silent_byte-again : (silence : Silence) (q j : ℕ) → silent_byte silence (4 * q + j) ≡ silent_byte silence j
 silent_byte-again Zero q j = refl
 silent_byte-again Am824 q j = ap (λ (r : ℕ). cond (r == 0) 0x40 0) (mul-add-mod_self_left 4 q j)
@@ -33,7 +33,7 @@ range-same f a b (suc k) same =
     same_next : (j : ℕ) → f (a + suc j) ≡ f (b + suc j) → f (a + 1 + j) ≡ f (b + 1 + j)
     same_next j e = let l : a + 1 + j ≡ a + suc j = omega arith in let r : b + 1 + j ≡ b + suc j = omega arith in rw (l, r) e
 
--- silence goes on with silence after whole quadlets
+-- silence after whole quadlets of silence is silence again
 silence_more : (silence : Silence) (q k : ℕ) → silence_of silence (4 * q) ++ silence_of silence k ≡ silence_of silence (4 * q + k)
 silence_more silence q k =
     let start : 0 + 4 * q ≡ 4 * q = omega arith in
@@ -41,7 +41,7 @@ silence_more silence q k =
     ∙ ap (λ (b : ℕ). silence_of silence (4 * q) ++ map (silent_byte silence) (range_with_len b k)) start
     ∙ ap (λ (xs : List ℕ). silence_of silence (4 * q) ++ xs) (range-same (silent_byte silence) (4 * q) 0 k (λ j. let start : 0 + j ≡ j = omega arith in rw start (silent_byte-again silence q j))))
 
--- and after whole pieces
+-- silence after whole pieces of silence is silence again
 pub pieces_more : (silence : Silence) (pieces k : ℕ) → silence_of silence (pieces * 1024) ++ silence_of silence k ≡ silence_of silence (pieces * 1024 + k)
 pieces_more silence pieces k =
     let quadlets : pieces * 1024 ≡ 4 * (256 * pieces) = omega arith in

@@ -1,4 +1,4 @@
--- What a device that took one more item stands for.
+-- The state of a device that took one more item.
 use Rattle.std.proofs.Common.{◌≡◌, ℕ, true, false, List, [], ◌∷◌, ◌++◌, None, Some, sym, ap, ◌∙◌, append_assoc}
 use Rattle.std.specs.List.{last_or}
 use Rattle.avtp_base.proofs.Told.{Appends-trans}
@@ -14,7 +14,7 @@ use Rattle.device_rack.specs.Written.{AppendsUpTo, HasTakenRaw, HasTakenUnits, I
 use Rattle.device_rack.specs.state.Written.{AppendsPrefix}
 use Rattle.device_rack.proofs.Outputs.{annexb_of_unit, last_more, raw_of_samples, samples_of_samples}
 
--- told bytes grew by a part of what the next adds
+-- the bytes that are shown grew by a part of what the next item adds
 up_to : (a b c : SinkState) (bs adds more : List ℕ) → more ≡ bs ++ adds → Appends a.held b.held bs → AppendsPrefix b.held c.held adds → AppendsUpTo a c bs more
 up_to a b c bs adds more is first taken =
     let part = taken.0 in
@@ -51,7 +51,7 @@ raw_added state start old new items batch samples taken failed silence previous 
       (silence_before (silence_in old) (last_or None (sample_batches items)) batch ++ batch.bytes) first added);
 }
 
--- a part of them was
+-- a part of the samples was added
 pub raw_part : {S : Type 0} (state : S → SinkState) (start now : SinkState) (old : RawDevice S) (items : List Shown) (batch : Presented)
     → is_unit batch ≡ false → raw_failed old ≡ false → HasTakenRaw state start old items
     → AppendsPrefix (state (raw_sink old)).held now.held (silence_before (silence_in old) (last_or None (sample_batches items)) batch ++ batch.bytes)

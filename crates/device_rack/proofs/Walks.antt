@@ -1,4 +1,4 @@
--- A walk along a list that changes each element once and counts those that it turns.
+-- A walk along a list that changes each element once, and counts those that pass a test afterwards.
 use Rattle.std.proofs.Common.{◌≡◌, ℕ, ◌+◌, ◌<◌, ◌≤◌, Bool, true, false, cond, not, ◌&&◌, List, [], ◌∷◌, ◌++◌, length, get_or, set, take, drop, refl, sym, subst, ◌∙◌, arith, count_by, length-set}
 use Rattle.std.specs.List.{AllZip}
 use Rattle.std.proofs.lemmas.List.{drop_more, drop-set-lt, take_more, take_more_set, take_all, length-take}
@@ -7,7 +7,7 @@ use Rattle.std.proofs.lemmas.List.Filters.{length-filter_both}
 use Rattle.std.specs.Int.{from_bool}
 use Rattle.std.proofs.lemmas.List.Elements.{AllZip-push}
 
--- The elements before i were changed as the relation says, those from i on are as they were, and so many more of the first
+-- The elements before i were changed as the relation says, those from i on are as they were, and this many more of the first
 -- pass the test now.
 pub record HasWalked {X : Type 0} (R : X → X → Type 0) (test : X → Bool) (old new : List X) (i turned : ℕ) : Type 0 where
   pub long : length new ≡ length old
@@ -49,7 +49,7 @@ HasWalked-end R test old new i turned walked all =
     let right : take i new ≡ new = take_all i new (omega (arith, walked.long)) in
     (rw (left, right) at walked.changed, rw (left, right) at walked.count)
 
--- what passes a test and what does not is all
+-- the elements that pass a test and those that do not are all elements
 pub both_counts : {X : Type 0} (test : X → Bool) (xs : List X) → count_by test xs + count_by (λ x. not (test x)) xs ≡ length xs
 both_counts test xs =
     omega (arith, length-filter_both test (λ x. not (test x)) (λ x. refl) xs, length-filter test xs, length-filter (λ x. not (test x)) xs)

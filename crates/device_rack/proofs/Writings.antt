@@ -10,7 +10,7 @@ use Rattle.avtp_base.specs.Faults.{IsCounted}
 use Rattle.avtp_base.specs.States.{SinkState}
 use Rattle.device_rack.specs.state.Written.{AppendsPrefix, HasWritten}
 
--- a sink took the front of the bytes, and then more of them
+-- a sink took a prefix of the bytes, and then more of them
 pub taken_more : (a b c : Option (List ℕ)) (bytes : List ℕ) (taken n : ℕ)
     → Appends a b (take taken bytes) → Appends b c (take n (take (length bytes - taken) (drop taken bytes)))
     → Appends a c (take (taken + n) bytes)
@@ -34,7 +34,7 @@ prefix_behind a b c xs ys first taken =
     let is : part ++ rest ≡ ys = taken.1.1 in
     (xs ++ part, (rest, append_assoc xs part rest ∙ ap (λ (zs : List ℕ). xs ++ zs) is), Appends-trans a b c xs part first taken.2)
 
--- a count that stayed, and then the count of a call
+-- the count was unchanged, and then a call was counted
 counted-then : {T U : Type 0} {f g h : ℕ} {e e' : Failed} → g ≡ f → IsCounted {T = T} g h (Err e) → IsCounted {T = U} f h (Err e')
 counted-then quiet counted = record {
   never_falls = rw (← quiet) counted.never_falls;

@@ -1,4 +1,4 @@
--- What handing a list of items to several devices does.
+-- What giving a list of items to several devices does.
 use Rattle.std.specs.Prelude.{◌≡◌, ℕ, ◌<◌, ◌≤◌, ◌++◌, [], ◌∷◌, ◌↔◌, Bool, true, false, List, length, Any, MatchBool, Option, IfSome}
 use Rattle.std.specs.Global.{Global}
 use Rattle.std.specs.List.{AllZip}
@@ -8,9 +8,9 @@ use Rattle.sample_schedule.specs.declared.shown.Shown.{Shown}
 use Rattle.device_rack.specs.Racks.{IsHanded}
 use Rattle.device_rack.specs.declared.place.Place.{Place}
 
--- A device was handed these items one after another, up to the first that it did not take; `live` says that it took
--- all. If it did not, it took some of them from the front, but not all. A device that tells the numbers of its failing
--- calls to come fails exactly if one of these is at most the number of the items.
+-- A device was given these items one after another, up to the first that it did not take; `live` says that it took all. If it
+-- did not, it took some of the first items, but not all. A device that reports the numbers of its future failing calls fails
+-- exactly if one of these is at most the number of items.
 pub record WasHandedAll {Device : Type 0} (took : Device → List Shown → Type 0) (faults : Device → ℕ) (failing : Device → Option (List ℕ)) (items : List Shown) (before after : Device) (live : Bool) : Type 0 where
   pub takes : live ≡ true → (earlier : List Shown) → took before earlier → took after (earlier ++ items)
   pub quiet : live ≡ true → faults after ≡ faults before
@@ -18,16 +18,16 @@ pub record WasHandedAll {Device : Type 0} (took : Device → List Shown → Type
   pub counts : live ≡ false → Rose (faults before) (faults after)
   pub told : IfSome (failing before) (λ numbers. live ≡ false ↔ Any (λ n. (1 ≤ n) × (n ≤ length items)) numbers)
 
--- What handing items to the places of a rack does. A place's device is of a kind that it brings with it.
+-- What giving items to the places of a rack does. A place's device brings its own type.
 module _ {Kind : Type 0} {Value : Kind → Type 0} where
-  -- places were handed these items, one after another
+  -- places were given these items, one after another
   unfoldable pub HandsAll : (DynBox Kind Global Value → List Shown → Type 0) → (DynBox Kind Global Value → ℕ) → (DynBox Kind Global Value → Option (List ℕ)) → List Shown → List (Place Kind Value) → List (Place Kind Value) → Type 0
   HandsAll took faults failing [] before after = after ≡ before
   HandsAll took faults failing (shown ∷ items) before after =
       (between : List (Place Kind Value)) × AllZip (IsHanded took faults failing shown) before between × HandsAll took faults failing items between after
 
-  -- A live place is handed the items until its device fails, and stays live if the device took them all. A failed place
-  -- stays as it is.
+  -- A live place is given the items until its device fails, and stays live if the device took them all. A failed place is
+  -- unchanged.
   abbrev pub AreHanded : (DynBox Kind Global Value → List Shown → Type 0) → (DynBox Kind Global Value → ℕ) → (DynBox Kind Global Value → Option (List ℕ)) → List Shown → Place Kind Value → Place Kind Value → Type 0
   AreHanded took faults failing items before after =
       MatchBool before.live (WasHandedAll took faults failing items before.device after.device after.live) (after ≡ before)

@@ -8,11 +8,11 @@ use Rattle.device_rack.specs.Devices.{later}
 abbrev pub kept_items : MemoryDevice → List Shown
 kept_items device = device.items.items
 
--- no memory was found for an item: it was taken without being kept, and so were all after it
+-- memory ran out for an item: it was taken without being kept, and so was every later one
 abbrev pub is_cut : MemoryDevice → Bool
 is_cut device = device.is_cut
 
--- the numbers, from 1, of those of its calls still to come that fail
+-- the numbers of the failing calls that are still to come, from 1
 abbrev pub failing_calls : MemoryDevice → List ℕ
 failing_calls device = later device.calls device.fails.items
 

@@ -1,22 +1,22 @@
--- Devices of which each is handed items until it fails.
+-- Devices that are given items until they fail.
 use Rattle.std.specs.Prelude.{◌≡◌, ℕ, ⊤, List, MatchBool, Option, None, Some, if◌then◌else◌}
 use Rattle.sample_schedule.specs.declared.shown.Shown.{Shown}
 use Rattle.device_rack.specs.Handed.{WasHandedAll}
 use Rattle.device_rack.specs.Racks.{WasHanded}
 use Rattle.device_rack.specs.declared.outlet.Outlet.{Outlet}
 
--- A device is of a kind D. Its meanings are the items that it took, its count of faults, and the numbers of its failing calls to
--- come, if it tells them.
+-- A device of type D. It is seen as the items that it took, its count of faults, and the numbers of its future failing calls,
+-- if it reports them.
 module _ {D : Type 0} (took : D → List Shown → Type 0) (faults : D → ℕ) (failing : D → Option (List ℕ)) where
-  -- A live device is handed an item, and stays live if it takes it. A failed one stays as it is.
+  -- A live device is given an item, and stays live if it takes it. A failed one is unchanged.
   abbrev pub IsHandedTo : Shown → Outlet D → Outlet D → Type 0
   IsHandedTo shown before after = MatchBool before.live (WasHanded took faults failing shown before.device after.device after.live) (after ≡ before)
 
-  -- A live device is handed items until it fails, and stays live if it takes them all. A failed one stays as it is.
+  -- A live device is given items until it fails, and stays live if it takes them all. A failed one is unchanged.
   abbrev pub AreHandedTo : List Shown → Outlet D → Outlet D → Type 0
   AreHandedTo items before after = MatchBool before.live (WasHandedAll took faults failing items before.device after.device after.live) (after ≡ before)
 
--- what may be there is as a relation says, and else missing before and after
+-- two options are both missing, or both present and related
 abbrev pub Both : {X : Type 0} → (X → X → Type 0) → Option X → Option X → Type 0
 Both R None None = ⊤
 Both R None (Some y) = ⊥

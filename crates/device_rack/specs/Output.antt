@@ -43,8 +43,8 @@ abbrev pub at_least_0 : ℤ → ℕ
 at_least_0 (pos n) = n
 at_least_0 (negsuc n) = 0
 
--- how many samples of a line a span of nanoseconds has, to the nearest whole one, half a sample up: span * den / num +
--- 1 / 2, rounded down, or none if that is negative
+-- how many samples of a line fit a span of nanoseconds, to the nearest whole number, half a sample rounded up: span * den / num
+-- + 1 / 2, rounded down, or none if that is negative
 abbrev pub samples_in : Line → ℤ → ℕ
 samples_in line span = at_least_0 (floor_of (pos 2 *ℤ span *ℤ pos line.den +ℤ pos line.num) (2 * line.num))
 
@@ -56,7 +56,7 @@ longest_silence = 16777216
 abbrev pub silent_bytes : Line → ℕ → ℤ → ℕ
 silent_bytes line size span = min (samples_in line span) (longest_silence / size) * size
 
--- byte j of silence: 0, or of AM824 that of quadlets with the label 40 and a value of 0 (IEC 61883-6)
+-- byte j of silence: 0, or for AM824 that of quadlets with the label 40 and the value 0 (IEC 61883-6)
 abbrev pub silent_byte : Silence → ℕ → ℕ
 silent_byte Zero j = 0
 silent_byte Am824 j = if j % 4 == 0 then 0x40 else 0
@@ -65,20 +65,19 @@ silent_byte Am824 j = if j % 4 == 0 then 0x40 else 0
 abbrev pub silence_of : Silence → ℕ → List ℕ
 silence_of silence count = map (silent_byte silence) (range_with_len 0 count)
 
--- the silence before a batch: from the end of the batch of samples before it, on that batch's line; none before the
--- first
+-- the silence before a batch: from the end of the last batch of samples, on that batch's line; none before the first batch
 abbrev pub silence_before : Silence → Option Presented → Presented → List ℕ
 silence_before silence None batch = []
 silence_before silence (Some before) batch =
     silence_of silence (silent_bytes before.line (sample_size before) (sample_instant batch 0 -ℤ sample_instant before before.count))
 
--- batches of samples, each after the silence before it, given the batch before the first
+-- batches of samples, each after its silence, given the batch before the first
 abbrev pub raw_behind : Silence → Option Presented → List Presented → List ℕ
 raw_behind silence before [] = []
 raw_behind silence before (batch ∷ batches) =
     silence_before silence before batch ++ batch.bytes ++ raw_behind silence (Some batch) batches
 
--- The samples of the items as they are written, with silence for what is missing between two batches of samples,
--- whatever units and flags are between.
+-- The samples of the items as they are written, with silence for samples that are missing between two batches, whatever units
+-- and flags come between.
 abbrev pub raw : Silence → List Shown → List ℕ
 raw silence items = raw_behind silence None (sample_batches items)

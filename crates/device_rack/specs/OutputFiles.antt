@@ -1,4 +1,4 @@
--- The two devices of a program, and what handing items to them does.
+-- The two devices of a program, and what giving items to them does.
 use Rattle.std.specs.Prelude.{◌≡◌, ℕ, ⊤, ◌+◌, true, List, [], Option, None, Some}
 use Rattle.avtp_base.specs.States.{SinkState}
 use Rattle.sample_schedule.specs.declared.shown.Shown.{Shown}
@@ -9,13 +9,14 @@ use Rattle.device_rack.specs.declared.outlet.Outlet.{Outlet}
 use Rattle.device_rack.specs.declared.output_files.OutputFiles.{OutputFiles}
 use Rattle.device_rack.specs.declared.raw.RawDevice.{RawDevice}
 
--- the device is there and live, or there is none
+-- the device exists and is live, or there is none
 abbrev pub AreLive : {D : Type 0} → Option D → Option (Outlet D) → Type 0
 AreLive None None = ⊤
 AreLive None (Some outlet) = ⊥
 AreLive (Some device) None = ⊥
 AreLive (Some device) (Some outlet) = (outlet.device ≡ device) × (outlet.live ≡ true)
 
+-- The two devices of a program, if it has them, each with whether it is live, and what giving items to them does.
 module _ {S : Type 0} where
   abbrev pub raw_outlet : OutputFiles S → Option (Outlet (RawDevice S))
   raw_outlet outputs = outputs.raw
@@ -23,15 +24,15 @@ module _ {S : Type 0} where
   abbrev pub units_outlet : OutputFiles S → Option (Outlet (AnnexBDevice S))
   units_outlet outputs = outputs.units
 
-  -- a device of raw samples was handed these items until it failed; it has taken them from wherever its sink was
+  -- a device of raw samples was given these items until it failed, from whatever its sink held before
   abbrev pub RawHanded : (S → SinkState) → List Shown → Outlet (RawDevice S) → Outlet (RawDevice S) → Type 0
   RawHanded state = AreHandedTo (λ device items. (start : SinkState) × HasTakenRaw state start device items) (λ device. (state (raw_sink device)).faults) (λ device. None)
 
-  -- a device of units was
+  -- a device of units was given these items until it failed, from whatever its sink held before
   abbrev pub UnitsHanded : (S → SinkState) → List Shown → Outlet (AnnexBDevice S) → Outlet (AnnexBDevice S) → Type 0
   UnitsHanded state = AreHandedTo (λ device items. (start : SinkState) × HasTakenUnits state start device items) (λ device. (state (annexb_sink device)).faults) (λ device. None)
 
-  -- both devices, as far as they are there, were handed these items until they failed
+  -- both devices, if they exist, were given these items until they failed
   pub record AreOutput (state : S → SinkState) (items : List Shown) (before after : OutputFiles S) : Type 0 where
     pub raw : Both (RawHanded state items) before.raw after.raw
     pub units : Both (UnitsHanded state items) before.units after.units

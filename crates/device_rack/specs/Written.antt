@@ -25,7 +25,7 @@ IsPreviousOf None (Some batch) = ⊥
 IsPreviousOf (Some previous) None = ⊥
 IsPreviousOf (Some previous) (Some batch) = IsPrevious previous batch
 
--- what a device shows: its sink, whether it has failed, what its silence is made of, and that it has taken these items
+-- what a device shows: its sink, whether it has failed, the kind of its silence, and that it has taken these items
 module _ {S : Type 0} where
   abbrev pub raw_sink : RawDevice S → S
   raw_sink device = device.sink
@@ -42,17 +42,17 @@ module _ {S : Type 0} where
   abbrev pub annexb_failed : AnnexBDevice S → Bool
   annexb_failed device = device.failed
 
-  -- The device has taken these items, in this order, since its sink was as in `start`: as long as it has not failed,
-  -- the sink holds their output after what it held then.
+  -- The device has taken these items, in this order, since its sink was in the state `start`: as long as it has not failed, the
+  -- sink holds what it held then, followed by their output.
   pub record HasTakenRaw (state : S → SinkState) (start : SinkState) (device : RawDevice S) (items : List Shown) : Type 0 where
     pub previous : IsPreviousOf device.previous (last_or None (sample_batches items))
     pub holds : raw_failed device ≡ false → Appends start.held (state (raw_sink device)).held (raw (silence_in device) items)
 
-  -- The device has taken these items since its sink was as in `start`: as long as it has not failed, the sink holds
-  -- their units as a byte stream after what it held then.
+  -- The device has taken these items since its sink was in the state `start`: as long as it has not failed, the sink holds what
+  -- it held then, followed by their units as a byte stream.
   abbrev pub HasTakenUnits : (S → SinkState) → SinkState → AnnexBDevice S → List Shown → Type 0
   HasTakenUnits state start device items = annexb_failed device ≡ false → Appends start.held (state (annexb_sink device)).held (annexb items)
 
--- what a sink holds grew by all of bs and then by a part, and both together are a prefix of `more`
+-- what a sink holds grew by `bs` and then by a part, which together are a prefix of `more`
 abbrev pub AppendsUpTo : SinkState → SinkState → List ℕ → List ℕ → Type 0
 AppendsUpTo before after bs more = (part : List ℕ) × IsPrefix (bs ++ part) more × Appends before.held after.held (bs ++ part)

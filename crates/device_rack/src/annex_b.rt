@@ -6,11 +6,11 @@ use avtp_base::Failed;
 use avtp_files::Sink;
 use sample_schedule::Shown;
 
-/// Writes the units that it takes to a sink, in the order in which they come, each after a start code (ITU-T H.264,
-/// annex B). Samples and flags add nothing.
+/// Writes the units that it takes to a sink, in their order, each after a start code (ITU-T H.264, annex B). Samples and flags
+/// add nothing.
 ///
-/// As long as no `take` has failed, the sink holds what it held at first and then all of it. The first `take` that fails
-/// leaves a prefix of what its item adds.
+/// As long as no `take` has failed, the sink holds what it held at first, followed by all of the output. The first `take` that
+/// fails leaves a prefix of the output of its item.
 #[derive(Drop)]
 pub struct AnnexBDevice<S> {
     sink: S,
@@ -21,7 +21,7 @@ impl<S: Sink + Drop> AnnexBDevice<S> {
     ghost use Rattle.std.specs.Prelude.{◌≡◌, [], false};
     ghost use Rattle.device_rack.specs.Written.{HasTakenUnits, annexb_failed, annexb_sink};
 
-    /// A device that has taken nothing. Takes no memory, and writes nothing.
+    /// A device that has taken nothing. Allocates nothing, and writes nothing.
     pub fn over(sink: S) -> Self
         ensures new { HasTakenUnits S.state (S.state sink) result [] }
         ensures sink { annexb_sink result ≡ sink }
@@ -33,7 +33,7 @@ impl<S: Sink + Drop> AnnexBDevice<S> {
         }
     }
 
-    /// What it writes to.
+    /// The sink.
     pub fn sink(&self) -> &S
         ensures { result.now ≡ annexb_sink self.now }
     {

@@ -1,4 +1,4 @@
-//! Where a listener hands what it shows.
+//! A device, which takes what a listener shows.
 
 ghost use Rattle.std.specs.Prelude.{◌++◌, [], ◌∷◌, IfSome, OnOk, OnErr};
 ghost use Rattle.avtp_base.specs.Faults.{IsCounted};
@@ -7,7 +7,7 @@ ghost use Rattle.device_rack.specs.Devices.{FailsAsTold};
 use avtp_base::Failed;
 use sample_schedule::Shown;
 
-/// Something that takes what a listener shows, one item after the other, and counts its faults.
+/// A device, which takes what a listener shows, one item after the other, and counts its faults.
 pub trait Device: Drop {
     ghost use Rattle.std.specs.Prelude.{List, ℕ, Option};
     ghost use Rattle.sample_schedule.specs.declared.shown.Shown.{Shown as ShownValue};
@@ -18,12 +18,12 @@ pub trait Device: Drop {
     /// The number of faults so far, which stops at the greatest 64-bit number.
     ghost faults: { Self → ℕ };
 
-    /// The numbers, from 1, of those of its calls still to come that fail, where the device tells them.
+    /// The numbers of its failing calls that are still to come, from 1, if the device reports them.
     ghost failing: { Self → Option (List ℕ) };
 
     /// Takes an item.
     ///
-    /// `Failed` comes only where the count rose, and then the item was not taken.
+    /// `Failed` comes only if the count of faults rose, and then the item was not taken.
     fn take(&mut self, shown: &Shown) -> Result<(), Failed>
         ensures took { OnOk result ((items : List ShownValue) → took self.old items → took self.new (items ++ shown.now ∷ [])) }
         ensures refused { OnErr result ((items : List ShownValue) → took self.old items → took self.new items) }

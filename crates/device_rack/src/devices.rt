@@ -1,4 +1,4 @@
-//! What is handed the items that a listener shows.
+//! Devices that are given the items that a listener shows.
 
 ghost use Rattle.std.specs.Prelude.{◌≡◌, ◌++◌, [], ◌∷◌};
 
@@ -6,18 +6,18 @@ use crate::device::Device;
 use crate::rack::Rack;
 use sample_schedule::Shown;
 
-/// Devices that are handed what is presented, item by item.
+/// Devices that are given what is shown, item by item.
 pub trait Devices {
     ghost use Rattle.std.specs.Prelude.{List, ℕ};
     ghost use Rattle.sample_schedule.specs.declared.shown.Shown.{Shown as ShownValue};
 
-    /// Since they were as at first, they were handed these items.
+    /// Between the two states, they were given these items.
     ghost handed: { Self → Self → List ShownValue → Type 0 };
 
     /// How many of them have failed.
     ghost failures: { Self → ℕ };
 
-    /// Hands an item to each of them that has not failed.
+    /// Gives an item to each of them that has not failed.
     fn hand_on(&mut self, shown: &Shown)
         ensures { (begun : Self) (items : List ShownValue) → handed begun self.old items → handed begun self.new (items ++ shown.now ∷ []) };
 

@@ -1,4 +1,5 @@
-//! Laws of what the devices write, and of what handing a list of items does. Each call is its contract, and does nothing.
+//! Laws of what the devices write, and of what giving a list of items does. Each call only states its contract, and does
+//! nothing.
 
 ghost use Rattle.std.specs.Prelude.{◌≡◌, List, All, map};
 ghost use Rattle.std.specs.List.{AllZip};
@@ -10,16 +11,15 @@ ghost use Rattle.device_rack.specs.Racks.{places_of};
 
 use crate::rack::Rack;
 
-/// If a byte stream can carry each unit, the NAL units of what is written are just the units that were taken, in their
-/// order.
+/// If a byte stream can carry each unit, the NAL units of the output are exactly the units that were taken, in their order.
 pub fn units_again()
     ensures { (items : List Shown) → All (λ unit. IsCarried unit.bytes) (units items) → nal_units_of (annexb items) ≡ map (λ unit. unit.bytes) (units items) }
 {}
 
-/// If each item of a list was handed to the rack, one after another, each device that is live at the end took all of
-/// them and its count of faults is as it was; one that turned failed took a front of them that is not all, and its
-/// count rose; and a place that had failed before stays as it was. If a device told the numbers of its failing calls to
-/// come, it turned failed exactly if one of these is at most the number of the items.
+/// If the rack was given the items of a list one after another, each device that is live at the end took all of them, and its
+/// count of faults is unchanged; one that failed took a proper prefix of them, and its count rose; and a place that had failed
+/// before is unchanged. If a device reported the numbers of its future failing calls, it failed exactly if one of these is at
+/// most the number of items.
 pub fn lists_are_handed(before: &Rack, after: &Rack)
     ensures { (items : List Shown) → HandsAll (λ device. took device) (λ device. faults device) (λ device. failing device) items (places_of before.now) (places_of after.now) → AllZip (AreHanded (λ device. took device) (λ device. faults device) (λ device. failing device) items) (places_of before.now) (places_of after.now) }
 {}

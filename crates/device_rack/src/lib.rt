@@ -1,4 +1,4 @@
-//! Racks of devices, each of which is handed what a listener shows until it fails, and the devices that write files.
+//! Racks of devices, each of which is given what a listener shows until it fails, and the devices that write files.
 #![tactic(auto)]
 
 mod annex_b;

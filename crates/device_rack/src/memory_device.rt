@@ -1,4 +1,4 @@
-//! A device in memory, which fails where it is told to.
+//! A device in memory, which fails at chosen calls.
 
 ghost use Rattle.std.specs.Prelude.{◌≡◌, IfOk};
 
@@ -9,7 +9,7 @@ use std::alloc::Global;
 
 /// Keeps copies of what it takes. Its calls are numbered from 1, and those whose numbers it was given fail.
 ///
-/// Where no memory is found to keep an item, the item is taken without being kept, and so is every item after it.
+/// If there is no memory to keep an item, the item is taken without being kept, and so is every later item.
 #[derive(Drop)]
 pub struct MemoryDevice {
     alloc: Global,
@@ -59,7 +59,7 @@ impl MemoryDevice {
     ghost use Rattle.device_rack.specs.MemoryDevice.{kept_items, is_cut, failing_calls, fault_count};
     ghost use Rattle.device_rack.specs.state.MemoryDevice.{HasTaken};
 
-    /// A device that has taken nothing, and whose calls with these numbers fail. Takes no memory.
+    /// A device that has taken nothing, and whose calls with these numbers fail. Allocates nothing.
     pub fn over(alloc: Global, fails: Vec<u64>) -> Self
         ensures empty { kept_items result ≡ [] }
         ensures whole { is_cut result ≡ false }
@@ -101,7 +101,7 @@ impl MemoryDevice {
         }
     }
 
-    /// Keeps a copy of an item, unless no memory was found now or before.
+    /// Keeps a copy of an item, unless memory has run out.
     fn keep(&mut self, shown: &Shown)
         ensures taken { (items : List ShownValue) → HasTaken self.old items → HasTaken self.new (items ++ shown.now ∷ []) }
         ensures fails { failing_calls self.new ≡ failing_calls self.old }
@@ -128,7 +128,7 @@ impl Device for MemoryDevice {
 
     ghost failing = { λ device. Some (failing_calls device) };
 
-    /// Fails where the number of the call is among those that fail.
+    /// Fails if the number of the call is among those that fail.
     fn take(&mut self, shown: &Shown) -> Result<(), Failed> {
         if self.next_fails() {
             self.faults = self.faults.saturating_add(1);

@@ -6,7 +6,7 @@ ghost use Rattle.device_rack.specs.Outlets.{IsHandedTo};
 use crate::device::Device;
 use sample_schedule::Shown;
 
-/// A device, and whether it is live: one that has failed is handed nothing more.
+/// A device, and whether it is live: a device that has failed is given nothing more.
 #[derive(Drop)]
 pub struct Outlet<D> {
     device: D,
@@ -29,7 +29,7 @@ impl<D: Device> Outlet<D> {
         self.live
     }
 
-    /// Hands the device an item, if it is live.
+    /// Gives the device an item, if it is live.
     pub fn hand(&mut self, shown: &Shown)
         ensures { IsHandedTo D.took D.faults D.failing shown.now self.old self.new }
     {

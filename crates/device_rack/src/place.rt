@@ -7,15 +7,15 @@ ghost use Rattle.device_rack.specs.Racks.{IsHanded, failed_count};
 use crate::device::Device;
 use sample_schedule::Shown;
 
-/// A device, and whether it is live. A place that is not live has failed. A boxed device brings a type of its own with
-/// it, which a model of the rack could not name, so a rack is seen as the list of its places.
+/// A device, and whether it is live. A place that is not live has failed. A boxed device brings a type of its own, which a
+/// model of the rack could not name, so contracts see a rack as the list of its places.
 #[derive(Drop)]
 pub struct Place {
     pub device: Box<dyn Device + Send>,
     pub live: bool,
 }
 
-/// Hands an item to the place, if it is live, and says whether it turned failed.
+/// Gives an item to the place, if it is live, and returns whether the place failed now.
 fn hand(place: &mut Place, shown: &Shown) -> bool
     ensures handed { IsHanded (λ device. took device) (λ device. faults device) (λ device. failing device) shown.now place.old place.new }
     ensures stays { place.old.live ≡ false → place.new.live ≡ false }
@@ -28,7 +28,7 @@ fn hand(place: &mut Place, shown: &Shown) -> bool
     !place.live
 }
 
-/// Hands an item to each live place, in their order, and answers how many turned failed.
+/// Gives an item to each live place, in their order, and returns how many failed now.
 pub fn hand_each(places: &mut [Place], shown: &Shown) -> u32
     requires { length places.old < 2 ^ 32 }
     ensures places { AllZip (IsHanded (λ device. took device) (λ device. faults device) (λ device. failing device) shown.now) places.old places.new }

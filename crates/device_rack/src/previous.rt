@@ -1,4 +1,4 @@
-//! What silence is measured from.
+//! The batch that silence is measured from.
 
 ghost use Rattle.std.specs.Prelude.{◌≤◌, ◌^◌};
 
@@ -51,7 +51,7 @@ impl Previous {
         (2 * span * u128::from(self.line.den) + num) / (2 * num)
     }
 
-    /// How many bytes of silence are written for them.
+    /// How many bytes of silence are written for the missing samples.
     fn silent_bytes(&self, next: i64) -> usize
         ensures { result ≡ silent_bytes self.now.line self.now.size (next -ℤ self.now.end) }
     {

@@ -17,7 +17,7 @@ impl Rack {
     ghost use Rattle.std.specs.List.{AllZip};
     ghost use Rattle.device_rack.specs.Racks.{IsHanded, places_of, live_count, failed_count};
 
-    /// A rack of these places, which are all live and fewer than 2^32. Takes no memory.
+    /// A rack of these places, which are all live and fewer than 2^32. Allocates nothing.
     pub fn over(places: Vec<Place>) -> Self
         requires fit { length places.items < 2 ^ 32 }
         requires live { All (λ place. place.live ≡ true) places.items }
@@ -46,8 +46,8 @@ impl Rack {
         self.places.len() as u32 - self.live()
     }
 
-    /// Hands an item to each live device, in the order of the places, and answers how many places turned failed. A
-    /// place turns failed if its device answers `Failed`, and is handed nothing from then on.
+    /// Gives an item to each live device, in the order of the places, and returns how many places failed now. A place fails if
+    /// its device returns `Failed`, and is given nothing from then on.
     pub fn hand(&mut self, shown: &Shown) -> u32
         ensures places { AllZip (IsHanded (λ device. took device) (λ device. faults device) (λ device. failing device) shown.now) (places_of self.old) (places_of self.new) }
         ensures failures { failed_count (places_of self.new) ≡ failed_count (places_of self.old) + result }

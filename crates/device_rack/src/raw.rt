@@ -8,13 +8,13 @@ use avtp_base::Failed;
 use avtp_files::Sink;
 use sample_schedule::Shown;
 
-/// Writes the samples that it takes to a sink, in the order in which they come, with silence for missing ones.
+/// Writes the samples that it takes to a sink, in their order, with silence for missing ones.
 ///
-/// Units and flags add nothing. Between two batches of samples is silence from the end of the first up to the beginning
-/// of the second, whatever units and flags came between, to the nearest whole sample of the first's line (half a sample
-/// counts as one), and of at most 16,777,216 bytes; if they overlap there is none. Nothing is kept back: all bytes of
-/// an item are in the sink when `take` answers `Ok`. As long as no `take` has failed, the sink holds what it held at
-/// first and then all of it. The first `take` that fails leaves a prefix of what its item adds.
+/// Units and flags add nothing. Between two batches of samples it writes silence from the end of the first to the beginning of
+/// the second, whatever units and flags came between: to the nearest whole sample of the first batch's line, half a sample
+/// rounded up, and at most 16,777,216 bytes. If the batches overlap there is no silence. Nothing is buffered: all bytes of an
+/// item are in the sink when `take` returns `Ok`. As long as no `take` has failed, the sink holds what it held at first,
+/// followed by all of the output. The first `take` that fails leaves a prefix of the output of its item.
 #[derive(Drop)]
 pub struct RawDevice<S> {
     sink: S,
@@ -27,7 +27,7 @@ impl<S: Sink + Drop> RawDevice<S> {
     ghost use Rattle.std.specs.Prelude.{◌≡◌, [], false};
     ghost use Rattle.device_rack.specs.Written.{HasTakenRaw, raw_failed, raw_sink, silence_in};
 
-    /// A device that has taken nothing. Takes no memory, and writes nothing.
+    /// A device that has taken nothing. Allocates nothing, and writes nothing.
     pub fn over(sink: S, silence: Silence) -> Self
         ensures new { HasTakenRaw S.state (S.state sink) result [] }
         ensures sink { raw_sink result ≡ sink }
@@ -42,7 +42,7 @@ impl<S: Sink + Drop> RawDevice<S> {
         }
     }
 
-    /// What it writes to.
+    /// The sink.
     pub fn sink(&self) -> &S
         ensures { result.now ≡ raw_sink self.now }
     {

@@ -5,7 +5,7 @@
 pub enum Silence {
     /// Bytes of 0.
     Zero,
-    /// AM824 quadlets (IEC 61883-6) of the value 0: 40 00 00 00.
+    /// AM824 quadlets (IEC 61883-6) with the value 0: 40 00 00 00.
     Am824,
 }
 

@@ -8,7 +8,7 @@ use crate::silence::Silence;
 use avtp_base::Failed;
 use avtp_files::Sink;
 
-/// What comes before each unit of a byte stream.
+/// The start code before each unit of a byte stream.
 const START_CODE: [u8; 4] = [0, 0, 0, 1];
 
 /// Writes all the bytes. If the sink fails, it has taken a prefix of them.

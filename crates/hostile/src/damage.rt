@@ -25,7 +25,7 @@ const SUBTYPES: [u64; 6] = [0x00, 0x02, 0x03, 0x04, 0x6e, 0xff];
 /// Where the packet begins in a frame with a VLAN tag.
 const PACKET: usize = 18;
 
-/// Writes bytes over others, as far as there are any.
+/// Overwrites bytes from an offset on, up to the end of the slice.
 fn put(bytes: &mut [u8], at: usize, new: &[u8]) {
     for (k, byte) in new.iter().enumerate() {
         if let Some(place) = bytes.get_mut(at.wrapping_add(k)) {

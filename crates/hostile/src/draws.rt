@@ -1,4 +1,4 @@
-//! What is drawn for a capture: the same for the same seed and number, whatever was drawn for other captures.
+//! The draws for a capture: they depend only on the seed and the capture's number.
 
 ghost use Rattle.std.specs.Prelude.{◌<◌, max};
 

@@ -35,8 +35,7 @@ pub struct Found {
     pub wrong: Wrong,
 }
 
-/// Runs each command over a damaged capture, or `talk` over damaged samples, and returns those with which something is
-/// wrong.
+/// Runs each command over a damaged capture, or `talk` over damaged samples, and returns those that went wrong.
 pub fn try_commands<T: Threads + Sync>(
     rt: &T,
     alloc: Global,

@@ -1,6 +1,6 @@
--- IEC 61883-6 packets in AVTP: the encapsulation of IEEE 1722-2016, 5, and the CIP header of IEC 61883-1, two quadlets
--- after the stream header. Which packets are accepted is this project's profile: audio blocks with nothing split or
--- packed, and packets of no data.
+-- IEC 61883-6 packets in AVTP: the encapsulation of IEEE 1722-2016, 5, and the CIP header of IEC 61883-1, two quadlets after
+-- the stream header. Which packets are accepted is this project's profile: audio blocks with nothing split or packed, and
+-- no-data packets.
 use Rattle.std.specs.Prelude.{◌≡◌, ◌⊎◌, ℕ, ◌+◌, ◌-◌, ◌*◌, ◌/◌, ◌%◌, ◌==◌, ◌^◌, ◌<◌, ◌≤◌, Bool, false, not, ◌&&◌, ◌||◌, nat_lt, if◌then◌else◌, List, [], ◌∷◌, ◌++◌, length, take, drop, Option, Some, None}
 use Rattle.time_unfold.specs.declared.head_rule.HeadRule.TheVariants.{Blocks}
 use Rattle.time_unfold.specs.Heads.{stamped_index}
@@ -15,7 +15,7 @@ pub use Rattle.avtp_header.specs.Numbers.{iec_subtype}
 use Rattle.iec61883_format.specs.declared.iec.Cip.{Cip}
 use Rattle.iec61883_format.specs.declared.iec.IecView.{IecView}
 
--- an IEC 61883-6 packet, apart from where its data blocks lie in memory
+-- an IEC 61883-6 packet, without its data blocks' location in memory
 pub record Iec : Type 0 where
   pub header : StreamHeader
   pub gateway_info : ℕ
@@ -27,7 +27,7 @@ pub record Iec : Type 0 where
   pub payload : List ℕ
   pub reserved : Bool
 
--- the packet that a view shows, apart from where its data blocks lie in memory
+-- the packet that a view shows, without its data blocks' location in memory
 abbrev pub iec_shape : IecView → Iec
 iec_shape v = record {
   header = v.header;
@@ -55,7 +55,7 @@ second_mark = 2
 abbrev pub audio_format : ℕ
 audio_format = 0x10
 
--- the FDF of a packet of no data (IEC 61883-6)
+-- the FDF of a no-data packet (IEC 61883-6)
 abbrev pub no_data : ℕ
 no_data = 255
 
@@ -102,7 +102,7 @@ anchor_index dbc interval = stamped_index (Blocks dbc interval)
 abbrev pub block_size : ℕ → ℕ
 block_size dbs = 4 * dbs
 
--- how many of the `size` bytes after the CIP header are data blocks: all of them, and none in a packet of no data
+-- how many of the `size` bytes after the CIP header are data blocks: all of them, and none in a no-data packet
 abbrev pub data_size : ℕ → ℕ → ℕ
 data_size fdf size = if fdf == no_data then 0 else size
 
@@ -153,8 +153,8 @@ first_quadlet_rows bytes =
     row Qpc 26 (not (bits 26 2 3 bytes == 0)) ∷
     row Sph 26 (not (bits 26 5 1 bytes == 0)) ∷ []
 
--- the rows of the second quadlet of the CIP header, after those of the first: QI_2 is not 2, FMT is not audio, or FDF
--- is neither that of a rate nor that of no data
+-- the rows of the second quadlet of the CIP header, after those of the first: QI_2 is not 2, FMT is not audio, or FDF is
+-- neither that of a rate nor that of no data
 abbrev pub second_quadlet_rows : List ℕ → List Row
 second_quadlet_rows bytes =
     row Qi2 28 (not (bits 28 0 2 bytes == second_mark)) ∷

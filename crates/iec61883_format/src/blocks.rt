@@ -5,8 +5,7 @@ ghost use Rattle.iec61883_format.specs.Iec.{IsSytInterval, anchor_index as index
 
 use time_unfold::HeadRule;
 
-/// The sample rate in Hz of an FDF (IEC 61883-6). `None` for codes above 6, among them 255, the FDF of a packet of no
-/// data.
+/// The sample rate in Hz of an FDF (IEC 61883-6). `None` for codes above 6, including 255, the FDF of a no-data packet.
 pub fn rate_of_fdf(fdf: u8) -> Option<u32>
     ensures exact { result ≡ rate_of fdf }
     ensures none { IsNone result ↔ (6 < fdf) }

@@ -2,8 +2,7 @@
 
 use avtp_header::StreamHeader;
 
-/// The header of a common isochronous packet (IEC 61883-1), apart from the bits that are the same in all packets that
-/// are read.
+/// The header of a common isochronous packet (IEC 61883-1), without the bits that are equal in all packets that are read.
 #[derive(Clone, Copy, Debug, PartialEq, Eq)]
 pub struct Cip {
     /// The source's node on its bus, 0 to 63.
@@ -12,7 +11,7 @@ pub struct Cip {
     pub dbs: u16,
     /// The block count, modulo 256, of the first data block.
     pub dbc: u8,
-    /// The code of the sample rate, 0 to 6, or 255 in a packet of no data.
+    /// The code of the sample rate, 0 to 6, or 255 in a no-data packet.
     pub fdf: u8,
     /// The timestamp of the bus, which AVTP does not use.
     pub syt: u16,
@@ -25,14 +24,14 @@ pub struct IecView<'a> {
     /// valid.
     pub header: StreamHeader,
     pub gateway_info: u32,
-    /// The channel of the bus, 0 to 63; 31 for a stream that comes from none.
+    /// The channel of the bus, 0 to 63; 31 for a stream that comes from no bus.
     pub channel: u8,
     /// The transaction code of the bus, 0 to 15.
     pub tcode: u8,
     /// The synchronization code of the upper layer, 0 to 15.
     pub sy: u8,
     pub cip: Cip,
-    /// The number of data blocks; 0 in a packet of no data, whatever follows its CIP header.
+    /// The number of data blocks; 0 in a no-data packet, whatever follows its CIP header.
     pub count: u32,
     /// What follows the CIP header: the data blocks one after the other, each of `cip.dbs` quadlets of a label byte and
     /// 24 bits.

@@ -11,7 +11,7 @@ use avtp_base::rows::refused;
 use avtp_base::{Field, Refusal};
 use avtp_header::{exceeds, read_header_of, subtype};
 
-/// The FDF of a packet of no data.
+/// The FDF of a no-data packet.
 const NO_DATA: u8 = 255;
 
 /// The quadlets of a data block, by the byte DBS.
@@ -30,7 +30,7 @@ fn data_size(fdf: u8, size: u32) -> u32
     if fdf == NO_DATA { 0 } else { size }
 }
 
-/// The refusal of the tag or of the stated length, which has to reach to the end of the CIP header.
+/// The refusal of the tag or of the stated length, which must reach the end of the CIP header.
 fn refused_by_carrier(pdu: &[u8], stated: u16) -> Option<Refusal>
     requires whole { 24 ≤ length pdu.now }
     requires stated { stated ≡ bits 20 0 16 pdu.now }
@@ -165,12 +165,11 @@ fn read_packet(pdu: &[u8]) -> Result<IecView<'_>, Refusal>
 
 /// Reads an IEC 61883-6 packet.
 ///
-/// Refuses the first of these that applies, in this order: a field of the stream header that the slice cuts off; a
-/// subtype other than IEC 61883; a version other than 0; a tag other than 1; a stated length below that of a CIP
-/// header, or beyond the end of the slice; in the CIP header `qi_1` other than 0, `fn`, `qpc` or `sph` other than 0,
-/// `qi_2` other than 2, a format other than audio, an FDF that is neither that of a rate nor 255; data that is no
-/// multiple of a data block, unless the packet is one of no data. Accepts set reserved bits, and ignores what follows
-/// the stated length.
+/// Refuses the first of these that applies, in this order: a field of the stream header that the slice cuts off; a subtype
+/// other than IEC 61883; a version other than 0; a tag other than 1; a stated length below that of a CIP header, or beyond the
+/// end of the slice; in the CIP header `qi_1` other than 0, `fn`, `qpc` or `sph` other than 0, `qi_2` other than 2, a format
+/// other than audio, an FDF that is neither that of a rate nor 255; data that is not a multiple of a data block, unless the
+/// packet is a no-data packet. Accepts set reserved bits, and ignores what follows the stated length.
 #[inline(always)]
 pub fn read_iec(pdu: &[u8]) -> Result<IecView<'_>, Refusal>
     ensures exact { Reads iec_shape (iec_refusal pdu.now) (iec_of pdu.now) result }

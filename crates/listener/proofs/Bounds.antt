@@ -1,4 +1,4 @@
--- What is made of a packet is what a schedule takes.
+-- What is made of a packet is within what a schedule accepts.
 use Rattle.std.proofs.Common.{◌≡◌, ℕ, ◌+◌, ◌*◌, ◌/◌, ◌%◌, ◌^◌, ◌<◌, ◌≤◌, Bool, true, false, List, length, drop, Option, Some, None, refl, arith}
 use Rattle.std.proofs.Math.Nat.{div-le_self}
 use Rattle.std.proofs.lemmas.Bool.{ltb-false}
@@ -82,7 +82,7 @@ no_more fdf size = by (fdf == no_data)
 few_blocks : (count block fdf size : ℕ) → count * block ≡ data_size fdf size → 1 ≤ block → size < 2 ^ 16 → count ≤ 65535
 few_blocks count block fdf size e some below = let least = le-mul_of_pos_right count some in let most = no_more fdf size in omega arith
 
--- where there are blocks they are all that follows the CIP header
+-- if there are blocks they are all that follows the CIP header
 whole_blocks : (fdf count block size : ℕ) → count * block ≡ data_size fdf size → 1 ≤ block → 1 ≤ count → size % count ≡ 0
 whole_blocks fdf count block size e some there = by (fdf == no_data) e
   where

@@ -1,4 +1,4 @@
--- With a clock, a packet that two points of the clock before it cover is one that must be presented.
+-- With a clock, a packet must be presented if two points of the clock before it cover it.
 use Rattle.std.proofs.Common.{◌≡◌, inl, ℕ, suc, ◌+◌, ◌-◌, ◌%◌, ◌^◌, ◌<◌, ◌≤◌, Bool, true, ℤ, pos, ◌+ℤ◌, ◌≤ℤ◌, ◌<ℤ◌, List, [], ◌∷◌, ◌++◌, length, take, Option, Some, None, is_some, refl, sym, ap, ◌∙◌, subst, eq-eqb, arith}
 use Rattle.std.specs.Prelude.{◌==◌, nat_lt, if◌then◌else◌, IfSome, option_and_then, option_map, slice_get}
 use Rattle.std.specs.Int.{int_max}

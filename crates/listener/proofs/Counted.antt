@@ -27,7 +27,7 @@ use Rattle.listener.specs.Laws.{fragments_in}
 use Rattle.listener.proofs.Made.{IsStreamed, OfEach, all_made, count-append, is_streamed, items_all, last_streamed, tally, tally-cons}
 use Rattle.listener.proofs.Places.{counted, at, below, count-next, below-next, none-below, all-below, presented-or-flagged}
 
--- an item of the stream, and no packet of the clock
+-- an item of the stream, and not a packet of the clock
 abbrev is_item : Entry → Bool
 is_item (OfItem item) = true
 is_item (OfClock arrival row) = false
@@ -104,7 +104,7 @@ clock_kind : (clock : Option ℕ) (r : Record) → belongs_to_clock clock r.byte
 clock_kind None r e = absurd cc
 clock_kind (Some id) r e = is_crf (subtype_in r) (of_kind clock_kinds id r e)
 
--- a record counts as one of the stream where it belongs to it
+-- a record counts as one of the stream if it belongs to it
 one_counted : (stream : ℕ) (clock : Option ℕ) (i : ℕ) (r : Record) (rest : List (ℕ × Record)) (a b : Bool) → belongs stream_kinds stream r.bytes ≡ a → belongs_to_clock clock r.bytes ≡ b
     → count_by is_streamed (made (if a || b then (i, r) ∷ rest else rest)) ≡ counted a + count_by is_streamed (made rest)
 one_counted stream clock i r rest true b e f =

@@ -1,4 +1,4 @@
--- What is due of a capture's records stays where further records follow, and is shown first where none does.
+-- What is due of a capture's records stays if more records follow, and is shown first if none does.
 use Rattle.std.proofs.Common.{◌≡◌, ℕ, Bool, ◌+◌, ◌-◌, List, [], ◌∷◌, ◌++◌, map, filter, refl, sym, ap, subst, ◌∙◌, append_assoc, arith}
 use Rattle.std.specs.List.{enumerate_from}
 use mathlib.Core.List.{IsPrefix}
@@ -33,7 +33,7 @@ deliveries_more plan records others =
           ∙ map-append make (filter test (enumerate_from 1 records)) (filter test more.0),
     )
 
--- and so do the entries that they give
+-- the entries of a longer list of records begin with those of a shorter
 pub entries_more : (plan : ListenPlan) (records others : List Record) → (rest : List Entry) × (entries_so_far_in plan (records ++ others) ≡ entries_so_far_in plan records ++ rest)
 entries_more plan records others =
     let more = deliveries_more plan records others in
@@ -49,7 +49,7 @@ due_stays plan records others =
     let more = entries_more plan records others in
     subst (λ (es : List Entry). IsPrefix (due_of plan records) (due clock_spot (schedule_plan plan) es)) (sym more.1) (due-grows clock_spot (schedule_plan plan) (entries_so_far_in plan records) more.0)
 
--- what further entries are given, all of it
+-- what is shown of more entries, given to the end
 pub first_of_more : (plan : SchedulePlan) (es more : List Entry) → IsPrefix (due clock_spot plan es) (shown clock_spot plan (es ++ more))
 first_of_more plan es more =
     let a = due-grows clock_spot plan es more in

@@ -1,4 +1,4 @@
--- What a piece of a capture, and what is given of it, leave of a listener that is fed.
+-- A listener that is fed, after a piece of a capture and after what it gives of it.
 use Rattle.std.proofs.Common.{◌≡◌, ◌↔◌, ◌⊎◌, inl, inr, ℕ, zero, suc, ◌+◌, ◌-◌, ◌<◌, ◌≤◌, Bool, true, false, List, [], ◌∷◌, ◌++◌, length, take, Option, Some, None, IsSome, refl, sym, ap, ◌∙◌, subst, arith, append-nil, append_assoc, length-append}
 use Rattle.std.specs.Prelude.{IfNone, IfSome, Result, Ok, Err, slice_get}
 use Rattle.std.specs.Option.{option_to_list}
@@ -36,7 +36,7 @@ pub accepted : (refusal : Option Refusal) (n : ℕ) → IfSome refusal (λ r. �
 accepted None n e = refl
 accepted (Some r) n e = absurd cc
 
--- where two of three cannot be
+-- if two of three answers are impossible, it is the third
 pub other_quiet : {X Y : Type 0} (P Q : Type 0) (o : Option X) (p : Option Y) → o ≡ None → p ≡ None → (P ↔ (Q ⊎ IsSome o)) → (P ↔ (Q ⊎ IsSome p))
 other_quiet P Q None None first second tells = (
   λ h. elim (tells.0 h) [
@@ -65,12 +65,12 @@ nothing_more xs (Some r) e = absurd (omega (arith, ap length e, length-append xs
 
 -- ---- what was read
 
--- where no record is held, all were given up
+-- if no record is held, all were given up
 pub all_read : (r : Reading) (bytes : List ℕ) (records : List Record) → HasRead r bytes records → held r ≡ None → records ≡ whole_records bytes
 all_read r bytes records read free =
     sym (append-nil records) ∙ (ap (λ (o : Option Record). records ++ option_to_list o) (sym free) ∙ records_are r bytes records read)
 
--- where all were given up, no record is held
+-- if all were given up, no record is held
 pub none_held : (r : Reading) (bytes : List ℕ) → HasRead r bytes (whole_records bytes) → held r ≡ None
 none_held r bytes read = nothing_more (whole_records bytes) (held r) (records_are r bytes (whole_records bytes) read)
 
@@ -100,14 +100,14 @@ heard_here bytes given fed st memory quiet =
       stands = subst (λ (n : ℕ). RecordsStandFor (whole_records bytes) n fed.listener) count st.stands;
     }
 
--- whose reader goes on
+-- the reader of a fed listener continues
 pub heard_on : (bytes more : List ℕ) (given : ℕ) (fed : Feeding) (new : Reading) → StandsFor bytes given fed → fed.out_of_memory ≡ false → fed.next ≡ None → GoesOn fed.reader more new
     → HasHeard (bytes ++ more) given new fed.listener
 heard_on bytes more given fed new st memory quiet goes =
     let heard = heard_here bytes given fed st memory quiet in
     record { records = heard.records; read = goes bytes heard.records heard.read; stands = heard.stands }
 
--- a record that is lent has a byte
+-- a record that is borrowed has a byte
 pub lent_some : (reader : Reading) (piece : List ℕ) (size : ℕ) → size ≤ length piece → IsNext reader (take size piece) → 0 < size
 lent_some reader piece size within next = omega (arith, next_long reader (take size piece) next, length-take-le size piece within)
 
@@ -210,7 +210,7 @@ given_still bytes list old new has stands keeps =
 pub given_all : (bytes : List ℕ) (list : List Shown) (old new : Feeding) → HasGiven bytes list old → None ≡ slice_get (out old bytes) (length list) → Keeps old new → list ≡ out new bytes
 given_all bytes list old new has is keeps = prefix-all list (out old bytes) has.first (sym is) ∙ sym (out_kept bytes old new keeps)
 
--- what is shown of bytes begins what is shown of more
+-- what is shown of bytes comes first in what is shown of more
 out_on : (bytes more : List ℕ) (old new : Feeding) → HasRead old.reader bytes (whole_records bytes) → is_ended old ≡ false → is_ended new ≡ false → new.listener.plan ≡ old.listener.plan
     → IsPrefix (out old bytes) (out new (bytes ++ more))
 out_on bytes more old new read opened still plan =
@@ -242,7 +242,7 @@ given_none list fed empty stands = record {
   first = subst (λ (l : List Shown). IsPrefix l (out fed [])) (sym empty) (out fed [], refl);
 }
 
--- What is heard of bytes of which all was given once they had ended.
+-- What is heard of bytes that have ended, once all of it was given.
 pub heard_whole : (plan : ListenPlan) (bytes : List ℕ) (list : List Shown) (fed : Feeding) (counts : Counts) (refused : Option Refusal) → fed.listener.plan ≡ plan → is_ended fed ≡ true → list ≡ out fed bytes
     → counts ≡ counts_of fed.listener.plan (whole_records bytes) (take (length list) (out fed bytes)) → refused ≡ first_refusal bytes
     → record { shown = list; counts = counts; refused = refused } ≡ heard_of plan bytes
@@ -261,7 +261,7 @@ heard_whole plan bytes list fed counts refused same ended all counted first =
     heard_with : List Shown → Counts → Option Refusal → Heard
     heard_with shown counts refused = record { shown = shown; counts = counts; refused = refused }
 
--- where nothing is due, all that is counted was given
+-- if nothing is due, all that is counted was given
 pub stands_quiet : (bytes : List ℕ) (given : ℕ) (fed : Feeding) → StandsFor bytes given fed → fed.next ≡ None → RecordsStandFor (whole_records bytes) given fed.listener
 stands_quiet bytes given fed st quiet =
     let same : given + length (option_to_list fed.next) ≡ given = ap (λ (o : Option Shown). given + length (option_to_list o)) quiet ∙ none given in

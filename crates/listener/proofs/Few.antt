@@ -1,4 +1,4 @@
--- No more is shown than there are records.
+-- At most as many items are shown as there are records.
 use Rattle.std.proofs.Common.{ℕ, zero, suc, ◌≤◌, Bool, List, [], length, Option, Some, None, ap, ◌∙◌, arith, length-append}
 use Rattle.std.specs.Prelude.{if◌then◌else◌, true, false, count_by, filter, slice_get}
 use Rattle.std.specs.List.{enumerate_from}
@@ -22,7 +22,7 @@ use Rattle.listener.specs.Items.{items_of, items_so_far, made_entry}
 use Rattle.listener.proofs.Made.{items_few, so_far_few}
 use Rattle.listener.proofs.Places.{at, below, below-next, none-below, all-below}
 
--- where each place is shown once at most, so many at most are shown of the places below n
+-- if each place is shown once at most, at most this many are shown of the places below n
 most-below : (n : ℕ) (gs : List Given) → ((i : ℕ) → count_by (at i) gs ≤ 1) → count_by (below n) gs ≤ n
 most-below zero gs each = omega (arith, none-below gs)
 most-below (suc n) gs each = omega (arith, below-next n gs, most-below n gs each, each n)
@@ -64,7 +64,7 @@ so-far-few plan records =
     let ds = deliveries_of plan records in
     omega (arith, length-map (items_of ds) made_entry, length-map (items_so_far ds) made_entry, so_far_few ds)
 
--- what is shown of records is not more than they
+-- a listener shows at most as many items as it was given records
 pub few : (b : Bool) (clock : Clock) (schedule : SchedulePlan) (plan : ListenPlan) (records : List Record)
     → length (if b then shown clock schedule (entries_in plan records) else due clock schedule (entries_so_far_in plan records)) ≤ length records
 few b clock schedule plan records = omega (arith, out-few b clock schedule (entries_in plan records) (entries_so_far_in plan records) (so-far-few plan records), entries-few plan records)

@@ -41,12 +41,12 @@ pub one_more : (stream : ℕ) (clock : Option ℕ) (records : List Record) (r : 
     → deliveries stream clock (records ++ r ∷ []) ≡ deliveries stream clock records ++ delivery (1 + length records) r ∷ []
 one_more stream clock records r in_it = deliveries_further stream clock records (r ∷ []) ∙ rw in_it refl
 
--- any other adds none
+-- a record that is not delivered adds no delivery
 pub none_more : (stream : ℕ) (clock : Option ℕ) (records : List Record) (r : Record) → is_delivered stream clock r.bytes ≡ false
     → deliveries stream clock (records ++ r ∷ []) ≡ deliveries stream clock records
 none_more stream clock records r out = deliveries_further stream clock records (r ∷ []) ∙ rw out (append-nil (deliveries stream clock records))
 
--- so many more deliveries there are, by whether the record is one
+-- one more delivery, or none, by whether the record is one
 pub more_by : (b : Bool) (stream : ℕ) (clock : Option ℕ) (records : List Record) (r : Record) → is_delivered stream clock r.bytes ≡ b
     → length (deliveries stream clock (records ++ r ∷ [])) ≡ length (deliveries stream clock records) + cond b 1 0
 more_by true stream clock records r in_it =
@@ -103,7 +103,7 @@ arrival_kept t a = to_z-of_z (fits_signed_from_nat t a)
 
 -- ---- answers
 
--- what a choice between some and none tells
+-- which of two a choice between some and none took
 pub chosen : {X : Type 0} (b : Bool) (x y : X) → Some x ≡ (if b then Some y else None) → (b ≡ true) × (x ≡ y)
 chosen true x y e = (refl, cc)
 chosen false x y e = absurd (cc)

@@ -151,7 +151,7 @@ waiting_marks ds = by (is_within (last_stretch (events ds)) && not (is_complete 
     by true = stretch_marks ds (last_stretch (events ds)) (some_stretch (events ds))
     by false = ap (map mark_of) (none_last (in_stream ds))
 
--- those that an event gives up, too
+-- the packets that an event gives up also have the marks of what the assembly holds
 given_marks : (ds : List Delivery) (e : Event) → map mark_of (last_ones (length (given_up (events ds ++ e ∷ []))) (in_stream ds)) ≡ map mark_in (given_up (events ds ++ e ∷ []))
 given_marks ds e = by (is_joined (last_stretch (events ds ++ e ∷ [])))
   where
@@ -189,7 +189,7 @@ gives_by ds d new s none why streamed own =
 pub has_more : (ds : List Delivery) (d : Delivery) (new : Gathered) → StandsFor new.assembly (events_to ds d) → (d.subtype == crf_subtype) ≡ false → HasUnits (ds ++ d ∷ []) new
 has_more ds d new s streamed = record { assembly = subst (λ (es : List Event). StandsFor new.assembly es) (sym (events_more ds d streamed)) s }
 
--- the same assembly was given the same deliveries
+-- an equal assembly was given equal deliveries
 pub has_as : {ds : List Delivery} {old new : Gathered} → new.assembly ≡ old.assembly → HasUnits ds old → HasUnits ds new
 has_as {ds} {old} {new} same has = record { assembly = subst (λ (a : Assembly). StandsFor a (events ds)) (sym same) has.assembly }
 
@@ -200,13 +200,13 @@ when_cut item assembly = record { assembly = assembly; why = Broken; taken = 0; 
 pub cuts_of : (item : Item) (old : Gathered) (assembly : Assembly) → ((es : List Event) → StandsFor old.assembly es → StandsFor assembly (es ++ cut ∷ [])) → Cuts item old (when_cut item assembly)
 cuts_of item old assembly stands = record { stands = stands; why = refl; taken = refl; own = refl }
 
--- where no fragment was given up, the own item is the only one
+-- if no fragment was given up, the own item is the only one
 pub first_alone : (marks : List Mark) (item : Item) → length marks ≡ 0
     → map (lost_item (lost_for Broken)) (drop 0 marks) ++ option_to_list (Some item) ≡ item ∷ (map (lost_item (lost_for Broken)) (drop 0 marks) ++ [])
 first_alone [] item none = refl
 first_alone (mark ∷ marks) item none = absurd cc
 
--- of a delivery that no unit goes on over
+-- a delivery that no unit continues across
 pub cut_gives_all : (ds : List Delivery) (d : Delivery) (item : Item) (old new : Gathered) → (d.subtype == crf_subtype) ≡ false → event_of d ≡ cut → item_entry item ∷ [] ≡ map made_entry (own_by ds d)
     → HasUnits ds old → Cuts item old new → Gives ds d new
 cut_gives_all ds d item old new streamed event own has c =
@@ -238,7 +238,7 @@ push_gives_all ds d old new video good has p =
     own_is Held = refl
     own_is (Lost why) = refl
 
--- at the end
+-- the end gives up what waits
 pub end_gives : (ds : List Delivery) (new : Gathered) → StandsFor new.assembly (events ds ++ cut ∷ []) → new.taken ≡ 0 → new.why ≡ Broken → new.own ≡ None → map item_entry (left new) ≡ map made_entry (left_at_end ds)
 end_gives ds new s none why own =
     let so : new.why ≡ reason (events ds ++ cut ∷ []) = rw (last_cut (events ds)) why in

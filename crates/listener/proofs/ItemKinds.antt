@@ -15,7 +15,7 @@ use Rattle.listener.specs.Items.{MadeItem, events_to, flagged, given_after, give
 use Rattle.listener.specs.Units.{flaw_of, in_stream, last_ones, waiting}
 use Rattle.listener.proofs.Made.{IsOther}
 
--- a delivery of a list, by itself, which is no packet of H.264
+-- a delivery of a list that is an item by itself, and not a packet of H.264
 pub record IsOneOf (ds : List Delivery) (made : MadeItem) : Type 0 where
   pub before : List Delivery
   pub delivery : Delivery
@@ -55,7 +55,7 @@ flag_kinds ds why (x ∷ xs) = All-cons (IsKind ds) (flagged why x) (map (flagge
 one_kind : (ds : List Delivery) (m : MadeItem) → IsKind ds m → All (IsKind ds) (m ∷ [])
 one_kind ds m k = All-cons (IsKind ds) m [] k (All-nil (IsKind ds))
 
--- a packet of the clock is no packet of H.264
+-- a packet of the clock is not a packet of H.264
 clock_other : (s : ℕ) → (s == crf_subtype) ≡ true → (s == cvf_subtype) ≡ false
 clock_other s e = by (s == cvf_subtype) refl
   where

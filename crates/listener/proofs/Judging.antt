@@ -26,7 +26,7 @@ get_first (z ∷ xs) ys (suc i) x e = get_first xs ys i x e
 of_prefix : (xs ys : List Shown) (i : ℕ) (x : Shown) → IsPrefix xs ys → Some x ≡ slice_get xs i → Some x ≡ slice_get ys i
 of_prefix xs ys i x p e = subst (λ (l : List Shown). Some x ≡ slice_get l i) p.1 (get_first xs p.0 i x e)
 
--- where nothing waits, all entries are judged
+-- if nothing waits, all entries are judged
 all_judged : (entries : List Entry) (given : ℕ) (judge : JudgeState) (units : Gathered) → left units ≡ [] → (j : Judges entries given judge units) → j.judged ≡ entries
 all_judged entries given judge units none j = sym (append-nil j.judged) ∙ (ap (λ (l : List Item). j.judged ++ map item_entry l) (sym none) ∙ j.all)
 
@@ -53,7 +53,7 @@ pub found_out : (ended : Bool) (judge : JudgeState) (units : Gathered) (entries 
 found_out ended judge units entries given None some j over is = absurd cc
 found_out ended judge units entries given (Some x) some j over is = found_in ended judge units entries given x j over is
 
--- where it shows nothing more, and nothing waits, nothing more is shown of all
+-- if the judge shows nothing more and nothing waits, nothing more is shown of all entries
 pub none_in : (ended : Bool) (judge : JudgeState) (units : Gathered) (entries : List Entry) (given : ℕ) → (j : Judges entries given judge units) → left units ≡ [] → (judge.closed ≡ true → ended ≡ true) → (ended ≡ true → judge.closed ≡ true)
     → None ≡ slice_get (judge_out clock_spot judge j.judged) given → None ≡ slice_get (shown_by ended judge.plan entries) given
 none_in ended judge units entries given j none to from is =
@@ -78,7 +78,7 @@ judges_item entries given old new before after item first goes j = record {
   all = append_assoc j.judged (OfItem item ∷ []) (map item_entry (left after)) ∙ (ap (λ (l : List Item). j.judged ++ map item_entry l) (sym first) ∙ j.all);
 }
 
--- what a delivery gives waits
+-- the items that a delivery gives wait
 pub judges_given : (entries : List Entry) (given : ℕ) (judge : JudgeState) (old new : Gathered) (more : List Entry) → left old ≡ [] → map item_entry (left new) ≡ more → Judges entries given judge old → Judges (entries ++ more) given judge new
 judges_given entries given judge old new more none gives j = record {
   judged = j.judged;

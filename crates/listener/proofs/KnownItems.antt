@@ -1,4 +1,4 @@
--- What is known by the packets that came is known to a listener.
+-- What is known by the packets that came is known to the listener.
 use Rattle.std.proofs.Common.{◌≡◌, ◌≢◌, ◌⊎◌, inl, inr, ℕ, zero, suc, ◌+◌, ◌%◌, ◌^◌, ◌<◌, Bool, true, false, ℤ, pos, List, [], ◌∷◌, All, Option, Some, None, is_some, length, refl, sym, ap, ◌∙◌, subst, arith}
 use Rattle.std.specs.Prelude.{◌==◌, if◌then◌else◌, map, slice_get, take, IfSome, option_map, option_and_then}
 use Rattle.std.specs.List.{cons_option, filter_map}

@@ -66,7 +66,7 @@ kept c shift ms rows m are came =
     let h = row_of c shift (last_of 64 ms) (last_of 64 rows) m came.0 last came.1 came.2 in
     record { row = h.row; kept = rw all h.there; is = h.is }
 
--- so a line is found for what two points cover whose packets came
+-- a line is found for an instant if the packets of two points that cover it came
 pub covered_line : (c : ClockJournal) (shift : ℤ) (rate : ℕ) (ms : List ℕ) (rows : List ClockRow) (instant : ℤ) → IsClock c → AreRows c shift ms rows → IsCoveredBy c shift rate ms instant → clock_spot rows shift instant rate ≢ None
 covered_line c shift rate ms rows instant is are by =
     let hand : ArePointsAtHand c shift rows by.earlier by.later = record {

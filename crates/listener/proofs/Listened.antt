@@ -1,4 +1,4 @@
--- What one more record, one more shown item and the end leave of a listener.
+-- A listener after one more record, after one more shown item, and after the end.
 use Rattle.std.proofs.Common.{◌≡◌, ℕ, ◌+◌, ◌-◌, ◌<◌, ◌≤◌, zero, suc, Bool, true, false, List, [], ◌∷◌, ◌++◌, length, map, take, Option, Some, None, refl, sym, ap, ◌∙◌, subst, arith, length-append, append-nil, if◌then◌else◌, cond, option_to_list}
 use Rattle.std.specs.Prelude.{count_by, slice_get, ◌==◌, not}
 use Rattle.std.proofs.lemmas.List.{length-map, map-append, take-append-le}
@@ -94,7 +94,7 @@ out_same old new records plan closed =
     ap (λ (p : ListenPlan). if is_closed new then shown_of p records else due_of p records) plan
     ∙ ap (λ (b : Bool). if b then shown_of old.plan records else due_of old.plan records) closed
 
--- what an open listener shows of records, it shows first where more records follow, and where none does
+-- what an open listener shows of records is shown first, whether more records follow or not
 pub out_further : (old new : ListenState) (records more : List Record) → is_closed old ≡ false → is_closed new ≡ false → new.plan ≡ old.plan → IsPrefix (out old records) (out new (records ++ more))
 out_further old new records more opened still plan =
     let all = records ++ more in
@@ -106,7 +106,7 @@ out_at_end old new records opened closed plan =
     let after : out new records ≡ shown_of old.plan records = out_ended new records closed ∙ ap (λ (p : ListenPlan). shown_of p records) plan in
     subst (λ (l : List Shown). IsPrefix l (out new records)) (sym (out_open old records opened)) (subst (IsPrefix (due_of old.plan records)) (sym after) (due_first old.plan records))
 
--- what is shown of the entries is what it shows
+-- a listener shows what its judge shows of the entries
 pub out_judged : (l : ListenState) (records : List Record) → l.judge.plan ≡ schedule_plan l.plan → shown_by (is_closed l) l.judge.plan (entries_by (is_closed l) l.plan records) ≡ out l records
 out_judged l records plan = ap (λ (p : SchedulePlan). shown_by (is_closed l) p (entries_by (is_closed l) l.plan records)) plan ∙ by (is_closed l)
   where
@@ -204,7 +204,7 @@ stands_with records r given old new st opened in_it plan still schedule lasting 
 
 -- ---- an item is shown
 
--- what the next item leaves
+-- a listener after the next item
 pub record Goes (old new : ListenState) : Type 0 where
   pub plan : new.plan ≡ old.plan
   pub closed : is_closed new ≡ is_closed old
@@ -231,7 +231,7 @@ stands_shown records given old new x st is goes judges counts =
           ∙ ap (λ (p : ListenPlan). counts_of p records (take (given + 1) (out new records))) (sym goes.plan)))));
     }
 
--- the same for the next item, where there is one
+-- a listener after the next item, if there is one
 pub stands_next : (records : List Record) (given : ℕ) (old new : ListenState) (next : Option Shown) (x : Shown) → next ≡ Some x → StandsFor records given old → next ≡ slice_get (out old records) given
     → Goes old new → Judges (entries_by (is_closed old) old.plan records) (given + length (option_to_list next)) new.judge new.units
     → new.counts ≡ with_shown old.counts x → StandsFor records (given + length (option_to_list next)) new
@@ -241,7 +241,7 @@ stands_next records given old new (Some y) x same st is goes judges counts =
 
 -- ---- the end
 
--- the judge stands, and behind its entries are those that only the end gives up
+-- the judge was given these entries, and after them come those that only the end gives up
 ended_judges : (plan : ListenPlan) (records : List Record) (given : ℕ) (judge : JudgeState) (old new : Gathered) → left old ≡ [] → map item_entry (left new) ≡ map made_entry (left_at_end (deliveries_of plan records))
     → Judges (entries_so_far_in plan records) given judge old → Judges (entries_in plan records) given judge new
 ended_judges plan records given judge old new none more j = record {
@@ -297,7 +297,7 @@ pub packets_few : (records : List Record) (given : ℕ) (l : ListenState) → St
 packets_few records given l st =
     omega (arith, ap (λ (c : Counts). c.packets) st.counts, ap (λ (c : Counts). c.frames) st.counts, deliveries-few l.plan.stream None records)
 
--- where one more item is shown, there are more records than were shown
+-- if one more item is shown, there are more records than were shown
 pub shown_few : (records : List Record) (given : ℕ) (l : ListenState) (x : Shown) → StandsFor records given l → Some x ≡ slice_get (out l records) given → l.counts.presented + l.counts.flagged < l.counts.frames
 shown_few records given l x st is =
     let within = slice_get_within (out l records) given x (sym is) in
@@ -345,7 +345,7 @@ nothing_out records given l st rests =
     (none_in (is_closed l) l.judge l.units _ given st.judges rests.idle.none (λ e. never l.judge.closed e still) (λ e. never (is_closed l) e rests.opened)
     (sym (nothing-due clock_spot st.judges.judged given l.judge st.judges.stands still rests.idle.judge)))
 
--- a record that is passed leaves it at rest
+-- a record that is skipped leaves the listener at rest
 pub still_rests : (old new : ListenState) → is_closed new ≡ is_closed old → new.judge ≡ old.judge → new.units ≡ old.units → Rests old → Rests new
 still_rests old new closed judge units rests = record {
   opened = closed ∙ rests.opened;

@@ -69,7 +69,7 @@ lost_holds (x ∷ xs) why e = by (is_within (x ∷ xs)) (is_complete (x ∷ xs))
     by true false p e = absurd cc
     by false c p e = refl
 
--- how many a packet gives up, how many are in its unit, and how many wait then
+-- how many packets a packet gives up, how many are in its unit, and how many wait then
 abbrev Adds : Piece → ℕ → ℕ → ℕ → ℕ → Type 0
 Adds Whole h g s w = (g + (s - 1) ≡ h) × (w ≡ 0)
 Adds Held h g s w = g + w ≡ h + 1
@@ -127,7 +127,7 @@ tally-flagged : (p : Delivery → Bool) (why : Reason) (xs : List Delivery) → 
 tally-flagged p why [] = refl
 tally-flagged p why (x ∷ xs) = omega (arith, tally-cons p (flagged why x) (map (flagged why) xs), count-cons p x xs, tally-flagged p why xs)
 
--- in the stream
+-- a delivery belongs to the stream
 abbrev pub is_streamed : Delivery → Bool
 is_streamed d = not (d.subtype == crf_subtype)
 
@@ -143,13 +143,13 @@ events_more before d e = ap (map event_of) (stream_more before d e) ∙ map-appe
 pub events_same : (before : List Delivery) (d : Delivery) → (d.subtype == crf_subtype) ≡ true → events (before ++ d ∷ []) ≡ events before
 events_same before d e = ap (map event_of) (stream_same before d e)
 
--- those that wait after a delivery of the stream
+-- the packets that wait after a delivery of the stream
 waiting_more : (before : List Delivery) (d : Delivery) → (d.subtype == crf_subtype) ≡ false → waiting (before ++ d ∷ []) ≡ last_ones (length (held (events_to before d))) (in_stream before ++ d ∷ [])
 waiting_more before d e =
     ap (λ (es : List Event). last_ones (length (held es)) (in_stream (before ++ d ∷ []))) (events_more before d e)
     ∙ ap (last_ones (length (held (events_to before d)))) (stream_more before d e)
 
--- what is in an item after a delivery, or waits, is what waited and the delivery
+-- the packets in an item after a delivery, and those that wait, are those that waited before and the delivery
 Keeps : (Delivery → Bool) → List Delivery → Delivery → List MadeItem → Type 0
 Keeps p before d own = tally p (given_up_by before d ++ own) + count_by p (last_ones (length (held (events_to before d))) (in_stream before ++ d ∷ [])) ≡ count_by p (waiting before) + count_by p (d ∷ [])
 
@@ -167,7 +167,7 @@ keeps_cut p before d own e same =
     let nothing = ap (count_by p) (none_last (in_stream before ++ d ∷ [])) in
     omega (arith, up_tally p before d own, up, none, nothing, same)
 
--- the last of what came, in numbers
+-- the last packets that came, by number
 ones : (p : Delivery → Bool) (n m : ℕ) (xs : List Delivery) → n ≡ m → count_by p (last_ones n xs) ≡ count_by p (last_ones m xs)
 ones p n m xs e = ap (λ (k : ℕ). count_by p (last_ones k xs)) e
 
@@ -254,7 +254,7 @@ all_made p ds =
     let nothing = ap (count_by p) none_waits in
     omega (arith, tally-append p (items_so_far ds) (left_at_end ds), tally-flagged p BrokenUnit (waiting ds), after_tally p [] ds, nothing)
 
--- what holds of each item that is made of deliveries of which something holds
+-- a fact about each delivery holds for each delivery of an item
 pub record OfEach (P : Delivery → Type 0) (Q : MadeItem → Type 0) : Type 0 where
   pub one : (d : Delivery) → P d → Q (made_of_one d)
   pub flag : (why : Reason) (d : Delivery) → P d → is_streamed d ≡ true → Q (flagged why d)
@@ -375,7 +375,7 @@ after_other before (d ∷ ds) all rest =
 pub so_far_other : (ds : List Delivery) → All IsOther ds → items_so_far ds ≡ map made_of_one ds
 so_far_other ds all = after_other [] ds (All-nil IsOther) all
 
--- each is one item
+-- each delivery is one item
 pub items_other : (ds : List Delivery) → All IsOther ds → items_of ds ≡ map made_of_one ds
 items_other ds all =
     let none : left_at_end ds ≡ [] = rw (none_held ds all) (ap (map (flagged BrokenUnit)) (none_last (in_stream ds))) in
@@ -398,7 +398,7 @@ two_in p (x ∷ ms) zero (suc k) m n e f lt some others =
     omega (arith, tally-cons p x ms, here, some, rest)
 two_in p (x ∷ ms) (suc i) (suc k) m n e f lt some others = let rest = two_in p ms i k m n e f (omega arith) some others in omega (arith, tally-cons p x ms, rest)
 
--- two items that have a delivery of which there is one only are one
+-- two items with a delivery in common are one, if there is only one such delivery
 pub same_place : (p : Delivery → Bool) (ms : List MadeItem) (i k : ℕ) (m n : MadeItem) → tally p ms ≤ 1 → slice_get ms i ≡ Some m → slice_get ms k ≡ Some n → 1 ≤ count_by p (sources m) → 1 ≤ count_by p (sources n) → i ≡ k
 same_place p ms i k m n few e f some others = elim (cases_lt i k) [
   | inl before ↦ let two = two_in p ms i k m n e f before some others in absurd (omega arith)
@@ -408,7 +408,7 @@ same_place p ms i k m n few e f some others = elim (cases_lt i k) [
   ]
 ]
 
--- the item that has one
+-- the item that has the delivery
 pub record HasOne (p : Delivery → Bool) (ms : List MadeItem) : Type 0 where
   pub place : ℕ
   pub item : MadeItem
@@ -424,7 +424,7 @@ find_one p (m ∷ ms) some = elim (cases_lt 0 (count_by p (sources m))) [
       record { place = suc rest.place; item = rest.item; there = rest.there; some = rest.some }
 ]
 
--- the last source of an item is one
+-- the last source of an item is one of its deliveries
 pub last_counts : (p : Delivery → Bool) (m : MadeItem) → p m.last ≡ true → 1 ≤ count_by p (sources m)
 last_counts p m e = let one : count_by p (m.last ∷ []) ≡ 1 = rw e refl in omega (arith, count-append p m.earlier (m.last ∷ []), one)
 

@@ -1,4 +1,4 @@
--- How many items are shown of the places below n, and how many of a list are presented or flagged.
+-- How many items are shown of the places below n, and how many items of a list are presented or flagged.
 use Rattle.std.proofs.Common.{◌≡◌, ℕ, suc, ◌+◌, ◌<◌, ◌≤◌, Bool, cond, List, [], ◌∷◌, length, refl, arith, inl, inr}
 use Rattle.std.specs.Prelude.{◌==◌, count_by, nat_lt}
 use Rattle.std.proofs.lemmas.Bool.{cases_lt}
@@ -43,7 +43,7 @@ same k = grind (arith, nat_tests)
 passes : (k n : ℕ) → k < n → counted (nat_lt k n) ≡ 1
 passes k n lt = grind (arith, nat_tests)
 
--- where no other place is shown, these are all
+-- if no other place is shown, these are all
 pub all-below : (n : ℕ) (gs : List Given) → ((i : ℕ) → n ≤ i → count_by (at i) gs ≡ 0) → count_by (below n) gs ≡ length gs
 all-below n [] none = refl
 all-below n (g ∷ gs) none =

@@ -1,4 +1,4 @@
--- Each packet of the stream is shown once, as its verdict has it.
+-- Each packet of the stream is shown once, as its verdict says.
 use Rattle.std.proofs.Common.{◌≡◌, ℕ, zero, suc, ◌+◌, ◌<◌, ◌≤◌, Bool, true, false, cond, List, [], ◌∷◌, All, Option, Some, None, refl, sym, ap, ◌∙◌, subst, inl, inr, arith, eq-eqb}
 use Rattle.std.specs.Prelude.{◌==◌, ◌-◌, ⊤, if◌then◌else◌, count_by, filter, length, map, slice_get, slice_index_or, Contains, Result, Ok, Err, IfOk}
 use Rattle.std.specs.List.{enumerate_from}
@@ -119,7 +119,7 @@ shown_so : (place : ℕ) (d : Delivery) (item : Item) (r : Result Accepted Reaso
 shown_so place d item (Ok a) is = refl
 shown_so place d item (Err reason) is = rw (is.frame, is.seq) refl
 
--- where an entry is an item, it is that of its delivery
+-- if an entry is an item, it is that of its delivery
 pub item_by : (d : Delivery) (item : Item) → entry_of d ≡ OfItem item → item_of d ≡ item
 item_by d item e = by (d.subtype == crf_subtype) e
   where
@@ -317,7 +317,7 @@ not_bad clock plan es place (OfPacket packet) is = refl
 not_bad clock plan es place (OfUnit whole) is = refl
 not_bad clock plan es place (OfBad bad) is = absurd is
 
--- what is shown stands at the place of an item, and has its frame
+-- what is shown is at the place of an item, and has its frame
 pub record IsPlaced (ms : List MadeItem) (g : Given) : Type 0 where
   pub made : MadeItem
   pub there : slice_get ms (place_of g) ≡ Some made

@@ -1,4 +1,4 @@
--- What is presented of copies stands where the journal has it.
+-- What is presented of copies is at the journal's instants.
 use Rattle.std.proofs.Common.{Ok, is_some, ◌≡◌, ℕ, ◌+◌, ◌%◌, ◌^◌, ◌<◌, ◌≤◌, Bool, true, false, ℤ, pos, ◌+ℤ◌, List, All, Option, Some, None, refl, sym, subst, arith}
 use Rattle.std.specs.Prelude.{◌==◌, neg_ℤ, nat_lt, if◌then◌else◌, option_map, option_and_then, IfSome, Result, Err, IfOk}
 use Rattle.std.specs.List.{filter_map}
@@ -149,7 +149,7 @@ by_line : (j : Journal) (n : ℕ) (h : Head) (o : Option Spot) → IsAudioKind j
 by_line j n h None heard t at = tt
 by_line j n h (Some spot) heard t at = λ k. at_clock j.kind j n k _ heard (spot_sample j n k h spot t at)
 
--- a listener follows the journal's stream, and where it has a clock, the journal's
+-- a listener follows the journal's stream, and if it has a clock, the journal's
 pub record IsFollowed (shift : ℤ) (j : Journal) (plan : SchedulePlan) : Type 0 where
   pub audio : IsAudio j
   pub kind : IsAudioKind j.kind
@@ -181,7 +181,7 @@ audio_count SparseAaf count heard = refl
 audio_count (Am824 interval dbc) count heard = refl
 audio_count (H264 part) count heard = absurd heard
 
--- what is presented of a packet of audio are its samples
+-- the presented content of an audio packet is its samples
 pub audio_content : (kind : Kind) (p : PacketJournal) (n : ℕ) → IsAudioKind kind → IsContentBy kind p n (carried (p.packet n))
 audio_content DenseAaf p n heard = refl
 audio_content SparseAaf p n heard = refl
@@ -218,7 +218,7 @@ timed_true shift p plan n frame arrival prefix is true_ones came =
     (counted_true shift p plan n frame arrival prefix (heads.head_of plan prefix (sent p.times n frame arrival (carried (p.packet n)))) is true_ones came.known
     (head_true p.times plan n frame arrival (carried (p.packet n)) prefix is.audio came true_ones.stamps))
 
--- where the samples stand is known, there is a batch
+-- if it is known where the samples are, there is a batch
 pub record IsOk (r : Result Presented Reason) : Type 0 where
   pub batch : Presented
   pub same : r ≡ Ok batch

@@ -64,7 +64,7 @@ pub record Shows (d : Delivery) : Type 0 where
   pub subtype : d.subtype ≡ bits 0 0 8 d.packet
   pub seq : d.seq ≡ bits 2 0 8 d.packet
 
--- every delivery of a list of records shows its own
+-- every delivery of a list of records shows its own packet
 shown_one : (i : ℕ) (r : Record) → Shows (delivery i r)
 shown_one i r = record { subtype = refl; seq = refl }
 
@@ -229,7 +229,7 @@ clock_entry shift p m d is copy shows =
     let kind : d.subtype ≡ crf_subtype = shows.subtype ∙ read.fields.0.0 in
     rw kind refl
 
--- ---- which of them are packets of H.264
+-- ---- which deliveries are packets of H.264
 
 other_kind : (subtype : ℕ) → (subtype ≡ aaf_subtype) ⊎ (subtype ≡ iec_subtype) → (subtype == cvf_subtype) ≡ false
 other_kind subtype (inl e) = rw e refl
@@ -254,7 +254,7 @@ audio_one j (H264 part) stream n (H264Data v) d is s shows other =
     let kind : d.subtype ≡ cvf_subtype = shows.subtype ∙ (read.fields.0.0 ∙ is.writable.subtype) in
     absurd (let none = rw kind at other in cc)
 
--- a packet of the stream that is none of H.264 is one of audio
+-- a packet of the stream that is not H.264 is audio
 pub audio_other : (shift : ℤ) (p : PacketJournal) (lead n : ℕ) (d : Delivery) → IsConforming shift p → IsCopyOf p lead n d → Shows d → IsOther d → IsAudioKind p.times.kind
 audio_other shift p lead n d is copy shows other = audio_one p.times p.times.kind p.stream n (p.packet n) d (is.packets n copy.delivered.known) copy.spelled shows other
 

@@ -58,7 +58,7 @@ pub record IsStreamEntry (items : List MadeItem) (p : PacketJournal) (lead : ℕ
   pub listed : Contains items (made_of_one delivery)
   pub same : e ≡ OfItem (OfPacket (sent p.times number delivery.frame copy.arrival (carried (p.packet number))))
 
--- it is a unit that was made of copies of all its packets
+-- an entry is a unit that was made of copies of all its packets
 pub record IsUnitEntry (items : List MadeItem) (p : PacketJournal) (lead : ℕ) (e : Entry) : Type 0 where
   pub part : ℕ → Part
   pub kind : p.times.kind ≡ H264 part
@@ -68,12 +68,12 @@ pub record IsUnitEntry (items : List MadeItem) (p : PacketJournal) (lead : ℕ) 
   pub is : IsUnitItem p part lead number made
   pub same : e ≡ made.entry
 
--- or a packet that is not presented
+-- an entry is a packet that is not presented
 pub record IsBadEntry (e : Entry) : Type 0 where
   pub bad : Bad
   pub same : e ≡ OfItem (OfBad bad)
 
--- or of one of the clock's
+-- an entry is a packet of the clock
 pub record IsClockEntry (shift : ℤ) (p : PacketJournal) (e : Entry) : Type 0 where
   pub arrival : ℤ
   pub row : ClockRow
@@ -112,7 +112,7 @@ deliveries_are shift p plan records h =
     let copies = deliveries_copied p plan.clock plan.lead p.stream from.origins records from.copies in
     rw h.stream copies
 
--- none of them is a packet of H.264 where the stream is of audio
+-- none of them is a packet of H.264 if the stream is of audio
 pub others : (shift : ℤ) (p : PacketJournal) (plan : ListenPlan) (records : List Record) → HearsTalker shift p plan records → IsAudioKind p.times.kind → All IsOther (deliveries_of plan records)
 others shift p plan records h heard =
     All-weaker (IsCopied p plan.lead) IsOther (λ d. copied_other shift p plan.lead d h.conforming heard) (deliveries_of plan records) (deliveries_are shift p plan records h)
@@ -140,7 +140,7 @@ video_kind_by (H264 part) d other e = record { part = part; same = refl }
 pub video_kind : (shift : ℤ) (p : PacketJournal) (lead : ℕ) (d : Delivery) → IsConforming shift p → IsCopied p lead d → (d.subtype == cvf_subtype) ≡ true → IsVideoKind p.times.kind
 video_kind shift p lead d is c e = video_kind_by p.times.kind d (λ heard. copied_other shift p lead d is heard c) e
 
--- what the deliveries of a capture are, one by one and beside each other
+-- what the deliveries of a capture are, one by one and in pairs
 pub record AreHeard (shift : ℤ) (p : PacketJournal) (lead : ℕ) (ds : List Delivery) : Type 0 where
   pub conforming : IsConforming shift p
   pub copied : All (IsCopied p lead) ds
@@ -203,7 +203,7 @@ audio_unit false d unit = refused_unit d (iec_refusal d.packet) (blocks_of d (ie
 same_unit : (a b : WholeUnit) → OfItem (OfUnit a) ≡ OfItem (OfUnit b) → a ≡ b
 same_unit a b e = cc
 
--- a delivery by itself is no unit
+-- a delivery by itself is not a unit
 one_unit : (d : Delivery) (unit : WholeUnit) → entry_of d ≢ OfItem (OfUnit unit)
 one_unit d unit e = audio_unit (d.subtype == aaf_subtype) d unit (item_by d (OfUnit unit) e)
 
@@ -268,7 +268,7 @@ record IsHeardAccepted (by : Bool) (items : List MadeItem) (p : PacketJournal) (
   is : IsHeardFrom by items p lead a.batch
   instant : a.instant ≡ first_instant a.batch
 
--- it is a packet of the journal
+-- what is accepted is a packet of the journal
 pub record IsTrueAccepted (by : Bool) (p : PacketJournal) (a : Accepted) : Type 0 where
   pub is : IsOfJournal by p a.batch
   pub instant : a.instant ≡ first_instant a.batch
@@ -297,7 +297,7 @@ accepted_one : (by : Bool) (items : List MadeItem) (p : PacketJournal) (lead : �
 accepted_one by items p lead (Ok a) t = All-cons (IsHeardAccepted by items p lead) a [] (record { is = t.0; instant = t.1 }) (All-nil (IsHeardAccepted by items p lead))
 accepted_one by items p lead (Err reason) t = All-nil (IsHeardAccepted by items p lead)
 
--- an entry of the list, where there is one
+-- an entry of the list, if there is one
 entry_at : (P : Entry → Type 0) (es : List Entry) (n : ℕ) → All P es → IfSome (slice_get es n) P
 entry_at P [] n all = tt
 entry_at P (e ∷ es) zero all = All-head P e es all
@@ -327,7 +327,7 @@ judged_unit items p plan es n earlier e t =
     (accepted_one plan.clock items p plan.lead (verdict plan (now_at es n) earlier n (Ok (unit_at_once t.is.unit)))
     (verdict_true (IsHeardFrom plan.clock items p plan.lead) plan (now_at es n) earlier n (Ok (unit_at_once t.is.unit)) heard))
 
--- and what is bad is not accepted
+-- a packet that is not presented is not accepted
 judged_bad : (items : List MadeItem) (p : PacketJournal) (plan : SchedulePlan) (es : List Entry) (n : ℕ) (earlier : List Accepted) (e : Entry) → IsBadEntry e
     → All (IsHeardAccepted plan.clock items p plan.lead) (accepted_by (judged clock_spot plan es n earlier e))
 unfolding timed verdict

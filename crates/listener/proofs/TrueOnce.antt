@@ -29,7 +29,7 @@ use Rattle.listener.proofs.TrueUnits.{video}
 
 -- ---- the same packet, the same samples
 
--- two of which each ends a unit with one packet begin it with one
+-- if two units of one packet each end with one packet, they begin with it, too
 one_start : (part : ℕ → Part) (from other n : ℕ) → AreUnit part from n → AreUnit part other n → from ≡ other
 one_start part from other n (inl a) (inl b) = a.0 ∙ sym b.0
 one_start part from other n (inl a) (inr b) = absurd (let e = sym a.1 ∙ b.last in cc)
@@ -128,7 +128,7 @@ due_once j n m is here there same = elim (cases_lt n m) [
   ]
 ]
 
--- by the clock and without, packets of audio of one sequence number and one first instant are one
+-- with the clock and without, audio packets with one sequence number and one first instant are one
 audio_packet : (by : Bool) (p : PacketJournal) (n m : ℕ) (x : ℤ) → IsAudioKind p.times.kind → Conforms p.times → n < p.times.packets → m < p.times.packets → n % 256 ≡ m % 256 → IsAt by p.times n 0 x → IsAt by p.times m 0 x → n ≡ m
 audio_packet true p n m x heard is here there seq a b = told_apart p.times n m x is heard here there seq a b
 audio_packet false p n m x heard is here there seq a b =

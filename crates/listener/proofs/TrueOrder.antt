@@ -1,4 +1,4 @@
--- First instants never fall, and equal ones stand in the order of the items.
+-- First instants never fall, and equal ones are in the order of the items.
 use Rattle.std.proofs.Common.{◌≡◌, inl, inr, ℕ, zero, suc, ◌≤◌, Bool, true, false, ℤ, ◌<ℤ◌, List, [], ◌∷◌, ◌++◌, All, length, refl, sym, ◌∙◌, subst, arith, append_assoc}
 use Rattle.std.specs.Prelude.{◌<◌, ◌==◌, ⊤, if◌then◌else◌, Option, Some, None, AllPairs, map, slice_get}
 use Rattle.std.specs.List.{AllByRecursion}

@@ -1,4 +1,4 @@
--- A copy that must be presented is, and a further one is flagged as such.
+-- A copy that must be presented is presented, and a further one is flagged as a repeat.
 use Rattle.std.proofs.Common.{◌≡◌, inl, inr, ℕ, zero, suc, ◌+◌, ◌%◌, Bool, true, false, ℤ, ◌≤ℤ◌, List, [], ◌∷◌, All, length, Some, Ok, refl, sym, ap, ◌∙◌, subst, eq-eqb, arith}
 use Rattle.std.specs.Prelude.{◌==◌, if◌then◌else◌, IfOk, Result, Err, Any, map, slice_get}
 use Rattle.std.specs.List.{list_any}
@@ -124,7 +124,7 @@ verdict_is : (plan : SchedulePlan) (now : ℤ) (earlier : List Accepted) (place 
 unfolding verdict
 verdict_is plan now earlier place r batch e h fresh room = rw (e, lt_false (first_instant batch) now h, fresh, room) refl
 
--- a further one is told as such, whether or not there is room
+-- a further copy is flagged as a repeat, whether there is room or not
 verdict_repeats : (plan : SchedulePlan) (now : ℤ) (earlier : List Accepted) (place : ℕ) (r : Result Presented Reason) (batch : Presented) → r ≡ Ok batch → now ≤ℤ first_instant batch
     → list_any (is_copy (first_instant batch) batch.seq) earlier ≡ true → verdict plan now earlier place r ≡ Err Repeat
 unfolding verdict
@@ -138,11 +138,11 @@ record IsTimed (p : PacketJournal) (plan : ListenPlan) (records : List Record) (
   timed_is : timed clock_spot (schedule_plan plan) (prefix_of (schedule_plan plan) (entries_in plan records) place) item ≡ Ok batch
   is : IsBatchOf (by_clock plan) p n made.last.frame batch
 
--- a listener's search finds where its samples are
+-- a listener's search finds where the samples of the item are
 abbrev IsKnownHere : ListenPlan → List Record → ℕ → MadeItem → Type 0
 IsKnownHere plan records place made = is_known (schedule_plan plan) (prefix_of (schedule_plan plan) (entries_in plan records) place) made.entry ≡ true
 
--- of a packet of audio
+-- a listener's search for an audio packet
 audio_timed : (shift : ℤ) (p : PacketJournal) (plan : ListenPlan) (records : List Record) (place n : ℕ) (d : Delivery) → HearsTalker shift p plan records → IsAudioKind p.times.kind → Shows d → IsTimely p plan records place n (made_of_one d)
     → IsKnownHere plan records place (made_of_one d) → IsTimed p plan records place n (made_of_one d)
 audio_timed shift p plan records place n d h heard shows w k =
@@ -170,7 +170,7 @@ one_timed : (shift : ℤ) (p : PacketJournal) (plan : ListenPlan) (records : Lis
 one_timed shift p plan records place n d h shows other w k =
     audio_timed shift p plan records place n d h (audio_other shift p plan.lead n d h.conforming w.copy.last shows other) shows w k
 
--- of a unit
+-- a listener's search for a unit
 unit_timed : (shift : ℤ) (p : PacketJournal) (plan : ListenPlan) (records : List Record) (place n : ℕ) (made : MadeItem) → HearsTalker shift p plan records → IsWholeOf (deliveries_of plan records) made → IsTimely p plan records place n made
     → IsTimed p plan records place n made
 unfolding timed
@@ -188,7 +188,7 @@ unit_timed shift p plan records place n made h v w =
       is = record { is = unit_packet (by_clock plan) p kind.part plan.lead n made kind.same u; frame_is = u.frame };
     }
 
--- what is not presented is not known
+-- an item that is not presented is not known
 flag_unknown : (plan : SchedulePlan) (prefix : List Entry) (made : MadeItem) → IsFlagOf made → is_known plan prefix made.entry ≡ true → ⊥
 flag_unknown plan prefix made flag = subst (λ (m : MadeItem). is_known plan prefix m.entry ≡ true → ⊥) flag.same (λ e. cc)
 

@@ -44,7 +44,7 @@ use Rattle.listener.proofs.TrueItems.{Shows}
 
 -- ---- a copy of a packet of H.264
 
--- what it shows
+-- what a copy of a packet of H.264 shows
 pub record IsVideoCopy (p : PacketJournal) (part : ℕ → Part) (n : ℕ) (d : Delivery) : Type 0 where
   pub view : Cvf
   pub is : p.packet n ≡ H264Data view
@@ -132,7 +132,7 @@ close j part n m is here there e =
     let high = is.few n m there e in
     (omega arith, omega arith)
 
--- where both are stamped, the stamps are one
+-- if both are stamped, the stamps are one
 abbrev Agrees : Option ℕ → Option ℕ → Type 0
 Agrees r s = IfSome r (λ (x : ℕ). IfSome s (λ (y : ℕ). x ≡ y))
 
@@ -143,7 +143,7 @@ next_by j part n m (Some x) None kind is here there e f near first second agrees
 next_by j part n m (Some x) (Some y) kind is here there e f near first second agrees =
     close j part n m is here there (sym (is.one_instant n x here e) ∙ (agrees ∙ is.one_instant m y there f))
 
--- Two fragments that were delivered beside each other, of which the second goes on with the first.
+-- Two fragments that were delivered one after the other, of which the second continues the first.
 before_part : (part : NalPart) (q : Part) → part_of part ≡ q → completes part ≡ false → (q ≡ First) ⊎ ((q ≡ Middle) ⊎ (q ≡ Last))
 before_part SingleNal q e h = absurd cc
 before_part FirstNal q e h = inl (sym e)
@@ -175,9 +175,9 @@ next_is p part n m t f g kind is near a b goes here there =
     let seq : m % 256 ≡ (n % 256 + 1) % 256 = sym b.seq ∙ (goes.seq ∙ ap (λ (k : ℕ). (k + 1) % 256) a.seq) in
     next_of n m seq bounds.0 bounds.1
 
--- ---- deliveries of the stream beside each other
+-- ---- adjacent deliveries of the stream
 
--- They are copies of packets, the first of which is near packet n, and each further one near the one before it.
+-- Deliveries are copies of packets, the first of which is near packet n, and each later one near its predecessor.
 abbrev pub Chain : PacketJournal → ℕ → ℕ → List Delivery → Type 0
 Chain p lead n [] = ⊤
 Chain p lead n (x ∷ xs) = (m : ℕ) × (IsCopyOf p lead m x × (IsNear p.times n m × Chain p lead m xs))
@@ -222,7 +222,7 @@ follow_on shift p part lead n t f (x ∷ xs) (g ∷ fs) is kind a (m, (copy, (ne
     let more = follow_on shift p part lead m t g xs fs is kind b chain (All-tail Shows x xs shows) events (λ front y z rest q. goes (f ∷ front) y z rest (ap (λ (l : List Fragment). f ∷ l) q)) later in
     subst (λ (k : ℕ). IsCopyOf p lead k x × AreCopiesFrom p lead (suc k) xs) same (copy, more)
 
--- they are copies of packets that follow each other
+-- the deliveries of a stretch are copies of consecutive packets
 pub record HasRun (p : PacketJournal) (lead : ℕ) (xs : List Delivery) : Type 0 where
   pub from : ℕ
   pub copies : AreCopiesFrom p lead from xs
@@ -237,7 +237,7 @@ run_by shift p part lead (x ∷ xs) (f ∷ fs) is kind (n, (copy, chain)) shows 
     let a = fragment_is p part lead n x f copy (video_copy shift p part lead n x is kind copy (All-head Shows x xs shows)) event in
     record { from = n; copies = (copy, follow_on shift p part lead n s.one_instant.0 f xs fs is kind a chain (All-tail Shows x xs shows) events s.others s.one_instant.1) }
 
--- ---- copies of packets that follow each other
+-- ---- copies of consecutive packets
 
 pub copies_front : (p : PacketJournal) (lead n : ℕ) (xs ys : List Delivery) → AreCopiesFrom p lead n (xs ++ ys) → AreCopiesFrom p lead n xs
 copies_front p lead n [] ys all = tt
@@ -253,7 +253,7 @@ pub copies_all : (p : PacketJournal) (lead n m : ℕ) (xs : List Delivery) (d : 
 copies_all p lead n m [] d e all last = let same : m ≡ n = omega (arith, e) in (subst (λ (k : ℕ). IsCopyOf p lead k d) same last, tt)
 copies_all p lead n m (x ∷ xs) d e all last = (all.0, copies_all p lead (suc n) m xs d (omega (arith, e)) all.1 last)
 
--- their fragments
+-- the fragments of copies of consecutive packets
 abbrev pub AreFragmentsFrom : PacketJournal → (ℕ → Part) → ℕ → List Fragment → Type 0
 AreFragmentsFrom p part n [] = ⊤
 AreFragmentsFrom p part n (f ∷ fs) = IsFragmentOf p part n f × AreFragmentsFrom p part (suc n) fs
@@ -285,7 +285,7 @@ unit_is p part n m f fs to all =
 
 -- ---- their parts
 
--- packets behind packet n up to packet m go on with its unit, and packet m ends it
+-- packets after packet n up to packet m continue its unit, and packet m ends it
 record Goes (part : ℕ → Part) (n m : ℕ) : Type 0 where
   middle : (k : ℕ) → n < k → k < m → part k ≡ Middle
   last : n < m → part m ≡ Last
@@ -314,7 +314,7 @@ single_of FirstNal e h = absurd cc
 single_of MiddleNal e h = absurd cc
 single_of LastNal e h = absurd cc
 
--- the packet behind another one that does not end the unit
+-- the packet after another one that does not end the unit
 next_goes : (part : ℕ → Part) (n m : ℕ) → suc n < m → part (suc n) ≡ Middle → Goes part (suc n) m → Goes part n m
 next_goes part n m before here more = record {
   middle = λ k low high. elim (cases_lt (suc n) k) [
@@ -425,7 +425,7 @@ run_shows before d n all here =
     All-append Shows (last_ones n (in_stream before)) (d ∷ []) (All-drop Shows (length (in_stream before) - n) (in_stream before) (All-filter is_streamed Shows before all))
     (All-cons Shows d [] here (All-nil Shows))
 
--- a unit that was made of copies of packets that follow each other has the bytes and the instant of the journal's unit
+-- a unit that was made of copies of consecutive packets has the bytes and the instant of the journal's unit
 unit_by_run : (shift : ℤ) (p : PacketJournal) (part : ℕ → Part) (lead n : ℕ) (before : List Delivery) (d : Delivery) (run : List Fragment) → IsConforming shift p → p.times.kind ≡ H264 part → All Shows before → Shows d → (copy : IsMadeOf p lead n (unit_by before d))
     → last_stretch (events_to before d) ≡ run → IsWholeRun (events_to before d) run → AreUnit part copy.from n × (whole_unit (events_to before d) ≡ unit_bytes p copy.from n)
 unit_by_run shift p part lead n before d [] is kind all here copy same r = absurd (let some = r.some in omega arith)
@@ -489,7 +489,7 @@ chained_of shift p part lead (OfClock m ∷ os) (d ∷ ds) is kind shows from ne
     let here = clock_kind shift p m d is from.0 (All-head Shows d ds shows) in
     subst (λ (l : List Delivery). AreChained p lead l) (sym (skip d ds (clock_skipped d here))) (chained_of shift p part lead os ds is kind (All-tail Shows d ds shows) from.1 near)
 
--- A unit is made of copies of packets that follow each other.
+-- A unit is made of copies of consecutive packets.
 pub record IsMade (p : PacketJournal) (lead : ℕ) (made : MadeItem) : Type 0 where
   pub number : ℕ
   pub copies : IsMadeOf p lead number made

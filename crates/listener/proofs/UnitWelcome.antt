@@ -1,4 +1,4 @@
--- A unit of H.264 at the begin of a capture must be presented, where its packets came in order.
+-- A unit of H.264 at the beginning of a capture must be presented if its packets came in order.
 use Rattle.std.proofs.Common.{◌≡◌, ◌⊎◌, ℕ, zero, suc, ◌+◌, ◌%◌, ◌<◌, ◌≤◌, ◌^◌, Bool, true, false, ℤ, pos, ◌≤ℤ◌, List, [], ◌∷◌, ◌++◌, All, drop, length, map, Option, Some, None, refl, sym, ap, ◌∙◌, subst, inl, inr, arith, append-nil, append_assoc, eq-eqb, length-append}
 use Rattle.std.specs.Prelude.{◌-◌, ◌==◌, nat_lt, not, if◌then◌else◌, slice_get, Contains, IfSome, option_map}
 use Rattle.std.specs.List.{flat_map}
@@ -48,7 +48,7 @@ use Rattle.cvf_format.proofs.AssemblyLemmas.{within_so}
 
 -- ---- one copy
 
--- its fragment
+-- the fragment of a copy
 abbrev fragment_at : Delivery → Fragment
 fragment_at d = fragment_in d (cvf_of d.packet)
 
@@ -65,7 +65,7 @@ part_ends FirstNal e = absurd cc
 part_ends MiddleNal e = absurd cc
 part_ends LastNal e = inr refl
 
--- it has no flaw
+-- the fragment of a copy has no flaw
 record IsGood (d : Delivery) : Type 0 where
   streamed : (d.subtype == crf_subtype) ≡ false
   is_video : (d.subtype == cvf_subtype) ≡ true
@@ -87,7 +87,7 @@ good_copy p part lead n d is copy c =
     let is_video : (d.subtype == cvf_subtype) ≡ true = rw c.subtype refl in
     record { streamed = rw c.subtype refl; is_video = is_video; flawless = flawless; event = good_event d is_video flawless }
 
--- ---- copies of packets that follow each other
+-- ---- copies of consecutive packets
 
 all_good : (shift : ℤ) (p : PacketJournal) (part : ℕ → Part) (lead n : ℕ) (xs : List Delivery) → IsConforming shift p → p.times.kind ≡ H264 part → AreCopiesFrom p lead n xs → All Shows xs → All IsGood xs
 all_good shift p part lead n [] is kind copies shows = All-nil IsGood
@@ -226,7 +226,7 @@ stretch p part from n f fs is unit byte known high all =
 
 -- ---- the limits
 
--- the begin of a unit is no longer than all of it
+-- the beginning of a unit is at most as long as the unit
 shorter : (f : Fragment) (fs gs : List Fragment) → length (unit_of (f ∷ fs)) ≤ length (unit_of (f ∷ (fs ++ gs)))
 shorter f fs gs =
     let all = ap length (flat_map-append (λ (h : Fragment). h.body) (f ∷ fs) gs) in
@@ -234,7 +234,7 @@ shorter f fs gs =
 
 -- ---- what a delivery gives
 
--- deliveries are the begin of a unit, which is stretched to them and within the limits
+-- deliveries are the beginning of a unit, and are a stretch within the limits
 record Begins (before : List Delivery) (d : Delivery) : Type 0 where
   good : IsGood d
   others : All IsGood before
@@ -266,7 +266,7 @@ last_empty {X} n = none (0 - n)
     none zero = refl
     none (suc k) = refl
 
--- it gives up nothing
+-- the next delivery of the unit gives up nothing
 joined : (run : List Fragment) → 1 < length run → is_within run ≡ true → is_joined run ≡ true
 joined run some within = let test : nat_lt 1 (length run) ≡ true = grind (arith, nat_tests) in rw (test, within) refl
 
@@ -279,7 +279,7 @@ none_given (x ∷ before) d b =
     let none : given_up (events_to (x ∷ before) d) ≡ [] = ap (λ (t : Bool). if t then [] else held (before_last (events_to (x ∷ before) d))) on in
     ap (λ (l : List Fragment). last_ones (length l) (in_stream (x ∷ before))) none ∙ none_last (in_stream (x ∷ before))
 
--- so it gives its own item
+-- the next delivery of the unit gives its own item
 gives_own : (before : List Delivery) (d : Delivery) (pk : Piece) → Begins before d → piece (events_to before d) ≡ pk → given_by before d ≡ piece_by before d pk
 gives_own before d pk b is =
     let none : given_up_by before d ≡ [] = ap (map (flagged (lost_for (reason (events_to before d))))) (none_given before d b) in
@@ -308,7 +308,7 @@ piece_is before d complete b e =
 
 -- ---- the deliveries of one unit
 
--- what is known of the begin of a unit
+-- what is known of the beginning of a unit
 record IsBegin (p : PacketJournal) (part : ℕ → Part) (lead from n : ℕ) (all : List Delivery) : Type 0 where
   good : All IsGood all
   fragments : AreFragmentsFrom p part from (fragments_at all)
@@ -363,7 +363,7 @@ part_at p part lead from n all before d rest b same =
     fragments_last p part from (fragments_at before) (fragment_at d) (subst (λ (l : List Fragment). AreFragmentsFrom p part from l) (more_run before d) here)
     ∙ ap (λ (k : ℕ). part (from + k)) (length-map before fragment_at)
 
--- each but the last waits
+-- each delivery except the last waits
 waits : (p : PacketJournal) (part : ℕ → Part) (lead from n : ℕ) (all before : List Delivery) (d x : Delivery) (rest : List Delivery) → IsBegin p part lead from n all → all ≡ (before ++ d ∷ []) ++ x ∷ rest → given_by before d ≡ []
 waits p part lead from n all before d x rest b same =
     let begin = begin_at p part lead from n all before d (x ∷ rest) b same in
@@ -404,7 +404,7 @@ first_given ds earlier last rest same none unit = rw (same, so_far_more earlier 
 in_its_stream : (xs : List Delivery) → length xs - length xs ≡ 0
 in_its_stream xs = omega arith
 
--- all that came before are those of which it was made
+-- all deliveries that came before are those that the unit was made of
 earlier_are : (earlier : List Delivery) (last : Delivery) → Begins earlier last → (unit_by earlier last).earlier ≡ earlier
 earlier_are earlier last b =
     let run = run_is earlier last b in
@@ -537,7 +537,7 @@ one_welcome shift p plan records part n d h kind at copy whole early some fits =
 
 -- ---- a unit whose packets came in order, wherever in the capture
 
--- what came before them, and they themselves
+-- the deliveries before those of the unit, followed by them
 events_after : (before front earlier : List Delivery) (last : Delivery) → in_stream before ≡ front ++ earlier → Begins earlier last → events_to before last ≡ map event_of front ++ map packet (run_at earlier last)
 events_after before front earlier last split b =
     let own : events before ≡ map event_of front ++ map event_of earlier = ap (map event_of) split ∙ map-append event_of front earlier in

@@ -1,4 +1,4 @@
--- Without a clock the first packet of a capture is one that must be presented, and the same once more is a further copy.
+-- Without a clock the first packet of a capture must be presented, and if it comes again it is a further copy.
 use Rattle.std.proofs.Common.{All, inl, ◌≡◌, ℕ, ◌+◌, ◌<◌, ◌≤◌, Bool, true, false, ℤ, pos, ◌≤ℤ◌, List, [], ◌∷◌, length, Option, Some, None, Ok, is_some, refl, sym, ap, ◌∙◌, subst, arith}
 use Rattle.std.specs.Prelude.{◌==◌, nat_le, nat_lt, if◌then◌else◌, slice_get, option_and_then, option_map}
 use Rattle.std.specs.Int.{int_max}
@@ -51,7 +51,7 @@ unfolding latest
 first_time [] e at = absurd cc
 first_time (x ∷ es) e at = let same : x ≡ e = cc in ap (λ (y : Entry). int_max (pos 0) (arrival_of y)) same
 
--- nothing waits before the first
+-- nothing waits before the first entry
 pub nothing : (clock : Clock) (plan : SchedulePlan) (es : List Entry) → accepted clock plan es 0 ≡ []
 unfolding accepted
 nothing clock plan es = refl

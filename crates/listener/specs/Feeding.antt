@@ -8,8 +8,8 @@ use Rattle.listener.specs.declared.listener.ListenFault.{ListenFault}
 use Rattle.listener.specs.declared.listener.ListenFault.TheVariants.{Refused, Memory}
 use Rattle.listener.specs.Listening.{ListenState, StandsFor as RecordsStandFor, is_closed, out as out_of, work as listener_work}
 
--- A listener that is fed: its reader, the listener of the records that were read, what is due next, and whether memory
--- was once not found.
+-- A listener that is fed: its reader, the listener of the records that were read, what is due next, and whether memory has run
+-- out.
 pub record Feeding : Type 0 where
   pub reader : Reading
   pub listener : ListenState
@@ -20,7 +20,7 @@ pub record Feeding : Type 0 where
 abbrev pub IsQuiet : Feeding → Type 0
 IsQuiet fed = fed.next ≡ None
 
--- nothing is due, and memory was always found: the listener takes more bytes
+-- nothing is due, and memory has not run out: the listener takes more bytes
 pub record IsReady (fed : Feeding) : Type 0 where
   pub quiet : IsQuiet fed
   pub memory : fed.out_of_memory ≡ false
@@ -33,8 +33,8 @@ is_ended fed = is_closed fed.listener
 abbrev pub out : Feeding → List ℕ → List Shown
 out fed bytes = out_of fed.listener (whole_records bytes)
 
--- The listener was fed these bytes, and has given `given` items of what it shows of them. After `Memory` these are the
--- bytes fed before, without the record for which no memory was found.
+-- The listener was fed these bytes, and has given `given` of the items that it shows of them. After `Memory` these are the
+-- bytes fed before, without the record for which memory ran out.
 pub record StandsFor (bytes : List ℕ) (given : ℕ) (fed : Feeding) : Type 0 where
   pub read : fed.out_of_memory ≡ false → HasRead fed.reader bytes (whole_records bytes)
   pub stands : RecordsStandFor (whole_records bytes) (given + length (option_to_list fed.next)) fed.listener
@@ -42,13 +42,13 @@ pub record StandsFor (bytes : List ℕ) (given : ℕ) (fed : Feeding) : Type 0 w
 
 -- ---- what a piece adds
 
--- the bytes that a listener was fed, after a piece to which it answers this
+-- the bytes that a listener was fed, after a piece to which it gives this answer
 abbrev pub bytes_after : List ℕ → List ℕ → Result ℕ ListenFault → List ℕ
 bytes_after bytes piece (Ok n) = bytes ++ take n piece
 bytes_after bytes piece (Err (Refused refusal)) = bytes ++ piece
 bytes_after bytes piece (Err Memory) = bytes
 
--- the answer says that no memory was found
+-- the answer says that memory ran out
 abbrev pub is_memory : Result ℕ ListenFault → Bool
 is_memory (Ok n) = false
 is_memory (Err (Refused refusal)) = false
@@ -58,7 +58,7 @@ is_memory (Err Memory) = true
 abbrev pub work : Feeding → ℕ
 work fed = listener_work fed.listener + length (option_to_list fed.next)
 
--- what was read, the plan, whether the capture has ended, and whether memory was once not found are unchanged
+-- what was read, the plan, whether the capture has ended, and whether memory has run out are unchanged
 pub record Keeps (old new : Feeding) : Type 0 where
   pub reader : new.reader ≡ old.reader
   pub plan : new.listener.plan ≡ old.listener.plan

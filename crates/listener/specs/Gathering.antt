@@ -14,7 +14,8 @@ use Rattle.packet_journal.specs.Deliveries.{Delivery}
 use Rattle.listener.specs.Items.{lost_for}
 use Rattle.listener.specs.Units.{events}
 
--- The assembly of units; why the last fragments were given up, and how many of them were taken; and the last delivery's own item.
+-- How far the units of a stream are: their assembly; why the last fragments were given up, and how many of them were taken; and
+-- the last delivery's own item.
 pub record Gathered : Type 0 where
   pub assembly : Assembly
   pub why : LostFor
@@ -29,7 +30,7 @@ lost_item reason mark = OfBad (record { frame = mark.frame; arrival = mark.arriv
 abbrev pub item_entry : Item → Entry
 item_entry item = OfItem item
 
--- the items that the last delivery gave and that were not taken
+-- the items that the last delivery gave and that were not taken yet
 abbrev pub left : Gathered → List Item
 left u = map (lost_item (lost_for u.why)) (drop u.taken u.assembly.lost) ++ option_to_list u.own
 

@@ -36,7 +36,7 @@ items_in plan records = items_of (deliveries_of plan records)
 abbrev pub entries_in : ListenPlan → List Record → List Entry
 entries_in plan records = entries (deliveries_of plan records)
 
--- the entries that a list of records makes while further ones may follow
+-- the entries that a list of records makes while more records may follow
 abbrev pub entries_so_far_in : ListenPlan → List Record → List Entry
 entries_so_far_in plan records = entries_so_far (deliveries_of plan records)
 
@@ -44,7 +44,7 @@ entries_so_far_in plan records = entries_so_far (deliveries_of plan records)
 abbrev pub shown_of : ListenPlan → List Record → List Shown
 shown_of plan records = shown clock_spot (schedule_plan plan) (entries_in plan records)
 
--- what is certain to be shown of a list of records while further ones may follow
+-- what is certain to be shown of a list of records while more records may follow
 abbrev pub due_of : ListenPlan → List Record → List Shown
 due_of plan records = due clock_spot (schedule_plan plan) (entries_so_far_in plan records)
 
@@ -58,7 +58,7 @@ abbrev pub is_flag : Shown → Bool
 is_flag (Present batch) = false
 is_flag (Flag frame seq reason) = true
 
--- How many records there are, how many of them belong to the stream, and how much is presented and flagged.
+-- The counts of a listener: the records, those of the stream, and the items presented and flagged.
 abbrev pub counts_of : ListenPlan → List Record → List Shown → Counts
 counts_of plan records list = record {
   frames = length records;

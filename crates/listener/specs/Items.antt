@@ -1,5 +1,5 @@
--- What the deliveries of a stream and of its clock are made into: packets of samples, units of H.264, those that are not
--- presented, and points of the clock.
+-- The items that the deliveries of a stream and of its clock are made into: packets of samples, units of H.264, packets that
+-- are not presented, and CRF timestamps.
 use Rattle.std.specs.Prelude.{if◌then◌else◌, ℕ, ◌-◌, ◌==◌, ◌&&◌, not, false, List, [], ◌∷◌, ◌++◌, length, map, Option, Some, None, unwrap_or}
 use Rattle.avtp_base.specs.declared.refusal.Refusal.{Refusal}
 use Rattle.clock_track.specs.declared.clock_row.ClockRow.{ClockRow}
@@ -25,8 +25,8 @@ use Rattle.packet_journal.specs.Deliveries.{Delivery}
 use Rattle.listener.specs.Units.{event_of, events, flaw_of, in_stream, last_ones, waiting}
 use Rattle.packet_journal.specs.Packets.{audio_sample_type}
 
--- A packet of AAF (IEEE 1722-2016, 7). Its timestamp counts if it is valid. In sparse mode a packet without one is
--- counted from the packet before it that has one. The rate code for a rate that only the user knows is no rate.
+-- A packet of AAF (IEEE 1722-2016, 7). Its timestamp counts if it is valid. In sparse mode a packet without a timestamp is
+-- counted from the last packet before it that has one. The rate code for a rate that only the user knows gives no rate.
 abbrev pub samples_of : Delivery → Aaf → Item
 samples_of d v = OfPacket (record {
   frame = d.frame;
@@ -41,15 +41,14 @@ samples_of d v = OfPacket (record {
   bytes = v.payload;
 })
 
--- How a packet of IEC 61883-6 is stamped: by the SYT interval of its rate, if it has one. A packet of no data has
--- neither.
+-- How a packet of IEC 61883-6 is stamped: by the SYT interval of its rate, if it has one. A no-data packet has neither.
 abbrev pub block_rule : ℕ → Option ℕ → HeadRule
 block_rule dbc None = Own
 block_rule dbc (Some interval) = Blocks dbc interval
 
--- A packet of IEC 61883-6, of which each data block is a sample. Its timestamp counts if it is valid, and belongs to
--- the block whose block count is a multiple of the interval. A packet without that block is counted from the last such
--- block before it. A packet of no data has no samples.
+-- A packet of IEC 61883-6, each of whose data blocks is a sample. Its timestamp counts if it is valid, and belongs to the block
+-- whose block count is a multiple of the interval. A packet without that block is counted from the last such block before it. A
+-- no-data packet has no samples.
 abbrev pub blocks_of : Delivery → Iec → Item
 blocks_of d v = OfPacket (record {
   frame = d.frame;
@@ -92,8 +91,8 @@ item_of d = if d.subtype == aaf_subtype then aaf_item d else iec_item d
 
 -- ---- the media clock
 
--- What a packet of the media clock gives (IEEE 1722-2016, 10): its timestamps are points if it is of the type for audio
--- samples and its times are certain.
+-- The timestamps of a packet of the media clock (IEEE 1722-2016, 10). They count if the packet is of the type for audio samples
+-- and its times are certain.
 abbrev pub points_of : Crf → ClockRow
 points_of v = record {
   usable = (v.kind == audio_sample_type) && not v.tu;
@@ -105,27 +104,27 @@ points_of v = record {
   payload = v.payload;
 }
 
--- what a packet of the media clock gives that its reader refuses
+-- what a packet of the media clock gives if its reader refuses it: no timestamps
 abbrev pub no_points : ClockRow
 no_points = record { usable = false; seq = 0; mr = false; base_frequency = 0; pull = 0; interval = 0; payload = [] }
 
--- the points of a packet of the media clock, or none if its reader refuses it
+-- the timestamps of a packet of the media clock, or none if its reader refuses it
 abbrev pub points_or_none : Option Refusal → Crf → ClockRow
 points_or_none None v = points_of v
 points_or_none (Some refusal) v = no_points
 
--- the points of a delivery of the clock
+-- the timestamps of a delivery of the clock
 abbrev pub clock_row : Delivery → ClockRow
 clock_row d = points_or_none (crf_refusal d.packet) (crf_of d.packet)
 
 -- ---- items
 
--- A delivery of the clock is never shown, whether it gives points or not; one of audio is an item.
+-- A delivery of the clock is never shown, whether it has valid timestamps or not; a delivery of audio is an item.
 abbrev pub entry_of : Delivery → Entry
 entry_of d = if d.subtype == crf_subtype then OfClock d.arrival (clock_row d) else OfItem (item_of d)
 
--- An entry of a schedule, with the deliveries that it was made of: the last of them, whose frame number and sequence number
--- it has, and those before it, in order.
+-- An entry of a schedule, with the deliveries that it was made of: the last one, whose frame number and sequence number it has,
+-- and those before it, in order.
 pub record MadeItem : Type 0 where
   pub entry : Entry
   pub earlier : List Delivery
@@ -139,7 +138,7 @@ sources made = made.earlier ++ made.last ∷ []
 abbrev pub made_of_one : Delivery → MadeItem
 made_of_one d = record { entry = entry_of d; earlier = []; last = d }
 
--- A delivery that is shown by itself, and not presented: a fragment that is in no unit, or a packet that cannot be in one.
+-- A delivery that is shown on its own, and not presented: a fragment that is in no unit, or a packet that cannot be in one.
 abbrev pub flagged : Reason → Delivery → MadeItem
 flagged reason d = record {
   entry = OfItem (OfBad (record { frame = d.frame; arrival = d.arrival; seq = d.seq; reason = reason }));
@@ -147,7 +146,7 @@ flagged reason d = record {
   last = d;
 }
 
--- the reason with which fragments are flagged that were given up for this
+-- the reason that fragments are flagged with if they were given up for this
 abbrev pub lost_for : LostFor → Reason
 lost_for Broken = BrokenUnit
 lost_for Long = LongUnit
@@ -158,14 +157,13 @@ lost_for Long = LongUnit
 abbrev pub events_to : List Delivery → Delivery → List Event
 events_to before d = events before ++ event_of d ∷ []
 
--- the fragments that wait and that a delivery gives up
+-- the waiting fragments that a delivery gives up
 abbrev pub given_up_by : List Delivery → Delivery → List MadeItem
 given_up_by before d =
     map (flagged (lost_for (reason (events_to before d)))) (last_ones (length (given_up (events_to before d))) (in_stream before))
 
--- The unit that a delivery completes: its frame number, its arrival, its sequence number and its presentation time are
--- those of that delivery, the last of the stretch. The other deliveries of the unit are the last of the stream before
--- it.
+-- The unit that a delivery completes: its frame number, its arrival, its sequence number and its presentation time are those of
+-- that delivery, the last of the unit. The other deliveries of the unit are the last of the stream before it.
 abbrev pub unit_by : List Delivery → Delivery → MadeItem
 unit_by before d = record {
   entry = OfItem (OfUnit (record {
@@ -179,7 +177,7 @@ unit_by before d = record {
   last = d;
 }
 
--- a good packet of H.264 makes a unit whole, or waits for the rest of it, or is lost
+-- a good packet of H.264 completes a unit, or waits for the rest of it, or is lost
 abbrev pub piece_by : List Delivery → Delivery → Piece → List MadeItem
 piece_by before d Whole = unit_by before d ∷ []
 piece_by before d Held = []
@@ -194,19 +192,19 @@ video_by before d (Some reason) = flagged reason d ∷ []
 abbrev pub own_by : List Delivery → Delivery → List MadeItem
 own_by before d = if d.subtype == cvf_subtype then video_by before d (flaw_of d) else made_of_one d ∷ []
 
--- What a delivery gives after those before it. One of the clock gives its points. One of the stream gives the fragments
--- that it gives up, in order, and then its own item.
+-- The items that a delivery gives after those before it. A delivery of the clock gives its timestamps. A delivery of the stream
+-- gives the fragments that it gives up, in order, and then its own item.
 abbrev pub given_by : List Delivery → Delivery → List MadeItem
 given_by before d = if d.subtype == crf_subtype then made_of_one d ∷ [] else given_up_by before d ++ own_by before d
 
--- what these deliveries give, one after another
+-- the items that these deliveries give, one after another
 abbrev pub given_after : List Delivery → List Delivery → List MadeItem
 given_after before [] = []
 given_after before (d ∷ ds) = given_by before d ++ given_after (before ++ d ∷ []) ds
 
 -- ---- items
 
--- the items that deliveries give while further ones may follow
+-- the items that deliveries give while more may follow
 abbrev pub items_so_far : List Delivery → List MadeItem
 items_so_far ds = given_after [] ds
 
@@ -226,6 +224,6 @@ made_entry made = made.entry
 abbrev pub entries : List Delivery → List Entry
 entries ds = map made_entry (items_of ds)
 
--- the entries that a list of deliveries makes while further ones may follow
+-- the entries that a list of deliveries makes while more may follow
 abbrev pub entries_so_far : List Delivery → List Entry
 entries_so_far ds = map made_entry (items_so_far ds)

@@ -33,42 +33,41 @@ use Rattle.listener.specs.Heard.{entries_in, items_in, schedule_plan}
 use Rattle.listener.specs.Items.{MadeItem, sources}
 use Rattle.listener.specs.Known.{IsKnownItem}
 
--- The listener has no clock, or listens to the talker's own and adds to its timestamps what makes them the journal's
--- points.
+-- The listener has no clock, or it listens to the talker's own and adds to its timestamps the shift that makes them the
+-- journal's.
 abbrev pub FollowsClock : ℤ → PacketJournal → ℤ → Option ℕ → Type 0
 FollowsClock shift p added None = ⊤
 FollowsClock shift p added (Some id) = (id ≡ p.clock) × (added ≡ shift)
 
--- Records deliver the stream of a talker that keeps the rules, of audio or of H.264, to a listener that counts samples
--- on the nominal lines of their timestamps, or on those of the talker's clock. Any packet may be missing, come again,
--- or come in any order. Only of H.264 more is asked: two adjacent fragments, at least one of them without a timestamp,
--- are of packets at most 254 apart.
+-- Records deliver the stream of a talker that keeps the rules, audio or H.264, to a listener that times samples by their
+-- timestamps and the nominal rate, or by the talker's clock. Any packet may be missing, come again, or come in any order. H.264
+-- has one more condition: two adjacent fragments, at least one of them without a timestamp, are of packets at most 254 apart.
 pub record HearsTalker (shift : ℤ) (p : PacketJournal) (plan : ListenPlan) (records : List Record) : Type 0 where
   pub conforming : IsConforming shift p
   pub stream : plan.stream ≡ p.stream
   pub clock : FollowsClock shift p plan.shift plan.clock
   pub delivered : Delivers p plan.clock plan.lead records
 
--- the listener counts samples on the lines of a clock
+-- the listener times samples by a clock
 abbrev pub by_clock : ListenPlan → Bool
 by_clock plan = is_some plan.clock
 
--- what is presented of what is shown, in its order
+-- the batches that are presented among the items that are shown, in their order
 abbrev pub presented_of : List Shown → List Presented
 presented_of [] = []
 presented_of (Present batch ∷ rest) = batch ∷ presented_of rest
 presented_of (Flag frame seq reason ∷ rest) = presented_of rest
 
--- how many samples a batch of a stream has: as many as its packets, or one, which is a unit of H.264
+-- how many samples a batch of a stream has: as many as its packets, or one for a unit of H.264
 abbrev pub sample_count : Kind → ℕ → ℕ
 sample_count DenseAaf count = count
 sample_count SparseAaf count = count
 sample_count (Am824 interval dbc) count = count
 sample_count (H264 part) count = 1
 
--- The batch is packet n of the journal: it has the packet's sequence number, its count and its samples' bytes, and each
--- of its samples is at its instant in the journal, by the talker's clock or without. Of H.264 it is the unit that ends
--- with packet n, with the bytes that all packets of the unit carry, at their one instant.
+-- The batch is packet n of the journal: it has the packet's sequence number, its count and its samples' bytes, and each of its
+-- samples is at its instant in the journal, by the talker's clock or without. For H.264 it is the unit that ends with packet n,
+-- with the bytes that all packets of the unit carry, at their one instant.
 pub record IsOfPacket (by : Bool) (p : PacketJournal) (n : ℕ) (batch : Presented) : Type 0 where
   pub known : n < p.times.packets
   pub seq : batch.seq ≡ n % 256
@@ -81,7 +80,7 @@ pub record IsOfJournal (by : Bool) (p : PacketJournal) (batch : Presented) : Typ
   pub number : ℕ
   pub is : IsOfPacket by p number batch
 
--- No packet of the journal is both batches.
+-- No packet of the journal is both of these batches.
 abbrev pub AreOther : Bool → PacketJournal → Presented → Presented → Type 0
 AreOther by p a b = (n : ℕ) → IsOfPacket by p n a → ¬ IsOfPacket by p n b
 
@@ -95,13 +94,13 @@ pub record AreSame (a b : Presented) : Type 0 where
   pub bytes : a.bytes ≡ b.bytes
   pub instants : (k : ℕ) → k < a.count → sample_instant a k ≡ sample_instant b k
 
--- if one packet is both batches, they have the same samples
+-- if one packet is both of these batches, they have the same samples
 abbrev pub Agree : Bool → PacketJournal → Presented → Presented → Type 0
 Agree by p a b = (n : ℕ) → IsOfPacket by p n a → IsOfPacket by p n b → AreSame a b
 
 -- ---- the items of a capture
 
--- The delivery is one of those that exactly one item was made of.
+-- Exactly one item was made of this delivery, perhaps with others.
 pub record IsInOneItem (items : List MadeItem) (d : Delivery) : Type 0 where
   pub place : ℕ
   pub item : MadeItem
@@ -109,32 +108,32 @@ pub record IsInOneItem (items : List MadeItem) (d : Delivery) : Type 0 where
   pub in_it : Contains (sources item) d
   pub only : (k : ℕ) (other : MadeItem) → slice_get items k ≡ Some other → Contains (sources other) d → k ≡ place
 
--- how many fragments the whole units among the items have before their last
+-- how many fragments the whole units among the items have before their last ones
 abbrev pub fragments_in : List MadeItem → ℕ
 fragments_in items = sum_by (λ (made : MadeItem). length made.earlier) items
 
--- the deliveries are copies of packets that follow each other, from packet n on
+-- the deliveries are copies of consecutive packets, from packet n on
 abbrev pub AreCopiesFrom : PacketJournal → ℕ → ℕ → List Delivery → Type 0
 AreCopiesFrom p lead n [] = ⊤
 AreCopiesFrom p lead n (d ∷ ds) = IsCopyOf p lead n d × AreCopiesFrom p lead (suc n) ds
 
--- The item was made of copies of packets that follow each other, the last of which is packet n; an item of audio is
--- made of a copy of packet n alone. Two packets may have equal bytes, so the number of each copy is told.
+-- The item was made of copies of consecutive packets, of which packet n is the last; an audio item is made of a copy of packet
+-- n alone. Two packets may have equal bytes, so this names the number of each copy's packet.
 pub record IsMadeOf (p : PacketJournal) (lead n : ℕ) (made : MadeItem) : Type 0 where
   pub from : ℕ
   pub to : from + length made.earlier ≡ n
   pub earlier : AreCopiesFrom p lead from made.earlier
   pub last : IsCopyOf p lead n made.last
 
--- The unit of an item is one unit of the journal, which ends with packet n: the item was made of one copy of each packet of that
--- unit, in their order, and has the unit's bytes and its instant.
+-- The unit of an item is the journal's unit that ends with packet n: the item was made of one copy of each packet of that unit,
+-- in their order, and has the unit's bytes and its instant.
 pub record IsUnitFrom (p : PacketJournal) (part : ℕ → Part) (lead n : ℕ) (made : MadeItem) (unit : WholeUnit) : Type 0 where
   pub copies : IsMadeOf p lead n made
   pub packets : AreUnit part copies.from n
   pub bytes : unit.bytes ≡ unit_bytes p copies.from n
   pub instant : unit.instant ≡ pos (p.times.due n)
 
--- Deliveries are copies of all packets of one unit, in their order, the last of which is packet n. Each packet carries the
+-- Deliveries are copies of all packets of one unit, in their order, of which packet n is the last. Each packet carries the
 -- unit's first byte, and the unit is within the limits.
 pub record AreOfUnit (p : PacketJournal) (part : ℕ → Part) (lead from n : ℕ) (earlier : List Delivery) (last : Delivery) : Type 0 where
   pub to : from + length earlier ≡ n
@@ -151,7 +150,7 @@ pub record AreOfUnit (p : PacketJournal) (part : ℕ → Part) (lead from n : �
 abbrev pub accepted_before : ListenPlan → List Record → ℕ → List Accepted
 accepted_before plan records i = accepted clock_spot (schedule_plan plan) (entries_in plan records) i
 
--- the time when the item at a place is judged: the greatest arrival up to it
+-- the time at which the item at a place is judged: the greatest arrival up to it
 abbrev pub time_of : ListenPlan → List Record → ℕ → ℤ
 time_of plan records i = now_at (entries_in plan records) i
 
@@ -165,8 +164,8 @@ pub record IsTimely (p : PacketJournal) (plan : ListenPlan) (records : List Reco
   pub at : IsAt (by_clock plan) p.times n 0 instant
   pub in_time : time_of plan records place ≤ℤ instant
 
--- The item at a place is a copy of packet n that must be presented: it is timely and the first one, and the buffer has
--- room for it.
+-- The item at a place is a copy of packet n that must be presented: it is timely and the first copy, and the buffer has room
+-- for it.
 pub record IsWelcome (p : PacketJournal) (plan : ListenPlan) (records : List Record) (place n : ℕ) (made : MadeItem) : Type 0 where
   pub timely : IsTimely p plan records place n made
   -- no copy of the packet was accepted before
@@ -186,7 +185,7 @@ pub record IsPresentedOf (by : Bool) (p : PacketJournal) (n : ℕ) (made : MadeI
   pub frame : batch.frame ≡ made.last.frame
   pub is : IsOfPacket by p n batch
 
--- The batch is what is presented of one of the items, and is the packet of which that one was made.
+-- The batch is what is presented of one of the items, and is the packet that this item was made of.
 pub record IsHeardFrom (by : Bool) (items : List MadeItem) (p : PacketJournal) (lead : ℕ) (batch : Presented) : Type 0 where
   pub item : MadeItem
   pub number : ℕ
@@ -196,12 +195,12 @@ pub record IsHeardFrom (by : Bool) (items : List MadeItem) (p : PacketJournal) (
 
 -- ---- what is shown of each item
 
--- the number of the frame of which an item is shown
+-- the number of the frame that an item is shown for
 abbrev pub frame_of : Shown → ℕ
 frame_of (Present batch) = batch.frame
 frame_of (Flag frame seq reason) = frame
 
--- what is shown of the frame with this number
+-- what is shown for the frame with this number
 abbrev pub shown_of_frame : ℕ → List Shown → List Shown
 shown_of_frame frame list = filter (λ s. frame_of s == frame) list
 
@@ -209,8 +208,7 @@ shown_of_frame frame list = filter (λ s. frame_of s == frame) list
 abbrev pub verdict_of : ListenPlan → List Record → ℕ → Item → Result Accepted Reason
 verdict_of plan records place item = verdict_in clock_spot (schedule_plan plan) (entries_in plan records) place item
 
--- What is shown of an item with this last delivery, by its verdict: it is presented if accepted, else flagged with the
--- one reason.
+-- What is shown of an item with this last delivery, by its verdict: it is presented if accepted, else flagged with the reason.
 abbrev pub shown_by : Delivery → Result Accepted Reason → Shown
 shown_by d (Ok a) = Present a.batch
 shown_by d (Err reason) = Flag d.frame d.seq reason
@@ -225,15 +223,15 @@ last_of c m = record { packet = m; at = length (c.points m) - 1 }
 abbrev pub first_of : ℕ → Place
 first_of m = record { packet = suc m; at = 0 }
 
--- The last point of packet m of a clock and the first of the next are joined, and a listener that adds nothing to
--- timestamps takes both for points.
+-- The last timestamp of packet m of a clock and the first of the next are joined, and a listener that adds nothing to
+-- timestamps accepts both.
 pub record AreJoined (c : ClockJournal) (m : ℕ) : Type 0 where
   pub joined : IsJoinedAt c (last_of c m) (first_of m)
   pub earlier : point c (last_of c m) < 2 ^ 62
   pub later : point c (first_of m) < 2 ^ 62
 
--- the pair of the last point of clock packet m and the first of the next covers the timestamp of packet n, which is at
--- this instant
+-- the pair of the last timestamp of clock packet m and the first of the next covers the timestamp of packet n, which is at this
+-- instant
 pub record CoversPacket (p : PacketJournal) (m n instant : ℕ) : Type 0 where
   pub points : AreJoined p.times.clock m
   pub stamped : p.times.stamp n ≡ Some instant

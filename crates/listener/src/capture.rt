@@ -32,7 +32,7 @@ pub(crate) fn give_all(listener: &mut Listener, list: &mut Vec<Shown>) -> Result
     Ok(())
 }
 
-/// Feeds the whole piece, or what of it comes before the capture's first refusal, and puts all that it makes due into a list.
+/// Feeds the whole piece, or the part before the capture's first refusal, and puts all that becomes due into a list.
 pub(crate) fn feed_piece(
     alloc: Global,
     listener: &mut Listener,
@@ -62,7 +62,7 @@ pub(crate) fn feed_piece(
     Ok(())
 }
 
-/// Ends the capture, and answers its first refusal.
+/// Ends the capture, and returns its first refusal.
 fn end(listener: &mut Listener) -> Option<Refusal>
     requires open { is_ended listener.old ≡ false }
     requires ready { IsReady listener.old }
@@ -77,7 +77,7 @@ fn end(listener: &mut Listener) -> Option<Refusal>
     }
 }
 
-/// What a listener that was fed nothing shows of a whole capture.
+/// What a new listener shows of a whole capture.
 fn hear(alloc: Global, listener: &mut Listener, bytes: &[u8]) -> Result<Heard, NoMemory>
     requires begun { StandsFor [] 0 listener.old }
     requires open { is_ended listener.old ≡ false }
@@ -96,24 +96,22 @@ fn hear(alloc: Global, listener: &mut Listener, bytes: &[u8]) -> Result<Heard, N
     })
 }
 
-/// What a listener shows of a whole capture: the schedule of the stream's packets in its whole records, which are those
-/// before the first refusal; how many there were; and the first refusal. It is what a `Listener` shows that is fed with the
-/// bytes and ended.
+/// What a listener shows of a whole capture: the schedule of the stream's packets in its whole records, which are those before
+/// the first refusal; the counts; and the first refusal. A `Listener` that is fed with the bytes and ended shows the same.
 ///
-/// A record belongs to the stream if it is a readable Ethernet frame of AVTP, its packet is of a kind that is read
-/// (AAF, IEEE 1722-2016, 7, CVF of H.264, 8, and IEC 61883-6), and its stream id is valid and the wanted one. A packet
-/// that its reader refuses is flagged as malformed. Adjacent fragments of H.264 are put together to one unit, which has
-/// the frame number and the presentation time of its last packet; a fragment that is in no whole unit is flagged as
-/// broken or too long. A record belongs to the media clock if this holds with a packet of CRF (IEEE 1722-2016, 10) and
-/// the clock's id. Record times are taken as nanoseconds of gPTP. The plan is within the limits that `ListenPlan`
-/// names.
+/// A record belongs to the stream if it is a readable Ethernet frame of AVTP, its packet is of a kind that is read (AAF, IEEE
+/// 1722-2016, 7; CVF of H.264, 8; IEC 61883-6), and its stream id is valid and the wanted one. A packet that its reader refuses
+/// is flagged as malformed. Adjacent fragments of H.264 are put together to one unit, which has the frame number and the
+/// presentation time of its last packet; a fragment that is in no whole unit is flagged as broken or too long. A record belongs
+/// to the media clock if all of this holds for a packet of CRF (IEEE 1722-2016, 10) with the clock's id. Record times are taken
+/// as nanoseconds of gPTP. The plan is within the limits that `ListenPlan` names.
 ///
 /// Whatever the capture loses, repeats or reorders of the packets of a talker that keeps the rules and of its clock, what is
-/// shown keeps the headline: what came in time, found room and has a known timestamp or clock reference is presented once, in
-/// order, at the talker's own nanoseconds, so that any two listeners with one clock agree, and every other packet that came is
-/// flagged with its one reason. A unit of H.264 that is presented is one of the talker's units, whole.
+/// shown keeps the headline: each packet that came in time, found room and has a known timestamp or clock reference is
+/// presented once, in order, at the talker's own nanoseconds, so any two listeners with one clock agree; every other packet
+/// that came is flagged with its one reason. A unit of H.264 that is presented is one of the talker's units, whole.
 ///
-/// The capture has at most 2^62 bytes. `NoMemory` comes if no memory is found, and nothing is shown then.
+/// The capture has at most 2^62 bytes. If there is no memory, `NoMemory` comes and nothing is shown.
 pub fn whole(alloc: Global, plan: &ListenPlan, bytes: &[u8]) -> Result<Heard, NoMemory>
     requires plan { IsPlan (schedule_plan plan.now) }
     requires bounded { length bytes.now ≤ 2 ^ 62 }

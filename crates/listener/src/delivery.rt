@@ -84,9 +84,9 @@ fn is_of_clock(clock: Option<u64>, peeked: Peeked) -> bool
     }
 }
 
-/// The packet in a record's bytes, if the record belongs to the stream with this id: it is a readable Ethernet frame of
-/// AVTP, with a packet of IEC 61883, AAF or CVF, and with a stream id that is valid and this one. Whether the packet is well
-/// formed is not asked. A listener of the stream takes the same records.
+/// The packet in a record's bytes, if the record belongs to the stream with this id: it is a readable Ethernet frame of AVTP,
+/// with a packet of IEC 61883, AAF or CVF, and with a stream id that is valid and equal to this one. The packet need not be
+/// well formed. A listener of the stream takes the same records.
 #[inline(always)]
 pub fn packet_of_stream(stream: u64, frame: &[u8]) -> Option<StreamPacket<'_>>
     ensures { option_map stream_packet_shape result ≡ (if belongs stream_kinds stream frame.now then Some (stream_packet frame.now) else None) }
@@ -101,9 +101,8 @@ pub fn packet_of_stream(stream: u64, frame: &[u8]) -> Option<StreamPacket<'_>>
     })
 }
 
-/// The record as a delivery of the plan's stream or of its clock, if it belongs to one of them: a readable Ethernet
-/// frame of AVTP, with a packet of a stream that is read or of a media clock, and with a stream id that is valid and
-/// the wanted one.
+/// The record as a delivery of the plan's stream or of its clock, if it belongs to one of them: a readable Ethernet frame of
+/// AVTP, with a packet of a stream that is read or of a media clock, and with a valid stream id that is the wanted one.
 pub fn delivery_of<'a>(
     plan: &ListenPlan,
     frame: u64,

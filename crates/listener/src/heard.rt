@@ -23,7 +23,7 @@ impl Model for ShownList {
 }
 
 impl ShownList {
-    /// The items of the vector. Takes no memory.
+    /// The items of the vector. Allocates nothing.
     pub fn over(items: Vec<Shown>) -> Self
         ensures { result ≡ items.items }
     {
@@ -55,7 +55,7 @@ pub struct Counts {
 pub struct Heard {
     pub shown: ShownList,
     pub counts: Counts,
-    /// The first field of the capture that is not whole or that is refused; what is shown is of the records before it.
+    /// The first field of the capture that is cut off or refused. Only the records before it are shown.
     pub refused: Option<Refusal>,
 }
 

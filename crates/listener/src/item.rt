@@ -1,4 +1,4 @@
-//! What a delivery is made into, and the samples of AAF.
+//! The items that deliveries are made into, and the samples of AAF.
 
 ghost use Rattle.std.specs.Prelude.{◌≡◌, IfOk};
 ghost use Rattle.aaf_format.specs.Aaf.{aaf_shape};
@@ -70,7 +70,7 @@ fn iec_item(alloc: Global, delivery: &DeliveryView<'_>) -> Result<Item, NoMemory
     }
 }
 
-/// The item that a delivery of audio is: its samples, or the field by which its packet is refused.
+/// The item of a delivery of audio: its samples, or the field that refuses its packet.
 pub fn item_of(alloc: Global, delivery: &DeliveryView<'_>) -> Result<Item, NoMemory>
     ensures { IfOk result (λ item. item ≡ item_of_delivery (delivery_shape delivery.now)) }
 {

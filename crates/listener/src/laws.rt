@@ -1,4 +1,4 @@
-//! Laws of what a listener hears. Each call is its contract, and does nothing.
+//! Laws of what a listener hears. Each call only states its contract, and does nothing.
 
 ghost use Rattle.std.specs.Prelude.{Contains, ◌≡◌, ◌≤◌, ◌≤ℤ◌, ◌+◌, suc, true, ◌∷◌, ◌++◌, [], All, AllPairs, Any, ℕ, ℤ, Bool, pos, List, None, Some, length, slice_get};
 ghost use mathlib.Core.List.{IsPrefix};
@@ -25,32 +25,33 @@ ghost use Rattle.listener.specs.Units.{in_stream};
 
 use packet_journal::laws::records_of_both_are_delivered;
 
-/// Each packet of the stream is shown once, or is a fragment of one unit that is shown, and one of the clock is never shown: the
-/// counts of what is presented and of what is flagged, with the number of fragments that units have before their last, make the
-/// count of the stream's packets.
+/// Each packet of the stream is shown once, or is a fragment of one unit that is shown; a packet of the clock is never shown.
+/// So the number of stream packets is the sum of the items presented, the items flagged, and the fragments that units have
+/// before their last.
 pub fn each_packet_is_shown_once()
     ensures { (plan : ListenPlan) (records : List Record) → (counts_of plan records (shown_of plan records)).presented + (counts_of plan records (shown_of plan records)).flagged + fragments_in (items_in plan records) ≡ (counts_of plan records (shown_of plan records)).packets }
 {}
 
-/// Each packet of the stream and of its clock is in one item: it is an item by itself, or one of the fragments of one whole unit,
-/// which has the frame number of the last of them. Each item of the stream is shown once, as its verdict has it: it is presented,
-/// or flagged with the first reason that holds of it. So the list says of each frame of the stream why it is not presented.
+/// Each packet of the stream and of its clock is in one item: it is an item by itself, or one of the fragments of one whole
+/// unit, which has the frame number of the last of them. Each item of the stream is shown once, as its verdict says: it is
+/// presented, or flagged with the first reason that holds. So the list says for each frame of the stream why it is not
+/// presented.
 pub fn each_delivery_is_shown()
     ensures in_one_item { (plan : ListenPlan) (records : List Record) → All (IsInOneItem (items_in plan records)) (deliveries_of plan records) }
     ensures shown { (plan : ListenPlan) (records : List Record) (place : ℕ) (made : MadeItem) (item : Item) → slice_get (items_in plan records) place ≡ Some made → made.entry ≡ Entry.Item item
         → shown_of_frame made.last.frame (shown_of plan records) ≡ shown_by made.last (verdict_of plan records place item) ∷ [] }
 {}
 
-/// What is due of the records so far stays, whatever records follow: what is due of more begins with it. If no record
+/// What is due of the records so far stays, whatever records follow: what is due of more records begins with it. If no record
 /// follows, what is shown begins with it.
 pub fn what_is_due_stays()
     ensures longer { (plan : ListenPlan) (records others : List Record) → IsPrefix (due_of plan records) (due_of plan (records ++ others)) }
     ensures first { (plan : ListenPlan) (records : List Record) → IsPrefix (due_of plan records) (shown_of plan records) }
 {}
 
-/// Records that carry packets of a talker that keeps the rules, and of its clock, whichever they are and in any order,
-/// meet the whole premise of the laws below, for each kind of stream, for listeners with the clock and without. Of
-/// H.264, two adjacent fragments, at least one of them without a timestamp, are of packets that are at most 254 apart.
+/// Records that carry packets of a talker that keeps the rules, and of its clock, in any selection and order, meet the whole
+/// premise of the laws below, for each kind of stream, for listeners with the clock and without. For H.264, two adjacent
+/// fragments, at least one of them without a timestamp, must be of packets that are at most 254 apart.
 pub fn carried_packets_are_heard()
     ensures dense { (shift : ℤ) (p : PacketJournal) (plan : ListenPlan) (origins : List Origin) (records : List Record) → IsConforming shift p → p.times.kind ≡ DenseAaf → plan.stream ≡ p.stream → FollowsClock shift p plan.shift plan.clock → AllCarryFrom p plan.lead origins records → HearsTalker shift p plan records }
     ensures sparse { (shift : ℤ) (p : PacketJournal) (plan : ListenPlan) (origins : List Origin) (records : List Record) → IsConforming shift p → p.times.kind ≡ SparseAaf → plan.stream ≡ p.stream → FollowsClock shift p plan.shift plan.clock → AllCarryFrom p plan.lead origins records → HearsTalker shift p plan records }
@@ -60,25 +61,25 @@ pub fn carried_packets_are_heard()
     records_of_both_are_delivered();
 }
 
-/// A listener without a clock, and one with the talker's clock and with what makes its timestamps the journal's points, both
-/// follow the talker.
+/// A listener without a clock follows the talker, and so does one with the talker's clock and the shift that makes its
+/// timestamps the journal's.
 pub fn clocks_are_followed()
     ensures without { (shift added : ℤ) (p : PacketJournal) → FollowsClock shift p added None }
     ensures with_it { (shift : ℤ) (p : PacketJournal) → FollowsClock shift p shift (Some p.clock) }
 {}
 
-/// Fragments are put together truly. Whatever a capture loses, repeats or reorders of the packets of H.264 of a talker
-/// that keeps the rules: each unit that is whole was made of one copy of each packet of one unit of the talker, in
-/// their order, and it has this unit's bytes and its instant. Sequence numbers alone would not tell packets that are
-/// 256 apart; timestamps do, and if fragments have none, that their copies are of packets at most 254 apart.
+/// Fragments are put together truly, whatever a capture loses, repeats or reorders of the H.264 packets of a talker that keeps
+/// the rules: each whole unit was made of one copy of each packet of one unit of the talker, in their order, and has this
+/// unit's bytes and its instant. Sequence numbers alone would not tell packets that are 256 apart; timestamps do, and for
+/// fragments without one, the condition that their packets are at most 254 apart does.
 pub fn units_are_true()
     ensures { (shift : ℤ) (p : PacketJournal) (plan : ListenPlan) (records : List Record) (place : ℕ) (made : MadeItem) (unit : Unit) (part : ℕ → Part) → HearsTalker shift p plan records → p.times.kind ≡ H264 part → slice_get (items_in plan records) place ≡ Some made → made.entry ≡ Entry.Item (Item.Unit unit)
         → (n : ℕ) × IsUnitFrom p part plan.lead n made unit }
 {}
 
-/// Units that came whole are made. If one copy of each packet of a unit of the talker came, in their order and with none of
-/// the stream between, wherever in the capture and with packets of the clock between or not, the unit is among the items,
-/// made of just these copies; each packet carries the unit's first byte, and the unit is within the limits of units.
+/// A unit of which all packets came is made. If one copy of each packet of a unit of the talker came, in their order and with
+/// no other packet of the stream between them, the unit is among the items, made of exactly these copies. Each packet must
+/// carry the unit's first byte, and the unit must be within the limits of units.
 pub fn units_are_whole()
     ensures made { (shift : ℤ) (p : PacketJournal) (plan : ListenPlan) (records : List Record) (part : ℕ → Part) (from n : ℕ) (before front earlier : List Delivery) (last : Delivery) (rest : List Delivery) → HearsTalker shift p plan records → p.times.kind ≡ H264 part
         → deliveries_of plan records ≡ before ++ last ∷ rest → in_stream before ≡ front ++ earlier → AreOfUnit p part plan.lead from n earlier last → Contains (items_in plan records) (unit_by before last) }
@@ -86,23 +87,23 @@ pub fn units_are_whole()
         → deliveries_of plan records ≡ before ++ last ∷ rest → in_stream before ≡ front ++ earlier → AreOfUnit p part plan.lead from n earlier last → (unit_by before last).earlier ≡ earlier }
 {}
 
-/// What is presented is true. Whatever a capture loses, repeats or reorders of the packets of a talker that keeps the
-/// rules and of its clock, and wherever these restart: each batch that is presented is one of the talker's packets or
-/// units, with its bytes, and each of its samples is at the nanosecond of gPTP that the talker gave it, or that is
-/// counted from the timestamp to which it belongs: at the nominal rate, or for a listener with the clock on the line of
-/// the two points of all that cover that timestamp. The packet is the one of which the batch's own item was made.
+/// What is presented is true, whatever a capture loses, repeats or reorders of the packets of a talker that keeps the rules and
+/// of its clock, and wherever these restart. Each batch that is presented is one of the talker's packets or units, with its
+/// bytes, and is the packet that its own item was made of. Each of its samples is at the nanosecond of gPTP that the talker
+/// gave it, or that is counted from the timestamp that it belongs to: at the nominal rate, or for a listener with the clock, on
+/// the line through the two CRF timestamps that cover that timestamp.
 pub fn presented_are_true()
     ensures origin { (shift : ℤ) (p : PacketJournal) (plan : ListenPlan) (records : List Record) → HearsTalker shift p plan records → All (IsHeardFrom (by_clock plan) (items_in plan records) p plan.lead) (presented_of (shown_of plan records)) }
     ensures packet { (shift : ℤ) (p : PacketJournal) (plan : ListenPlan) (records : List Record) → HearsTalker shift p plan records → All (IsOfJournal (by_clock plan) p) (presented_of (shown_of plan records)) }
 {}
 
-/// A batch is at most one packet of the talker, so if it is said that a batch is packet n, no other is meant. A unit of
-/// H.264 has the number of its last packet.
+/// A batch is at most one packet of the talker, so a statement that a batch is packet n can mean no other. A unit of H.264 has
+/// the number of its last packet.
 pub fn batches_have_one_number()
     ensures { (shift : ℤ) (p : PacketJournal) (by : Bool) (n m : ℕ) (batch : Presented) → IsConforming shift p → IsOfPacket by p n batch → IsOfPacket by p m batch → n ≡ m }
 {}
 
-/// No packet of the talker is presented twice, however often it comes and however its sequence number comes again.
+/// No packet of the talker is presented twice, however often it comes and however often its sequence number recurs.
 pub fn no_packet_twice()
     ensures { (shift : ℤ) (p : PacketJournal) (plan : ListenPlan) (records : List Record) → HearsTalker shift p plan records → AllPairs (AreOther (by_clock plan) p) (presented_of (shown_of plan records)) }
 {}
@@ -113,47 +114,45 @@ pub fn first_instants_never_fall()
     ensures { (shift : ℤ) (p : PacketJournal) (plan : ListenPlan) (records : List Record) → HearsTalker shift p plan records → AllPairs ComesBefore (presented_of (shown_of plan records)) }
 {}
 
-/// Any two listeners agree that both have the talker's clock, or both have none. Two captures may lose, repeat and
-/// reorder a talker's packets each in its own way, and two listeners may have other buffers, look further ahead and
-/// expect packets earlier or later: of each packet that both present, they present the same bytes, and each sample at
-/// one nanosecond.
+/// Any two listeners agree if both have the talker's clock, or neither does. Two captures may each lose, repeat and reorder a
+/// talker's packets in its own way, and the listeners may have other buffers, look further ahead and expect packets earlier or
+/// later: for each packet that both present, they present the same bytes, and each sample at one nanosecond.
 pub fn listeners_agree()
     ensures { (shift : ℤ) (p : PacketJournal) (plan other : ListenPlan) (records others : List Record) → HearsTalker shift p plan records → HearsTalker shift p other others → by_clock other ≡ by_clock plan → All (λ a. All (Agree (by_clock plan) p a) (presented_of (shown_of other others))) (presented_of (shown_of plan records)) }
 {}
 
-/// A copy of a packet is presented if its timestamp is known, and with a clock two points that cover it, it came in
-/// time and found room, and no copy of the packet was accepted before, however many others are late, lost or untimed.
+/// A copy of a packet is presented if its timestamp is known, and with a clock two CRF timestamps that cover it, it came in
+/// time and found room, and no copy of the packet was accepted before, however many other packets are late, lost or untimed.
 /// What is presented has the number of its frame.
 pub fn known_and_in_time_is_presented()
     ensures { (shift : ℤ) (p : PacketJournal) (plan : ListenPlan) (records : List Record) (place n : ℕ) (made : MadeItem) → HearsTalker shift p plan records → IsWelcome p plan records place n made → Any (IsPresentedOf (by_clock plan) p n made) (presented_of (shown_of plan records)) }
 {}
 
-/// For a listener without a clock the first packet of an audio stream in a capture is one that must be presented, if it
-/// is stamped, came before it is due, and its bytes fit the room. So something must be presented.
+/// For a listener without a clock, the first packet of an audio stream in a capture must be presented if it is stamped, came
+/// before it is due, and its bytes fit the room. So the headline demands something.
 pub fn first_packet_is_welcome()
     ensures { (shift : ℤ) (p : PacketJournal) (plan : ListenPlan) (records : List Record) (n instant : ℕ) (delivery : Delivery) → HearsTalker shift p plan records → IsAudioKind p.times.kind → plan.clock ≡ None → slice_get (deliveries_of plan records) 0 ≡ Some delivery
         → IsCopyOf p plan.lead n delivery → p.times.stamp n ≡ Some instant → delivery.arrival ≤ℤ pos (p.times.due n) → 1 ≤ plan.buffer → length (carried (p.packet n)) ≤ plan.room → IsWelcome p plan records 0 n (made_of_one delivery) }
 {}
 
-/// Of H.264 the first packet of the stream in a capture is one that must be presented, with the clock or without, if it
-/// has a whole unit, came before that is due, and the unit's bytes fit the room.
+/// The first packet of an H.264 stream in a capture must be presented, with the clock or without, if it has a whole unit, came
+/// before that is due, and the unit's bytes fit the room.
 pub fn first_unit_is_welcome()
     ensures { (shift : ℤ) (p : PacketJournal) (plan : ListenPlan) (records : List Record) (n : ℕ) (part : ℕ → Part) (delivery : Delivery) → HearsTalker shift p plan records → p.times.kind ≡ H264 part → slice_get (deliveries_of plan records) 0 ≡ Some delivery
         → IsCopyOf p plan.lead n delivery → part n ≡ Single → delivery.arrival ≤ℤ pos (p.times.due n) → 1 ≤ plan.buffer → length (unit_bytes p n n) ≤ plan.room → IsWelcome p plan records 0 n (unit_by [] delivery) }
 {}
 
-/// So are the first packets of H.264 together that are all packets of one unit of the talker, in their order, if the
-/// last came before the unit is due, each carries the unit's first byte, the unit is within the limits of units, and
+/// The first packets of an H.264 stream must be presented together if they are all packets of one unit of the talker, in their
+/// order, the last came before the unit is due, each carries the unit's first byte, the unit is within the limits of units, and
 /// its bytes fit the room.
 pub fn first_fragments_are_welcome()
     ensures { (shift : ℤ) (p : PacketJournal) (plan : ListenPlan) (records : List Record) (from n : ℕ) (part : ℕ → Part) (earlier : List Delivery) (last : Delivery) (rest : List Delivery) → HearsTalker shift p plan records → p.times.kind ≡ H264 part → deliveries_of plan records ≡ earlier ++ last ∷ rest
         → AreOfUnit p part plan.lead from n earlier last → last.arrival ≤ℤ pos (p.times.due n) → 1 ≤ plan.buffer → length (unit_bytes p from n) ≤ plan.room → IsWelcome p plan records 0 n (unit_by earlier last) }
 {}
 
-/// For a listener with the clock a packet of an audio stream is one that must be presented that comes after two
-/// adjacent packets of the clock, if the last point of the one and the first of the other cover its timestamp, all came
-/// before its first instant on their line, and its bytes fit the room. So with a clock, too, something must be
-/// presented.
+/// For a listener with the clock, an audio packet that comes after two adjacent packets of the clock must be presented if the
+/// last timestamp of the first and the first of the second cover its timestamp, all came before its first instant on their
+/// line, and its bytes fit the room. So the headline demands something with a clock, too.
 pub fn clocked_packet_is_welcome()
     ensures { (p : PacketJournal) (plan : ListenPlan) (records : List Record) (m n instant : ℕ) (x : ℤ) (first second third : Delivery) → HearsTalker (pos 0) p plan records → IsAudioKind p.times.kind → plan.clock ≡ Some p.clock → plan.look ≡ 0
         → slice_get (deliveries_of plan records) 0 ≡ Some first → slice_get (deliveries_of plan records) 1 ≡ Some second → slice_get (deliveries_of plan records) 2 ≡ Some third
@@ -161,24 +160,24 @@ pub fn clocked_packet_is_welcome()
         → 1 ≤ plan.buffer → length (carried (p.packet n)) ≤ plan.room → IsWelcome p plan records 2 n (made_of_one third) }
 {}
 
-/// If the second packet of an audio stream in a capture is the first one again, and came before it is due too, it is a
-/// further copy, and so it must be flagged as a repeat.
+/// If the second packet of an audio stream in a capture repeats the first, and also came before it is due, it is a further
+/// copy, and must be flagged as a repeat.
 pub fn second_copy_is_further()
     ensures { (shift : ℤ) (p : PacketJournal) (plan : ListenPlan) (records : List Record) (n instant : ℕ) (first second : Delivery) → HearsTalker shift p plan records → IsAudioKind p.times.kind → plan.clock ≡ None → IsWelcome p plan records 0 n (made_of_one first)
         → slice_get (deliveries_of plan records) 0 ≡ Some first → slice_get (deliveries_of plan records) 1 ≡ Some second → IsCopyOf p plan.lead n second → p.times.stamp n ≡ Some instant → second.arrival ≤ℤ pos (p.times.due n)
         → IsFurther p plan records 1 n (made_of_one second) }
 {}
 
-/// A further copy of a packet that was accepted before is flagged as a repeat if it is known and came in time, whether
-/// or not there is room, and nothing else is shown of its frame.
+/// A further copy of a packet that was accepted before is flagged as a repeat if its timestamp is known and it came in time,
+/// whether there is room or not, and nothing else is shown of its frame.
 pub fn further_copies_are_repeats()
     ensures { (shift : ℤ) (p : PacketJournal) (plan : ListenPlan) (records : List Record) (place n : ℕ) (made : MadeItem) → HearsTalker shift p plan records → IsFurther p plan records place n made → shown_of_frame made.last.frame (shown_of plan records) ≡ Flag made.last.frame made.last.seq Repeat ∷ [] }
 {}
 
-/// What is heard of a talker that keeps the rules, all together: whatever a capture loses, repeats or reorders of the
-/// talker's packets, and wherever its clock restarts, each sample whose packet came in time, found room and has a known
-/// timestamp or clock reference is presented, at the talker's own nanosecond, so any two listeners agree; every other packet
-/// that came is flagged with its one reason; samples come in order, once, within fixed buffers.
+/// All that is promised of a talker that keeps the rules, whatever a capture loses, repeats or reorders of its packets, and
+/// wherever its clock restarts: each sample whose packet came in time, found room and has a known timestamp or clock reference
+/// is presented, at the talker's own nanosecond, so any two listeners agree; every other packet that came is flagged with its
+/// one reason; samples come in order, once, within fixed buffers.
 pub fn headline_holds()
     ensures { (shift : ℤ) (p : PacketJournal) (plan : ListenPlan) (records : List Record) → HearsTalker shift p plan records → KeepsHeadline shift p plan records (shown_of plan records) }
 {}

@@ -1,4 +1,4 @@
-//! A listener: what of a stream is presented, at which nanosecond, and why the rest is not, from the bytes of a capture.
+//! A listener: from the bytes of a capture, what of a stream is presented, at which nanosecond, and why the rest is not.
 #![tactic(auto)]
 
 mod blocks;

@@ -24,27 +24,28 @@ use std::alloc::Global;
 use std::marker::Model;
 use thiserror::Error;
 
-/// Why a listener goes no further.
+/// Why a listener stops.
 #[derive(Clone, Copy, Debug, PartialEq, Eq, Error)]
 pub enum ListenFault {
-    /// The capture's first field that is not whole or that is refused. What was accepted before it is heard.
+    /// The capture's first field that is cut off or refused. The records before it are heard.
     #[error("the capture is refused")]
     Refused(Refusal),
-    /// No memory was found for the samples of a packet.
+    /// There was no memory for the samples of a packet.
     #[error("out of memory")]
     Memory,
 }
 
-/// A listener that takes a capture's bytes in pieces of any length, and shows of its records what a `RecordListener` does.
+/// A listener that takes a capture's bytes in pieces of any length, and shows of its records what a `RecordListener` shows.
 ///
-/// After each call all that is due is taken by `next_out` before more is fed. Memory is reserved when the listener is made;
-/// later each packet's samples are copied once, into the batch that is shown, and only a record that is cut is copied before.
+/// After each call the caller takes all that is due by `next_out` before it feeds more. Memory is reserved when the listener is
+/// made. Later each packet's samples are copied once, into the batch that is shown, and only a record that is cut between
+/// pieces is copied before.
 #[derive(Drop)]
 pub struct Listener {
     reader: Reader,
     listener: RecordListener,
-    /// What is due next. It is taken out of the judge before it is asked for, so that `feed` can tell that something is
-    /// due and only then answers 0; the counts are the judge's without this item.
+    /// What is due next. It is taken from the judge ahead of the request, so that `feed` can tell whether something is due;
+    /// only then does it return 0. The counts are the judge's without this item.
     next: Option<Shown>,
     out_of_memory: bool,
 }
@@ -61,7 +62,7 @@ impl Model for Listener {
 }
 
 impl Listener {
-    /// A listener that was fed nothing. The plan is within the limits that `ListenPlan` names.
+    /// A new listener. The plan is within the limits that `ListenPlan` names.
     pub fn begin(alloc: Global, plan: ListenPlan) -> Result<Self, NoMemory>
         requires plan { IsPlan (schedule_plan plan) }
         ensures stands { IfOk result (StandsFor [] 0) }
@@ -80,13 +81,13 @@ impl Listener {
         })
     }
 
-    /// Takes bytes up to the end of one record or of the piece, and answers how many. At most 2^62 bytes may be taken, and the
-    /// listener was not ended.
+    /// Takes bytes up to the end of one record or of the piece, and returns how many. At most 2^62 bytes may be taken, and the
+    /// listener must not have been ended.
     ///
-    /// If no fault is answered, `Ok(0)` comes exactly if the piece is empty or something is due. `Refused` is the
-    /// capture's first refusal and comes as soon as the bytes so far show it; what was accepted stays, and may be
-    /// ended. `Memory` comes if no memory is found for the samples of the record that was read; the record makes no
-    /// item then, and every later `feed` and `end` answers `Memory`.
+    /// Without a fault, `Ok(0)` comes exactly if the piece is empty or something is due. `Refused` is the capture's first
+    /// refusal and comes as soon as the bytes so far show it; what was accepted stays, and may be ended. `Memory` comes if
+    /// there is no memory for the samples of the record that was read; the record makes no item then, and every later `feed`
+    /// and `end` returns `Memory`.
     pub fn feed(&mut self, alloc: Global, piece: &[u8]) -> Result<usize, ListenFault>
         requires open { is_ended self.old ≡ false }
         requires bounded { taken self.old.reader + length piece.now ≤ 2 ^ 62 }
@@ -141,8 +142,8 @@ impl Listener {
         }
     }
 
-    /// The next item that is shown of the bytes so far: while more may follow, of what is due, and after `end` of all.
-    /// None comes exactly if all of that was given. Takes no memory.
+    /// The next item that is shown of the bytes so far: before `end` only of what is due, after it of all. `None` comes exactly
+    /// if all of that was given. Allocates nothing.
     pub fn next_out(&mut self) -> Option<Shown>
         ensures given { (bytes : List ℕ) (given : ℕ) → StandsFor bytes given self.old → result ≡ slice_get (out self.old bytes) given }
         ensures stands { (bytes : List ℕ) (given : ℕ) → StandsFor bytes given self.old → StandsFor bytes (given + length (option_to_list result)) self.new }
@@ -158,11 +159,11 @@ impl Listener {
         Some(shown)
     }
 
-    /// Says that the capture ends with the bytes so far, and makes the rest due. Nothing is due before, and the listener was
-    /// not ended. Takes no memory.
+    /// Ends the capture after the bytes so far, and makes the rest due. Nothing may be due before, and the listener must not
+    /// have been ended. Allocates nothing.
     ///
-    /// `Refused` is the capture's first field that is not whole or that is refused, if there is one; what is shown is of the
-    /// records before it. After `Memory` by `feed` it answers `Memory` and changes nothing.
+    /// `Refused` is the capture's first field that is cut off or refused, if there is one; only the records before it are
+    /// shown. After `Memory` by `feed` it returns `Memory` and changes nothing.
     pub fn end(&mut self) -> Result<(), ListenFault>
         requires open { is_ended self.old ≡ false }
         requires quiet { IsQuiet self.old }
@@ -183,7 +184,7 @@ impl Listener {
         }
     }
 
-    /// The numbers of the records so far, of those that belong to the stream, and of the batches and flags that were given.
+    /// The numbers of records so far, of those that belong to the stream, and of the batches and flags that were given.
     pub fn counts(&self) -> Counts
         ensures { (bytes : List ℕ) (given : ℕ) → StandsFor bytes given self.now → result ≡ counts_of self.now.listener.plan (whole_records bytes) (take given (out self.now bytes)) }
     {
@@ -195,8 +196,8 @@ impl Listener {
     }
 }
 
-/// Gives the next record to the listener without a copy: these are its bytes. If no memory is found, the reader is as
-/// it was.
+/// Gives the next record, whose bytes these are, to the listener without a copy. If there is no memory, the reader is
+/// unchanged.
 fn take_lent(
     alloc: Global,
     reader: &mut Reader,
@@ -219,8 +220,7 @@ fn take_lent(
     Ok(())
 }
 
-/// Gives the record that the reader holds to the listener, if there is one. If no memory is found, the reader still
-/// holds it.
+/// Gives the record that the reader holds to the listener, if there is one. If there is no memory, the reader still holds it.
 fn take_held(
     alloc: Global,
     reader: &mut Reader,

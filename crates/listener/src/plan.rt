@@ -10,13 +10,13 @@ use sample_schedule::SchedulePlan;
 pub struct ListenPlan {
     /// The id of the stream.
     pub stream: u64,
-    /// The id of the stream's media clock, if its samples are counted on the clock's lines.
+    /// The id of the stream's media clock, if its timestamps time the samples.
     pub clock: Option<u64>,
     /// The most batches that wait for their presentation time, 1 to 65,536.
     pub buffer: u32,
     /// The most bytes that they have together, 1 to 1,073,741,824.
     pub room: u32,
-    /// How many further items an item waits for before it is judged, 0 to 64.
+    /// How many later items are read before an item is judged, 0 to 64.
     pub look: u32,
     /// How long before its presentation time a packet is expected (the max transit time), at most 1,000,000,000 ns.
     pub lead: u32,

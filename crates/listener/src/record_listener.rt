@@ -29,13 +29,12 @@ use sample_schedule::{Judge, Shown};
 use std::alloc::Global;
 use std::marker::Model;
 
-/// A listener that is given a capture's records one at a time, in the capture's order, and shows each item of the stream once:
-/// presented, or flagged with the first reason why not. It shows an item as soon as no further record can change that.
+/// A listener that takes a capture's records one at a time, in the capture's order, and shows each item of the stream once:
+/// presented, or flagged with the first reason why not. It shows an item as soon as no later record can change that.
 ///
-/// After each record, and after `close`, all that is due is taken by `next_out` before the listener is given more. A
-/// record may give up to 4,097 items, since it may give up fragments of H.264; they are judged one after another by
-/// `next_out`. Memory is reserved when it is made; later each packet's samples, and each whole unit, are copied once,
-/// into the batch that is shown.
+/// After each record, and after `close`, the caller takes all that is due by `next_out` before it gives more. A record may give
+/// up to 4,097 items, because it may give up fragments of H.264; `next_out` judges them one after another. Memory is reserved
+/// when the listener is made. Later each packet's samples, and each whole unit, are copied once, into the batch that is shown.
 #[derive(Drop)]
 pub struct RecordListener {
     plan: ListenPlan,
@@ -44,8 +43,8 @@ pub struct RecordListener {
     ended: bool,
     /// The judge was told that nothing follows.
     closed: bool,
-    /// All that is due was given, and nothing came since that could change that: only a record of the stream or its
-    /// clock, or the end, can. After a record of another stream the judge is not asked.
+    /// All that is due was given, and nothing came since that could change that: only a record of the stream or its clock, or
+    /// the end, can. After a record of another stream the judge is not called.
     idle: bool,
     counts: Counts,
 }
@@ -59,14 +58,14 @@ impl Model for RecordListener {
 
     ghost view = { λ listener. record { plan = listener.plan; units = listener.units; judge = listener.judge; ended = listener.ended; counts = listener.counts } };
 
-    // The counts do not run over: there are some records for which the listener stands, and a stream shows no more
-    // items than there are records.
+    // The counts do not overflow: some records make up the listener's state, and a stream shows at most as many items as there
+    // are records.
     ghost invariant = { λ listener. IsSound (record { plan = listener.plan; units = listener.units; judge = listener.judge; ended = listener.ended; counts = listener.counts }) × (listener.closed ≡ listener.judge.closed)
         × (listener.idle ≡ true → Rests (record { plan = listener.plan; units = listener.units; judge = listener.judge; ended = listener.ended; counts = listener.counts })) };
 }
 
 impl RecordListener {
-    /// A listener that was given no record. The plan is within the limits that `ListenPlan` names.
+    /// A new listener. The plan is within the limits that `ListenPlan` names.
     pub fn begin(alloc: Global, plan: ListenPlan) -> Result<Self, NoMemory>
         requires plan { IsPlan (schedule_plan plan) }
         ensures stands { IfOk result (StandsFor [] 0) }
@@ -88,11 +87,11 @@ impl RecordListener {
         })
     }
 
-    /// Takes the next record. Nothing is due of those before it, fewer than 2^62 were taken, and the listener is not closed.
-    /// The record's time is from 0 to 2^62 ns.
+    /// Takes the next record. Nothing may be due of those before it, fewer than 2^62 were taken, and the listener is not
+    /// closed. The record's time is from 0 to 2^62 ns.
     ///
-    /// A record that belongs neither to the stream nor to its clock is counted and passed. `NoMemory` comes if no
-    /// memory is found for the packet's samples or the unit; the listener is then as it was.
+    /// A record that belongs neither to the stream nor to its clock is counted and skipped. `NoMemory` comes if there is no
+    /// memory for the packet's samples or the unit; the listener is then unchanged.
     pub fn take_record(&mut self, alloc: Global, held: &RecordView<'_>) -> Result<(), NoMemory>
         requires open { is_closed self.old ≡ false }
         requires idle { IsIdle self.old }
@@ -118,8 +117,8 @@ impl RecordListener {
         }
     }
 
-    /// The next item that is shown of the records so far: while further ones may follow, of what is due, and once the
-    /// listener is closed of all. None comes exactly if all of that was shown. Takes no memory.
+    /// The next item that is shown of the records so far: before `close` only of what is due, after it of all. `None` comes
+    /// exactly if all of that was shown. Allocates nothing.
     #[inline(always)]
     pub fn next_out(&mut self) -> Option<Shown>
         ensures given { (records : List Record) (given : ℕ) → StandsFor records given self.old → result ≡ slice_get (out self.old records) given }
@@ -144,7 +143,7 @@ impl RecordListener {
         next
     }
 
-    /// Puts the next item that is shown into an empty place. Mostly there is none, and nothing is moved.
+    /// Puts the next item that is shown into an empty place. Usually there is none, and nothing is moved.
     #[inline(always)]
     pub(crate) fn put_next(&mut self, next: &mut Option<Shown>)
         requires { next.old ≡ None }
@@ -162,7 +161,7 @@ impl RecordListener {
         }
     }
 
-    /// Says that no record follows. Nothing is due of the records so far. Takes no memory.
+    /// Ends the list of records. Nothing may be due of the records so far. Allocates nothing.
     pub fn close(&mut self)
         requires open { is_closed self.old ≡ false }
         requires idle { IsIdle self.old }
@@ -185,7 +184,8 @@ impl RecordListener {
     }
 }
 
-/// Takes a delivery: points of the clock are judged, and of what one of the stream gives the first item; the others wait.
+/// Takes a delivery: timestamps of the clock are judged, and the first item that a delivery of the stream gives; the others
+/// wait.
 #[inline(always)]
 fn take_delivery(
     alloc: Global,
@@ -214,8 +214,8 @@ fn take_delivery(
     Ok(())
 }
 
-/// The next item that is shown, for which the items that wait are judged one after another, and the judge is closed
-/// once all items of a list that has ended are judged.
+/// The next item that is shown. The items that wait are judged for it one after another, and once all items of a list that has
+/// ended are judged, the judge is closed.
 #[inline(always)]
 fn next_shown(units: &mut Units, judge: &mut Judge, ended: bool, closed: &mut bool) -> Option<Shown>
     requires closed { closed.old ≡ judge.old.closed }
@@ -240,7 +240,7 @@ fn next_shown(units: &mut Units, judge: &mut Judge, ended: bool, closed: &mut bo
     }
 }
 
-/// Gives the judge the next item that waits, or, if none does and the list has ended, closes it. Whether it did either.
+/// Gives the judge the next item that waits, or closes it if none does and the list has ended. Returns whether it did either.
 #[inline(always)]
 fn judge_next(units: &mut Units, judge: &mut Judge, ended: bool, closed: &mut bool) -> bool
     requires idle { IsIdleJudge judge.old }
@@ -260,7 +260,7 @@ fn judge_next(units: &mut Units, judge: &mut Judge, ended: bool, closed: &mut bo
     }
 }
 
-/// Closes the judge, if the list has ended and it was not closed before. Whether it did.
+/// Closes the judge, if the list has ended and it was not closed before. Returns whether it did.
 fn close_ended(judge: &mut Judge, ended: bool, closed: &mut bool) -> bool
     requires idle { IsIdleJudge judge.old }
     requires closed { closed.old ≡ judge.old.closed }

@@ -25,8 +25,8 @@ use std::alloc::Global;
 use std::marker::Model;
 use time_unfold::unfold;
 
-/// Puts the units of a stream together, and holds the items that the last delivery gave, until they are taken: the fragments
-/// that it gave up, and then its own item. Memory for the fragments is reserved when it is made.
+/// Puts the units of a stream together, and holds the items that the last delivery gave until they are taken: the fragments
+/// that it gave up, and then its own item. Memory for the fragments is reserved at the start.
 #[derive(Drop)]
 pub struct Units {
     assembler: Assembler,
@@ -106,7 +106,7 @@ fn flaw(view: &CvfView<'_>) -> Option<Reason>
     None
 }
 
-/// When a packet is presented.
+/// The presentation time of a packet.
 fn instant_of(delivery: &DeliveryView<'_>, view: &CvfView<'_>) -> i64
     requires { IsArrival delivery.now.arrival }
     ensures value { result ≡ unfolded view.now.header.timestamp delivery.now.arrival }
@@ -126,7 +126,7 @@ fn stamp_of(delivery: &DeliveryView<'_>, view: &CvfView<'_>) -> Option<i64>
     }
 }
 
-/// The bytes of a unit, in memory that was found for them.
+/// The bytes of a unit, in memory that was allocated for them.
 fn unit_bytes(mut bytes: Vec<u8>, unit: &[u8]) -> Bytes
     requires { vec_len bytes + length unit.now ≤ vec_capacity bytes }
     ensures { result ≡ bytes.items ++ unit.now }
@@ -137,7 +137,7 @@ fn unit_bytes(mut bytes: Vec<u8>, unit: &[u8]) -> Bytes
     Bytes::over(bytes)
 }
 
-/// The item of a packet that makes these bytes a unit, or waits, or is lost. Memory was found for the unit.
+/// The item of a packet that completes a unit of these bytes, or waits, or is lost. Memory for the unit is allocated already.
 fn own_item(
     delivery: &DeliveryView<'_>,
     view: &CvfView<'_>,
@@ -179,7 +179,7 @@ impl Units {
         })
     }
 
-    /// No unit goes on over a delivery with this item.
+    /// Ends the current unit before a delivery with this item, so that no unit continues across it.
     #[inline(always)]
     fn cut(&mut self, item: Item)
         requires { IsItem item }
@@ -191,7 +191,7 @@ impl Units {
         self.own = Some(item);
     }
 
-    /// What `cut` does, and answers the first item that is given; the others wait.
+    /// Like `cut`, and returns the first resulting item; the others are queued.
     #[inline(always)]
     fn cut_first(&mut self, item: Item) -> Option<Item>
         requires { IsItem item }
@@ -209,8 +209,8 @@ impl Units {
         self.next()
     }
 
-    /// A packet begins a unit, or goes on with one, or is lost. `NoMemory` comes if no memory is found for the unit
-    /// that it makes whole, which is reserved before the packet is pushed.
+    /// A packet begins a unit, continues one, or is lost. `NoMemory` comes if there is no memory for the unit that it
+    /// completes, which is reserved before the packet is pushed.
     fn push(
         &mut self,
         alloc: Global,
@@ -234,10 +234,10 @@ impl Units {
         Ok(())
     }
 
-    /// Takes the next delivery of the stream, after all items that those before it gave were taken. Answers the first
-    /// item that it gives, if it gives one; the others, which only H.264 has, wait.
+    /// Takes the next delivery of the stream, after all items of the earlier ones were taken. Returns the first item that it
+    /// gives, if any; the others, which only H.264 has, are queued.
     ///
-    /// `NoMemory` comes if no memory is found for a packet's samples or for a unit; nothing changes then.
+    /// `NoMemory` comes if there is no memory for a packet's samples or for a unit; then nothing changes.
     #[inline(always)]
     pub fn take_delivery(
         &mut self,
@@ -259,7 +259,7 @@ impl Units {
         Ok(self.next())
     }
 
-    /// Takes the next delivery of the stream, which is one of H.264.
+    /// Takes the next delivery of an H.264 stream.
     fn take_video(&mut self, alloc: Global, delivery: &DeliveryView<'_>) -> Result<(), NoMemory>
         requires video { delivery.now.subtype ≡ cvf_subtype }
         requires arrival { IsArrival delivery.now.arrival }
@@ -292,7 +292,7 @@ impl Units {
         Ok(())
     }
 
-    /// Nothing follows: the fragments that wait are given up.
+    /// Ends the stream: the fragments that wait are given up.
     pub fn end(&mut self)
         ensures gives { (ds : List Delivery) → HasUnits ds self.old → map item_entry (left self.new) ≡ map made_entry (left_at_end ds) }
     {
@@ -302,7 +302,7 @@ impl Units {
         self.own = None;
     }
 
-    /// The next item that the last delivery gave, or the end. Takes no memory.
+    /// The next item that the last delivery, or the end, gave. Allocates nothing.
     #[inline(always)]
     pub fn next(&mut self) -> Option<Item>
         ensures stands { (ds : List Delivery) → HasUnits ds self.old → HasUnits ds self.new }

@@ -42,7 +42,7 @@ impl Receiver for Flags {
     }
 }
 
-/// Counts what it is handed.
+/// Counts the items that it gets.
 #[derive(Drop)]
 struct Counted {
     items: u64,

@@ -65,7 +65,7 @@ record IsOfStream (subtype stream : ℕ) (bytes : List ℕ) : Type 0 where
   valid : is_set 1 0 bytes ≡ true
   id : bits 4 0 64 bytes ≡ stream
 
--- the header shows it
+-- the header of a delivery shows that it is of the stream
 of_stream : (j : Journal) (subtype stream n : ℕ) (h : StreamHeader) (bytes : List ℕ) → kind_refusal subtype bytes ≡ None → IsHeader j stream n h → h.subtype ≡ subtype
     → bits 0 0 8 bytes ≡ h.subtype → bits 1 0 1 bytes ≡ flag h.sv → bits 4 0 64 bytes ≡ h.stream_id → IsOfStream subtype stream bytes
 of_stream j subtype stream n h bytes accepted is kind a b c = record {
@@ -185,7 +185,7 @@ clock_belongs shift p m r is c =
 pub clock_copy_of : (p : PacketJournal) (m i : ℕ) (r : Record) → CarriesClock p m r → IsClockCopyOf p m (delivery i r)
 clock_copy_of p m i r c = record { known = c.known; spelled = rw (clock_frame_is p m r c).payload_is c.packet }
 
--- deliveries of records, some of those of the clock maybe left out
+-- deliveries of records, possibly without some of the clock's
 record AreKept (p : PacketJournal) (lead : ℕ) (numbers : List ℕ) (ds : List Delivery) : Type 0 where
   origins : List Origin
   copies : AreFrom p lead origins ds

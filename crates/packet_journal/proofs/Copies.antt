@@ -1,4 +1,4 @@
--- What is read of a copy is what was sent.
+-- A copy is read as the packet that was sent.
 use Rattle.std.proofs.Common.{ℕ, ℤ, List, ◌++◌}
 use Rattle.avtp_base.specs.Layout.{Fits}
 use Rattle.aaf_format.specs.Aaf.{Aaf, IsWritableAaf, SpellsAaf, aaf_layout, aaf_spelling, plain_aaf}

@@ -1,4 +1,4 @@
--- Each packet of H.264 is one of a unit.
+-- Each packet of H.264 belongs to a unit.
 use Rattle.std.proofs.Common.{◌≡◌, ◌⊎◌, inl, inr, ℕ, zero, suc, ◌+◌, ◌-◌, ◌<◌, ◌≤◌, refl, sym, ap, ◌∙◌, subst, arith}
 use Rattle.std.proofs.lemmas.Bool.{cases_lt}
 use Rattle.stream_journal.specs.Conforming.{Begins, Ends, IsVideo}
@@ -116,7 +116,7 @@ both_open part from n to first second k low high = elim (cases_lt k n) [
 
 -- ---- the unit
 
--- a packet after one that ends no unit begins none
+-- a packet after one that ends no unit begins no unit
 inside_of : (j : Journal) (part : ℕ → Part) → IsVideo j part → (from to k : ℕ) → AreOpen part from to → to < j.packets → from < k → k ≤ to → Begins (part k) → ⊥
 inside_of j part is from to zero inner known low high begins = absurd (omega arith)
 inside_of j part is from to (suc k) inner known low high begins = inner k (omega arith) (omega arith) ((is.beside k (omega arith)).1 begins)

@@ -11,7 +11,7 @@ pub record Spells (packet bytes : List ℕ) : Type 0 where
   pub trail : List ℕ
   pub whole : bytes ≡ packet ++ trail
 
--- A delivery is a copy of packet n, and arrived near enough to the packet's instant to be told from others.
+-- A delivery is a copy of packet n, and arrived near enough to the packet's instant to be told from copies of other packets.
 pub record IsCopyOf (p : PacketJournal) (lead n : ℕ) (d : Delivery) : Type 0 where
   pub arrival : ℕ
   pub arrived : d.arrival ≡ pos arrival

@@ -31,7 +31,7 @@ is_avtp bytes =
     && ((frame_of bytes).ethertype == avtp_ethertype)
     && nat_le 12 (length (packet_in bytes))
 
--- a packet's subtype is one of these, and its stream id is valid and this one
+-- a packet's subtype is one of these, and its stream id is valid and equal to this one
 abbrev pub is_wanted : List ℕ → ℕ → Peeked → Bool
 is_wanted kinds id peeked = list_any (λ kind. peeked.subtype == kind) kinds && peeked.sv && (peeked.stream_id == id)
 

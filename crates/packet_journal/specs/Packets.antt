@@ -28,8 +28,8 @@ pub record PacketJournal : Type 0 where
 
 -- ---- which packets belong to which times
 
--- The header of packet n of a stream (IEEE 1722-2016, 4.4.4): the low 8 bits of the packet's number, the low 32 bits of
--- its timestamp if it has one, tu 0, and the journal's restart bit.
+-- The header of packet n of a stream (IEEE 1722-2016, 4.4.4): the low 8 bits of the packet's number, the low 32 bits of its
+-- timestamp if it has one, tu 0, and the journal's restart bit.
 pub record IsHeader (j : Journal) (stream n : ℕ) (h : StreamHeader) : Type 0 where
   pub valid_id : h.sv ≡ true
   pub id : h.stream_id ≡ stream
@@ -91,8 +91,8 @@ IsPacket (H264 part) j stream n (H264Data v) = IsCvfPacket j (part n) stream n v
 abbrev pub audio_sample_type : ℕ
 audio_sample_type = 1
 
--- Packet m of a clock (IEEE 1722-2016, 10): of the type for audio samples, with tu 0, the clock's base frequency, pull
--- and interval, and the packet's restart bit. What listeners add to its timestamps makes them its points.
+-- Packet m of a clock (IEEE 1722-2016, 10): of the type for audio samples, with tu 0, the clock's base frequency, pull and
+-- interval, and the packet's restart bit. Its timestamps plus what listeners add to them are its points.
 pub record IsClockPacket (c : ClockJournal) (shift : ℤ) (id m : ℕ) (v : Crf) : Type 0 where
   pub writable : IsWritableCrf v
   pub fits : Fits crf_layout v
@@ -108,8 +108,8 @@ pub record IsClockPacket (c : ClockJournal) (shift : ℤ) (id m : ℕ) (v : Crf)
   pub size : length v.payload ≡ 8 * length (c.points m)
   pub points : (i : ℕ) → i < length (c.points m) → pos (get_or (c.points m) i 0) ≡ pos (point_at i v.payload) +ℤ shift
 
--- The talker keeps the rules: its times conform, and its packets are those of its times. `shift` is what listeners add to
--- the clock's timestamps.
+-- The talker keeps the rules: its times conform, and its packets have these times. `shift` is what listeners add to the clock's
+-- timestamps.
 pub record IsConforming (shift : ℤ) (p : PacketJournal) : Type 0 where
   pub times : Conforms p.times
   pub packets : (n : ℕ) → n < p.times.packets → IsPacket p.times.kind p.times p.stream n (p.packet n)
@@ -117,7 +117,7 @@ pub record IsConforming (shift : ℤ) (p : PacketJournal) : Type 0 where
 
 -- ---- bytes
 
--- the canonical spelling of a packet, with every reserved bit 0
+-- the canonical encoding of a packet, with every reserved bit 0
 abbrev pub spelling_of : PacketView → List ℕ
 spelling_of (Pcm v) = aaf_spelling v
 spelling_of (Am824Data v) = iec_spelling v

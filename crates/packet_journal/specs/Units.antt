@@ -15,7 +15,7 @@ pub record AreFragments (part : ℕ → Part) (from to : ℕ) : Type 0 where
 abbrev pub AreUnit : (ℕ → Part) → ℕ → ℕ → Type 0
 AreUnit part from to = ((from ≡ to) × (part to ≡ Single)) ⊎ AreFragments part from to
 
--- the first byte of the unit of which a packet of H.264 has a part
+-- the first byte of the unit that a packet of H.264 has a part of
 abbrev pub first_byte : PacketView → List ℕ
 first_byte (Pcm v) = []
 first_byte (Am824Data v) = []

@@ -1,4 +1,4 @@
-//! Small journals with their packets, and whether they keep the rules. Each call is its contract, and does nothing.
+//! Small journals with their packets, and whether they keep the rules. Each call only states its contract, and does nothing.
 
 ghost use Rattle.std.specs.Prelude.{pos};
 ghost use Rattle.packet_journal.specs.Packets.{IsConforming};

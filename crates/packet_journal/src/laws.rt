@@ -1,4 +1,4 @@
-//! Laws of packets and their copies. Each call is its contract, and does nothing.
+//! Laws of packets and their copies. Each call only states its contract, and does nothing.
 
 ghost use Rattle.std.specs.Prelude.{◌≡◌, ◌<◌, ℕ, ℤ, true, List, Option};
 ghost use Rattle.pcap_frames.specs.Capture.{Record};
@@ -12,7 +12,7 @@ ghost use Rattle.packet_journal.specs.Delivered.{Delivers, IsClockCopyOf, IsCopy
 ghost use Rattle.packet_journal.specs.Carried.{AllCarry, AllCarryFrom, Carries, CarriesClock, IsReadKind};
 ghost use Rattle.packet_journal.specs.Laws.{IsClockReadAs, IsReadAs};
 
-/// What a listener reads of a copy of a packet is the packet that was sent, whatever trailing bytes the copy has.
+/// A listener reads a copy of a packet as the packet that was sent, whatever trailing bytes the copy has.
 pub fn copies_are_read()
     ensures packet { (shift : ℤ) (p : PacketJournal) (lead n : ℕ) (d : Delivery) → IsConforming shift p → IsCopyOf p lead n d → IsReadAs (p.packet n) d.packet }
     ensures clock { (shift : ℤ) (p : PacketJournal) (m : ℕ) (d : Delivery) → IsConforming shift p → IsClockCopyOf p m d → IsClockReadAs (p.clock_packet m) d.packet }
@@ -20,8 +20,8 @@ pub fn copies_are_read()
     cvf_format::laws::packet_again();
 }
 
-/// A record that carries a packet of a conforming talker belongs to the talker's stream, if the kind is one of those
-/// that belong to a stream, and its delivery is a copy of the packet.
+/// A record that carries a packet of a conforming talker belongs to the talker's stream, if the kind is one that listeners
+/// read, and its delivery is a copy of the packet.
 pub fn carried_packet_is_delivered()
     ensures belongs { (shift : ℤ) (p : PacketJournal) (lead n : ℕ) (r : Record) → IsConforming shift p → IsReadKind p.times.kind → Carries p lead n r → belongs stream_kinds p.stream r.bytes ≡ true }
     ensures copy { (p : PacketJournal) (lead n frame : ℕ) (r : Record) → Carries p lead n r → IsCopyOf p lead n (delivery frame r) }
@@ -29,15 +29,15 @@ pub fn carried_packet_is_delivered()
     cvf_format::laws::packet_again();
 }
 
-/// Records whose frames carry packets of a conforming talker, captured in time, deliver its journal, whichever packets
-/// they are, if the kind is one of those that belong to a stream.
+/// Records whose frames carry packets of a conforming talker, captured in time, deliver its journal, whichever packets they
+/// are, if the kind is one that listeners read.
 pub fn carried_packets_are_delivered()
     ensures { (shift : ℤ) (p : PacketJournal) (clock : Option ℕ) (lead : ℕ) (numbers : List ℕ) (records : List Record) → IsConforming shift p → IsReadKind p.times.kind → AllCarry p lead numbers records → AreNear p.times numbers → Delivers p clock lead records }
 {
     cvf_format::laws::packet_again();
 }
 
-/// A record that carries a packet of the clock of a conforming talker is one of the clock's, by its kind and its id, and its
+/// A record that carries a packet of the clock of a conforming talker belongs to the clock, by its kind and its id, and its
 /// delivery is a copy of the packet.
 pub fn carried_clock_packet_is_delivered()
     ensures belongs { (shift : ℤ) (p : PacketJournal) (m : ℕ) (r : Record) → IsConforming shift p → CarriesClock p m r → belongs clock_kinds p.clock r.bytes ≡ true }
@@ -52,8 +52,8 @@ pub fn records_of_both_are_delivered()
     cvf_format::laws::packet_again();
 }
 
-/// Each packet of H.264 is one of those of a unit, all of which the talker sent: a first fragment, then only middle ones, then a
-/// last one, or one packet with a whole unit.
+/// Each packet of H.264 belongs to one unit, of which the talker sent all packets: a first fragment, then only middle ones,
+/// then a last one, or one packet with a whole unit.
 pub fn packets_are_of_units()
     ensures { (j : Journal) (part : ℕ → Part) (n : ℕ) → IsVideo j part → n < j.packets → IsInUnit j part n }
 {}

@@ -13,7 +13,7 @@ use Rattle.pcap_frames.specs.state.Reading.{ending, ending_by}
 use Rattle.pcap_frames.proofs.Fields.{file_whole, record_whole, nothing_held, record_begins}
 use Rattle.pcap_frames.proofs.Steps.{reading}
 
--- one record more at the end
+-- one more record at the end
 spells_more : (style : Style) (records : List Record) (r : Record) (bytes last : List ℕ) → SpellsAll style records bytes → Spells style r last → SpellsAll style (records ++ r ∷ []) (bytes ++ last)
 spells_more style [] r bytes last all one = (last, [], rw all (sym (append-nil last)), one, refl)
 spells_more style (x ∷ records) r bytes last all one =
@@ -69,7 +69,7 @@ record_partial style start b part bytes records (Some r) e p f = inr (record {
   refused = rw f.begins e;
 })
 
--- where the capture ends with the bytes that were taken, they hold the released and the held records
+-- if the capture ends with the bytes that were taken, they hold the released and the held records
 pub ends_by : (refusal : Option Refusal) (style : Option Style) (start : ℕ) (part bytes : List ℕ) (records : List Record) → StandsFor refusal style start part bytes records → IsReading refusal style start part
     → Holds bytes (records ++ option_to_list (held_by refusal style start part)) (ending_by refusal style start part)
 ends_by (Some r) style start part bytes records stands keeps = rw append-nil stands
@@ -103,7 +103,7 @@ gives_up (Some r) style start part next bytes records some none h = absurd (cc)
 gives_up None None start part next bytes records some none h = absurd (cc)
 gives_up None (Some style) start part next bytes records some none h = given_up style start part next bytes records (record_refusal style.order start part) refl some none h
 
--- none is held where nothing has come of the next
+-- none is held if nothing has come of the next
 pub free_held : (refusal : Option Refusal) (style : Option Style) (start : ℕ) (part : List ℕ) → part ≡ [] → held_by refusal style start part ≡ None
 free_held (Some r) style start part none = refl
 free_held None None start part none = refl

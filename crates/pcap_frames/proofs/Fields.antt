@@ -15,7 +15,7 @@ pub record_whole : (order : Order) (start : ℕ) (bytes : List ℕ) → record_r
 unfolding record_refusal
 record_whole order start bytes h = grind (arith, nat_tests)
 
--- a length of more than the limit is refused as soon as it stands there
+-- a length of more than the limit is refused as soon as it is there
 pub record_limit : (order : Order) (start : ℕ) (bytes : List ℕ) → 12 ≤ length bytes → certain (record_refusal order start bytes) ≡ None → number_at order 8 4 bytes ≤ 262144
 unfolding record_refusal
 record_limit order start bytes long h = grind (arith, nat_tests)
@@ -41,7 +41,7 @@ record_empty : (order : Order) (start : ℕ) → certain (record_refusal order s
 unfolding record_refusal
 record_empty order start = refl
 
--- no record is held where nothing has come of it
+-- no record is held if nothing has come of it
 pub nothing_held : (style : Style) (start : ℕ) → whole_record style start [] ≡ None
 unfolding record_refusal
 nothing_held style start = refl
@@ -129,7 +129,7 @@ certain_by : (r why : Refusal) (b : Bool) → r.short ≡ b → cond b None (Som
 certain_by r why true s e = absurd (cc)
 certain_by r why false s e = let same : r ≡ why = cc in (e, rw (← same) s)
 
--- a refusal that stands is the first one, of a field that is whole
+-- a refusal that stays is the first one, of a field that is whole
 pub certain_is : (x : Option Refusal) (why : Refusal) → certain x ≡ Some why → (x ≡ Some why) × (why.short ≡ false)
 certain_is None why e = absurd (cc)
 certain_is (Some r) why e = certain_by r why r.short refl e

@@ -29,7 +29,7 @@ whole_front order start bytes size is limit fits =
     let same = number_front order bytes size (omega arith) fits in
     record_fits order start (take size bytes) (omega arith) (omega arith)
 
--- what has come of it
+-- what has come of a record that is complete at the front of the bytes
 pub whole_part : (order : Order) (start : ℕ) (bytes : List ℕ) (size : ℕ) → size ≡ 16 + number_at order 8 4 bytes → size ≤ 262160 → size ≤ length bytes → IsPart order start (take size bytes)
 whole_part order start bytes size is limit fits =
     let long : length (take size bytes) ≡ size = length-take-le size bytes fits in
@@ -82,7 +82,7 @@ fill_advances r s piece n next none styled part fills =
       end = λ less. is_held_by r.refusal r.style s r.start next none styled (fills.whole less);
     }
 
--- or refused
+-- bytes are added to a record, or it is refused
 pub fill_refused : (r : Reading) (s : Style) (piece : List ℕ) (why : Refusal) (next : List ℕ) → r.refusal ≡ None → r.style ≡ Some s → Fills s.order r.start r.part piece (Err why) next
     → Advances (progress r) piece (Err why) (progress (record r { part = next; refusal = Some why }))
 fill_refused r s piece why next none styled fills =

@@ -1,4 +1,4 @@
--- Records that were given up stay the first of the capture's, however it goes on.
+-- Records that were given up stay the first of the capture's, whatever follows.
 use Rattle.std.proofs.Common.{◌≡◌, ℕ, zero, suc, ◌≤◌, List, [], ◌∷◌, ◌++◌, length, take, drop, Option, Some, None, refl, sym, ap, ◌∙◌, arith, append_assoc, length-append}
 use Rattle.std.proofs.lemmas.List.{append-nil, take_at, drop_at}
 use Rattle.avtp_base.specs.declared.refusal.Refusal.{Refusal}
@@ -63,6 +63,6 @@ first_by (Some r) style start part bytes more records is stands reading =
 first_by None None start part bytes more records is stands reading = (whole_records (bytes ++ more), sym (ap (λ (rs : List Record). rs ++ whole_records (bytes ++ more)) stands.0))
 first_by None (Some style) start part bytes more records is stands reading = follows_first style start part bytes more records (style_stays bytes more style (sym is)) stands
 
--- what a reader gave up are the first whole records of the bytes, and of any that begin with them
+-- the records that a reader gave up are the first whole records of the bytes, and of any that begin with them
 pub records_first : (r : Reading) (bytes more : List ℕ) (records : List Record) → HasRead r bytes records → (others : List Record) × (whole_records (bytes ++ more) ≡ records ++ others)
 records_first r bytes more records h = first_by r.refusal r.style r.start r.part bytes more records h.style h.stands h.reading

@@ -154,7 +154,7 @@ only_by bytes dst src (Some t) ethertype start payload fits long s =
     only_spelling (frame_layout true) v bytes 18 (laid_by true) refl fits long s.fields
     ∙ ap (λ (xs : List ℕ). spelling (frame_layout true) v ++ xs) (sym rest)
 
--- a header that no part of is cut off
+-- a header without a part that is cut off
 whole_by : (tagged : Bool) (n : ℕ) → first_short (frame_layout tagged) n ≡ None → header_len tagged ≤ n
 whole_by false n e = ltb-false n 14 (rows_passed (map (short_row n) (frame_layout false)) e).1.1.0
 whole_by true n e = ltb-false n 18 (rows_passed (map (short_row n) (frame_layout true)) e).1.1.1.1.0

@@ -26,7 +26,7 @@ held_none (Some why) r h = absurd (cc)
 pub held_is : (refusal : Option Refusal) (style : Option Style) (s : Style) (start : ℕ) (part : List ℕ) → refusal ≡ None → style ≡ Some s → IsSome (held_by refusal style start part) → record_refusal s.order start part ≡ None
 held_is refusal style s start part none is h = held_none (record_refusal s.order start part) (record_of s part) (rw (none, is) at h)
 
--- a part that is just a whole record is held
+-- a part that is exactly a whole record is held
 pub is_held_by : (refusal : Option Refusal) (style : Option Style) (s : Style) (start : ℕ) (part : List ℕ) → refusal ≡ None → style ≡ Some s → record_refusal s.order start part ≡ None → IsSome (held_by refusal style start part)
 is_held_by refusal style s start part none is e = rw (none, is, e) refl
 
@@ -46,7 +46,7 @@ filled order start part more p long size =
     let stays : number_at order 8 4 (part ++ more) ≡ number_at order 8 4 part = number_stays order 8 4 part more (omega arith) in
     record_fits order start (part ++ more) (omega arith) (omega arith)
 
--- a refusal stands, however the bytes go on
+-- a refusal stays true, whatever bytes follow
 pub refused_stays : (bytes more : List ℕ) (records : List Record) (r : Refusal) → r.short ≡ false → IsRefused bytes records r → IsRefused (bytes ++ more) records r
 refused_stays bytes more records r long (inl h) = inl (h.0, file_stays bytes more (Some r) h.1 long)
 refused_stays bytes more records r long (inr h) = inr (record {
@@ -66,14 +66,14 @@ style_after bytes more records r long (inr h) =
     let whole = file_whole bytes none in
     rw (none, file_stays bytes more None none refl) (style_at_stays bytes more (omega arith))
 
--- a refused reader has read whatever comes
+-- a refused reader has read all later bytes
 pub refused_goes_on : (refusal : Option Refusal) (style : Option Style) (start : ℕ) (part : List ℕ) (r : Refusal) (more : List ℕ) → refusal ≡ Some r → GoesOn (reading refusal style start part) more (reading refusal style start part)
 refused_goes_on refusal style start part r more e bytes records h =
     let long = rw e at h.reading in
     let stands = rw e at h.stands in
     record { style = h.style ∙ sym (style_after bytes more records r long stands); stands = rw e (refused_stays bytes more records r long stands); reading = h.reading }
 
--- what a refused reader says is the first refusal, however the bytes go on
+-- what a refused reader says is the first refusal, whatever bytes follow
 pub refused_for_good : (refusal : Option Refusal) (style : Option Style) (start : ℕ) (part : List ℕ) (r : Refusal) (bytes more : List ℕ) (records : List Record) → refusal ≡ Some r → HasRead (reading refusal style start part) bytes records → Holds (bytes ++ more) records (Some r)
 refused_for_good refusal style start part r bytes more records e h = refused_stays bytes more records r (rw e at h.reading) (rw e at h.stands)
 
@@ -83,14 +83,14 @@ uncertain_by None None start part none keeps = keeps.accepted
 uncertain_by None (Some style) start [] none keeps = refl
 uncertain_by None (Some style) start (b ∷ part) none keeps = keeps.accepted
 
--- what the reader says is what the bytes say
+-- the verdict of the reader is that of the bytes
 pub ending_is : (r : Reading) (bytes : List ℕ) (records : List Record) → HasRead r bytes records → ending r ≡ first_refusal bytes
 ending_is r bytes records h = (holds_one bytes _ _ _ _ (ends r bytes records h) (holds_whole bytes)).1
 
 pub records_are : (r : Reading) (bytes : List ℕ) (records : List Record) → HasRead r bytes records → records ++ option_to_list (held r) ≡ whole_records bytes
 records_are r bytes records h = (holds_one bytes _ _ _ _ (ends r bytes records h) (holds_whole bytes)).0
 
--- of the bytes that a reader took and that is not refused, nothing is refused
+-- a reader that is not refused has taken no byte that is refused
 pub uncertain : (r : Reading) (bytes : List ℕ) (records : List Record) → r.refusal ≡ None → HasRead r bytes records → certain (first_refusal bytes) ≡ None
 uncertain r bytes records none h = ap certain (sym (ending_is r bytes records h)) ∙ uncertain_by r.refusal r.style r.start r.part none h.reading
 
@@ -114,7 +114,7 @@ ending_again None style start part result e = tt
 ending_again (Some why) style start part (Ok unit) e = absurd cc
 ending_again (Some why) style start part (Err r) e = let same : r ≡ why = cc in rw same refl
 
--- what a reader answers if the capture ends
+-- what a reader returns if the capture ends
 pub ends_now : (r : Reading) (result : Result Unit Refusal) → result_err result ≡ ending r → Ends meaning (progress r) result
 ends_now r result e = record {
   records = λ bytes records h. records_are r bytes records h;

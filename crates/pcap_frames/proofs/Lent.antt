@@ -1,4 +1,4 @@
--- A record that is lent.
+-- A record that is borrowed.
 use Rattle.std.proofs.Common.{◌≡◌, ℕ, ◌+◌, ◌≤◌, List, [], ◌++◌, length, take, drop, Option, Some, None, Ok, IsSome, inl, inr, refl, sym, ap, subst, arith}
 use Rattle.std.specs.Prelude.{IfSome}
 use Rattle.std.proofs.lemmas.List.{length-take-le, take-append-drop}
@@ -19,7 +19,7 @@ pub holds_accepted : (refusal : Option Refusal) (style : Option Style) (start : 
 holds_accepted (Some r) style start part some = absurd cc
 holds_accepted None style start part some = refl
 
--- and knows the style
+-- a reader that holds a record knows the style
 pub holds_styled : (refusal : Option Refusal) (style : Option Style) (start : ℕ) (part : List ℕ) → IsSome (held_by refusal style start part) → (s : Style) × (style ≡ Some s)
 holds_styled (Some r) style start part some = absurd cc
 holds_styled None None start part some = absurd cc
@@ -39,7 +39,7 @@ pub ahead_next : (refusal : Option Refusal) (style : Option Style) (s : Style) (
 ahead_next refusal style s start part piece None accepted styled untaken is limit fits = tt
 ahead_next refusal style s start part piece (Some size) accepted styled untaken is limit fits = is_next refusal style s start part piece size accepted styled untaken is limit fits
 
--- it has a header
+-- the next record has a header
 pub next_long : (r : Reading) (bytes : List ℕ) → IsNext r bytes → 16 ≤ length bytes
 next_long r bytes next =
     let styled = holds_styled r.refusal r.style r.start bytes next.whole in
@@ -64,7 +64,7 @@ next_goes_on r bytes next before records h =
     subst (λ (p : List ℕ). HasRead (with_part r p) (before ++ bytes) records) all
     (record_goes_on r.refusal r.style styled.0 r.start r.part bytes before records accepted styled.1 (subst (IsReading r.refusal r.style r.start) (sym all) next.reading) h)
 
--- is fed
+-- a reader that takes the next record was fed
 pub next_feeds : (r : Reading) (piece : List ℕ) (size : ℕ) → size ≤ length piece → IsNext r (take size piece)
     → Feeds meaning (progress r) piece (Ok size) (progress (with_part r (take size piece)))
 next_feeds r piece size within next =
@@ -94,7 +94,7 @@ next_feeds r piece size within next =
       end = λ less. next.whole;
     }) (is_sure new)
 
--- a reader that goes past the next record
+-- a reader that skips the next record
 pub next_releases : (r : Reading) (bytes : List ℕ) → IsNext r bytes → Releases (progress (with_part r bytes)) (progress (record r { start = r.start + length bytes }))
 next_releases r bytes next = record {
   given_up = λ before records h. gives_up r.refusal r.style r.start bytes r.part before records next.whole next.untaken h;
@@ -114,7 +114,7 @@ passes r bytes next =
       refusal = refl;
     }
 
--- what a reader keeps true of itself, past a record
+-- the invariant of a reader, past a record
 pub passed : (refusal : Option Refusal) (style : Option Style) (start next : ℕ) (part bytes : List ℕ) → IsNext (reading refusal style start part) bytes → IsReading refusal style next part
 passed refusal style start next part bytes is =
     let styled = holds_styled refusal style start bytes is.whole in

@@ -1,4 +1,4 @@
--- Each list of bytes is read in just one way.
+-- Each list of bytes is read in exactly one way.
 use Rattle.std.proofs.Common.{◌≡◌, ◌⊎◌, ℕ, ◌+◌, ◌%◌, ◌<◌, ◌≤◌, List, [], ◌∷◌, ◌++◌, length, take, drop, Option, Some, None, refl, sym, ap, subst, ◌∙◌, arith, inl, inr, append_assoc, length-append, ℤ}
 use Rattle.std.proofs.lemmas.Bool.Decides.{nat_tests}
 use Rattle.std.proofs.lemmas.List.{append-nil, take_at, drop_at}
@@ -19,7 +19,7 @@ file_fits : (style : Style) (bytes : List ℕ) → length bytes ≡ 24 → style
 unfolding file_refusal style_at
 file_fits style bytes size magic version network = grind (arith, nat_tests)
 
--- where two lists are put together in two ways
+-- two ways to split one list
 same_front : (p q p' q' : List ℕ) → p ++ q ≡ p' ++ q' → length p ≡ length p' → p ≡ p'
 same_front p q p' q' e l = sym (take_at p q (length p) refl) ∙ (ap (take (length p)) e ∙ take_at p' q' (length p) (sym l))
 
@@ -31,7 +31,7 @@ pub spells_accepted : (style : Style) (r : Record) (start : ℕ) (first more : L
 spells_accepted style r start first more s =
     record_stays style.order start first more None (record_fits style.order start first (omega (arith, s.size, s.incl_len)) (omega (arith, s.limit, s.incl_len))) refl
 
--- how long a spelling is stands in the bytes
+-- the bytes of a spelling tell its length
 pub spells_size : (style : Style) (r : Record) (first more : List ℕ) → Spells style r first → length first ≡ record_size style (first ++ more)
 spells_size style r first more s =
     let stays : number_at style.order 8 4 (first ++ more) ≡ number_at style.order 8 4 first = number_stays style.order 8 4 first more (omega (arith, s.size)) in
@@ -40,7 +40,7 @@ spells_size style r first more s =
 abbrev make : ℤ → ℕ → List ℕ → Record
 make arrival orig_len bytes = record { arrival = arrival; orig_len = orig_len; bytes = bytes }
 
--- the bytes spell one record alone
+-- the bytes spell exactly one record
 pub spells_one : (style : Style) (r : Record) (first : List ℕ) → Spells style r first → r ≡ record_of style first
 spells_one style r first s =
     ap (λ (a : ℤ). make a r.orig_len r.bytes) s.arrival
@@ -53,7 +53,7 @@ Ends style start rest x =
     ((rest ≡ []) × (x ≡ None))
     ⊎ ((r : Refusal) × (x ≡ Some r) × (0 < length rest) × (record_refusal style.order start rest ≡ Some r))
 
--- where records end, no spelling begins
+-- no spelling begins after the last record
 no_more : (style : Style) (r : Record) (start : ℕ) (first more rest : List ℕ) (x : Option Refusal) → Spells style r first → rest ≡ first ++ more → Ends style start rest x → ⊥
 no_more style r start first more rest x s e (inl none) = omega (arith, s.size, length-append first more, ap length (sym none.0 ∙ e))
 no_more style r start first more rest x s e (inr some) =

@@ -1,4 +1,4 @@
--- How a reader goes on.
+-- How a reader continues.
 use Rattle.std.proofs.Common.{◌≡◌, ℕ, ◌+◌, ◌-◌, ◌<◌, false, cond, List, [], ◌++◌, length, take, drop, Option, Some, None, IsSome, Result, Ok, Err, refl, sym, ap, subst, ◌∙◌, arith, is_none, inl, inr, append_assoc, length-append}
 use Rattle.std.specs.Prelude.{◌≤◌, IfSome, option_to_list}
 use Rattle.std.proofs.lemmas.List.{append-nil, take_all, take-append-drop, length-drop}
@@ -16,7 +16,7 @@ use Rattle.pcap_frames.proofs.Fields.{file_whole, file_style, file_header_is, re
 abbrev pub reading : Option Refusal → Option Style → ℕ → List ℕ → Reading
 reading refusal style start part = record { style = style; start = start; part = part; refusal = refusal }
 
--- the style of the bytes, once a header of a file stands there
+-- the style of the bytes, once a header of a file is there
 style_by : (x : Option Refusal) (style : Option Style) (s : Style) → cond (is_none x) style None ≡ Some s → (x ≡ None) × (style ≡ Some s)
 style_by None style s e = (refl, e)
 style_by (Some r) style s e = absurd (cc)
@@ -210,7 +210,7 @@ feeds meaning old new piece (Ok n) none fed sure = record {
 }
 feeds meaning old new piece (Err why) none fed sure = feeds_refused meaning old new piece why (rw none tt) fed.steps.refused fed.steps.stopped fed.steps.bounded sure
 
--- one that was refused answers the same again
+-- a reader that was refused returns the refusal again
 pub feeds_again : (meaning : Meaning) (r : Progress) (piece : List ℕ) (why : Refusal) → r.refusal ≡ Some why → GoesOn r piece r → IsSure meaning r
     → Feeds meaning r piece (Err why) r
 feeds_again meaning r piece why is goes sure = feeds_refused meaning r r piece why (rw is refl) is goes (omega arith) sure
@@ -219,7 +219,7 @@ pub none_some : {X : Type 0} (o : Option X) → o ≡ None → IsSome o → ⊥
 none_some None none some = absurd cc
 none_some (Some x) none some = absurd cc
 
--- none is released where none is held
+-- no record is released if none is held
 pub releases_none : (r : Progress) → r.held ≡ None → Releases r r
 releases_none r none = record {
   given_up = λ bytes records h. subst (r.has_read bytes) (sym (ap (λ (x : Option Record). records ++ option_to_list x) none ∙ append-nil records)) h;

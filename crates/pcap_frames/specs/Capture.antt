@@ -11,7 +11,7 @@ pub record Record : Type 0 where
   pub orig_len : ℕ
   pub bytes : List ℕ
 
--- The bytes are a file header of this style.
+-- The bytes are a file header in this style.
 pub record IsFileHeader (style : Style) (bytes : List ℕ) : Type 0 where
   pub size : length bytes ≡ 24
   pub magic : style_at bytes ≡ Some style
@@ -41,8 +41,8 @@ pub record IsCapture (style : Style) (records : List Record) (bytes : List ℕ) 
   pub is_header : IsFileHeader style header
   pub spelled : SpellsAll style records body
 
--- The bytes are a capture of these records and then part of another record, whose first field that is cut off or
--- refused is this one.
+-- The bytes are a capture of these records and then a part of another record. The refusal is by that record's first field that
+-- is cut off or refused.
 pub record IsRefusedInRecord (bytes : List ℕ) (records : List Record) (refusal : Refusal) : Type 0 where
   pub style : Style
   pub front : List ℕ
@@ -135,8 +135,8 @@ record_spelling style r =
     ++ number_bytes style.order 4 r.orig_len
     ++ r.bytes
 
--- A record that the canonical spelling can say: its instant has 32 bits of seconds and is a whole number of units of
--- the fraction, and it has at most 262,144 bytes.
+-- A record that the canonical spelling can hold: its instant has 32 bits of seconds and is a whole number of units of the
+-- fraction, and it has at most 262,144 bytes.
 pub record HasSpelling (style : Style) (r : Record) : Type 0 where
   pub begun : pos 0 ≤ℤ r.arrival
   pub ended : r.arrival <ℤ pos (2 ^ 32 * 1000000000)

@@ -7,7 +7,7 @@ use Rattle.avtp_base.specs.Layout.{Layout, part, holds, Spells, first_short, spe
 use Rattle.pcap_frames.specs.declared.frame.FrameView.{FrameView}
 use Rattle.pcap_frames.specs.declared.frame.Tag.{Tag}
 
--- an Ethernet frame, apart from where its payload lies in memory
+-- an Ethernet frame, without its payload's location in memory
 pub record Frame : Type 0 where
   pub dst : ℕ
   pub src : ℕ
@@ -16,7 +16,7 @@ pub record Frame : Type 0 where
   pub start : ℕ
   pub payload : List ℕ
 
--- the frame that a view shows, apart from where its payload lies in memory
+-- the frame that a view shows, without its payload's location in memory
 abbrev pub frame_shape : FrameView → Frame
 frame_shape v = record {
   dst = v.dst;
@@ -60,7 +60,7 @@ header_len true = 18
 abbrev pub is_tagged : List ℕ → Bool
 is_tagged bytes = bits 12 0 16 bytes == tag_ethertype
 
--- why bytes are no frame: a field of the header is cut off
+-- why bytes are not a frame: a field of the header is cut off
 abbrev pub frame_refusal : List ℕ → Option Refusal
 frame_refusal bytes = first_short (frame_layout (is_tagged bytes)) (length bytes)
 
@@ -89,7 +89,7 @@ frame_of bytes =
       payload = drop (header_len tagged) bytes;
     }
 
--- a frame that can be written: its fields fit their bits, and the EtherType of an untagged one is not that of a tag
+-- a frame that can be written: its fields fit their bits, and the EtherType of an untagged frame is not that of a tag
 pub record IsWritableFrame (v : Frame) : Type 0 where
   pub dst : v.dst < 2 ^ 48
   pub src : v.src < 2 ^ 48

@@ -1,5 +1,5 @@
--- The layout of a capture: the fields of its file header and of a record, at which offsets they are, and which values
--- are refused (draft-ietf-opsawg-pcap, "PCAP Capture File Format", sections 4 and 5).
+-- The layout of a capture: the fields of its file header and of a record, their offsets, and which values are refused
+-- (draft-ietf-opsawg-pcap, "PCAP Capture File Format", sections 4 and 5).
 use Rattle.std.specs.Prelude.{ℕ, ◌+◌, ◌*◌, ◌%◌, ◌^◌, ℤ, pos, ◌≤ℤ◌, Bool, true, false, cond, not, nat_lt, nat_eq, if◌then◌else◌, List, [], ◌∷◌, length, drop, Option, Some, None, is_none}
 use Rattle.std.specs.Option.{option_or}
 use Rattle.byteorder.specs.Endian.{big_number, little_number, big_bytes, little_bytes}
@@ -27,7 +27,7 @@ abbrev pub magic_of : units.Unit → ℕ
 magic_of Micro = 0xA1B2C3D4
 magic_of Nano = 0xA1B23C4D
 
--- the style that a magic number gives whose four bytes are read as little-endian
+-- the style that a magic number gives, if its four bytes are read as little-endian
 abbrev pub style_of_magic : ℕ → Option Style
 style_of_magic n =
     if nat_eq n 0xA1B2C3D4 then Some (record { order = Little; unit = Micro })
@@ -88,8 +88,8 @@ record_header =
 abbrev pub packet_bytes : ℕ → List Row
 packet_bytes n = row PacketBytes 16 n never ∷ []
 
--- The refusal by the first field of a table that the bytes do not hold wholly, or whose number is refused. The bytes
--- begin at offset `start` of the capture.
+-- The refusal by the first field of a table that the bytes do not hold completely, or whose number is refused. The bytes begin
+-- at offset `start` of the capture.
 abbrev pub first_refused : Order → ℕ → List Row → List ℕ → Option Refusal
 first_refused order start [] bytes = None
 first_refused order start (r ∷ rows) bytes =
@@ -108,7 +108,7 @@ unfoldable pub record_refusal : Order → ℕ → List ℕ → Option Refusal
 record_refusal order start bytes =
     option_or (first_refused order start record_header bytes) (first_refused order start (packet_bytes (number_at order 8 4 bytes)) bytes)
 
--- a refusal that stays whatever bytes follow, since its field is whole
+-- a refusal that stays whatever bytes follow, because its field is complete
 abbrev pub certain : Option Refusal → Option Refusal
 certain None = None
 certain (Some refusal) = cond refusal.short None (Some refusal)

@@ -7,22 +7,22 @@ use Rattle.pcap_frames.specs.declared.style.RecordView.{RecordView}
 use Rattle.pcap_frames.specs.Capture.{Record}
 use Rattle.pcap_frames.specs.Layout.{IsRecordTime}
 
--- What the bytes of a capture mean in one layout: the whole records before the first refusal, the first refusal, and the
--- first refusal if it stays whatever bytes follow.
+-- What the bytes of a capture mean in one layout: the whole records before the first refusal, the first refusal, and the first
+-- refusal if it stays whatever bytes follow.
 pub record Meaning : Type 0 where
   pub records : List ℕ → List Record
   pub refusal : List ℕ → Option Refusal
   pub certain : List ℕ → Option Refusal
 
--- How far a reader is between two calls: which bytes it has taken and which of their records it has released, in order;
--- the record that it holds; how many bytes it has taken; and the refusal that it answers for good.
+-- How far a reader is between two calls: which bytes it has taken, which of their records it has released, in order; the record
+-- that it holds; how many bytes it has taken; and the refusal that it keeps returning.
 pub record Progress : Type 1 where
   pub has_read : List ℕ → List Record → Type 0
   pub held : Option Record
   pub taken : ℕ
   pub refusal : Option Refusal
 
--- whatever was read before, these bytes are read too now, and no record was released
+-- whatever was read before, these bytes have been read, too, and no record was released
 abbrev pub GoesOn : Progress → List ℕ → Progress → Type 0
 GoesOn old more new = (bytes : List ℕ) (records : List Record) → old.has_read bytes records → new.has_read (bytes ++ more) records
 
@@ -32,8 +32,8 @@ pub record IsRefusedAfter (meaning : Meaning) (bytes : List ℕ) (records : List
   pub certain : meaning.certain bytes ≡ Some refusal
 
 -- What feeding a piece does. It takes bytes from the piece's front, up to the end of one record or of the piece, and none
--- exactly if the piece is empty or a record is held; or it answers the first refusal, as soon as the bytes so far show it,
--- and again from then on.
+-- exactly if the piece is empty or a record is held. Or it returns the first refusal, as soon as the bytes so far show it, and
+-- again from then on.
 pub record Feeds (meaning : Meaning) (old : Progress) (piece : List ℕ) (result : Result ℕ Refusal) (new : Progress) : Type 0 where
   pub within : IfOk result (λ n. n ≤ length piece)
   pub nothing : IfOk result (λ n. (n ≡ 0) ↔ ((length piece ≡ 0) ⊎ IsSome old.held))
@@ -48,21 +48,21 @@ pub record Feeds (meaning : Meaning) (old : Progress) (piece : List ℕ) (result
   pub taken : IfOk result (λ n. new.taken ≡ old.taken + n)
   pub bounded : new.taken ≤ old.taken + length piece
 
--- The record that was held, if there was one, is released, and none is held.
+-- The record that was held, if any, is released, and none is held.
 pub record Releases (old new : Progress) : Type 0 where
   pub given_up : (bytes : List ℕ) (records : List Record) → old.has_read bytes records → new.has_read bytes (records ++ option_to_list old.held)
   pub free : new.held ≡ None
   pub counted : new.taken ≡ old.taken
   pub refusal : new.refusal ≡ old.refusal
 
--- What is answered if the capture ends with the bytes so far: the released records and the one that is held are all of its
--- records, and the answer is its first refusal.
+-- What is returned if the capture ends with the bytes so far: the released records and the one that is held are all of its
+-- records, and the result is its first refusal.
 pub record Ends (meaning : Meaning) (reader : Progress) (result : Result Unit Refusal) : Type 0 where
   pub records : (bytes : List ℕ) (records : List Record) → reader.has_read bytes records → records ++ option_to_list reader.held ≡ meaning.records bytes
   pub refusal : (bytes : List ℕ) (records : List Record) → reader.has_read bytes records → result_err result ≡ meaning.refusal bytes
   pub lasting : IfSome reader.refusal (λ refusal. result ≡ Err refusal)
 
--- the record that a view shows, apart from where it lies in memory
+-- the record that a view shows, without its location in memory
 abbrev pub shown : RecordView → Record
 shown view = record { arrival = view.arrival; orig_len = view.orig_len; bytes = view.bytes.now }
 

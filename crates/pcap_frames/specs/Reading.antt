@@ -50,8 +50,8 @@ pub record IsHeaderPart (start : ℕ) (part : List ℕ) : Type 0 where
   pub accepted : certain (file_refusal part) ≡ None
   pub partial : length part < 24
 
--- what is always true of a reader: a refusal is by a field that is whole; otherwise what has come is part of a file
--- header, or of a record once there is a style
+-- the invariant of a reader: a refusal is by a field that is complete; otherwise what has come is part of a file header, or
+-- part of a record once there is a style
 abbrev pub IsReading : Option Refusal → Option Style → ℕ → List ℕ → Type 0
 IsReading (Some refusal) style start part = refusal.short ≡ false
 IsReading None None start part = IsHeaderPart start part
@@ -64,15 +64,15 @@ pub record Follows (style : Style) (start : ℕ) (part bytes : List ℕ) (record
   pub capture : IsCapture style records front
   pub begins : length front ≡ start
 
--- The bytes that a reader in this state has taken, and the records that it has released: if it is refused, this is the
--- first refusal of the bytes; without a style, the bytes are what has come of the file header; otherwise they are a
--- capture of the records and then what has come of the next.
+-- The bytes that a reader in this state has taken, and the records that it has released. If it is refused, this is the first
+-- refusal of the bytes; without a style, the bytes are what has come of the file header; otherwise they are a capture of the
+-- records and then what has come of the next.
 abbrev pub StandsFor : Option Refusal → Option Style → ℕ → List ℕ → List ℕ → List Record → Type 0
 StandsFor (Some refusal) style start part bytes records = IsRefused bytes records refusal
 StandsFor None None start part bytes records = (records ≡ []) × (bytes ≡ part)
 StandsFor None (Some style) start part bytes records = Follows style start part bytes records
 
--- The reader has taken these bytes, and of their records it has released these, in order.
+-- The reader has taken these bytes, and has released these of their records, in order.
 pub record HasRead (r : Reading) (bytes : List ℕ) (records : List Record) : Type 0 where
   pub style : r.style ≡ style_of bytes
   pub stands : StandsFor r.refusal r.style r.start r.part bytes records
@@ -86,24 +86,24 @@ meaning = record { records = whole_records; refusal = first_refusal; certain = �
 abbrev pub progress : Reading → Progress
 progress r = record { has_read = HasRead r; held = held r; taken = taken r; refusal = r.refusal }
 
--- whatever the reader had read before, it has read these bytes too now, and released no record
+-- whatever the reader had read before, it has now read these bytes, too, and released no record
 abbrev pub GoesOn : Reading → List ℕ → Reading → Type 0
 GoesOn old more new = readers.GoesOn (progress old) more (progress new)
 
--- ---- a record that is lent
+-- ---- a record that is borrowed
 
--- the reader with these bytes as what has come of what is being read
+-- the reader with these bytes of the header or record that it is reading
 abbrev pub with_part : Reading → List ℕ → Reading
 with_part r bytes = record r { part = bytes }
 
--- These bytes are the next record, whole, and nothing of it was taken yet: a reader that takes them holds it.
+-- These bytes are the next whole record, and the reader has taken nothing of it yet: if it takes them, it holds the record.
 pub record IsNext (r : Reading) (bytes : List ℕ) : Type 0 where
   pub untaken : r.part ≡ []
   pub reading : IsReading r.refusal r.style r.start bytes
   pub whole : IsSome (held (with_part r bytes))
 
--- The reader went past a record of these bytes, which was lent: whatever it had read before, it has read these bytes
--- too now and released the record that they are, and it holds none.
+-- The reader skipped a record of these bytes, which was borrowed: whatever it had read before, it has now read these bytes,
+-- too, and released their record, and it holds none.
 pub record Passes (old : Reading) (bytes : List ℕ) (new : Reading) : Type 0 where
   pub read : (before : List ℕ) (records : List Record) → HasRead old before records → HasRead new (before ++ bytes) (records ++ option_to_list (held (with_part old bytes)))
   pub counted : taken new ≡ taken old + length bytes

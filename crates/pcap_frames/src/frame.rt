@@ -33,7 +33,7 @@ pub struct FrameView<'a> {
     pub ethertype: u16,
     /// The payload's offset in the frame, 14 or 18.
     pub start: usize,
-    /// All that follows the header.
+    /// Everything after the header.
     pub payload: &'a [u8],
 }
 
@@ -121,8 +121,8 @@ fn read_either(frame: &[u8]) -> Result<FrameView<'_>, Refusal>
     Ok(read_tagged(frame))
 }
 
-/// Reads an Ethernet frame: at most one tag, and all that follows the header as payload. It is refused only by the
-/// first field of the header that does not lie wholly in the slice.
+/// Reads an Ethernet frame: at most one tag, and everything after the header as payload. It is refused only by the first field
+/// of the header that is cut off.
 #[inline(always)]
 pub fn read_frame(frame: &[u8]) -> Result<FrameView<'_>, Refusal>
     ensures exact { Reads frame_shape (frame_refusal frame.now) (frame_of frame.now) result }
@@ -198,11 +198,10 @@ fn tagged_header(frame: &FrameView<'_>, tag: Tag) -> [u8; 18]
     ]
 }
 
-/// Writes an Ethernet frame, and answers its length. If the slice is shorter it answers `Room` and leaves the slice
-/// unchanged.
+/// Writes an Ethernet frame, and returns its length. If the slice is shorter it returns `Room` and leaves the slice unchanged.
 ///
-/// The addresses are below 2^48, the tag's priority is at most 7 and its VLAN at most 4095, and without a tag the
-/// EtherType is not 0x8100, which would announce one. The view's `start` is not read.
+/// The addresses are below 2^48, the tag's priority is at most 7 and its VLAN at most 4095, and without a tag the EtherType is
+/// not 0x8100, which would announce one. The view's `start` is not read.
 pub fn write_frame(out: &mut [u8], frame: &FrameView<'_>) -> Result<usize, Room>
     requires { IsWritableFrame (frame_shape frame.now) }
     ensures written { Writes (frame_spelling (frame_shape frame.now)) out.old out.new result }
@@ -214,17 +213,17 @@ pub fn write_frame(out: &mut [u8], frame: &FrameView<'_>) -> Result<usize, Room>
     }
 }
 
-/// A law: bytes spell exactly one frame, or are refused and spell none. The call does nothing.
+/// A law: bytes encode exactly one frame, or are refused and encode none. The call does nothing.
 pub fn one_frame()
     ensures { (bytes : List ℕ) → IsSpelledOnce (frame_refusal bytes) (λ (v : Frame). SpellsFrame bytes v) }
 {}
 
-/// A law: the spelling of a frame spells it, with the start of its header. The call does nothing.
+/// A law: the bytes written for a frame encode it, with the start of its header. The call does nothing.
 pub fn frame_again()
     ensures { (v : Frame) → IsWritableFrame v → SpellsFrame (frame_spelling v) (plain_frame v) }
 {}
 
-/// A law: bytes that spell a frame are its spelling. The call does nothing.
+/// A law: bytes that encode a frame are the bytes written for it. The call does nothing.
 pub fn one_frame_spelling()
     ensures { (bytes : List ℕ) (v : Frame) → AreBytes bytes → SpellsFrame bytes v → bytes ≡ frame_spelling v }
 {}

@@ -1,4 +1,4 @@
-//! What holds of captures, whoever reads them.
+//! Laws of captures, whoever reads them.
 
 ghost use Rattle.std.specs.Prelude.{◌≡◌, List, ℕ, Option, None};
 ghost use Rattle.std.specs.List.{AllByRecursion};
@@ -14,7 +14,7 @@ pub fn one_capture()
     ensures one_style { (bytes : List ℕ) (records others : List Record) (style other : Style) → IsCapture style records bytes → IsCapture other others bytes → style ≡ other }
 {}
 
-/// A capture in its canonical spelling is a capture of just its style and records, so it reads back.
+/// A capture in its canonical spelling is a capture of exactly its style and records, so it reads back.
 pub fn capture_again()
     ensures capture { (style : Style) (records : List Record) → AllByRecursion (HasSpelling style) records → IsCapture style records (capture_spelling style records) }
     ensures records { (style : Style) (records : List Record) → AllByRecursion (HasSpelling style) records → whole_records (capture_spelling style records) ≡ records }

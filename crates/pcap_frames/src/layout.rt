@@ -1,5 +1,5 @@
-//! The fields of a capture: at which offsets they are, how their numbers are spelled, and which values are refused
-//! (draft-ietf-opsawg-pcap, "PCAP Capture File Format", sections 4 and 5).
+//! The fields of a capture: their offsets, how their numbers are encoded, and which values are refused (draft-ietf-opsawg-pcap,
+//! "PCAP Capture File Format", sections 4 and 5).
 
 ghost use Rattle.std.specs.Prelude.{◌≡◌, ◌+◌, ◌<◌, ◌≤◌, ◌^◌, ℕ, length, pos, true, false, None, Some, IfSome, IsSome};
 ghost use Rattle.pcap_frames.specs.Capture.{record_of};
@@ -37,7 +37,7 @@ pub fn style_at(header: &[u8]) -> Option<Style>
     requires { 4 ≤ length header.now }
     ensures { result ≡ style_of_bytes header.now }
 {
-    // Four numbers are compared with one little-endian reading, which is the same as reading it in either byte order.
+    // One little-endian reading is compared with all four numbers, which amounts to reading it in either byte order.
     let (order, unit) = match u32_at(Order::Little, header, 0) {
         MAGIC_MICRO => (Order::Little, Unit::Micro),
         MAGIC_NANO => (Order::Little, Unit::Nano),
@@ -119,7 +119,7 @@ pub fn record_refusal(order: Order, start: u64, bytes: &[u8]) -> Option<Refusal>
     None
 }
 
-/// The size of the record that the bytes begin with, if it lies whole in them and nothing in it is refused.
+/// The size of the record that the bytes begin with, if it is complete in them and nothing in it is refused.
 #[tactic(auto, unfolding(crate::specs::Layout::record_refusal))]
 pub fn whole_size(order: Order, bytes: &[u8]) -> Option<usize>
     ensures size { IfSome result (λ size. size ≡ 16 + number_at order 8 4 bytes.now) }
@@ -138,7 +138,7 @@ pub fn whole_size(order: Order, bytes: &[u8]) -> Option<usize>
     Some(size)
 }
 
-/// A refusal that stays whatever bytes follow, since its field is whole.
+/// A refusal that stays whatever bytes follow, because its field is complete.
 pub fn certain(refusal: Option<Refusal>) -> Option<Refusal>
     ensures { result ≡ certain_of refusal }
 {
@@ -161,7 +161,7 @@ pub fn arrival_of(unit: Unit, seconds: u32, fraction: u32) -> i64
     nanoseconds as i64
 }
 
-/// The record that its bytes spell, header and all.
+/// The record that its bytes, including the header, encode.
 pub fn view(style: Style, bytes: &[u8]) -> RecordView<'_>
     requires { 16 ≤ length bytes.now }
     ensures exact { shown result ≡ record_of style bytes.now }

@@ -1,4 +1,4 @@
-//! Captures in the classic pcap layout, in any pieces, and Ethernet frames.
+//! Captures in the classic pcap layout, in pieces of any length, and Ethernet frames.
 #![tactic(auto)]
 
 mod frame;

@@ -1,8 +1,8 @@
-//! What has come of a header or a record, whose bytes lie in several pieces.
+//! What has come of a header or a record whose bytes are in several pieces.
 
 ghost use Rattle.std.specs.Prelude.{◌≡◌, ◌+◌, ◌-◌, ◌≤◌, ◌++◌, length, take, min, vec_capacity};
 
-/// Moves bytes from the front of the piece to the end of the part, until it has `end` bytes. Answers how many.
+/// Moves bytes from the front of the piece to the end of the part, until the part has `end` bytes. Returns how many.
 pub fn gather(part: &mut Vec<u8>, end: usize, piece: &[u8]) -> usize
     requires { end ≤ vec_capacity part.old }
     ensures taken { result ≡ min (length piece.now) (end - length part.old.items) }

@@ -32,8 +32,8 @@ pub struct Contents {
     pub refusal: Option<Refusal>,
 }
 
-/// Reads a capture that comes in these pieces. However it was cut, the style, the records and the refusal are those
-/// of all its bytes. There are at most 2^62 of them.
+/// Reads a capture that comes in these pieces, at most 2^62 bytes. Wherever it was cut, the style, the records and the refusal
+/// are those of all its bytes.
 pub fn read_pieces(alloc: Global, pieces: &[Bytes]) -> Result<Contents, NoMemory>
     requires { length (joined pieces.now) ≤ 2 ^ 62 }
     ensures style { IfOk result (λ all. all.style ≡ style_of (joined pieces.now)) }

@@ -18,12 +18,12 @@ use avtp_base::{NoMemory, Refusal};
 use std::alloc::Global;
 use std::marker::Model;
 
-/// Reads a capture in the classic pcap layout (draft-ietf-opsawg-pcap). It takes the capture's bytes in pieces of any
-/// length, and holds one record at a time: feed a piece until all of it is taken, and look at the held record and
-/// release it after each call.
+/// Reads a capture in the classic pcap layout (draft-ietf-opsawg-pcap). It takes the capture's bytes in pieces of any length,
+/// and holds one record at a time: feed a piece until all of it is taken, and after each call look at the held record and
+/// release it.
 ///
-/// A record that lies whole in a piece need not be copied: if `whole_ahead` finds one, `lend` shows it in the piece,
-/// and `pass` goes past it, instead of `feed`, `held` and `release`.
+/// A record that is complete in a piece need not be copied: if `whole_ahead` finds one, `lend` shows it in the piece, and
+/// `pass` skips it, instead of `feed`, `held` and `release`.
 #[derive(Debug, Drop)]
 pub struct Reader {
     style: Option<Style>,
@@ -47,7 +47,7 @@ impl Model for Reader {
 }
 
 impl Reader {
-    /// A reader that has taken nothing. It reserves the memory of one record, and takes no more later.
+    /// A reader that has taken nothing. It allocates the memory of one record, and no more later.
     #[tactic(auto, using(crate::proofs::Fields::header_begins, crate::proofs::Steps::read_nothing))]
     pub fn new(alloc: Global) -> Result<Self, NoMemory>
         ensures empty { IfOk result (λ reader. reader ≡ nothing_read) }
@@ -65,13 +65,13 @@ impl Reader {
         }
     }
 
-    /// Takes bytes up to the end of one record or of the piece, and answers how many.
+    /// Takes bytes up to the end of one record or of the piece, and returns how many.
     ///
-    /// A reader that is not refused answers `Ok(0)` exactly if the piece is empty or a whole record is held. The
-    /// refusal is the capture's first, and comes as soon as the bytes so far show it; from then on every `feed` and
-    /// every `finish` answers it, no more bytes are taken, and the piece that was given counts as taken whole.
+    /// A reader that is not refused returns `Ok(0)` exactly if the piece is empty or a whole record is held. The refusal is the
+    /// capture's first, and comes as soon as the bytes so far show it. From then on every `feed` and every `finish` returns it,
+    /// no more bytes are taken, and the whole piece counts as taken.
     ///
-    /// At most 2^62 bytes may be taken in all, the piece among them.
+    /// At most 2^62 bytes may be taken in all, including the piece.
     pub fn feed(&mut self, piece: &[u8]) -> Result<usize, Refusal>
         requires { taken self.old + length piece.now ≤ 2 ^ 62 }
         ensures { Feeds meaning (progress self.old) piece.now result (progress self.new) }
@@ -154,7 +154,7 @@ impl Reader {
         self.style
     }
 
-    /// Whether a record is held: what has come is a whole one.
+    /// Whether a record is held: what has come is a whole record.
     fn is_whole(&self) -> bool
         ensures { result ≡ is_some (held self.now) }
     {
@@ -178,7 +178,7 @@ impl Reader {
         Some(layout::view(style, self.part.as_slice()))
     }
 
-    /// Drops the held record, so that the next can be taken. Answers whether there was one.
+    /// Drops the held record, so that the next can be taken. Returns whether there was one.
     pub fn release(&mut self) -> bool
         ensures answer { result ≡ is_some (held self.old) }
         ensures releases { Releases (progress self.old) (progress self.new) }
@@ -193,10 +193,10 @@ impl Reader {
         true
     }
 
-    /// The size of the next record, if it lies whole at the front of the piece and nothing of it was taken yet.
+    /// The size of the next record, if it is complete at the front of the piece and nothing of it was taken yet.
     ///
-    /// It is None only if there is no such record: the file header is still awaited, some bytes of the record were
-    /// taken, a field is refused, or the record goes on after the piece. Then the piece is to be fed.
+    /// It is `None` only if there is no such record: the file header has not come yet, some bytes of the record were taken, a
+    /// field is refused, or the record continues after the piece. Then the piece must be fed.
     pub fn whole_ahead(&self, piece: &[u8]) -> Option<usize>
         ensures within { IfSome result (λ size. size ≤ length piece.now) }
         ensures limit { IfSome result (λ size. size ≤ 262160) }
@@ -210,7 +210,7 @@ impl Reader {
         layout::whole_size(style.order, piece)
     }
 
-    /// The next record, in the piece: these are its bytes, header and all.
+    /// The next record, in the piece: these are its bytes, including the header.
     pub fn lend<'a>(&self, bytes: &'a [u8]) -> RecordView<'a>
         requires { IsNext self.now bytes.now }
         ensures exact { held (with_part self.now bytes.now) ≡ Some (shown result) }
@@ -222,9 +222,9 @@ impl Reader {
         layout::view(style, bytes)
     }
 
-    /// Goes past the next record, as if its bytes had been fed and the record released.
+    /// Skips the next record, as if its bytes had been fed and the record released.
     ///
-    /// At most 2^62 bytes may be taken in all, these among them.
+    /// At most 2^62 bytes may be taken in all, including these.
     pub fn pass(&mut self, bytes: &[u8])
         requires next { IsNext self.old bytes.now }
         requires bounded { taken self.old + length bytes.now ≤ 2 ^ 62 }
@@ -236,8 +236,8 @@ impl Reader {
 
     /// Whether the bytes so far are a whole capture: a file header and whole records.
     ///
-    /// Otherwise it answers the earlier refusal, or the field that holds the first missing byte, with `short`. A record
-    /// that is held counts as whole. It changes nothing: bytes may follow.
+    /// Otherwise it returns the earlier refusal, or the field that holds the first missing byte, with `short`. A record that is
+    /// held counts as whole. It changes nothing: bytes may follow.
     pub fn finish(&self) -> Result<(), Refusal>
         ensures exact { (bytes : List ℕ) (records : List Record) → HasRead self.now bytes records → Holds bytes (records ++ option_to_list (held self.now)) (result_err result) }
         ensures ends { Ends meaning (progress self.now) result }
@@ -264,7 +264,7 @@ impl Reader {
     }
 }
 
-/// Adds bytes from the front of the piece to what has come of a record, up to the record's end, and answers how many.
+/// Adds bytes from the front of the piece to what has come of a record, up to the record's end, and returns how many.
 fn fill_record(order: Order, start: u64, part: &mut Vec<u8>, piece: &[u8]) -> Result<usize, Refusal>
     requires part { IsPart order start part.old.items }
     requires room { 262160 ≤ vec_capacity part.old }

@@ -1,4 +1,4 @@
-//! What a capture is made of.
+//! The records and the style of a capture.
 
 /// The byte order of a capture's numbers.
 #[derive(Clone, Copy, Debug, PartialEq, Eq)]
@@ -14,7 +14,7 @@ pub enum Unit {
     Nano,
 }
 
-/// How a capture is spelled: its magic number gives both.
+/// How a capture is encoded: its magic number gives both.
 #[derive(Clone, Copy, Debug, PartialEq, Eq)]
 pub struct Style {
     pub order: Order,

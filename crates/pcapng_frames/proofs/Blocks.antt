@@ -1,4 +1,4 @@
--- What is known of a block, an option or a trailer stands, however the bytes go on.
+-- What is known of a block, an option or a trailer stays true, whatever bytes follow.
 use Rattle.std.proofs.Common.{◌≡◌, ℕ, ℤ, zero, suc, ◌+◌, ◌≤◌, ◌<◌, false, nat_lt, if◌then◌else◌, List, [], ◌++◌, length, drop, Option, Some, None, refl, ap, sym, ◌∙◌, arith, inl, inr, length-append, length-drop}
 use Rattle.std.proofs.lemmas.Bool.{cases_lt}
 use Rattle.std.proofs.lemmas.Bool.Decides.{nat_tests}
@@ -31,7 +31,7 @@ kind_stays order bytes more h = ap kind_of (number_stays (order_or_little order)
 magic_stays : (bytes more : List ℕ) → 12 ≤ length bytes → number_at Little 8 4 (bytes ++ more) ≡ number_at Little 8 4 bytes
 magic_stays bytes more h = number_stays Little 8 4 bytes more h
 
--- the byte order of a block, once its magic number stands, if it is a section header
+-- the byte order of a block, once its magic number has come, if it is a section header
 pub order_stays : (k : Kind) (order : Option Order) (bytes more : List ℕ) → (k ≡ kind.Section → 12 ≤ length bytes) → order_at k order (bytes ++ more) ≡ order_at k order bytes
 order_stays kind.Section order bytes more h = ap (λ (n : ℕ). order_or_little (order_of_magic n)) (magic_stays bytes more (h refl))
 order_stays kind.Interface order bytes more h = refl
@@ -46,7 +46,7 @@ section_kind_stays : (order : Order) (interfaces : List Interface) (start : ℕ)
 section_kind_stays order interfaces start bytes more x e h =
     grind (arith, nat_tests, magic_stays bytes more, number_stays order 4 4 bytes more, number_stays order 12 2 bytes more, length-append bytes more)
 
--- a section header's magic number stands where it is refused, or its front is whole
+-- a section header's magic number has come if it is refused, or its front is whole
 section_long : (order : Order) (interfaces : List Interface) (start : ℕ) (bytes : List ℕ) (x : Option Refusal) → first_refused start (length bytes) (kind_rows kind.Section order interfaces bytes) ≡ x → (x ≡ None → 16 ≤ length bytes) → 12 ≤ length bytes
 section_long order interfaces start bytes x e h = elim (cases_lt (length bytes) 12) [
   | inl short ↦ absurd (omega (arith, h (sym e ∙ none_before start order interfaces bytes short)))
@@ -78,7 +78,7 @@ block_stays_by k order interfaces start bytes more x long e h =
     (sym (long_enough (length bytes) 4 _ _ long) ∙ e)
     (λ f. kind_rows_stay k order interfaces start bytes more x f h)
 
--- what is refused in a block stays refused, and what is not, once its front is whole
+-- a refused field of a block stays refused, and an accepted one stays accepted once the block's front is complete
 pub block_stays : (order : Option Order) (interfaces : List Interface) (start : ℕ) (bytes more : List ℕ) (x : Option Refusal) → first_refused start (length bytes) (block_rows (kind_at order bytes) order interfaces bytes) ≡ x
     → (x ≡ None → head_size (kind_at order bytes) ≤ length bytes) → first_refused start (length (bytes ++ more)) (block_rows (kind_at order (bytes ++ more)) order interfaces (bytes ++ more)) ≡ x
 block_stays order interfaces start bytes more x e h = elim (cases_lt (length bytes) 4) [
@@ -123,7 +123,7 @@ place_stays p bytes more h packet =
     ∙ (ap (λ (n : ℕ). after_block (kind_at p.order bytes) p n (bytes ++ more)) (total_stays (kind_at p.order bytes) p.order bytes more h)
     ∙ after_stays (kind_at p.order bytes) p _ bytes more h packet)
 
--- and how many bytes come before it
+-- the number of bytes before the next place stays
 pub size_stays : (order : Option Order) (bytes more : List ℕ) → head_size (kind_at order bytes) ≤ length bytes → size_of_any order (bytes ++ more) ≡ size_of_any order bytes
 size_stays order bytes more h =
     ap (λ (k : Kind). block_size k (number_at (order_at k order (bytes ++ more)) 4 4 (bytes ++ more))) (kind_stays order bytes more (omega (arith, rows_long (kind_at order bytes))))

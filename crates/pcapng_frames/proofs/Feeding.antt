@@ -88,7 +88,7 @@ part_block c interfaces part tail is b =
 pub head_none : (order : Option Order) (packet : Option PacketHead) (part : List ℕ) → packet ≡ None → HasHead order packet part
 head_none order packet part e = rw e tt
 
--- how a reader of a block goes on
+-- how a reader of a block continues
 block_rest : (c : Cursor) (interfaces : List Interface) (part tail : List ℕ) (whole : Bool) (refusal : Option Refusal) (more : List ℕ) → refusal ≡ None → whole ≡ false → c.stage ≡ stage.Block → c.skip ≡ 0
     → rest_of (reading (place_of c interfaces part) c.skip (part_at c.stage part tail) whole refusal) more ≡ contents_past 0 (place_of c interfaces part) part more
 block_rest c interfaces part tail whole refusal more none partial is zero =

@@ -67,7 +67,7 @@ stops p part more r e = past_none p part more ∙ (unroll p (part ++ more)
 pub takes_twice : (a b c : Reading) (x y : List ℕ) → Takes a x b → Takes b y c → Takes a (x ++ y) c
 takes_twice a b c x y first second = record { same = λ more. ap (rest_of a) (append_assoc x y more) ∙ (first.same (y ++ more) ∙ second.same more) }
 
--- what a reader stood for, it stands for after a step
+-- what is still to come from a reader is so after a step, too
 pub goes_on : (a b : Reading) (x : List ℕ) → Takes a x b → GoesOn (progress a) x (progress b)
 goes_on a b x t bytes records h = record { read = λ more. ap contents (append_assoc bytes x more) ∙ (h.read (x ++ more) ∙ ap (after_all records) (t.same more)) }
 

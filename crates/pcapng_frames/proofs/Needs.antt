@@ -137,7 +137,7 @@ block_came order part piece next n partial is grown came =
     let kept = rw (← grown) at keeps in
     (omega (arith, kept, need_eight order next), omega (arith, kept))
 
--- all that is needed of an option
+-- all that is needed of an option came, in a piece
 pub option_came : (order : Order) (part piece next : List ℕ) (n : ℕ) → length part < option_need order part → n ≡ min (length piece) (option_need order part - length part) → next ≡ part ++ take n piece → option_need order next ≤ length next
     → (4 ≤ length next) × (length next ≡ option_need order next)
 option_came order part piece next n partial is grown came =

@@ -17,7 +17,7 @@ use Rattle.pcapng_frames.specs.state.Fields.{AllResolved}
 pub power_some : (a k : ℕ) → 1 ≤ a → 1 ≤ a ^ k
 power_some a k h = one-le-pow k a h
 
--- units of a nanosecond and longer: so many whole nanoseconds each
+-- units of a nanosecond and longer: this many whole nanoseconds each
 pub long_units : (x k : ℕ) → k ≤ 9 → x * 10 ^ (9 - k) ≡ x * 1000000000 / 10 ^ k
 long_units x k h =
     let nine : (9 - k) + k ≡ 9 = omega arith in
@@ -25,7 +25,7 @@ long_units x k h =
     let all : x * 1000000000 ≡ x * 10 ^ (9 - k) * 10 ^ k = ap (λ (n : ℕ). x * n) (sym whole) ∙ sym (mul_assoc x (10 ^ (9 - k)) (10 ^ k)) in
     sym (div-eq_of_eq-mul_left (power_some 10 k (omega arith)) all)
 
--- shorter units: so many whole ones each nanosecond
+-- shorter units: this many whole ones each nanosecond
 pub short_units : (x k : ℕ) → 9 ≤ k → x / 10 ^ (k - 9) ≡ x * 1000000000 / 10 ^ k
 short_units x k h =
     let more : k ≡ (k - 9) + 9 = omega arith in

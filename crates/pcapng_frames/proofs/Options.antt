@@ -1,4 +1,4 @@
--- What is known of an option or a trailer stands, however the bytes go on.
+-- What is known of an option or a trailer stays true, whatever bytes follow.
 use Rattle.std.proofs.Common.{◌≡◌, ℕ, ◌⊎◌, ◌&&◌, not, ◌+◌, ◌-◌, ◌≤◌, ◌<◌, Bool, true, false, nat_lt, nat_eq, if◌then◌else◌, List, [], ◌∷◌, ◌++◌, length, drop, slice_index, Option, Some, None, refl, ap, sym, ◌∙◌, arith, inl, inr, length-append}
 use Rattle.std.proofs.lemmas.Bool.{cases_lt}
 use Rattle.std.proofs.lemmas.Bool.Decides.{nat_tests}
@@ -90,7 +90,7 @@ pub need_whole : (order : Order) (bytes : List ℕ) → 4 ≤ length bytes → o
 unfolding option_need
 need_whole order bytes h = grind (arith, nat_tests)
 
--- what is refused in an option stays refused, and what is not, once what is read of it is whole
+-- a refused field of an option stays refused, and an accepted one stays accepted once what is read of it is complete
 pub option_stays : (order : Order) (left start : ℕ) (bytes more : List ℕ) (x : Option Refusal) → first_refused start (length bytes) (option_rows (option_code order bytes) (option_length order bytes) left bytes) ≡ x
     → (x ≡ None → option_need order bytes ≤ length bytes)
     → first_refused start (length (bytes ++ more)) (option_rows (option_code order (bytes ++ more)) (option_length order (bytes ++ more)) left (bytes ++ more)) ≡ x

@@ -25,7 +25,7 @@ use Rattle.pcapng_frames.proofs.Numbers.{packet_is}
 use Rattle.pcapng_frames.proofs.Options.{at_trailer_place, trailer_moves}
 use Rattle.pcapng_frames.proofs.Stay.{arrival_stays, packet_stays}
 
--- what stands in a packet's fixed fields and its bytes
+-- what is in a packet's fixed fields and its bytes
 pub packet_front : (order : Option Order) (interfaces : List Interface) (front rest : List ℕ) (packet : WholePacket) → 28 ≤ length front → IsPacket order interfaces (front ++ rest) packet → IsPacket order interfaces front packet
 packet_front order interfaces front rest packet long p = record {
   opened = p.opened;
@@ -52,14 +52,14 @@ packet_accepted order interfaces start bytes packet long p =
 need_by_kind : (k : Kind) (order : Order) (n : ℕ) (bytes : List ℕ) → k ≡ kind.Packet → 28 ≤ length bytes → number_at order 20 4 bytes ≡ n → head_need k order bytes ≡ 28 + n
 need_by_kind k order n bytes is long e = rw (is, e) (grind (arith, nat_tests))
 
--- how much is needed of it
+-- how much is needed of a packet
 pub packet_needs : (order : Option Order) (interfaces : List Interface) (bytes : List ℕ) (packet : WholePacket) → 28 ≤ length bytes → IsPacket order interfaces bytes packet → block_need order bytes ≡ 28 + packet.captured
 unfolding block_need
 packet_needs order interfaces bytes packet long p =
     long_enough (length bytes) 8 _ _ (omega arith)
     ∙ need_by_kind (kind_at order bytes) (order_or_little order) packet.captured bytes p.kind long p.captured
 
--- the cursor before the trailer of a packet, of which so many bytes are passed
+-- the cursor before the trailer of a packet, of which this many bytes are passed
 abbrev pub before_trailer : Cursor → WholePacket → ℕ → Cursor
 before_trailer c packet skip = record {
   stage = stage.Trailer;
@@ -150,13 +150,13 @@ packet_taken c interfaces part tail piece next last whole held refusal packet no
     subst (λ (n : ℕ). Takes (reading (place_of c interfaces part) c.skip (part_at c.stage part tail) whole refusal) ((front ++ mid) ++ take 4 (drop (packet.total - 4) piece)) (reading q n last held refusal)) gone all in
     subst (λ (b : List ℕ). Takes (reading (place_of c interfaces part) c.skip (part_at c.stage part tail) whole refusal) b (reading q 0 last held refusal)) (all_bytes a s packet.total piece (omega arith) (omega arith)) settled
 
--- the fixed fields and the bytes of a packet were taken, where none had come
+-- the fixed fields and the bytes of a packet were taken, if none had come
 pub front_taken : (part piece next : List ℕ) (n size : ℕ) → part ≡ [] → size ≤ length piece → n ≡ min (length piece) (size - length part) → next ≡ part ++ take n piece → next ≡ part ++ take size piece
 front_taken part piece next n size nothing within is moved =
     let same : n ≡ size = omega (arith, is, ap length nothing) in
     moved ∙ ap (λ (k : ℕ). part ++ take k piece) same
 
--- and the trailer
+-- the trailer of a packet was taken
 pub last_taken : (clear piece last : List ℕ) (n k : ℕ) → clear ≡ [] → n + 4 ≤ length piece → k ≡ min (length (take (length piece - n) (drop n piece))) (4 - length clear) → last ≡ clear ++ take k (take (length piece - n) (drop n piece)) → last ≡ take 4 (drop n piece)
 last_taken clear piece last n k nothing within is moved =
     let rest : take (length piece - n) (drop n piece) ≡ drop n piece = take_all (length piece - n) (drop n piece) (omega (arith, length-drop n piece)) in

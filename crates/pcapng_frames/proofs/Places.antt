@@ -1,4 +1,4 @@
--- What the bytes from a place on hold does not hang on how many places are asked for, and goes on from place to place.
+-- What the bytes from a place on hold does not depend on how many places are asked for, and continues from place to place.
 use Rattle.std.proofs.Common.{◌≡◌, ℕ, zero, suc, ◌+◌, ◌-◌, ◌≤◌, ◌<◌, Bool, true, false, nat_lt, nat_eq, if◌then◌else◌, List, length, drop, refl, ap, arith, length-drop}
 use Rattle.std.proofs.lemmas.Bool.Decides.{nat_tests}
 use Rattle.pcapng_frames.specs.declared.block.Kind.{Kind}

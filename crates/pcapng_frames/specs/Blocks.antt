@@ -19,7 +19,7 @@ use Rattle.pcapng_frames.specs.Fields.{kind_of, order_of_magic, padded, Row, row
 
 -- A place in a capture: what comes next there, and what the bytes before it say.
 --
--- `order` is the byte order of the section, or None before the first; `interfaces` are those that were described in it;
+-- `order` is the byte order of the section, or `None` before the first; `interfaces` are those that were described in it;
 -- `start` is the offset of the block, and `total` its total length. In an interface description, `interface` is what
 -- its options say so far, and `left` is how many bytes of options are left. Before the trailer of a packet, `packet` is
 -- the packet.
@@ -71,11 +71,11 @@ kind_rows kind.Interface order interfaces bytes = interface_rows order (length i
 kind_rows kind.Packet order interfaces bytes = packet_rows order interfaces bytes
 kind_rows kind.Other order interfaces bytes = other_rows order bytes
 
--- a block comes before the first section header and is none itself
+-- a block before the first section header that is not a section header itself
 abbrev pub is_misplaced : Option Order → Kind → Bool
 is_misplaced order k = is_none order && not (is_section k)
 
--- the fields that are judged in a block; the first block of a capture has to be a section header
+-- the fields that are judged in a block; the first block of a capture must be a section header
 abbrev pub block_rows : Kind → Option Order → List Interface → List ℕ → List Row
 block_rows k order interfaces bytes =
     row BlockType 0 4 (is_misplaced order k) ∷ kind_rows k (order_at k order bytes) interfaces bytes
@@ -107,8 +107,8 @@ refusal_by stage.Trailer p bytes = trailer_refused (order_or_little p.order) (p.
 unfoldable pub refusal_here : Place → List ℕ → Option Refusal
 refusal_here p bytes = refusal_by p.stage p bytes
 
--- How many bytes of a block come before the next place: of an interface description its fixed fields, of any other
--- block all before its trailer.
+-- How many bytes of a block come before the next place: the fixed fields of an interface description; everything before the
+-- trailer of any other block.
 abbrev pub block_size : Kind → ℕ → ℕ
 block_size kind.Section total = 16 + (total - 20)
 block_size kind.Interface total = 16
@@ -204,19 +204,18 @@ next_by stage.Trailer p bytes = after_trailer p
 unfoldable pub next_place : Place → List ℕ → Place
 next_place p bytes = next_by p.stage p bytes
 
--- the packet that is whole after what comes here: that of the block, after its trailer
+-- the packet that is complete after what comes here: that of the block, after its trailer
 abbrev pub packet_by : Stage → Option Record → Option Record
 packet_by stage.Block packet = None
 packet_by stage.Option packet = None
 packet_by stage.Trailer packet = packet
 
--- How the bytes of a capture end: the first refusal, and whether it is for want of bytes, so that more bytes may change
--- it.
+-- How the bytes of a capture end: the first refusal, and whether bytes are missing, so that more bytes may change it.
 pub record Ending : Type 0 where
   pub refusal : Refusal
   pub cut : Bool
 
--- an ending for want of bytes, by this field
+-- an ending because bytes are missing, by this field
 abbrev pub short_at : Field → ℕ → Ending
 short_at field at = record { refusal = record { field = field; at = at; short = true }; cut = true }
 

@@ -1,5 +1,5 @@
--- The fields of a pcapng capture's blocks, at which offsets they are, and which values are refused
--- (draft-ietf-opsawg-pcapng, sections 3 and 4).
+-- The fields of a pcapng capture's blocks, their offsets, and which values are refused (draft-ietf-opsawg-pcapng, sections 3
+-- and 4).
 use Rattle.std.specs.Prelude.{ℕ, ℤ, ◌+◌, ◌*◌, ◌/◌, ◌%◌, ◌^◌, Bool, not, ◌&&◌, ◌||◌, nat_lt, nat_le, nat_eq, false, if◌then◌else◌, List, [], ◌∷◌, length, slice_index, slice_index_or, Option, Some, None, is_none}
 use Rattle.std.specs.Int.{cast_signed, w64}
 use Rattle.avtp_base.specs.declared.field.Field.{Field}
@@ -51,9 +51,9 @@ row field offset end refuses = record { field = field; offset = offset; end = en
 abbrev pub refusal_at : Field → ℕ → Refusal
 refusal_at field at = record { field = field; at = at; short = false }
 
--- The first row of a table that refuses, among those whose bytes are in the first `len`. A table's rows are in the
--- order in which their fields end, so that no row is judged after one whose bytes have not come. The bytes begin at
--- offset `start` of the capture.
+-- The first row of a table that refuses, among those whose bytes are in the first `len`. A table's rows are in the order in
+-- which their fields end, so no row is judged after one whose bytes have not come. The bytes begin at offset `start` of the
+-- capture.
 abbrev pub first_refused : ℕ → ℕ → List Row → Option Refusal
 first_refused start len [] = None
 first_refused start len (r ∷ rows) =
@@ -61,7 +61,7 @@ first_refused start len (r ∷ rows) =
     else if r.refuses then Some (refusal_at r.field (start + r.offset))
     else first_refused start len rows
 
--- a total length is too small for a block of this kind, or no multiple of 4
+-- a total length is too small for a block of this kind, or not a multiple of 4
 abbrev pub bad_length : Kind → ℕ → Bool
 bad_length k total = nat_lt total (least_size k) || not (nat_eq (total % 4) 0)
 
@@ -126,7 +126,7 @@ option_rows code len left bytes =
     ∷ row IfTsresol 0 5 (nat_eq code 9 && not (is_resolution (slice_index bytes 4)))
     ∷ []
 
--- the interface after the option that the bytes begin with: of two equal options the last one counts
+-- the interface after the option that the bytes begin with: if an option comes twice, the last one counts
 abbrev pub with_option : Order → ℕ → Interface → List ℕ → Interface
 with_option order code interface bytes =
     if nat_eq code 9 then record interface { resolution = slice_index bytes 4 }

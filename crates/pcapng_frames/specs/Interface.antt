@@ -2,7 +2,7 @@
 use Rattle.std.specs.Prelude.{ℕ, ◌-◌, ◌*◌, ◌/◌, ◌^◌, Bool, nat_lt, nat_le, ℤ, pos, ◌+ℤ◌, ◌*ℤ◌, int_lt, if◌then◌else◌, Option, Some, None}
 use Rattle.pcapng_frames.specs.declared.interface.Interface.{Interface}
 
--- the clock of an interface without options: microseconds from the epoch
+-- the clock of an interface without options: microseconds since the epoch
 abbrev pub microseconds : Interface
 microseconds = record { resolution = 6; offset = pos 0 }
 

@@ -25,8 +25,8 @@ nothing_read = record { place = first_place; skip = 0; part = []; whole = false;
 abbrev pub contents_at : Place → List ℕ → Contents
 contents_at p bytes = contents_from (suc (length bytes)) p bytes
 
--- what is still to come of a capture if the bytes `more` follow, of which `skip` are skipped and the others follow what
--- has come of the place
+-- what is still to come of a capture if the bytes `more` follow: `skip` of them are skipped, and the others follow what has
+-- come of the place
 abbrev pub contents_past : ℕ → Place → List ℕ → List ℕ → Contents
 contents_past skip p part more =
     if nat_lt (length more) skip then ends (Some (short_at BlockBody (p.start + 8)))
@@ -47,8 +47,8 @@ rest_of r more = rest_by r.refusal r.whole r more
 abbrev pub after_all : List Record → Contents → Contents
 after_all records rest = record { records = records ++ rest.records; ending = rest.ending }
 
--- The reader has taken these bytes, and of their packets it has released these, in order: whatever follows, the bytes
--- hold these packets and what is still to come.
+-- The reader has taken these bytes, and has released these of their packets, in order: whatever follows, the bytes hold these
+-- packets and what is still to come.
 pub record HasRead (r : Reading) (bytes : List ℕ) (records : List Record) : Type 0 where
   pub read : (more : List ℕ) → contents (bytes ++ more) ≡ after_all records (rest_of r more)
 
@@ -62,7 +62,7 @@ held_by None false packet = None
 abbrev pub held : Reading → Option Record
 held r = held_by r.refusal r.whole r.place.packet
 
--- how many bytes of a block come before what comes here, less those that are still to be skipped
+-- how many bytes of a block come before this place, less those that are still to be skipped
 abbrev pub passed_by : Stage → ℕ → ℕ → ℕ → ℕ
 passed_by stage.Block skip left total = 0
 passed_by stage.Option skip left total = total - 4 - left - skip

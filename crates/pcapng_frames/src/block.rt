@@ -1,4 +1,4 @@
-//! What a pcapng capture is made of.
+//! The blocks of a pcapng capture.
 
 use crate::interface::Interface;
 use pcap_frames::Order;
@@ -27,16 +27,16 @@ pub enum Stage {
     Trailer,
 }
 
-/// What the fixed fields of an enhanced packet say of it.
+/// What the fixed fields of an enhanced packet say.
 #[derive(Clone, Copy, Debug, PartialEq, Eq)]
 pub struct PacketHead {
-    /// When the frame was captured, in nanoseconds from the epoch.
+    /// When the frame was captured, in nanoseconds since the epoch.
     pub arrival: u64,
     /// The length in bytes of the frame on the wire.
     pub orig_len: u32,
 }
 
-/// An enhanced packet whose block lies whole in a piece.
+/// An enhanced packet whose block is complete in a piece.
 #[derive(Clone, Copy, Debug, PartialEq, Eq)]
 pub struct WholePacket {
     /// What its fixed fields say.
@@ -52,7 +52,7 @@ pub struct WholePacket {
 pub struct Cursor {
     /// What comes next.
     pub stage: Stage,
-    /// The section's byte order. None before the first section.
+    /// The section's byte order. `None` before the first section.
     pub order: Option<Order>,
     /// The interface that is being described.
     pub interface: Option<Interface>,

@@ -19,7 +19,7 @@ const SECOND: u128 = 1_000_000_000;
 /// The first instant, in nanoseconds, that is too late for an arrival.
 const ARRIVAL_LIMIT: i128 = 4_294_967_296_000_000_000;
 
-/// Units of microseconds from the epoch.
+/// Microseconds since the epoch.
 pub const MICROSECONDS: Interface = Interface {
     resolution: 6,
     offset: 0,
@@ -52,8 +52,8 @@ fn units_in(resolution: u8) -> u64
 
 /// The nanoseconds of a timestamp, rounded down.
 ///
-/// Decimal units need no long division: those of a nanosecond and more are whole nanoseconds, and of shorter ones a
-/// nanosecond has a whole number.
+/// Decimal units need no long division: a unit of a nanosecond or more is a whole number of nanoseconds, and a nanosecond is a
+/// whole number of shorter units.
 #[tactic(auto, using(crate::proofs::Numbers::long_units, crate::proofs::Numbers::short_units, crate::proofs::Numbers::power_some, crate::proofs::Numbers::time_limit))]
 fn nanoseconds(resolution: u8, timestamp: u64) -> u128
     requires { is_resolution resolution ≡ true }
@@ -79,7 +79,7 @@ fn instant_of(interface: Interface, timestamp: u64) -> i128
     i128::from(interface.offset) * 1_000_000_000 + nanoseconds as i128
 }
 
-/// The arrival of a packet, in nanoseconds. None if it is not a time that a capture can have.
+/// The arrival of a packet, in nanoseconds. `None` if a capture cannot have this time.
 pub fn arrival(interface: Interface, timestamp: u64) -> Option<u64>
     requires { is_resolution interface.resolution ≡ true }
     ensures exact { option_map pos result ≡ arrival_of interface timestamp }

@@ -1,4 +1,4 @@
-//! At which offsets the fields of blocks are (draft-ietf-opsawg-pcapng, sections 3 and 4).
+//! The offsets of the fields of blocks (draft-ietf-opsawg-pcapng, sections 3 and 4).
 
 ghost use Rattle.std.specs.Prelude.{◌≡◌, ◌+◌, ◌<◌, ◌≤◌, ◌^◌, length, pos, IfSome};
 ghost use Rattle.std.specs.Int.{cast_signed, w64};

@@ -1,4 +1,4 @@
-//! Captures in the pcapng layout, in any pieces.
+//! Captures in the pcapng layout, in pieces of any length.
 #![tactic(auto)]
 
 mod block;

@@ -24,9 +24,8 @@ const PART_ROOM: usize = 262_172;
 /// The most bytes of an option that are held: its header and the value of `if_tsoffset`.
 const TAIL_ROOM: usize = 12;
 
-/// Reads a pcapng capture (draft-ietf-opsawg-pcapng). It takes the capture's bytes in pieces of any length, and holds
-/// one packet at a time: feed a piece until all of it is taken, and look at the held packet and release it after each
-/// call.
+/// Reads a pcapng capture (draft-ietf-opsawg-pcapng). It takes the capture's bytes in pieces of any length, and holds one
+/// packet at a time: feed a piece until all of it is taken, and after each call look at the held packet and release it.
 #[derive(Debug, Drop)]
 pub struct Ng {
     cursor: Cursor,
@@ -54,8 +53,7 @@ impl Model for Ng {
 }
 
 impl Ng {
-    /// A reader that has taken nothing. It reserves the memory of one packet and of 256 interfaces, and takes no more
-    /// later.
+    /// A reader that has taken nothing. It allocates the memory of one packet and of 256 interfaces, and no more later.
     pub fn new(alloc: Global) -> Result<Self, NoMemory>
         ensures empty { IfOk result (λ reader. reader ≡ nothing_read) }
         ensures read { IfOk result (λ reader. HasRead reader [] []) }
@@ -79,13 +77,12 @@ impl Ng {
         })
     }
 
-    /// Takes bytes up to the end of one packet's block or of the piece, and answers how many.
+    /// Takes bytes up to the end of one packet's block or of the piece, and returns how many.
     ///
-    /// A reader that is not refused answers `Ok(0)` exactly if the piece is empty or a whole packet is held. The
-    /// refusal is the capture's first, and comes as soon as the bytes so far show it; from then on every `feed` and
-    /// every `finish` answers it.
+    /// A reader that is not refused returns `Ok(0)` exactly if the piece is empty or a whole packet is held. The refusal is the
+    /// capture's first, and comes as soon as the bytes so far show it; from then on every `feed` and every `finish` returns it.
     ///
-    /// At most 2^62 bytes may be taken in all, the piece among them.
+    /// At most 2^62 bytes may be taken in all, including the piece.
     pub fn feed(&mut self, piece: &[u8]) -> Result<usize, Refusal>
         requires { taken self.old + length piece.now ≤ 2 ^ 62 }
         ensures { Feeds meaning (progress self.old) piece.now result (progress self.new) }
@@ -141,7 +138,7 @@ impl Ng {
         }
     }
 
-    /// Drops the held packet, so that the next can be taken. Answers whether there was one.
+    /// Drops the held packet, so that the next can be taken. Returns whether there was one.
     pub fn release(&mut self) -> bool
         ensures answer { result ≡ is_some (held self.old) }
         ensures releases { Releases (progress self.old) (progress self.new) }
@@ -160,8 +157,8 @@ impl Ng {
 
     /// Whether the bytes so far are a whole capture: whole blocks, of which the first is a section header.
     ///
-    /// Otherwise it answers the earlier refusal, or what the bytes lack, mostly with `short`. It changes nothing: bytes
-    /// may follow.
+    /// Otherwise it returns the earlier refusal, or what the bytes lack, usually with `short`. It changes nothing: bytes may
+    /// follow.
     pub fn finish(&self) -> Result<(), Refusal>
         ensures { Ends meaning (progress self.now) result }
     {
@@ -195,7 +192,7 @@ impl Ng {
         }
     }
 
-    /// Skips bytes that are not read; of a block that is skipped, nothing is held, whatever its length.
+    /// Skips bytes that are not read. Nothing is held of a block that is skipped, whatever its length.
     fn pass(&mut self, piece: &[u8]) -> usize
         requires going { IsGoing self.old piece.now }
         requires some { 0 < self.old.skip }
@@ -207,7 +204,7 @@ impl Ng {
         taken
     }
 
-    /// The packet whose block lies whole in the piece, if no block has begun and nothing in it is refused.
+    /// The packet whose block is complete in the piece, if no block has begun and nothing in it is refused.
     fn packet_ahead(&self, piece: &[u8]) -> Option<WholePacket>
         requires { self.now.place.stage ≡ stage.Block }
         ensures begins { IfSome result (λ packet. self.now.part ≡ []) }
@@ -219,8 +216,8 @@ impl Ng {
         steps::whole_packet(self.cursor.order, self.interfaces.as_slice(), piece)
     }
 
-    /// Takes the whole block of a packet in one step. The steps from place to place, for blocks that are cut, refused
-    /// or of another kind, come to the same state.
+    /// Takes the whole block of a packet in one step. The steps from place to place, for blocks that are cut, refused or of
+    /// another kind, lead to the same state.
     fn feed_packet(&mut self, packet: WholePacket, piece: &[u8]) -> usize
         requires at { IsAt stage.Block self.old piece.now }
         requires begins { self.old.part ≡ [] }

@@ -19,7 +19,7 @@ use avtp_base::{Field, Refusal};
 use pcap_frames::Order;
 use pcap_frames::numbers::{u16_at, u32_at};
 
-/// Whether a total length is too small for the kind of block, or no multiple of 4.
+/// Whether a total length is too small for the kind of block, or not a multiple of 4.
 pub fn bad_length(kind: Kind, total: u32) -> bool
     ensures { result ≡ is_bad_length kind total }
 {
@@ -186,7 +186,7 @@ fn whole_section_refusal(start: u64, bytes: &[u8]) -> Option<Refusal>
     }
 }
 
-/// Whether the first block of a capture is of another kind than a section header.
+/// Whether the first block of a capture is not a section header.
 fn misplaced(kind: Kind, order: Option<Order>) -> bool
     ensures { result ≡ is_misplaced order kind }
 {
@@ -218,7 +218,7 @@ pub fn block_refusal(
     kind_refusal(kind, order, interfaces, start, bytes)
 }
 
-/// Whether a trailer is refused: its bytes have come, and are not the total length.
+/// Whether a trailer is refused: its bytes have come, and differ from the total length.
 #[tactic(auto, unfolding(crate::specs::Blocks::trailer_refused))]
 pub fn trailer_refusal(order: Order, at: u64, total: u32, tail: &[u8]) -> Option<Refusal>
     ensures { result ≡ refused_in_trailer order at total tail.now }
@@ -229,8 +229,8 @@ pub fn trailer_refusal(order: Order, at: u64, total: u32, tail: &[u8]) -> Option
     None
 }
 
-/// What a block lacks that the end of the bytes cuts off, in a section with `count` interfaces. After a whole block
-/// that is nothing.
+/// What is missing of a block that the end of the bytes cuts off, in a section with `count` interfaces. Nothing is missing
+/// after a whole block.
 pub fn missing_of_block(
     order: Option<Order>,
     count: usize,

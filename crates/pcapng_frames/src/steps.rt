@@ -1,4 +1,4 @@
-//! How a cursor goes on: how much is read of a block, an option or a trailer, and what it leaves.
+//! How a cursor moves on: how much is read of a block, an option or a trailer, and the cursor after it.
 
 ghost use Rattle.std.specs.Prelude.{ℕ, List, [], ◌++◌, true, ◌≡◌, ◌+◌, ◌-◌, ◌<◌, ◌≤◌, ◌^◌, ◌%◌, is_some, vec_capacity, length, pos, IfSome, Some};
 ghost use Rattle.std.specs.Option.{option_to_list};
@@ -23,7 +23,7 @@ use crate::refusals::bad_length;
 use pcap_frames::Order;
 use pcap_frames::numbers::{u16_at, u32_at};
 
-/// How many bytes of a block are to come before more is known of it.
+/// How many bytes of a block must come before more is known of it.
 #[tactic(auto, unfolding(crate::specs::state::Reading::block_need))]
 pub fn block_need(order: Option<Order>, part: &[u8]) -> usize
     ensures { result ≡ need_of_block order part.now }
@@ -39,7 +39,7 @@ pub fn block_need(order: Option<Order>, part: &[u8]) -> usize
     }
 }
 
-/// How many bytes of an enhanced packet are to come before more is known of it.
+/// How many bytes of an enhanced packet must come before more is known of it.
 fn packet_need(order: Order, part: &[u8]) -> usize
     ensures { result ≡ head_need kind.Packet order part.now }
 {
@@ -194,7 +194,7 @@ fn accepted_head(order: Order, interfaces: &[Interface], bytes: &[u8]) -> Option
     Some(head)
 }
 
-/// The enhanced packet that the bytes begin with, if its block lies whole in them and nothing in it is refused.
+/// The enhanced packet that the bytes begin with, if its block is complete in them and nothing in it is refused.
 pub fn whole_packet(
     order: Option<Order>,
     interfaces: &[Interface],
@@ -248,7 +248,7 @@ pub fn after_block(cursor: Cursor, interfaces: &[Interface], part: &[u8]) -> Cur
     }
 }
 
-/// How many bytes of an option are to come before more is known of it.
+/// How many bytes of an option must come before more is known of it.
 #[tactic(auto, unfolding(crate::specs::state::Reading::option_need))]
 pub fn option_need(order: Order, tail: &[u8]) -> usize
     ensures { result ≡ need_of_option order tail.now }
@@ -373,7 +373,7 @@ pub fn after_trailer(cursor: Cursor) -> Cursor
     }
 }
 
-/// The section's interfaces after a block: one that was described is the next one.
+/// The section's interfaces after a block: one that was described becomes the next one.
 pub fn add_described(interface: Option<Interface>, interfaces: &mut Vec<Interface>)
     requires room { IfSome interface (λ i. length interfaces.old.items < 256) }
     requires capacity { 256 ≤ vec_capacity interfaces.old }

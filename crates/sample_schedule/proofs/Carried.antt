@@ -16,7 +16,7 @@ times_more q n d =
     let f : d * (up (q +ℤ pos n) + down q) ≡ d * (down (q +ℤ pos n) + up q + n) = ap (λ (m : ℕ). d * m) e in
     omega (arith, ints)
 
--- what is left over tells the instant
+-- the fraction that rounding drops gives the instant
 pub instant_from_rest : (batch : Presented) (j : ℕ) (instant : ℤ) (rest : ℕ) → IsRestOf batch j instant rest → instant ≡ sample_instant batch j
 instant_from_rest batch j instant rest is =
     let k = batch.from +ℤ pos j in
@@ -46,7 +46,7 @@ carried batch j instant rest step step_rest carry rest' is is_step sum below =
       below = below;
     }
 
--- what is left over of the first sample's instant
+-- the fraction of the first sample's instant
 pub first_is_rest : (batch : Presented) (instant : ℤ) (rest : ℕ) → 0 < batch.line.den → instant ≡ sample_instant batch 0
     → pos rest ≡ int_rem_euclid (batch.from *ℤ pos batch.line.num) (pos batch.line.den) → IsRestOf batch 0 instant rest
 first_is_rest batch instant rest some at is =

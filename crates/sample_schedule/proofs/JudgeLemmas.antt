@@ -1,4 +1,4 @@
--- What each move of a judge leaves.
+-- The state of a judge after each of its moves.
 use Rattle.std.proofs.Common.{◌≡◌, inl, inr, ℕ, zero, suc, ◌+◌, ◌-◌, ◌<◌, ◌≤◌, Bool, true, false, ℤ, pos, ◌≤ℤ◌, ◌<ℤ◌, List, [], ◌∷◌, ◌++◌, length, take, drop, map, Option, Some, None, Result, Ok, Err, refl, sym, ap, ◌∙◌, subst, append_assoc, append-nil, arith}
 use Rattle.std.specs.Prelude.{if◌then◌else◌, is_some, slice_get, ◌≢◌}
 use Rattle.std.specs.Int.{int_max}
@@ -463,7 +463,7 @@ nothing : by_instant [] ≡ []
 unfolding by_instant
 nothing = refl
 
--- what stands where no entry is being judged and more may follow
+-- the state of a judge while no entry is being judged and more may follow
 pub record Idle (clock : Clock) (entries : List Entry) (given : ℕ) (s : JudgeState) : Type 0 where
   pub count : given ≡ length (steps clock s.plan entries s.place)
   pub waiting : s.waiting ≡ before_of clock entries s
@@ -577,7 +577,7 @@ closes clock entries given s st opened = record {
 pub stands-begin : (clock : Clock) (plan : SchedulePlan) (noted : Noted) (waiting : List Accepted) (ahead : List Pending) → IsClockOf plan clock → HasNoted plan [] noted → waiting ≡ [] → ahead ≡ [] → StandsFor clock [] 0 (record { plan = plan; place = 0; time = pos 0; noted = noted; waiting = waiting; current = None; ahead = ahead; closed = false })
 stands-begin clock plan noted waiting ahead asks notes e f = rw (e, f) (stands-first clock plan noted asks notes)
 
--- ---- the same, of what is computed
+-- ---- in terms of what the code computes
 
 pub accepted-as : (clock : Clock) (entries : List Entry) (given : ℕ) (s : JudgeState) (item : Item) (a : Accepted) (waiting : List Accepted) (after : Option Pending) → StandsFor clock entries given s → s.current ≡ Some (PendingItem item) → length s.ahead ≤ s.plan.look → starts_due s.time s.waiting ≡ false
     → Ok a ≡ verdict s.plan s.time (accepted clock s.plan entries s.place) s.place (timed clock s.plan entries item) → s.time ≤ℤ a.instant → waiting ≡ put_behind s.waiting a → after ≡ None
@@ -623,7 +623,7 @@ due-given clock entries given s new first st some waits early same = of s.curren
 pub last-given : (clock : Clock) (entries : List Entry) (given : ℕ) (s new : JudgeState) (first : Accepted) → StandsFor clock entries given s → s.closed ≡ true → s.current ≡ None → s.ahead ≡ [] → s.waiting ≡ first ∷ new.waiting → new ≡ record s { waiting = new.waiting } → Gives clock entries given (present first) s new
 last-given clock entries given s new first st ended idle none waits same = subst (Gives clock entries given (present first) s) (sym same) (gives-last clock entries given s first new.waiting st ended idle none waits)
 
--- what a judge holds where nothing is due
+-- what a judge holds if nothing is due
 pub held-so : (clock : Clock) (entries : List Entry) (given : ℕ) (s : JudgeState) → StandsFor clock entries given s → s.closed ≡ false → s.current ≡ None → s.waiting ≡ waiting clock s.plan entries
 held-so clock entries given s st opened idle =
     let n : s.place ≡ settled s.plan entries = sym (begun-none s idle) ∙ st.settles opened in

@@ -142,7 +142,7 @@ sound-next s capacity held next now is idle few fits' =
       bytes = is.bytes;
     }
 
--- ---- the same, of what is computed
+-- ---- in terms of what the code computes
 
 abbrev next_state : JudgeState → ℤ → Pending → JudgeState
 next_state s time next = record s { time = time; current = Some next }

@@ -1,4 +1,4 @@
--- Each item is shown as its verdict has it.
+-- Each item is shown as its verdict says.
 use Rattle.std.proofs.Common.{◌≡◌, ◌⊎◌, inl, inr, ℕ, zero, suc, ◌+◌, ◌-◌, ◌<◌, ◌≤◌, Bool, true, false, cond, List, [], ◌∷◌, ◌++◌, length, take, ℤ, Option, Some, None, Result, Ok, Err, refl, sym, ap, ◌∙◌, subst, eq-eqb, arith}
 use Rattle.std.specs.Prelude.{◌==◌, if◌then◌else◌, int_lt, filter, fold, map, option_map, slice_get, IfOk}
 use Rattle.std.proofs.lemmas.List.Sums.{length-filter}
@@ -125,7 +125,7 @@ presented_in (Presents b ∷ gs) a (inl e) = inl (ap Presents e)
 presented_in (Presents b ∷ gs) a (inr h) = inr (presented_in gs a h)
 presented_in (Flags place item reason ∷ gs) a h = inr (presented_in gs a h)
 
--- ---- what is not is flagged
+-- ---- what is not accepted is flagged
 
 flag_stays : (clock : Clock) (plan : SchedulePlan) (es : List Entry) (n k : ℕ) (g : Given) → In (steps clock plan es n) g → In (steps clock plan es (n + k)) g
 unfolding steps

@@ -58,7 +58,7 @@ none-due now s (x ∷ xs) e = absurd (let h : Some x ≡ None = e in cc)
 
 -- ---- slots
 
--- no key has a slot in which nothing stands
+-- no key has an empty slot
 not-taken : (s : Slab Accepted) (slot : ℕ) (ks : List Key) → get s slot ≡ None → AllByRecursion (IsKey s) ks → AllByRecursion (λ k. k.slot ≢ slot) ks
 not-taken s slot [] none p = tt
 not-taken s slot (k ∷ ks) none p =
@@ -84,7 +84,7 @@ own-put (x ∷ xs) k o p = elim (int_lt k.instant x.instant) as (λ v. HaveOwnSl
 
 -- ---- one more waits
 
--- a batch was put into a free slot, and its key behind those that are not later
+-- a batch was put into a free slot, and its key after those that are not later
 pub record IsPut (s t : Slab Accepted) (ks ls : List Key) (k : Key) (a : Accepted) : Type 0 where
   pub free : get s k.slot ≡ None
   pub slot : Updates s t k.slot (Some a)

@@ -56,14 +56,14 @@ notes-none plan entries e old new h is same clock = record {
 pub notes-item : (plan : SchedulePlan) (entries : List Entry) (e : Entry) (noted : Noted) → HasNoted plan entries noted → row_of e ≡ None → stamp_of e ≡ None → HasNoted plan (entries ++ e ∷ []) noted
 notes-item plan entries e noted h item is = notes-none plan entries e noted noted h is refl (clock-stays plan entries e noted.clock h.clock item)
 
--- where there is none, no packet of it is noted
+-- without a clock, no packet of a clock is noted
 pub clock-none : (plan : SchedulePlan) (entries more : List Entry) (clock : Option ClockState) → HasClock plan entries clock → clock ≡ None → HasClock plan more clock
 clock-none plan entries more clock h is = subst (HasClock plan more) (sym is) (subst (HasClock plan entries) is h)
 
 pub clock-some : (plan : SchedulePlan) (entries : List Entry) (clock : Option ClockState) (there : ClockState) → HasClock plan entries clock → clock ≡ Some there → HasNotedClock plan entries there
 clock-some plan entries clock there h is = subst (HasClock plan entries) is h
 
--- a packet of the clock, which the clock notes where there is one
+-- a packet of the clock, which the clock notes if there is one
 pub notes-row : (plan : SchedulePlan) (entries : List Entry) (e : Entry) (row : ClockRow) (old new : ClockState) → HasNotedClock plan entries old → row_of e ≡ Some row → ((rows : List ClockRow) → StandsForRows old rows → StandsForRows new (rows ++ row ∷ [])) → new.shift ≡ old.shift
     → HasNotedClock plan (entries ++ e ∷ []) new
 notes-row plan entries e row old new h is notes same = record {

@@ -98,7 +98,7 @@ pub left-waiting : (from to : ℤ) (xs : List Accepted) → from ≤ℤ to → l
 unfolding by_instant
 left-waiting from to xs le = left_of-fold to [] (standing from xs) ∙ ap (λ (l : List Accepted). fold put_behind [] l) (standing-standing from to xs le)
 
--- one more that stands
+-- one more standing item
 pub waiting-more : (now : ℤ) (xs : List Accepted) (a : Accepted) → int_le now a.instant ≡ true → by_instant (standing now (xs ++ a ∷ [])) ≡ put_behind (by_instant (standing now xs)) a
 unfolding by_instant
 waiting-more now xs a stands =
@@ -152,7 +152,7 @@ pub any-by_instant : (p : Accepted → Bool) (xs : List Accepted) → list_any p
 unfolding by_instant
 any-by_instant p xs = any-fold p [] xs
 
--- what a test asks for stands, so it is found among what stands
+-- an item that the test accepts is standing, so it is found among the standing ones
 pub any-standing : (p : Accepted → Bool) (now : ℤ) → ((a : Accepted) → p a ≡ true → int_le now a.instant ≡ true) → (xs : List Accepted) → list_any p (standing now xs) ≡ list_any p xs
 any-standing p now asks [] = refl
 any-standing p now asks (x ∷ xs) =

@@ -1,4 +1,4 @@
--- A verdict over what waits is the one over all that was accepted.
+-- A verdict over the waiting items is the verdict over all accepted items.
 use Rattle.std.proofs.Common.{◌≡◌, ℕ, true, false, ℤ, ◌≤ℤ◌, List, length, Ok, refl, arith}
 use Rattle.std.specs.Prelude.{int_lt, int_le}
 use Rattle.std.specs.List.{list_any}

@@ -1,4 +1,4 @@
--- The head of a packet: the stamped sample from which its instants are counted.
+-- The head of a packet: the stamped sample that its instants are counted from.
 use Rattle.std.specs.Prelude.{ℕ, ◌+◌, ◌-◌, ◌%◌, ◌==◌, nat_lt, if◌then◌else◌, pos, neg_ℤ, List, Option, None, option_map, option_and_then}
 use Rattle.std.specs.List.{filter_map}
 use Rattle.std.specs.Option.{option_or}
@@ -17,8 +17,8 @@ use Rattle.sample_schedule.specs.declared.plan.SchedulePlan.{SchedulePlan}
 
 -- ---- the stamp of a packet
 
--- The timestamp of a packet, if samples can be counted from it: it is there and certain, the rate is known, and the
--- packet has the sample that it belongs to.
+-- The timestamp of a packet, if samples can be counted from it: it is valid and certain, the rate is known, and the packet has
+-- the sample that it belongs to.
 abbrev pub usable_stamp : Packet → Option ℕ
 usable_stamp p =
     if p.tu then None else
@@ -43,11 +43,11 @@ stamps_of entries = filter_map stamp_of entries
 
 -- ---- how far back the head of a packet without a usable stamp is
 
--- how far back the stamp is from which a packet without a usable one is counted, if its format has such a rule
+-- how far back the stamp is that a packet without a usable timestamp is counted from, if its format has such a rule
 abbrev pub distance_back : Packet → Option Distance
 distance_back p = distance p.rule p.seq p.count
 
--- what is looked for among the stamps, to count packet p from one `far` back
+-- the stamp that packet p needs to be counted from one that is `far` back
 abbrev pub want_of : SchedulePlan → Packet → Distance → Want
 want_of plan p far = record {
   seq = (p.seq + 256 - far.packets) % 256;
@@ -70,13 +70,13 @@ head_at p timestamp = record { instant = unfolded timestamp p.arrival; first = n
 abbrev pub own_head : Packet → Option Head
 own_head p = option_map (head_at p) (usable_stamp p)
 
--- the head of a packet by the timestamp of another one, if one of the last stamps of the prefix fits
+-- the head of a packet by the timestamp of another packet, if one of the last stamps of the prefix fits
 abbrev pub head_back : SchedulePlan → List Entry → Packet → Option Head
 head_back plan prefix p =
     option_and_then (λ (far : Distance).
     option_map (λ (stamp : Stamp). record { instant = stamp.instant; first = pos far.samples })
     (found (plan.look + 16) (want_of plan p far) (stamps_of prefix))) (distance_back p)
 
--- the head of a packet: by its own timestamp if that is usable, else by the one that is found for it
+-- the head of a packet: by its own timestamp if that is usable, else by another packet's that is found for it
 abbrev pub head_of : SchedulePlan → List Entry → Packet → Option Head
 head_of plan prefix p = option_or (own_head p) (head_back plan prefix p)

@@ -1,4 +1,4 @@
--- A judge, which is given a stream of entries one at a time and shows what is certain of it.
+-- A judge, which takes a stream of entries one at a time and shows what is certain of it.
 use Rattle.std.specs.Prelude.{◌≡◌, ℕ, ◌+◌, ◌*◌, ◌≤◌, Bool, true, false, if◌then◌else◌, ℤ, ◌<ℤ◌, List, [], ◌∷◌, ◌++◌, length, take, drop, map, Option, None, Some}
 use Rattle.std.specs.List.{AllByRecursion}
 use Rattle.std.specs.Option.{option_to_list}
@@ -24,9 +24,8 @@ pending_of (OfClock arrival row) = PendingClock arrival
 
 -- ---- the judge
 
--- A judge: how many entries are judged, the greatest arrival up to the one being judged, what was noted of all entries,
--- the accepted batches that wait for their instant, the entry being judged, those after it, and whether the list has
--- ended.
+-- A judge: how many entries are judged, the greatest arrival up to the current one, what was noted of all entries, the accepted
+-- batches that wait for their instant, the current entry, the entries after it, and whether the list has ended.
 pub record JudgeState : Type 0 where
   pub plan : SchedulePlan
   pub place : ℕ
@@ -49,7 +48,7 @@ taken judge = begun judge + length judge.ahead
 abbrev pub work : JudgeState → ℕ
 work judge = 2 * (length (option_to_list judge.current) + length judge.ahead) + length judge.waiting
 
--- No entry is being judged: all that is due of the entries so far was given.
+-- There is no current entry: all that is due of the entries so far was given.
 abbrev pub IsIdle : JudgeState → Type 0
 IsIdle judge = judge.current ≡ None
 
@@ -67,17 +66,17 @@ none_left (Some p) ahead = false
 abbrev pub is_over : JudgeState → Bool
 is_over judge = if judge.closed then none_left judge.current judge.ahead else false
 
--- The judge was given these entries, and has given `given` items of what it shows of them, by the clock of its plan.
+-- The judge was given these entries, and has given `given` of the items that it shows of them, by the clock of its plan.
 pub record StandsFor (clock : Clock) (entries : List Entry) (given : ℕ) (judge : JudgeState) : Type 0 where
   pub asks : IsClockOf judge.plan clock
-  -- the judge has the entries that are not judged, and has noted of all entries what others are counted from
+  -- the judge has the entries that are not judged, and has noted the stamps and clock packets of all entries
   pub within : judge.place ≤ length entries
   pub left : map pending_of (drop judge.place entries) ≡ option_to_list judge.current ++ judge.ahead
   pub noted : HasNoted judge.plan entries judge.noted
   pub now : judge.time ≡ latest (take (begun judge) entries)
-  -- while further entries may follow, those are judged whose prefix is whole
+  -- while more entries may follow, those entries are judged whose prefix is complete
   pub settles : judge.closed ≡ false → begun judge ≡ settled judge.plan entries
-  -- of what waited before the entry that is being judged, some was presented, since its instant has passed, and the others wait
+  -- of the batches that waited before the current entry, those whose instant has passed were presented, and the others wait
   pub passed : List Accepted
   pub waiting : passed ++ judge.waiting ≡ by_instant (standing (latest (take judge.place entries)) (accepted clock judge.plan entries judge.place))
   pub early : is_over judge ≡ false → AllByRecursion (λ a. a.instant <ℤ judge.time) passed

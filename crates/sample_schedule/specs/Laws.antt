@@ -1,4 +1,4 @@
--- What holds of every schedule.
+-- Laws of every schedule.
 use Rattle.std.specs.Prelude.{◌≡◌, ◌≢◌, ℕ, suc, ◌==◌, ◌<◌, ◌⊎◌, ⊤, ◌<ℤ◌, List, [], ◌∷◌, count_by, filter, Option, Some, None, Result, Ok, Err}
 use Rattle.std.specs.List.{AllByRecursion}
 use Rattle.sample_schedule.specs.declared.accepted.Accepted.{Accepted}
@@ -26,7 +26,7 @@ times_due None = 0
 times_due (Some (OfItem item)) = 1
 times_due (Some (OfClock arrival row)) = 0
 
--- what a schedule has for the item at place i
+-- the part of a schedule that is about the item at place i
 abbrev pub shown_at : ℕ → List Given → List Given
 shown_at i list = filter (λ g. place_of g == i) list
 
@@ -35,7 +35,7 @@ abbrev pub verdict_in : Clock → SchedulePlan → List Entry → ℕ → Item �
 verdict_in clock plan entries i item =
     verdict plan (now_at entries i) (accepted clock plan entries i) i (timed clock plan (prefix_of plan entries i) item)
 
--- what a verdict makes of the item at a place: it is presented if accepted, else flagged with the one reason
+-- what a verdict does with the item at a place: it is presented if accepted, else flagged with the reason
 abbrev pub given_by : ℕ → Item → Result Accepted Reason → Given
 given_by place item (Ok a) = Presents a
 given_by place item (Err reason) = Flags place item reason

@@ -1,4 +1,4 @@
--- What a schedule is asked for: a plan within its limits, and entries as the formats give them.
+-- The conditions of a schedule: a plan within its limits, and entries as the formats give them.
 use Rattle.std.specs.Prelude.{◌≡◌, ◌+◌, ◌%◌, ◌^◌, ◌≤◌, pos, neg_ℤ, ◌≤ℤ◌, ◌<ℤ◌, length}
 use Rattle.clock_track.specs.Limits.{IsNotable}
 use Rattle.time_unfold.specs.Limits.{IsRule}

@@ -1,4 +1,4 @@
--- What is noted of a list of entries, for the packets that are counted from others.
+-- What is noted of a list of entries, for packets that are counted from other packets.
 use Rattle.std.specs.Prelude.{◌≡◌, ◌+◌, true, false, List, Option, None, Some}
 use Rattle.std.specs.List.{filter_map}
 use Rattle.clock_track.specs.Window.{ClockState, StandsFor as StandsForRows}
@@ -9,13 +9,13 @@ use Rattle.sample_schedule.specs.declared.plan.SchedulePlan.{SchedulePlan}
 use Rattle.sample_schedule.specs.Heads.{stamps_of}
 use Rattle.sample_schedule.specs.Verdicts.{row_of}
 
--- the plan has a clock, which adds the plan's shift to timestamps, and has noted the clock's packets of the list
+-- the plan has a clock that adds the plan's shift to timestamps and has noted the clock packets of the list
 pub record HasNotedClock (plan : SchedulePlan) (entries : List Entry) (clock : ClockState) : Type 0 where
   pub asked : plan.clock ≡ true
   pub shift : clock.shift ≡ plan.shift
   pub rows : StandsForRows clock (filter_map row_of entries)
 
--- there is a clock exactly if the plan asks for one, and it has noted the clock's packets of the list
+-- there is a clock exactly if the plan asks for one, and it has noted the clock packets of the list
 abbrev pub HasClock : SchedulePlan → List Entry → Option ClockState → Type 0
 HasClock plan entries None = plan.clock ≡ false
 HasClock plan entries (Some clock) = HasNotedClock plan entries clock

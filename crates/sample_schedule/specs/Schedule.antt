@@ -44,7 +44,7 @@ latest entries = fold int_max (pos 0) (map arrival_of entries)
 
 -- ---- what is accepted
 
--- the entries that are known when entry i is judged: those up to it, and `look` further ones
+-- the entries that are known when entry i is judged: those up to it, and `look` more
 abbrev pub prefix_of : SchedulePlan → List Entry → ℕ → List Entry
 prefix_of plan entries i = take (i + plan.look + 1) entries
 
@@ -97,8 +97,8 @@ abbrev pub flag_by : ℕ → Option Entry → Option (Result Accepted Reason) �
 flag_by i (Some (OfItem item)) (Some (Err reason)) = Flags i item reason ∷ []
 flag_by i e v = []
 
--- Step i presents what was accepted before entry i and whose first instant passed between the entry before it and this
--- one, and then flags entry i if it is refused. (At step 0 nothing was accepted before.)
+-- Step i presents the batches that were accepted before entry i and whose first instant passed between the previous entry and
+-- this one, and then flags entry i if it is refused. (At step 0 nothing was accepted before.)
 unfoldable pub step : Clock → SchedulePlan → List Entry → ℕ → List Given
 step clock plan entries i =
     let earlier = accepted clock plan entries i in
@@ -110,8 +110,8 @@ unfoldable pub steps : Clock → SchedulePlan → List Entry → ℕ → List Gi
 steps clock plan entries zero = []
 steps clock plan entries (suc i) = steps clock plan entries i ++ step clock plan entries i
 
--- What no step presented of what was accepted: it is presented after the last entry, since its first instant has not
--- passed.
+-- The accepted items that no step presented, because their first instants have not passed: they are presented after the last
+-- entry.
 abbrev pub rest_of : Clock → SchedulePlan → List Entry → List Given
 rest_of clock plan entries =
     map Presents (by_instant (standing (latest entries) (accepted clock plan entries (length entries))))
@@ -124,15 +124,15 @@ given clock plan entries = steps clock plan entries (length entries) ++ rest_of 
 abbrev pub shown : Clock → SchedulePlan → List Entry → List Shown
 shown clock plan entries = map shown_of (given clock plan entries)
 
--- how many entries are judged while further ones may follow: those with `look` entries after them
+-- how many entries are judged while more may follow: those with `look` entries after them
 abbrev pub settled : SchedulePlan → List Entry → ℕ
 settled plan entries = length entries - plan.look
 
--- what is certain while further entries may follow: what the steps of the judged entries show
+-- what is certain while more entries may follow: what the steps of the judged entries show
 abbrev pub due : Clock → SchedulePlan → List Entry → List Shown
 due clock plan entries = map shown_of (steps clock plan entries (settled plan entries))
 
--- the accepted items that wait while further entries may follow, by first instant and then by place
+-- the accepted items that wait while more entries may follow, by first instant and then by place
 abbrev pub waiting : Clock → SchedulePlan → List Entry → List Accepted
 waiting clock plan entries =
     by_instant (standing (latest (take (settled plan entries) entries)) (accepted clock plan entries (settled plan entries)))

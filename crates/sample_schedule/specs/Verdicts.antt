@@ -23,12 +23,12 @@ pub use Rattle.sorted_keys.specs.Keys.{same_instant}
 
 -- ---- where the samples of an item are
 
--- What a media clock answers: where on its lines an instant is, by the clock's packets so far, what is added to their
--- timestamps, and the rate of the stream. None if no line covers the instant.
+-- The answer of a media clock: where on its lines an instant is, given the clock's packets so far, the shift of their
+-- timestamps, and the rate of the stream. `None` if no line covers the instant.
 abbrev pub Clock : Type 0
 Clock = List ClockRow → ℤ → ℤ → ℕ → Option Spot
 
--- If the plan has a clock, `clock` is that of the clock's packets; if not, it may be any, since none is asked.
+-- If the plan has a clock, `clock` is that of the clock's packets; if not, it may be any, because it is not used.
 abbrev pub IsClockOf : SchedulePlan → Clock → Type 0
 IsClockOf plan clock = plan.clock ≡ true → clock ≡ clock_spot
 
@@ -37,7 +37,7 @@ abbrev pub row_of : Entry → Option ClockRow
 row_of (OfItem item) = None
 row_of (OfClock arrival row) = Some row
 
--- the spot n samples further on
+-- the spot n samples after this one
 abbrev pub moved : ℤ → Spot → Spot
 moved n spot = record spot { from = spot.from +ℤ n }
 
@@ -45,8 +45,8 @@ moved n spot = record spot { from = spot.from +ℤ n }
 abbrev pub nominal_spot : ℕ → Head → Spot
 nominal_spot rate head = record { line = nominal_line head.instant rate; from = head.first }
 
--- the spot of the first sample that is counted from a head: on the head's nominal line, or on the clock's if the plan
--- has a clock, which need not cover it
+-- the spot of the first sample that is counted from a head: on the head's nominal line, or if the plan has a clock, on a line
+-- of the clock, if one covers the head
 abbrev pub spot_of : Clock → SchedulePlan → List Entry → ℕ → Head → Option Spot
 spot_of clock plan prefix rate head =
     if plan.clock
@@ -75,8 +75,8 @@ counted_from clock plan prefix p None = Err Untimed
 counted_from clock plan prefix p (Some head) =
     ok_or_reason NoClock (option_map (samples_at p) (spot_of clock plan prefix p.rate head))
 
--- What can be presented of an item, given the prefix of the list that is known when it is judged; or the first reason
--- why nothing can, whatever the time.
+-- What can be presented of an item, given the prefix of the list that is known when it is judged; or the first reason why
+-- nothing can, apart from reasons of time.
 unfoldable pub timed : Clock → SchedulePlan → List Entry → Item → Result Presented Reason
 timed clock plan prefix (OfPacket p) =
     if p.tu then Err Uncertain else
@@ -100,13 +100,13 @@ total_bytes accepted = sum_by (λ a. length a.batch.bytes) accepted
 abbrev pub is_copy : ℤ → ℕ → Accepted → Bool
 is_copy instant seq a = if same_instant a.instant instant then a.batch.seq == seq else false
 
--- the buffer holds all the batches that it may, or with `size` bytes more it would hold more bytes than it may
+-- the buffer holds the most batches that it may, or `size` more bytes would exceed its room
 abbrev pub is_full : SchedulePlan → List Accepted → ℕ → Bool
 is_full plan waiting size =
     if nat_le plan.buffer (length waiting) then true else nat_lt plan.room (total_bytes waiting + size)
 
--- The first of these decides: the first instant has passed (late), the item came before (repeat), the buffer is full.
--- If none holds, the item is accepted.
+-- The first of these decides: the first instant has passed (late), the item came before (repeat), the buffer is full. If none
+-- holds, the item is accepted.
 abbrev pub decided : Bool → Bool → Bool → ℕ → Presented → Result Accepted Reason
 decided late repeat full place batch =
     if late then Err Late else
@@ -114,7 +114,7 @@ decided late repeat full place batch =
     if full then Err Full else
     Ok (record { place = place; instant = first_instant batch; batch = batch })
 
--- The verdict of the item at a place. `now` is the greatest arrival up to it, and `earlier` what was accepted before.
+-- The verdict of the item at a place. `now` is the greatest arrival up to it, and `earlier` are the items accepted before.
 unfoldable pub verdict : SchedulePlan → ℤ → List Accepted → ℕ → Result Presented Reason → Result Accepted Reason
 verdict plan now earlier place (Err reason) = Err reason
 verdict plan now earlier place (Ok batch) =

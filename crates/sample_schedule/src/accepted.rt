@@ -1,4 +1,4 @@
-//! What was accepted.
+//! Items that were accepted.
 
 use crate::batch::Batch;
 use crate::shown::Shown;
@@ -34,8 +34,8 @@ impl Accepted {
             from,
             bytes,
         } = batch;
-        // Field by field, so that they go through registers. A batch copied whole is read in other pieces than it was
-        // written in, and the processor waits for the writes each time, a fifth of a packet's time.
+        // Copied field by field, so that the fields go through registers. A batch that is copied whole is read in other pieces
+        // than it was written in, and the processor waits for the writes each time, a fifth of a packet's time.
         Shown::Present(Batch {
             frame,
             seq,

@@ -4,8 +4,8 @@ use avtp_base::Bytes;
 use std::marker::Model;
 use time_unfold::Line;
 
-/// Samples with the line on which their instants lie. Sample j is at the instant of number `from + j`. What holds of
-/// its instants is an invariant of the type, so that definitions can speak of batches without proofs inside.
+/// Samples with the line that their instants are on. Sample j is at the instant of number `from + j`. The limits of its
+/// instants are an invariant of the type, so that definitions can mention batches without proofs inside.
 #[derive(Debug, Drop)]
 pub struct Batch {
     /// The number of the capture's frame, from 1.
@@ -36,8 +36,8 @@ impl Batch {
     ghost use Rattle.std.specs.Prelude.{◌≡◌, ◌≤◌};
     ghost use Rattle.sample_schedule.specs.Batches.{is_unit, sample_instant};
 
-    /// The instant of sample `j`, in nanoseconds of gPTP; at the number of samples, which `j` may not pass, that of the
-    /// first one after them.
+    /// The instant of sample `j`, in nanoseconds of gPTP. `j` is at most the number of samples; at that number it is the
+    /// instant of the first sample after them.
     pub fn instant(&self, j: u32) -> i64
         requires { j ≤ self.now.count }
         ensures { result ≡ sample_instant self.now j }
@@ -45,7 +45,7 @@ impl Batch {
         self.line.at(self.from + i64::from(j))
     }
 
-    /// Whether this is a unit of H.264, and not samples: its line has one nanosecond a sample.
+    /// Whether this is a unit of H.264 rather than samples: its line has one nanosecond a sample.
     pub fn is_unit(&self) -> bool
         ensures { result ≡ is_unit self.now }
     {

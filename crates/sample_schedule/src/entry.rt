@@ -3,8 +3,8 @@
 use crate::item::Item;
 use clock_track::ClockRow;
 
-/// An item of the stream, or a packet of its clock. A packet of the clock is never shown; its arrival counts as an
-/// item's does.
+/// An item of the stream, or a packet of its clock. A packet of the clock is never shown, but its arrival counts like an
+/// item's.
 #[derive(Debug, Drop)]
 pub enum Entry {
     Item(Item),

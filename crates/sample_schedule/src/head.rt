@@ -1,4 +1,4 @@
-//! The stamped sample from which the samples of a packet are counted.
+//! The stamped sample that the samples of a packet are counted from.
 
 ghost use Rattle.std.specs.Prelude.{◌≡◌, ◌+◌, ◌≤◌, ◌<◌, ℕ, IfSome, List};
 ghost use Rattle.time_unfold.specs.Heads.{stamped_index as stamped_index_of};
@@ -42,7 +42,7 @@ fn stamp_of_packet(packet: &Packet) -> Option<Stamp>
     }
 }
 
-/// The stamp that an item adds to those from which packets are counted, if it has a usable one.
+/// The stamp of an item that other packets can be counted from, if it has a usable one.
 pub fn stamp_of(item: &Item) -> Option<Stamp>
     requires { IsItem item.now }
     ensures value { result ≡ stamp_of_entry (OfItem item.now) }
@@ -102,8 +102,8 @@ fn head_back(plan: &SchedulePlan, noted: &Noted, packet: &Packet) -> Option<Head
     })
 }
 
-/// The head of a packet that has samples and a rate: its own timestamp if that is usable, or the stamp that it finds
-/// among those of a prefix of the list.
+/// The head of a packet that has samples and a rate: its own timestamp if that is usable, or the stamp that it finds among
+/// those of a prefix of the list.
 pub fn head_of(plan: &SchedulePlan, noted: &Noted, packet: &Packet) -> Option<Head>
     requires plan { IsPlan plan.now }
     requires packet { IsPacket packet.now }

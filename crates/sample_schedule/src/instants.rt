@@ -7,19 +7,19 @@ ghost use Rattle.sample_schedule.specs.Instants.{IsInstantOf, IsRestOf};
 
 use crate::batch::Batch;
 
-/// The instant of sample `j` of a batch: the whole nanoseconds, and what is left over in parts of one by the line's `den`.
-/// That of the next sample is found by an addition and no division.
+/// The instant of sample `j` of a batch: the whole nanoseconds, and the remainder in parts of one by the line's `den`. The next
+/// sample's instant needs only an addition, and no division.
 #[derive(Clone, Copy)]
 pub struct Instant {
     pub j: u32,
     pub nanoseconds: i64,
     rest: u64,
-    /// From one sample to the next: the whole nanoseconds, and what is left over.
+    /// The step from one sample to the next: the whole nanoseconds, and the remainder.
     step: u64,
     step_rest: u64,
 }
 
-/// What is left over of the first sample's instant.
+/// The remainder of the first sample's instant.
 fn first_rest(batch: &Batch) -> u64
     ensures { pos result ≡ int_rem_euclid (batch.now.from *ℤ pos batch.now.line.num) (pos batch.now.line.den) }
 {
@@ -29,7 +29,7 @@ fn first_rest(batch: &Batch) -> u64
 }
 
 impl Instant {
-    /// That of the first sample.
+    /// The instant of the first sample.
     #[inline(always)]
     pub fn first(batch: &Batch) -> Self
         ensures first { result.j ≡ 0 }
@@ -41,7 +41,7 @@ impl Instant {
         Instant::starting(batch, batch.instant(0), first_rest(batch))
     }
 
-    /// That of the first sample, which is at this nanosecond.
+    /// The instant of the first sample, which is at this nanosecond.
     #[inline(always)]
     fn starting(batch: &Batch, nanoseconds: i64, rest: u64) -> Self
         requires at { nanoseconds ≡ sample_instant batch.now 0 }
@@ -59,7 +59,7 @@ impl Instant {
         }
     }
 
-    /// Goes on to that of the next sample, or the first one after the batch's.
+    /// Moves on to the instant of the next sample, or of the first one after the batch.
     #[inline(always)]
     pub fn next(&mut self, batch: &Batch)
         requires inside { self.old.j < batch.now.count }

@@ -28,26 +28,26 @@ use clock_track::Points;
 use std::alloc::Global;
 use std::marker::Model;
 
-/// A judge is given the entries of a stream one at a time, in capture order, and shows each item of the stream once,
-/// presented or flagged with the first reason that holds of it.
+/// A judge takes the entries of a stream one at a time, in capture order, and shows each item of the stream once, presented or
+/// flagged with the first reason that holds.
 ///
-/// An item is judged once `look` further entries are known, so a packet without a timestamp may be counted from one
-/// that was captured after it. A stamp is noted when its entry comes, and the entry is judged when it leaves the delay
-/// line. Before an entry is judged, what its arrival makes due is given, so what is held is what waits. All memory is
-/// reserved when the judge is made.
+/// An item is judged once `look` later entries are known, so a packet without a timestamp may be counted from one that was
+/// captured after it. A stamp is noted when its entry comes, and the entry is judged when it leaves the delay line. Before an
+/// entry is judged, everything that its arrival makes due is given, so the judge holds only what waits. All memory is reserved
+/// when the judge is made.
 #[derive(Drop)]
 pub struct Judge {
     plan: SchedulePlan,
     /// How many entries are judged.
     place: u64,
-    /// The greatest arrival of these and of the entry that is being judged.
+    /// The greatest arrival of these and of the current entry.
     time: i64,
     noted: Noted,
-    /// What is accepted and waits for its instant.
+    /// The accepted batches, which wait for their instants.
     waiting: Waiting,
-    /// The entry that is being judged: it is, as soon as all is given that its arrival makes due.
+    /// The current entry. It is judged once everything that its arrival makes due is given.
     current: Option<Pending>,
-    /// The entries after it, which wait for further ones.
+    /// The entries after it, which wait for later ones.
     ahead: HeapCircularBuffer<Pending>,
     /// No further entry follows.
     closed: bool,
@@ -65,8 +65,8 @@ impl Model for Judge {
 }
 
 impl Judge {
-    /// A judge of no entries. Reserves all the memory that it takes, of which some 4 MiB for a clock if the plan has
-    /// one: no further call takes any.
+    /// A judge of no entries. Reserves all the memory that it needs, including some 4 MiB for a clock if the plan has one. No
+    /// later call allocates.
     pub fn begin(alloc: Global, plan: SchedulePlan) -> Result<Self, NoMemory>
         requires plan { IsPlan plan }
         ensures stands { IfOk result (λ judge. (clock : Clock) → IsClockOf plan clock → StandsFor clock [] 0 judge) }
@@ -90,7 +90,7 @@ impl Judge {
         })
     }
 
-    /// An entry that left those that wait is judged next, and time goes on to its arrival.
+    /// Makes an entry that left the delay line the current one, and moves the time on to its arrival.
     #[inline(always)]
     fn judge_next(&mut self, next: Pending)
         requires idle { IsIdle self.old }
@@ -102,8 +102,7 @@ impl Judge {
         self.current = Some(next);
     }
 
-    /// Puts an entry after those that wait for further ones; the first of them is judged next, once they are more than
-    /// the look-ahead.
+    /// Puts an entry into the delay line. If that has more entries than the look-ahead, the first becomes the current one.
     #[inline(always)]
     fn put(&mut self, pending: Pending)
         requires idle { IsIdle self.old }
@@ -117,8 +116,8 @@ impl Judge {
         }
     }
 
-    /// Takes the next item of the stream. Nothing is due from the entries so far, and the judge is not closed. At most 2^62
-    /// entries may be taken. Takes no memory.
+    /// Takes the next item of the stream. Nothing may be due of the entries so far, and the judge must not be closed. At most
+    /// 2^62 entries may be taken. Allocates nothing.
     #[inline(always)]
     pub fn step(&mut self, item: Item)
         requires open { self.old.closed ≡ false }
@@ -134,8 +133,8 @@ impl Judge {
         self.put(Pending::Item(item));
     }
 
-    /// Takes a packet of the stream's clock, by its arrival and its points: an entry that is never shown. The same
-    /// holds as for an item. If the plan has no clock, it counts by its arrival alone. Takes no memory.
+    /// Takes a packet of the stream's clock, by its arrival and its points: an entry that is never shown. The conditions are
+    /// those of `step`. If the plan has no clock, only the arrival counts. Allocates nothing.
     pub fn step_clock(&mut self, arrival: i64, points: &Points<'_>)
         requires open { self.old.closed ≡ false }
         requires idle { IsIdle self.old }
@@ -151,7 +150,7 @@ impl Judge {
         self.put(Pending::Clock { arrival });
     }
 
-    /// The front of what waits, if the arrival of the entry that is being judged has passed its instant.
+    /// The first waiting batch, if the arrival of the current entry is after its instant.
     #[inline(always)]
     fn give_due(&mut self) -> Option<Accepted>
         requires { self.old.current ≢ None }
@@ -163,7 +162,7 @@ impl Judge {
         self.waiting.take_due(self.time)
     }
 
-    /// The front of what waits.
+    /// The first waiting batch.
     fn give_first(&mut self) -> Option<Accepted>
         ensures waiting { self.old.waiting ≡ option_to_list result ++ self.new.waiting }
         ensures none { IfNone result (self.old.waiting ≡ []) }
@@ -172,7 +171,7 @@ impl Judge {
         self.waiting.take_first()
     }
 
-    /// Judges the entry that is being judged: a flag is given, and an accepted item waits for its instant.
+    /// Judges the current entry: returns its flag, or lets an accepted item wait for its instant.
     #[inline(always)]
     fn judge(&mut self) -> Option<Shown>
         requires { starts_due self.old.time self.old.waiting ≡ false }
@@ -211,7 +210,7 @@ impl Judge {
         }
     }
 
-    /// Gives what the entry that is being judged makes due, and then its flag, if it has one.
+    /// Gives what the current entry makes due, and then its flag, if it has one.
     #[inline(always)]
     fn give_or_judge(&mut self) -> Option<Shown>
         ensures given { (clock : Clock) (entries : List EntryValue) (given : ℕ) → StandsFor clock entries given self.old → IfSome result (λ shown. slice_get (out clock self.old entries) given ≡ Some shown) }
@@ -230,7 +229,7 @@ impl Judge {
         }
     }
 
-    /// Once the list has ended, judges the next entry too; whether there is one.
+    /// Once the list has ended, makes the next entry the current one. Returns whether there is one.
     #[inline(always)]
     fn take_ahead(&mut self) -> bool
         requires { IsIdle self.old }
@@ -252,7 +251,7 @@ impl Judge {
         }
     }
 
-    /// Once all entries of an ended list are judged, gives the front of what waits.
+    /// Once all entries of an ended list are judged, gives the first waiting batch.
     #[inline(always)]
     fn give_last(&mut self) -> Option<Shown>
         requires idle { IsIdle self.old }
@@ -273,8 +272,8 @@ impl Judge {
         }
     }
 
-    /// The next item that is shown of the entries so far: while further ones may follow, of those that are judged, and
-    /// once the judge is closed of all. None comes exactly if all of that was given. Takes no memory.
+    /// The next item that is shown of the entries so far: before `close` only of those that are judged, after it of all. `None`
+    /// comes exactly if all of that was given. Allocates nothing.
     pub fn next_out(&mut self) -> Option<Shown>
         ensures given { (clock : Clock) (entries : List EntryValue) (given : ℕ) → StandsFor clock entries given self.old → result ≡ slice_get (out clock self.old entries) given }
         ensures stands { (clock : Clock) (entries : List EntryValue) (given : ℕ) → StandsFor clock entries given self.old → StandsFor clock entries (given + length (option_to_list result)) self.new }
@@ -293,7 +292,7 @@ impl Judge {
         }
     }
 
-    /// Says that no further entry follows. Nothing is due from the entries so far. Takes no memory.
+    /// Ends the list of entries. Nothing may be due of the entries so far. Allocates nothing.
     pub fn close(&mut self)
         requires open { self.old.closed ≡ false }
         requires idle { IsIdle self.old }
@@ -306,9 +305,8 @@ impl Judge {
         self.closed = true;
     }
 
-    /// How many batches are held: at most as many as the buffer takes, with at most as many bytes as its room. If
-    /// nothing is due these are the accepted ones, of the entries that are judged, which were not given; none after
-    /// `close`.
+    /// How many batches wait: at most as many as the buffer takes, with at most as many bytes as its room. If nothing is due,
+    /// these are the accepted batches of the judged entries that were not given; after `close` there are none.
     pub fn held(&self) -> u32
         ensures held { result ≡ length self.now.waiting }
         ensures batches { result ≤ self.now.plan.buffer }

@@ -1,4 +1,4 @@
-//! Laws of schedules, whatever the clock answers. Each call is its contract, and does nothing.
+//! Laws of schedules, whatever the clock answers. Each call only states its contract, and does nothing.
 
 ghost use Rattle.std.specs.Prelude.{◌≡◌, ◌≤◌, ◌≤ℤ◌, ◌+◌, ◌++◌, ◌∷◌, [], List, ℕ, ℤ, Some, length, slice_get};
 ghost use Rattle.std.specs.List.{list_any};
@@ -19,7 +19,7 @@ ghost use Rattle.sample_schedule.specs.Order.{between, by_instant, due_of, left_
 ghost use Rattle.sample_schedule.specs.Schedule.{accepted, due, given, settled, shown, steps, waiting};
 ghost use Rattle.sample_schedule.specs.Verdicts.{Clock, is_copy, moved, samples_at, total_bytes};
 
-/// At every entry what waits is at most `buffer` batches, of at most `room` bytes together.
+/// At every entry at most `buffer` batches wait, of at most `room` bytes together.
 pub fn waiting_is_bounded()
     ensures batches { (clock : Clock) (plan : SchedulePlan) (entries : List Entry) (i : ℕ) → length (waiting_at clock plan entries i) ≤ plan.buffer }
     ensures bytes { (clock : Clock) (plan : SchedulePlan) (entries : List Entry) (i : ℕ) → total_bytes (waiting_at clock plan entries i) ≤ plan.room }
@@ -35,35 +35,35 @@ pub fn each_item_is_shown_once()
     ensures { (clock : Clock) (plan : SchedulePlan) (entries : List Entry) (i : ℕ) → times_shown clock plan entries i ≡ times_due (slice_get entries i) }
 {}
 
-/// Each item is shown as its verdict has it, and in no other way: what is accepted is presented, and any other item is
-/// flagged with its one reason.
+/// Each item is shown as its verdict says, and in no other way: an accepted item is presented, and any other item is flagged
+/// with its reason.
 pub fn each_item_is_shown_as_judged()
     ensures { (clock : Clock) (plan : SchedulePlan) (entries : List Entry) (i : ℕ) (item : Item) → slice_get entries i ≡ Some (Entry.Item item) → shown_at i (given clock plan entries) ≡ given_by i item (verdict_in clock plan entries i item) ∷ [] }
 {}
 
-/// First instants of what is presented never fall, and those with equal ones are in the order of the items.
+/// First instants of the presented batches never fall, and batches with equal ones are in the order of the items.
 pub fn presented_in_order()
     ensures { (clock : Clock) (plan : SchedulePlan) (entries : List Entry) → Pairwise IsBefore (presented (given clock plan entries)) }
 {}
 
-/// No two that are presented have both one first instant and one sequence number: a copy of an accepted packet is never
+/// No two presented batches have both one first instant and one sequence number: a copy of an accepted packet is never
 /// presented.
 pub fn copies_are_not_presented()
     ensures { (clock : Clock) (plan : SchedulePlan) (entries : List Entry) → Pairwise IsNoCopy (presented (given clock plan entries)) }
 {}
 
-/// What is certain of a list stays if the list goes on: what is due of the longer list begins with it.
+/// What is certain of a list stays when the list grows: what is due of the longer list begins with it.
 pub fn due_stays()
     ensures { (clock : Clock) (plan : SchedulePlan) (entries more : List Entry) → IsPrefix (due clock plan entries) (due clock plan (entries ++ more)) }
 {}
 
-/// What is due of a list is what is shown of it first, if the list ends there.
+/// What is due of a list is shown first if the list ends there.
 pub fn due_is_shown_first()
     ensures { (clock : Clock) (plan : SchedulePlan) (entries : List Entry) → IsPrefix (due clock plan entries) (shown clock plan entries) }
 {}
 
-/// Of the entries that are judged, what is accepted was presented or waits, within the buffer and its room; and at most
-/// `look` entries are not judged.
+/// Each accepted item of the judged entries was presented or waits, within the buffer and its room; and at most `look` entries
+/// are not judged.
 pub fn what_is_not_due_waits()
     ensures accepted { (clock : Clock) (plan : SchedulePlan) (entries : List Entry) → presented (steps clock plan entries (settled plan entries)) ++ waiting clock plan entries ≡ by_instant (accepted clock plan entries (settled plan entries)) }
     ensures batches { (clock : Clock) (plan : SchedulePlan) (entries : List Entry) → length (waiting clock plan entries) ≤ plan.buffer }
@@ -71,19 +71,19 @@ pub fn what_is_not_due_waits()
     ensures unjudged { (plan : SchedulePlan) (entries : List Entry) → length entries ≤ settled plan entries + plan.look }
 {}
 
-/// A copy of an item that comes in time is found among those that wait, as among all that were accepted.
+/// A copy of an item that comes in time is found among the waiting batches, just as among all that were accepted.
 pub fn copies_wait()
     ensures { (now instant : ℤ) (seq : ℕ) (earlier : List Accepted) → now ≤ℤ instant → list_any (is_copy instant seq) (standing now earlier) ≡ list_any (is_copy instant seq) earlier }
 {}
 
-/// When the time goes on, what waits splits into what is due, first, and what is still held.
+/// As time moves on, the waiting batches split into those that are due, first, and those that still wait.
 pub fn what_waits_is_due_or_held()
     ensures due { (from to : ℤ) (earlier : List Accepted) → due_of to (by_instant (standing from earlier)) ≡ by_instant (between from to earlier) }
     ensures held { (from to : ℤ) (earlier : List Accepted) → from ≤ℤ to → left_of to (by_instant (standing from earlier)) ≡ by_instant (standing to earlier) }
 {}
 
-/// A packet whose head the clock covers can be presented: its samples on the clock's line, counted from the head, have what
-/// holds of every batch.
+/// A packet whose head the clock covers can be presented: its samples on the clock's line, counted from the head, are within
+/// the limits of every batch.
 pub fn clock_lines_can_be_presented()
     ensures { (p : Packet) (head : Head) (spot : Spot) → IsPacket p → 1 ≤ p.count → IsCountable head → IsClockLine p.rate head.instant spot → IsPresentable (samples_at p (moved head.first spot)) }
 {}

@@ -1,4 +1,4 @@
-//! What the samples of packets are counted from.
+//! The stamps and clock packets that samples are counted from.
 
 ghost use Rattle.std.specs.Prelude.{◌≡◌, ◌+◌, ◌++◌, ◌∷◌, [], IfOk, IfSome, List, ℤ};
 ghost use Rattle.time_unfold.specs.declared.stamp.Stamp.{Stamp as StampValue};
@@ -21,7 +21,7 @@ use clock_track::{Clock, Points};
 use std::alloc::Global;
 use time_unfold::{Anchors, Stamp, Want};
 
-/// How many stamps are looked through, besides those of the packets that are waited for.
+/// How many stamps are searched, besides those of the packets of the look-ahead.
 const STAMPS: u32 = 16;
 
 /// What was noted of the entries so far: the last usable stamps, and the packets of the clock if the plan has one.
@@ -54,7 +54,7 @@ impl Noted {
         Ok(Noted { stamps, clock })
     }
 
-    /// Notes the usable stamp of an item, if it has one. Takes no memory.
+    /// Notes the usable stamp of an item, if it has one. Allocates nothing.
     #[inline(always)]
     pub fn note_item(&mut self, item: &Item)
         requires { IsItem item.now }
@@ -66,7 +66,7 @@ impl Noted {
         }
     }
 
-    /// Notes a packet of the clock, if the plan has one. Takes no memory.
+    /// Notes a packet of the clock, if the plan has one. Allocates nothing.
     pub fn note_points(&mut self, points: &Points<'_>)
         requires { IsNotable (row_of points.now) }
         ensures { (plan : SchedulePlanValue) (entries : List EntryValue) (arrival : ℤ) → HasNoted plan entries self.old → HasNoted plan (entries ++ OfClock arrival (row_of points.now) ∷ []) self.new }

@@ -2,7 +2,7 @@
 
 use crate::item::Item;
 
-/// An entry that waits for its verdict. Of a packet of the clock only the arrival is kept, since its points are noted when
+/// An entry that waits for its verdict. For a packet of the clock only the arrival is kept, because its points are noted when
 /// it comes.
 #[derive(Debug, Drop)]
 pub enum Pending {

@@ -1,4 +1,4 @@
-//! What a listener is told.
+//! The plan of a schedule.
 
 /// How a listener listens.
 #[derive(Clone, Copy, Debug, PartialEq, Eq)]
@@ -7,7 +7,7 @@ pub struct SchedulePlan {
     pub buffer: u32,
     /// The most bytes that they have together, 1 to 1,073,741,824.
     pub room: u32,
-    /// How many further items an item waits for before it is judged, 0 to 64.
+    /// How many later items are read before an item is judged, 0 to 64.
     pub look: u32,
     /// How long before its instant a packet is expected, at most 1,000,000,000 ns.
     pub lead: u32,

@@ -14,7 +14,7 @@ pub enum Reason {
     Empty,
     /// The packet names no rate.
     NoRate,
-    /// No timestamp is known from which its samples are counted.
+    /// No timestamp is known that its samples could be counted from.
     Untimed,
     /// The clock has no line that covers its timestamp.
     NoClock,
@@ -35,6 +35,6 @@ pub enum Reason {
 pub enum Shown {
     /// It is presented.
     Present(Batch),
-    /// It is not, for this reason.
+    /// It is not presented, for this reason.
     Flag { frame: u64, seq: u8, reason: Reason },
 }

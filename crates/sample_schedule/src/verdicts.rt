@@ -48,7 +48,7 @@ fn judge(
     })
 }
 
-/// The verdict of an item, over what is accepted before it and waits, and what was noted of the prefix that is known.
+/// The verdict of an item, given the batches that wait and what was noted of the known prefix.
 #[inline(always)]
 pub fn verdict(
     plan: &SchedulePlan,

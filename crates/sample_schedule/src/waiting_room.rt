@@ -1,4 +1,4 @@
-//! What is accepted and waits for its instant.
+//! Accepted batches that wait for their instants.
 
 ghost use Rattle.std.specs.Prelude.{◌≡◌, ◌+◌, ◌^◌, ◌<◌, ◌≤◌, ◌<ℤ◌, ◌++◌, [], false, length, IfNone, IfOk, IfSome};
 ghost use Rattle.std.specs.List.{list_any};
@@ -30,8 +30,8 @@ fn size(accepted: &Accepted) -> u64
     accepted.batch.bytes.as_slice().len() as u64
 }
 
-/// What is accepted and waits for its instant, by first instant and then by place. Small keys are in that order; the
-/// batches are kept in slots, and are not moved while they wait.
+/// Accepted batches that wait for their instants, by first instant and then by place. Small keys are in that order; the batches
+/// are kept in slots, and are not moved while they wait.
 #[derive(Drop)]
 pub struct Waiting {
     keys: SortedKeys,
@@ -81,7 +81,7 @@ impl Waiting {
         self.bytes
     }
 
-    /// One of those that wait has the first instant and the sequence number.
+    /// One of the waiting batches has the first instant and the sequence number.
     #[inline(always)]
     pub fn has_copy(&self, instant: i64, seq: u8) -> bool
         ensures { result ≡ list_any (is_copy_of instant seq) self.now.list }
@@ -89,7 +89,7 @@ impl Waiting {
         self.keys.has(instant, seq)
     }
 
-    /// As many batches wait as the buffer takes, or their bytes and `size` more are more than its room.
+    /// The buffer holds the most batches that it may, or `size` more bytes would exceed its room.
     #[inline(always)]
     pub fn is_full(&self, plan: &SchedulePlan, size: usize) -> bool
         ensures full { result ≡ is_full_of plan.now self.now.list size }
@@ -100,7 +100,7 @@ impl Waiting {
             || self.bytes().saturating_add(size as u64) > u64::from(plan.room)
     }
 
-    /// Puts one after all that are not later. Takes no memory.
+    /// Puts a batch after all that are not later. Allocates nothing.
     #[inline(always)]
     pub fn put_behind(&mut self, accepted: Accepted)
         requires room { length self.old.list < self.old.room }
@@ -115,7 +115,7 @@ impl Waiting {
         self.keys.put(Key { instant, seq, slot });
     }
 
-    /// The first has an instant before `now`.
+    /// The first batch has an instant before `now`.
     #[inline(always)]
     pub fn is_due(&self, now: i64) -> bool
         ensures { result ≡ starts_due now self.now.list }
@@ -126,7 +126,7 @@ impl Waiting {
         }
     }
 
-    /// Takes the first one.
+    /// Takes the first batch.
     #[inline(always)]
     pub fn take_first(&mut self) -> Option<Accepted>
         ensures taken { self.old.list ≡ option_to_list result ++ self.new.list }
@@ -141,7 +141,7 @@ impl Waiting {
         Some(first)
     }
 
-    /// Takes the first one, if its instant is before `now`.
+    /// Takes the first batch, if its instant is before `now`.
     #[inline(always)]
     pub fn take_due(&mut self, now: i64) -> Option<Accepted>
         ensures taken { self.old.list ≡ option_to_list result ++ self.new.list }

@@ -46,17 +46,17 @@ pub fn give_all(judge: &mut Judge, list: &mut Vec<Shown>) -> Result<(), NoMemory
     Ok(())
 }
 
-/// The schedule of a list of entries, in capture order: each item of the stream is shown once, presented or flagged
-/// with the first reason that holds of it. A batch is presented as soon as the arrival of an entry has passed its first
-/// instant, and those that are left after the last entry, by first instant and then by place in the list.
+/// The schedule of a list of entries, in capture order: each item of the stream is shown once, presented or flagged with the
+/// first reason that holds. A batch is presented as soon as the arrival of an entry is after its first instant; batches that
+/// are left after the last entry are presented then, by first instant and then by place in the list.
 ///
-/// An item is judged once `look` further entries are known or the list has ended, so a packet without a timestamp may
-/// be counted from one that was captured after it: from the last of the last `look + 16` usable ones that fits.
+/// An item is judged once `look` later entries are known or the list has ended, so a packet without a timestamp may be counted
+/// from one that was captured after it: from the last of the last `look + 16` usable ones that fits.
 ///
-/// If the plan has a clock, samples are on its lines, by those of its packets that are known when the item is judged;
-/// if it has none, packets of a clock count by their arrival alone.
+/// If the plan has a clock, samples are on its lines, by those of its packets that are known when the item is judged; if it has
+/// none, packets of a clock count only by their arrival.
 ///
-/// `NoMemory` comes if no memory is found, and nothing is shown then.
+/// If there is no memory, `NoMemory` comes and nothing is shown.
 pub fn schedule(
     alloc: Global,
     plan: &SchedulePlan,

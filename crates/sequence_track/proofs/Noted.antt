@@ -48,7 +48,7 @@ tracked-new notes seen new =
     ap (λ (l : List StreamKey). take most_streams (distinct l)) (streams-more notes seen)
     ∙ ap (λ (l : List StreamKey). take most_streams l) (distinct-new (map stream_of notes) (stream_of seen) new)
 
--- where as many are tracked as can be, no more are
+-- if as many streams are tracked as can be, no more are
 tracked-full : (notes : List Seen) (seen : Seen) → length (tracked notes) ≡ most_streams → tracked (notes ++ seen ∷ []) ≡ tracked notes
 tracked-full notes seen full = by_case (list_any (same_stream (stream_of seen)) (map stream_of notes)) refl
   where
@@ -59,7 +59,7 @@ tracked-full notes seen full = by_case (list_any (same_stream (stream_of seen)) 
     by_case true known = tracked-known notes seen known
     by_case false new = tracked-new notes seen new ∙ take-append-le most_streams (distinct (map stream_of notes)) (stream_of seen ∷ []) many
 
--- Where fewer are tracked than can be, all streams are.
+-- If fewer are tracked than can be, all streams are.
 all-tracked : (notes : List Seen) → length (tracked notes) < most_streams → tracked notes ≡ distinct (map stream_of notes)
 all-tracked notes few =
     let short : length (distinct (map stream_of notes)) < most_streams = omega (arith, length-take most_streams (distinct (map stream_of notes))) in
@@ -70,7 +70,7 @@ new-stream : (stream : StreamKey) (notes : List Seen) → length (tracked notes)
 new-stream stream notes few new =
     sym (any-distinct stream (map stream_of notes)) ∙ ap (λ (l : List StreamKey). list_any (same_stream stream) l) (sym (all-tracked notes few)) ∙ new
 
--- one more is
+-- one more stream is tracked
 tracked-more : (notes : List Seen) (seen : Seen) → length (tracked notes) < most_streams → is_tracked (stream_of seen) notes ≡ false
     → tracked (notes ++ seen ∷ []) ≡ tracked notes ++ stream_of seen ∷ []
 tracked-more notes seen few new =
@@ -103,14 +103,14 @@ kept-none notes stream e = by_case (is_tracked stream notes) refl
     by_case true t = absurd (recent-some stream notes (has-notes stream notes t) (no-state (recent stream notes) (sym (cond-true _ _ _ t) ∙ e)))
     by_case false t = t
 
--- where the tracked streams stay, a note is kept of its own stream alone
+-- if the tracked streams stay, a note is kept of its own stream alone
 kept-other : (notes : List Seen) (seen : Seen) (stream : StreamKey) → is_tracked stream (notes ++ seen ∷ []) ≡ is_tracked stream notes
     → same_stream stream (stream_of seen) ≡ false → kept_of (notes ++ seen ∷ []) stream ≡ kept_of notes stream
 kept-other notes seen stream same apart =
     ap (λ (b : Bool). cond b (state_of (recent stream (notes ++ seen ∷ []))) None) same
     ∙ ap (λ (l : List Seen). cond (is_tracked stream notes) (state_of l) None) (recent-other stream notes seen apart)
 
--- what is kept where one more note is kept of its stream
+-- what is kept if one more note is kept of its stream
 kept-own : (notes : List Seen) (seen : Seen) (state : StreamState) → is_tracked (stream_of seen) (notes ++ seen ∷ []) ≡ true
     → state_of (seen ∷ recent (stream_of seen) notes) ≡ Some state → kept_of (notes ++ seen ∷ []) (stream_of seen) ≡ Some state
 kept-own notes seen state t e =
@@ -118,7 +118,7 @@ kept-own notes seen state t e =
 
 -- ---- a tracker that noted one more
 
--- the entries of a tracker, where one stream has a new state
+-- the entries of a tracker, if one stream has a new state
 abbrev pub Puts : List (StreamKey × StreamState) → List (StreamKey × StreamState) → StreamKey → StreamState → Type 0
 Puts old new stream state = (q : StreamKey) → lookup (same_stream q) new ≡ cond (same_stream stream q) (Some state) (lookup (same_stream q) old)
 
@@ -190,7 +190,7 @@ found-full old notes seen stands here full =
 
 -- ---- the first packet of a stream that is tracked
 
--- a list with one more stream has that one, and of any other what it had
+-- a list with one more stream has that one, and of the other streams those that it had
 any-own : (stream : StreamKey) (xs : List StreamKey) → list_any (same_stream stream) (xs ++ stream ∷ []) ≡ true
 any-own stream xs = list_any-append (same_stream stream) xs (stream ∷ []) ∙ or_right _ _ (or_left _ _ (same-refl stream))
 

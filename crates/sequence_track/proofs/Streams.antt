@@ -30,7 +30,7 @@ same-sym a b false e = by_case (same_stream b a) refl
 
 -- ---- distinct streams
 
--- the streams of a list that are others than the first
+-- the streams of a list that differ from the first
 others : StreamKey → List StreamKey → List StreamKey
 others first streams = filter (λ other. not (same_stream first other)) streams
 
@@ -53,7 +53,7 @@ or_first : (a b : Bool) → (a || b) ≡ true → b ≡ false → a ≡ true
 or_first true b e none = refl
 or_first false b e none = absurd cc
 
--- a stream is among the distinct ones exactly where it is in the list
+-- a stream is among the distinct ones exactly if it is in the list
 pub any-distinct : (stream : StreamKey) (streams : List StreamKey) → list_any (same_stream stream) (distinct streams) ≡ list_any (same_stream stream) streams
 unfolding others
 any-distinct stream [] = refl
@@ -61,7 +61,7 @@ any-distinct stream (first ∷ rest) =
     or-same (same_stream stream first) (list_any (same_stream stream) (others first (distinct rest))) (list_any (same_stream stream) rest)
     (λ apart. any-others stream first (distinct rest) apart ∙ any-distinct stream rest)
 
--- one more of the others, or not one
+-- one more of the other streams, or none
 others-more : (first : StreamKey) (streams : List StreamKey) (stream : StreamKey) (r : Bool) → same_stream first stream ≡ r
     → others first (streams ++ stream ∷ []) ≡ cond r (others first streams) (others first streams ++ stream ∷ [])
 unfolding others
@@ -70,7 +70,7 @@ others-more first streams stream true e =
 others-more first streams stream false e =
     filter-append (λ other. not (same_stream first other)) streams (stream ∷ []) ∙ rw e refl
 
--- a stream that is not in the list is one more distinct stream
+-- a stream that is not in the list adds one distinct stream
 pub distinct-new : (streams : List StreamKey) (stream : StreamKey) → list_any (same_stream stream) streams ≡ false → distinct (streams ++ stream ∷ []) ≡ distinct streams ++ stream ∷ []
 unfolding others
 distinct-new [] stream new = refl
@@ -79,7 +79,7 @@ distinct-new (first ∷ rest) stream new =
     ap (λ (l : List StreamKey). first ∷ others first l) (distinct-new rest stream parts.1)
     ∙ ap (λ (l : List StreamKey). first ∷ l) (others-more first (distinct rest) stream false (same-sym stream first false parts.0))
 
--- a stream that is in the list is none more
+-- a stream that is in the list adds none
 pub distinct-known : (streams : List StreamKey) (stream : StreamKey) → list_any (same_stream stream) streams ≡ true → distinct (streams ++ stream ∷ []) ≡ distinct streams
 unfolding others
 distinct-known [] stream known = absurd cc

@@ -17,7 +17,7 @@ stream_of seen = record { subtype = seen.subtype; id = seen.id }
 abbrev pub same_stream : StreamKey → StreamKey → Bool
 same_stream a b = a.subtype == b.subtype && a.id == b.id
 
--- the streams of a list, each only where it comes first
+-- the streams of a list, without repeats, in the order in which each first comes
 abbrev pub distinct : List StreamKey → List StreamKey
 distinct [] = []
 distinct (stream ∷ streams) = stream ∷ filter (λ other. not (same_stream stream other)) (distinct streams)
@@ -58,8 +58,8 @@ stood mr notes = prefix_len (λ note. beq note.mr mr) notes
 abbrev pub least_hold : ℕ
 least_hold = 8
 
--- For how many packets a value of the media clock restart lasted, if it came by a change and changes again too early.
--- It came by a change if the stream has older packets, too.
+-- For how many packets a value of the media clock restart lasted, if that is too few. It counts only if the value came by a
+-- change, which it did if the stream has older packets.
 abbrev pub early : ℕ → ℕ → Option ℕ
 early packets all = if nat_lt packets all && nat_lt packets least_hold then Some packets else None
 

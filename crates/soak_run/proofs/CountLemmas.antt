@@ -1,4 +1,4 @@
--- Each item that is handed on is counted once.
+-- Each item that is passed on is counted once.
 use Rattle.std.proofs.Common.{◌≡◌, ℕ, ◌+◌, ◌-◌, ◌^◌, ◌<◌, Bool, cond, List, [], ◌∷◌, ◌++◌, length, refl, sym, ap, ◌∙◌, arith, append_assoc, append-nil, length-append}
 use Rattle.std.specs.Prelude.{count_by}
 use Rattle.std.proofs.lemmas.List.Sums.{count_by-le-length}
@@ -52,7 +52,7 @@ with_one d p l r u f (Flag frame seq Untimed) a b c e g = same_counts d p l r (o
 with_one d p l r u f (Flag frame seq Full) a b c e g = same_counts d p l r u (one_more f) (p + 0) (l + 0) (r + 0) (u + 0) (f + 1) (none p) (none l) (none r) (none u) (one f g)
 with_one d p l r u f (Flag frame seq reason) a b c e g = same_counts d p l r u f (p + 0) (l + 0) (r + 0) (u + 0) (f + 0) (none p) (none l) (none r) (none u) (none f)
 
--- no more of a list are counted than it has
+-- at most as many items are counted as the list has
 few_of : (p : Shown → Bool) (list : List Shown) → IsFew (length list) → IsFew (count_by p list)
 few_of p list few = omega (arith, few, count_by-le-length p list)
 

@@ -19,14 +19,14 @@ use Rattle.listener.proofs.Places.{presented-or-flagged}
 
 -- ---- how many items were shown
 
--- as many as were presented or flagged
+-- as many items as were presented or flagged
 shown_count : (listener : ListenState) (records : List Record) (given : ℕ) → StandsFor records given listener → shown_by listener ≡ given
 shown_count listener records given stands =
     let all = out listener records in
     let long : length (take given all) ≡ given = omega (arith, length-take given all, stands.within) in
     rw stands.counts (presented-or-flagged (take given all) ∙ long)
 
--- of no more records than there are
+-- the items of at most as many records as there are
 shown_few : (listener : ListenState) (records : List Record) (given : ℕ) → StandsFor records given listener → given ≤ length records
 shown_few listener records given stands =
     let most : length (out listener records) ≤ length records = few (is_closed listener) _ _ listener.plan records in
@@ -42,11 +42,11 @@ front_first f zero xs = omega arith
 front_first f (suc n) [] = omega arith
 front_first f (suc n) (x ∷ xs) = let le = front_first f n xs in omega arith
 
--- a listener was given the first deliveries, so many of them
+-- a listener was given the first `given` deliveries
 abbrev pub Heard : Talking → List (ℤ × ℕ) → ℕ → ListenState → Type 0
 Heard talker deliveries given listener = StandsFor (records_of talker deliveries given) (shown_by listener) listener
 
--- so many more were shown
+-- this many more were shown
 module _ {old new : ListenState} {before after : List Record} (more : ℕ) (step : (given : ℕ) → StandsFor before given old → StandsFor after (given + more) new) where
   pub shown_on : StandsFor before (shown_by old) old → shown_by new ≡ shown_by old + more
   shown_on was = shown_count new after (shown_by old + more) (step (shown_by old) was)
@@ -97,7 +97,7 @@ module _ {old new : ListenState} {records : List Record} {items : List Shown} (k
       was.shown ∙ take_all (shown_by old) (out old records) (all_given (shown_by old) (out old records) (at (shown_by old) was.stands))
       ∙ sym (out_same old new records keeps.plan keeps.closed)
 
--- none was at first
+-- nothing was shown at first
 pub shown_none : (listener : ListenState) → StandsFor [] 0 listener → Shows [] listener []
 shown_none listener none =
     let count = sym (shown_count listener [] 0 none) in
@@ -149,7 +149,7 @@ shows_same {old} {new} {talker} {talker'} deliveries given {items} same still wa
 
 -- ---- stages
 
--- the hearing goes on, and the rest is not shown yet
+-- the hearing continues, and the rest is not shown yet
 pub giving_by : (stage : Stage) → pull_at stage ≡ None → (stage ≡ Showing → ⊥) → stage ≡ Giving
 giving_by Giving going other = refl
 giving_by Showing going other = absurd (other refl)
@@ -168,7 +168,7 @@ not_over stage giving over = let e : false ≡ true = ap closed_at (sym giving) 
 pub not_ended : (stage : Stage) → stage ≡ Giving → stage ≡ Ended → ⊥
 not_ended stage giving over = let e : Giving ≡ Ended = sym giving ∙ over in cc
 
--- a delivery less is left, or only what is shown of them
+-- one delivery less is left, or only the items that are shown of them
 pub steps_on : (stage : Stage) (deliveries : List (ℤ × ℕ)) (given : ℕ) → stage ≡ Giving → given < length deliveries → (pull_at stage ≡ None) × (steps_left stage deliveries (given + 1) < steps_left stage deliveries given)
 steps_on Giving deliveries given giving more = (refl, omega (arith, more))
 steps_on Showing deliveries given giving more = absurd cc

@@ -91,7 +91,7 @@ unfolding verdict
 verdict_so plan now earlier place (Ok batch) so = decided_so _ _ _ place batch
 verdict_so plan now earlier place (Err reason) so = subst IsCountedReason (sym so) tt
 
--- ---- so each item is shown with one of them
+-- ---- so each item is shown for one of the counted reasons
 
 flag_so : (i : ℕ) (item : Item) (r : Result Accepted Reason) → ErrsSo r → AllByRecursion IsCountedGiven (flag_by i (Some (OfItem item)) (Some r))
 flag_so i item (Ok a) so = tt

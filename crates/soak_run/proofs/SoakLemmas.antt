@@ -8,7 +8,7 @@ use Rattle.soak_run.specs.Noise.{drawn, first_state, next_state, state_after}
 use Rattle.soak_run.specs.Soak.{all_copies, copies, copies_by, copies_of, copy_of, delay_by, draws_before, soak_plan}
 use Rattle.talk_plan.specs.Timing.{arrival_of, nominal_instant}
 
--- so many copies of a packet were delivered after some others
+-- this many copies of a packet were delivered after some others
 pub record Delivering (seed number count noise : ℕ) (old new : List (ℤ × ℕ)) : Type 0 where
   pub state : noise ≡ state_after seed (draws_before seed number + 1 + count)
   pub copies : new ≡ old ++ map (copy_of seed number) (range_with_len 0 count)
@@ -26,7 +26,7 @@ delivering-none seed number noise next old s n = record {
   copies = sym (append-nil old);
 }
 
--- and then there is one for each copy
+-- one number was drawn for each copy
 pub delivering-more : (seed number count noise next : ℕ) (arrival : ℤ) (old new : List (ℤ × ℕ)) → Delivering seed number count noise old new → next ≡ next_state noise
     → arrival ≡ pos (arrival_of soak_plan number + delay_by (drawn next)) → Delivering seed number (count + 1) next old (new ++ (arrival, number) ∷ [])
 delivering-more seed number count noise next arrival old new so n a = record {

@@ -1,4 +1,4 @@
--- A list is sorted in one way, where those that tie keep their order: so a stable sort is the one by insertion.
+-- If equal elements keep their order, a list can be sorted in only one way; so a stable sort is the sort by insertion.
 use Rattle.std.proofs.Common.{◌≡◌, ℕ, suc, ◌<◌, ◌≤◌, Bool, true, false, not, cond, List, [], ◌∷◌, length, filter, refl, sym, ap, ◌∙◌, subst, arith, get_or}
 use Rattle.std.specs.Cmp.{IsStrictWeakOrder}
 use Rattle.std.specs.List.Sorted.{IsSortedBy, IsStableBy, ties}
@@ -6,7 +6,7 @@ use Rattle.std.proofs.lemmas.Bool.{and_parts, and_from, not-true, not_from_false
 use Rattle.std.proofs.lemmas.List.Sorted.{sorted_far}
 
 module _ {X : Type 0} (lt : X → X → Bool) where
-  -- an element, behind those at the front that are less
+  -- an element, put after those at the front that are less
   abbrev pub put : X → List X → List X
   put x [] = x ∷ []
   put x (y ∷ ys) = cond (lt y x) (y ∷ put x ys) (x ∷ y ∷ ys)
@@ -21,7 +21,7 @@ module _ {X : Type 0} (lt : X → X → Bool) (o : IsStrictWeakOrder lt) where
   Least x [] = Unit {0}
   Least x (y ∷ ys) = (lt y x ≡ false) × Least x ys
 
-  -- none is less than one before it
+  -- no element is less than its predecessor
   Rising : List X → Type 0
   Rising [] = Unit {0}
   Rising (x ∷ xs) = Least x xs × Rising xs
@@ -82,7 +82,7 @@ module _ {X : Type 0} (lt : X → X → Bool) (o : IsStrictWeakOrder lt) where
   tails : (a b : X) (xs ys : List X) → a ∷ xs ≡ b ∷ ys → xs ≡ ys
   tails a b xs ys e = cc
 
-  -- two rising lists begin alike, where the same elements tie
+  -- two rising lists begin alike, if the same elements tie
   first-same : (y z : X) (ys zs : List X) → Least y ys → Least z zs
       → ((x : X) → filter (ties lt x) (y ∷ ys) ≡ filter (ties lt x) (z ∷ zs)) → y ≡ z
   unfolding Least

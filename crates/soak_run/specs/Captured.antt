@@ -10,7 +10,7 @@ use Rattle.soak_run.specs.Soak.{deliveries_of, soak_plan}
 
 -- ---- what is talked
 
--- sample frame k: two samples of 16 bits, of which one rises and the other falls
+-- sample frame k: two samples of 16 bits, one rising and one falling
 abbrev pub sample_frame : ℕ → List ℕ
 sample_frame k = big_bytes 2 (k % 65536) ++ big_bytes 2 (65535 - k % 65536)
 
@@ -18,11 +18,11 @@ sample_frame k = big_bytes 2 (k % 65536) ++ big_bytes 2 (65535 - k % 65536)
 abbrev pub sample_frames : ℕ → List ℕ
 sample_frames number = flat_map sample_frame (range_with_len 0 number)
 
--- the samples of a number of packets, six sample frames in each
+-- the samples of this many packets, six sample frames in each
 unfoldable pub soak_input : ℕ → List ℕ
 soak_input packets = sample_frames (6 * packets)
 
--- the stream that is sent, of a number of packets
+-- the stream of this many packets
 unfoldable pub soak_stream : ℕ → Stream
 soak_stream packets = stream_of soak_plan (soak_input packets)
 

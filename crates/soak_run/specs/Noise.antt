@@ -6,9 +6,11 @@ use Rattle.std.specs.Prelude.{ℕ, zero, suc, ◌+◌, ◌*◌, ◌/◌, ◌%◌
 abbrev pub states : ℕ
 states = 2 ^ 31
 
+-- the factor of the generator, as in the C standard
 abbrev pub multiplier : ℕ
 multiplier = 1103515245
 
+-- the summand of the generator, as in the C standard
 abbrev pub increment : ℕ
 increment = 12345
 
@@ -20,7 +22,7 @@ next_state state = (state * multiplier + increment) % states
 abbrev pub drawn : ℕ → ℕ
 drawn state = state / 2 ^ 16
 
--- the state with which numbers are drawn from a seed
+-- the state before the first number is drawn from a seed
 abbrev pub first_state : ℕ → ℕ
 first_state seed = seed % states
 

@@ -32,7 +32,7 @@ is_full shown = false
 
 -- ---- counts
 
--- of `delivered` deliveries, how many of what is shown is presented, and how many are flagged for each reason
+-- the counts of `delivered` deliveries: how many shown items are presented, and how many are flagged for each reason
 abbrev pub outcomes : ℕ → List Shown → SoakCounts
 outcomes delivered shown = record {
   delivered = delivered;

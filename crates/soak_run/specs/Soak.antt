@@ -1,5 +1,5 @@
--- The deliveries of a stream over a bad network: which packets are lost, copied or late is drawn. The network is this
--- project's own.
+-- The deliveries of a stream over a bad network. Drawn numbers decide which packets are lost, copied or late. The network is
+-- this project's own.
 use Rattle.std.specs.Prelude.{ℕ, ℤ, pos, zero, suc, ◌+◌, ◌*◌, ◌%◌, ◌==◌, true, int_lt, if◌then◌else◌, List, [], ◌∷◌, map, None}
 use Rattle.std.specs.List.{flat_map, range_with_len}
 use Rattle.aaf_format.specs.declared.aaf.AafFormat.TheVariants.{Int16}
@@ -29,7 +29,7 @@ soak_plan = record {
 abbrev pub copies_by : ℕ → ℕ
 copies_by draw = if draw % 16 == 0 then 0 else if draw % 16 == 1 then 2 else 1
 
--- for a copy, how long it is on its way, in nanoseconds
+-- the delay of a copy, in nanoseconds
 abbrev pub delay_by : ℕ → ℕ
 delay_by draw = draw % 64 * 40000
 
@@ -58,7 +58,7 @@ all_copies seed packets = flat_map (copies seed) (range_with_len 0 packets)
 
 -- ---- as they arrive
 
--- a sorted list with one more copy, which comes after those that arrive earlier
+-- a sorted list with one more copy, which is put after those that arrive earlier
 abbrev pub put_in : ℤ × ℕ → List (ℤ × ℕ) → List (ℤ × ℕ)
 put_in copy [] = copy ∷ []
 put_in copy (next ∷ rest) = if int_lt next.0 copy.0 then next ∷ put_in copy rest else copy ∷ next ∷ rest
@@ -68,7 +68,6 @@ abbrev pub by_arrival : List (ℤ × ℕ) → List (ℤ × ℕ)
 by_arrival [] = []
 by_arrival (copy ∷ rest) = put_in copy (by_arrival rest)
 
--- The deliveries of n packets, by arrival, then by packet, then by copy. The noise has the number of packets as its
--- seed.
+-- The deliveries of n packets, by arrival, then by packet, then by copy. The seed of the noise is the number of packets.
 abbrev pub deliveries_of : ℕ → List (ℤ × ℕ)
 deliveries_of packets = by_arrival (all_copies packets packets)

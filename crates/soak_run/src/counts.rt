@@ -8,11 +8,11 @@ use avtp_base::Failed;
 use presenter_ring::Presenter;
 use sample_schedule::{Reason, Shown};
 
-/// What becomes of the delivered packets of a stream. As a presenter it counts what it is handed. Each count stops at
-/// 2^64 - 1, because a presenter may be handed any number of items; no count of `soak` gets that far.
+/// What becomes of the delivered packets of a stream. As a presenter it counts the items that it gets. Each count stops at 2^64
+/// - 1, because a presenter may get any number of items; no count of `soak` gets that far.
 #[derive(Clone, Copy, Debug, PartialEq, Eq)]
 pub struct SoakCounts {
-    /// The deliveries: packets that arrive; one that arrives twice counts twice.
+    /// The deliveries: packets that arrive. A packet that arrives twice counts twice.
     pub delivered: u64,
     /// Those that are presented.
     pub presented: u64,

@@ -31,7 +31,7 @@ pub const SOAK_PLAN: TalkPlan = TalkPlan {
 /// The step in which copies are delayed, in nanoseconds.
 const DELAY_STEP: u32 = 40_000;
 
-/// How many copies of a packet are delivered, by the number that is drawn for it.
+/// How many copies of a packet are delivered, for the number that is drawn for it.
 fn copies_drawn(draw: u32) -> u32
     ensures exact { result ≡ copies_by draw }
     ensures few { result ≤ 2 }
@@ -43,7 +43,7 @@ fn copies_drawn(draw: u32) -> u32
     }
 }
 
-/// How long a copy is on its way, in nanoseconds, by the number that is drawn for it.
+/// The delay of a copy, in nanoseconds, for the number that is drawn for it.
 fn delay_drawn(draw: u32) -> u32
     ensures exact { result ≡ delay_by draw }
     ensures bound { result < 2 ^ 22 }
@@ -51,7 +51,7 @@ fn delay_drawn(draw: u32) -> u32
     draw % 64 * DELAY_STEP
 }
 
-/// When a copy of a packet arrives, in nanoseconds of gPTP, by the number that is drawn for it.
+/// When a copy of a packet arrives, in nanoseconds of gPTP, for the number that is drawn for it.
 #[tactic(auto, using(crate::proofs::SoakLemmas::sent_soon))]
 fn copy_arrival(number: u64, draw: u32) -> i64
     requires { number < 1000000 }
@@ -60,7 +60,7 @@ fn copy_arrival(number: u64, draw: u32) -> i64
     SOAK_PLAN.arrival(number) + i64::from(delay_drawn(draw))
 }
 
-/// Delivers a packet, in as many copies as are drawn.
+/// Delivers a packet: one copy, two, or none, as a number is drawn.
 fn deliver(noise: &mut Noise, number: u64, copies: &mut Vec<(i64, u64)>) -> Result<(), NoMemory>
     requires { number < 1000000 }
     ensures drawn { OnOk result ((seed : ℕ) → noise.old ≡ state_after seed (draws_before seed number) → noise.new ≡ state_after seed (draws_before seed (suc number))) }

@@ -1,4 +1,4 @@
-//! Deliveries that a listener hears one by one: what it shows of them comes item by item.
+//! Deliveries that a listener hears one by one. What it shows of them comes item by item.
 
 ghost use Rattle.std.specs.Prelude.{◌≡◌, ◌≤◌, ◌<◌, ◌^◌, [], All, IfOk, IsTrue, List, None, false, length, ℕ};
 ghost use Rattle.listener.specs.Listening.{StandsFor, is_closed};
@@ -33,7 +33,7 @@ pub enum Stage {
     Showing,
     /// Everything was shown.
     Ended,
-    /// No memory was found for a delivery.
+    /// There was no memory for a delivery.
     NoMemory,
 }
 
@@ -108,8 +108,8 @@ impl<'a> Hearing<'a> {
         })
     }
 
-    /// Gives the next delivery to the listener, or closes the listener if all were given. Nothing that was given before
-    /// may still be due.
+    /// Gives the next delivery to the listener, or closes the listener if all were given. All that was due before must have
+    /// been shown.
     fn go_on(&mut self) -> Result<(), NoMemory>
         requires giving { self.old.stage ≡ Stage.Giving }
         requires idle { IsIdle self.old.listener }

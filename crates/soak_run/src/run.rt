@@ -21,7 +21,7 @@ use std::alloc::Global;
 use std::thread::Threads;
 use talker::{TalkFault, Talker};
 
-/// How many items wait at most between the thread that hears the stream and the one that counts.
+/// The most items that wait between the thread that hears the stream and the one that counts.
 const RING: u32 = 64;
 
 /// What becomes of deliveries of a talker's packets: one thread hears them, and another counts what is shown.
@@ -42,7 +42,7 @@ fn hear<T: Threads + Sync>(
         match pipe.round(rt, &mut hearing, &mut counts, &NoGate) {
             Round::More => {}
             Round::Drained => break,
-            // To count never fails.
+            // Counting never fails.
             Round::PresentFault => unreachable!(),
         }
     }
@@ -63,7 +63,7 @@ fn is_over(pipe: &Pipe) -> bool
     }
 }
 
-/// The only fault that this stream can have is lack of memory.
+/// The only fault that this stream can have is that memory runs out.
 fn want_of_memory(_fault: TalkFault) -> NoMemory
     requires { _fault ≡ Memory }
 {

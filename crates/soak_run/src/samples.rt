@@ -7,7 +7,7 @@ use crate::deliveries::SOAK_PLAN;
 use avtp_base::NoMemory;
 use std::alloc::Global;
 
-/// Puts a sample frame after the others: two samples of 16 bits, of which one rises and the other falls.
+/// Puts a sample frame after the others: two samples of 16 bits, one rising and one falling.
 fn put_sample_frame(samples: &mut Vec<u8>, number: u32) -> Result<(), NoMemory>
     ensures { OnOk result (samples.new.items ≡ samples.old.items ++ sample_frame number) }
 {

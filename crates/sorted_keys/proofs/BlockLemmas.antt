@@ -1,4 +1,4 @@
--- Sorted keys, and the blocks in which they stand.
+-- Sorted keys, and the blocks in which they are.
 use Rattle.std.proofs.Common.{◌≡◌, ◌≢◌, ℕ, zero, suc, ◌+◌, ◌-◌, ◌*◌, ◌<◌, ◌≤◌, ◌||◌, Bool, true, false, cond, ℤ, ◌≤ℤ◌, ◌<ℤ◌, List, [], ◌∷◌, ◌++◌, length, take, drop, get_or, refl, ap, sym, ◌∙◌, subst, arith}
 use Rattle.std.specs.Prelude.{insert, int_le, int_lt, slice_set}
 use Rattle.std.specs.List.{AllByRecursion, AllWithin, list_any}
@@ -77,7 +77,7 @@ in_order-put (x ∷ xs) k s = by_lt_z k.instant x.instant
     (λ h. rw (lt_true k.instant x.instant h) ((omega (arith, ints), not-earlier k.instant x.instant xs (omega (arith, ints)) s.0), s))
     (λ h. rw (lt_false k.instant x.instant h) (all-put_key (λ o. x.instant ≤ℤ o.instant) xs k s.0 h, in_order-put xs k s.1))
 
--- behind those that are not later, and before those that are
+-- a key put after those that are not later, and before those that are
 pub placed : (ks : List Key) (n : ℕ) (k : Key) → IsPlace k.instant ks n → insert ks n k ≡ put_key ks k
 placed ks n k is = at ks n k is.not_later is.later
   where
@@ -121,7 +121,7 @@ within-drop t (k ∷ ks) (suc n) p = within-drop t ks n (λ i d a b. p (suc i) d
 pub place-found : (t : ℤ) (ks : List Key) (n : ℕ) → n ≤ length ks → IsPartitionPoint (λ k. int_le k.instant t ≡ true) (λ k. int_le k.instant t ≡ false) ks n → IsPlace t ks n
 place-found t ks n l p = record { within = l; not_later = within-take t ks n l p.0; later = within-drop t ks n p.1 }
 
--- those up to one that was read are not later than it
+-- the keys up to one that was read are not later than it
 up-to-read : (t : ℤ) (ks : List Key) (n : ℕ) (k : Key) → n ≤ length ks → k ≡ get_or ks (n - 1) k → KeysAreInOrder ks → k.instant ≤ℤ t → AllByRecursion (λ o. o.instant ≤ℤ t) (take n ks)
 up-to-read t [] zero k l read s h = tt
 up-to-read t [] (suc n) k l read s h = tt
@@ -135,7 +135,7 @@ up-to-read t (x ∷ xs) (suc (suc n)) k l read s h =
     let i : k.instant ≡ (get_or xs n k).instant = ap (λ (o : Key). o.instant) is in
     (omega (arith, ints), up-to-read t xs (suc n) k (omega arith) (rw again is) s.1 h)
 
--- the end is the place where the last is not later
+-- the place is the end if the last key is not later
 pub place-end : (t : ℤ) (ks : List Key) (n : ℕ) (x : Key) → n ≡ length ks → x ≡ get_or ks (length ks - 1) x → KeysAreInOrder ks → x.instant ≤ℤ t → IsPlace t ks n
 place-end t ks n x e is s h =
     let none : drop n ks ≡ [] = drop_all n ks (omega arith) in
@@ -156,7 +156,7 @@ none-earlier t u seq [] h p = refl
 none-earlier t u seq (x ∷ xs) h p =
     let q = p.0 in rw (le_true x.instant t (omega (arith, ints)), le_false t x.instant (omega (arith, ints))) (none-earlier t u seq xs h p.1)
 
--- they stand before the place of their instant
+-- keys of an instant that come before its place
 pub keys-before : (t : ℤ) (seq : ℕ) (ks : List Key) (n : ℕ) → IsPlace t ks n → list_any (is_key t seq) (take n ks) ≡ list_any (is_key t seq) ks
 keys-before t seq ks n place =
     sym (or-false (list_any (is_key t seq) (take n ks)))
@@ -164,7 +164,7 @@ keys-before t seq ks n place =
     ∙ sym (list_any-append (is_key t seq) (take n ks) (drop n ks))
     ∙ ap (λ (l : List Key). list_any (is_key t seq) l) (take-append-drop n ks)
 
--- what stands before a place
+-- the keys before a place
 pub record IsBehind {X : Type 0} (xs : List X) (n : ℕ) (x : X) : Type 0 where
   pub some : 0 < n
   pub within : n ≤ length xs
@@ -190,12 +190,12 @@ no-key-earlier t seq ks n k is o h = none-earlier t k.instant seq (take n ks) h 
 
 -- ---- blocks
 
--- a block that has keys, or not
+-- a block with keys, or without
 filled-some : (b : List Key) → 256 ≤ length b → b ≢ []
 filled-some [] l e = absurd (omega arith)
 filled-some (k ∷ b) l e = absurd (let n = ap (λ (x : List Key). length x) e in omega arith)
 
--- what holds of all keys holds of the first of each block that has one
+-- a fact about all keys holds for the first key of each block that has one
 first-of : (P : Key → Type 0) (bs : List (List Key)) (n : ℕ) (k : Key) (b d : List Key) → k ∷ b ≡ get_or bs n d → n < length bs → AllByRecursion P (all_keys bs) → P k
 first-of P [] n k b d e l p = absurd (omega arith)
 first-of P (c ∷ cs) zero k b d e l p = (all-left P (k ∷ b) (all_keys cs) (subst (λ (x : List Key). AllByRecursion P (x ++ all_keys cs)) (sym e) p)).0
@@ -211,12 +211,12 @@ earlier-than : (t u : ℤ) (ks : List Key) → u ≤ℤ t → AllByRecursion (λ
 earlier-than t u [] h p = tt
 earlier-than t u (x ∷ xs) h p = (let q = p.0 in omega (arith, ints), earlier-than t u xs h p.1)
 
--- where a block does not start by an instant, its keys and all behind it are later
+-- if a block does not start by an instant, its keys and all after it are later
 first-later : (t : ℤ) (b ys : List Key) → KeysAreInOrder (b ++ ys) → starts_by t b ≡ false → AllByRecursion (λ o. t <ℤ o.instant) (b ++ ys)
 first-later t [] ys s h = absurd (let e : true ≡ false = h in cc)
 first-later t (k ∷ b) ys s h = let g = from_not_le k.instant t h in (g, later t k.instant (b ++ ys) g s.0)
 
--- where the first block behind one does not start by an instant
+-- if the first block after one does not start by an instant
 rest-later : (t : ℤ) (bs : List (List Key)) → KeysAreInOrder (all_keys bs) → AllWithin (λ b. starts_by t b ≡ false) bs 0 (length bs) → AllByRecursion (λ o. t <ℤ o.instant) (all_keys bs)
 rest-later t [] s p = tt
 rest-later t (b ∷ bs) s p = first-later t b (all_keys bs) s (p 0 b (omega arith) (omega arith))
@@ -313,7 +313,7 @@ get-set [] n x d l = absurd (omega arith)
 get-set (y ∷ ys) zero x d l = refl
 get-set (y ∷ ys) (suc n) x d l = get-set ys n x d (omega arith)
 
--- what is read does not hang on what would be read behind the end
+-- what is read does not depend on what would be read after the end
 pub get-any : {X : Type 0} (xs : List X) (n : ℕ) (d e : X) → n < length xs → get_or xs n d ≡ get_or xs n e
 get-any [] n d e l = absurd (omega arith)
 get-any (y ∷ ys) zero d e l = refl
@@ -372,7 +372,7 @@ put-blocks bs cs n b k are is =
       others = subst (λ (l : List (List Key)). AllByRecursion (λ c. length c < 512) l) (sym (set-set bs n (put_key b k) [])) (all-set (λ c. length c < 512) bs n [] are.short (omega arith));
     })
 
--- where the block is not full, all are short
+-- if the block is not full, all are short
 pub short-again : (bs : List (List Key)) (n : ℕ) (b : List Key) → AreBlocksBut n bs → b ≡ get_or bs n b → length b < 512 → AreBlocks bs
 short-again bs n b are e l = record {
   in_order = are.in_order;
@@ -388,7 +388,7 @@ short-again bs n b are e l = record {
 
 -- ---- a block is split
 
--- a block stands for two
+-- a block is replaced by two
 pub record IsSplit (bs cs : List (List Key)) (n : ℕ) (lower upper : List Key) : Type 0 where
   pub full : length (get_or bs n []) ≡ 512
   pub half : length lower ≡ 256
@@ -462,7 +462,7 @@ full-count (b ∷ bs) (suc n) l f e =
     let both = length-append b (all_keys bs) in
     omega arith
 
--- where one is full there is less than one for each 256 keys
+-- if one block is full, there is less than one block for every 256 keys
 pub blocks-count : (bs : List (List Key)) (n : ℕ) → AreBlocksBut n bs → length (get_or bs n []) ≡ 512 → 256 * length bs ≤ length (all_keys bs)
 blocks-count bs n are e = at bs n are.within are.filled e
   where
@@ -501,7 +501,7 @@ any-block p bs n b is =
 pub block-passed : (p : Key → Bool) (bs : List (List Key)) (n : ℕ) (b : List Key) → IsBehind bs n b → list_any p b ≡ false → list_any p (all_keys (take (n - 1) bs)) ≡ list_any p (all_keys (take n bs))
 block-passed p bs n b is h = sym (any-block p bs n b is ∙ ap (λ (x : Bool). list_any p (all_keys (take (n - 1) bs)) || x) h ∙ or-false (list_any p (all_keys (take (n - 1) bs))))
 
--- none before a block that starts before the instant
+-- no earlier block starts before the instant
 pub no-block-earlier : (t : ℤ) (seq : ℕ) (bs : List (List Key)) (n : ℕ) (b : List Key) → IsBehind bs n b → KeysAreInOrder (all_keys bs) → starts_before t b ≡ true → list_any (is_key t seq) (all_keys (take (n - 1) bs)) ≡ false
 no-block-earlier t seq bs n [] is s h = absurd (let e : false ≡ true = h in cc)
 no-block-earlier t seq bs n (k ∷ b) is s h = let some = is.some in let within = is.within in at bs (n - 1) s (omega arith) is.read

@@ -19,7 +19,7 @@ pub const FULL: usize = 512;
 
 pub const HALF: usize = FULL / 2;
 
-/// How many of the keys, in their order, are not later than an instant.
+/// How many of the sorted keys are not later than an instant.
 fn place_behind(keys: &VecDeque<Key>, instant: i64) -> usize
     requires { KeysAreInOrder keys.now.items }
     ensures { IsPlace instant keys.now.items result }
@@ -46,7 +46,7 @@ fn insert_key(keys: &mut VecDeque<Key>, place: usize, key: Key)
     };
 }
 
-/// Moves all keys after the first `count` to the front of others, which have room.
+/// Moves all keys after the first `count` to the front of `others`, which has room.
 fn move_behind(keys: &mut VecDeque<Key>, count: usize, others: &mut VecDeque<Key>)
     requires count { count ≤ length keys.old.items }
     requires room { length keys.old.items + length others.old.items ≤ count + deque_capacity others.old }

@@ -14,7 +14,7 @@ use avtp_base::NoMemory;
 use std::alloc::Global;
 use std::collections::VecDeque;
 
-/// The place of the block into which a key of an instant goes.
+/// The place of the block that a key of an instant goes into.
 pub fn block_for(blocks: &VecDeque<Block>, instant: i64) -> usize
     requires { AreBlocks blocks.now.items }
     ensures { IsBlockFor instant blocks.now.items result }
@@ -24,7 +24,7 @@ pub fn block_for(blocks: &VecDeque<Block>, instant: i64) -> usize
         .saturating_sub(1)
 }
 
-/// Puts a key into its block, and answers the place of the block, which may be full then.
+/// Puts a key into its block, and returns the place of the block, which may be full then.
 pub fn put_into(blocks: &mut VecDeque<Block>, key: Key) -> usize
     requires { AreBlocks blocks.old.items }
     ensures all { all_keys blocks.new.items ≡ put_key (all_keys blocks.old.items) key }
@@ -48,7 +48,7 @@ pub fn insert_block(blocks: &mut VecDeque<Block>, place: usize, block: Block)
     };
 }
 
-/// Splits a full block, into one that has no keys.
+/// Splits a full block into itself and one that has no keys.
 pub fn split(blocks: &mut VecDeque<Block>, place: usize, mut upper: Block)
     requires blocks { AreBlocksBut place blocks.old.items }
     requires full { length (slice_index_or blocks.old.items place []) ≡ 512 }

@@ -1,6 +1,6 @@
 //! Keys of what waits.
 
-/// The key of a batch: the instant of its first sample, its sequence number, and the slot in which it is kept.
+/// The key of a batch: the instant of its first sample, its sequence number, and the slot that it is kept in.
 #[derive(Clone, Copy)]
 pub struct Key {
     pub instant: i64,

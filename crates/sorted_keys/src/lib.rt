@@ -1,4 +1,5 @@
-//! What waits for its instant, by small keys that are kept sorted in blocks, so that one that comes out of order moves few others.
+//! Keys of the batches that wait for their instants. They are sorted in blocks, so that a batch that comes out of order moves
+//! few others.
 #![tactic(auto)]
 
 mod block;

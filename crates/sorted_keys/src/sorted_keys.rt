@@ -13,8 +13,8 @@ use std::alloc::Global;
 use std::collections::VecDeque;
 use std::marker::Model;
 
-/// Keys by instant, and then as they came. They are kept in blocks of fewer than 512, so that one that comes out of
-/// order moves few others.
+/// Keys sorted by instant, and then by the order in which they came. They are in blocks of fewer than 512, so that a key that
+/// comes out of order moves few others.
 #[derive(Drop)]
 pub struct SortedKeys {
     blocks: VecDeque<Block>,
@@ -66,7 +66,7 @@ impl SortedKeys {
         false
     }
 
-    /// Puts a key after those that are not later. Takes no memory.
+    /// Puts a key after those that are not later. Allocates nothing.
     pub fn put(&mut self, key: Key)
         requires { length self.old.list < self.old.room }
         ensures list { self.new.list ≡ put_key self.old.list key }

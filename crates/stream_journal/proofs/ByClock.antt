@@ -1,4 +1,4 @@
--- How far by the clock a packet's first sample can be from where it is due, and what that tells of two packets.
+-- How far a packet's first sample by the clock can be from the time when it is due, and what follows for two packets.
 use Rattle.std.proofs.Common.{zero-mul, ◌≡◌, inl, inr, ℕ, ◌+◌, ◌-◌, ◌*◌, ◌%◌, ◌<◌, ◌≤◌, Bool, true, false, ℤ, pos, neg_ℤ, ◌+ℤ◌, ◌-ℤ◌, ◌*ℤ◌, ◌≤ℤ◌, ◌<ℤ◌, Option, Some, None, refl, sym, ap, ◌∙◌, subst, arith}
 use Rattle.std.specs.Prelude.{◌==◌, nat_le, if◌then◌else◌, option_map, option_and_then}
 use Rattle.std.specs.Option.{option_or}
@@ -100,7 +100,7 @@ on_line j is clock agrees n instant p q x = cases (pair.up == j.rate * pair.down
       at = at_start (pos instant) (step_num pair) (step_den pair j.rate);
     }
 
--- ---- so many samples further on a line
+-- ---- a number of samples later on a line
 
 -- `z` nanoseconds are less than 9 packets' time, on either side; a packet's time is w / rate
 pub record IsClose (rate w : ℕ) (z : ℤ) : Type 0 where
@@ -117,7 +117,7 @@ swapped z a b =
     let h : a * (up y + down z * b) ≡ a * (down y + up z * b) = ap (λ (n : ℕ). a * n) f in
     omega (arith, ints)
 
--- a distance that is less than so many steps and one nanosecond
+-- a distance that is less than this many steps and one nanosecond
 close_by : (z : ℤ) (rate count num den : ℕ) → 1 ≤ den → 1 ≤ rate → rate ≤ count * 1000000000 → 8 * (rate * num) ≤ 9000000000 * den
     → (z *ℤ pos den) <ℤ pos (7 * count * num + den) → (z *ℤ pos (8 * rate)) <ℤ pos (72 * (count * 1000000000))
 close_by z rate count num den some some_rate slow spacing h =
@@ -146,7 +146,7 @@ difference_times x y d =
     let f : d * (up z + down x + up y) ≡ d * (down z + up x + down y) = ap (λ (n : ℕ). d * n) e in
     omega (arith, ints)
 
--- two samples of a line, `first` numbers apart, of which the first is at the instant
+-- two samples of a line, `first` numbers apart; the first is at the instant
 apart_by : (line : Line) (from first instant at : ℤ) (k : ℕ) → 1 ≤ line.den → neg_ℤ (pos k) ≤ℤ first → first ≤ℤ pos k
     → instant_at line from ≡ instant → instant_at line (from +ℤ first) ≡ at
     → (((at -ℤ instant) *ℤ pos line.den) <ℤ pos (k * line.num + line.den)) × ((neg_ℤ (at -ℤ instant) *ℤ pos line.den) <ℤ pos (k * line.num + line.den))
@@ -195,7 +195,7 @@ by_clock j is clock agrees n x known a =
     let some = is.some in
     close_on j.rate j.count spot.line spot.from a.head.first a.head.instant x (omega arith) (omega arith) reach.from reach.to here.den here.spacing here.at at
 
--- and so is where the packet is due
+-- the packet is due near its head, too
 pub by_nominal : (j : Journal) → IsAudio j → (n : ℕ) (head : Head) → n < j.packets → head_of j n ≡ Some head → IsClose j.rate (j.count * 1000000000) (pos (j.due n) -ℤ head.instant)
 by_nominal j is n head known e =
     let reach = reach_of j is n head known e in

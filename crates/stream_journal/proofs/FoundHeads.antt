@@ -106,8 +106,8 @@ below_256 : (interval : ℕ) (dbc : ℕ → ℕ) (count packets : ℕ) → Block
 below_256 interval dbc count packets is zero known = is.first
 below_256 interval dbc count packets is (suc n) known = let next = is.next n known in omega arith
 
--- The block that packet a stamps is the one from which packet b is counted, whose first block is t blocks after that of a:
--- b is not stamped, and the block lies in packet a.
+-- The block that packet a stamps is the one that packet b is counted from: b has no stamped block, its first block is t blocks
+-- after that of a, and the stamped block is in packet a.
 abbrev IsOneBlock : ℕ → ℕ → ℕ → ℕ → ℕ → Type 0
 IsOneBlock interval a b t count =
     a < 256 → b < 256 → b ≡ (a + t) % 256 → 1 ≤ b % interval → b % interval ≤ t → t + 1 ≤ b % interval + count → count ≤ (interval - b % interval) % interval
@@ -227,7 +227,7 @@ found_so j is lead room c far stamps stamp un all near hand =
     found_by j (wanted j lead c far) room c.number far stamps stamp (found room (wanted j lead c far) stamps) h (at_hand_fits j is lead c far stamp un near h) hand.kept
     (find_last-found (wanted j lead c far) (last_of room stamps)) (true_heads j is lead room c far stamps un all)
 
--- ---- and nothing else is
+-- ---- nothing else is found
 
 last_is_near : (a b c d e : Bool) → (if a then if b then if c then if d then e else false else false else false else false) ≡ true → e ≡ true
 last_is_near true true true true e h = h

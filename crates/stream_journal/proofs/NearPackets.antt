@@ -31,7 +31,7 @@ near_due rate w x due p c d =
     let d4 = d.below in
     record { above = omega (arith, ints); below = omega (arith, ints) }
 
--- an instant is not more than so far after another as they are apart
+-- two instants are at most as far apart as their difference
 not_further : (x y : ℤ) → (y -ℤ x) ≤ℤ pos (unsigned_abs (x -ℤ y))
 not_further x y = of_difference (x -ℤ y) (y -ℤ x) (omega (arith, ints))
   where

@@ -1,4 +1,4 @@
--- Numbers that are one modulo 256.
+-- Numbers that are equal modulo 256.
 use Rattle.std.proofs.Common.{◌≡◌, ◌≢◌, ◌⊎◌, inl, inr, ℕ, ◌+◌, ◌%◌, ◌≤◌, arith}
 use Rattle.std.proofs.lemmas.Bool.{cases_lt}
 

@@ -1,4 +1,4 @@
--- Points that a listener joins are beside each other in the list of all points.
+-- Points that a listener joins are adjacent in the list of all points.
 use Rattle.std.proofs.Common.{◌≡◌, inl, inr, ℕ, zero, suc, ◌+◌, ◌-◌, ◌*◌, ◌<◌, ◌≤◌, length, refl, sym, ap, subst, arith}
 use Rattle.std.proofs.Math.Nat.{mul-le-mul_left}
 use Rattle.std.proofs.lemmas.Bool.{cases_lt, cases_eq}
@@ -105,11 +105,11 @@ span c is m l (suc k) known last =
 
 -- ---- what seems to be next is next
 
--- a packet before, or the same one
+-- an earlier packet, or the same one
 not_joined_back : (p q up time : ℕ) → 1 ≤ time → q ≤ p → 7 * time ≤ 8 * ((q - p) * up) → ⊥
 not_joined_back p q up time some h least = let none : q - p ≡ 0 = omega arith in let least = rw none at least in omega arith
 
--- two packets on, or more
+-- a packet two or more numbers later
 not_joined_far : (p q up time k : ℕ) → 1 ≤ time → 1 ≤ k → 4 * (p * up) + 3 * suc k * time ≤ 4 * (q * up) → 8 * ((q - p) * up) ≤ 9 * time → ⊥
 not_joined_far p q up time k some more far most = elim (cases_lt p q) [
   | inl below ↦

@@ -22,7 +22,7 @@ use Rattle.stream_journal.proofs.Apart.{apart, back_of}
 difference : (x y : ℕ) → unsigned_abs (pos x -ℤ pos y) ≡ (x - y) + (y - x)
 difference x y = omega (arith, ints)
 
--- the arithmetic of it; d is how far x and p are apart
+-- the arithmetic of the law; d is how far x and p are apart
 refused_by : (x p due r w d : ℕ) → due * r < x * r + 128 * w → x * r < due * r + 128 * w → p ≤ x + d → x ≤ p + d
     → (due * r + 189 * w < p * r) ⊎ (p * r + 189 * w < due * r) → 60 * w < d * r
 refused_by x p due r w d from to above below (inl h) =
@@ -45,7 +45,7 @@ audio_of (H264 part) n count far e = absurd cc
 not_le : (a b : ℕ) → b < a → nat_le a b ≡ false
 not_le a b h = grind (arith, nat_tests)
 
--- what is_near compares
+-- the numbers that `is_near` compares
 near_by : (x p r count : ℕ) → 60 * (count * 1000000000) < ((x - p) + (p - x)) * r → nat_le (unsigned_abs (pos x -ℤ pos p) * r) (60 * count * 1000000000) ≡ false
 near_by x p r count h = rw (difference x p) (not_le (((x - p) + (p - x)) * r) (60 * count * 1000000000) (omega arith))
 
@@ -89,7 +89,7 @@ fits_so want stamp h =
     let parts = all_true (stamp.seq == want.seq) (same_flag stamp.mr want.mr) (stamp.rate == want.rate) (same_block stamp.block want.block) (is_near want stamp) h in
     record { seq = one_number stamp.seq want.seq parts.0; mr = one_flag stamp.mr want.mr parts.1; near = parts.2 }
 
--- one number, modulo 256
+-- a number is determined by its remainder modulo 256 within a circle
 in_circle : (k d n s : ℕ) → d ≤ 7 → s ≡ k % 256 → s ≡ (n % 256 + 256 - d) % 256 → (k + d) % 256 ≡ n % 256
 in_circle k d n s few e f = omega arith
 

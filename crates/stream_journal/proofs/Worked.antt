@@ -23,7 +23,7 @@ no_clock-is = record {
   holds = λ n k e h g. absurd (omega arith);
 }
 
--- and covers nothing
+-- a clock of no packets covers nothing
 pub no_clock-agrees : (j : Journal) → j.clock.packets ≡ 0 → AgreesWithClock j
 no_clock-agrees j none = record {
   one = λ n i p q r s a b. let h = a.joined.follows.first in absurd (omega arith);

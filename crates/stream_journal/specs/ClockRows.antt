@@ -1,4 +1,4 @@
--- What a listener has of a clock's packets, and where it puts samples by them.
+-- What a listener knows of a clock's packets, and where it puts samples by them.
 use Rattle.std.specs.Prelude.{◌≡◌, ℕ, ◌*◌, ◌%◌, ◌<◌, true, ℤ, pos, ◌+ℤ◌, length, get_or}
 use Rattle.clock_track.specs.declared.clock_row.ClockRow.{ClockRow}
 use Rattle.clock_track.specs.declared.pair.Pair.{Pair}
@@ -7,8 +7,7 @@ use Rattle.clock_track.specs.Rows.{timestamp}
 use Rattle.stream_journal.specs.Clocks.{ClockJournal, IsJoinedAt, Place, pair_at}
 use Rattle.stream_journal.specs.Journal.{Journal}
 
--- The row is a copy of the clock's packet m. Its timestamps and `shift`, which the listener adds, are the clock's
--- points.
+-- The row is a copy of the clock's packet m. Its timestamps plus `shift`, which the listener adds, are the clock's points.
 pub record IsRowOf (c : ClockJournal) (shift : ℤ) (m : ℕ) (row : ClockRow) : Type 0 where
   pub known : m < c.packets
   pub seq : row.seq ≡ m % 256
@@ -30,7 +29,7 @@ pub record IsTruePair (c : ClockJournal) (pair : Pair) : Type 0 where
   pub joined : IsJoinedAt c earlier later
   pub same : pair ≡ pair_at c earlier later
 
--- the spot is where a sample stamped with an instant lies, by a joined pair of the clock's points that covers the
+-- the spot is where a sample that is stamped with an instant lies, by a joined pair of the clock's points that covers the
 -- instant
 pub record IsSpotAt (j : Journal) (instant : ℤ) (spot : Spot) : Type 0 where
   pub earlier : Place

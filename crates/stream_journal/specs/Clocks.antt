@@ -4,8 +4,8 @@ use Rattle.std.specs.Prelude.{◌≡◌, ◌⊎◌, ℕ, suc, ◌*◌, ◌%◌, 
 use Rattle.clock_track.specs.declared.pair.Pair.{Pair}
 use Rattle.clock_track.specs.Pairs.{IsJoined, pull_down, pull_up}
 
--- The packets of a clock, counted from 0, and their points: the timestamps, with what the listener adds to each. All have
--- one base frequency, in Hz, one pull and one interval. A new run of the clock begins where `mr` changes.
+-- The packets of a clock, counted from 0, and their points: the timestamps plus what the listener adds to each. All packets
+-- have one base frequency, in Hz, one pull and one interval. A new run of the clock begins where `mr` changes.
 pub record ClockJournal : Type 0 where
   pub base : ℕ
   pub pull : ℕ
@@ -23,7 +23,7 @@ pub record Place : Type 0 where
   pub packet : ℕ
   pub at : ℕ
 
--- the place is one of a point: the clock has the packet, and the packet a point at the index
+-- a point has this place: the clock has the packet, and the packet has a point at the index
 pub record IsPlace (c : ClockJournal) (p : Place) : Type 0 where
   pub packet : p.packet < c.packets
   pub at : p.at < length (c.points p.packet)
@@ -48,8 +48,8 @@ pub record Follows (c : ClockJournal) (p q : Place) : Type 0 where
 abbrev pub InOneRun : ClockJournal → Place → Place → Type 0
 InOneRun c p q = c.mr p.packet ≡ c.mr q.packet
 
--- the points at two places as a pair, with the interval between timestamps in events, and the clock's frequency up /
--- down: its base frequency times the factor of its pull (IEEE 1722-2016, 10)
+-- the points at two places as a pair, with the interval between timestamps in events, and the clock's frequency up / down: its
+-- base frequency times the factor of its pull (IEEE 1722-2016, 10)
 abbrev pub pair_at : ClockJournal → Place → Place → Pair
 pair_at c p q = record {
   earlier = pos (point c p);
@@ -65,14 +65,14 @@ pub record IsJoinedAt (c : ClockJournal) (p q : Place) : Type 0 where
   pub one_run : InOneRun c p q
   pub joined : IsJoined (pair_at c p q)
 
--- What a listener takes for adjacent points: two of one packet, or the last of one packet and the first of another
--- whose sequence number is the next one.
+-- A listener takes two points for adjacent: two of one packet, or the last of one packet and the first of another whose
+-- sequence number is the next one.
 abbrev pub SeemNext : ClockJournal → Place → Place → Type 0
 SeemNext c p q =
     ((q.packet ≡ p.packet) × (q.at ≡ suc p.at))
     ⊎ ((q.packet % 256 ≡ suc p.packet % 256) × (q.at ≡ 0) × (suc p.at ≡ length (c.points p.packet)))
 
--- a pair of points that a listener joins that has copies of the clock's packets
+-- a pair of points that a listener joins if it has copies of the clock's packets
 pub record SeemsJoined (c : ClockJournal) (p q : Place) : Type 0 where
   pub first : IsPlace c p
   pub second : IsPlace c q

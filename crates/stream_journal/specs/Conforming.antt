@@ -1,4 +1,4 @@
--- The rules that a talker keeps. All that is counted from its timestamps rests on them alone. They are this project's
+-- The rules that a talker keeps. Everything that is counted from its timestamps rests on these alone. They are this project's
 -- own if no standard is named.
 use Rattle.std.specs.Prelude.{◌≡◌, ◌≢◌, ◌⊎◌, ◌↔◌, ℕ, suc, ◌+◌, ◌*◌, ◌%◌, ◌^◌, ◌==◌, ◌<◌, ◌≤◌, nat_lt, Bool, true, ⊤, pos, Some, is_some}
 use Rattle.time_unfold.specs.declared.head_rule.Head.{Head}
@@ -25,32 +25,32 @@ pub record AreInstants (j : Journal) : Type 0 where
 
 -- ---- audio
 
--- Which packets are stamped: all, each eighth, or those that have the block whose count is a multiple of the interval.
+-- Which packets are stamped: all, every eighth, or those that have the block whose count is a multiple of the interval.
 abbrev pub is_stamped : HeadRule → ℕ → ℕ → Bool
 is_stamped Own n count = true
 is_stamped Eight n count = n % 8 == 0
 is_stamped (Blocks dbc interval) n count = nat_lt (stamped_index (Blocks dbc interval)) count
 
--- Block counts go on from packet to packet, from any first one, and the interval is one of the standard's (IEC 61883-6).
+-- Block counts continue from packet to packet, from any first one, and the interval is one of the standard's (IEC 61883-6).
 pub record BlocksGoOn (interval : ℕ) (dbc : ℕ → ℕ) (count packets : ℕ) : Type 0 where
   pub standard : (interval ≡ 8) ⊎ ((interval ≡ 16) ⊎ (interval ≡ 32))
   pub first : dbc 0 < 256
   pub next : (n : ℕ) → suc n < packets → dbc (suc n) ≡ (dbc n + count) % 256
 
--- the packets of an AM824 stream count their data blocks on (IEC 61883-6); other kinds have no blocks to count
+-- the packets of an AM824 stream continue the count of data blocks (IEC 61883-6); other kinds have no blocks to count
 abbrev pub HasBlocks : Kind → ℕ → ℕ → Type 0
 HasBlocks DenseAaf count packets = ⊤
 HasBlocks SparseAaf count packets = ⊤
 HasBlocks (Am824 interval dbc) count packets = BlocksGoOn interval dbc count packets
 HasBlocks (H264 part) count packets = ⊤
 
--- At least `quarters` quarters of a packet's time, which is count / rate seconds, pass from one instant to another.
+-- At least `quarters` quarters of a packet's time, which is count / rate seconds, pass from one instant to the other.
 abbrev pub IsApart : Journal → ℕ → ℕ → ℕ → Type 0
 IsApart j quarters from to = 4 * (from * j.rate) + quarters * (j.count * 1000000000) ≤ 4 * (to * j.rate)
 
 -- An audio stream: packets of one kind, one rate and one count, stamped as the format says, and evenly spaced.
 pub record IsAudio (j : Journal) : Type 0 where
-  -- the nominal rates that the formats name lie between these
+  -- the nominal rates that the formats name are between these
   pub rate_from : 8000 ≤ j.rate
   pub rate_to : j.rate ≤ 192000
   pub some : 1 ≤ j.count
@@ -78,7 +78,7 @@ StampsUnits j part =
     ((n : ℕ) → n < j.packets → is_some (j.stamp n) ≡ true)
     ⊎ ((n : ℕ) → n < j.packets → (is_some (j.stamp n) ≡ true) ↔ Ends (part n))
 
--- A stream of H.264. The packets of one access unit share one instant, and other access units have other instants:
+-- A stream of H.264. The packets of one access unit share one instant, and different access units have different instants:
 -- packets due at one instant are of one access unit.
 pub record IsVideo (j : Journal) (part : ℕ → Part) : Type 0 where
   pub stamps : StampsUnits j part
@@ -87,7 +87,7 @@ pub record IsVideo (j : Journal) (part : ℕ → Part) : Type 0 where
   pub first : 1 ≤ j.packets → Begins (part 0)
   pub last : (n : ℕ) → j.packets ≡ suc n → Ends (part n)
   pub beside : (n : ℕ) → suc n < j.packets → Ends (part n) ↔ Begins (part (suc n))
-  -- they are of one access unit
+  -- the fragments of a unit are of one access unit
   pub unit : (n : ℕ) → suc n < j.packets → ¬ Ends (part n) → j.due (suc n) ≡ j.due n
   -- the packets of one access unit are adjacent, and at most 255
   pub together : (n k m : ℕ) → n ≤ k → k ≤ m → m < j.packets → j.due n ≡ j.due m → j.due k ≡ j.due n
@@ -100,8 +100,8 @@ pub record IsSteady (first second : Pair) : Type 0 where
   pub longer : 4 * (period second * second.up) ≤ 4 * (period first * first.up) + 1000000000 * first.down
   pub shorter : 4 * (period first * first.up) ≤ 4 * (period second * second.up) + 1000000000 * first.down
 
--- A clock that keeps the rules. Adjacent points of one run are in one packet or in adjacent packets with equal `mr`,
--- and a new run begins with a new packet and the other `mr`, since runs are told by it.
+-- A clock that keeps the rules. Adjacent points of one run are in one packet or in adjacent packets with equal `mr`. A new run
+-- begins with a new packet and the other `mr`, which tells the runs apart.
 pub record IsClock (c : ClockJournal) : Type 0 where
   pub base : 1 ≤ c.base
   pub pull : c.pull ≤ 5
@@ -141,7 +141,7 @@ pub record AgreesWithClock (j : Journal) : Type 0 where
 
 -- ---- all of it
 
--- the rules for streams of this kind: those of audio and of audio beside its clock, or those of H.264
+-- the rules for streams of this kind: those of audio and of its clock, or those of H.264
 abbrev pub IsOfKind : Kind → Journal → Type 0
 IsOfKind DenseAaf j = IsAudio j × AgreesWithClock j
 IsOfKind SparseAaf j = IsAudio j × AgreesWithClock j

@@ -1,4 +1,4 @@
--- How far from its instant a copy of a packet may come, so that a listener can tell what was sent.
+-- How far from its instant a copy of a packet may come so that a listener can tell what was sent.
 use Rattle.std.specs.Prelude.{◌≡◌, ◌⊎◌, ℕ, ◌+◌, ◌*◌, ◌^◌, ◌<◌, ◌≤◌, ⊤, List, [], ◌∷◌, map, All, Some, None}
 use Rattle.stream_journal.specs.Journal.{Journal, Kind, DenseAaf, SparseAaf, Am824, H264, First, Middle, Last}
 
@@ -24,8 +24,8 @@ IsAudioKind SparseAaf = ⊤
 IsAudioKind (Am824 interval dbc) = ⊤
 IsAudioKind (H264 part) = ⊥
 
--- A copy of one of the journal's packets arrives near enough to its instant that a listener which expects packets
--- `lead` nanoseconds before their first instant can tell which one it is.
+-- A copy of one of the journal's packets arrives near enough to its instant for a listener that expects packets `lead`
+-- nanoseconds before their first instant to tell which packet it is.
 pub record IsDelivered (j : Journal) (lead : ℕ) (c : Copy) : Type 0 where
   pub known : c.number < j.packets
   pub arrival : c.arrival ≤ 2 ^ 62
@@ -42,8 +42,8 @@ IsFragment SparseAaf n = ⊥
 IsFragment (Am824 interval dbc) n = ⊥
 IsFragment (H264 part) n = (part n ≡ First) ⊎ ((part n ≡ Middle) ⊎ (part n ≡ Last))
 
--- Two fragments of H.264, not both stamped, are of packets at most 254 apart. Two that are stamped with one instant are
--- of one access unit, which has at most 255 packets, so they need no rule.
+-- Two fragments of H.264, not both stamped, are of packets at most 254 apart. Two that are stamped with one instant are of one
+-- access unit, which has at most 255 packets, so they need no rule.
 abbrev pub IsNear : Journal → ℕ → ℕ → Type 0
 IsNear j n m =
     IsFragment j.kind n → IsFragment j.kind m → ((j.stamp n ≡ None) ⊎ (j.stamp m ≡ None)) →

@@ -1,4 +1,4 @@
--- Small journals, which show what the rules of a talker ask.
+-- Small journals, which show what the rules of a talker demand.
 use Rattle.std.specs.Prelude.{ℕ, zero, suc, ◌+◌, ◌-◌, ◌*◌, ◌%◌, ◌==◌, nat_lt, nat_le, if◌then◌else◌, List, [], ◌∷◌, get_or, false, Option, Some, None}
 use Rattle.stream_journal.specs.Clocks.{ClockJournal, no_clock}
 use Rattle.stream_journal.specs.Delivered.{Copy}
@@ -17,12 +17,12 @@ three_packets spacing = record {
   clock = no_clock;
 }
 
--- when packet n is due, each 125 microseconds after the one before it, and packet 10 a millisecond later than that
+-- when packet n is due: 125 microseconds after the one before it, and for packet 10 a millisecond later than that
 abbrev pub restarted_due : ℕ → ℕ
 restarted_due n = if nat_lt n 10 then 1002000000 + n * 125000 else 1004250000 + (n - 10) * 125000
 
--- Twenty packets of 6 sample frames at 48 kHz in sparse mode, of which each eighth is stamped, with a restart at packet
--- 10 that begins a millisecond late.
+-- Twenty packets of 6 sample frames at 48 kHz in sparse mode, of which every eighth is stamped, with a restart at packet 10
+-- that begins a millisecond late.
 abbrev pub restarted : Journal
 restarted = record {
   kind = SparseAaf;
@@ -77,20 +77,20 @@ blocks_of_six rate interval dues stamps = record {
   clock = no_clock;
 }
 
--- At 48 kHz each eighth block is stamped: blocks 0, 2 and 4 of three packets, and no block of the fourth.
+-- At 48 kHz every eighth block is stamped: blocks 0, 2 and 4 of three packets, and no block of the fourth.
 abbrev pub each_eighth : Journal
 each_eighth = blocks_of_six 48000 8
     (1002000000 ∷ 1002124999 ∷ 1002249999 ∷ 1002374999 ∷ 1002500000 ∷ 1002624999 ∷ 1002749999 ∷ 1002874999 ∷ [])
     (Some 1002000000 ∷ Some 1002166666 ∷ Some 1002333333 ∷ None ∷ Some 1002500000 ∷ Some 1002666666 ∷ Some 1002833333 ∷ None ∷ [])
 
--- At 96 kHz each sixteenth block is stamped: block 0 of packet 0, block 4 of packet 2 and block 2 of packet 5.
+-- At 96 kHz every sixteenth block is stamped: block 0 of packet 0, block 4 of packet 2 and block 2 of packet 5.
 abbrev pub each_sixteenth : Journal
 each_sixteenth = blocks_of_six 96000 16
     (1002000000 ∷ 1002062500 ∷ 1002124999 ∷ 1002187499 ∷ 1002249999 ∷ 1002312499 ∷ 1002374999 ∷ 1002437499 ∷ [])
     (Some 1002000000 ∷ None ∷ Some 1002166666 ∷ None ∷ None ∷ Some 1002333333 ∷ None ∷ None ∷ [])
 
--- What reaches a listener of `each_sixteenth`: packet 2 is lost, and with it the timestamp from which packets 3 and 4
--- are counted.
+-- What reaches a listener of `each_sixteenth`: packet 2 is lost, and with it the timestamp that packets 3 and 4 are counted
+-- from.
 abbrev pub sixteenth_copies : List Copy
 sixteenth_copies =
     came 0 1000000000 ∷
@@ -102,8 +102,8 @@ sixteenth_copies =
     came 7 1000437500 ∷
     []
 
--- Sixty-four packets of 6 sample frames at 48 kHz, each of them stamped, beside a clock of some base frequency whose two
--- packets have two points each, 96 events or 2 ms apart.
+-- Sixty-four packets of 6 sample frames at 48 kHz, each of them stamped, with a clock of some base frequency whose two packets
+-- have two points each, 96 events or 2 ms apart.
 abbrev pub clocked : ℕ → Journal
 clocked base = record {
   kind = DenseAaf;
@@ -130,8 +130,8 @@ video_part (suc zero) = First
 video_part (suc (suc zero)) = Middle
 video_part (suc (suc (suc n))) = Last
 
--- Four packets of H.264: a whole NAL unit, and a unit of three fragments that is stamped on its last one, in two access
--- units a thirtieth of a second apart.
+-- Four packets of H.264: a whole NAL unit, and a unit of three fragments that is stamped on its last one, in two access units a
+-- thirtieth of a second apart.
 abbrev pub video : Journal
 video = record {
   kind = H264 video_part;
@@ -146,7 +146,7 @@ video = record {
 
 -- ---- at the limits of the rules
 
--- an audio stream without packets, beside a clock
+-- an audio stream without packets, with a clock
 abbrev pub beside : ClockJournal → Journal
 beside clock = record {
   kind = DenseAaf;
@@ -174,8 +174,8 @@ unsteady late = record {
   mr = λ m. false;
 }
 
--- Three points at 44.1 kHz of which the last is 4,000 ns early, so that both pairs cover some instants, and a packet at
--- one of these.
+-- Three points at 44.1 kHz of which the last is 4,000 ns early, so that both pairs cover some instants, and a packet at one of
+-- these instants.
 abbrev pub overlapped : Journal
 overlapped = record {
   kind = DenseAaf;

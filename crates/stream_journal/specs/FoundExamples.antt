@@ -7,11 +7,11 @@ use Rattle.time_unfold.specs.declared.stamp.Stamp.{Stamp}
 use Rattle.stream_journal.specs.Examples.{restarted}
 use Rattle.stream_journal.specs.Heads.{stamp_at}
 
--- how far before packet 9 of `restarted` the packet lies from which it is counted: one packet of 6 sample frames
+-- how far before packet 9 of `restarted` the packet is that it is counted from: one packet of 6 sample frames
 abbrev pub one_back : Distance
 one_back = record { packets = 1; samples = 6 }
 
--- The stamp of packet 8 of `restarted`, and then that of packet 16 this many times.
+-- The stamp of packet 8 of `restarted`, followed by that of packet 16 this many times.
 abbrev pub followed_stamps : ℕ → List Stamp
 followed_stamps others = stamp_at restarted 8 1003000000 ∷ replicate others (stamp_at restarted 16 1005000000)
 
@@ -25,6 +25,6 @@ row_of_two m = record (row_of_one m 0) {
   payload = (row_of_one m (1002000000 + m * 4000000)).payload ++ (row_of_one m (1004000000 + m * 4000000)).payload;
 }
 
--- both packets of that clock
+-- both packets of the clock of `clocked 48000`
 abbrev pub two_rows : List ClockRow
 two_rows = row_of_two 0 ∷ row_of_two 1 ∷ []

@@ -11,7 +11,7 @@ pub record IsKept (c : ClockJournal) (shift : ℤ) (rows : List ClockRow) (m : �
   pub kept : Contains (window rows) row
   pub is : IsRowOf c shift m row
 
--- The timestamp of a point, to which a listener adds `shift`, is below 2^62 ns.
+-- The timestamp of a point, before a listener adds `shift`, is below 2^62 ns.
 abbrev pub IsTaken : ClockJournal → ℤ → Place → Type 0
 IsTaken c shift p = pos (point c p) <ℤ (pos (2 ^ 62) +ℤ shift)
 

@@ -1,4 +1,4 @@
--- What a listener notes of the copies that it has, and what it looks for among them.
+-- The stamps that a listener notes of copies, and the stamp that it looks for among them.
 use Rattle.std.specs.Prelude.{◌≡◌, ◌≢◌, ℕ, ◌+◌, ◌-◌, ◌*◌, ◌/◌, ◌%◌, ◌<◌, ◌≤◌, ◌⊎◌, pos, Some, None}
 use Rattle.time_unfold.specs.declared.head_rule.Distance.{Distance}
 use Rattle.time_unfold.specs.declared.stamp.Stamp.{Stamp}
@@ -42,14 +42,14 @@ wanted j lead c far = record {
   count = j.count;
 }
 
--- A listener that expects packets `lead` nanoseconds before their first instant has a copy of a packet without a
--- timestamp, which is counted from a stamp `far` back.
+-- A copy of a packet without a timestamp reached a listener that expects packets `lead` nanoseconds before their first instant,
+-- and the packet is counted from a stamp `far` back.
 pub record IsUnstamped (j : Journal) (lead : ℕ) (c : Copy) (far : Distance) : Type 0 where
   pub came : IsDelivered j lead c
   pub none : j.stamp c.number ≡ None
   pub back : distance (rule_of j.kind c.number) c.number j.count ≡ Some far
 
--- packet k is not the one from which packet n is counted, but has its sequence number
+-- packet k has the sequence number of the packet that packet n is counted from, but is another packet
 pub record IsOther (n k : ℕ) (far : Distance) : Type 0 where
   pub same : (k + far.packets) % 256 ≡ n % 256
   pub other : k + far.packets ≢ n

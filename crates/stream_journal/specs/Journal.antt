@@ -1,5 +1,5 @@
--- The journal of a talker: what it sent, as far as time is concerned. Packets are counted from 0 and not modulo 256,
--- and instants are whole nanoseconds of gPTP and not modulo 2^32.
+-- The journal of a talker: what it sent, as far as time is concerned. Packets are counted from 0, not modulo 256, and instants
+-- are whole nanoseconds of gPTP, not modulo 2^32.
 use Rattle.std.specs.Prelude.{◌≡◌, ℕ, ◌-◌, nat_le, if◌then◌else◌, Bool, true, false, ℤ, pos, neg_ℤ, ◌+ℤ◌, Option, Some, None, option_map, option_and_then}
 use Rattle.std.specs.Option.{option_or}
 use Rattle.time_unfold.specs.declared.head_rule.Distance.{Distance}
@@ -20,7 +20,7 @@ pub data Part : Type 0 where
   Middle : Part
   Last : Part
 
--- The kind of a stream's packets, with what of each packet only this kind has.
+-- The kind of a stream's packets, with the facts about each packet that only this kind has.
 pub data Kind : Type 0 where
   DenseAaf : Kind
   SparseAaf : Kind
@@ -68,7 +68,7 @@ head_from j n far =
     option_map (λ instant. record { instant = pos instant; first = pos far.samples }) (j.stamp (n - far.packets))
     else None else None
 
--- The head of packet n: by its own timestamp, or else by that of the packet from which it is counted, if there is one.
+-- The head of packet n: by its own timestamp, or else by that of the packet that it is counted from, if there is one.
 abbrev pub head_of : Journal → ℕ → Option Head
 head_of j n = option_or (own_head j n) (option_and_then (head_from j n) (distance (rule_of j.kind n) n j.count))
 
@@ -98,8 +98,8 @@ pub record IsAtByClock (j : Journal) (n k : ℕ) (instant : ℤ) : Type 0 where
   pub covers : Covers (pair_at j.clock earlier later) j.rate head.instant
   pub at : instant ≡ instant_by (pair_at j.clock earlier later) j head k
 
--- Sample k of packet n is at this instant, in a stream of this kind, by the clock or at the nominal rate. A unit of
--- H.264 has one sample, at the instant at which its packets are due.
+-- Sample k of packet n is at this instant, in a stream of this kind, by the clock or at the nominal rate. A unit of H.264 has
+-- one sample, at the instant at which its packets are due.
 abbrev pub IsAtBy : Kind → Bool → Journal → ℕ → ℕ → ℤ → Type 0
 IsAtBy DenseAaf true j n k instant = IsAtByClock j n k instant
 IsAtBy DenseAaf false j n k instant = IsAtNominal j n k instant
@@ -109,7 +109,7 @@ IsAtBy (Am824 interval dbc) true j n k instant = IsAtByClock j n k instant
 IsAtBy (Am824 interval dbc) false j n k instant = IsAtNominal j n k instant
 IsAtBy (H264 part) by_clock j n k instant = (k ≡ 0) × (instant ≡ pos (j.due n))
 
--- Sample k of packet n is at this instant, for listeners with the clock or without. A packet of audio without a head,
--- and with the clock one whose head no joined pair covers, has no instants.
+-- Sample k of packet n is at this instant, for listeners with the clock or without. A packet of audio without a head has no
+-- instants; neither has, with the clock, one whose head no joined pair covers.
 abbrev pub IsAt : Bool → Journal → ℕ → ℕ → ℤ → Type 0
 IsAt by_clock j n k instant = IsAtBy j.kind by_clock j n k instant

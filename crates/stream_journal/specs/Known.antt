@@ -1,4 +1,4 @@
--- When a listener knows where a packet's samples are, in the journal's own terms: by which packets came.
+-- When a listener knows where a packet's samples are, in terms of the journal: by which packets came.
 use Rattle.std.specs.Prelude.{◌≡◌, ◌⊎◌, ℕ, ◌+◌, ℤ, Bool, true, List, Contains, None, Some, is_some, option_map}
 use Rattle.std.specs.List.{filter_map}
 use Rattle.time_unfold.specs.declared.head_rule.Distance.{Distance}
@@ -18,8 +18,8 @@ use Rattle.stream_journal.specs.Journal.{Journal, head_of, rule_of}
 abbrev pub stamps_in : Journal → List ℕ → List Stamp
 stamps_in j came = filter_map (λ n. option_map (stamp_at j n) (j.stamp n)) came
 
--- A copy of a packet without a timestamp can be counted: the packet from which it is counted came with its timestamp, which
--- is among the last `room` that came, no restart lies between the two, and the copy is expected at most 60 packets' time from
+-- A copy of a packet without a timestamp can be counted: the packet that it is counted from came with its timestamp, which is
+-- among the last `room` that came, there is no restart between the two, and the copy is expected at most 60 packets' time from
 -- its first instant.
 pub record IsCounted (j : Journal) (lead room : ℕ) (c : Copy) (came : List ℕ) : Type 0 where
   pub none : j.stamp c.number ≡ None
@@ -46,9 +46,9 @@ pub record IsCoveredBy (c : ClockJournal) (shift : ℤ) (rate : ℕ) (came : Lis
   pub later_came : Contains (last_of 64 came) later.packet
   pub covers : Covers (pair_at c earlier later) rate instant
 
--- A listener knows where the samples of a copy of a packet of audio are, when these packets of the stream and of the clock
--- came: the packet has a timestamp, or the one from which it is counted is among the last 16 + `look` that came; and if the
--- listener has the clock, two of its points cover that timestamp.
+-- A listener knows where the samples of a copy of an audio packet are if these packets of the stream and of the clock came. The
+-- packet has a timestamp, or the packet that it is counted from is among the last 16 + `look` that came; and if the listener
+-- has the clock, two of its points cover that timestamp.
 pub record IsKnown (by_clock : Bool) (j : Journal) (shift : ℤ) (lead look : ℕ) (c : Copy) (came clock_came : List ℕ) : Type 0 where
   pub timed : IsTimed j lead (look + 16) c came
   pub covered : by_clock ≡ true → (head : Head) → head_of j c.number ≡ Some head → IsCoveredBy j.clock shift j.rate clock_came head.instant

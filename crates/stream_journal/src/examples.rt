@@ -1,4 +1,4 @@
-//! Small journals, and whether they keep the rules. Each call is its contract, and does nothing.
+//! Small journals, and whether they keep the rules. Each call only states its contract, and does nothing.
 
 ghost use Rattle.std.specs.Prelude.{All, false, replicate, ◌≡◌, ◌↔◌, true, ◌≤◌, ℕ, neg_ℤ, pos, [], ◌∷◌, Some, None};
 ghost use Rattle.time_unfold.specs.Stamps.{found};
@@ -16,20 +16,20 @@ ghost use Rattle.stream_journal.specs.Known.{IsKnown};
 ghost use Rattle.stream_journal.specs.Heads.{IsTrue, IsUnstamped, stamp_at, wanted};
 ghost use Rattle.stream_journal.specs.Journal.{IsAt, head_of};
 
-/// Three packets of 6 samples at 48 kHz take 125,000 ns each. They keep the rules exactly if they are due at least 3/4
-/// of that apart.
+/// Three packets of 6 samples at 48 kHz take 125,000 ns each. They keep the rules exactly if they are due at least 3/4 of that
+/// apart.
 pub fn three_packets_conform()
     ensures { (spacing : ℕ) → spacing ≤ 1000000000 → Conforms (three_packets spacing) ↔ 93750 ≤ spacing }
 {}
 
-/// Copies of its packets, of which one was lost, one came again and two changed places, are delivered to a listener that
-/// expects packets 2 ms before their first instant.
+/// Copies of the packets of `restarted`, of which one was lost, one came again and two changed places, are delivered to a
+/// listener that expects packets 2 ms before their first instant.
 pub fn restarted_copies_are_delivered()
     ensures { AreDelivered restarted 2000000 restarted_copies }
 {}
 
-/// A sparse talker that restarts at packet 10 keeps the rules. Its packet 9 is counted from packet 8; packets 10 to 15 have
-/// no head, since the restart lies between them and packet 8; packet 17 is counted from packet 16.
+/// A sparse talker that restarts at packet 10 keeps the rules. Its packet 9 is counted from packet 8; packets 10 to 15 have no
+/// head, because the restart is between them and packet 8; packet 17 is counted from packet 16.
 pub fn restarted_talker_conforms()
     ensures conforms { Conforms restarted }
     ensures before { head_of restarted 9 ≡ Some (record { instant = pos 1003000000; first = pos 6 }) }
@@ -47,7 +47,7 @@ pub fn block_talkers_conform()
     ensures two_before { head_of each_sixteenth 4 ≡ Some (record { instant = pos 1002166666; first = pos 8 }) }
 {}
 
-/// Copies of its packets at 96 kHz, of which packet 2 was lost, are delivered to a listener that expects packets 2 ms
+/// Copies of the packets of `each_sixteenth`, of which packet 2 was lost, are delivered to a listener that expects packets 2 ms
 /// before their first instant. For packet 4 it finds the stamp of packet 2 if it has that, else none.
 pub fn block_copies_are_delivered()
     ensures delivered { AreDelivered each_sixteenth 2000000 sixteenth_copies }
@@ -56,14 +56,14 @@ pub fn block_copies_are_delivered()
     ensures lost { found 16 (wanted each_sixteenth 2000000 (came 4 1000250000) (record { packets = 2; samples = 8 })) (stamp_at each_sixteenth 0 1002000000 ∷ stamp_at each_sixteenth 5 1002333333 ∷ []) ≡ None }
 {}
 
-/// A talker that sends a clock beside a stream of 48 kHz, with 96 events in 2 ms, keeps the rules exactly if these 2 ms
-/// are within 1/8 of the nominal time of 96 events.
+/// A talker that sends a clock with a stream of 48 kHz, with 96 events in 2 ms, keeps the rules exactly if these 2 ms are
+/// within 1/8 of the nominal time of 96 events.
 pub fn clocked_talkers_conform()
     ensures { (base : ℕ) → Conforms (clocked base) ↔ (42000 ≤ base) × (base ≤ 54000) }
 {}
 
-/// A packet whose timestamp the second and third points cover has its samples by them: with a clock of the stream's own
-/// rate on the line of the clock's events, and with one of 44.1 kHz in its spacing, from the timestamp on.
+/// If the second and third points cover a packet's timestamp, they time its samples: with a clock of the stream's own rate, on
+/// the line of the clock's events; with one of 44.1 kHz, in its spacing, from the timestamp on.
 pub fn samples_are_clocked()
     ensures own { IsAt true (clocked 48000) 33 1 (pos 1006145833) }
     ensures other { IsAt true (clocked 44100) 33 1 (pos 1006144140) }
@@ -71,9 +71,9 @@ pub fn samples_are_clocked()
     ensures next { IsAt true (clocked 44100) 17 5 (pos 1004220703) }
 {}
 
-/// The rules at their limits: codes of pull are 0 to 5; adjacent periods differ by at most a quarter of the 20,833 ns
-/// between two events of 48 kHz; a timestamp that two joined pairs cover is none of a stream that agrees with its
-/// clock; an access unit has at most 255 packets.
+/// The rules at their limits: codes of pull are 0 to 5; adjacent periods differ by at most a quarter of the 20,833 ns between
+/// two events of 48 kHz; a stream that agrees with its clock has no timestamp that two joined pairs cover; an access unit has
+/// at most 255 packets.
 pub fn rules_have_limits()
     ensures pull { (pull : ℕ) → Conforms (beside (pulled pull)) ↔ pull ≤ 5 }
     ensures steady { (late : ℕ) → Conforms (beside (unsteady late)) ↔ late ≤ 5208 }
@@ -86,8 +86,8 @@ pub fn video_talker_conforms()
     ensures { Conforms video }
 {}
 
-/// Packet 9 of the sparse talker has no timestamp, and is counted from packet 8. A listener finds that one's stamp while it
-/// is among the last 16: if at most 15 others came after it.
+/// Packet 9 of the sparse talker has no timestamp, and is counted from packet 8. A listener finds the stamp of packet 8 while
+/// it is among the last 16: if at most 15 others came after it.
 pub fn heads_are_at_hand()
     ensures unstamped { IsUnstamped restarted 2000000 (came 9 1001125000) one_back }
     ensures expected { IsExpected restarted 2000000 (came 9 1001125000) }
@@ -97,7 +97,7 @@ pub fn heads_are_at_hand()
     ensures dropped { found 16 (wanted restarted 2000000 (came 9 1001125000) one_back) (followed_stamps 16) ≡ None }
 {}
 
-/// A listener that has both packets of the clock of a talker at 48 kHz has the points at hand that cover packet 33.
+/// A listener that has both packets of the clock of a talker at 48 kHz has the points that cover packet 33.
 pub fn points_are_at_hand()
     ensures all_true { All (IsTrueRow (clocked 48000).clock (pos 0)) two_rows }
     ensures at_hand { ArePointsAtHand (clocked 48000).clock (pos 0) two_rows (record { packet = 0; at = 1 }) (record { packet = 1; at = 0 }) }
@@ -105,7 +105,7 @@ pub fn points_are_at_hand()
     ensures found { clock_spot two_rows (pos 0) (pos 1006125000) 48000 ≡ Some (record { line = record { base = pos 1006000000; num = 2000000; den = 96 }; from = pos 6 }) }
 {}
 
-/// By the packets that came: packet 9 of the sparse talker can be placed while packet 8 is among the last 16 that came with a
+/// By the packets that came: packet 9 of the sparse talker can be timed while packet 8 is among the last 16 that came with a
 /// timestamp, and packet 33 of the talker with a clock while both packets of the clock are among its last 64.
 pub fn packets_are_known()
     ensures counted { IsKnown false restarted (pos 0) 2000000 0 (came 9 1001125000) (8 ∷ replicate 15 16) [] }

@@ -1,4 +1,4 @@
-//! Laws of journals. Each call is its contract, and does nothing.
+//! Laws of journals. Each call only states its contract, and does nothing.
 
 ghost use Rattle.std.specs.Prelude.{Some, true, ◌≢◌, ◌↔◌, ◌+ℤ◌, ◌≡◌, ◌⊎◌, ◌+◌, ◌*◌, ◌%◌, ◌^◌, ◌<◌, ◌≤◌, ◌-◌, ℤ, Bool, All, IfSome, List, ℕ, None, false, pos};
 ghost use Rattle.time_unfold.specs.declared.head_rule.Distance.{Distance};
@@ -21,57 +21,55 @@ ghost use Rattle.stream_journal.specs.Found.{IsAtHand, IsExpected};
 ghost use Rattle.stream_journal.specs.FoundLines.{ArePointsAtHand};
 ghost use Rattle.stream_journal.specs.Heads.{AreApart, IsCountedFrom, IsHeadOf, IsOther, IsStampOf, IsTrue, IsUnstamped, behind, wanted};
 
-/// True time: the timestamp of a copy means the instant that the talker stamped.
+/// The timestamp of a copy means the instant that the talker stamped.
 pub fn timestamps_are_true()
     ensures { (j : Journal) (lead : ℕ) (c : Copy) (instant : ℕ) → IsDelivered j lead c → j.stamp c.number ≡ Some instant → unfolded (instant % 2 ^ 32) (pos c.arrival) ≡ pos instant }
 {}
 
-/// Packets that are n numbers apart are due at least 3/4 of n packets' time apart, so they are due in the order of
-/// their numbers.
+/// Packets that are n numbers apart are due at least 3/4 of n packets' time apart, so they are due in the order of their
+/// numbers.
 pub fn packets_are_spaced()
     ensures rising { (j : Journal) (n m : ℕ) → IsAudio j → n < m → m < j.packets → j.due n < j.due m }
     ensures apart { (j : Journal) (n m : ℕ) → IsAudio j → n + m < j.packets → IsApart j (3 * m) (j.due n) (j.due (n + m)) }
 {}
 
-/// A stamped packet that is not the one from which packet n is counted, but has its sequence number, is at least 256
-/// numbers from that one. What would be counted from it is more than 189 packets' time from the instant at which packet
-/// n is due.
+/// A stamped packet that has the sequence number of the packet that packet n is counted from, but is another, is at least 256
+/// numbers from it. An instant counted from it is more than 189 packets' time from the instant at which packet n is due.
 pub fn other_stamps_are_far()
     ensures numbers { (n k : ℕ) (far : Distance) → IsOther n k far → (k + far.packets + 256 ≤ n) ⊎ (n + 256 ≤ k + far.packets) }
     ensures instants { (j : Journal) (n k instant : ℕ) (far : Distance) → IsAudio j → n < j.packets → k < j.packets → j.stamp k ≡ Some instant → distance (rule_of j.kind n) n j.count ≡ Some far → IsOther n k far → AreApart j 189 (j.due n) (behind j instant far.samples) }
 {}
 
-/// A listener that has a copy of a packet without a timestamp refuses the stamp of every packet but the right one, whatever
-/// has its sequence number: the copy comes too far from the instant that would be counted from it.
+/// A listener that has a copy of a packet without a timestamp refuses every stamp with the right sequence number but of the
+/// wrong packet: the copy comes too far from the instant that would be counted from it.
 pub fn other_stamps_are_refused()
     ensures candidate { (j : Journal) (lead : ℕ) (c : Copy) (far : Distance) (k : ℕ) (stamp : Stamp) (is : IsStampOf j k stamp) → candidate (wanted j lead c far) stamp ≡ pos (behind j is.instant far.samples) }
     ensures refused { (j : Journal) (lead : ℕ) (c : Copy) (far : Distance) (k : ℕ) (stamp : Stamp) → IsAudio j → IsUnstamped j lead c far → IsStampOf j k stamp → IsOther c.number k far → is_near (wanted j lead c far) stamp ≡ false }
 {}
 
-/// True heads: what a listener finds for a copy of a packet without a timestamp, among whatever stamps it has of the
-/// talker, is the stamp of the packet from which that packet is counted, with no restart between the two. So it is the
-/// head that the packet has in the journal, and for a packet that has none there nothing is found.
+/// For a copy of a packet without a timestamp, a listener finds only the stamp of the packet that it is counted from, with no
+/// restart between the two, whatever stamps of the talker it has. So it finds the head that the packet has in the journal, and
+/// nothing for a packet that has none there.
 pub fn heads_are_true()
     ensures stamp { (j : Journal) (lead room : ℕ) (c : Copy) (far : Distance) (stamps : List Stamp) → IsAudio j → IsUnstamped j lead c far → All (IsTrue j) stamps → IfSome (found room (wanted j lead c far) stamps) (IsHeadOf j c.number far) }
     ensures head { (j : Journal) (lead room : ℕ) (c : Copy) (far : Distance) (stamps : List Stamp) → IsAudio j → IsUnstamped j lead c far → All (IsTrue j) stamps → IfSome (found room (wanted j lead c far) stamps) (IsCountedFrom j c.number far) }
     ensures none { (j : Journal) (lead room : ℕ) (c : Copy) (far : Distance) (stamps : List Stamp) → IsAudio j → IsUnstamped j lead c far → All (IsTrue j) stamps → head_of j c.number ≡ None → found room (wanted j lead c far) stamps ≡ None }
 {}
 
-/// A sample of a conforming talker has one instant at most, with the clock and without.
+/// A sample of a conforming talker has at most one instant, with the clock and without.
 pub fn samples_have_one_instant()
     ensures { (j : Journal) (by_clock : Bool) (n k : ℕ) (x y : ℤ) → Conforms j → n < j.packets → IsAt by_clock j n k x → IsAt by_clock j n k y → x ≡ y }
 {}
 
-/// True clock: a pair of points that a listener joins over copies of the clock's packets is a joined pair of the whole list
-/// of points. Sequence numbers alone would not tell packets that are 256 apart; the time between their points does.
+/// A pair of points that a listener joins over copies of the clock's packets is a joined pair of the whole list of points.
+/// Sequence numbers alone would not tell packets that are 256 apart; the time between their points does.
 pub fn joined_pairs_are_true()
     ensures { (c : ClockJournal) (p q : Place) → IsClock c → SeemsJoined c p q → IsJoinedAt c p q }
 {}
 
-/// So whatever copies of a clock's packets a listener has, each pair that it joins is a joined pair of the list of all
-/// points, and each line that it finds is that of a joined pair of this list which covers the instant. If the stream
-/// agrees with the clock, a packet's head has one such line at most, and the samples on it are at the journal's
-/// instants.
+/// Whatever copies of a clock's packets a listener has, each pair that it joins is a joined pair of the list of all points, and
+/// each line that it finds is that of such a pair which covers the instant. If the stream agrees with the clock, a packet's
+/// head has at most one such line, and the samples on it are at the journal's instants.
 pub fn clock_lines_are_true()
     ensures pairs { (c : ClockJournal) (shift : ℤ) (rows : List ClockRow) → IsClock c → All (IsTrueRow c shift) rows → All (IsTruePair c) (joined_pairs shift (window rows)) }
     ensures spot { (j : Journal) (shift instant : ℤ) (rows : List ClockRow) → IsClock j.clock → All (IsTrueRow j.clock shift) rows → IfSome (clock_spot rows shift instant j.rate) (IsSpotAt j instant) }
@@ -79,28 +77,28 @@ pub fn clock_lines_are_true()
     ensures sample { (j : Journal) (n k : ℕ) (head : Head) (spot : Spot) → head_of j n ≡ Some head → IsSpotAt j head.instant spot → IsAtByClock j n k (instant_at spot.line ((spot.from +ℤ head.first) +ℤ pos k)) }
 {}
 
-/// By the clock, packets of audio whose sequence numbers and first instants are equal are one packet: 256 packets take far
-/// longer than what the clock can add to where a packet is due.
+/// With the clock, audio packets whose sequence numbers and first instants are equal are one packet: 256 packets take far
+/// longer than the clock can add to the time at which a packet is due.
 pub fn packets_by_clock_are_told_apart()
     ensures { (j : Journal) (n m : ℕ) (x : ℤ) → Conforms j → IsAudioKind j.kind → n < j.packets → m < j.packets → n % 256 ≡ m % 256 → IsAt true j n 0 x → IsAt true j m 0 x → n ≡ m }
 {}
 
-/// Packets of audio whose sequence numbers are equal and whose first instants, by the clock or without, are at most 72 packets'
-/// time apart are one packet: others are 256 numbers and so 192 packets' time apart, and the clock adds less than 18 to where
-/// a packet is due.
+/// Audio packets whose sequence numbers are equal and whose first instants, by the clock or without, are at most 72 packets'
+/// time apart are one packet: other packets are 256 numbers and so 192 packets' time apart, and the clock adds less than 18
+/// packets' time to the time at which a packet is due.
 pub fn near_packets_are_one()
     ensures { (j : Journal) (by_clock : Bool) (n m : ℕ) (x y : ℤ) → Conforms j → IsAudioKind j.kind → n < j.packets → m < j.packets → n % 256 ≡ m % 256 → IsAt by_clock j n 0 x → IsAt by_clock j m 0 y → IsNear j 72 x y → n ≡ m }
 {}
 
-/// Heads are found: for a copy of a packet without a timestamp a listener finds a stamp exactly if it is the one of the
-/// packet from which that packet is counted, it is among the last `room` stamps that came, no restart lies between the two,
-/// and the copy is expected at most 60 packets' time from the packet's first instant.
+/// For a copy of a packet without a timestamp, a listener finds a stamp exactly if the stamp of the packet that it is counted
+/// from is among the last `room` stamps that came, there is no restart between the two, and the copy is expected at most 60
+/// packets' time from the packet's first instant.
 pub fn heads_are_found()
     ensures { (j : Journal) (lead room : ℕ) (c : Copy) (far : Distance) (stamps : List Stamp) (stamp : Stamp) → IsAudio j → HoldsEight j.packets j.mr → IsUnstamped j lead c far → All (IsTrue j) stamps → (found room (wanted j lead c far) stamps ≡ Some stamp) ↔ (IsExpected j lead c × IsAtHand j room c.number far stamps stamp) }
 {}
 
-/// Lines are found: if the packets of two adjacent points of one run that cover a packet's timestamp are among the last 64
-/// of the clock that came, a listener finds a line for the timestamp, and it is the line of these two points.
+/// If the packets of two adjacent points of one run that cover a packet's timestamp are among the last 64 of the clock that
+/// came, a listener finds a line for the timestamp, and it is the line of these two points.
 pub fn lines_are_found()
     ensures some { (c : ClockJournal) (shift instant : ℤ) (rate : ℕ) (rows : List ClockRow) (p q : Place) → IsClock c → ArePointsAtHand c shift rows p q → Covers (pair_at c p q) rate instant → clock_spot rows shift instant rate ≢ None }
     ensures found { (j : Journal) (shift : ℤ) (rows : List ClockRow) (n : ℕ) (head : Head) (p q : Place) → IsClock j.clock → AgreesWithClock j → All (IsTrueRow j.clock shift) rows → n < j.packets → head_of j n ≡ Some head → ArePointsAtHand j.clock shift rows p q → Covers (pair_at j.clock p q) j.rate head.instant

@@ -64,7 +64,7 @@ some_silent size k n e few =
     let long : size ≡ length (silent_quadlets k) = e ∙ sym (length-silent k) in
     rw (whole, long) (take-append_seam (silent_quadlets k) (silent_quadlets (n - k)))
 
--- as much of it as a packet holds
+-- as much silence as a packet holds
 pub packet_of_silence : (f : Am824Format) (plan : TalkPlan) → IsAudioPlan plan → IsAm824 f plan
     → take (plan.count * block_size plan.channels) (silent_quadlets 369) ≡ (am824 plan).silence
 packet_of_silence f plan p is =
@@ -90,7 +90,7 @@ standard (suc (suc (suc (suc (suc (suc (suc fdf))))))) interval few e = absurd (
 interval_is : (f : Am824Format) (plan : TalkPlan) → IsAm824 f plan → interval_of plan.rate ≡ f.interval
 interval_is f plan is = rw (is.code, is.interval) refl
 
--- x and n are the numbers of two first blocks, of which the later is counted from a stamped block of the earlier
+-- x and n are the numbers of two first blocks; the later is counted from a stamped block of the earlier packet
 between : (x y n count interval : ℕ) → IsInterval interval → x + y ≡ n → count ≤ (interval - n % 256 % interval) % interval → 1 ≤ n % 256 % interval
     → n % 256 % interval ≤ y → y < n % 256 % interval + count → (interval - x % 256 % interval) % interval + n % 256 % interval ≡ y
 between x y n count interval (inl e) sum unstamped some from to = rw e (between_8 (rw e at unstamped) (rw e at some) (rw e at from) (rw e at to))
@@ -228,7 +228,7 @@ fewer_than interval i count some e =
     let most = mod_below i interval some in
     omega arith
 
--- where packets have no timestamp, a packet has fewer blocks than the interval
+-- if packets have no timestamp, a packet has fewer blocks than the interval
 fewer : (dbc interval count : ℕ) → IsInterval interval → nat_lt ((interval - dbc % interval) % interval) count ≡ false → count < interval
 fewer dbc interval count (inl e) unstamped = rw e (fewer_than 8 (8 - dbc % 8) count (omega arith) (rw e at unstamped))
 fewer dbc interval count (inr (inl e)) unstamped = rw e (fewer_than 16 (16 - dbc % 16) count (omega arith) (rw e at unstamped))

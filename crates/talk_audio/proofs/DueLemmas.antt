@@ -44,7 +44,7 @@ pub record IsCountedBack (kind : Kind) (count n : ℕ) (far : Distance) : Type 0
   pub few : far.packets ≤ 7
   pub place : stamped_index (rule_of kind (n - far.packets)) + far.samples ≡ far.packets * count
 
--- and that packet is stamped
+-- the packet that an unstamped packet is counted from is stamped
 pub record IsFound (kind : Kind) (count n : ℕ) : Type 0 where
   pub far : Distance
   pub is_far : distance (rule_of kind n) n count ≡ Some far
@@ -63,7 +63,7 @@ pub record IsKindOf (plan : TalkPlan) (kind : Kind) : Type 0 where
 
 -- ---- the head of a packet
 
--- It is near the nominal instant of an event of the packet's run, and that much before which the packet is not at 0.
+-- The head is near the nominal instant of an event of the packet's run, so far before the packet that it is not at 0.
 pub record IsCounted (plan : TalkPlan) (n : ℕ) (head : Head) : Type 0 where
   pub event : ℕ
   pub stamp : ℕ
@@ -72,7 +72,7 @@ pub record IsCounted (plan : TalkPlan) (n : ℕ) (head : Head) : Type 0 where
   pub room : run_start plan (run_of plan n) + nominal_offset plan.rate event + 1 ≤ stamp + first_instant plan n
   pub first : head.first ≡ pos (event_of plan n 0) -ℤ pos event
 
--- the first packet alone can be at an instant below 3
+-- only the first packet can be at an instant below 3
 pub some_instant : (plan : TalkPlan) (n : ℕ) → IsAudioPlan plan → 1 ≤ first_instant plan n
 unfolding nominal_instant
 some_instant plan n p = omega (arith, p.some_lead)
@@ -163,7 +163,7 @@ from_by kind plan n far head true true e f h = stamped_by (is_stamped (rule_of k
         } ≡ head = cc in
         rw (← same) (record { back = before far.packets n e; one_run = one_flag (mr_of plan (n - far.packets)) (mr_of plan n) f; instant = refl; first = refl })
 
--- d packets on in one run
+-- d packets later in one run
 same_run : (plan : TalkPlan) (m d n i samples : ℕ) → IsAudioPlan plan → m + d ≡ n → run_of plan m ≡ run_of plan n → i + samples ≡ d * plan.count
     → event_of plan m i + samples ≡ event_of plan n 0
 same_run plan m d n i samples p place same sum =
@@ -225,7 +225,7 @@ record IsNearby (x : ℤ) (first : ℕ) : Type 0 where
   from : due ≤ first
   to : first ≤ due + 1
 
--- so many samples before a stamp
+-- this many samples before a stamp
 at_before : (due stamp index rate : ℕ) → IsBefore rate due stamp index → IsAt (nominal_line (pos stamp) rate) (neg_ℤ (pos index) +ℤ pos 0) (pos due)
 at_before due stamp index rate is =
     let z : ℤ = pos due -ℤ pos stamp in
@@ -260,7 +260,7 @@ before_event start q f c e e0 i rate some sum some_rate under over least most fr
       | inr h ↦ omega arith
     ]
 
--- the same instant, and one that is b events later
+-- an instant, and one that is b events later
 forward : (start e b e0 rate : ℕ) → 0 < rate → e + b ≡ e0
     → IsNearby (instant_at (nominal_line (pos (start + nominal_offset rate e)) rate) (pos b +ℤ pos 0)) (start + nominal_offset rate e0)
 forward start e b e0 rate some sum =
@@ -268,7 +268,7 @@ forward start e b e0 rate some sum =
     let none : b + 0 ≡ b = omega arith in
     record { due = start + nominal_offset rate e + nominal_offset rate b; same = rw none refl; from = omega (arith, is.from); to = omega (arith, is.to) }
 
--- one that is i events earlier
+-- an instant, and one that is i events earlier
 backward : (start e i e0 rate : ℕ) → 1 ≤ start → 0 < rate → e0 + i ≡ e
     → IsNearby (instant_at (nominal_line (pos (start + nominal_offset rate e)) rate) (neg_ℤ (pos i) +ℤ pos 0)) (start + nominal_offset rate e0)
 backward start e i e0 rate some some_rate sum =
@@ -306,7 +306,7 @@ nearby start e e0 rate first some some_rate at = elim (cases_lt e0 e) [
       rw ahead (forward start e (e0 - e) e0 rate some_rate (omega arith))
 ]
 
--- the same, counted from an instant near the nominal one
+-- an instant that is counted from one near the nominal one
 record IsNearly (crf : Option CrfPlan) (x : ℤ) (first : ℕ) : Type 0 where
   due : ℕ
   same : x ≡ pos due
@@ -418,5 +418,5 @@ pub record IsFormatOf (plan : TalkPlan) (a : Audio) (headers : ℕ) : Type 0 whe
   pub bytes : (n : ℕ) (samples : List ℕ) → length samples ≡ plan.count * a.frame → length (packet_bytes (a.packet n samples)) ≡ headers + plan.count * a.frame
   pub packet : (packets n : ℕ) (samples : List ℕ) → plan.id < 2 ^ 64 → length samples ≡ plan.count * a.frame
       → IsPacket a.kind (audio_times a.kind plan packets) plan.id n (a.packet n samples)
-  -- a listener has to know when packets without a timestamp come
+  -- a listener must know when packets without a timestamp come
   pub leads : (lead n : ℕ) → Expects plan lead → is_stamped (rule_of a.kind n) n plan.count ≡ false → IsNearLead plan lead

@@ -54,7 +54,7 @@ zeros f plan p is = take-replicate (plan.count * frame_size plan.channels f.form
 
 -- ---- headers
 
--- the header of packet n, over that of packet 0
+-- the header of packet n, made from that of packet 0
 over_header : (format : AafFormat) (sparse : Bool) (plan : TalkPlan) (n : ℕ) (samples first : List ℕ) (h : StreamHeader)
     → first ≡ spelling aaf_layout (aaf_packet format sparse plan 0 [])
     → h ≡ (aaf_packet format sparse plan n samples).header
@@ -67,7 +67,7 @@ over_header format sparse plan n samples first h first_is h_is =
     let third : n % 256 % 256 ≡ n % 256 = omega arith in
     rw (h_is, first_is, second, third) refl
 
--- and its frame, over both headers of that of packet 0
+-- the frame of packet n, made from both headers of packet 0
 pub over_first : (format : AafFormat) (sparse : Bool) (plan : TalkPlan) (n : ℕ) (samples headers : List ℕ) (h : StreamHeader)
     → HasHeaders headers (aaf_packet format sparse plan 0 [])
     → h ≡ (aaf_packet format sparse plan n samples).header
@@ -76,7 +76,7 @@ unfolding packet_bytes
 over_first format sparse plan n samples headers h has h_is =
     rw (has.frame, over_header format sparse plan n samples (drop 18 headers) h has.packet h_is) refl
 
--- of a steady stream by the sequence number and the timestamp alone
+-- in a steady stream only the sequence number and the timestamp differ
 steady_header : (format : AafFormat) (plan : TalkPlan) (n : ℕ) (samples first : List ℕ) (instant : ℕ) → plan.restart ≡ None
     → first ≡ spelling aaf_layout (aaf_packet format false plan 0 []) → instant ≡ stamped_instant plan n 0
     → patched first 2 (n % 256 ∷ []) (instant % 2 ^ 32) ++ samples ≡ aaf_spelling (aaf_packet format false plan n samples)
@@ -107,7 +107,7 @@ has_both v =
     let parts = parted (spelling (frame_layout true) (ethernet [])) (spelling aaf_layout v) 18 (length-spelling (frame_layout true) (ethernet [])) in
     record { frame = parts.0; packet = parts.1 }
 
--- what was written over a whole header, a part of it from p to q and then at 12
+-- a whole header with a part from p to q and four bytes at 12 overwritten
 patched_is : (h a t : List ℕ) (p q : ℕ) → length h ≡ 24 → p + length a ≡ q → q ≤ 12
     → take 12 (take p h ++ (a ++ drop q h)) ++ (t ++ drop 16 (take p h ++ (a ++ drop q h)))
     ≡ take p h ++ (a ++ (take (12 - q) (drop q h) ++ (t ++ take 8 (drop 16 h))))
@@ -122,7 +122,7 @@ patched_is h a t p q lh la few =
     ∙ sym (take_all 8 (drop 16 h) (omega (arith, length-drop 16 h, lh))) in
     rw (whole, front, end) simp append_assoc
 
--- and so over both headers of a frame, of which Ethernet's stays
+-- both headers of a frame with the packet's overwritten; Ethernet's stays
 pub patched_behind : (o o1 o2 o3 all a t : List ℕ) (p n : ℕ) → length o ≡ 42 → length all ≡ 42 → length a ≡ n → p + n ≤ 12
     → o1 ≡ take 0 o ++ (all ++ drop (0 + 42) o) → o2 ≡ take (18 + p) o1 ++ (a ++ drop (18 + p + n) o1) → o3 ≡ take (18 + 12) o2 ++ (t ++ drop (18 + 12 + 4) o2)
     → o3 ≡ take 18 all ++ (take p (drop 18 all) ++ (a ++ (take (12 - (p + length a)) (drop (p + length a) (drop 18 all)) ++ (t ++ take 8 (drop 16 (drop 18 all))))))

@@ -15,7 +15,7 @@ begun frames count n some h =
     let bound = div_ceil_times frames count some in
     omega (arith, whole, bound.1)
 
--- and begins within the input
+-- each packet begins within the input
 pub begun_within : (frame count n : ℕ) (input : List ℕ) → 0 < frame → 0 < count → n < packets_for frame count input
     → n * (count * frame) < length input
 begun_within frame count n input some_frame some_count h =
@@ -42,7 +42,7 @@ last_samples silence frame count n input part =
     let all = take_all (count * frame) (drop (n * (count * frame)) input) part in
     rw (← moved, all) refl
 
--- and of any other
+-- the samples of any other packet
 pub whole_samples : (silence : List ℕ) (frame count n : ℕ) (input : List ℕ) → length silence ≡ count * frame
     → count * frame ≤ length (drop (n * (count * frame)) input)
     → take (count * frame) (drop (n * (count * frame)) input) ≡ samples_of silence frame count input n

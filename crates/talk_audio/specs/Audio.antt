@@ -1,4 +1,4 @@
--- The formats of audio: what of a stream is each format's own.
+-- The formats of audio: what is specific to each in a stream.
 use Rattle.std.specs.Prelude.{ℕ, ◌*◌, Bool, List, flat_map, replicate, Option, Some, None}
 use Rattle.byteorder.specs.Endian.{big_bytes}
 use Rattle.aaf_format.specs.declared.aaf.AafFormat.{AafFormat}
@@ -11,19 +11,19 @@ use Rattle.talk_plan.specs.declared.plan.TalkKind.TheVariants.{Aaf, Am824, H264}
 use Rattle.talk_plan.specs.declared.plan.TalkPlan.{TalkPlan}
 use Rattle.talk_audio.specs.Packets.{aaf_packet, am824_kind, iec_packet, kind_of}
 
--- what an audio format tells: how its packets are stamped, the bytes of a sample frame, a packet of silence, and packet
--- n with given samples
+-- what an audio format defines: how its packets are stamped, the bytes of a sample frame, a packet of silence, and packet n
+-- with given samples
 pub record Audio : Type 0 where
   -- how its packets are stamped
   pub kind : Kind
   -- the bytes of a sample frame
   pub frame : ℕ
-  -- the samples of a packet of silence, with which the last packet is filled up
+  -- the samples of a packet of silence, which fill up the last packet
   pub silence : List ℕ
   -- packet n, with these samples
   pub packet : ℕ → List ℕ → PacketView
 
--- silence of a number of quadlets: each has the label of linear audio of 24 bits, and a value of 0 (IEC 61883-6)
+-- silence of a number of quadlets: each has the label of linear audio of 24 bits, and the value 0 (IEC 61883-6)
 unfoldable pub silent_quadlets : ℕ → List ℕ
 silent_quadlets quadlets = flat_map (big_bytes 4) (replicate quadlets 0x40000000)
 

@@ -1,4 +1,4 @@
--- The journal of a plan of audio: its packets in true numbers and at true instants.
+-- The journal of a plan of audio: its packets with their true numbers and instants.
 use Rattle.std.specs.Prelude.{ℕ, nat_abs, List, Option, Some, None}
 use Rattle.time_unfold.specs.declared.head_rule.Head.{Head}
 use Rattle.stream_journal.specs.Journal.{Journal, Kind, head_of, nominal_instant}
@@ -23,7 +23,7 @@ nominal_times kind plan packets = record {
   clock = clock_by plan.crf plan packets;
 }
 
--- When packet n is due: at its first sample, counted from its head. A packet without a head is due as the journal says.
+-- When packet n is due: at its first sample, counted from its head. A packet without a head is due when the journal says.
 abbrev pub due_by : Journal → ℕ → Option Head → ℕ
 due_by j n None = j.due n
 due_by j n (Some head) = nat_abs (nominal_instant j head 0)

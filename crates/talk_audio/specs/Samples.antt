@@ -6,11 +6,11 @@ use Rattle.std.specs.Int.{div_ceil}
 abbrev pub is_whole : ℕ → List ℕ → Bool
 is_whole frame input = length input % frame == 0
 
--- how many packets of `count` sample frames the input fills, the last one maybe in part
+-- how many packets of `count` sample frames the input fills; the last one may be partly filled
 abbrev pub packets_for : ℕ → ℕ → List ℕ → ℕ
 packets_for frame count input = div_ceil (length input / frame) count
 
--- `count` sample frames of the input from number `first` on, as far as there are any
+-- `count` sample frames of the input from number `first` on, or as many as there are
 abbrev pub sample_frames : ℕ → ℕ → ℕ → List ℕ → List ℕ
 sample_frames frame first count input = take (count * frame) (drop (first * frame) input)
 

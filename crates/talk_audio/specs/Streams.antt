@@ -1,4 +1,4 @@
--- A stream of audio, as it is sent: the format of its plan, with what the code keeps of it.
+-- A stream of audio, as it is sent: the format of its plan, with the values that the code keeps of it.
 use Rattle.std.specs.Prelude.{Bool, false, ◌≡◌, ℕ, ℤ, ◌*◌, ◌<◌, ◌≤◌, List, [], length, take, drop, true, Some, None}
 use Rattle.avtp_base.specs.Layout.{spelling}
 use Rattle.aaf_format.specs.Aaf.{Aaf as Packet, aaf_layout}
@@ -23,7 +23,7 @@ pub record IsPcm (pcm : PcmFormat) (plan : TalkPlan) : Type 0 where
   pub kind : plan.kind ≡ Aaf pcm.format pcm.sparse
   pub code : rate_code plan.rate ≡ Some pcm.code
 
--- these bytes are both headers of the frame of a packet of PCM
+-- these bytes are the Ethernet header and the packet header of the frame of a packet of PCM
 pub record HasHeaders (headers : List ℕ) (v : Packet) : Type 0 where
   pub frame : take 18 headers ≡ spelling (frame_layout true) (ethernet [])
   pub packet : drop 18 headers ≡ spelling aaf_layout v
@@ -33,7 +33,7 @@ pub record IsSteady (sparse : Bool) (plan : TalkPlan) : Type 0 where
   pub dense : sparse ≡ false
   pub once : plan.restart ≡ None
 
--- the format of a plan of PCM, with the headers of packet 0's frame, over which those of all frames are written
+-- the format of a plan of PCM, with the headers of packet 0's frame, from which those of all frames are made
 pub record IsPcmStream (pcm : PcmFormat) (plan : TalkPlan) : Type 0 where
   pub format : IsPcm pcm plan
   pub headers : HasHeaders pcm.headers (aaf_packet pcm.format pcm.sparse plan 0 [])
@@ -45,17 +45,17 @@ pub record IsAm824 (am824 : Am824Format) (plan : TalkPlan) : Type 0 where
   pub code : fdf_of plan.rate ≡ Some am824.fdf
   pub interval : syt_interval am824.fdf ≡ Some am824.interval
 
--- a format is that of a plan, with what the code keeps of it
+-- a format is that of a plan, with the values that the code keeps of it
 abbrev pub IsFormat : Format → TalkPlan → Type 0
 IsFormat (OfPcm p) plan = IsPcmStream p plan
 IsFormat (OfAm824 a) plan = IsAm824 a plan
 
--- what an audio format tells, of a format as the code has it and a plan
+-- the audio format of a format in the code and a plan
 abbrev pub audio_in : Format → TalkPlan → Audio
 audio_in (OfPcm p) plan = pcm p.format p.sparse plan
 audio_in (OfAm824 a) plan = am824 plan
 
--- what the format of a stream tells
+-- the audio format of a stream
 abbrev pub audio_of : AudioStream → Audio
 audio_of stream = audio_in stream.format stream.plan
 
@@ -63,7 +63,7 @@ audio_of stream = audio_in stream.format stream.plan
 abbrev pub samples_size : AudioStream → ℕ
 samples_size stream = stream.plan.count * (audio_of stream).frame
 
--- a plan that is talked, with its format, and with the size of a packet's samples
+-- a valid plan with its format and the size of a packet's samples
 pub record IsAudio (stream : AudioStream) : Type 0 where
   pub plan : IsAudioPlan stream.plan
   pub format : IsFormat stream.format stream.plan

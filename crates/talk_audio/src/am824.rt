@@ -17,19 +17,19 @@ use byteorder::{BigEndian, ByteOrder};
 use iec61883_format::{Cip, IecView, anchor_index, syt_interval, write_iec};
 use talk_plan::{ETHERNET_HEADER, TalkKind, TalkPlan, write_ethernet};
 
-/// What a plan of AM824 says of each packet.
+/// What a plan of AM824 determines for each packet.
 #[derive(Clone, Copy, Debug)]
 pub struct Am824Format {
     /// The code of the sample rate.
     pub fdf: u8,
-    /// SYT_INTERVAL: of this many data blocks one is stamped.
+    /// SYT_INTERVAL: one data block in this many is stamped.
     pub interval: u32,
 }
 
 /// The length of the header of a packet, with the CIP header (IEEE 1722-2016, 5; IEC 61883-1).
 pub(crate) const BLOCKS_HEADER: usize = 32;
 
-/// The quadlet of silence: the label of linear audio of 24 bits, and a value of 0 (IEC 61883-6).
+/// The quadlet of silence: the label of linear audio of 24 bits, and the value 0 (IEC 61883-6).
 const SILENT: u32 = 0x4000_0000;
 
 /// The code of a sample rate in Hz, if IEC 61883-6 has one.
@@ -89,8 +89,8 @@ impl Am824Format {
         Am824Format { fdf, interval }
     }
 
-    /// The instant with which packet `n` is stamped: that of the first block whose count is a multiple of the interval,
-    /// if the packet has it (IEC 61883-6).
+    /// The instant in the timestamp of packet `n`: that of the first block whose count is a multiple of the interval, if the
+    /// packet has it (IEC 61883-6).
     fn stamp(&self, plan: &TalkPlan, n: u64) -> Option<u64>
         requires packet { IsPacketOf plan.now n }
         requires format { IsAm824 self.now plan.now }

@@ -116,8 +116,8 @@ impl AudioStream {
         self.plan.arrival(n)
     }
 
-    /// The samples of a packet of silence, and more of it. The samples of the last packet are laid over them in an
-    /// array of its own, so the talker reserves one frame's buffer alone.
+    /// The samples of a packet of silence, and more. The samples of the last packet are copied over it in an array of its own,
+    /// so the talker reserves only one frame's buffer.
     #[tactic(auto, using(crate::proofs::Am824Lemmas::packet_of_silence, crate::proofs::PcmLemmas::zeros))]
     fn silence(&self) -> [u8; SAMPLES_LIMIT]
         requires { IsAudio self.now }
@@ -144,8 +144,8 @@ impl AudioStream {
     }
 
     /// Writes the frame of the packet whose samples end the input, which is sent at this arrival, filled up with silence.
-    // What is seldom run while audio is sent is marked cold, here and for clock packets, stamps on a clock and H.264,
-    // so that it takes no registers from the rest.
+    // Code that seldom runs while audio is sent is marked cold, here and for clock packets, stamps on a clock and H.264, so
+    // that it takes no registers from the rest.
     #[cold]
     #[inline(never)]
     fn write_last(&self, out: &mut [u8], n: u64, arrival: i64, rest: &[u8])

@@ -13,19 +13,19 @@ use aaf_format::{AafFormat, AafView, width_of, write_aaf};
 use avtp_header::{StreamHeader, subtype};
 use talk_plan::{ETHERNET_HEADER, TalkKind, TalkPlan, write_ethernet};
 
-/// What a plan of PCM says of each packet.
+/// What a plan of PCM determines for each packet.
 #[derive(Clone, Copy, Debug)]
 pub struct PcmFormat {
     pub format: AafFormat,
-    /// One packet in eight is stamped, and not each.
+    /// Only one packet in eight is stamped.
     pub sparse: bool,
     /// Each packet is stamped, and the media clock never restarts.
     pub steady: bool,
     /// The code of the sample rate.
     pub code: u8,
-    /// The headers of packet 0's frame, Ethernet's and the packet's, which are spelled once and written over for each
-    /// frame. Those of all frames differ from them only in the packet's first four bytes and in its timestamp, and in a
-    /// steady stream only in its sequence number and its timestamp.
+    /// The headers of packet 0's frame, Ethernet's and the packet's, which are encoded once and adapted for each frame. Other
+    /// frames differ from them only in the packet's first four bytes and in its timestamp, and in a steady stream only in its
+    /// sequence number and its timestamp.
     pub headers: [u8; HEADERS],
 }
 
@@ -54,7 +54,7 @@ fn rate_code(rate: u32) -> Option<u8>
     })
 }
 
-/// The first four bytes of a packet's header: its subtype, the bits that say what of it is valid, and its sequence number.
+/// The first four bytes of a packet's header: its subtype, its flag bits, and its sequence number.
 fn front_bytes(header: &StreamHeader) -> [u8; 4]
     ensures { result ≡ front_of header.now }
 {
@@ -66,7 +66,7 @@ fn front_bytes(header: &StreamHeader) -> [u8; 4]
     ]
 }
 
-/// Writes bytes at an offset. The compiler knows how many they are, so that they are moved without a call.
+/// Writes bytes at an offset. The compiler knows how many there are, so they are moved without a call.
 #[inline(always)]
 fn put_bytes<const N: usize>(out: &mut [u8], offset: usize, bytes: &[u8; N])
     requires { offset + N ≤ length out.old }
@@ -79,11 +79,11 @@ fn put_bytes<const N: usize>(out: &mut [u8], offset: usize, bytes: &[u8; N])
     *place = *bytes;
 }
 
-/// The bytes of each of two parts in which samples are moved.
+/// The size of each of the two parts in which samples are moved, in bytes.
 const PART: usize = 16;
 
-/// Copies samples to as many bytes. The 16 to 32 bytes of many a packet are two parts, which may overlap and are moved
-/// without a call: the compiler makes a call of a move whose length it does not know.
+/// Copies samples to as many bytes. The 16 to 32 bytes of most packets are two parts, which may overlap and are moved without a
+/// call. A move whose length the compiler does not know becomes a call.
 #[inline(always)]
 fn copy_samples(out: &mut [u8], samples: &[u8])
     requires { length out.old ≡ length samples.now }
@@ -148,8 +148,8 @@ impl PcmFormat {
         usize::from(channels) * width_of(self.format) as usize
     }
 
-    /// The instant with which packet `n` is stamped, which is sent at this arrival. In sparse mode one packet in eight is
-    /// (IEEE 1722-2016, 7).
+    /// The instant in the timestamp of packet `n`, which is sent at this arrival. In sparse mode one packet in eight has a
+    /// timestamp (IEEE 1722-2016, 7).
     fn stamp(&self, plan: &TalkPlan, n: u64, arrival: i64) -> Option<u64>
         requires { IsSentAt plan.now n arrival }
         ensures { result ≡ stamp_of (kind_of self.now.sparse) plan.now n }
@@ -208,7 +208,7 @@ impl PcmFormat {
         }
     }
 
-    /// Writes the frame of packet `n` so, of a stream that is steady or not.
+    /// Writes the frame of packet `n`, for a stream that is steady or not. Kept out of line.
     #[cold]
     #[inline(never)]
     fn write_marked(&self, plan: &TalkPlan, out: &mut [u8], n: u64, arrival: i64, samples: &[u8])
@@ -221,8 +221,8 @@ impl PcmFormat {
         self.write_over(out, 0, &front_bytes(&header), header.timestamp, samples);
     }
 
-    /// Writes a frame over the headers of packet 0's: a part of the packet's header, from this byte of it on, its timestamp, and
-    /// its samples.
+    /// Writes a frame from the headers of packet 0's: a part of the packet's header, at this offset in it; the timestamp; and
+    /// the samples.
     #[inline(always)]
     fn write_over<const N: usize>(
         &self,

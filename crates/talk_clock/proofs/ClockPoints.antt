@@ -1,4 +1,4 @@
--- Where the points of a plan's clock stand: in which run, and in which packet.
+-- Where the points of a plan's clock are: in which run, and in which packet.
 use Rattle.std.proofs.Common.{◌↔◌, ◌≡◌, ◌⊎◌, inl, inr, ℕ, zero, suc, ◌+◌, ◌-◌, ◌*◌, ◌/◌, ◌%◌, ◌<◌, ◌≤◌, get_or, length, map, nat_abs, pos, Some, None, refl}
 use Rattle.std.proofs.Common.{sym, subst, ap, ◌∙◌, arith}
 use Rattle.std.specs.Prelude.{Option, ◌==◌, ⊤}
@@ -35,7 +35,7 @@ abbrev pub packets_per : CrfPlan → ℕ → ℕ → Option ℕ → Option ℕ
 packets_per crf rate count None = None
 packets_per crf rate count (Some packets) = Some (packets * count / spacing_of crf rate / crf.points)
 
--- a run of so many sample frames has whole points, in whole packets, and at least 8 of them
+-- a run of this many sample frames has whole points, in whole packets, and at least 8 of them
 pub record IsWhole (frames spacing size : ℕ) : Type 0 where
   pub points : frames / spacing * spacing ≡ frames
   pub packets : frames / spacing / size * size ≡ frames / spacing
@@ -91,7 +91,7 @@ run_number x count packets g some from to =
     ] in
     div-eq_of_lt-le packets (omega arith) (omega arith)
 
--- point s is in this run, and so many points behind its first
+-- point s is in this run, this many points after its first
 pub run_of_point : (r : Option ℕ) (crf : CrfPlan) (rate count s : ℕ) → 1 ≤ count → 1 ≤ spacing_of crf rate → AreWhole crf rate count r
     → run_by r (s * spacing_of crf rate / count) ≡ run_by (points_per crf rate count r) s
 run_of_point None crf rate count s some some_w is = refl
@@ -108,7 +108,7 @@ run_of_point (Some packets) crf rate count s some some_w is =
     let frames : g * (per * w) ≡ g * (packets * count) = ap (λ (n : ℕ). g * n) points in
     run_number (s * w) count packets g some (omega arith) (omega arith)
 
--- its sample frame is so many events behind the run's first
+-- the sample frame of point s is this many events after the run's first
 event_by : (x count w s a b n d t frames per g : ℕ) → n * count + b ≡ x → x ≡ s * w → g * frames ≡ g * (per * w) → d * count + g * frames ≡ n * count
     → t * w + g * (per * w) ≡ s * w
     → d * count + b ≡ t * w
@@ -164,7 +164,7 @@ run_of_packet (Some packets) crf rate count k i is within =
 
 -- ---- the next one
 
--- so many or more
+-- this many or more
 abbrev pub AtLeast : ℕ → Option ℕ → Type 0
 AtLeast least None = ⊤
 AtLeast least (Some size) = least ≤ size
@@ -197,7 +197,7 @@ pub packets_eight : (r : Option ℕ) (crf : CrfPlan) (rate count : ℕ) → AreW
 packets_eight None crf rate count is = tt
 packets_eight (Some packets) crf rate count is = is.eight
 
--- ---- where point s stands: in which run, and how many points behind its first
+-- ---- where point s is: in which run, and how many points after its first
 
 abbrev pub per : TalkPlan → CrfPlan → Option ℕ
 per plan crf = points_per crf plan.rate plan.count plan.restart
@@ -241,7 +241,7 @@ beside plan crf s e =
     let first : first_by (per plan crf) (run_at plan crf (suc s)) ≡ first_by (per plan crf) (run_at plan crf s) = ap (first_by (per plan crf)) e in
     record { run = e; place = omega arith }
 
--- ---- a run starts late enough behind the one before it
+-- ---- a run starts late enough after the one before it
 
 apart_by : (rate base jump a c d g h : ℕ) → 0 < rate → 4 ≤ jump → g < h → a + c ≤ d
     → base + g * jump + nominal_offset rate a + nominal_offset rate c + 4 ≤ base + h * jump + nominal_offset rate d
@@ -375,7 +375,7 @@ pub run_of_place : (plan : TalkPlan) (crf : CrfPlan) (packets : ℕ) (a : Place)
 run_of_place plan crf packets a p e is = run_of_packet plan.restart crf plan.rate plan.count a.packet a.at (whole_runs plan crf p e)
     (known crf plan packets a is).within
 
--- two points beside each other of one bit are in one run, and others not
+-- two adjacent points with one restart bit are in one run, and others are not
 pub one_run : (plan : TalkPlan) (crf : CrfPlan) (packets : ℕ) (a b : Place) → IsAudioPlan plan → plan.crf ≡ Some crf
     → Follows (clock_times crf plan packets) a b → InOneRun (clock_times crf plan packets) a b
     → IsBeside plan crf (number crf a)

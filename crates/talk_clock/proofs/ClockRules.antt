@@ -44,7 +44,7 @@ next_pair plan crf packets a b d p e f g first second =
 spaced_by : (nominal p q up : ℕ) → 7 * nominal ≤ 8 * (p * up) → p ≤ q → 3 * nominal ≤ 4 * (q * up)
 spaced_by nominal p q up least more = let times : p * up ≤ q * up = mul-le-mul_right up more in omega arith
 
--- where the next point is the first of a run, it is no sooner than one more of the run before would be
+-- if the next point is the first of a run, it is not earlier than one more point of the run before would be
 first_later : (plan : TalkPlan) (crf : CrfPlan) (packets : ℕ) (a b : Place) → IsAudioPlan plan → plan.crf ≡ Some crf
     → Follows (clock_times crf plan packets) a b → IsRunEnd plan crf (number crf a)
     → (point (clock_times crf plan packets) a

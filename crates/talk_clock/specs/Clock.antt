@@ -15,8 +15,8 @@ use Rattle.talk_plan.specs.Ethernet.{ethernet}
 
 -- ---- the points
 
--- the sample frame, of all that are sent, at which point s is: the clock has a point at the first sample frame of the
--- stream, and at each further `spacing_of` sample frames
+-- the sample frame, counted over the whole stream, at which point s is: the clock has a point at the first sample frame of the
+-- stream, and then at every `spacing_of` sample frames
 abbrev pub frame_at : CrfPlan → TalkPlan → ℕ → ℕ
 frame_at crf plan s = s * spacing_of crf plan.rate
 
@@ -24,7 +24,7 @@ frame_at crf plan s = s * spacing_of crf plan.rate
 unfoldable pub clock_point : CrfPlan → TalkPlan → ℕ → ℕ
 clock_point crf plan s = nominal_instant plan (frame_at crf plan s / plan.count) (frame_at crf plan s % plan.count)
 
--- how many points a stream of this many packets has, with those at sample frames that fill up its last packet
+-- how many points a stream of this many packets has, including those at sample frames that fill up its last packet
 abbrev pub points_for : CrfPlan → TalkPlan → ℕ → ℕ
 points_for crf plan packets = div_ceil (packets * plan.count) (spacing_of crf plan.rate)
 
@@ -34,7 +34,7 @@ run_points crf plan packets = packets * plan.count / spacing_of crf plan.rate
 
 -- ---- the packets
 
--- how many clock packets the points fill, the last one maybe in part
+-- how many clock packets the points fill; the last one may be partly filled
 abbrev pub clock_packets : CrfPlan → TalkPlan → ℕ → ℕ
 clock_packets crf plan packets = div_ceil (points_for crf plan packets) crf.points
 
@@ -50,7 +50,7 @@ points_size crf plan packets m = min crf.points (points_for crf plan packets - f
 unfoldable pub points_in : CrfPlan → TalkPlan → ℕ → ℕ → List ℕ
 points_in crf plan packets m = map (clock_point crf plan) (range_with_len (first_point crf m) (points_size crf plan packets m))
 
--- the restart bit of clock packet m: that of the stream's packet with the sample frame of its first point
+-- the restart bit of clock packet m: that of the stream packet that has the sample frame of its first point
 abbrev pub clock_mr : CrfPlan → TalkPlan → ℕ → Bool
 clock_mr crf plan m = mr_of plan (frame_at crf plan (first_point crf m) / plan.count)
 
@@ -77,7 +77,7 @@ clock_arrival crf plan m = clock_point crf plan (first_point crf m) - plan.lead
 
 -- ---- its journal
 
--- the journal of the clock beside a stream of this many packets
+-- the journal of the clock with a stream of this many packets
 abbrev pub clock_times : CrfPlan → TalkPlan → ℕ → ClockJournal
 clock_times crf plan packets = record {
   base = crf.rate;
@@ -88,7 +88,7 @@ clock_times crf plan packets = record {
   mr = λ m. clock_mr crf plan m;
 }
 
--- the journal of the plan's clock beside a stream of this many packets; without a clock, that of one that sends none
+-- the journal of the plan's clock with a stream of this many packets; if the plan has no clock, that of one that sends nothing
 abbrev pub clock_by : Option CrfPlan → TalkPlan → ℕ → ClockJournal
 clock_by None plan packets = no_clock
 clock_by (Some crf) plan packets = clock_times crf plan packets
@@ -100,14 +100,14 @@ abbrev pub clock_id : Option CrfPlan → ℕ
 clock_id None = 0
 clock_id (Some crf) = crf.id
 
--- packet m of the clock beside a stream of this many packets; without a clock none is sent
+-- packet m of the clock with a stream of this many packets; without a clock none is sent
 abbrev pub clock_packet_by : Option CrfPlan → TalkPlan → ℕ → ℕ → Crf
 clock_packet_by None plan packets m = crf_of []
 clock_packet_by (Some crf) plan packets m = clock_packet crf plan packets m
 
 -- ---- streams
 
--- when packet m of the clock is sent; without a clock none is
+-- when packet m of the clock is sent; without a clock none is sent
 abbrev pub clock_arrival_by : Option CrfPlan → TalkPlan → ℕ → ℕ
 clock_arrival_by None plan m = 0
 clock_arrival_by (Some crf) plan m = clock_arrival crf plan m
@@ -118,10 +118,10 @@ clock_arrival_by (Some crf) plan m = clock_arrival crf plan m
 unfoldable pub clock_bytes : Crf → List ℕ
 clock_bytes packet = frame_spelling (ethernet (crf_spelling packet))
 
--- the sample frames of so many packets can be counted: the longest input has no more
+-- the sample frames of this many packets can be counted: the longest input has no more
 abbrev pub AreFew : TalkPlan → ℕ → Type 0
 AreFew plan packets = (n : ℕ) → n < packets → n * plan.count ≤ 2 ^ 28
 
--- the length of packet m's frame: Ethernet's header with its tag, that of the packet, and 8 bytes for each point
+-- the length of packet m's frame: Ethernet's header with its tag, the packet's header, and 8 bytes for each point
 abbrev pub clock_frame_size : CrfPlan → TalkPlan → ℕ → ℕ → ℕ
 clock_frame_size crf plan packets m = 38 + 8 * points_size crf plan packets m

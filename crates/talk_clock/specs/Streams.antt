@@ -5,29 +5,29 @@ use Rattle.talk_plan.specs.declared.plan.TalkPlan.{TalkPlan}
 use Rattle.talk_clock.specs.Clock.{clock_packets, points_for, AreFew}
 use Rattle.talk_plan.specs.Plan.{IsAudioPlan}
 
--- the clock of a plan that is talked, beside a stream of this many packets, whose sample frames can be counted
+-- the clock of a valid plan, with a stream of this many packets, whose sample frames can be counted
 pub record IsClockStream (c : ClockStream) : Type 0 where
   pub plan : IsAudioPlan c.plan
   pub clock : c.plan.crf ≡ Some c.crf
   pub few : AreFew c.plan c.stream
 
--- packet m of a clock
+-- a clock has a packet m
 pub record IsPacketOfClock (c : ClockStream) (m : ℕ) : Type 0 where
   pub clock : IsClockStream c
   pub known : m < clock_packets c.crf c.plan c.stream
 
--- point s of a clock
+-- a clock has a point s
 pub record IsPointOfClock (c : ClockStream) (s : ℕ) : Type 0 where
   pub clock : IsClockStream c
   pub known : s < points_for c.crf c.plan c.stream
 
--- the clock of this plan, beside a stream of this many packets
+-- the clock of this plan, with a stream of this many packets
 pub record IsClockIn (c : ClockStream) (plan : TalkPlan) (packets : ℕ) : Type 0 where
   pub plan_is : c.plan ≡ plan
   pub stream : c.stream ≡ packets
   pub clock : IsClockStream c
 
--- the clock of a plan, where it has one
+-- the clock of a plan, if the plan has one
 abbrev pub IsClockOf : Option ClockStream → TalkPlan → ℕ → Type 0
 IsClockOf None plan packets = plan.crf ≡ None
 IsClockOf (Some c) plan packets = IsClockIn c plan packets

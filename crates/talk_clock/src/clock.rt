@@ -12,9 +12,9 @@ use byteorder::{BigEndian, ByteOrder};
 use crf_format::{CrfView, write_crf};
 use talk_plan::{CrfPlan, ETHERNET_HEADER, TalkPlan, write_ethernet};
 
-/// The media clock of a plan, beside a stream of `stream` packets. Its points are counted through the whole stream:
-/// point s is at sample frame s * spacing, those that fill up the last packet among them. A restart lies at a whole
-/// packet of the clock, so this agrees with counting in each run.
+/// The media clock of a plan, with a stream of `stream` packets. Its points are counted through the whole stream, including
+/// those that fill up the last packet: point s is at sample frame s * spacing. Each restart is at a whole packet of the clock,
+/// so counting in each run gives the same points.
 #[derive(Clone, Copy, Debug)]
 pub struct ClockStream {
     pub plan: TalkPlan,
@@ -36,7 +36,7 @@ const POINTS_LIMIT: usize = 180;
 const AUDIO_SAMPLE: u8 = 1;
 
 impl ClockStream {
-    /// The clock of a plan, if it has one, beside a stream of this many packets.
+    /// The clock of a plan, if it has one, with a stream of this many packets.
     pub fn of(plan: TalkPlan, stream: u64) -> Option<Self>
         requires plan { IsAudioPlan plan }
         requires few { AreFew plan stream }
@@ -83,7 +83,7 @@ impl ClockStream {
         m * u64::from(self.crf.points)
     }
 
-    /// The packet of the stream in which point `s` is.
+    /// The stream packet that has the sample frame of point `s`.
     #[tactic(auto, using(crate::proofs::ClockLemmas::point_within))]
     fn stream_packet(&self, s: u64) -> u64
         requires { IsPointOfClock self.now s }

@@ -21,7 +21,7 @@ use Rattle.clock_track.proofs.LineFacts.{less, at_most}
 
 -- ---- the period from one point to the next
 
--- It is `spacing` events long, within a nanosecond.
+-- The period is `spacing` events long, within a nanosecond.
 pub record IsPeriod (b : Beat) (start m p : ℕ) : Type 0 where
   pub next : point_at b start m + p ≡ point_at b start (suc m)
   pub under : p * b.rate ≤ b.spacing * 1000000000 + b.rate
@@ -93,7 +93,7 @@ steady b start m is =
       shorter = little_more (period (pair_from b start m)) (period (pair_from b start (suc m))) b.up b.down (omega (arith, q.from, p.to)) is.slow;
     }
 
--- of a run that ends with point m + 1, and the first point of the next one
+-- the first point after a run that ends with point m + 1
 pub renewed : (b : Beat) (start m next : ℕ) → IsBeat b → start + nominal_offset b.rate (suc (suc m) * b.spacing) + 4 ≤ next
     → point_at b start (suc m) + period (pair_from b start m) + 3 ≤ next
 renewed b start m next is far =
@@ -103,7 +103,7 @@ renewed b start m next is far =
 
 -- ---- the instant with which an event is stamped
 
--- r events behind point k + 1: so many nanoseconds
+-- r events after point k + 1: this many nanoseconds
 abbrev pub part_of : Beat → ℕ → ℕ → ℕ → ℕ
 part_of b start k r = r * (point_at b start (suc k) - point_at b start k) / b.spacing
 
@@ -118,7 +118,7 @@ late_by b start e m r k false h i more =
     let back : suc k - 1 ≡ k = omega arith in
     rw (i, back) refl
 
--- from the second point on
+-- the stamp from the second point on
 pub stamped_late : (b : Beat) (start e k r : ℕ) → suc k * b.spacing + r ≡ e → r < b.spacing
     → stamped_at b start e ≡ point_at b start (suc k) + part_of b start k r
 unfolding stamped_at
@@ -131,7 +131,7 @@ stamped_late b start e k r place small =
     late_by b start e (e / b.spacing) (e % b.spacing) k (nat_lt e b.spacing) refl quotient (omega arith)
     ∙ ap (λ (n : ℕ). point_at b start (suc k) + part_of b start k n) rest
 
--- before it
+-- the stamp before the second point
 pub stamped_early : (b : Beat) (start e : ℕ) → e < b.spacing → stamped_at b start e ≡ start + nominal_offset b.rate e
 unfolding stamped_at
 stamped_early b start e h = rw (lt-ltb e b.spacing h) refl
@@ -159,12 +159,12 @@ part_over w rate r p f some small over fast = elim (cases_lt (f * rate + 2 * rat
   | inr not ↦ omega arith
 ]
 
--- It is within a few nanoseconds of the event's nominal instant, which is start + e * 10^9 / rate.
+-- The stamp is within a few nanoseconds of the event's nominal instant, which is start + e * 10^9 / rate.
 pub record IsStamped (b : Beat) (start e instant : ℕ) : Type 0 where
   pub under : instant * b.rate ≤ start * b.rate + e * 1000000000 + b.rate
   pub over : start * b.rate + e * 1000000000 < instant * b.rate + 3 * b.rate
 
--- r events behind point k + 1
+-- r events after point k + 1
 pub record IsPart (b : Beat) (start k r p : ℕ) : Type 0 where
   pub under : part_of b start k r * b.spacing ≤ r * p
   pub over : r * p < part_of b start k r * b.spacing + b.spacing
@@ -186,7 +186,7 @@ late_near b start e k r is place small =
     let over = part_over b.spacing b.rate r (period (pair_from b start k)) f is.some small part.over p.over in
     record { under = omega (arith, x.under, under); over = omega (arith, x.over, over) }
 
--- an event from the second point on is so many events behind a point
+-- an event from the second point on is this many events after a point
 placed : (e w : ℕ) → 1 ≤ w → w ≤ e → (suc (e / w - 1) * w + e % w ≡ e) × (e % w < w)
 placed e w some late =
     let split = div-add-mod' e w in
@@ -237,7 +237,7 @@ lower_by up w x y p some h = at_most up (x * (2 * w)) (y * (2 * w) + p) some (om
 upper_by : (up w x y p : ℕ) → y * (2 * (w * up)) + p * up < x * (2 * (w * up)) + 2 * (p * (w * up)) → y * (2 * w) + p < x * (2 * w) + 2 * (p * w)
 upper_by up w x y p h = less up (y * (2 * w) + p) (x * (2 * w) + 2 * (p * w)) (omega arith)
 
--- of point t, which is `place` events behind the start
+-- of point t, which is `place` events after the start
 not_sooner : (w rate s t instant p e place : ℕ) → 1 ≤ w → rate ≤ 192000 → instant * rate ≤ s + e * 1000000000 + rate → s + place * 1000000000 < t * rate + rate
     → p * rate ≤ w * 1000000000 + rate → t * (2 * w) ≤ instant * (2 * w) + p → place ≤ e
 not_sooner w rate s t instant p e place some slow under at long covers = elim (cases_lt e place) [
@@ -293,7 +293,7 @@ covering b start m e is c =
     of.over whole.1 in
     div-eq_of_lt-le b.spacing (omega arith) (omega arith)
 
--- It covers the instant indeed, from the second point on.
+-- From the second point on, the pair covers the instant.
 within_then : (instant later den num p : ℕ) → later * (2 * den) ≤ instant * (2 * den) + num → instant * (2 * den) + num < later * (2 * den) + 2 * (p * den)
     → (pos 0 ≤ℤ ((pos instant -ℤ pos later) *ℤ pos (2 * den) +ℤ pos num)) × (((pos instant -ℤ pos later) *ℤ pos (2 * den) +ℤ pos num) <ℤ pos (2 * (p * den)))
 within_then instant later den num p from to =
@@ -336,7 +336,7 @@ covered b start m e is at =
     let small : e % b.spacing < b.spacing = mod-lt e is.some in
     rw (stamped_late b start e m (e % b.spacing) (omega arith) small) (covers_late b start m (e % b.spacing) is small)
 
--- ---- where the clock's frequency is the stream's rate, the instant is that of an event of the clock
+-- ---- if the clock's frequency is the stream's rate, the instant is that of an event of the clock
 
 own_spacing : (up w interval rate down : ℕ) → 1 ≤ up → w * up ≡ interval * rate * down → up ≡ rate * down → interval ≡ w
 own_spacing up w interval rate down some e own =

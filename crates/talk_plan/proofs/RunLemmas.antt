@@ -38,7 +38,7 @@ begun n packets = div-mul-le_self n packets
 
 -- ---- the next packet
 
--- it is the first of the next run
+-- a packet is the first of the next run
 pub record IsRenewed (r : Option ℕ) (n : ℕ) : Type 0 where
   pub run : run_by r (suc n) ≡ suc (run_by r n)
   pub kept : (k : ℕ) → k < 8 → run_by r (suc n + k) ≡ suc (run_by r n)
@@ -66,7 +66,7 @@ later_run r jump n ok = elim (next_run r jump n ok) [ inl e ↦ omega arith | in
 one_bit : (a b : ℕ) → a ≤ b → b ≤ suc a → (a % 2 == 1) ≡ (b % 2 == 1) → a ≡ b
 one_bit a b least most e = grind (arith, nat_tests)
 
--- packets at most 7 apart are of one run where they have one restart bit
+-- packets at most 7 apart are of one run if they have one restart bit
 pub one_run : (r : Option ℕ) (jump m d n : ℕ) → Restarts r jump → d ≤ 7 → m + d ≡ n → (run_by r m % 2 == 1) ≡ (run_by r n % 2 == 1) → run_by r m ≡ run_by r n
 one_run None jump m d n ok few place e = refl
 one_run (Some packets) jump m d n ok few place e =
@@ -88,7 +88,7 @@ new_bit r jump n ok other = elim (next_run r jump n ok) [
   | inr e ↦ e
 ]
 
--- no packet is of a run before that of an earlier one
+-- no packet is of an earlier run than a packet before it
 pub no_later_run : (r : Option ℕ) (jump m n : ℕ) → Restarts r jump → m ≤ n → run_by r m ≤ run_by r n
 no_later_run None jump m n ok h = omega arith
 no_later_run (Some packets) jump m n ok h =

@@ -61,7 +61,7 @@ few_jumps plan n p events =
     let packets : n * 1 ≤ n * plan.count = mul-le-mul_left n p.some_count in
     omega (arith, in_its.jumps)
 
--- no instant of it passes what captures can say
+-- no instant of the packet exceeds what captures can record
 pub in_time : (plan : TalkPlan) (n i : ℕ) → IsAudioPlan plan → n * plan.count ≤ 268435456 → i < plan.count
     → nominal_instant plan n i < plan.lead + 2 ^ 32 * 1000000000
 unfolding nominal_instant
@@ -118,7 +118,7 @@ not_before x y rate time some h = elim (cases_lt y x) [
   | inr not ↦ not
 ]
 
--- no packet is sent before the one in front of it
+-- no packet is sent before its predecessor
 pub rising : (plan : TalkPlan) (n : ℕ) → IsAudioPlan plan → arrival_of plan n ≤ arrival_of plan (n + 1)
 rising plan n p =
     let least = rate_from plan p in

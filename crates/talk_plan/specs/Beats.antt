@@ -8,8 +8,8 @@ use Rattle.clock_track.specs.Pairs.{spot_by}
 use Rattle.time_unfold.specs.Lines.{instant_at}
 use Rattle.talk_plan.specs.Timing.{nominal_offset}
 
--- A stream of `rate` events a second beside a clock of up / down events a second: `spacing` events of the stream take
--- as long as `interval` events of the clock.
+-- A stream of `rate` events a second with a clock of up / down events a second: `spacing` events of the stream take as long as
+-- `interval` events of the clock.
 pub record Beat : Type 0 where
   pub rate : ℕ
   pub spacing : ℕ
@@ -17,8 +17,7 @@ pub record Beat : Type 0 where
   pub up : ℕ
   pub down : ℕ
 
--- A beat whose rate is one of audio and whose clock has at most 250 MHz: events of both take equally long, as `Beat`
--- says.
+-- A beat whose rate is one of audio and whose clock has at most 250 MHz, and whose spacing and interval take equally long.
 pub record IsBeat (b : Beat) : Type 0 where
   pub rate_from : 8000 ≤ b.rate
   pub rate_to : b.rate ≤ 192000
@@ -31,8 +30,8 @@ pub record IsBeat (b : Beat) : Type 0 where
 abbrev pub point_at : Beat → ℕ → ℕ → ℕ
 point_at b start m = start + nominal_offset b.rate (m * b.spacing)
 
--- The instant with which event e of the run is stamped: before the second point its nominal one, and from then on as
--- long after the last point as the period between the last two points tells.
+-- The instant in the timestamp of event e of the run: before the second point it is the event's nominal instant; from then on
+-- it is counted from the last point, with the period between the last two points.
 unfoldable pub stamped_at : Beat → ℕ → ℕ → ℕ
 stamped_at b start e =
     if nat_lt e b.spacing then start + nominal_offset b.rate e else

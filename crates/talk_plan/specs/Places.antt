@@ -1,4 +1,4 @@
--- Which packet of a plan is meant, which sample frame of it, and when it is sent.
+-- A packet of a plan, a sample frame of a packet, and a packet with the time at which it is sent.
 use Rattle.std.specs.Prelude.{◌≡◌, ℕ, ℤ, pos, ◌*◌, ◌^◌, ◌<◌, ◌≤◌}
 use Rattle.talk_plan.specs.declared.plan.TalkPlan.{TalkPlan}
 use Rattle.talk_plan.specs.Plan.{IsAudioPlan}

@@ -1,4 +1,4 @@
--- Which plans are talked.
+-- Which plans a talker accepts.
 use Rattle.std.specs.Prelude.{◌≡◌, ℕ, ◌+◌, ◌*◌, ◌/◌, ◌%◌, ◌^◌, ◌<◌, ◌≤◌, ◌==◌, true, false, pos, ◌≤ℤ◌, if◌then◌else◌, Option, Some, None, IsSome}
 use Rattle.std.specs.Prelude.{option_and_then, unwrap_or, ⊤}
 use Rattle.aaf_format.specs.Aaf.{frame_size}
@@ -34,7 +34,7 @@ fdf_of rate =
     if rate == 176400 then Some 5 else
     if rate == 192000 then Some 6 else None
 
--- SYT_INTERVAL at a sample rate: of this many data blocks one is stamped (IEC 61883-6)
+-- SYT_INTERVAL at a sample rate: one data block in this many is stamped (IEC 61883-6)
 abbrev pub interval_of : ℕ → ℕ
 interval_of rate = unwrap_or (option_and_then syt_interval (fdf_of rate)) 8
 
@@ -61,7 +61,7 @@ HasRate Am824 rate = IsSome (fdf_of rate)
 HasRate (H264 last_stamp) rate = ⊥
 
 -- A packet of AM824 has data blocks of at most 256 quadlets, which fit an Ethernet frame, and at least an eighth of the
--- interval of them: then a block is stamped in each 8 packets.
+-- interval of them, so that a block is stamped in every 8 packets.
 pub record FitsBlocks (plan : TalkPlan) : Type 0 where
   pub quadlets : plan.channels ≤ 256
   pub some : interval_of plan.rate ≤ 8 * plan.count
@@ -88,19 +88,18 @@ Restarts (Some packets) jump = IsRestart packets jump
 
 -- ---- the media clock
 
--- The sample frames from one point of the clock to the next in a stream of `rate` sample frames a second: they take as
--- long as `interval` events at the clock's frequency, which is its base frequency times the factor of its pull (IEEE
--- 1722-2016, 10).
+-- The sample frames from one point of the clock to the next in a stream of `rate` sample frames a second: they take as long as
+-- `interval` events at the clock's frequency, which is its base frequency times the factor of its pull (IEEE 1722-2016, 10).
 unfoldable pub spacing_of : CrfPlan → ℕ → ℕ
 spacing_of crf rate = crf.interval * rate * pull_down crf.pull / (crf.rate * pull_up crf.pull)
 
--- A run of `packets` packets has a whole number of clock packets' sample frames: 8 clock packets, or a multiple of 8.
--- Without restarts nothing is asked.
+-- A run of `packets` packets has as many sample frames as 8 clock packets, or a multiple of that. Without restarts there is no
+-- condition.
 abbrev pub HasWholeRuns : CrfPlan → ℕ → ℕ → Option ℕ → Type 0
 HasWholeRuns crf rate count None = ⊤
 HasWholeRuns crf rate count (Some packets) = packets * count % (8 * spacing_of crf rate * crf.points) ≡ 0
 
--- A clock beside a stream of `rate` sample frames a second, with `count` in a packet, and maybe with restarts.
+-- A clock with a stream of `rate` sample frames a second, with `count` in a packet, and possibly with restarts.
 pub record IsClockPlan (crf : CrfPlan) (rate count : ℕ) (restart : Option ℕ) : Type 0 where
   pub id : crf.id < 2 ^ 64
   pub some_rate : 1 ≤ crf.rate
@@ -158,34 +157,33 @@ pub record IsVideoPlan (plan : TalkPlan) : Type 0 where
 
 -- ---- all plans
 
--- a plan of this kind that is talked
+-- a valid plan of this kind
 abbrev pub IsPlanOf : TalkKind → TalkPlan → Type 0
 IsPlanOf (Aaf format sparse) plan = IsAudioPlan plan
 IsPlanOf Am824 plan = IsAudioPlan plan
 IsPlanOf (H264 last_stamp) plan = IsVideoPlan plan
 
--- a plan that is talked
+-- a valid plan, of any kind
 abbrev pub IsPlan : TalkPlan → Type 0
 IsPlan plan = IsPlanOf plan.kind plan
 
 -- ---- listeners
 
--- A listener's lead is less than 127 packets' time from the plan's.
+-- The leads of a listener and of the plan differ by less than 127 packets' time.
 pub record IsNearLead (plan : TalkPlan) (lead : ℕ) : Type 0 where
   pub from : plan.lead * plan.rate < lead * plan.rate + 127 * (plan.count * 1000000000)
   pub to : lead * plan.rate < plan.lead * plan.rate + 127 * (plan.count * 1000000000)
 
--- what a kind asks of the lead of a listener: that it is near the plan's, if packets may have no timestamp to be told
--- by
+-- the condition of a kind on the lead of a listener: it is near the plan's, if some packets have no timestamp
 abbrev pub ExpectsBy : TalkKind → TalkPlan → ℕ → Type 0
 ExpectsBy (Aaf format false) plan lead = ⊤
 ExpectsBy (Aaf format true) plan lead = IsNearLead plan lead
 ExpectsBy Am824 plan lead = plan.count < interval_of plan.rate → IsNearLead plan lead
 ExpectsBy (H264 last_stamp) plan lead = ⊤
 
--- A listener that tells packets without a timestamp apart by when they arrive has to expect them when the plan sends
--- them. If each packet is stamped, any lead will do: in PCM that is not sparse, and in AM824 if a packet has at least
--- as many data blocks as the interval.
+-- A listener tells packets without a timestamp apart by their arrivals, so it must expect them when the plan sends them. If
+-- each packet is stamped, any lead will do: in PCM that is not sparse, and in AM824 if a packet has at least as many data
+-- blocks as the interval.
 abbrev pub Expects : TalkPlan → ℕ → Type 0
 Expects plan lead = ExpectsBy plan.kind plan lead
 

@@ -2,16 +2,16 @@
 use Rattle.std.specs.Prelude.{Bool, if◌then◌else◌, List, [], ◌∷◌, Option, Some, None}
 use Rattle.talk_plan.specs.declared.fault.TalkFault.{TalkFault}
 
--- a fault, and whether it is there
+-- a fault, and whether it is present
 pub record Row : Type 0 where
   pub fault : TalkFault
   pub holds : Bool
 
--- a fault, with whether it is there
+-- a fault, with whether it is present
 abbrev pub row : TalkFault → Bool → Row
 row fault holds = record { fault = fault; holds = holds }
 
--- the first fault of a list that is there, if any is
+-- the first fault of a list that is present, if any
 abbrev pub first_of : List Row → Option TalkFault
 first_of [] = None
 first_of (r ∷ rows) = if r.holds then Some r.fault else first_of rows

@@ -1,4 +1,4 @@
--- The instants with which a stream's sample frames are stamped, with a media clock beside it or without one.
+-- The instants in a stream's timestamps, with a media clock or without one.
 use Rattle.std.specs.Prelude.{ℕ, ◌*◌, Option, Some, None}
 use Rattle.clock_track.specs.Pairs.{pull_down, pull_up}
 use Rattle.talk_plan.specs.declared.plan.CrfPlan.{CrfPlan}
@@ -7,7 +7,7 @@ use Rattle.talk_plan.specs.Beats.{Beat, stamped_at}
 use Rattle.talk_plan.specs.Plan.{spacing_of}
 use Rattle.talk_plan.specs.Timing.{event_of, nominal_instant, run_of, run_start}
 
--- a plan's stream beside its clock, as rates and spacings
+-- a plan's stream and its clock, as rates and spacings
 abbrev pub beat_of : CrfPlan → TalkPlan → Beat
 beat_of crf plan = record {
   rate = plan.rate;
@@ -17,12 +17,12 @@ beat_of crf plan = record {
   down = pull_down crf.pull;
 }
 
--- The instant with which sample frame i of packet n is stamped: without a clock its nominal instant, and with one what
--- the clock's points in the packet's run tell.
+-- The instant in the timestamp of sample frame i of packet n: its nominal instant without a clock; with one, the instant that
+-- the clock's points in the packet's run give.
 abbrev pub stamped_by : Option CrfPlan → TalkPlan → ℕ → ℕ → ℕ
 stamped_by None plan n i = nominal_instant plan n i
 stamped_by (Some crf) plan n i = stamped_at (beat_of crf plan) (run_start plan (run_of plan n)) (event_of plan n i)
 
--- the instant with which sample frame i of packet n is stamped, with the plan's clock or without one
+-- the instant in the timestamp of sample frame i of packet n, with the plan's clock or without one
 abbrev pub stamped_instant : TalkPlan → ℕ → ℕ → ℕ
 stamped_instant plan n i = stamped_by plan.crf plan n i

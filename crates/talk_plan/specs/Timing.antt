@@ -1,7 +1,7 @@
 -- When the packets of a plan are sent, and with which timestamps.
 --
--- Instants are whole nanoseconds of gPTP, none of them below 0. The events of a stream are its sample frames, counted from
--- 0 in each run: a run begins with the stream, and with each restart of its media clock.
+-- Instants are whole nanoseconds of gPTP, and never below 0. The events of a stream are its sample frames, counted from 0 in
+-- each run: a run begins with the stream, and with each restart of its media clock.
 use Rattle.std.specs.Prelude.{ℕ, ◌+◌, ◌-◌, ◌*◌, ◌/◌, ◌%◌, ◌^◌, ◌==◌, Bool, nat_abs, Option, Some, None}
 use Rattle.talk_plan.specs.declared.plan.TalkPlan.{TalkPlan}
 

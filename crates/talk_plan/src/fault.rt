@@ -2,7 +2,7 @@
 
 use thiserror::Error;
 
-/// Why a plan and its input make no stream, in the order in which it is tested.
+/// Why a plan and its input make no stream, in the order in which the faults are tested.
 #[derive(Clone, Copy, Debug, PartialEq, Eq, Error)]
 pub enum TalkFault {
     /// The input is not whole sample frames.
@@ -17,10 +17,10 @@ pub enum TalkFault {
     /// An access unit needs more than 255 packets.
     #[error("an access unit needs more than 255 packets")]
     Packets,
-    /// A packet would arrive later than a capture can say.
+    /// A packet would arrive later than a capture can record.
     #[error("a packet would arrive later than a capture can say")]
     Arrival,
-    /// No memory was found.
+    /// Memory ran out.
     #[error("out of memory")]
     Memory,
 }

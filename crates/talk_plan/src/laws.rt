@@ -1,4 +1,4 @@
-//! Laws of plans and of their times. Each call is its contract, and does nothing.
+//! Laws of plans and of their times. Each call only states its contract, and does nothing.
 
 ghost use Rattle.std.specs.Prelude.{◌≡◌, ◌↔◌, ◌<◌, ◌≤◌, ◌+◌, ◌*◌, ◌/◌, suc, pos, ℕ, Some};
 ghost use Rattle.aaf_format.specs.Aaf.{rate_of};
@@ -8,17 +8,17 @@ ghost use Rattle.stream_journal.specs.Conforming.{IsSteady};
 ghost use Rattle.talk_plan.specs.Beats.{Beat, IsBeat, IsNextStart, IsOnEvent, pair_from, point_at, stamped_at};
 ghost use Rattle.talk_plan.specs.Plan.{fdf_of, interval_of, rate_code};
 
-/// The rates of plans are those that AAF, or IEC 61883-6, names, each by its code; the latter with its interval.
+/// Every rate of a plan is one that AAF or IEC 61883-6 names, by its code; for IEC 61883-6 also by its interval.
 pub fn rates_are_named()
     ensures aaf { (rate code : ℕ) → rate_code rate ≡ Some code ↔ rate_of code ≡ Some rate }
     ensures iec { (rate fdf : ℕ) → fdf_of rate ≡ Some fdf ↔ rate_of_fdf fdf ≡ Some rate }
     ensures interval { (rate fdf : ℕ) → fdf_of rate ≡ Some fdf → syt_interval fdf ≡ Some (interval_of rate) }
 {}
 
-/// The arithmetic of a media clock and of a stream that is stamped on it, on plain numbers: adjacent points in a run
-/// are joined, and their periods differ little; a new run doesn't begin before the last point and the last period after
-/// it. The instant of an event is covered by just the pair that ends with the last point before the event, and by no
-/// pair of another run. If the clock's frequency is the stream's rate, it is that of an event of the clock.
+/// The arithmetic of a media clock and of a stream that is stamped with it, on plain numbers. Adjacent points in a run are
+/// joined, and their periods differ little; a new run does not begin before the last point plus the last period. The instant of
+/// an event is covered only by the pair that ends with the last point before the event, and by no pair of another run. If the
+/// clock's frequency is the stream's rate, the instant is that of an event of the clock.
 pub fn clocks_keep_time()
     ensures even { (b : Beat) (start m : ℕ) → IsBeat b → IsJoined (pair_from b start m) }
     ensures steady { (b : Beat) (start m : ℕ) → IsBeat b → IsSteady (pair_from b start m) (pair_from b start (suc m)) }

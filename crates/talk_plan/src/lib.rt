@@ -1,4 +1,4 @@
-//! What a talker sends, and when: plans, the times and the timestamps of their packets, and what all their packets begin with.
+//! What a talker sends, and when: plans, the times and the timestamps of their packets, and the headers that all packets share.
 #![tactic(auto)]
 
 mod ethernet;

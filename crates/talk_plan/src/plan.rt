@@ -13,14 +13,14 @@ pub enum TalkKind {
     H264 { last_stamp: bool },
 }
 
-/// A media clock that is sent beside the stream (IEEE 1722-2016, 10).
+/// A media clock that is sent with the stream (IEEE 1722-2016, 10).
 #[derive(Clone, Copy, Debug, PartialEq, Eq)]
 pub struct CrfPlan {
     /// The stream id of the clock.
     pub id: u64,
     /// The base frequency in Hz.
     pub rate: u32,
-    /// The code of the factor by which the base frequency is multiplied.
+    /// The code of the factor that the base frequency is multiplied by.
     pub pull: u8,
     /// The events of the clock from one timestamp to the next.
     pub interval: u16,
@@ -32,7 +32,7 @@ pub struct CrfPlan {
 #[derive(Clone, Copy, Debug, PartialEq, Eq)]
 pub struct TalkPlan {
     pub kind: TalkKind,
-    /// The sample rate in Hz; of H.264 the access units in a second.
+    /// The sample rate in Hz; for H.264 the access units in a second.
     pub rate: u32,
     /// The channels of each sample frame.
     pub channels: u16,
@@ -48,6 +48,6 @@ pub struct TalkPlan {
     pub restart: Option<u32>,
     /// How far a restart sets presentation times forward, in nanoseconds.
     pub jump: u32,
-    /// The media clock that is sent beside the stream, and on which the stream's timestamps are.
+    /// The media clock that is sent with the stream and that the stream's timestamps follow.
     pub crf: Option<CrfPlan>,
 }

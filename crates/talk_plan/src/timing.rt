@@ -14,7 +14,7 @@ use clock_track::{pull_down, pull_up};
 
 const NANOSECONDS: u64 = 1_000_000_000;
 
-/// So many of `whole` parts of a period, rounded down.
+/// `parts` of `whole` equal parts of a period, rounded down.
 fn part(parts: u64, period: u64, whole: u64) -> u64
     requires { parts < whole }
     ensures value { result ≡ parts * period / whole }
@@ -24,7 +24,7 @@ fn part(parts: u64, period: u64, whole: u64) -> u64
 }
 
 impl TalkPlan {
-    /// The run of packet `n`: one begins with the stream, and one with each restart.
+    /// The run of packet `n`: one run begins with the stream, and one with each restart.
     #[tactic(auto, using(crate::proofs::RunLemmas::some_packets))]
     fn run(&self, n: u64) -> u64
         requires { Restarts self.now.restart self.now.jump }
@@ -36,7 +36,7 @@ impl TalkPlan {
         }
     }
 
-    /// The first packet of that run.
+    /// The first packet of the run of packet `n`.
     #[tactic(auto, using(crate::proofs::RunLemmas::some_packets, crate::proofs::RunLemmas::begun))]
     fn first_packet(&self, n: u64) -> u64
         requires { IsAudioPlan self.now }
@@ -59,9 +59,9 @@ impl TalkPlan {
         self.run(n) * u64::from(self.jump)
     }
 
-    /// How long a number of sample frames take, in nanoseconds. At multiples of 48 kHz one takes some thirds of a
-    /// nanosecond: a division by 3 is a multiplication, while one by a number that is not known beforehand takes ten
-    /// times as long.
+    /// How long a number of sample frames take, in nanoseconds. At multiples of 48 kHz one takes a whole number of thirds of a
+    /// nanosecond: a division by 3 becomes a multiplication, while one by a number that is unknown beforehand takes ten times
+    /// as long.
     #[tactic(auto, using(crate::proofs::RateLemmas::rate_from, crate::proofs::TimingLemmas::short_offset))]
     fn offset(&self, frames: u64) -> u64
         requires plan { IsAudioPlan self.now }
@@ -125,8 +125,8 @@ impl TalkPlan {
             / (u64::from(crf.rate) * pull_up(crf.pull))
     }
 
-    /// The instant with which sample frame `i` of packet `n` is stamped on the plan's clock, in nanoseconds of gPTP: so
-    /// far after the last point of the clock as the period before it tells.
+    /// The instant in the timestamp of sample frame `i` of packet `n` by the plan's clock, in nanoseconds of gPTP: counted from
+    /// the last point of the clock, with the period before it.
     #[cold]
     #[inline(never)]
     fn clocked_instant(&self, crf: &CrfPlan, n: u64, i: u32) -> u64
@@ -145,7 +145,7 @@ impl TalkPlan {
         self.run_start(n) + offset + part(event % spacing, period, spacing)
     }
 
-    /// The instant with which sample frame `i` of packet `n` is stamped, in nanoseconds of gPTP.
+    /// The instant in the timestamp of sample frame `i` of packet `n`, in nanoseconds of gPTP.
     pub fn stamped_instant(&self, n: u64, i: u32) -> u64
         requires { IsFrameOf self.now n i }
         ensures { result ≡ stamped_instant_of self.now n i }
@@ -156,7 +156,7 @@ impl TalkPlan {
         }
     }
 
-    /// The instant with which the first sample frame of packet `n` is stamped, which is sent at this arrival, in nanoseconds of
+    /// The instant in the timestamp of the first sample frame of packet `n`, which is sent at this arrival, in nanoseconds of
     /// gPTP.
     #[tactic(auto, using(crate::proofs::TimingLemmas::lead_within))]
     pub fn first_stamped_instant(&self, n: u64, arrival: i64) -> u64
@@ -186,8 +186,8 @@ impl TalkPlan {
         self.run(n) % 2 == 1
     }
 
-    /// The stream header of packet `n` (IEEE 1722-2016, 4.4.4), which is stamped with an instant or not, before this
-    /// many bytes.
+    /// The stream header of packet `n` (IEEE 1722-2016, 4.4.4), stamped with an instant or not, for a payload of this many
+    /// bytes.
     pub fn header(&self, subtype: u8, stamp: Option<u64>, n: u64, length: u16) -> StreamHeader
         requires { Restarts self.now.restart self.now.jump }
         ensures { result ≡ header_of subtype stamp self.now n length }

@@ -85,7 +85,7 @@ unit_known units n h = elim (cases_lt (place_of units n).unit (length units)) [
 
 -- ---- the next packet
 
--- it carries the next fragment of the unit, or the first of the next one
+-- packet n + 1 carries the next fragment of the unit, or the first of the next one
 pub record GoesOn (units : List (ℕ × ℕ)) (n : ℕ) : Type 0 where
   pub more : suc (place_of units n).fragment < packets_at units (place_of units n).unit
   pub unit : (place_of units (suc n)).unit ≡ (place_of units n).unit
@@ -115,7 +115,7 @@ pub begun_few : (bytes : List ℕ) (units : List (ℕ × ℕ)) (i : ℕ) → beg
 begun_few bytes units zero = omega arith
 begun_few bytes units (suc i) = let flags = flag-below (begins bytes units i) in let rest = begun_few bytes units i in omega arith
 
--- there are no more of them than units
+-- there are at most as many access units as units
 begun_fewer : (bytes : List ℕ) (units : List (ℕ × ℕ)) (i : ℕ) → begun_before bytes units (suc i) ≤ i
 begun_fewer bytes units zero = omega arith
 begun_fewer bytes units (suc i) = let flags = flag-below (begins bytes units (suc i)) in let rest = begun_fewer bytes units i in omega arith

@@ -1,4 +1,4 @@
--- What the laws of units rest on.
+-- Lemmas for the laws of units.
 use Rattle.std.proofs.Common.{◌≡◌, ◌⊎◌, inl, inr, ℕ, zero, suc, ◌+◌, ◌-◌, ◌*◌, ◌<◌, ◌≤◌, Bool, true, false, not, List, [], ◌∷◌, ◌++◌, take, drop, refl, sym, ap}
 use Rattle.std.proofs.Common.{subst, ◌∙◌, arith}
 use Rattle.std.specs.Prelude.{◌&&◌, ◌==◌, if◌then◌else◌}
@@ -23,7 +23,7 @@ pub same_or_next : (bytes : List ℕ) (units : List (ℕ × ℕ)) (i : ℕ)
     → (access_unit bytes units (suc i) ≡ access_unit bytes units i) ⊎ (access_unit bytes units (suc i) ≡ suc (access_unit bytes units i))
 same_or_next bytes units i = flag_is (begins bytes units (suc i)) (access_unit bytes units i) (access_unit bytes units (suc i)) refl
 
--- unit i + 1 is of the access unit of unit i where it does not begin one
+-- unit i + 1 is of the access unit of unit i if it does not begin one
 stays : (bytes : List ℕ) (units : List (ℕ × ℕ)) (i : ℕ) → begins bytes units (suc i) ≡ false → access_unit bytes units (suc i) ≡ access_unit bytes units i
 stays bytes units i e = rw e (omega arith)
 
@@ -143,7 +143,7 @@ chunks rest a (suc n) =
     ∙ ap (λ (xs : List ℕ). take (n * 1398) xs) (sym (drop_more (a * 1398) 1398 rest)))
     ∙ take_more 1398 (n * 1398) here ∙ ap (λ (k : ℕ). take k here) (sym all)
 
--- where there is more than one, each is a fragment
+-- if there is more than one, each is a fragment
 not_single : (packets k : ℕ) (rest : List ℕ) → (packets == 1) ≡ false → body_by (part_by packets k) k rest ≡ take 1398 (drop (k * 1398) rest)
 unfolding part_by
 not_single packets k rest more = by (packets == 1) (k == 0) (k + 1 == packets) more

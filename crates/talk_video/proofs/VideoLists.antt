@@ -24,7 +24,7 @@ listed_at v i d is h =
 pub listed_all : (v : VideoStream) → IsVideo v → length v.units.items ≡ length (nal_units v.input.now)
 listed_all v is = ap length is.units ∙ length-map-range_with_len (unit_in v.input.now) 0 (length (nal_units v.input.now))
 
--- those whose first packet is n or an earlier one stand in front
+-- the units whose first packet is n or an earlier one come first
 pub parted : (v : VideoStream) (n : ℕ) → IsVideo v → IsPartitionedBy (λ (u : NalUnit). nat_le u.first n) v.units.items
 parted v n is i j d le below e =
     let all = listed_all v is in

@@ -45,7 +45,7 @@ pub sent_are : (bytes : List ℕ) → AreSent bytes (sent_units bytes)
 unfolding sent_units
 sent_are bytes = sent_by bytes (units_fault bytes) refl
 
--- those of a byte stream without a fault
+-- the units of a byte stream without a fault
 pub all_sent : (bytes : List ℕ) → units_fault bytes ≡ None → sent_units bytes ≡ nal_units bytes
 unfolding sent_units
 all_sent bytes e = rw e refl

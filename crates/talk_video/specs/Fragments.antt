@@ -47,15 +47,15 @@ access_unit_of bytes units n = access_unit bytes units (place_of units n).unit
 abbrev pub ends_access_unit : List ℕ → List (ℕ × ℕ) → ℕ → Bool
 ends_access_unit bytes units n = (suc n == all_packets units) || not (access_unit_of bytes units (suc n) == access_unit_of bytes units n)
 
--- which part of a unit its fragment k is, if it has this many
+-- which part of a unit fragment k is, if the unit has this many
 unfoldable pub part_by : ℕ → ℕ → NalPart
 part_by packets k = if packets == 1 then Single else if k == 0 then First else if k + 1 == packets then Last else Middle
 
--- the part of its unit that the fragment at a place is
+-- which part of its unit the fragment at a place is
 abbrev pub part_at : List (ℕ × ℕ) → Place → NalPart
 part_at units p = part_by (packets_at units p.unit) p.fragment
 
--- What fragment k carries of `rest`, the bytes of its unit after the first: a whole unit all of them, any other
+-- What fragment k carries of `rest`, the bytes of its unit after the first: all of them for a whole unit; for any other
 -- fragment its `full_body` bytes, or as many as there are.
 abbrev pub body_by : NalPart → ℕ → List ℕ → List ℕ
 body_by Single k rest = rest

@@ -1,4 +1,4 @@
--- A stream of H.264, as it is sent: the units of its byte stream, with the packets that carry them.
+-- A stream of H.264 as it is sent: the units of its byte stream, with the packets that carry them.
 use Rattle.std.specs.Prelude.{◌≡◌, ℕ, ◌<◌, ◌≤◌, List, length, map, None}
 use Rattle.std.specs.List.{range_with_len}
 use Rattle.cvf_format.specs.AnnexB.{nal_units}
@@ -13,7 +13,7 @@ use Rattle.talk_plan.specs.Plan.{IsVideoPlan, most_input}
 use Rattle.talk_video.specs.Units.{units_fault}
 use Rattle.talk_video.specs.Video.{cvf_packet}
 
--- unit i of a byte stream, as it is listed
+-- unit i of a byte stream, as the list has it
 abbrev pub unit_in : List ℕ → ℕ → NalUnit
 unit_in bytes i = record {
   from = (unit_at (nal_units bytes) i).0;
@@ -22,16 +22,16 @@ unit_in bytes i = record {
   first = packets_before (nal_units bytes) i;
 }
 
--- the first units of a byte stream, so many of them
+-- the first `number` units of a byte stream
 abbrev pub first_units : List ℕ → ℕ → List NalUnit
 first_units bytes number = map (unit_in bytes) (range_with_len 0 number)
 
--- the unit has a byte at least, and lies within the stream
+-- the unit has at least one byte, and is within the stream
 pub record IsInside (bytes : List ℕ) (unit : ℕ × ℕ) : Type 0 where
   pub some : unit.0 < unit.1
   pub inside : unit.1 ≤ length bytes
 
--- each of the first units of a byte stream, this many of them, has a byte at least and lies within the stream
+-- each of the first `number` units of a byte stream has at least one byte and is within the stream
 abbrev pub AreInside : List ℕ → ℕ → Type 0
 AreInside bytes number = (i : ℕ) → i < number → IsInside bytes (unit_at (nal_units bytes) i)
 
@@ -59,11 +59,11 @@ pub record IsVideoOf (plan : TalkPlan) (input : List ℕ) (v : VideoStream) : Ty
   pub plan_is : v.plan ≡ plan
   pub input_is : v.input.now ≡ input
 
--- packet n
+-- packet n of a stream of H.264
 abbrev pub video_packet : VideoStream → ℕ → Cvf
 video_packet v n = cvf_packet v.last_stamp v.plan v.input.now (nal_units v.input.now) n
 
--- packet n of a stream of H.264
+-- a stream of H.264 has a packet n
 pub record IsPacketOfVideo (v : VideoStream) (n : ℕ) : Type 0 where
   pub video : IsVideo v
   pub known : n < v.packets

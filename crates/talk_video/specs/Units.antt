@@ -17,17 +17,17 @@ has_start_code bytes = list_any (is_start_code bytes) (range_with_len 0 (length 
 abbrev pub has_other_type : List ℕ → Bool
 has_other_type bytes = list_any (λ unit. not (is_single_type (type_in bytes unit))) (nal_units bytes)
 
--- the most packets of an access unit: then no two of them have one sequence number
+-- the most packets of an access unit: with these no two of them have one sequence number
 abbrev pub most_packets : ℕ
 most_packets = 255
 
--- an access unit needs more packets than that: two packets of it are 255 apart
+-- an access unit needs more than 255 packets, so two of them would be 255 apart
 abbrev pub has_long_access_unit : List ℕ → Bool
 has_long_access_unit bytes =
     list_any (λ n. access_unit_of bytes (nal_units bytes) n == access_unit_of bytes (nal_units bytes) (n + most_packets))
     (range_with_len 0 (all_packets (nal_units bytes) - most_packets))
 
--- the faults for which a byte stream is not sent, in the order in which they are tested
+-- the faults that prevent a byte stream from being sent, in the order in which they are tested
 abbrev pub unit_faults : List ℕ → List Row
 unit_faults bytes =
     row StartCode (not (has_start_code bytes)) ∷

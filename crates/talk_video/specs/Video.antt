@@ -32,14 +32,14 @@ video_arrival plan bytes units n = video_due plan bytes units n - plan.lead
 abbrev pub stamp_by : Bool → NalPart → ℕ → Option ℕ
 stamp_by last_stamp part instant = if last_stamp && not (completes part) then None else Some instant
 
--- the instant with which packet n is stamped, if it is
+-- the instant in the timestamp of packet n, if it is stamped
 abbrev pub video_stamp : Bool → TalkPlan → List ℕ → List (ℕ × ℕ) → ℕ → Option ℕ
 video_stamp last_stamp plan bytes units n = stamp_by last_stamp (part_at units (place_of units n)) (video_due plan bytes units n)
 
 -- ---- packets
 
--- packet n, which carries this part of a NAL unit: `nal` is the first byte of the unit, and `body` what the packet has
--- of the others
+-- packet n, which carries this part of a NAL unit: `nal` is the first byte of the unit, and `body` are the later bytes of it in
+-- the packet
 abbrev pub cvf_by : NalPart → Option ℕ → TalkPlan → ℕ → Bool → ℕ → ℕ → List ℕ → Cvf
 cvf_by part stamp plan n marker instant nal body = record {
   header = header_of cvf_subtype stamp plan n (header_size part - 24 + length body);

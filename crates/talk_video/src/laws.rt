@@ -1,13 +1,12 @@
-//! Laws of how packets carry NAL units. Each call is its contract, and does nothing.
+//! Laws of how packets carry NAL units. Each call only states its contract, and does nothing.
 
 ghost use Rattle.std.specs.Prelude.{◌≡◌, ◌⊎◌, ◌↔◌, true, ◌<◌, ◌+◌, suc, List, ℕ};
 ghost use Rattle.std.specs.List.{flat_map, range_with_len};
 ghost use Rattle.talk_video.specs.AccessUnits.{HasSlice, access_unit, may_begin, unit_at};
 ghost use Rattle.talk_video.specs.Fragments.{body_of, packets_at, packets_before, packets_for, place_of, rest_in};
 
-/// The first NAL unit is of access unit 0. Each further one is of the access unit of the unit before it, or of the
-/// next: of the next exactly if the access unit of the unit before it has a slice already, and it is of those that
-/// begin one.
+/// The first NAL unit is in access unit 0. Each later one is in the access unit of the unit before it, or in the next: in the
+/// next exactly if that access unit has a slice already, and the unit is one of those that begin an access unit.
 pub fn access_units_begin()
     ensures first { (bytes : List ℕ) (units : List (ℕ × ℕ)) → access_unit bytes units 0 ≡ 0 }
     ensures further { (bytes : List ℕ) (units : List (ℕ × ℕ)) (i : ℕ)
@@ -16,8 +15,8 @@ pub fn access_units_begin()
         → access_unit bytes units (suc i) ≡ suc (access_unit bytes units i) ↔ (HasSlice bytes units i × (may_begin bytes (unit_at units (suc i)) ≡ true)) }
 {}
 
-/// Packet `n` of H.264 carries fragment `k` of unit `i` exactly if this many packets come before it: those of the units
-/// before `i`, and `k`. What the packets of a unit carry, put together after its first byte, is the unit.
+/// Packet `n` of H.264 carries fragment `k` of unit `i` exactly if the number of packets before it is that of the units before
+/// `i` plus `k`. The first byte of a unit, followed by what its packets carry, is the unit.
 pub fn units_are_carried()
     ensures place { (units : List (ℕ × ℕ)) (n i k : ℕ)
         → place_of units n ≡ record { unit = i; fragment = k } ↔ ((packets_before units i + k ≡ n) × (k < packets_at units i)) }

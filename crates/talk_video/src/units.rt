@@ -17,7 +17,7 @@ use memchr::memmem;
 use std::alloc::Global;
 use talk_plan::TalkFault;
 
-/// What comes before each unit (ITU-T H.264, annex B).
+/// The start code before each unit (ITU-T H.264, annex B).
 const START_CODE: [u8; 3] = [0, 0, 1];
 
 /// The most packets of an access unit.
@@ -35,18 +35,18 @@ pub struct NalUnit {
     pub first: u64,
 }
 
-/// The NAL units of a byte stream, one after another. One walk finds faults and takes no memory, and a second one lists
-/// the units, so a fault comes whether memory is found or not.
+/// The NAL units of a byte stream, one after another. One walk finds faults and needs no memory, and a second one lists the
+/// units, so a fault is found even if memory runs out.
 #[derive(Clone, Copy, Debug)]
 pub struct Units {
-    /// How many came so far, and where the last one of them ends.
+    /// How many units were passed, and where the last one of them ends.
     number: usize,
     at: usize,
     /// Their last access unit has a slice.
     sliced: bool,
     /// How many of them began a new access unit.
     begun: u64,
-    /// How many packets carry them, and how many carry those before their last access unit.
+    /// How many packets carry them, and how many of these come before their last access unit.
     packets: u64,
     before: u64,
 }
@@ -68,8 +68,8 @@ fn has_slice(bytes: &[u8], from: usize, to: usize) -> bool
     matches!(unit_type(bytes, from, to), 1..=5)
 }
 
-/// A unit has the first slice of a picture, if it has one: its second byte begins with a bit that is set. A slice of
-/// one byte has no second one, so it begins no access unit.
+/// Whether the slice of a unit is the first of a picture: the top bit of its second byte is set. A slice of one byte has no
+/// second byte, so it begins no access unit.
 fn is_first_slice(bytes: &[u8], from: usize, to: usize) -> bool
     requires { IsInside bytes.now (from, to) }
     ensures { result ≡ is_first_slice_in bytes.now (from, to) }
@@ -77,7 +77,7 @@ fn is_first_slice(bytes: &[u8], from: usize, to: usize) -> bool
     from + 1 < to && bit_at(bytes, from + 1, 0)
 }
 
-/// A unit begins an access unit if the one before it has a slice (ITU-T H.264, 7.4.1.2.3).
+/// Whether a unit begins an access unit if the current one has a slice (ITU-T H.264, 7.4.1.2.3).
 #[tactic(auto, unfolding(crate::specs::AccessUnits::may_begin))]
 fn may_begin(bytes: &[u8], from: usize, to: usize) -> bool
     requires { IsInside bytes.now (from, to) }
@@ -91,7 +91,7 @@ fn may_begin(bytes: &[u8], from: usize, to: usize) -> bool
 }
 
 impl Units {
-    /// None came so far.
+    /// A walk that has passed no unit.
     pub fn new() -> Self
         ensures { result ≡ record { number = 0; at = 0; sliced = false; begun = 0; packets = 0; before = 0 } }
     {
@@ -105,7 +105,7 @@ impl Units {
         }
     }
 
-    /// A unit begins a new access unit after those that came.
+    /// A unit begins a new access unit after those that were passed.
     fn is_begun(&self, bytes: &[u8], from: usize, to: usize) -> bool
         requires { IsInside bytes.now (from, to) }
         ensures { result ≡ is_begun_by bytes.now self.now (from, to) }
@@ -113,7 +113,7 @@ impl Units {
         self.sliced && may_begin(bytes, from, to)
     }
 
-    /// These units with one more.
+    /// The walk after one more unit.
     fn with(&self, bytes: &[u8], from: usize, to: usize) -> Self
         requires walk { IsWalk bytes.now self.now }
         requires unit { IsInside bytes.now (from, to) }
@@ -131,7 +131,7 @@ impl Units {
         }
     }
 
-    /// The next unit. `None` comes if there is none.
+    /// The next unit. `None` if there is none.
     pub fn next(&mut self, bytes: &[u8]) -> Option<NalUnit>
         requires walk { IsWalk bytes.now self.old }
         requires limit { length bytes.now ≤ most_input }

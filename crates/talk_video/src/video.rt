@@ -25,7 +25,7 @@ use talk_plan::{ETHERNET_HEADER, TalkFault, TalkPlan, write_ethernet};
 #[derive(Debug, Drop)]
 pub struct VideoStream<'a> {
     pub plan: TalkPlan,
-    /// A NAL unit is stamped on its last fragment alone.
+    /// A NAL unit is stamped only on its last fragment.
     pub last_stamp: bool,
     pub input: &'a [u8],
     pub units: Vec<NalUnit>,
@@ -33,13 +33,13 @@ pub struct VideoStream<'a> {
     pub packets: u64,
 }
 
-/// The bytes of a NAL unit after its first that each of its fragments carries, but the last.
+/// The bytes of a NAL unit after its first byte that each of its fragments carries, except the last.
 const FULL_BODY: usize = 1398;
 
 /// The bytes of a packet that its stated length does not count.
 const UNCOUNTED: usize = 24;
 
-/// The part of a unit that its fragment `k` is, if it has this many.
+/// Which part of a unit fragment `k` is, if the unit has this many.
 #[tactic(auto, unfolding(crate::specs::Fragments::part_by))]
 fn part_by(packets: u64, k: u64) -> NalPart
     requires { k < packets }
@@ -81,7 +81,7 @@ fn fragment(rest: &[u8], k: usize) -> &[u8]
 }
 
 impl NalUnit {
-    /// How many packets carry it.
+    /// How many packets carry the unit.
     fn packets(&self) -> u64
         requires some { self.now.from < self.now.to }
         requires limit { self.now.to ≤ most_input }
@@ -90,7 +90,7 @@ impl NalUnit {
         u64::from(fragments(self.to - self.from))
     }
 
-    /// What of it packet `n` is.
+    /// Which part of the unit packet `n` carries.
     fn part(&self, n: u64) -> NalPart
         requires { IsFragmentAt self.now n }
         ensures { result ≡ part_of (packets_for (self.now.from, self.now.to)) (n - self.now.first) }
@@ -98,7 +98,7 @@ impl NalUnit {
         part_by(self.packets(), n - self.first)
     }
 
-    /// Its bytes after the first that packet `n` carries.
+    /// The bytes of the unit after its first that packet `n` carries.
     fn body<'a>(&self, bytes: &'a [u8], n: u64) -> &'a [u8]
         requires { IsCarried bytes.now self.now n }
         ensures value { result.now
@@ -140,8 +140,8 @@ impl<'a> VideoStream<'a> {
         })
     }
 
-    /// The place of the unit that packet `n` carries, found by halves in the list of units, which has the first packet
-    /// of each.
+    /// The place of the unit that packet `n` carries, by binary search in the list of units, which has the first packet of
+    /// each.
     fn place_of_unit(&self, n: u64) -> usize
         requires { IsPacketOfVideo self.now n }
         ensures value { result ≡ (place_in self.now n).unit }
@@ -186,7 +186,7 @@ impl<'a> VideoStream<'a> {
         (self.instant(self.unit_of(n).access_unit) - u64::from(self.plan.lead)) as i64
     }
 
-    /// The instant with which a part of a unit is stamped.
+    /// The instant in the timestamp of a packet with this part of a unit.
     fn stamp(&self, part: NalPart, instant: u64) -> Option<u64>
         ensures { result ≡ stamp_by self.now.last_stamp part instant }
     {

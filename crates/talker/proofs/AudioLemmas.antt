@@ -34,7 +34,7 @@ stream_in a plan input = stream_by (Some a) plan input
 
 -- ---- packet n of an input that is not too long
 
--- its events can be counted
+-- the events of packet n can be counted
 pub timely : (plan : TalkPlan) (a : Audio) (headers : ℕ) (input : List ℕ) (n : ℕ) → IsAudioPlan plan → IsFormatOf plan a headers → length input ≤ most_input
     → n < packets_of a plan input
     → n * plan.count ≤ 268435456
@@ -43,7 +43,7 @@ timely plan a headers input n p is limit h =
     let fewer : n * plan.count ≤ n * plan.count * a.frame = le-mul_of_pos_right (n * plan.count) is.some in
     omega (arith, mul_assoc n plan.count a.frame)
 
--- a sample frame of it is soon after its first
+-- a sample frame of packet n is soon after its first
 soon : (plan : TalkPlan) (n i : ℕ) → IsAudioPlan plan → i < plan.count
     → (first_instant plan n ≤ nominal_instant plan n i) × (nominal_instant plan n i ≤ first_instant plan n + 184500001)
 unfolding nominal_instant

@@ -4,14 +4,14 @@ use Rattle.std.specs.Prelude.{int_le, slice_get, if◌then◌else◌}
 use Rattle.std.specs.List.{AllByRecursion, list_any, range_with_len}
 use Rattle.talker.specs.Frames.{SentFrame, by_arrival, put_in}
 
--- frames that are numbered, none of which arrives before the one in front of it, are in order
+-- numbered frames of which none arrives before its predecessor are in order
 pub in_order : (f : ℕ → SentFrame) → ((k : ℕ) → int_le (f k).arrival (f (k + 1)).arrival ≡ true)
     → (a n : ℕ) → by_arrival (map f (range_with_len a n)) ≡ map f (range_with_len a n)
 in_order f rises a zero = refl
 in_order f rises a (suc zero) = refl
 in_order f rises a (suc (suc n)) = rw (in_order f rises (a + 1) (suc n), rises a) refl
 
--- what holds of each numbered frame holds of all
+-- a fact about each numbered frame holds for all
 pub each : (f : ℕ → SentFrame) (P : SentFrame → Type 0) (a n : ℕ) → ((k : ℕ) → k < a + n → P (f k)) → AllByRecursion P (map f (range_with_len a n))
 each f P a zero h = tt
 each f P a (suc n) h = (h a (omega arith), each f P (a + 1) n (λ k below. h k (omega arith)))
@@ -46,7 +46,7 @@ put_all : (P : SentFrame → Type 0) (f : SentFrame) (xs : List SentFrame) → P
 put_all P f [] here all = (here, tt)
 put_all P f (x ∷ xs) here all = put_by P f x xs (int_le f.arrival x.arrival) here all.0 all.1 (put_all P f xs here all.1)
 
--- what holds of frames holds of them in order
+-- a fact about frames holds for them in order
 pub sorted_all : (P : SentFrame → Type 0) (xs : List SentFrame) → AllByRecursion P xs → AllByRecursion P (by_arrival xs)
 sorted_all P [] all = tt
 sorted_all P (x ∷ xs) all = put_all P x (by_arrival xs) all.0 (sorted_all P xs all.1)

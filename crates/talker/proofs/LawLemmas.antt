@@ -1,4 +1,4 @@
--- What the laws of plans rest on.
+-- Lemmas for the laws of plans.
 use Rattle.std.proofs.Common.{◌≡◌, ℕ, ◌+◌, ◌*◌, ◌/◌, ◌^◌, ◌<◌, ◌≤◌, Bool, true, false, List, [], ◌∷◌, map, length, Option, Some, None, nat_abs, ◌≤ℤ◌, refl, ap}
 use Rattle.std.proofs.Common.{subst, sym, ◌-◌, ◌%◌, ◌∙◌, arith}
 use Rattle.std.proofs.Math.Nat.{mod-eq-sub-div-mul, sub-zero, zero-div}
@@ -74,7 +74,7 @@ later f g e = grind (arith, ints)
 sooner : (f g : SentFrame) → int_le f.arrival g.arrival ≡ true → f.arrival ≤ℤ g.arrival
 sooner f g e = grind (arith, ints)
 
--- a frame that is put in behind one that is sent no later
+-- a frame that is put after one that is not sent later
 behind : (g f : SentFrame) (frames : List SentFrame) → g.arrival ≤ℤ f.arrival → RiseByArrival (g ∷ frames) → RiseByArrival (g ∷ put_in f frames)
 behind g f [] h rise = (h, tt)
 behind g f (x ∷ frames) h rise =
@@ -97,7 +97,7 @@ all_rise (f ∷ frames) = put_rises f (by_arrival frames) (all_rise frames)
 
 -- ---- captures
 
--- what is captured of the frames, and of some of them, can be spelled
+-- the captured frames, or some of them, can be recorded
 pub records_spelled : (plan : TalkPlan) (input : List ℕ) → IsPlan plan → length input ≤ most_input
     → AllByRecursion (HasSpelling capture_style) (records plan input)
 records_spelled plan input p limit =
@@ -110,13 +110,13 @@ kept_spelled plan input places p limit =
     let s = stream_of plan input in
     spelled plan s (filter_map (slice_get (frames plan input)) places) (plan_keeps plan input p limit) (frames_in s places)
 
--- without a clock they carry the packets of the journal, one after another
+-- without a clock the records carry the packets of the journal, one after another
 pub all_carry : (plan : TalkPlan) (input : List ℕ) (lead : ℕ) → IsPlan plan → plan.crf ≡ None → length input ≤ most_input → Expects plan lead
     → AllCarry (journal plan input) lead (range_with_len 0 (journal plan input).times.packets) (records plan input)
 all_carry plan input lead p none limit expects =
     rw (frames_alone plan input p none limit) (all_carried plan (stream_of plan input) lead (plan_keeps plan input p limit) expects)
 
--- they carry packets of the journal and of its clock
+-- the records carry packets of the journal and of its clock
 pub every_carried : (plan : TalkPlan) (input : List ℕ) (lead : ℕ) → IsPlan plan → length input ≤ most_input → Expects plan lead
     → AreCarried (journal plan input) lead (frames plan input)
 every_carried plan input lead p limit expects =
@@ -129,7 +129,7 @@ kept_carried plan input places lead p limit expects =
     let s = stream_of plan input in
     some_carried plan s lead (filter_map (slice_get (frames plan input)) places) (plan_keeps plan input p limit) expects (frames_in s places)
 
--- packets of audio are told apart anyhow
+-- packets of audio are told apart in any case
 near_as : (kind : TalkKind) (j : Journal) (numbers : List ℕ) → IsAudioKind kind → StaysNearBy kind j numbers
 near_as (Aaf format sparse) j numbers kind = tt
 near_as Am824 j numbers kind = tt

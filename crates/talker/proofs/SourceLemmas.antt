@@ -34,7 +34,7 @@ use Rattle.talk_video.proofs.VideoRules.{all_sent}
 pub audio_packets : (s : AudioStream) (input : List ℕ) → IsAudio s → packets_in (stream_of s.plan input) ≡ packets_of s input
 audio_packets s input is = ap packets_in (stream_is s input is)
 
--- its sample frames can be counted
+-- the sample frames of an audio source can be counted
 pub audio_few : (s : AudioStream) (input : List ℕ) (packets : ℕ) → IsAudio s → length input ≤ most_input → packets ≡ packets_in (stream_of s.plan input)
     → AreFew s.plan packets
 audio_few s input packets is limit e n h =
@@ -73,7 +73,7 @@ video_fault plan input last_stamp p kind limit =
     ap (λ (k : TalkKind). first_of (faults_by (audio_by k plan) plan input)) kind
     ∙ none_more (has_start_code input) (has_other_type input) (has_long_access_unit input) (arrives_too_late plan input) (none_late plan input plan_is limit)
 
--- each packet is sent before the end of what captures can say
+-- each packet is sent before the last time that captures can record
 pub video_early : (v : VideoStream) (n : ℕ) → IsVideo v → n < v.packets → (stream_of v.plan v.input.now).arrival n < 2 ^ 32 * 1000000000
 video_early v n is h =
     let plan_is : IsPlan v.plan = subst (λ (k : TalkKind). IsPlanOf k v.plan) (sym is.kind) is.plan in

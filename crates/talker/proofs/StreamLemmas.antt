@@ -37,14 +37,14 @@ clocks_in s = s.journal.times.clock.packets
 
 -- The stream of a plan.
 pub record IsStream (plan : TalkPlan) (s : Stream) : Type 0 where
-  -- no packet is sent before the one in front of it, and each before the end of what captures can say
+  -- no packet is sent before its predecessor, and each before the last time that captures can record
   pub rising : (n : ℕ) → s.arrival n ≤ s.arrival (n + 1)
   pub sent : (n : ℕ) → n < packets_in s → s.arrival n < 2 ^ 32 * 1000000000
-  -- and before it is due
+  -- each packet is sent before it is due
   pub early : (n : ℕ) → IsAhead plan.crf plan.lead → n < packets_in s → s.arrival n ≤ s.journal.times.due n
-  -- its frame fits Ethernet
+  -- the frame of each packet fits Ethernet
   pub size : (n : ℕ) → n < packets_in s → length (packet_bytes (s.journal.packet n)) ≤ 1518
-  -- so do those of the clock
+  -- the packets of the clock keep these limits, too
   pub clock_rising : (m : ℕ) → s.clock_arrival m ≤ s.clock_arrival (m + 1)
   pub clock_sent : (m : ℕ) → m < clocks_in s → s.clock_arrival m < 2 ^ 32 * 1000000000
   pub clock_size : (m : ℕ) → m < clocks_in s → length (clock_bytes (s.journal.clock_packet m)) ≤ 1518
@@ -163,7 +163,7 @@ kept P h (x ∷ xs) each = kept_by P (h x) (filter_map h xs) (each x) (kept P h 
     kept_by P None ys here rest = rest
     kept_by P (Some y) ys here rest = (here, rest)
 
--- and so are those in some places
+-- frames at some places are frames of packets, too
 pub frames_in : (s : Stream) (places : List ℕ) → AllByRecursion (IsFrameOf s) (filter_map (slice_get (frames_of s)) places)
 frames_in s places = kept (IsFrameOf s) (slice_get (frames_of s)) places (λ k. at_place (IsFrameOf s) (frames_of s) k (all_frames s))
 
@@ -253,7 +253,7 @@ pub numbers_of : (s : Stream) (a n : ℕ) → packet_numbers (map (frame_of s) (
 numbers_of s a zero = refl
 numbers_of s a (suc n) = ap (λ (numbers : List ℕ). a ∷ numbers) (numbers_of s (a + 1) n)
 
--- packets that follow each other are near
+-- consecutive packets are near each other
 pub next_near : (j : Journal) (a n : ℕ) → AreNear j (range_with_len a n)
 next_near j a zero = tt
 next_near j a (suc zero) = tt
@@ -281,7 +281,7 @@ clock_first plan s a b is h sooner =
     rw (unrolled (clock_frame_of s) a (clocks_in s) h)
     (stays_first f (clocks ++ packets) (all_of (λ g. int_le f.arrival g.arrival ≡ true) clocks packets later others))
 
--- or one of the stream
+-- a packet of the stream comes first
 pub packet_first : (plan : TalkPlan) (s : Stream) (a b : ℕ) → IsStream plan s → b < packets_in s
     → ((m : ℕ) → a ≤ m → m < clocks_in s → s.arrival b < s.clock_arrival m)
     → left_of s a b ≡ frame_of s b ∷ left_of s a (b + 1)

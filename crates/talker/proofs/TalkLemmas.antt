@@ -80,7 +80,7 @@ plan_by (Aaf format sparse) plan kind p = p
 plan_by Am824 plan kind p = p
 plan_by (H264 last_stamp) plan kind p = absurd kind
 
--- a plan of audio is one that is talked
+-- a plan of audio is valid
 pub audio_plan : (plan : TalkPlan) → IsAudioPlan plan → IsPlan plan
 audio_plan plan p = plan_by plan.kind plan p.kind p
 
@@ -111,7 +111,7 @@ plan_heads plan input n p behind same =
 pub none_late : (plan : TalkPlan) (input : List ℕ) → IsPlan plan → length input ≤ most_input → arrives_too_late plan input ≡ false
 none_late plan input p limit = never_late plan (stream_of plan input) (plan_keeps plan input p limit)
 
--- without a media clock they are those of the stream
+-- without a media clock the frames are those of the stream
 no_clock_by : (audio : Option Audio) (crf : Option CrfPlan) (plan : TalkPlan) (input : List ℕ) → plan.crf ≡ crf → crf ≡ None
     → numbered_clock (stream_by audio plan input) ≡ []
 no_clock_by None crf plan input e none = rw (e, none) refl
@@ -151,7 +151,7 @@ source_limit : (source : Source) → IsSource source → length (input_in source
 source_limit (OfAudio stream input) is = is.1
 source_limit (OfVideo v) is = is.limit
 
--- that of a source is one
+-- the stream of a source is one of a plan
 pub source_is : (source : Source) → IsSource source → IsOf (plan_in source) (stream_in_source source)
 source_is source is = is_of (plan_in source) (input_in source) (source_plan source is) (source_limit source is)
 
@@ -178,7 +178,7 @@ packet_in_is c plan packets m is =
     ∙ ap (λ (plan : TalkPlan). clock_packet_by (Some c.crf) plan packets m) (sym is.plan_is)
     ∙ ap (λ (n : ℕ). clock_packet_by (Some c.crf) c.plan n m) (sym is.stream)
 
--- the clock of a talker stands beside the stream
+-- the clock of a talker is that of the stream
 pub record IsBeside (c : ClockStream) (s : Stream) : Type 0 where
   pub clock : IsClockStream c
   pub count : clocks_in s ≡ clock_packets c.crf c.plan c.stream

@@ -150,7 +150,7 @@ sending t turn is =
       same = of.same;
     }
 
--- it is sent once its frame is made
+-- the next frame is sent once it is built
 pub sent_next : (t : Talking) (turn : Turn) (out : List ℕ) → IsTurn t turn → out ≡ (turn_frame (stream_of t.plan t.input) turn).bytes
     → slice_get (frames t.plan t.input) t.given ≡ Some (frame_in turn out)
 sent_next t turn out is e =
@@ -201,7 +201,7 @@ same_frame f g o e h = cc
 other_clock : (f g : SentFrame) (b c : Bool) → f ≡ g → f.clock ≡ b → g.clock ≡ c → b ≡ c
 other_clock f g b c e h k = sym h ∙ ap (λ (f : SentFrame). f.clock) e ∙ k
 
--- which of both, its turn tells
+-- the turn tells whether the frame is of the clock or of the stream
 pub clock_turn : (plan : TalkPlan) (s : Stream) (a b : ℕ) (f : SentFrame) → IsOf plan s → a ≤ clocks_in s → b ≤ packets_in s
     → drop (a + b) (frames_of s) ≡ left_of s a b → slice_get (frames_of s) (a + b) ≡ Some f
     → f.clock ≡ true → IsClockStep s a b

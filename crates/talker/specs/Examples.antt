@@ -5,7 +5,7 @@ use Rattle.stream_journal.specs.Journal.{Journal, rule_of}
 use Rattle.talk_plan.specs.declared.plan.TalkKind.TheVariants.{Aaf, Am824}
 use Rattle.talk_plan.specs.declared.plan.TalkPlan.{TalkPlan}
 
--- Packets of 6 stereo sample frames of 16 bits at 48 kHz, in sparse mode, with a restart after each ten packets.
+-- Packets of 6 stereo sample frames of 16 bits at 48 kHz, in sparse mode, with a restart after every ten packets.
 abbrev pub restarting : TalkPlan
 restarting = record {
   kind = Aaf Int16 true;

@@ -10,7 +10,7 @@ use Rattle.talker.specs.Frames.{frames}
 use Rattle.talk_plan.specs.Rows.{Row, first_of, row}
 use Rattle.talk_video.specs.Units.{unit_faults}
 
--- a frame would arrive at 2^32 seconds or later, which no capture can say
+-- a frame would arrive at 2^32 seconds or later, which a capture cannot record
 abbrev pub arrives_too_late : TalkPlan → List ℕ → Bool
 arrives_too_late plan input = list_any (λ f. int_le (pos (2 ^ 32 * 1000000000)) f.arrival) (frames plan input)
 

@@ -15,14 +15,15 @@ use Rattle.talker.specs.Journal.{Stream, journal, stream_of}
 use Rattle.talk_clock.specs.Clock.{clock_bytes}
 use Rattle.talk_plan.specs.Ethernet.{packet_bytes}
 
--- A frame as it is sent: when, the number of its packet in the stream or in the clock, which of these it is, and its bytes.
+-- A frame as it is sent: its time, the number of its packet in the stream or in the clock, which of the two it belongs to, and
+-- its bytes.
 pub record SentFrame : Type 0 where
   pub arrival : ℤ
   pub number : ℕ
   pub clock : Bool
   pub bytes : List ℕ
 
--- a frame that is lent, apart from where its bytes lie in memory
+-- a borrowed frame, without its bytes' location in memory
 abbrev pub sent_frame : Sent → SentFrame
 sent_frame s = record { arrival = s.arrival; number = s.number; clock = s.clock; bytes = s.bytes.now }
 
@@ -66,28 +67,28 @@ clock_frames plan input = numbered_clock (stream_of plan input)
 
 -- ---- all frames
 
--- a frame put in before the first that does not arrive earlier
+-- the list with one more frame, before the first that does not arrive earlier
 abbrev pub put_in : SentFrame → List SentFrame → List SentFrame
 put_in f [] = f ∷ []
 put_in f (g ∷ frames) = if int_le f.arrival g.arrival then f ∷ g ∷ frames else g ∷ put_in f frames
 
--- frames by arrival, and those of one arrival in their order
+-- frames sorted by arrival; those with equal arrivals keep their order
 abbrev pub by_arrival : List SentFrame → List SentFrame
 by_arrival [] = []
 by_arrival (f ∷ frames) = put_in f (by_arrival frames)
 
--- All frames, in the order in which they are sent: by arrival, at equal arrivals those of the clock before those of the
--- stream, and then by number.
+-- All frames, in the order in which they are sent: by arrival; at equal arrivals, those of the clock before those of the
+-- stream; and then by number.
 abbrev pub frames : TalkPlan → List ℕ → List SentFrame
 frames plan input = by_arrival (clock_frames plan input ++ stream_frames plan input)
 
--- no frame arrives before the one that precedes it
+-- no frame arrives before its predecessor
 abbrev pub RiseByArrival : List SentFrame → Type 0
 RiseByArrival [] = ⊤
 RiseByArrival (f ∷ []) = ⊤
 RiseByArrival (f ∷ g ∷ frames) = (f.arrival ≤ℤ g.arrival) × RiseByArrival (g ∷ frames)
 
--- the frames at these places, in this order: some may be missing, come again, or change places
+-- the frames at these places, in this order: some may be missing, come again, or be out of order
 abbrev pub frames_at : TalkPlan → List ℕ → List ℕ → List SentFrame
 frames_at plan input places = filter_map (slice_get (frames plan input)) places
 
@@ -98,16 +99,16 @@ abbrev pub packet_numbers : List SentFrame → List ℕ
 packet_numbers [] = []
 packet_numbers (f ∷ frames) = if f.clock then packet_numbers frames else f.number ∷ packet_numbers frames
 
--- of H.264 that stamps last fragments alone, adjacent packets of these numbers are near; nothing is asked of other
--- kinds
+-- adjacent packets of these numbers are near each other, if the stream is H.264 that stamps only last fragments; other kinds
+-- have no such condition
 abbrev pub StaysNearBy : TalkKind → Journal → List ℕ → Type 0
 StaysNearBy (Aaf format sparse) j numbers = ⊤
 StaysNearBy Am824 j numbers = ⊤
 StaysNearBy (H264 false) j numbers = ⊤
 StaysNearBy (H264 true) j numbers = AreNear j numbers
 
--- Fragments without a timestamp are told apart by their sequence numbers alone. So if a plan stamps the last fragments
--- of units alone, adjacent captured fragments are of packets at most 254 apart, unless both are stamped.
+-- Fragments without a timestamp are told apart only by their sequence numbers. So if a plan stamps only the last fragments of
+-- units, adjacent captured fragments are of packets at most 254 apart, unless both are stamped.
 abbrev pub StaysNear : TalkPlan → List ℕ → List SentFrame → Type 0
 StaysNear plan input frames = StaysNearBy plan.kind (journal plan input).times (packet_numbers frames)
 
@@ -117,7 +118,7 @@ StaysNear plan input frames = StaysNearBy plan.kind (journal plan input).times (
 abbrev pub capture_style : Style
 capture_style = record { order = Little; unit = Nano }
 
--- the record of a frame, which is captured whole
+-- the record of a frame that is captured whole
 abbrev pub record_of : SentFrame → Record
 record_of f = record { arrival = f.arrival; orig_len = length f.bytes; bytes = f.bytes }
 

@@ -13,7 +13,7 @@ use Rattle.talk_audio.specs.Journal.{audio_journal}
 
 -- ---- streams
 
--- A stream as it is sent: its packets and those of its clock with their times, and when each is sent.
+-- A stream as it is sent: its packets and those of its clock, with their times and when each is sent.
 pub record Stream : Type 0 where
   pub journal : PacketJournal
   pub arrival : ℕ → ℕ
@@ -21,7 +21,7 @@ pub record Stream : Type 0 where
 
 -- ---- H.264
 
--- the stream of a plan of H.264, with when each packet is sent
+-- the stream of a plan of H.264, with the time at which each packet is sent
 abbrev pub video_stream : Bool → TalkPlan → List ℕ → List (ℕ × ℕ) → Stream
 video_stream last_stamp plan input units = record {
   journal = video_journal last_stamp plan input units;
@@ -29,7 +29,7 @@ video_stream last_stamp plan input units = record {
   clock_arrival = λ m. clock_arrival_by plan.crf plan m;
 }
 
--- a plan of this kind stamps only the last fragment of each NAL unit, as only one of H.264 can
+-- a plan of this kind stamps only the last fragment of each NAL unit, which only H.264 can do
 abbrev pub stamps_last : TalkKind → Bool
 stamps_last (Aaf format sparse) = false
 stamps_last Am824 = false
@@ -37,7 +37,7 @@ stamps_last (H264 last_stamp) = last_stamp
 
 -- ---- all streams
 
--- the stream of a plan and its input: of audio if there is an audio format, else of H.264
+-- the stream of a plan and its input: audio if there is an audio format, else H.264
 abbrev pub stream_by : Option Audio → TalkPlan → List ℕ → Stream
 stream_by (Some audio) plan input = record {
   journal = audio_journal audio plan input;

@@ -1,4 +1,4 @@
--- What a talker sends next, before its frame is made.
+-- What a talker sends next, before its frame is built.
 use Rattle.std.specs.Prelude.{◌≡◌, ℕ, ◌*◌, ◌^◌, ◌<◌, ◌≤◌, pos, ◌≤ℤ◌, ◌<ℤ◌, List, length, slice_get, option_map, Some}
 use Rattle.talker.specs.declared.turn.Turn.{Turn}
 use Rattle.talker.specs.Frames.{SentFrame, frames}
@@ -8,12 +8,11 @@ use Rattle.talker.specs.Talking.{Talking}
 abbrev pub frame_in : Turn → List ℕ → SentFrame
 frame_in turn bytes = record { arrival = turn.arrival; number = turn.number; clock = turn.clock; bytes = bytes }
 
--- the turn of a frame: the frame with the size of its bytes alone
+-- the turn of a frame: the frame without its bytes, but with their number
 abbrev pub turn_of : SentFrame → Turn
 turn_of f = record { arrival = f.arrival; number = f.number; clock = f.clock; size = length f.bytes }
 
--- the turn is that of the next of all frames, which a capture can hold: it arrives before 2^32 seconds, and has at most
--- 1518 bytes
+-- the turn is that of the next frame, and a capture can hold it: it arrives before 2^32 seconds, and has at most 1518 bytes
 pub record IsTurn (t : Talking) (turn : Turn) : Type 0 where
   pub next : option_map turn_of (slice_get (frames t.plan t.input) t.given) ≡ Some turn
   pub begun : pos 0 ≤ℤ turn.arrival

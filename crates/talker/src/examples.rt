@@ -1,18 +1,18 @@
-//! Plans whose times are worked out by hand. Each call is its contract, and does nothing.
+//! Plans whose times are worked out by hand. Each call only states its contract, and does nothing.
 
 ghost use Rattle.std.specs.Prelude.{◌<◌, List, ℕ};
 ghost use Rattle.stream_journal.specs.Examples.{each_eighth, each_sixteenth, restarted};
 ghost use Rattle.talker.specs.Examples.{HasSameTimes, restarting, six_blocks};
 ghost use Rattle.talker.specs.Journal.{journal};
 
-/// In a sparse stream that restarts after each ten packets, the first twenty are due, stamped and marked as in the journal
-/// that is written out packet by packet.
+/// In a sparse stream that restarts after every ten packets, the first twenty are due, stamped and marked as in the journal
+/// that lists them packet by packet.
 pub fn restarting_plan_is_worked_out()
     ensures { (input : List ℕ) (n : ℕ) → n < 20 → HasSameTimes (journal restarting input).times restarted n }
 {}
 
 /// In streams of AM824 with 6 blocks in a packet, at 48 kHz and at 96 kHz, the first eight packets are due and stamped as in
-/// the journals that are written out packet by packet.
+/// the journals that list them packet by packet.
 pub fn block_plans_are_worked_out()
     ensures eighth { (input : List ℕ) (n : ℕ) → n < 8 → HasSameTimes (journal (six_blocks 48000) input).times each_eighth n }
     ensures sixteenth { (input : List ℕ) (n : ℕ) → n < 8 → HasSameTimes (journal (six_blocks 96000) input).times each_sixteenth n }

@@ -1,4 +1,4 @@
-//! Laws of plans and their frames. Each call is its contract, and does nothing.
+//! Laws of plans and their frames. Each call only states its contract, and does nothing.
 
 ghost use Rattle.std.specs.Prelude.{◌≡◌, ◌↔◌, ◌<◌, ◌≤◌, ◌≤ℤ◌, ◌+◌, ◌-◌, ◌*◌, ◌/◌, ◌%◌, ◌^◌, ◌==◌, Bool, length, map, nat_abs, pos, slice_get, List, ℕ, Option};
 ghost use Rattle.std.specs.Prelude.{Some, None, IsSome, IsSomeAnd};
@@ -31,9 +31,9 @@ use packet_journal::laws::records_of_both_are_delivered;
 pub use talk_plan::laws::{clocks_keep_time, rates_are_named};
 pub use talk_video::laws::{access_units_begin, units_are_carried};
 
-/// Packet `n` is sent at the plan's start and the time of the sample frames before its own, rounded down. With restarts
-/// each run begins so much later as all jumps before it make, and the time of its sample frames is counted anew. Packets of
-/// H.264 are sent at the plan's start and the time of the access units before their own.
+/// Packet `n` is sent at the plan's start plus the time of the sample frames before its own, rounded down. With restarts, each
+/// run is delayed by all jumps before it, and the time of its sample frames is counted anew. Packets of H.264 are sent at the
+/// plan's start plus the time of the access units before their own.
 pub fn packets_are_paced()
     ensures steady { (plan : TalkPlan) (n : ℕ) → plan.restart ≡ None → arrival_of plan n ≡ nat_abs plan.start + n * plan.count * 1000000000 / plan.rate }
     ensures restarting { (plan : TalkPlan) (packets n : ℕ) → plan.restart ≡ Some packets
@@ -42,9 +42,9 @@ pub fn packets_are_paced()
         → video_arrival plan input units n ≡ nat_abs plan.start + access_unit_of input units n * 1000000000 / plan.rate }
 {}
 
-/// The clock has a point at the first sample frame of the stream, and at each further sample frame whose number is a multiple
-/// of the spacing. Its points are counted through all runs, and its packets too; with restarts a point's instant is counted
-/// anew in each run, and a packet has the restart bit of its run.
+/// The clock has a timestamp at the first sample frame of the stream, and at each later sample frame whose number is a multiple
+/// of the spacing. Its timestamps and its packets are counted through all runs. With restarts, the instant of a timestamp is
+/// counted anew in each run, and a packet has the restart bit of its run.
 pub fn clocks_are_paced()
     ensures points { (plan : TalkPlan) (crf : CrfPlan) (packets s : ℕ) → IsPlan plan → plan.crf ≡ Some crf
         → s < points_for crf plan packets ↔ s * spacing_of crf plan.rate < packets * plan.count }
@@ -57,13 +57,13 @@ pub fn clocks_are_paced()
         → clock_mr crf plan m ≡ (m / (run_points crf plan packets / crf.points) % 2 == 1) }
 {}
 
-/// No frame arrives before the one that it follows.
+/// No frame arrives before its predecessor.
 pub fn frames_rise()
     ensures { (plan : TalkPlan) (input : List ℕ) → RiseByArrival (frames plan input) }
 {}
 
-/// Each packet of the stream is sent before it is due. Without a clock it is the frame of its number; with one the lead is
-/// at least 3 nanoseconds, since timestamps on a clock can be so much before nominal instants.
+/// Each packet of the stream is sent before it is due. Without a clock, packet n is in frame n. With a clock the lead is at
+/// least 3 nanoseconds, because its timestamps can be that much before nominal instants.
 pub fn packets_are_sent_in_time()
     ensures alone { (plan : TalkPlan) (input : List ℕ) (n : ℕ) → IsPlan plan → plan.crf ≡ None → length input ≤ most_input
         → n < (journal plan input).times.packets → IsSomeAnd (slice_get (frames plan input) n) (λ f. f.arrival ≤ℤ pos ((journal plan input).times.due n)) }
@@ -72,14 +72,14 @@ pub fn packets_are_sent_in_time()
         → IsSomeAnd (slice_get (stream_frames plan input) n) (λ f. f.arrival ≤ℤ pos ((journal plan input).times.due n)) }
 {}
 
-/// If no restart lies between a packet and the seventh before it, one of these eight is stamped, and the packet is
-/// counted from that: it has a head in the plan's journal.
+/// If there is no restart between a packet and the seventh before it, one of these eight packets is stamped, and the packet is
+/// counted from that one: it has a head in the plan's journal.
 pub fn packets_have_heads()
     ensures { (plan : TalkPlan) (input : List ℕ) (n : ℕ) → IsAudioPlan plan → 7 ≤ n → run_of plan (n - 7) ≡ run_of plan n
         → IsSome (head_of (journal plan input).times n) }
 {}
 
-/// The bytes of a packet's frame spell the frame, and its payload the packet, of PCM, of AM824 or of H.264.
+/// The bytes of a packet's frame encode the frame, and its payload encodes the packet, of PCM, AM824 or H.264.
 pub fn packets_read_back()
     ensures frame { (plan : TalkPlan) (format : AafFormat) (sparse : Bool) (n : ℕ) (samples : List ℕ)
         → SpellsFrame (aaf_bytes format sparse plan n samples) (ethernet (aaf_spelling (aaf_packet format sparse plan n samples))) }
@@ -99,7 +99,7 @@ pub fn packets_read_back()
     cvf_format::laws::packet_again();
 }
 
-/// The capture of a plan is a capture of just the records of its frames, so it reads back.
+/// The capture of a plan holds exactly the records of its frames, so it reads back.
 pub fn capture_reads_back()
     ensures capture { (plan : TalkPlan) (input : List ℕ) → IsPlan plan → length input ≤ most_input
         → IsCapture capture_style (records plan input) (capture plan input) }
@@ -107,16 +107,15 @@ pub fn capture_reads_back()
     ensures refusal { (plan : TalkPlan) (input : List ℕ) → IsPlan plan → length input ≤ most_input → first_refusal (capture plan input) ≡ None }
 {}
 
-/// The journal of a plan conforms: its talker keeps every rule on which a listener relies.
+/// The journal of a plan conforms: its talker keeps every rule that a listener relies on.
 pub fn journal_conforms()
     ensures { (plan : TalkPlan) (input : List ℕ) → IsPlan plan → plan.id < 2 ^ 64 → length input ≤ most_input → IsConforming (pos 0) (journal plan input) }
 {}
 
-/// The capture of a plan delivers its journal: its records carry the packets of the stream and of its clock, each once,
-/// and without a clock those of the stream in their order. It does so to every listener if each packet is stamped. Of a
-/// sparse stream, or one of AM824 with fewer data blocks in a packet than its interval, it does so to every listener
-/// that expects packets by about the plan's lead before their first instants. Packets of H.264 are delivered if
-/// listeners take their kind for one of a stream's.
+/// The capture of a plan delivers its journal: its records carry the packets of the stream and of its clock, each once, and
+/// without a clock those of the stream in their order. If each packet is stamped, it does so to every listener. For a sparse
+/// stream, or one of AM824 with fewer data blocks in a packet than its interval, it does so to every listener that expects
+/// packets by about the plan's lead before their first instants. Packets of H.264 are delivered if listeners accept their kind.
 pub fn capture_delivers()
     ensures carries { (plan : TalkPlan) (input : List ℕ) (lead : ℕ) → IsPlan plan → plan.crf ≡ None → length input ≤ most_input → Expects plan lead
         → AllCarry (journal plan input) lead (range_with_len 0 (journal plan input).times.packets) (records plan input) }
@@ -128,11 +127,10 @@ pub fn capture_delivers()
     records_of_both_are_delivered();
 }
 
-/// Whatever a capture loses, repeats or reorders of a plan's frames, each captured when it was sent: it reads back as
-/// just the records of these frames, and delivers the plan's journal to the same listeners as the whole capture, those
-/// of the law above, whichever packets of the stream and of the clock are lost, come again or change places. Of H.264
-/// whose units are stamped on their last fragments alone, adjacent captured fragments have to be of packets that are at
-/// most 254 apart.
+/// A capture may lose, repeat or reorder a plan's frames, each captured when it was sent. It still reads back as exactly the
+/// records of these frames, and delivers the plan's journal to the same listeners as `capture_delivers`, whichever packets of
+/// the stream and of the clock are lost, come again or change places. If units of H.264 are stamped only on their last
+/// fragments, adjacent captured fragments must be of packets that are at most 254 apart.
 pub fn losses_are_delivered()
     ensures records { (plan : TalkPlan) (input places : List ℕ) → IsPlan plan → length input ≤ most_input
         → whole_records (capture_of (frames_at plan input places)) ≡ map record_of (frames_at plan input places) }

@@ -1,5 +1,4 @@
-//! A talker: the packets of a stream, made from raw samples or from a byte stream of H.264, and those of a media clock beside
-//! it.
+//! A talker: the packets of a stream, made from raw samples or from a byte stream of H.264, and those of its media clock.
 #![tactic(auto)]
 
 pub mod examples;

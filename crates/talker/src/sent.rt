@@ -1,6 +1,6 @@
 //! A frame as it is sent.
 
-/// A frame as it is sent. Its bytes are lent.
+/// A frame as it is sent. Its bytes are borrowed.
 #[derive(Clone, Copy, Debug)]
 pub struct Sent<'a> {
     /// When it is sent, in nanoseconds of gPTP.

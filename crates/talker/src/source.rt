@@ -18,7 +18,7 @@ use talk_clock::ClockStream;
 use talk_plan::{TalkFault, TalkKind, TalkPlan};
 use talk_video::{VideoStream, units_fault};
 
-/// What makes the packets of a stream, of its input.
+/// Makes the packets of a stream from its input.
 #[derive(Debug, Drop)]
 pub(crate) enum Source<'a> {
     Audio {
@@ -28,7 +28,7 @@ pub(crate) enum Source<'a> {
     Video(VideoStream<'a>),
 }
 
-/// Why an input makes no stream of audio. No packet arrives too late for a capture, since a plan ends well before.
+/// Why an input makes no audio stream. No packet arrives too late for a capture, because a plan ends well before.
 #[tactic(auto, using(talk_audio::proofs::FormatLemmas::audio_found, crate::proofs::TalkLemmas::none_late), unfolding(crate::specs::Faults::fault_of))]
 fn audio_fault(stream: &AudioStream, input: &[u8]) -> Option<TalkFault>
     requires stream { IsAudio stream.now }
@@ -43,7 +43,7 @@ fn audio_fault(stream: &AudioStream, input: &[u8]) -> Option<TalkFault>
 }
 
 impl<'a> Source<'a> {
-    /// The source of a plan and an input. A fault of these comes before want of memory.
+    /// The source of a plan and an input. A fault of these is returned before `Memory`.
     pub fn of(alloc: Global, plan: TalkPlan, input: &'a [u8]) -> Result<Self, TalkFault>
         requires plan { IsPlan plan }
         requires limit { length input.now ≤ most_input }
@@ -105,7 +105,7 @@ impl<'a> Source<'a> {
         }
     }
 
-    /// The media clock beside this many packets, if there is one.
+    /// The media clock of a stream of this many packets, if there is one.
     pub fn clock(&self, packets: u64) -> Option<ClockStream>
         requires source { IsSource self.now }
         requires packets { packets ≡ (stream_in self.now).journal.times.packets }

@@ -22,8 +22,8 @@ use std::marker::Model;
 use talk_clock::ClockStream;
 use talk_plan::{TalkFault, TalkPlan};
 
-/// Makes the frames of a plan from its input, each on its own or one after another. The memory of one frame, and of the list of
-/// an H.264 stream's units, is taken at the beginning, and no more later: a frame is lent until the next is made, or is written
+/// Makes the frames of a plan from its input, by number or one after another. The memory of one frame, and of the list of an
+/// H.264 stream's units, is allocated at the beginning, and none later: a frame is lent until the next is made, or is written
 /// into a slice of the caller.
 #[derive(Debug, Drop)]
 pub struct Talker<'a> {
@@ -38,7 +38,7 @@ pub struct Talker<'a> {
     frame: Vec<u8>,
 }
 
-/// The longest frame that Ethernet carries with a tag, without its check sequence.
+/// The longest tagged Ethernet frame, without its check sequence.
 const FRAME_LIMIT: usize = 1518;
 
 impl<'a> Model for Talker<'a> {
@@ -59,25 +59,25 @@ impl<'a> Talker<'a> {
     ghost use Rattle.std.specs.Borrow.{sem};
     ghost use Rattle.talker.specs.Lending.{EndsAs};
 
-    /// A talker of the plan and the input. Of audio the input is sample frames, one after another: the channels of each in
-    /// order. A sample of PCM has its highest byte first; one of AM824 is a quadlet as it is sent, a label and 24 bits
-    /// (IEC 61883-6). Of H.264 it is a byte stream of NAL units (ITU-T H.264, annex B). The input has at most 268,435,456
-    /// bytes.
+    /// A talker of the plan and the input. For audio, the input is sample frames, one after another: the channels of each in
+    /// order. A sample of PCM has its highest byte first; a sample of AM824 is a quadlet as it is sent, a label and 24 bits
+    /// (IEC 61883-6). For H.264, the input is a byte stream of NAL units (ITU-T H.264, annex B). The input has at most
+    /// 268,435,456 bytes.
     ///
-    /// A plan has a start of 0 to 4 * 10^18 and a lead of 1 to 10^9. Of audio it has no restart, or one after each 8 to 10^9
-    /// packets with a jump of 4 to 10^9. PCM, sparse or not, has one of AAF's rates, 1 to 1023 channels, and 1 to 1476 sample
-    /// frames in a packet that have at most 1476 bytes. AM824 has one of the rates of IEC 61883-6, 1 to 256 channels, and data
-    /// blocks in a packet that have at most 1468 bytes and are at least an eighth of SYT_INTERVAL. H.264 has a rate of 1 to 240
-    /// and neither restarts nor a clock; its channels and its count are not read.
+    /// A plan has a start of 0 to 4 * 10^18 and a lead of 1 to 10^9. A plan of audio has no restart, or one after each 8 to
+    /// 10^9 packets with a jump of 4 to 10^9. PCM, sparse or not, has one of AAF's rates, 1 to 1023 channels, and 1 to 1476
+    /// sample frames in a packet that have at most 1476 bytes. AM824 has one of the rates of IEC 61883-6, 1 to 256 channels,
+    /// and data blocks in a packet that have at most 1468 bytes and are at least an eighth of SYT_INTERVAL. H.264 has a rate of
+    /// 1 to 240 and neither restarts nor a clock; its channels and its count are not read.
     ///
     /// A media clock has a base frequency of 1 to 200,000,000 Hz, a pull of 0 to 5, and 1 to 180 timestamps in a packet. The
-    /// time from one to the next, 1 to 65,535 events of the clock, is that of whole sample frames, and with restarts a run of
-    /// the stream is 8 packets of the clock or a multiple of that.
+    /// time from one timestamp to the next, 1 to 65,535 events of the clock, is that of a whole number of sample frames, and
+    /// with restarts a run of the stream is a multiple of 8 packets of the clock.
     ///
-    /// `Frames` comes exactly if an input of audio is not whole sample frames. Of H.264 `StartCode` comes exactly if
-    /// the input has no start code; else `NalType` if a NAL unit has another type than 1 to 23; else `Packets` if an
-    /// access unit needs more than 255 packets. `Arrival` comes exactly if none of these holds and a packet would
-    /// arrive 2^32 seconds after 0 or later, which no such plan does. `Memory` comes if no memory is found.
+    /// `Frames` comes exactly if an audio input is not whole sample frames. For H.264, `StartCode` comes exactly if the input
+    /// has no start code; else `NalType` if a NAL unit has a type other than 1 to 23; else `Packets` if an access unit needs
+    /// more than 255 packets. `Arrival` comes exactly if none of these holds and a packet would arrive 2^32 seconds after 0 or
+    /// later, which no such plan does. `Memory` comes if there is no memory.
     pub fn begin(alloc: Global, plan: TalkPlan, input: &'a [u8]) -> Result<Self, TalkFault>
         requires plan { IsPlan plan }
         requires limit { length input.now ≤ most_input }
@@ -115,7 +115,7 @@ impl<'a> Talker<'a> {
         self.clocks
     }
 
-    /// The frame of packet `n` of the stream, counted from 0; `n` is below `packets()`. It takes no memory.
+    /// The frame of packet `n` of the stream, counted from 0; `n` is below `packets()`. Allocates nothing.
     #[inline(always)]
     pub fn packet(&mut self, n: u64) -> Sent<'_>
         requires { n < length (stream_frames self.old.plan self.old.input) }
@@ -163,8 +163,8 @@ impl<'a> Talker<'a> {
         }
     }
 
-    /// What is sent next, of all frames, in the order in which they are sent: by arrival, those of the clock first.
-    /// `None` comes exactly if all frames were given.
+    /// The next frame to send, in the order of sending: by arrival, those of the clock first. `None` comes exactly if all
+    /// frames were given.
     #[inline(always)]
     pub fn turn(&self) -> Option<Turn>
         ensures turn { IfSome result (IsTurn self.now) }
@@ -180,7 +180,7 @@ impl<'a> Talker<'a> {
         Some(self.source.turn(n))
     }
 
-    /// Writes the frame that is sent next. It takes no memory.
+    /// Writes the frame that is sent next. Allocates nothing.
     #[inline(always)]
     pub fn write(&self, turn: Turn, out: &mut [u8])
         requires turn { IsTurn self.now turn }
@@ -190,7 +190,7 @@ impl<'a> Talker<'a> {
         write_frame(&self.source, &self.clock, turn, out);
     }
 
-    /// Goes on to the frame after that which is sent next.
+    /// Moves on from the frame that is sent next to the one after it.
     #[inline(always)]
     pub fn go_on(&mut self, turn: Turn)
         requires { IsTurn self.old turn }
@@ -203,8 +203,8 @@ impl<'a> Talker<'a> {
         }
     }
 
-    /// The next of all frames, in the order in which they are sent: by arrival, those of the clock first. It takes no
-    /// memory. `None` comes exactly if all frames were given.
+    /// The next of all frames, in the order of sending: by arrival, those of the clock first. `None` comes exactly if all
+    /// frames were given. Allocates nothing.
     #[inline(always)]
     pub fn next(&mut self) -> Option<Sent<'_>>
         ensures frame { option_map sent_frame result ≡ slice_get (frames self.old.plan self.old.input) self.old.given }
@@ -255,7 +255,7 @@ fn write_frame(source: &Source<'_>, clock: &Option<ClockStream>, turn: Turn, out
     }
 }
 
-/// Writes the frame of a turn in front.
+/// Writes the frame of a turn at the start of a slice.
 #[inline(always)]
 fn write_front(source: &Source<'_>, clock: &Option<ClockStream>, turn: Turn, out: &mut [u8])
     requires sending { IsSending source.now clock.now turn }
@@ -265,8 +265,7 @@ fn write_front(source: &Source<'_>, clock: &Option<ClockStream>, turn: Turn, out
     write_frame(source, clock, turn, &mut out[..turn.size]);
 }
 
-/// Packet `m` of the clock, if there is one, is sent before packet `n` of a stream of this many, or at one time with
-/// it.
+/// Packet `m` of the clock, if there is one, is sent before packet `n` of a stream of this many packets, or at the same time.
 fn clock_is_first(
     clock: &Option<ClockStream>,
     source: &Source<'_>,

@@ -1,6 +1,6 @@
 //! What is sent next.
 
-/// What a talker sends next: all of a frame but its bytes.
+/// What a talker sends next: a frame without its bytes.
 #[derive(Clone, Copy, Debug)]
 pub struct Turn {
     /// When it is sent, in nanoseconds of gPTP.

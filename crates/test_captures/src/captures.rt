@@ -8,7 +8,7 @@ use std::alloc::Global;
 use std::test::Fail;
 use vectors_avtp::{bytes_of, row_of};
 
-/// Reading without a limit that is met or a call that fails.
+/// Reads without a failing call, and with a limit that is never reached.
 const FREE: Way = Way {
     most: 65_536,
     limit: u32::MAX,
@@ -68,7 +68,7 @@ pcapng len=28 010000001c000000010000000000000009000100090000001c000000 060000002
 pcapng len=28 0100000014000000010000000000000014000000 060000002400000000000000000000000700000003000000030000006162630024000000 0a0d0d0a0000001c1a2b3c4d00010000ffffffffffffffff0000001c 000000060000002400000000000000000000000900000004000000046162636400000024 => 7000 3 3, interface_id at 120
 // Blocks that are passed, and options of a packet.
 pcapng len=28 010000802c000000000102030405060708090a0b0c0d0e0f101112131415161718191a1b1c1d1e1f2c000000 0100000014000000010000000000000014000000 0500000014000000000102030405060714000000 010000001c000000010000000000000009000100030000001c000000 060000003400000001000000000000000200000007000000070000006162636465666700010004006e6f74650000000034000000 040000000c0000000c000000 => 2000000 7 7, Some(Whole)
-// Of equal options the last one counts, and nothing is read after the end of the options.
+// If an option comes twice, the last one counts. Nothing is read after the end of the options.
 pcapng len=28 010000003c000000010000000000000009000100090000000e000800050000000000000009000100000000000e00080001000000000000003c000000 060000002400000000000000000000000200000001000000010000006100000024000000 => 3000000000 1 1, Some(Whole)
 pcapng len=28 01000000280000000100000000000000090001000900000000000000090001000000000028000000 060000002400000000000000000000000200000001000000010000006100000024000000 => 2 1 1, Some(Whole)
 // Before the epoch, the last microsecond, and one more.
@@ -79,7 +79,7 @@ pcapng len=28 010000002000000001000000000000000e000800ffffffff0000000020000000 0
 pcapng len=28 0100000014000000010000000000000014000000 060000002400000000000000000000000100000002000000020000006162000024000000 060000002400000000000000000000000200000002000000020000006364000020000000 => 1000 2 2, block_trailer at 116
 pcapng len=28 0100000020000000010000000000000009000100090000000300010020000000 => option_length at 52";
 
-/// However a capture comes in pieces.
+/// A capture is read alike in pieces of any size.
 #[test]
 fn a_capture_is_read_up_to_what_refuses_it(rt: HostRuntime) -> Result<(), Fail> {
     for line in CAPTURES.lines().filter(|line| !line.starts_with("//")) {
@@ -96,12 +96,12 @@ fn a_capture_is_read_up_to_what_refuses_it(rt: HostRuntime) -> Result<(), Fail> 
     Ok(())
 }
 
-/// Captures that are cut off, each answer from the first length at which it comes.
+/// Captures that are cut off: each answer, with the first length at which it comes.
 const CUT: &str = "\
 pcap => 0: magic at 0 short; 4: version_major at 4 short; 6: version_minor at 6 short; 8: thiszone at 8 short; 12: sigfigs at 12 short; 16: snaplen at 16 short; 20: network at 20 short; 24: Some(Whole); 25: ts_sec at 24 short; 28: ts_fraction at 28 short; 32: incl_len at 32 short; 36: orig_len at 36 short; 40: packet_bytes at 40 short; 106: 1000000000 66 66, Some(Whole);
 pcapng => 0: magic at 0 short; 4: block_length at 4 short; 8: block_body at 8 short; 28: Some(Whole); 29: block_type at 28 short; 32: block_length at 32 short; 36: block_body at 36 short; 60: Some(Whole); 61: block_type at 60 short; 64: block_length at 64 short; 68: block_body at 68 short; 160: 1000000000 66 66, Some(Whole);";
 
-/// What is answered of a capture that is cut off, from each length on at which it is something else.
+/// The answer to a capture that is cut off, for each length at which the answer changes.
 fn answers_when_cut(alloc: Global, capture: &[u8]) -> Result<String, Fail> {
     let mut all = String::new(alloc);
     let mut last = String::new(alloc);
@@ -125,7 +125,7 @@ fn a_short_capture_is_refused_by_the_field_that_is_cut_off(rt: HostRuntime) -> R
     Ok(())
 }
 
-/// A capture of two records, of 66 bytes and of one.
+/// A capture of two records, of 66 bytes and of one byte.
 const TWO: &str = "pcap 02000000 f4010000 01000000 01000000 05";
 
 #[test]
@@ -167,7 +167,7 @@ fn one_interface_too_many_is_refused(rt: HostRuntime) -> Result<(), Fail> {
     Ok(())
 }
 
-/// Another first block than a section header is no pcapng.
+/// A first block other than a section header is not pcapng.
 #[test]
 fn a_reader_of_pcapng_wants_a_section_first(rt: HostRuntime) -> Result<(), Fail> {
     let mut reader = Ng::new(rt.alloc())?;

@@ -9,9 +9,9 @@ use avtp_memory::{MemorySink, QuietShelf, QuietSink};
 use capture_io::{FileWriter, Stop, read_contents};
 use std::alloc::Global;
 use std::test::Fail;
-use std::{env, fs};
+use std::{env, fs, io};
 
-/// Bytes as they are.
+/// A value that is encoded as its own bytes.
 #[derive(Drop)]
 struct Piece<'a>(&'a [u8]);
 
@@ -27,7 +27,7 @@ impl Spelled for Piece<'_> {
     }
 }
 
-/// Makes a file of two such pieces, and tells whether all was written.
+/// Makes a file of two such values, and tells whether all of it was written.
 fn write_twice<F: Shelf>(
     alloc: Global,
     shelf: &mut F,
@@ -50,7 +50,7 @@ fn write_twice<F: Shelf>(
     Ok(writer.finish(shelf).is_ok())
 }
 
-/// The shelf takes 30,000 bytes in a call.
+/// The shelf takes 30,000 bytes per call.
 #[test]
 fn a_file_has_what_was_written_before_a_call_fails(rt: HostRuntime) -> Result<(), Fail> {
     let piece = vec![in rt.alloc(); 7u8; 40_000]?;
@@ -100,7 +100,7 @@ fn a_sink_in_memory_keeps_what_its_calls_took(rt: HostRuntime) -> Result<(), Fai
     Ok(())
 }
 
-/// Once something was not kept, no name is said to be missing.
+/// Once something could not be kept, no name is reported as missing.
 #[test]
 fn a_quiet_end_takes_all_and_keeps_what_fits(rt: HostRuntime) -> Result<(), Fail> {
     let mut sink = QuietSink::over(rt.alloc(), 5)?;
@@ -115,7 +115,7 @@ fn a_quiet_end_takes_all_and_keeps_what_fits(rt: HostRuntime) -> Result<(), Fail
     Ok(())
 }
 
-/// The path of a file of this name among the temporary ones.
+/// The path of a file with this name in the temporary directory.
 fn temporary(rt: &HostRuntime, name: &str) -> Result<String, Fail> {
     let path = env::temp_dir(rt)?.join(rt.alloc(), name)?;
     let path = path.to_str().ok_or("a path that is no text")?;
@@ -136,7 +136,7 @@ fn a_real_file_is_made_and_read_back(rt: HostRuntime) -> Result<(), Fail> {
     Ok(())
 }
 
-/// The sink of a file, apart from these.
+/// A sink over the file at a path, unless it is one of the files in `apart`.
 fn named(rt: HostRuntime, path: &str, apart: &[&str]) -> Result<FileSink<HostRuntime>, Fail> {
     let mut others = Vec::new(rt.alloc());
     for other in apart {
@@ -145,7 +145,7 @@ fn named(rt: HostRuntime, path: &str, apart: &[&str]) -> Result<FileSink<HostRun
     Ok(FileSink::named(rt, String::from_str(rt.alloc(), path)?, others))
 }
 
-/// Neither a shelf nor a sink writes over what is read, whatever it is called.
+/// Neither a shelf nor a sink writes over a file that is read, whatever its name.
 #[test]
 fn a_file_that_is_read_is_not_written_over(rt: HostRuntime) -> Result<(), Fail> {
     let path = temporary(&rt, "test_captures_kept")?;
@@ -184,6 +184,6 @@ fn a_sink_makes_its_file_when_it_is_written_to(rt: HostRuntime) -> Result<(), Fa
     assert_eq!(rt; shelf.open_file(path), Err(OpenFault::Failed));
     let mut sink = named(rt, "/", &[])?;
     assert_eq!(rt; sink.write(b"a"), Err(Failed));
-    assert_eq!(rt; StdSink::new(&rt).write(b"\n"), Ok(1));
+    assert_eq!(rt; StdSink::new(io::writer(&rt)).write(b"\n"), Ok(1));
     Ok(())
 }

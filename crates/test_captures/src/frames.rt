@@ -38,12 +38,12 @@ fn each_field_of_a_frame_is_read_from_its_bits(rt: HostRuntime) -> Result<(), Fa
     Ok(())
 }
 
-/// Frames that are cut off, each field from the first length at which it is.
+/// Frames that are cut off: each field, with the first length at which it is refused.
 const CUT: &str = "\
 frame len=18 => 0: destination at 0 short, 6: source at 6 short, 12: ethertype at 12 short, 14: tag_control at 14 short, 16: ethertype at 16 short, 18: read,
 frame len=12 22f0 => 0: destination at 0 short, 6: source at 6 short, 12: ethertype at 12 short, 14: read,";
 
-/// What is answered of a frame that is cut off, from each length on at which it is something else.
+/// The answer to a frame that is cut off, for each length at which the answer changes.
 fn answers_when_cut(alloc: Global, frame: &[u8]) -> Result<String, Fail> {
     let mut all = String::new(alloc);
     let mut last = String::new(alloc);

@@ -1,4 +1,4 @@
-//! What is read of a capture, in the words of a row.
+//! Captures as rows of a table describe them.
 
 use avtp_memory::MemoryShelf;
 use capture_io::{End, Source};
@@ -7,7 +7,7 @@ use std::alloc::{AllocError, Global};
 use std::test::Fail;
 use vectors_avtp::refusal_text;
 
-/// How a capture is read: in calls of at most so many bytes, up to a limit, and with a call that fails, counted from 1.
+/// How a capture is read: in calls of at most `most` bytes, up to a limit, and with a failing call, counted from 1.
 #[derive(Clone, Copy, Debug)]
 pub struct Way {
     pub most: usize,
@@ -15,7 +15,7 @@ pub struct Way {
     pub fails: u64,
 }
 
-/// A shelf that has these bytes in its file `a`.
+/// A shelf whose file `a` holds these bytes.
 pub fn shelf_over(alloc: Global, bytes: &[u8], way: Way) -> Result<MemoryShelf, AllocError> {
     let mut files = Vec::new(alloc);
     files.push((String::from_str(alloc, "a")?, bytes.to_vec(alloc)?))?;
@@ -36,7 +36,7 @@ fn end_text(alloc: Global, end: Option<End>) -> Result<String, AllocError> {
     }
 }
 
-/// The records of a capture, of which there are at most two, and how the reading ends.
+/// The records of a capture, at most two, and how the reading ends.
 pub fn told(alloc: Global, capture: &[u8], way: Way) -> Result<String, Fail> {
     let mut shelf = shelf_over(alloc, capture, way)?;
     let Ok(mut source) = Source::open(alloc, u64::from(way.limit), &mut shelf, "a") else {

@@ -15,7 +15,7 @@ const SHORT: Samples = Samples {
     value: 1,
 };
 
-/// A batch and the instant of the next, and how many bytes of silence stand between them.
+/// A batch, the instant of the next batch, and how many bytes of silence are between them.
 #[derive(Clone, Copy)]
 struct Gap {
     before: Samples,
@@ -24,7 +24,7 @@ struct Gap {
 }
 
 const GAPS: [Gap; 8] = [
-    // one packet is missing; none is; the next begins at once
+    // one packet is missing; none is missing; the next one begins at once
     Gap {
         before: PACKET,
         next: 1_002_250_000,
@@ -40,7 +40,7 @@ const GAPS: [Gap; 8] = [
         next: 1_002_000_000,
         silent: 0,
     },
-    // half a sample, and less than half
+    // half a sample, and less than half a sample
     Gap {
         before: SHORT,
         next: 6,
@@ -51,7 +51,7 @@ const GAPS: [Gap; 8] = [
         next: 5,
         silent: 0,
     },
-    // two samples end at 8 / 3 ns, rounded down to 2, and one and a half of 4 / 3 ns fit up to 4
+    // two samples end at 8 / 3 ns, rounded down to 2, and one and a half samples of 4 / 3 ns fit up to 4
     Gap {
         before: Samples {
             num: 4,
@@ -62,7 +62,7 @@ const GAPS: [Gap; 8] = [
         next: 4,
         silent: 2,
     },
-    // samples without a byte
+    // samples of no bytes
     Gap {
         before: Samples { size: 0, ..SHORT },
         next: 100,
@@ -76,7 +76,7 @@ const GAPS: [Gap; 8] = [
     },
 ];
 
-/// The line and the size of the silence are those of the batch before it.
+/// The silence has the spacing and the sample size of the batch before it.
 #[test]
 fn silence_stands_for_missing_samples_to_the_nearest_whole_one(
     rt: HostRuntime,

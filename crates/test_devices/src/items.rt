@@ -7,7 +7,7 @@ use std::alloc::Global;
 use std::test::Fail;
 use time_unfold::Line;
 
-/// Samples by their first instant, their line's step as a fraction, their count, and how often their bytes have which value.
+/// Samples: their first instant, the spacing as a fraction, their count, and how often their bytes have which value.
 #[derive(Clone, Copy)]
 pub struct Samples {
     pub base: u32,

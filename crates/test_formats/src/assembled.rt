@@ -7,7 +7,7 @@ use std::alloc::Global;
 use std::test::Fail;
 use vectors_avtp::{bytes_of, row_of};
 
-/// Pushes a packet, whose instant is its own timestamp, if it may be pushed.
+/// Pushes a packet with its own timestamp as its instant, if it may be pushed.
 fn push(assembler: &mut Assembler, frame: u64, packet: &[u8]) -> Option<Pushed>
     ensures { IfSome result (λ pushed. pushed.lost ≡ length assembler.new.lost) }
 {
@@ -42,7 +42,7 @@ fn given_up(alloc: Global, assembler: &Assembler, lost: u32) -> Result<String, F
     Ok(text)
 }
 
-/// What becomes of a packet: the frames that it gives up, and then its piece, with the unit if that is whole.
+/// What becomes of a packet: the frames that it gives up, and then its part, with the unit if it is complete.
 fn outcome(
     alloc: Global,
     assembler: &mut Assembler,
@@ -66,10 +66,10 @@ const ROWS: &str = "\
 28=65000a => Whole 65000a0a;
 2=00 28=7c850102, 2=01 28=7c050304, 2=02 28=7c450506, 2=03 28=7c45 => Held ; Held ; Whole 65010203040506; Lost(Broken) ;
 1=8000 28=7c850102, 1=8001 28=7c050304, 1=8102 28=7c450506 => Held ; Held ; Whole 65010203040506;
-// A repeat breaks the unit, and what comes after it has no beginning.
+// A repeated fragment breaks the unit, and the fragments after it continue nothing.
 2=00 28=7c85, 2=01 28=7c05, 2=01 28=7c05, 2=02 28=7c45 => Held ; Held ; -1 -2 Lost(Broken) ; Lost(Broken) ;
 1=8000 28=7c85, 1=8001 28=7c05, 1=8001 28=7c05, 1=8102 28=7c45 => Held ; Held ; -1 -2 Lost(Broken) ; Lost(Broken) ;
-// What goes on with a fragment, and what does not.
+// Which fragments continue a unit, and which do not.
 2=ff 28=7c85, 2=00 28=7c45 => Held ; Whole 65000a000a;
 2=ff 28=7c85, 2=00 28=7c05 => Held ; Held ;
 2=ff 28=7c85, 1=8000 28=7c05 => Held ; Held ;
@@ -81,7 +81,7 @@ const ROWS: &str = "\
 2=ff 28=7c85, 2=00 28=5c45 => Held ; -1 Lost(Broken) ;
 2=ff 28=7c85, 2=00 28=7c85 => Held ; -1 Held ;
 2=ff 28=7c85, 2=00 28=65 => Held ; -1 Whole 6542000a;
-// Nothing goes on over a cut.
+// No unit continues across a cut.
 cut, 2=00 28=7c85, 2=01 28=7c05, cut, 2=02 28=7c45, 2=03 28=65 => ; Held ; Held ; -2 -3 ; Lost(Broken) ; Whole 6542000a;";
 
 #[test]
@@ -100,7 +100,7 @@ fn a_unit_is_whole_if_its_fragments_go_on_with_each_other(rt: HostRuntime) -> Re
     Ok(())
 }
 
-/// Pushes so many fragments of one unit that have the same body, and answers what becomes of the last, which has another.
+/// Pushes many fragments of one unit with equal bodies, and returns what becomes of the last, whose body is another.
 fn push_long(
     assembler: &mut Assembler,
     fragments: u64,
@@ -116,7 +116,7 @@ fn push_long(
     push(assembler, fragments, last)
 }
 
-/// Numbers of fragments, one of them and the last one, and what becomes of this.
+/// How many fragments there are, one of them and the last one, and what becomes of the last.
 const LONG: [(u64, &str, &str, &str); 5] = [
     (
         4_096,
@@ -150,7 +150,7 @@ const LONG: [(u64, &str, &str, &str); 5] = [
     ),
 ];
 
-/// What is too long is lost with all that waits, and what comes after it has no beginning.
+/// A unit that is too long is lost with all its fragments, and the fragments after it continue nothing.
 #[test]
 fn a_unit_has_at_most_4096_fragments_and_4194304_bytes(rt: HostRuntime) -> Result<(), Fail> {
     let mut assembler = Assembler::new(rt.alloc())?;

@@ -8,7 +8,7 @@ use iec61883_format::{rate_of_fdf, syt_interval};
 use std::test::Fail;
 use vectors_avtp::bytes_of;
 
-/// A code, and the rate that it stands for in PCM; in AM824 the rate, and how many blocks have one timestamp.
+/// A code and its rate in PCM. In AM824: its rate, and how many blocks share one timestamp.
 const CODES: &str = "
 0: None Some(32000) Some(8)
 1: Some(8000) Some(44100) Some(8)

@@ -12,7 +12,7 @@ iec => subtype: 0, sv: true, mr: false, format_bits: 0, tv: true, seq: 0, tu: fa
 h264 => subtype: 3, sv: true, mr: false, format_bits: 0, tv: true, seq: 0, tu: false, stream_id: 144115188075921409, timestamp: 1002000000, data_length: 8, ptv: true, marker: true, evt: 0, h264_timestamp: 1002000000, nal: 103, part: Single, body: [66, 0, 10], reserved: false, stamp_is_wrong: false
 crf => sv: true, mr: false, fs: false, tu: false, seq: 0, kind: 1, stream_id: 144115188075921410, pull: 0, base_frequency: 48000, interval: 96, payload: [0, 0, 0, 0, 59, 185, 78, 128], reserved: false, stamp_is_wrong: false
 6e => Ok(Other(110)), stamp_is_wrong: false
-// Each bit of the second byte that is no version.
+// Each bit of the second byte outside the version.
 aaf 1=80 => sv: true, mr: false, format_bits: 0, tv: false
 aaf 1=08 => sv: false, mr: true, format_bits: 0, tv: false
 aaf 1=04 => sv: false, mr: false, format_bits: 2, tv: false
@@ -54,12 +54,12 @@ h264 28=65 21=05 => nal: 101, part: Single, body: []
 // The highest numbers of a clock, and each of its timestamps.
 crf 2=09ff 12=bfffffff 18=ffff => seq: 9, kind: 255, pull: 5, base_frequency: 536870911, interval: 65535
 crf 3=00 => kind: 0
-// Bytes after the stated length are none of the packet's, of which the last one is 250 or 7.
+// Bytes after the stated length do not belong to the packet, whose last byte is 250 or 7.
 aaf len=60 => count: 6, 250], reserved: false
 iec 79=07 len=96 => count: 6, 7], reserved: false
 h264 len=40 => body: [66, 0, 10], reserved: false
 crf len=44 => payload: [0, 0, 0, 0, 59, 185, 78, 128], reserved: false
-// PCM has a timestamp in each packet, or in each eighth where it is sparse.
+// PCM has a timestamp in each packet, or in every eighth if it is sparse.
 aaf 1=80 => stamp_is_wrong: true
 aaf 1=80 2=01 => stamp_is_wrong: true
 aaf 1=80 21=00 => count: 0, stamp_is_wrong: false
@@ -68,7 +68,7 @@ aaf 1=80 2=f8 22=10 => sparse: true, seq: 248, stamp_is_wrong: true
 aaf 1=80 2=07 22=10 => sparse: true, seq: 7, stamp_is_wrong: false
 aaf 1=81 2=07 22=10 => sparse: true, seq: 7, stamp_is_wrong: true
 aaf 1=81 2=07 21=00 22=10 => count: 0, stamp_is_wrong: false
-// AM824 has one where a block's count is a multiple of the interval.
+// AM824 has a timestamp if the count of one of its blocks is a multiple of the interval.
 iec 1=80 => stamp_is_wrong: true
 iec 1=80 27=02 => dbc: 2, stamp_is_wrong: false
 iec 1=81 27=02 => dbc: 2, stamp_is_wrong: true
@@ -77,7 +77,7 @@ iec 1=81 27=0a 29=04 => fdf: 4, dbc: 10, stamp_is_wrong: true
 iec 1=81 27=0b 29=04 => fdf: 4, dbc: 11, stamp_is_wrong: false
 iec 1=81 21=08 => count: 0, stamp_is_wrong: false
 iec 1=80 29=ff => fdf: 255, stamp_is_wrong: false
-// H.264 has one where a NAL unit ends.
+// H.264 has a timestamp if a NAL unit ends in the packet.
 h264 1=80 => part: Single, stamp_is_wrong: true
 h264 1=80 28=7c85 => part: First, stamp_is_wrong: false
 ";
@@ -114,7 +114,7 @@ h264 => 1=06 3=fe 18=ff 19=ff 22=c0 23=ff
 h264 28=7c85 => 1=06 3=fe 18=ff 19=ff 22=c0 23=ff 29=20
 crf => 1=04";
 
-/// The bits of the byte at this offset with which, turned around, the packet has a reserved bit set.
+/// The bits of the byte at this offset that each set a reserved bit when they are inverted.
 fn reserved_bits(packet: &mut [u8], at: usize) -> u8 {
     let mut bits = 0u8;
     for bit in [0x80u8, 0x40, 0x20, 0x10, 8, 4, 2, 1] {
@@ -150,7 +150,7 @@ fn a_reserved_bit_is_free_and_told(rt: HostRuntime) -> Result<(), Fail> {
     Ok(())
 }
 
-/// The stream of a packet of each format, and of one that is not read.
+/// The stream of a packet of each format that is read, and of one that is not.
 const STREAMS: &str = "\
 aaf 1=89 2=07 => Some(PacketStream { subtype: 2, id: 144115188075921409, sv: true, seq: 7, mr: true })
 iec 1=09 => Some(PacketStream { subtype: 0, id: 144115188075921409, sv: false, seq: 0, mr: true })

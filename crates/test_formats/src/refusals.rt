@@ -19,7 +19,7 @@ fn answer(alloc: Global, packet: &[u8]) -> Result<String, Fail> {
     }
 }
 
-/// Packets on both sides of each row's edge: the first and the last value that is refused, and the nearest that are read.
+/// Packets on both sides of each rule's limit: the first and the last value that is refused, and the nearest that are read.
 const REFUSALS: &str = "\
 01 => read
  => subtype at 0 short
@@ -159,15 +159,15 @@ fn the_first_row_that_holds_refuses(rt: HostRuntime) -> Result<(), Fail> {
     Ok(())
 }
 
-/// The fields of the stream header, each from the first length at which it is cut off.
+/// The fields of the stream header, each with the first length at which it is cut off.
 const STREAM_HEADER: &str =
     "0: subtype at 0 short, 1: version at 1 short, 2: sequence_num at 2 short, 3: tu at 3 short, 4: stream_id at 4 short, 12: avtp_timestamp at 12 short, 16: format_data at 16 short, 20: stream_data_length at 20 short, 22: format_flags at 22 short, 24: stream_data_length at 20, ";
 
-/// Those of the header of a clock reference packet.
+/// The fields of the header of a CRF packet, each with the first length at which it is cut off.
 const CRF_HEADER: &str =
     "0: subtype at 0 short, 1: version at 1 short, 2: sequence_num at 2 short, 3: crf_type at 3 short, 4: stream_id at 4 short, 12: base_frequency at 12 short, 16: crf_data_length at 16 short, 18: timestamp_interval at 18 short, 20: crf_data_length at 16, ";
 
-/// What is answered of a packet that is cut off, from each length on at which it is something else.
+/// The answer to a packet that is cut off, for each length at which the answer changes.
 fn answers_when_cut(alloc: Global, packet: &[u8]) -> Result<String, Fail> {
     let mut all = String::new(alloc);
     let mut last = String::new(alloc);

@@ -4,7 +4,7 @@ use cvf_format::{next_unit, split_annex_b};
 use std::test::Fail;
 use vectors_avtp::{bytes_of, row_of};
 
-/// Byte streams, and the places of their units: of the first byte, and after the last one.
+/// Byte streams, and for each of their units the position of its first byte and the one after its last.
 const STREAMS: &str = "\
  => []
 01 => []

@@ -20,11 +20,11 @@ pub struct Captured {
     /// When it was captured, in nanoseconds.
     pub arrival: u64,
     pub seq: u8,
-    /// Its timestamp, of which a stream's packet has the last 32 bits; `None` where it is not valid.
+    /// Its timestamp, `None` if it is not valid. A packet of a stream has the last 32 bits of it.
     pub stamp: Option<u64>,
     /// Bytes of the packet that are changed, each at its offset.
     pub changes: &'static [(usize, u8)],
-    /// How many bytes of the frame are captured at most, and how many zero bytes after them.
+    /// How many bytes of the frame are captured at most, and how many zero bytes follow them.
     pub len: usize,
     pub zeros: usize,
 }

@@ -1,4 +1,4 @@
-//! Packets beside their media clock.
+//! Packets with their media clock.
 
 use crate::captures::{AUDIO, Captured, Format};
 use crate::hearing::{ROW, Row, check_rows, plan_of, seen_of};
@@ -51,7 +51,7 @@ fn packets_are_judged_once_the_look_ahead_is_known(rt: HostRuntime) -> Result<()
     check_rows(&rt, rt.alloc(), &ROWS)
 }
 
-/// Bytes of a packet of the clock that are changed so that it gives no points, and whether it is of the clock all the same:
+/// Bytes of a clock packet that are changed so that it has no valid timestamp, and whether it still belongs to the clock:
 /// another version, uncertain times, another type, no interval; no valid id, and another one.
 const POINTLESS: [(&[(usize, u8)], bool); 6] = [
     (&[(1, 0x90)], true),
@@ -62,7 +62,7 @@ const POINTLESS: [(&[(usize, u8)], bool); 6] = [
     (&[(11, 0x03)], false),
 ];
 
-/// Such a packet of the clock counts as one that is looked ahead to, and leaves the points around it joined.
+/// Such a packet of the clock counts for the look-ahead, and the timestamps before and after it stay joined.
 #[test]
 fn a_clock_packet_without_points_is_waited_for(rt: HostRuntime) -> Result<(), Fail> {
     for row in &POINTLESS {

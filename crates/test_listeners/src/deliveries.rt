@@ -1,9 +1,9 @@
-//! Deliveries over a bad network, that were worked out by hand and by another program.
+//! Deliveries over a bad network, worked out by hand and by another program.
 
 use soak_run::{Noise, soak_deliveries};
 use std::test::Fail;
 
-/// The first numbers that are drawn from a seed, which is taken modulo 2^31.
+/// The first numbers that are drawn from a seed, which counts modulo 2^31.
 const DRAWS: [(u64, &[u32]); 3] = [
     (1, &[16_838, 5_758]),
     (2_147_483_649, &[16_838, 5_758]),
@@ -20,7 +20,8 @@ fn numbers_are_drawn_from_a_seed(rt: HostRuntime) {
     }
 }
 
-/// Of so many packets: how many copies are delivered, and from a place on the arrivals and the packets of some.
+/// The number of packets, the number of copies that are delivered, a place among these, and the arrivals and packets from there
+/// on.
 const ROWS: [(u32, usize, usize, &[(i64, u64)]); 6] = [
     (0, 0, 0, &[]),
     (1, 1, 0, &[(1_002_480_000, 0)]),
@@ -43,7 +44,7 @@ const ROWS: [(u32, usize, usize, &[(i64, u64)]); 6] = [
             (1_002_995_000, 7),
         ],
     ),
-    // copies that arrive together stand by their packets' numbers
+    // copies that arrive together are in the order of their packets' numbers
     (25, 22, 8, &[(1_002_440_000, 0), (1_002_440_000, 16)]),
     (1_000, 1_002, 1_001, &[(1_126_485_000, 993)]),
 ];

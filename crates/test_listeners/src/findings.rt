@@ -3,7 +3,7 @@
 use sequence_track::{Findings, Seen, Tracker};
 use std::test::Fail;
 
-/// A packet in which nothing is wrong by itself.
+/// A packet with no finding of its own.
 const PLAIN: Seen = Seen {
     id: 0x0200_0000_0001_0001,
     subtype: 0x02,
@@ -28,10 +28,10 @@ const MOST: u64 = 1024;
 /// the hold that are found.
 type Noted = (u8, bool, bool, Option<u8>, Option<u32>);
 
-/// Streams of their own, each with its packets in order.
+/// Separate streams, each with its packets in order.
 const STREAMS: [&[Noted]; 4] = [
-    // Each finding alone, and all together. The first change of the restart bit ends a value that came by no change; the next
-    // value stands for four packets, and the one after it for one.
+    // Each finding alone, and all together. The first change of the restart bit ends a value that did not begin with a change;
+    // the next value lasts for four packets, and the one after it for one.
     &[
         (0, false, false, None, None),
         (1, true, false, None, None),
@@ -53,7 +53,7 @@ const STREAMS: [&[Noted]; 4] = [
         (1, false, false, Some(130), None),
         (2, false, false, None, None),
     ],
-    // A restart that stands for seven packets.
+    // A restart bit that is kept for seven packets.
     &[
         (0, false, false, None, None),
         (1, true, false, None, None),
@@ -65,7 +65,7 @@ const STREAMS: [&[Noted]; 4] = [
         (7, true, false, None, None),
         (8, false, false, None, Some(7)),
     ],
-    // One that stands for eight.
+    // A restart bit that is kept for eight packets.
     &[
         (0, false, false, None, None),
         (1, true, false, None, None),
@@ -106,8 +106,8 @@ fn each_packet_has_the_findings_of_its_stream(rt: HostRuntime) -> Result<(), Fai
     Ok(())
 }
 
-/// Two streams have each id: their subtypes tell them apart. The 1,025th stream is not tracked, in any of its packets; those
-/// that are tracked stay so.
+/// Two streams have each id, with different subtypes. No packet of the 1,025th stream is tracked; the streams before it stay
+/// tracked.
 #[test]
 fn the_first_1024_subtypes_with_ids_are_tracked(rt: HostRuntime) -> Result<(), Fail> {
     let mut tracker = Tracker::begin(rt.alloc())?;

@@ -17,13 +17,13 @@ pub struct Row {
     pub name: &'static str,
     pub buffer: u32,
     pub room: u32,
-    /// How far a listener with the clock looks ahead; `None` listens without the clock.
+    /// How far a listener with a clock looks ahead; `None` listens without a clock.
     pub look: Option<u32>,
     pub captured: &'static [Captured],
     pub seen: &'static str,
 }
 
-/// A listener without the clock, and with room for all.
+/// A listener without a clock, and with room for everything.
 pub const ROW: Row = Row {
     name: "",
     buffer: 4_096,
@@ -61,7 +61,7 @@ pub fn heard(alloc: Global, plan: &ListenPlan, bytes: &[u8]) -> Result<Heard, Fa
     Ok(whole(alloc, plan, bytes)?)
 }
 
-/// An item's line: its frame's and its packet's number; and the first instant of what is presented, or why nothing is.
+/// An item's line: the numbers of its frame and of its packet; and the first instant if it is presented, or else the reason.
 pub fn line_of(alloc: Global, shown: &Shown) -> Result<String, NoMemory> {
     match shown {
         Shown::Present(batch) => {
@@ -85,7 +85,7 @@ pub fn seen_of(alloc: Global, plan: &ListenPlan, captured: &[Captured]) -> Resul
     Ok(text)
 }
 
-/// Of each row's packets its list is seen.
+/// Each row's packets are shown as the row states.
 pub fn check_rows(rt: &impl Abort, alloc: Global, rows: &[Row]) -> Result<(), Fail> {
     for row in rows {
         let plan = plan_of(row.buffer, row.room, row.look);

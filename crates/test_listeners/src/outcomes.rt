@@ -3,7 +3,7 @@
 use soak_run::soak;
 use std::test::Fail;
 
-/// A number of packets; and what becomes of their deliveries: how many there are, are presented, late, repeated, without a
+/// A number of packets; and of their deliveries, how many there are, and how many are presented, late, repeated, without a
 /// timestamp, and without room.
 type Row = (u32, [u64; 6]);
 

@@ -95,7 +95,7 @@ fn packets_come_in_order_once_and_within_the_buffer(rt: HostRuntime) -> Result<(
 }
 
 /// Bytes of a packet that are changed, and how many bytes of its frame are captured; and why the packet is flagged, or nothing
-/// where it belongs to no stream that is heard. A packet begins at byte 18 of its frame.
+/// if it does not belong to the stream. A packet begins at byte 18 of its frame.
 const CHANGED: [(&[(usize, u8)], usize, &str); 24] = [
     (&[(3, 0x01)], 66, "1/0 Uncertain, "),
     (&[(21, 0)], 66, "1/0 Empty, "),
@@ -113,19 +113,19 @@ const CHANGED: [(&[(usize, u8)], usize, &str); 24] = [
     (&[], 38, "1/0 Malformed(StreamDataLength), "),
     (&[], 40, "1/0 Malformed(FormatFlags), "),
     (&[], 65, "1/0 Malformed(StreamDataLength), "),
-    // no valid stream id, another one, and other subtypes
+    // no valid stream ID, another one, and other subtypes
     (&[(1, 0x01)], 66, ""),
     (&[(11, 0x02)], 66, ""),
     (&[(0, 0x05)], 66, ""),
     (&[(0, 0x04)], 66, ""),
-    // less than the first 12 bytes of a packet, or than the header of a frame
+    // fewer than the first 12 bytes of a packet, or than the header of a frame
     (&[], 29, ""),
     (&[], 18, ""),
     (&[], 17, ""),
     (&[], 0, ""),
 ];
 
-/// The packet after a changed one is presented whatever becomes of that.
+/// The packet after a changed one is presented, whatever happens to the changed one.
 #[test]
 fn a_changed_packet_is_flagged_or_passed(rt: HostRuntime) -> Result<(), Fail> {
     let plan = plan_of(4_096, 67_108_864, None);

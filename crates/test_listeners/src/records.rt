@@ -83,8 +83,8 @@ fn a_record_is_counted_whatever_it_holds(rt: HostRuntime) -> Result<(), Fail> {
     Ok(())
 }
 
-/// What is heard of a capture that comes in pieces, up to a length and beyond it: what is shown first, the counts, and the fault of
-/// the record after the first, as it is fed and at the end.
+/// What is heard of a capture that comes in pieces, up to a length and after it: the first item that is shown, the counts, and
+/// the fault of the record after the first, both when it is fed and at the end.
 fn heard_in_pieces(
     alloc: Global,
     bytes: &[u8],
@@ -113,7 +113,7 @@ fn heard_in_pieces(
     ))
 }
 
-/// The first vector, and the header of a record that is longer than any.
+/// The first vector, and the header of a record that exceeds the longest length.
 #[test]
 fn a_capture_may_be_cut_anywhere(rt: HostRuntime) -> Result<(), Fail> {
     let longer = changed(vector(rt.alloc(), 1)?, &[], 106, 16)?;

@@ -19,14 +19,14 @@ const MIDDLE: Captured = captured!(SINGLE, seq: 1, changes: &[(28, 0x7c), (29, 0
 
 const LAST: Captured = captured!(SINGLE, seq: 2, changes: &[(28, 0x7c), (29, 0x45), (31, 3)]);
 
-/// The unit of these three.
+/// The unit that these three fragments make.
 const UNIT: [u8; 7] = [0x65, 0, 1, 0, 2, 0, 3];
 
 const FIRST_UNSTAMPED: Captured = captured!(FIRST, stamp: None);
 
 const MIDDLE_UNSTAMPED: Captured = captured!(MIDDLE, stamp: None);
 
-/// All four fragments are flagged where the middle one comes twice.
+/// All four fragments are flagged if the middle one comes twice.
 const ALL_BROKEN: &str = "1/0 Broken, 2/1 Broken, 3/1 Broken, 4/2 Broken";
 
 const ROWS: [Row; 17] = [
@@ -151,7 +151,7 @@ fn fragments_beside_each_other_make_a_unit(rt: HostRuntime) -> Result<(), Fail> 
     Ok(())
 }
 
-/// The bytes of the only item, where that is presented.
+/// The bytes of the only item, if it is presented.
 fn bytes_of(heard: &Heard) -> Option<&[u8]> {
     match heard.shown.as_slice() {
         [Shown::Present(batch)] => Some(batch.bytes.as_slice()),
@@ -159,7 +159,7 @@ fn bytes_of(heard: &Heard) -> Option<&[u8]> {
     }
 }
 
-/// Fragments with 65,529 bytes of a unit of zero bytes, and the last ones with 447 and 448.
+/// Fragments with 65,529 zero bytes of a unit, and last fragments with 447 and 448 bytes.
 const LONG_FIRST: Captured =
     captured!(SINGLE, changes: &[(20, 0xff), (21, 0xff), (28, 0x7c), (29, 0x85)], len: 48, zeros: 65_529);
 
@@ -172,14 +172,14 @@ const LONG_LAST: Captured =
 const LONGER_LAST: Captured =
     captured!(LONG_LAST, changes: &[(20, 0x01), (21, 0xc6), (28, 0x7c), (29, 0x45)], zeros: 448);
 
-/// The first, the middle and the last fragments of a unit, how many middle ones there are, how many bytes are presented, and how
-/// many fragments are flagged as too long.
+/// The first, the middle and the last fragments of a unit, how many middle ones there are, how many bytes are presented, and
+/// how many fragments are flagged because the unit is too long.
 type Long = ([Captured; 3], u16, Option<usize>, usize);
 
 const LONG: [Long; 3] = [
     ([LONG_FIRST, LONG_MIDDLE, LONG_LAST], 63, Some(4_194_304), 0),
     ([LONG_FIRST, LONG_MIDDLE, LONGER_LAST], 63, None, 65),
-    // the 4,098th fragment goes on with none
+    // the 4,098th fragment continues no unit
     ([FIRST, MIDDLE, MIDDLE], 4_096, None, 4_097),
 ];
 

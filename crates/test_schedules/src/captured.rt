@@ -12,15 +12,15 @@ use std::alloc::Global;
 
 #[derive(Clone, Copy)]
 pub enum Captured {
-    /// A packet of a stream of 48 kHz that stamps each: its sequence number, timestamp and arrival.
+    /// A packet of a 48 kHz stream that stamps each packet: its sequence number, timestamp and arrival.
     Audio(u8, u32, u64),
-    /// The same at 44.1 kHz.
+    /// A packet of a 44.1 kHz stream that stamps each packet: its sequence number, timestamp and arrival.
     Cd(u8, u32, u64),
-    /// Six data blocks: the sequence number, the count of the first, the timestamp and the arrival.
+    /// Six data blocks: the sequence number, the count of the first block, the timestamp and the arrival.
     Blocks(u8, u8, Option<u32>, u64),
-    /// The packet of this number of a sparse stream.
+    /// The packet with this number of a sparse stream.
     Sparse(u16),
-    /// The same of a stream that restarts after each ten packets, 1 ms later.
+    /// The packet with this number of a sparse stream that restarts after every ten packets, 1 ms later.
     Restarted(u16),
     /// A packet of the clock.
     Clock(Point),
@@ -38,7 +38,7 @@ pub struct Point {
     pub arrival: u64,
 }
 
-/// How a stream stamps its packets: each, each eighth, or those with a data block whose count is a multiple of 8.
+/// How a stream stamps its packets: each one, every eighth, or those with a data block whose count is a multiple of 8.
 #[derive(Clone, Copy)]
 enum Form {
     Each,
@@ -176,7 +176,7 @@ fn entry(alloc: Global, frame: u64, captured: Captured) -> Result<Entry, NoMemor
     packet(alloc, frame, sent)
 }
 
-/// The list of what was captured, in frames from 1 on.
+/// The captured entries, in frames numbered from 1.
 pub fn entries_of(alloc: Global, rows: &[Captured]) -> Result<Vec<Entry>, NoMemory>
     ensures { IfOk result (λ v. All IsEntry v.items) }
 {

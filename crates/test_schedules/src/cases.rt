@@ -1,4 +1,4 @@
-//! A list that is captured, and what is shown of it.
+//! A captured list, and what is shown of it.
 
 ghost use Rattle.std.specs.Prelude.{IsTrue};
 ghost use Rattle.sample_schedule.specs.Limits.{IsPlan};
@@ -18,7 +18,7 @@ pub const PLAN: SchedulePlan = SchedulePlan {
     shift: 0,
 };
 
-/// The samples of 48 kHz, from the first of them on.
+/// When each of six samples of 48 kHz is due, counted from the first.
 pub const STEPS: [i64; 6] = [0, 20_833, 41_666, 62_500, 83_333, 104_166];
 
 /// What is shown of a frame.
@@ -26,7 +26,7 @@ pub const STEPS: [i64; 6] = [0, 20_833, 41_666, 62_500, 83_333, 104_166];
 pub enum Seen {
     /// It is presented from this instant on, and its samples are at the steps of the case.
     At(u64, i64),
-    /// It is presented, but this sample is at an instant that is none of these.
+    /// It is presented, but this sample is at an instant that is not one of the steps.
     Astray(u64, u32, i64),
     Flag(u64, Reason),
 }
@@ -40,7 +40,7 @@ pub struct Case {
     pub shown: &'static [Seen],
 }
 
-/// Whether a listener may be told so.
+/// Whether a listener may be given this plan.
 fn is_plan(plan: &SchedulePlan) -> bool
     ensures { IsTrue result → IsPlan plan.now }
 {

@@ -1,4 +1,4 @@
-//! A stream beside its clock.
+//! A stream with its clock.
 
 use crate::captured::Captured::{Audio, Clock};
 use crate::captured::{Captured, Point};
@@ -25,7 +25,7 @@ const ONE: Captured = Audio(0, 1_004_000_000, 1_002_000_000);
 
 const TWO: Captured = Audio(1, 1_004_125_000, 1_002_125_000);
 
-/// The second point comes behind the two packets that it covers.
+/// The second timestamp comes after the two packets that it covers.
 const LATER: [Captured; 4] = [Clock(FIRST), ONE, TWO, Clock(SECOND)];
 
 const NONE: [Seen; 2] = [Flag(2, Reason::NoClock), Flag(3, Reason::NoClock)];

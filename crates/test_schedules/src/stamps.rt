@@ -14,7 +14,7 @@ const ONE: Case = Case {
     shown: &[At(1, 1_002_000_000)],
 };
 
-/// Three packets in time.
+/// Three packets on time.
 const THREE: [Captured; 3] = [
     Audio(0, 1_002_000_000, 1_000_000_000),
     Audio(1, 1_002_125_000, 1_000_125_000),
@@ -106,7 +106,7 @@ fn packets_are_shown_by_their_timestamps(rt: HostRuntime) {
     }
 }
 
-/// Data blocks with counts from 18 on, two behind the stamped block 16.
+/// Data blocks with counts from 18 on, two after the stamped block 16.
 const BEHIND: Captured = Blocks(1, 18, None, 4_998_041_666);
 
 const COUNTED: [Case; 7] = [

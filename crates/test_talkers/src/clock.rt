@@ -1,4 +1,4 @@
-//! Packets of a media clock beside those of its stream.
+//! Packets of a media clock and of its stream.
 
 use crate::frames::{Row, check_rows};
 use crate::plans::Planned;
@@ -52,8 +52,8 @@ const ROWS: [Row; 5] = [
             (30, "1002875000 15 04880f01 1004875000 "),
         ],
     },
-    // A hundred events take 2,267,573 ns or one more. Event 150 is stamped with half of the first hundred's time behind event
-    // 100, a nanosecond before its nominal instant.
+    // A hundred events take 2,267,573 ns, or one nanosecond more. The stamp of event 150 is half the first hundred's time after
+    // event 100, which is a nanosecond before its nominal instant.
     Row {
         name: "packets are stamped on the clock",
         plan: Planned::OnClock,

@@ -5,11 +5,11 @@ use crate::plans::Planned;
 use std::test::Fail;
 use talker::{TalkFault, Talker};
 
-/// A plan; the beginning of an input, and how many units of type 6 follow; and its fault.
+/// A plan; the first bytes of an input, and how many units of type 6 follow; and its fault.
 type Row = (Planned, &'static [u8], usize, Option<TalkFault>);
 
 const ROWS: [Row; 16] = [
-    // sample frames and data blocks that are not whole
+    // incomplete sample frames and data blocks
     (Planned::Pcm, &[1, 2, 3], 0, Some(TalkFault::Frames)),
     (Planned::Pcm, &[1, 2, 3, 4], 0, None),
     (Planned::Blocks, &[1, 2, 3, 4], 0, Some(TalkFault::Frames)),
@@ -39,7 +39,7 @@ const ROWS: [Row; 16] = [
     ),
     (Planned::Video, &[0, 0, 1, 0xf7], 0, None),
     (Planned::Video, &[0, 0, 1, 0, 0, 1], 0, None),
-    // An access unit has at most 255 packets; after a slice another one begins.
+    // An access unit has at most 255 packets. A unit after a slice begins another access unit.
     (Planned::Video, &[], 255, None),
     (Planned::Video, &[], 256, Some(TalkFault::Packets)),
     (Planned::Video, &[0, 0, 1, 0x65], 255, None),

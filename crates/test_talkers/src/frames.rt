@@ -1,4 +1,4 @@
-//! All frames of a plan, and what is wanted of them.
+//! All frames of a plan, and the frames that are expected.
 
 ghost use Rattle.talk_plan.specs.Plan.{IsPlan};
 
@@ -9,17 +9,17 @@ use std::process::Abort;
 use std::test::Fail;
 use talker::{Sent, TalkPlan, Talker};
 
-/// An input: bytes, and then others so many times.
+/// An input: some bytes, and then other bytes, repeated.
 pub type Input = (&'static [u8], &'static [u8], usize);
 
-/// What is sent of a plan and an input.
+/// What is sent for a plan and an input.
 pub struct Row {
     pub name: &'static str,
     pub plan: Planned,
     pub input: Input,
-    /// How many packets the stream and its clock have, and how many bytes the capture of all frames.
+    /// How many packets the stream and its clock have, and the size of the capture of all frames.
     pub sums: (u64, u64, usize),
-    /// Places in the order in which frames are sent, and the beginning of the frame's line.
+    /// Places in the order of sending, and how the line of the frame there begins.
     pub frames: &'static [(usize, &'static str)],
 }
 
@@ -77,7 +77,7 @@ fn is_same(sent: Sent<'_>, frame: &Frame) -> bool {
         && sent.bytes == frame.bytes.as_slice()
 }
 
-/// A talker writes just these frames in turn, and gives those of the stream by their numbers too.
+/// A talker writes exactly these frames in turn, and also returns those of the stream by their numbers.
 fn check_written(
     rt: &impl Abort,
     name: &str,
@@ -109,7 +109,7 @@ fn check_written(
     Ok(())
 }
 
-/// The number in four bytes.
+/// The 32-bit number in four bytes.
 fn number_at(bytes: &[u8], at: usize) -> u32 {
     match bytes.get(at..) {
         Some([b0, b1, b2, b3, ..]) => u32::from_be_bytes([*b0, *b1, *b2, *b3]),
@@ -117,8 +117,8 @@ fn number_at(bytes: &[u8], at: usize) -> u32 {
     }
 }
 
-/// A frame's line: its arrival and its packet's number; of the packet the first four bytes, the last 32 bits of its first
-/// timestamp, and what stands behind the common header.
+/// A frame's line: its arrival and its packet's number; the first four bytes of the packet, the last 32 bits of its first
+/// timestamp, and what follows the common header.
 fn line_of(alloc: Global, frame: &Frame) -> Result<String, NoMemory> {
     let head = number_at(&frame.bytes, 18);
     let stamp = number_at(&frame.bytes, if frame.clock { 42 } else { 30 });
@@ -150,7 +150,7 @@ fn check_row(rt: &impl Abort, alloc: Global, row: &Row) -> Result<(), Fail> {
     check_written(rt, name, begin(alloc, plan, &input)?, &frames)
 }
 
-/// What is sent of each row's plan is as wanted.
+/// The frames of each row's plan are as expected.
 pub fn check_rows(rt: &impl Abort, alloc: Global, rows: &[Row]) -> Result<(), Fail> {
     for row in rows {
         check_row(rt, alloc, row)?;

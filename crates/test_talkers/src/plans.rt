@@ -1,4 +1,4 @@
-//! The plans that are talked.
+//! The plans of the tests.
 
 ghost use Rattle.talk_plan.specs.Plan.{IsPlan};
 
@@ -28,19 +28,19 @@ pub enum Planned {
     Blocks192000By6,
     Blocks192000By7,
     Blocks192000By32,
-    /// A timestamp of the clock each 2 ms.
+    /// A CRF timestamp every 2 ms.
     Clocked,
-    /// The same with a clock of 44.1 kHz, each 147 events.
+    /// A CRF timestamp every 147 events of a clock of 44.1 kHz.
     Clocked44100,
-    /// A packet of the clock beside each second packet of the stream.
+    /// A CRF packet with every second packet of the stream.
     Beside,
-    /// A restart after each eight packets, and a packet of the clock beside each.
+    /// A restart after every eight packets, and a CRF packet with each of these.
     RestartingClock,
-    /// A stream and its clock at 44.1 kHz, with a timestamp each 100 events.
+    /// A stream and its clock at 44.1 kHz, with a CRF timestamp every 100 events.
     OnClock,
     /// 30 access units of H.264 a second.
     Video,
-    /// Units are stamped on their last fragment alone.
+    /// Units that are stamped on their last fragment alone.
     LastStamp,
     /// One access unit a second.
     Slow,

@@ -1,4 +1,4 @@
-//! The test vectors are what is sent.
+//! The talker sends the test vectors.
 
 use crate::frames::{begin, frames_of};
 use crate::plans::Planned;
@@ -6,7 +6,7 @@ use std::alloc::Global;
 use std::test::Fail;
 use vectors_avtp::vector;
 
-/// The first frame that is sent, from a byte on.
+/// The first frame that is sent, from byte `from` on.
 fn first_frame(
     alloc: Global,
     planned: Planned,

@@ -7,7 +7,7 @@ use std::test::Fail;
 /// A unit of 3,000 bytes.
 const LONG: Input = (&[0, 0, 0, 1, 0x65], &[0xff], 2_999);
 
-/// A slice of one byte has no second one that could tell the first slice of a picture.
+/// A slice of one byte has no second byte, which would tell the first slice of a picture.
 const SHORT: Input = (&[0, 0, 1, 0x41, 0, 0, 1, 0x41, 0, 0, 1, 0x67], &[], 0);
 
 const ROWS: [Row; 3] = [
@@ -74,17 +74,17 @@ fn units_are_sent_whole_or_in_fragments(rt: HostRuntime) -> Result<(), Fail> {
 
 /// Units of two bytes, and the number of the access unit of each, from 1.
 const ACCESS: [(&[u16], &[i64]); 8] = [
-    // parameter sets and a picture, and then the next picture
+    // parameter sets and a picture, then the next picture
     (&[0x6742, 0x68ce, 0x6588, 0x419a], &[1, 1, 1, 2]),
     // two slices of each picture
     (&[0x6588, 0x6508, 0x419a, 0x411a], &[1, 1, 2, 2]),
-    // what stands before a picture begins its access unit
+    // units before a picture belong to its access unit
     (
         &[0x419a, 0x0605, 0x419a, 0x0910, 0x6742, 0x6588],
         &[1, 2, 2, 3, 3, 3],
     ),
     (&[0x419a, 0x0e80, 0x419a, 0x1280, 0x419a], &[1, 2, 2, 3, 3]),
-    // other units stand after a picture
+    // units that may follow a picture in its access unit
     (
         &[0x419a, 0x0a80, 0x0b80, 0x0cff, 0x0d80, 0x1380],
         &[1, 1, 1, 1, 1, 1],
@@ -93,7 +93,7 @@ const ACCESS: [(&[u16], &[i64]); 8] = [
     (&[0x4280, 0x4380, 0x4480, 0x4280, 0x4380], &[1, 1, 1, 2, 2]),
     // the first slice of a picture, in any order of types
     (&[0x419a, 0x6588, 0x4288], &[1, 2, 3]),
-    // nothing begins before a slice came
+    // no access unit begins before the first slice
     (&[0x0605, 0x0910, 0x0e80, 0x6588, 0x0910], &[1, 1, 1, 1, 2]),
 ];
 

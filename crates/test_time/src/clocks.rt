@@ -8,7 +8,7 @@ use clock_track::{Clock, ClockAnswer, ClockRow, line_over};
 use std::alloc::Global;
 use time_unfold::Line;
 
-/// The events of a clock of 48 kHz, from the later one of two points on, and the number of one of them.
+/// The event with an offset of a 48 kHz clock, counted from the later one of two timestamps.
 const fn event(offset: u64) -> ClockAnswer {
     ClockAnswer::OnLine {
         line: Line {
@@ -20,7 +20,7 @@ const fn event(offset: u64) -> ClockAnswer {
     }
 }
 
-/// The frequency of a clock, and what it answers for a sample of a stream of 48 kHz that is stamped with an instant.
+/// The frequency of a clock, and its answer for a sample of a 48 kHz stream that is stamped with an instant.
 #[derive(Clone, Copy)]
 struct Stamped {
     base_frequency: u32,
@@ -36,7 +36,7 @@ const STAMPED: Stamped = Stamped {
     answer: ClockAnswer::NoClock,
 };
 
-/// A clock packet of one point, 96 events after the one before. It gives none if its frequency or pull has no meaning.
+/// A clock packet with one timestamp, 96 events after the one before. It has none if its frequency or pull has no meaning.
 fn packet(alloc: Global, seq: u8, row: &Stamped, timestamp: u64) -> Result<ClockRow, NoMemory>
     ensures { IfOk result IsNotable }
 {
@@ -53,7 +53,7 @@ fn packet(alloc: Global, seq: u8, row: &Stamped, timestamp: u64) -> Result<Clock
     })
 }
 
-/// What the clock answers that keeps the two points, and the list of both.
+/// The answer of the clock that keeps the two timestamps, and that of the list of both.
 fn answers(alloc: Global, row: &Stamped) -> Result<[ClockAnswer; 2], NoMemory> {
     let first = packet(alloc, 255, row, 1_002_000_000)?;
     let second = packet(alloc, 0, row, 1_004_000_000)?;

@@ -9,7 +9,7 @@ struct Unfolded {
     instant: i64,
 }
 
-/// The last nanosecond before the half circle's end, and the first behind it; across a wrap; before the epoch.
+/// The last nanosecond before the half circle's end, and the first after it; across a wrap; before the epoch.
 const UNFOLDED: [Unfolded; 4] = [
     Unfolded {
         timestamp: 3_557_549_055,

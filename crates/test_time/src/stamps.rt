@@ -1,4 +1,4 @@
-//! The stamps from which packets are counted.
+//! The stamps that packets are counted from.
 
 use avtp_base::NoMemory;
 use std::alloc::Global;
@@ -44,8 +44,8 @@ struct Search {
     found: Option<Stamp>,
 }
 
-/// 60 packets' time is 7,500,000 ns, on either side of the arrivals that fit: 1,000,125,000, and 970,125,000 by the first
-/// stamp, which is kept no longer.
+/// A stamp fits arrivals up to 60 packets' time, 7,500,000 ns, earlier or later than expected: around 1,000,125,000, and around
+/// 970,125,000 for the first stamp, which is no longer kept.
 const SEARCHES: [Search; 6] = [
     Search {
         arrival: 1_000_125_000,
@@ -73,7 +73,7 @@ const SEARCHES: [Search; 6] = [
     },
 ];
 
-/// What the second packet of a sparse stream of 48 kHz finds among two stamps that are kept, and in the list of all.
+/// What the second packet of a sparse 48 kHz stream finds among two kept stamps, and in the list of all.
 fn found(alloc: Global, arrival: u32) -> Result<[Option<Stamp>; 2], NoMemory> {
     let want = Want {
         seq: 0,

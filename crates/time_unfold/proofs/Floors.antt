@@ -44,7 +44,7 @@ floor_below z d some = let e = euclid z d some in let r = rest_natural z d in om
 pub floor_above : (z : ℤ) (d : ℕ) → 0 < d → z <ℤ ((int_div_euclid z (pos d) +ℤ pos 1) *ℤ pos d)
 floor_above z d some = let e = euclid z d some in let r = rest_below z d some in let m = one_more (int_div_euclid z (pos d)) d in omega (arith, ints)
 
--- only the quotient that rounds down lies so
+-- only the quotient that rounds down is within these bounds
 pub floor_only : (z q r : ℤ) (d : ℕ) → (q *ℤ pos d) ≤ℤ z → z <ℤ ((q +ℤ pos 1) *ℤ pos d) → (r *ℤ pos d) ≤ℤ z → z <ℤ ((r +ℤ pos 1) *ℤ pos d) → q ≡ r
 floor_only z q r d a b c e =
     by_lt_z q r
@@ -53,7 +53,7 @@ floor_only z q r d a b c e =
     (λ g. let m = times_more (r +ℤ pos 1) q d (omega (arith, ints)) in absurd (omega (arith, ints)))
     (λ g. omega (arith, ints)))
 
--- the remainder is the only one from 0 to the divisor that is left of the number behind a multiple of the divisor
+-- what is left of a number after a multiple of the divisor, from 0 to below the divisor, is its remainder
 pub rest_only : (z q r : ℤ) (d : ℕ) → 0 < d → z ≡ q *ℤ pos d +ℤ r → pos 0 ≤ℤ r → r <ℤ pos d → int_rem_euclid z (pos d) ≡ r
 rest_only z q r d some e natural below =
     let m = one_more q d in

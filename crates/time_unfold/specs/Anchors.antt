@@ -8,7 +8,7 @@ pub record IsRoom (room : ℕ) : Type 0 where
   pub some : 1 ≤ room
   pub most : room ≤ 80
 
--- the stamps that are kept, and for how many there is room
+-- the stamps that are kept, and how many there is room for
 pub record LastStamps : Type 0 where
   pub room : ℕ
   pub stamps : List Stamp

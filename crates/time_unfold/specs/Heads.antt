@@ -1,4 +1,4 @@
--- Which sample of an audio packet its timestamp belongs to, and from which packet one without a timestamp is counted.
+-- Which sample of an audio packet its timestamp belongs to, and which packet a packet without a timestamp is counted from.
 -- Packets have a number: that of a talker's stream, or modulo 256.
 use Rattle.std.specs.Prelude.{ℕ, ◌+◌, ◌-◌, ◌*◌, ◌%◌, ◌==◌, nat_lt, if◌then◌else◌, Option, Some, None}
 use Rattle.std.specs.Int.{div_ceil}
@@ -19,9 +19,9 @@ stamped_block Own = None
 stamped_block Eight = None
 stamped_block (Blocks dbc interval) = Some ((dbc + stamped_index (Blocks dbc interval)) % 256)
 
--- How far before packet n, of `count` samples, the sample lies from which the packet is counted if it has no timestamp.
--- In sparse AAF that is the first of the last packet before it whose number is a multiple of 8. In IEC 61883-6 it is
--- the last block before the packet whose block count is a multiple of the interval, at most 7 packets back.
+-- How far before packet n, of `count` samples, the sample is that the packet is counted from if it has no timestamp. In sparse
+-- AAF it is the first of the last packet before it whose number is a multiple of 8. In IEC 61883-6 it is the last block before
+-- the packet whose block count is a multiple of the interval, at most 7 packets back.
 abbrev pub distance : HeadRule → ℕ → ℕ → Option Distance
 distance Own n count = None
 distance Eight n count =
@@ -31,8 +31,7 @@ distance (Blocks dbc interval) n count =
     if nat_lt 7 (div_ceil (dbc % interval) count) then None else
     Some (record { packets = div_ceil (dbc % interval) count; samples = dbc % interval })
 
--- in IEC 61883-6, the block count, modulo 256, of the block from which a packet without a timestamp is counted; AAF has
--- none
+-- in IEC 61883-6, the block count, modulo 256, of the block that a packet without a timestamp is counted from; AAF has none
 abbrev pub counted_block : HeadRule → Option ℕ
 counted_block Own = None
 counted_block Eight = None

@@ -1,4 +1,4 @@
--- What is asked of a packet's rule, and of a search for a stamp.
+-- The conditions on a packet's rule, and on a search for a stamp.
 use Rattle.std.specs.Prelude.{◌≡◌, ◌≤◌, ◌*◌, ◌^◌, ◌+◌, ◌⊎◌, ⊤, ℕ, pos, neg_ℤ, ◌≤ℤ◌, ◌<ℤ◌}
 use Rattle.time_unfold.specs.declared.head_rule.Distance.{Distance}
 use Rattle.time_unfold.specs.declared.head_rule.HeadRule.{HeadRule}

@@ -3,7 +3,7 @@ use Rattle.std.specs.Prelude.{ℕ, ℤ, pos, ◌+ℤ◌, ◌-ℤ◌, ◌*ℤ◌,
 use Rattle.std.specs.Int.{int_div_euclid}
 use Rattle.time_unfold.specs.declared.line.Line.{Line}
 
--- the greatest whole number that is not above numerator / denominator, for a numerator below 0 too
+-- the greatest whole number that is at most numerator / denominator; the numerator may be negative
 abbrev pub floor_of : ℤ → ℕ → ℤ
 floor_of numerator denominator = int_div_euclid numerator (pos denominator)
 
@@ -11,8 +11,8 @@ floor_of numerator denominator = int_div_euclid numerator (pos denominator)
 abbrev pub instant_at : Line → ℤ → ℤ
 instant_at line k = line.base +ℤ floor_of (k *ℤ pos line.num) line.den
 
--- An instant is that of sample k of a line, said without a division: it is the last whole nanosecond that is not after
--- the sample.
+-- An instant is that of sample k of a line, defined without a division: it is the last whole nanosecond that is not after the
+-- sample.
 pub record IsAt (line : Line) (k instant : ℤ) : Type 0 where
   pub not_after : ((instant -ℤ line.base) *ℤ pos line.den) ≤ℤ (k *ℤ pos line.num)
   pub last : (k *ℤ pos line.num) <ℤ (((instant -ℤ line.base) +ℤ pos 1) *ℤ pos line.den)

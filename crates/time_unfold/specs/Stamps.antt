@@ -21,14 +21,13 @@ same_flag false false = true
 abbrev pub candidate : Want → Stamp → ℤ
 candidate want stamp = instant_at (nominal_line stamp.instant want.rate) (pos want.back)
 
--- The packet's first sample, counted from the stamp, lies within 60 packets' time of the instant at which the packet is
--- expected: its sequence number alone does not distinguish a stamp from the one 256 packets away.
+-- The packet's first sample, counted from the stamp, is within 60 packets' time of the instant at which the packet is expected.
+-- Its sequence number alone does not distinguish a stamp from the one 256 packets away.
 abbrev pub is_near : Want → Stamp → Bool
 is_near want stamp =
     nat_le (unsigned_abs ((want.arrival +ℤ pos want.lead) -ℤ candidate want stamp) * want.rate) (60 * want.count * 1000000000)
 
--- the stamp can be the one that is looked for: sequence number, restart bit, rate and block count are equal, and it is
--- near
+-- the stamp fits what is looked for: sequence number, restart bit, rate and block count are equal, and it is near
 abbrev pub fits : Want → Stamp → Bool
 fits want stamp =
     if stamp.seq == want.seq then
@@ -49,7 +48,7 @@ find_last {T} test (x ∷ xs) = last_or (find_last test xs) (if test x then Some
 abbrev pub last_of : {T : Type 0} → ℕ → List T → List T
 last_of n xs = drop (length xs - n) xs
 
--- the stamp from which the packet is counted: the last one that fits among the last `room` of the list
+-- the stamp that the packet is counted from: the last one that fits among the last `room` of the list
 abbrev pub found : ℕ → Want → List Stamp → Option Stamp
 found room want stamps = find_last (fits want) (last_of room stamps)
 

@@ -1,4 +1,4 @@
-//! The stamps from which the packets of a running stream are counted.
+//! The stamps that the packets of a running stream are counted from.
 
 ghost use Rattle.std.specs.Prelude.{◌≡◌, ◌++◌, ◌∷◌, [], IfOk, IfSome, List};
 ghost use Rattle.time_unfold.specs.declared.stamp.Stamp.{Stamp as StampValue};
@@ -52,8 +52,8 @@ impl Anchors {
         self.stamps.push_back(stamp);
     }
 
-    /// The stamp from which a packet without one is counted: what `head_among` returns for all stamps that were noted.
-    /// `None` exactly if none of the held ones fits. Allocates nothing.
+    /// The stamp that a packet without one is counted from: what `head_among` returns for all stamps that were noted. `None`
+    /// exactly if none of the held ones fits. Allocates nothing.
     pub fn find(&self, want: &Want) -> Option<Stamp>
         requires { IsWant want.now }
         ensures value { (stamps : List StampValue) → KeepsLast self.now stamps → result ≡ found self.now.room want.now stamps }

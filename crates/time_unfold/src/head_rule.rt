@@ -1,17 +1,17 @@
-//! Which sample of a packet its timestamp belongs to, and how far back the one lies from which a packet without a
-//! timestamp is counted.
+//! Which sample of a packet its timestamp belongs to, and how far back the sample is that a packet without a timestamp is
+//! counted from.
 
 ghost use Rattle.std.specs.Prelude.{◌≡◌, ◌≤◌, ◌<◌, ℕ, IfSome};
 ghost use Rattle.time_unfold.specs.Heads.{counted_block as counted_block_of, distance as distance_of, stamped_block as stamped_block_of, stamped_index as stamped_index_of};
 ghost use Rattle.time_unfold.specs.Limits.{IsBehind, IsRule};
 
-/// Each eighth packet of a sparse stream is stamped (IEEE 1722-2016, 7).
+/// Every eighth packet of a sparse stream is stamped (IEEE 1722-2016, 7).
 const SPARSE: u32 = 8;
 
-/// At most how many packets back a stamped sample is looked for.
+/// How many packets back a stamped sample may be.
 const FARTHEST: u32 = 7;
 
-/// Which sample of a packet its timestamp belongs to, and how a packet without one is counted from another.
+/// Which sample of a packet its timestamp belongs to, and how a packet without one is counted from another packet.
 #[derive(Clone, Copy, Debug, PartialEq, Eq)]
 pub enum HeadRule {
     /// AAF: each packet stamps its first sample (IEEE 1722-2016, 7).
@@ -24,16 +24,16 @@ pub enum HeadRule {
     Blocks { dbc: u8, interval: u32 },
 }
 
-/// The stamped sample from which a packet is counted.
+/// The stamped sample that a packet is counted from.
 #[derive(Clone, Copy, Debug, PartialEq, Eq)]
 pub struct Head {
     /// Its instant, in nanoseconds of gPTP.
     pub instant: i64,
-    /// The number of the packet's first sample, counted from it.
+    /// The number of the packet's first sample, counted from the stamped one.
     pub first: i64,
 }
 
-/// How far back the stamped sample is from which a packet is counted.
+/// How far back the stamped sample is that a packet is counted from.
 #[derive(Clone, Copy, Debug, PartialEq, Eq)]
 pub struct Distance {
     /// The number of packets.
@@ -103,8 +103,8 @@ impl HeadRule {
         }
     }
 
-    /// The block count of the block from which a packet without a timestamp is counted (IEC 61883-6); none for AAF. The
-    /// interval is 8, 16 or 32.
+    /// The block count of the block that a packet without a timestamp is counted from (IEC 61883-6); none for AAF. The interval
+    /// is 8, 16 or 32.
     pub fn counted_block(self) -> Option<u8>
         requires { IsRule self }
         ensures { result ≡ counted_block_of self }
@@ -117,11 +117,11 @@ impl HeadRule {
         }
     }
 
-    /// How far back the sample lies from which a packet without a timestamp is counted. In sparse AAF it is the first
-    /// of the last packet before it whose sequence number is a multiple of 8; in IEC 61883-6 it is the last block
-    /// before the packet whose block count is a multiple of the interval. It is None for AAF that isn't sparse, if the
-    /// packet itself has the stamped sample, and if that lies more than 7 packets back. The packet has 1 to 65,535
-    /// samples, and the interval is 8, 16 or 32.
+    /// How far back the sample is that a packet without a timestamp is counted from. In sparse AAF it is the first of the last
+    /// packet before it whose sequence number is a multiple of 8; in IEC 61883-6 it is the last block before the packet whose
+    /// block count is a multiple of the interval. It is `None` for AAF that is not sparse, if the packet itself has the stamped
+    /// sample, and if that sample is more than 7 packets back. The packet has 1 to 65,535 samples, and the interval is 8, 16 or
+    /// 32.
     pub fn distance(self, seq: u8, count: u32) -> Option<Distance>
         requires rule { IsRule self }
         requires some { 1 ≤ count }

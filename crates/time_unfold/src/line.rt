@@ -1,7 +1,7 @@
 //! Evenly spaced samples.
 
-/// Samples at evenly spaced instants: sample 0 is at `base`, in nanoseconds of gPTP, and each further one `num / den`
-/// nanoseconds later.
+/// Samples at evenly spaced instants: sample 0 is at `base`, in nanoseconds of gPTP, and each later one `num / den` nanoseconds
+/// after the one before.
 #[derive(Clone, Copy, Debug, PartialEq, Eq)]
 pub struct Line {
     pub base: i64,

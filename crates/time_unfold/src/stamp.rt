@@ -1,4 +1,4 @@
-//! The stamped packets from which samples are counted, and what a packet without a timestamp looks for among them.
+//! The stamped packets that samples are counted from, and what a packet without a timestamp looks for among them.
 
 /// A packet's timestamp, as an instant.
 #[derive(Clone, Copy, Debug, PartialEq, Eq)]
@@ -7,7 +7,7 @@ pub struct Stamp {
     pub seq: u8,
     /// The media clock restart bit.
     pub mr: bool,
-    /// The block count, modulo 256, of the data block that was stamped (IEC 61883-6); none for AAF.
+    /// The block count, modulo 256, of the stamped data block (IEC 61883-6); none for AAF.
     pub block: Option<u8>,
     /// The nominal rate in Hz.
     pub rate: u32,
@@ -15,23 +15,23 @@ pub struct Stamp {
     pub instant: i64,
 }
 
-/// The stamp that is looked for, from which a packet without one is counted.
+/// The stamp that a packet without one looks for.
 #[derive(Clone, Copy, Debug, PartialEq, Eq)]
 pub struct Want {
-    /// The sequence number that the stamped packet has.
+    /// The sequence number of the stamped packet.
     pub seq: u8,
-    /// The media clock restart bit that it has.
+    /// Its media clock restart bit.
     pub mr: bool,
-    /// The block count that its stamped block has (IEC 61883-6); none for AAF.
+    /// The block count of its stamped block (IEC 61883-6); none for AAF.
     pub block: Option<u8>,
-    /// The nominal rate that it has, in Hz.
+    /// Its nominal rate, in Hz.
     pub rate: u32,
     /// When the packet without a stamp was captured, in nanoseconds of gPTP.
     pub arrival: i64,
     /// How long before its first instant a packet is expected, in nanoseconds.
     pub lead: u32,
-    /// The number of its first sample, counted from the stamped one.
+    /// The number of the packet's first sample, counted from the stamped one.
     pub back: u32,
-    /// The number of its samples.
+    /// The number of the packet's samples.
     pub count: u32,
 }

@@ -10,7 +10,7 @@ const FRAME: usize = 40;
 
 const PACKET: usize = 58;
 
-/// The bytes that a row spells. Each word goes on from those before it:
+/// The bytes that a row spells. Each word continues from those before it:
 ///
 /// - `pcap`, `pcapng`, `frame`, `aaf`, `iec`, `h264` and `crf` add a vector, or the frame or the packet of the first one;
 /// - hex digits add these bytes;

@@ -1,15 +1,15 @@
--- Kept for proofs: what the code's own parts hold and do. No clause of a public call rests on it.
--- The names that a shelf was asked for, in order, of which one in memory keeps those that it finds memory for.
+-- Kept for proofs: what the code's own parts hold and do. No clause of a public call rests on it. The names that a shelf was
+-- asked for, in order. A shelf in memory keeps those that it has memory for.
 use Rattle.std.specs.Prelude.{◌≡◌, ℕ, Bool, true, false, List, [], ◌∷◌, ◌++◌}
 use Rattle.avtp_memory.specs.declared.asked_names.AskedNames.{AskedNames}
 use Rattle.avtp_base.specs.States.{Account}
 use Rattle.avtp_memory.specs.Asked.{names_kept}
 
--- what is kept of them
+-- the account of the names that are kept
 abbrev pub account_of : AskedNames → Account
 account_of asked = record { kept = names_kept asked; all = asked.all }
 
--- a name was appended, or found no memory
+-- a name was appended, or there was no memory for it
 abbrev pub NamePushed : Bool → List (List ℕ) → List (List ℕ) → List ℕ → Type 0
 NamePushed true old new name = new ≡ old ++ name ∷ []
 NamePushed false old new name = new ≡ old

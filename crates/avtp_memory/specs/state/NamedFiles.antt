@@ -5,17 +5,17 @@ use Rattle.std.specs.Global.{Vec, Global}
 use Rattle.avtp_memory.specs.Room.{kept_within, FitsRoom}
 use Rattle.avtp_memory.specs.NamedFiles.{has_name, bytes_under}
 
--- the file has these bytes now, and every other file is as it was
+-- the file has these bytes now, and every other file is unchanged
 pub record SetsFile (old new : List (String Global × Vec ℕ)) (name bytes : List ℕ) : Type 0 where
   pub set : bytes_under new name ≡ Some bytes
   pub others : (other : List ℕ) → other ≢ name → bytes_under new other ≡ bytes_under old other
 
--- the file has gained these bytes at its end, and every other file is as it was
+-- the file has gained these bytes at its end, and every other file is unchanged
 abbrev pub GrowsFile : List (String Global × Vec ℕ) → List (String Global × Vec ℕ) → List ℕ → List ℕ → Type 0
 GrowsFile old new name piece =
     (before : List ℕ) × (bytes_under old name ≡ Some before) × SetsFile old new name (before ++ piece)
 
--- every file is as it was
+-- every file is unchanged
 abbrev pub KeepsNamed : List (String Global × Vec ℕ) → List (String Global × Vec ℕ) → Type 0
 KeepsNamed old new = (name : List ℕ) → bytes_under new name ≡ bytes_under old name
 
@@ -27,7 +27,8 @@ capacity_under entries name = unwrap_or (option_map (λ entry. vec_capacity entr
 abbrev pub KeepsCapacity : List (String Global × Vec ℕ) → List (String Global × Vec ℕ) → Type 0
 KeepsCapacity old new = (name : List ℕ) → capacity_under old name ≤ capacity_under new name
 
--- the file keeps what fits its room of a piece, which is said to be all of it or not, and every other file is as it was
+-- the file keeps as much of a piece as fits its room, the answer says whether that is all of it, and every other file is
+-- unchanged
 pub record KeepsWithin (old new : List (String Global × Vec ℕ)) (name : List ℕ) (room : ℕ) (piece : List ℕ) (fits : Bool) : Type 0 where
   pub before : List ℕ
   pub was : bytes_under old name ≡ Some before

@@ -8,11 +8,11 @@ use Rattle.avtp_files.specs.Entries.{entry_at}
 use Rattle.avtp_memory.specs.NamedFiles.{bytes_under}
 use Rattle.avtp_memory.specs.state.NamedFiles.{capacity_under}
 
--- the same file, n bytes further on
+-- the same file after n more bytes
 abbrev pub moved_on : ℕ → OpenFile → OpenFile
 moved_on n file = record file { place = file.place + n }
 
--- each open file is one of the files
+-- each open file is one of the kept files
 abbrev pub AreNamed : List (String Global × Vec ℕ) → List (Option OpenFile) → Type 0
 AreNamed files entries = (k : ℕ) → ForSome (entry_at entries k) (λ file. IsSome (bytes_under files (string_bytes file.name)))
 

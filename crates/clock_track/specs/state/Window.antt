@@ -25,7 +25,7 @@ IsRoom room = 65528 ≤ vec_capacity room
 abbrev pub HasRoom : Kept → Type 0
 HasRoom kept = IsRoom kept.payload
 
--- there is room for 64 packets, of those that are kept and those that are missing
+-- the packets that are kept and the spare room together make 64
 pub record IsWindow (rows : Buffer Kept) (spare : Vec (Vec ℕ)) : Type 0 where
   pub capacity : rows.capacity ≡ 64
   pub count : length rows.items + vec_len spare ≡ 64

@@ -11,7 +11,7 @@ use Rattle.cvf_format.specs.declared.piece.Piece.TheVariants as variant
 use Rattle.cvf_format.specs.Stretches.{Fragment, Event, held, given_up, reason, piece, goes_on, begins, completes, sequence_numbers, longest_unit, most_fragments}
 use Rattle.cvf_format.specs.Assembly.{Assembly, StandsFor}
 
--- the last of these events was a packet, and the assembler answered so
+-- the last of these events was a packet, and the assembler gave this answer
 pub record IsPushed (a : Assembly) (events : List Event) (pushed : Pushed) : Type 0 where
   pub stands : StandsFor a events
   pub lost : pushed.lost ≡ length (given_up events)
@@ -20,13 +20,13 @@ pub record IsPushed (a : Assembly) (events : List Event) (pushed : Pushed) : Typ
 
 -- ---- the state after a packet
 
--- two instants of which each may be unknown do not differ
+-- two instants are equal, or one of them is unknown
 abbrev pub agree : Option ℤ → Option ℤ → Bool
 agree None b = true
 agree (Some a) None = true
 agree (Some a) (Some b) = int_eq a b
 
--- the packet goes on with what is kept
+-- the packet continues what is kept
 unfoldable pub goes_on_here : Assembly → Fragment → Bool
 goes_on_here a f = not (length a.held == 0)
     && (goes_on f.part && (f.nal == a.nal && (f.mark.seq == a.next_seq && agree a.instant f.instant)))
@@ -35,7 +35,7 @@ goes_on_here a f = not (length a.held == 0)
 unfoldable pub has_room : Assembly → List ℕ → Bool
 has_room a body = nat_le (length a.bytes + length body) longest_unit && nat_lt (length a.held) most_fragments
 
--- all that waited was given up
+-- all packets that waited were given up
 abbrev pub gave_up : Assembly → Assembly
 gave_up a = record a { held = []; lost = a.held; whole = false }
 
@@ -75,7 +75,7 @@ with_next a f = record {
   whole = completes f.part;
 }
 
--- how many bytes the unit has that a packet would make whole, and 0 where it would make none
+-- the size of the unit that a packet would complete, or 0 if it would complete none
 abbrev pub size_with : Assembly → Fragment → ℕ
 size_with a f =
     if not (completes f.part) then 0

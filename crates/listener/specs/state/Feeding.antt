@@ -8,21 +8,21 @@ use Rattle.sample_schedule.specs.declared.shown.Shown.{Shown}
 use Rattle.listener.specs.Listening.{IsIdle, ListenState, StandsFor as RecordsStandFor}
 use Rattle.listener.specs.Feeding.{Feeding, IsQuiet, out, StandsFor}
 
--- A list has all that was given of these bytes.
+-- A list has all items that were given of these bytes.
 pub record HasGiven (bytes : List ℕ) (list : List Shown) (fed : Feeding) : Type 0 where
   pub stands : StandsFor bytes (length list) fed
   pub first : IsPrefix list (out fed bytes)
 
 -- ---- between two calls
 
--- The reader has taken these bytes, each record that it gave up was given to the listener, and so many items were shown.
+-- The reader has taken these bytes, each record that it returned was given to the listener, and this many items were shown.
 pub record HasHeard (bytes : List ℕ) (given : ℕ) (reader : Reading) (listener : ListenState) : Type 0 where
   pub records : List Record
   pub read : HasRead reader bytes records
   pub stands : RecordsStandFor records given listener
 
--- What holds of every listener: it stands for some bytes, of which each record has at least one; where nothing is due, all was
--- given; and nothing is due once no memory was found.
+-- The invariant of every listener: it was fed some bytes, each record of which has at least one; if nothing is due, everything
+-- was given; and nothing is due after memory has run out.
 pub record IsSound (fed : Feeding) : Type 0 where
   pub bytes : List ℕ
   pub given : ℕ

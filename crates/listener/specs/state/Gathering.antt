@@ -1,5 +1,5 @@
--- Kept for proofs: what the code's own parts hold and do. No clause of a public call rests on it.
--- What the units of a stream stand for between two deliveries, and the items that wait to be judged.
+-- Kept for proofs: what the code's own parts hold and do. No clause of a public call rests on it. The units of a stream between
+-- two deliveries, and the items that wait to be judged.
 use Rattle.std.specs.Prelude.{◌≡◌, ℕ, ℤ, ⊤, List, [], ◌∷◌, ◌++◌, All, map, Option, Some, None, IfSome}
 use Rattle.std.specs.Option.{option_to_list}
 use Rattle.cvf_format.specs.Assembly.{StandsFor}
@@ -20,32 +20,32 @@ use Rattle.listener.specs.Gathering.{Gathered, lost_item, item_entry, left, HasU
 
 -- ---- what a delivery does
 
--- No unit goes on over it, and this is its own item.
+-- No unit continues across this delivery, and this is its own item.
 pub record Cuts (item : Item) (old new : Gathered) : Type 0 where
   pub stands : (es : List Event) → StandsFor old.assembly es → StandsFor new.assembly (es ++ cut ∷ [])
   pub why : new.why ≡ Broken
   pub taken : new.taken ≡ 0
   pub own : new.own ≡ Some item
 
--- The same, and its first item was answered; the others wait.
+-- No unit continues across this delivery, this is its own item, and the first item was returned; the others wait.
 pub record CutsFirst (item : Item) (old new : Gathered) (answer : Option Item) : Type 0 where
   pub between : Gathered
   pub cuts : Cuts item old between
   pub first : left between ≡ option_to_list answer ++ left new
   pub stands : (ds : List Delivery) → HasUnits ds between → HasUnits ds new
 
--- what a delivery leaves
+-- the units after a delivery
 pub record Gives (ds : List Delivery) (d : Delivery) (new : Gathered) : Type 0 where
   pub has : HasUnits (ds ++ d ∷ []) new
   pub gives : map item_entry (left new) ≡ map made_entry (given_by ds d)
 
--- the item of a packet that makes these bytes a unit, or waits, or is lost
+-- the item of a packet that completes a unit of these bytes, or waits, or is lost
 abbrev pub own_item : Delivery → ℤ → List ℕ → Piece → Option Item
 own_item d instant unit Whole = Some (OfUnit (record { frame = d.frame; arrival = d.arrival; seq = d.seq; instant = instant; bytes = unit }))
 own_item d instant unit Held = None
 own_item d instant unit (Lost why) = Some (lost_item (lost_for why) (mark_of d))
 
--- It is a packet that begins a unit, or goes on with one, or is lost.
+-- The packet begins a unit, continues one, or is lost.
 pub record Pushes (d : Delivery) (v : Cvf) (old new : Gathered) : Type 0 where
   pub stands : (es : List Event) → StandsFor old.assembly es → StandsFor new.assembly (es ++ packet (fragment_in d v) ∷ [])
   pub why : (es : List Event) → StandsFor old.assembly es → new.why ≡ reason (es ++ packet (fragment_in d v) ∷ [])
@@ -60,12 +60,12 @@ Takes (Some reason) d v old new = Cuts (lost_item reason (mark_of d)) old new
 
 -- ---- between two calls
 
--- a packet came at a time that a schedule takes
+-- a packet came at a time that a schedule accepts
 abbrev pub IsTimelyEvent : Event → Type 0
 IsTimelyEvent cut = ⊤
 IsTimelyEvent (packet f) = IsArrival f.mark.arrival
 
--- What holds of the units: they stand for some events, and all that they give can be judged.
+-- The invariant of the units: some events made them, and every item that they give can be judged.
 pub record IsSound (u : Gathered) : Type 0 where
   pub events : List Event
   pub stands : StandsFor u.assembly events

@@ -1,5 +1,5 @@
--- Kept for proofs: what the code's own parts hold and do. No clause of a public call rests on it.
--- What a listener stands for that was given a capture's records one at a time, and what it has shown of them.
+-- Kept for proofs: what the code's own parts hold and do. No clause of a public call rests on it. A listener that was given a
+-- capture's records one at a time, and what it has shown of them.
 use Rattle.std.specs.Prelude.{◌≡◌, ◌<◌, ◌≤◌, ℕ, ◌+◌, ◌-◌, ◌^◌, Bool, true, false, cond, if◌then◌else◌, List, [], length}
 use Rattle.clock_track.specs.Rows.{clock_spot}
 use Rattle.pcap_frames.specs.Capture.{Record}
@@ -26,16 +26,16 @@ abbrev pub without_shown : Counts → Shown → Counts
 without_shown counts (Present batch) = record counts { presented = counts.presented - 1 }
 without_shown counts (Flag frame seq reason) = record counts { flagged = counts.flagged - 1 }
 
--- all that is due was given, and records may follow
+-- all that is due was given, and more records may follow
 pub record Rests (listener : ListenState) : Type 0 where
   pub opened : is_closed listener ≡ false
   pub idle : IsIdle listener
 
--- what is shown of entries: what is due, or all once no record follows
+-- what is shown of entries: what is due, or all if no more records follow
 abbrev pub shown_by : Bool → SchedulePlan → List Entry → List Shown
 shown_by ended plan entries = if ended then shown clock_spot plan entries else due clock_spot plan entries
 
--- A judge was closed, or not, since more may follow or since it was closed before.
+-- A judge was closed or not: not if more may follow or if it was closed before.
 pub record Closes (ended did : Bool) (old new : JudgeState) : Type 0 where
   pub stands : (entries : List Entry) (given : ℕ) → JudgeStandsFor clock_spot entries given old → JudgeStandsFor clock_spot entries given new
   pub plan : new.plan ≡ old.plan
@@ -43,7 +43,7 @@ pub record Closes (ended did : Bool) (old new : JudgeState) : Type 0 where
   pub done : did ≡ true → (ended ≡ true) × ((old.closed ≡ false) × (new.closed ≡ true))
   pub not_done : did ≡ false → (new ≡ old) × (ended ≡ true → old.closed ≡ true)
 
--- One item more was given to a judge, or it was closed; or there was nothing left to do.
+-- One more item was given to a judge, or the judge was closed, or there was nothing left to do.
 pub record JudgesNext (ended did : Bool) (units_old units_new : Gathered) (old new : JudgeState) : Type 0 where
   pub judges : (entries : List Entry) (given : ℕ) → Judges entries given old units_old → Judges entries given new units_new
   pub plan : new.plan ≡ old.plan
@@ -52,7 +52,7 @@ pub record JudgesNext (ended did : Bool) (units_old units_new : Gathered) (old n
   pub less : did ≡ true → length (left units_new) + cond new.closed 0 1 < length (left units_old) + cond old.closed 0 1
   pub none : did ≡ false → ((left units_old ≡ []) × (left units_new ≡ [])) × ((new ≡ old) × (ended ≡ true → new.closed ≡ true))
 
--- What holds of every listener: some records were given to it, and so many items of what it shows of them were shown.
+-- The invariant of every listener: some records were given to it, and it has shown a number of the items that it shows of them.
 pub record IsSound (listener : ListenState) : Type 0 where
   pub records : List Record
   pub given : ℕ

@@ -6,7 +6,7 @@ use Rattle.packet_journal.specs.Deliveries.{Delivery, clock_kinds, is_wanted}
 use Rattle.listener.specs.declared.delivery.AvtpPacket.{AvtpPacket}
 use Rattle.listener.specs.declared.delivery.DeliveryView.{DeliveryView}
 
--- a packet of AVTP with its first fields, apart from where it lies in memory
+-- a packet of AVTP with its first fields, without its location in memory
 pub record Found : Type 0 where
   pub peeked : Peeked
   pub bytes : List ℕ
@@ -14,11 +14,11 @@ pub record Found : Type 0 where
 abbrev pub avtp_shape : AvtpPacket → Found
 avtp_shape p = record { peeked = p.peeked; bytes = p.bytes.now }
 
--- a delivery, apart from where its packet lies in memory
+-- a delivery, without its packet's location in memory
 abbrev pub delivery_shape : DeliveryView → Delivery
 delivery_shape d = record { frame = d.frame; arrival = d.arrival; subtype = d.subtype; seq = d.seq; packet = d.packet.now }
 
--- the first fields of a packet are those of one of the clock, where there is one
+-- the first fields of a packet are those of a packet of the clock, if there is one
 abbrev pub is_of_clock : Option ℕ → Peeked → Bool
 is_of_clock None peeked = false
 is_of_clock (Some id) peeked = is_wanted clock_kinds id peeked

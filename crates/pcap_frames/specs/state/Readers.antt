@@ -1,17 +1,17 @@
--- Kept for proofs: what the code's own parts hold and do. No clause of a public call rests on it.
--- What the steps of feeding have in common, whatever the layout of the capture.
+-- Kept for proofs: what the code's own parts hold and do. No clause of a public call rests on it. What the steps of feeding
+-- have in common, whatever the layout of the capture.
 use Rattle.std.specs.Prelude.{◌≡◌, ◌↔◌, ◌⊎◌, ℕ, ◌+◌, ◌<◌, ◌≤◌, ◌^◌, List, ◌++◌, length, take, Result, IfOk, IfErr, OnOk, OnErr, IsSome, Some, None}
 use Rattle.avtp_base.specs.declared.refusal.Refusal.{Refusal}
 use Rattle.pcap_frames.specs.Capture.{Record}
 use Rattle.pcap_frames.specs.Readers.{Meaning, Progress, GoesOn, IsRefusedAfter}
 
--- A reader takes bytes of a piece: it is not refused, and fewer than 2^62 bytes were taken with the piece.
+-- A reader takes bytes of a piece: it is not refused, and it has taken fewer than 2^62 bytes, including the piece.
 pub record Accepts (reader : Progress) (piece : List ℕ) : Type 0 where
   pub accepted : reader.refusal ≡ None
   pub bounded : reader.taken + length piece ≤ 2 ^ 62
 
--- What a step does with a piece: it takes bytes from its front and goes on, or it is refused, and then stands for the
--- whole piece.
+-- What a step does with a piece: it takes bytes from its front and continues, or it is refused, and then has taken the whole
+-- piece.
 pub record Steps (old : Progress) (piece : List ℕ) (result : Result ℕ Refusal) (new : Progress) : Type 0 where
   pub within : IfOk result (λ n. n ≤ length piece)
   pub counted : IfOk result (λ n. new.taken ≡ old.taken + n)
@@ -21,13 +21,13 @@ pub record Steps (old : Progress) (piece : List ℕ) (result : Result ℕ Refusa
   pub refused : IfErr result (λ refusal. new.refusal ≡ Some refusal)
   pub stopped : OnErr result (GoesOn old piece new)
 
--- Steps up to the end of one record or of the piece: none are made if a record is held.
+-- Steps up to the end of one record or of the piece. If a record is held, there are none.
 pub record Advances (old : Progress) (piece : List ℕ) (result : Result ℕ Refusal) (new : Progress) : Type 0 where
   pub steps : Steps old piece result new
   pub nothing : IfOk result (λ n. (n ≡ 0) ↔ ((length piece ≡ 0) ⊎ IsSome old.held))
   pub end : IfOk result (λ n. n < length piece → IsSome new.held)
 
--- What a reader says of the bytes that it has taken: without a refusal none is certain, and a refusal stays the first.
+-- What a reader knows of the bytes that it has taken: without a refusal none is certain, and a refusal stays the first.
 pub record IsSure (meaning : Meaning) (reader : Progress) : Type 0 where
   pub uncertain : reader.refusal ≡ None → (bytes : List ℕ) (records : List Record) → reader.has_read bytes records → meaning.certain bytes ≡ None
   pub refused : (why : Refusal) → reader.refusal ≡ Some why → (bytes more : List ℕ) (records : List Record) → reader.has_read bytes records

@@ -7,7 +7,7 @@ use Rattle.pcap_frames.specs.declared.style.Style.{Style}
 use Rattle.pcap_frames.specs.Layout.{file_refusal, record_refusal}
 use Rattle.pcap_frames.specs.Reading.{Reading, IsPart, IsReading, taken}
 
--- What is always true of a reader that can hold so many bytes of a record.
+-- The invariant of a reader that can hold this many bytes of a record.
 pub record IsReader (r : Reading) (capacity : ℕ) : Type 0 where
   pub room : 262160 ≤ capacity
   pub bounded : taken r ≤ 2 ^ 62
@@ -34,6 +34,6 @@ ending_by None None start part = file_refusal part
 ending_by None (Some style) start [] = None
 ending_by None (Some style) start (b ∷ part) = record_refusal style.order start (b ∷ part)
 
--- the first refusal, where the capture ends with the bytes that were taken
+-- the first refusal, if the capture ends with the bytes that were taken
 abbrev pub ending : Reading → Option Refusal
 ending r = ending_by r.refusal r.style r.start r.part

@@ -1,6 +1,5 @@
--- Kept for proofs: what the code's own parts hold and do. No clause of a public call rests on it.
--- The fields of a pcapng capture's blocks, where they stand, and which values are refused (draft-ietf-opsawg-pcapng,
--- sections 3 and 4).
+-- Kept for proofs: what the code's own parts hold and do. No clause of a public call rests on it. The fields of a pcapng
+-- capture's blocks, their offsets, and which values are refused (draft-ietf-opsawg-pcapng, sections 3 and 4).
 use Rattle.std.specs.Prelude.{◌≡◌, ℕ, true, List}
 use Rattle.std.specs.List.{All}
 use Rattle.pcapng_frames.specs.declared.block.Kind.{Kind}
@@ -8,14 +7,14 @@ use Rattle.pcapng_frames.specs.declared.block.Kind.TheVariants as kind
 use Rattle.pcapng_frames.specs.declared.interface.Interface.{Interface}
 use Rattle.pcapng_frames.specs.Interface.{is_resolution}
 
--- how many bytes at the front of a block are its fixed fields, as far as they are read
+-- how many bytes at the front of a block are fixed fields that are read
 abbrev pub head_size : Kind → ℕ
 head_size kind.Section = 16
 head_size kind.Interface = 16
 head_size kind.Packet = 28
 head_size kind.Other = 8
 
--- the resolutions of all the interfaces are such as are read
+-- the resolutions of all interfaces are ones that are read
 abbrev pub AllResolved : List Interface → Type 0
 AllResolved interfaces = All (λ (i : Interface). is_resolution i.resolution ≡ true) interfaces
 

@@ -1,5 +1,4 @@
--- Kept for proofs: what the code's own parts hold and do. No clause of a public call rests on it.
--- What a reader stands for.
+-- Kept for proofs: what the code's own parts hold and do. No clause of a public call rests on it. The state of a reader.
 use Rattle.std.specs.Prelude.{◌≡◌, ℕ, ◌+◌, ◌-◌, ◌<◌, ◌≤◌, ◌^◌, ◌%◌, pos, ⊤, Bool, true, false, is_some, IfSome, nat_lt, nat_eq, if◌then◌else◌, List, ◌++◌, length, drop, Option, Some, None}
 use Rattle.avtp_base.specs.declared.refusal.Refusal.{Refusal}
 use Rattle.pcap_frames.specs.Capture.{Record}
@@ -19,12 +18,12 @@ use Rattle.pcapng_frames.specs.Blocks.{kind_at, order_or_little, refusal_here, e
 use Rattle.pcapng_frames.specs.Reading.{Reading, rest_of, passed_by, taken, taken_by}
 use Rattle.pcapng_frames.specs.state.Fields.{AllResolved}
 
--- The reader stands for the same as before, less these bytes.
+-- What is still to come from the reader is the same as before, less these bytes.
 pub record Takes (old : Reading) (bytes : List ℕ) (new : Reading) : Type 0 where
   pub same : (more : List ℕ) → rest_of old (bytes ++ more) ≡ rest_of new more
 
--- How many bytes of a place are taken before more is known of it: of a block its first 8 bytes, then its fixed fields, then
--- the bytes of a packet; of an option its header, and then the value, where it is read.
+-- How many bytes of a place are taken before more is known of it: for a block its first 8 bytes, then its fixed fields, then
+-- the bytes of a packet; for an option its header, and then the value, if it is read.
 abbrev pub head_need : Kind → Order → List ℕ → ℕ
 head_need kind.Section order part = 16
 head_need kind.Interface order part = 16
@@ -45,8 +44,8 @@ need_by stage.Block order part = block_need order part
 need_by stage.Option order part = option_need (order_or_little order) part
 need_by stage.Trailer order part = 4
 
--- What is still to come of a block, by how many bytes are passed, how many bytes of options are left, and its total length:
--- nothing is known of a block that begins, and the rest ends with the trailer.
+-- What is still to come of a block, by how many bytes were passed, how many bytes of options are left, and its total length:
+-- nothing is known of a block that begins, and otherwise the rest ends with the trailer.
 abbrev pub IsAhead : Stage → ℕ → ℕ → ℕ → Type 0
 IsAhead stage.Block skip left total = skip ≡ 0
 IsAhead stage.Option skip left total = (0 < left) × (left % 4 ≡ 0) × (skip + left + 4 ≤ total)
@@ -75,13 +74,13 @@ pub record IsWhole (p : Place) (skip : ℕ) (part : List ℕ) : Type 0 where
   pub some : is_some p.packet ≡ true
   pub room : IfSome p.interface (λ i. length p.interfaces < 256)
 
--- what a reader keeps true of itself
+-- the invariant of a reader
 abbrev pub IsReading : Option Refusal → Bool → Place → ℕ → List ℕ → Type 0
 IsReading (Some refusal) whole p skip part = ⊤
 IsReading None true p skip part = IsWhole p skip part
 IsReading None false p skip part = IsPart p skip part
 
--- the bytes that came of a place: of a block, or of an option or a trailer
+-- the bytes that have come of a place: of a block, or of an option or a trailer
 abbrev pub part_at : Stage → List ℕ → List ℕ → List ℕ
 part_at stage.Block part tail = part
 part_at stage.Option part tail = tail
@@ -95,7 +94,7 @@ abbrev pub packet_of : Option PacketHead → List ℕ → Option Record
 packet_of None part = None
 packet_of (Some head) part = Some (packet_with head part)
 
--- the place of a cursor, in a section with these interfaces, where these bytes of the block are held
+-- the place of a cursor, in a section with these interfaces, if these bytes of the block are held
 abbrev pub place_of : Cursor → List Interface → List ℕ → Place
 place_of c interfaces part = record {
   stage = c.stage;
@@ -108,12 +107,12 @@ place_of c interfaces part = record {
   packet = packet_of c.packet part;
 }
 
--- the fixed fields of the packet came, in a section
+-- the fixed fields of the packet have come, in a section
 abbrev pub HasHead : Option Order → Option PacketHead → List ℕ → Type 0
 HasHead order None part = ⊤
 HasHead order (Some head) part = (28 ≤ length part) × (head.arrival ≤ 2 ^ 62) × (is_some order ≡ true)
 
--- the interfaces that are read count in resolutions that are read
+-- the resolution of the interface is one that is read
 abbrev pub IsResolved : Option Interface → Type 0
 IsResolved None = ⊤
 IsResolved (Some interface) = is_resolution interface.resolution ≡ true
@@ -124,14 +123,14 @@ is_inside stage.Block = false
 is_inside stage.Option = true
 is_inside stage.Trailer = true
 
--- before an option there is no packet
+-- there is no packet before an option
 abbrev pub IsUnpacked : Stage → Option PacketHead → Type 0
 IsUnpacked stage.Block packet = ⊤
 IsUnpacked stage.Option packet = packet ≡ None
 IsUnpacked stage.Trailer packet = ⊤
 
--- A cursor has entered a block, or gone on in it: it stands before an option or the trailer, these bytes of the block's front
--- are held, and so many of its bytes have come.
+-- A cursor has entered a block, or moved on in it: it is before an option or the trailer, these bytes of the block's front are
+-- held, and this many of its bytes have come.
 pub record HasEntered (c : Cursor) (front : List ℕ) (count : ℕ) : Type 0 where
   pub head : HasHead c.order c.packet front
   pub resolved : IsResolved c.interface
@@ -147,13 +146,13 @@ pub record IsGoing (r : Reading) (piece : List ℕ) : Type 0 where
   pub more : 0 < length piece
   pub bounded : taken r + length piece ≤ 2 ^ 62
 
--- The same before a block, an option or a trailer, with nothing to skip.
+-- A reader takes bytes of a piece before a block, an option or a trailer, with nothing to skip.
 pub record IsAt (next : Stage) (r : Reading) (piece : List ℕ) : Type 0 where
   pub going : IsGoing r piece
   pub stage : r.place.stage ≡ next
   pub ready : r.skip ≡ 0
 
--- what the bytes of a reader lack, where the capture ends with them
+-- what the bytes of a reader lack if the capture ends with them
 abbrev pub lacks_by : Bool → Place → List ℕ → Option Refusal
 lacks_by true p part = None
 lacks_by false p part = if ends_at p.stage p.order p.start (length part) then None else Some (cut_by p.stage p part).refusal
@@ -161,7 +160,7 @@ lacks_by false p part = if ends_at p.stage p.order p.start (length part) then No
 abbrev pub lacks : Reading → Option Refusal
 lacks r = lacks_by r.whole r.place r.part
 
--- The bytes begin with an enhanced packet whose fixed fields stand there, and none is refused.
+-- The bytes begin with the fixed fields of an enhanced packet, and none of these is refused.
 pub record IsPacket (order : Option Order) (interfaces : List Interface) (bytes : List ℕ) (packet : WholePacket) : Type 0 where
   pub opened : is_some order ≡ true
   pub kind : kind_at order bytes ≡ kind.Packet
@@ -171,7 +170,7 @@ pub record IsPacket (order : Option Order) (interfaces : List Interface) (bytes 
   pub arrival : packet_arrival (order_or_little order) interfaces bytes ≡ Some (pos packet.head.arrival)
   pub orig_len : number_at (order_or_little order) 24 4 bytes ≡ packet.head.orig_len
 
--- The whole block of a packet stands in the bytes, and nothing in it is refused.
+-- The bytes begin with the whole block of a packet, and nothing in it is refused.
 pub record IsWholePacket (order : Option Order) (interfaces : List Interface) (bytes : List ℕ) (packet : WholePacket) : Type 0 where
   pub front : IsPacket order interfaces bytes packet
   pub limit : packet.head.arrival ≤ 2 ^ 62
@@ -180,7 +179,7 @@ pub record IsWholePacket (order : Option Order) (interfaces : List Interface) (b
   pub within : packet.total ≤ length bytes
   pub trailer : number_at (order_or_little order) 0 4 (drop (packet.total - 4) bytes) ≡ packet.total
 
--- What is always true of a reader with these fields, whose buffers can hold so many bytes, and so many interfaces.
+-- The invariant of a reader with these fields, whose buffers can hold this many bytes and interfaces.
 pub record IsReader (cursor : Cursor) (interfaces : List Interface) (front tail : List ℕ) (whole : Bool) (refusal : Option Refusal) (front_capacity tail_capacity interface_capacity : ℕ) : Type 0 where
   pub front_room : 262172 ≤ front_capacity
   pub tail_room : 12 ≤ tail_capacity

@@ -1,5 +1,5 @@
--- Kept for proofs: what the code's own parts hold and do. No clause of a public call rests on it.
--- A judge, which is given a stream of entries one at a time and shows what is certain of it.
+-- Kept for proofs: what the code's own parts hold and do. No clause of a public call rests on it. A judge, which takes a stream
+-- of entries one at a time and shows what is certain of it.
 use Rattle.std.specs.Prelude.{◌≡◌, ℕ, ◌+◌, ◌^◌, ◌≤◌, ℤ, ◌<◌, List, [], ◌∷◌, ◌++◌, All, length, Option, None, Some, IfSome}
 use mathlib.Core.List.{IsPrefix}
 use Rattle.std.specs.Int.{int_max}
@@ -23,24 +23,24 @@ abbrev pub IsPending : Pending → Type 0
 IsPending (PendingItem item) = IsItem item
 IsPending (PendingClock arrival) = IsArrival arrival
 
--- A list has all that the judge has given of what it shows of the entries.
+-- A list has all items that the judge has given of those that it shows of the entries.
 pub record HasGiven (clock : Clock) (entries : List Entry) (list : List Shown) (judge : JudgeState) : Type 0 where
   pub stands : StandsFor clock entries (length list) judge
   pub first : IsPrefix list (out clock judge entries)
 
--- the greatest arrival, and that of an entry which is judged next
+-- the greatest arrival, including that of the entry that is judged next
 abbrev pub now_with : ℤ → Option Pending → ℤ
 now_with now None = now
 now_with now (Some pending) = int_max now (pending_arrival pending)
 
--- An entry was put behind those that wait for further ones, and the first of more than the look-ahead is judged next.
+-- An entry was put after those that wait for later ones, and if these exceed the look-ahead, the first of them is judged next.
 pub record Puts (pending : Pending) (old new : JudgeState) : Type 0 where
   pub same : new ≡ record old { time = now_with old.time new.current; current = new.current; ahead = new.ahead }
   pub line : option_to_list new.current ++ new.ahead ≡ old.ahead ++ pending ∷ []
   pub fits : length old.ahead < old.plan.look → length new.ahead ≡ length old.ahead + 1
   pub full : old.plan.look ≤ length old.ahead → length new.ahead ≡ length old.ahead
 
--- What holds of every judge: what is kept of entries is theirs, and all of it has room, in memory that is reserved.
+-- The invariant of every judge: what is kept is that of the entries, and fits the memory that is reserved.
 pub record IsSound (judge : JudgeState) (capacity : ℕ) (held : Held) : Type 0 where
   pub plan : IsPlan judge.plan
   pub current : IfSome judge.current IsPending

@@ -1,5 +1,5 @@
--- Kept for proofs: what the code's own parts hold and do. No clause of a public call rests on it.
--- The batches that wait for their instant, and how their keys stand for them.
+-- Kept for proofs: what the code's own parts hold and do. No clause of a public call rests on it. The batches that wait for
+-- their instant, and their keys.
 use Rattle.std.specs.Prelude.{◌≡◌, ◌≢◌, ⊤, ℕ, List, [], ◌∷◌, length, Option, Some}
 use Rattle.std.specs.List.{AllByRecursion, filter_map}
 use Rattle.slab.specs.Slab.{Slab, get, slab_len}
@@ -14,7 +14,7 @@ batch_of batches key = get batches key.slot
 abbrev pub held : Slab Accepted → List Key → List Accepted
 held batches keys = filter_map (batch_of batches) keys
 
--- the batch of the key stands in its slot
+-- the batch of the key is in its slot
 pub record IsKey (batches : Slab Accepted) (key : Key) : Type 0 where
   pub batch : Accepted
   pub there : batch_of batches key ≡ Some batch

@@ -7,7 +7,7 @@ use Rattle.sample_schedule.specs.declared.shown.Shown.{Shown}
 use Rattle.sample_schedule.specs.declared.shown.Shown.TheVariants.{Present, Flag}
 use Rattle.soak_run.specs.declared.counts.SoakCounts.{SoakCounts}
 
--- one more, up to the largest number of 64 bits
+-- one more, but at most the largest number of 64 bits
 abbrev pub one_more : ℕ → ℕ
 one_more number = min (number + 1) (2 ^ 64 - 1)
 

@@ -1,5 +1,5 @@
--- Kept for proofs: what the code's own parts hold and do. No clause of a public call rests on it.
--- Deliveries that a listener hears one by one, and how far it was given them.
+-- Kept for proofs: what the code's own parts hold and do. No clause of a public call rests on it. Deliveries that a listener
+-- hears one by one, and how far it has come.
 use Rattle.std.specs.Prelude.{◌≡◌, ◌<◌, ℕ, ◌+◌, ◌-◌, ◌^◌, ℤ, Bool, true, false, List, [], ◌∷◌, ◌++◌, length, map, take, Option, Some, None, Result, OnOk, OnErr}
 use Rattle.avtp_base.specs.declared.failed.NoMemory.{NoMemory as WantOfMemory}
 use Rattle.time_unfold.specs.Time.{IsArrival}
@@ -24,26 +24,26 @@ closed_at Showing = true
 closed_at Ended = true
 closed_at NoMemory = false
 
--- the answer with which the hearing ended, where it did
+-- the answer with which the hearing ended, if it ended
 abbrev pub pull_at : Stage → Option Pull
 pull_at Giving = None
 pull_at Showing = None
 pull_at Ended = Some pull.Done
 pull_at NoMemory = Some pull.Memory
 
--- how many steps are still to go: one for each delivery that was not given, and one for the end of them
+-- how many steps are left: one for each delivery that was not given, and one for the end
 abbrev pub steps_left : Stage → List (ℤ × ℕ) → ℕ → ℕ
 steps_left Giving deliveries given = (length deliveries - given) + 1
 steps_left stage deliveries given = 0
 
 -- ---- deliveries
 
--- a delivery of a packet that the talker has, at a time that a capture can say
+-- a delivery of one of the talker's packets, at a time that a capture can record
 pub record IsDeliverable (talker : Talking) (delivery : ℤ × ℕ) : Type 0 where
   pub known : delivery.1 < length (stream_frames talker.plan talker.input)
   pub time : IsArrival delivery.0
 
--- the first deliveries, so many of them, as records
+-- the first `n` deliveries as records
 abbrev pub records_of : Talking → List (ℤ × ℕ) → ℕ → List Record
 records_of talker deliveries given = map (captured (stream_of talker.plan talker.input)) (take given deliveries)
 
@@ -53,7 +53,7 @@ pub record IsReady (listener : ListenState) : Type 0 where
   pub idle : IsIdle listener
   pub few : listener.counts.frames < 2 ^ 62
 
--- It was given this record, or no memory was found for that.
+-- It was given this record, or there was no memory for it.
 pub record Takes (taken : Record) (old new : ListenState) (result : Result Unit WantOfMemory) : Type 0 where
   pub stands : OnOk result ((records : List Record) (given : ℕ) → StandsFor records given old → StandsFor (records ++ taken ∷ []) given new)
   pub same : OnErr result (new ≡ old)
@@ -66,11 +66,11 @@ pub record Takes (taken : Record) (old new : ListenState) (result : Result Unit 
 abbrev pub shown_by : ListenState → ℕ
 shown_by listener = listener.counts.presented + listener.counts.flagged
 
--- the most items that it can still show of deliveries, one of each
+-- the most items that the listener can still show: one for each remaining delivery
 abbrev pub left_of : List (ℤ × ℕ) → ListenState → ℕ
 left_of deliveries listener = length deliveries - shown_by listener
 
--- Of the records that it was given a listener has shown these items.
+-- The listener has shown these items of the records that it was given.
 pub record Shows (records : List Record) (listener : ListenState) (items : List Shown) : Type 0 where
   pub stands : StandsFor records (shown_by listener) listener
   pub shown : items ≡ take (shown_by listener) (out listener records)

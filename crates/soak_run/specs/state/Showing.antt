@@ -7,7 +7,7 @@ use Rattle.soak_run.specs.declared.hearing.Hearing.{Hearing}
 use Rattle.soak_run.specs.declared.hearing.Stage.TheVariants.{Ended}
 use Rattle.soak_run.specs.state.Hearing.{Shows, closed_at, records_of}
 
--- Of the deliveries of a hearing these items were shown, and so it became the second: all of them, once it has ended.
+-- Between the two states of a hearing these items were shown; once it has ended, they are all items of its deliveries.
 pub record HasShown (begun now : Hearing) (items : List Shown) : Type 0 where
   pub talker : now.talker ≡ begun.talker
   pub deliveries : now.deliveries.now ≡ begun.deliveries.now

@@ -6,25 +6,25 @@ use Rattle.sorted_keys.specs.declared.key.Key.{Key}
 
 -- ---- a sorted list
 
--- none is earlier than one before it
+-- no key is earlier than one before it
 abbrev pub KeysAreInOrder : List Key → Type 0
 KeysAreInOrder [] = ⊤
 KeysAreInOrder (key ∷ rest) = AllByRecursion (λ other. key.instant ≤ℤ other.instant) rest × KeysAreInOrder rest
 
 -- ---- a block
 
--- so many keys are not later than an instant, and those after them are
+-- this many keys are not later than an instant, and those after them are
 pub record IsPlace (instant : ℤ) (keys : List Key) (place : ℕ) : Type 0 where
   pub within : place ≤ length keys
   pub not_later : AllByRecursion (λ key. key.instant ≤ℤ instant) (take place keys)
   pub later : AllByRecursion (λ key. instant <ℤ key.instant) (drop place keys)
 
--- the first key is not later, or there is none
+-- the first key is not later than the instant, or there is none
 abbrev pub starts_by : ℤ → List Key → Bool
 starts_by instant [] = true
 starts_by instant (key ∷ rest) = int_le key.instant instant
 
--- the first key is earlier
+-- the first key is earlier than the instant
 abbrev pub starts_before : ℤ → List Key → Bool
 starts_before instant [] = false
 starts_before instant (key ∷ rest) = int_lt key.instant instant
@@ -41,15 +41,15 @@ IsStarted (block ∷ []) = ⊤
 IsStarted ([] ∷ next ∷ rest) = ⊥
 IsStarted ((key ∷ keys) ∷ next ∷ rest) = ⊤
 
--- Sorted keys in blocks, each of which has fewer than 512 and so room for one more. Those behind the first have 256 at least,
--- so that they are few.
+-- Sorted keys in blocks, each of which has fewer than 512 and so room for one more. Each block after the first has at least
+-- 256, so there are few blocks.
 pub record AreBlocks (blocks : List (List Key)) : Type 0 where
   pub in_order : KeysAreInOrder (all_keys blocks)
   pub started : IsStarted blocks
   pub filled : AllByRecursion (λ block. 256 ≤ length block) (drop 1 blocks)
   pub short : AllByRecursion (λ block. length block < 512) blocks
 
--- the same, but one block may be full
+-- Sorted keys in blocks, of which the one at this place may be full.
 pub record AreBlocksBut (place : ℕ) (blocks : List (List Key)) : Type 0 where
   pub in_order : KeysAreInOrder (all_keys blocks)
   pub started : IsStarted blocks
@@ -58,24 +58,25 @@ pub record AreBlocksBut (place : ℕ) (blocks : List (List Key)) : Type 0 where
   pub most : length (slice_index_or blocks place []) ≤ 512
   pub others : AllByRecursion (λ block. length block < 512) (slice_set blocks place [])
 
--- the same, but the first may have no keys although there are others
+-- Sorted keys in blocks, of which the first may have no keys although there are others.
 pub record AreTaken (blocks : List (List Key)) : Type 0 where
   pub in_order : KeysAreInOrder (all_keys blocks)
   pub some : 1 ≤ length blocks
   pub filled : AllByRecursion (λ block. 256 ≤ length block) (drop 1 blocks)
   pub short : AllByRecursion (λ block. length block < 512) blocks
 
--- A key of an instant goes into the block at this place: no key of those before it is later, and all behind it are.
+-- A key of an instant goes into the block at this place: no key of the earlier blocks is later, and all keys of the later
+-- blocks are.
 abbrev pub IsBlockFor : ℤ → List (List Key) → ℕ → Type 0
 IsBlockFor instant [] place = ⊥
 IsBlockFor instant (block ∷ rest) zero = AllByRecursion (λ key. instant <ℤ key.instant) (all_keys rest)
 IsBlockFor instant (block ∷ rest) (suc place) = AllByRecursion (λ key. key.instant ≤ℤ instant) block × IsBlockFor instant rest place
 
--- how many keys find room in so many blocks: all are half full at least but the first, which may have one key
+-- how many keys always find room in this many blocks: each is at least half full, except the first, which may have one key
 abbrev pub room_of : ℕ → ℕ
 room_of blocks = 256 * (blocks - 1)
 
--- the blocks of keys, and spare ones with none, which all have a place that is reserved
+-- the blocks of keys, and spare ones without keys, all in places that are reserved
 pub record HaveRoom (blocks spare : List (List Key)) (places : ℕ) : Type 0 where
   pub kept : AreBlocks blocks
   pub empty : AllByRecursion (λ block. block ≡ []) spare

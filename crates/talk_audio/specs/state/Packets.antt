@@ -12,12 +12,12 @@ use Rattle.talk_audio.specs.Streams.{IsAm824, IsPcmStream}
 use Rattle.talk_plan.specs.declared.plan.TalkPlan.{TalkPlan}
 use Rattle.talk_plan.specs.Places.{IsPacketOf, IsSentAt}
 
--- the first four bytes of a packet with such a header: its subtype, the bits that say what of it is valid, and its number
+-- the first four bytes of a packet with such a header: its subtype, its flag bits, and its sequence number
 abbrev pub front_of : StreamHeader → List ℕ
 front_of header = header.subtype ∷ ((128 * flag header.sv + 8 * flag header.mr + flag header.tv) ∷ (header.seq ∷ (flag header.tu ∷ [])))
 
--- the 24 bytes of a header, over those of another that differs from it in this part, from this byte of the first twelve on, and
--- in the timestamp alone
+-- the 24 bytes of a header made from those of another, which differs from it only in this part, at this offset within the first
+-- twelve bytes, and in the timestamp
 abbrev pub patched : List ℕ → ℕ → List ℕ → ℕ → List ℕ
 patched header at part timestamp =
     take at header ++ (part ++ (take (12 - (at + length part)) (drop (at + length part) header) ++ (big_bytes 4 timestamp ++ take 8 (drop 16 header))))

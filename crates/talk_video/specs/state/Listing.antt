@@ -1,5 +1,5 @@
--- Kept for proofs: what the code's own parts hold and do. No clause of a public call rests on it.
--- What a walk over the NAL units of a byte stream stands for.
+-- Kept for proofs: what the code's own parts hold and do. No clause of a public call rests on it. A walk over the NAL units of
+-- a byte stream.
 use Rattle.std.specs.Prelude.{◌≡◌, ℕ, zero, suc, ◌+◌, ◌-◌, ◌<◌, ◌≤◌, Bool, false, not, ◌&&◌, ◌||◌, nat_lt, if◌then◌else◌, List, length, drop}
 use Rattle.cvf_format.specs.AnnexB.{nal_units, units_from}
 use Rattle.talk_video.specs.declared.units.NalUnit.{NalUnit}
@@ -12,12 +12,12 @@ use Rattle.talk_video.specs.Units.{most_packets}
 use Rattle.talk_video.specs.declared.video.VideoStream.{VideoStream}
 use Rattle.talk_plan.specs.Plan.{most_input}
 
--- how many packets carry the units before the access unit of the last of the units before unit i
+-- how many packets carry the units before the access unit that is current before unit i
 abbrev pub packets_behind : List ℕ → List (ℕ × ℕ) → ℕ → ℕ
 packets_behind bytes units zero = 0
 packets_behind bytes units (suc i) = if begins bytes units i then packets_before units i else packets_behind bytes units i
 
--- the first units came, so many of them
+-- the walk has passed a number of the first units
 pub record IsWalk (bytes : List ℕ) (u : Units) : Type 0 where
   pub known : u.number ≤ length (nal_units bytes)
   pub rest : drop u.number (nal_units bytes) ≡ units_from bytes u.at
@@ -31,11 +31,11 @@ pub record IsWalk (bytes : List ℕ) (u : Units) : Type 0 where
   pub few_packets : u.packets ≤ u.at
   pub order : u.before ≤ u.packets
 
--- a unit behind those that came begins a new access unit
+-- a unit after those that were passed begins a new access unit
 abbrev pub is_begun_by : List ℕ → Units → ℕ × ℕ → Bool
 is_begun_by bytes u unit = u.sliced && may_begin bytes unit
 
--- with one unit more
+-- the walk after one more unit
 abbrev pub walked : List ℕ → Units → ℕ × ℕ → Units
 walked bytes u unit = record {
   number = u.number + 1;
@@ -46,7 +46,7 @@ walked bytes u unit = record {
   before = if is_begun_by bytes u unit then u.packets else u.before;
 }
 
--- unit i came next
+-- unit i is the next one of the walk
 pub record IsNext (bytes : List ℕ) (i next : ℕ) (unit : NalUnit) : Type 0 where
   pub known : i < length (nal_units bytes)
   pub is_unit : unit ≡ unit_in bytes i
@@ -54,12 +54,12 @@ pub record IsNext (bytes : List ℕ) (i next : ℕ) (unit : NalUnit) : Type 0 wh
   pub some : unit.from < unit.to
   pub inside : unit.to ≤ length bytes
 
--- all units came before, and nothing moved
+-- all units were passed before, and the walk is unchanged
 pub record IsEnded (bytes : List ℕ) (old new : Units) : Type 0 where
   pub all : old.number ≡ length (nal_units bytes)
   pub same : new ≡ old
 
--- an access unit of the first units, so many of them, needs too many packets
+-- an access unit of the first `number` units needs too many packets
 abbrev pub is_long_in : List ℕ → List (ℕ × ℕ) → ℕ → Bool
 is_long_in bytes units zero = false
 is_long_in bytes units (suc i) =
@@ -73,7 +73,7 @@ pub record IsCarried (bytes : List ℕ) (unit : NalUnit) (n : ℕ) : Type 0 wher
   pub begun : unit.first ≤ n
   pub within : n < unit.first + packets_for (unit.from, unit.to)
 
--- what packet n carries
+-- what packet n of a stream carries
 abbrev pub place_in : VideoStream → ℕ → Place
 place_in v n = place_of (nal_units v.input.now) n
 
@@ -83,7 +83,7 @@ pub record IsUnitAt (v : VideoStream) (n : ℕ) (unit : NalUnit) : Type 0 where
   pub carried : IsCarried v.input.now unit n
   pub few : unit.access_unit ≤ most_input
 
--- packet n carries a fragment of such a unit, or all of it
+-- packet n carries a fragment of this unit, or all of it
 pub record IsFragmentAt (unit : NalUnit) (n : ℕ) : Type 0 where
   pub some : unit.from < unit.to
   pub limit : unit.to ≤ most_input

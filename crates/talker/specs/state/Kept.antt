@@ -1,5 +1,4 @@
--- Kept for proofs: what the code's own parts hold and do. No clause of a public call rests on it.
--- What a talker keeps true of itself.
+-- Kept for proofs: what the code's own parts hold and do. No clause of a public call rests on it. The invariant of a talker.
 use Rattle.std.specs.Prelude.{◌≡◌, ◌+◌, ◌≤◌, drop, length}
 use Rattle.talker.specs.declared.talker.Talker.TheInside.{Inside}
 use Rattle.talker.specs.Frames.{frames}
@@ -7,8 +6,8 @@ use Rattle.talker.specs.state.Frames.{left_of}
 use Rattle.talk_clock.specs.Streams.{IsClockOf}
 use Rattle.talker.specs.state.Talking.{IsSource, input_in, plan_in, stream_in}
 
--- It has a plan that is talked, with its clock, and memory for the longest frame; what it has still to give are the frames
--- of the packets that it did not give.
+-- It has a valid plan, with its clock, and memory for the longest frame; the frames that it still has to give are those of the
+-- packets that it did not give.
 pub record IsTalker (t : Inside) : Type 0 where
   pub source : IsSource t.source
   pub packets : t.packets ≡ (stream_in t.source).journal.times.packets

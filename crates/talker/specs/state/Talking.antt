@@ -1,5 +1,5 @@
--- Kept for proofs: what the code's own parts hold and do. No clause of a public call rests on it.
--- What a talker stands for.
+-- Kept for proofs: what the code's own parts hold and do. No clause of a public call rests on it. The source and the clock of a
+-- talker.
 use Rattle.std.specs.Prelude.{◌≡◌, ◌⊎◌, ℕ, ◌<◌, ◌≤◌, List, length, Option, Some, None}
 use Rattle.talk_clock.specs.declared.clock.ClockStream.{ClockStream}
 use Rattle.talk_plan.specs.declared.plan.TalkPlan.{TalkPlan}
@@ -11,7 +11,7 @@ use Rattle.talk_plan.specs.Plan.{most_input}
 use Rattle.talk_audio.specs.Streams.{IsAudio}
 use Rattle.talk_video.specs.Streams.{IsVideo}
 
--- packet m of the clock is sent before packet n of a stream of so many, or at the same time
+-- packet m of the clock is sent before packet n of a stream of this many packets, or at the same time
 abbrev pub IsClockFirst : Option ClockStream → Stream → ℕ → ℕ → Type 0
 IsClockFirst None s m n = ⊥
 IsClockFirst (Some c) s m n = (m < clock_packets c.crf c.plan c.stream) × ((s.journal.times.packets ≤ n) ⊎ (clock_arrival c.crf c.plan m ≤ s.arrival n))
@@ -33,13 +33,13 @@ input_in (OfVideo stream) = stream.input.now
 abbrev pub stream_in : Source → Stream
 stream_in source = stream_of (plan_in source) (input_in source)
 
--- of this plan and this input
+-- the source is that of this plan and this input
 pub record IsSourceOf (plan : TalkPlan) (input : List ℕ) (source : Source) : Type 0 where
   pub source_is : IsSource source
   pub plan_is : plan_in source ≡ plan
   pub input_is : input_in source ≡ input
 
--- packet n of it
+-- the source has a packet n
 pub record IsPacketOfSource (source : Source) (n : ℕ) : Type 0 where
   pub source_is : IsSource source
   pub known : n < (stream_in source).journal.times.packets

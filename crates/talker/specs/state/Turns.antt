@@ -1,5 +1,5 @@
--- Kept for proofs: what the code's own parts hold and do. No clause of a public call rests on it.
--- What a talker sends next, before its frame is made.
+-- Kept for proofs: what the code's own parts hold and do. No clause of a public call rests on it. What a talker sends next,
+-- before its frame is built.
 use Rattle.std.specs.Prelude.{◌≡◌, ℕ, ◌<◌, Bool, true, false, Option, length}
 use Rattle.talker.specs.declared.turn.Turn.{Turn}
 use Rattle.talker.specs.Frames.{SentFrame, clock_frame_of, frame_of}
@@ -11,12 +11,12 @@ use Rattle.talker.specs.state.Talking.{IsSource, plan_in, stream_in}
 
 -- ---- the packet that it sends
 
--- the number of the packets of the clock, or of the stream
+-- the number of packets of the clock, or of the stream
 abbrev pub packets_by : Bool → Stream → ℕ
 packets_by true s = s.journal.times.clock.packets
 packets_by false s = s.journal.times.packets
 
--- the frame of one of them
+-- the frame of a packet of the clock, or of the stream
 abbrev pub frame_by : Bool → Stream → ℕ → SentFrame
 frame_by true s m = clock_frame_of s m
 frame_by false s n = frame_of s n
@@ -24,19 +24,19 @@ frame_by false s n = frame_of s n
 abbrev pub turn_frame : Stream → Turn → SentFrame
 turn_frame s turn = frame_by turn.clock s turn.number
 
--- it sends a packet that there is
+-- the turn sends a packet that exists
 pub record SendsPacket (s : Stream) (turn : Turn) : Type 0 where
   pub known : turn.number < packets_by turn.clock s
   pub arrival : turn.arrival ≡ (turn_frame s turn).arrival
   pub size : turn.size ≡ length (turn_frame s turn).bytes
 
--- it sends this packet, of the clock or of the stream
+-- the turn sends this packet, of the clock or of the stream
 pub record IsTurnOf (s : Stream) (clock : Bool) (number : ℕ) (turn : Turn) : Type 0 where
   pub sends : SendsPacket s turn
   pub number_is : turn.number ≡ number
   pub clock_is : turn.clock ≡ clock
 
--- it sends a packet of a source, beside which there is this clock
+-- the turn sends a packet of a source that has this clock
 pub record IsSending (source : Source) (clock : Option ClockStream) (turn : Turn) : Type 0 where
   pub source_is : IsSource source
   pub clock_is : IsClockOf clock (plan_in source) (stream_in source).journal.times.packets

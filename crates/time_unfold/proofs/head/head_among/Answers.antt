@@ -1,4 +1,4 @@
--- What is looked through is the end of the list.
+-- The end of the list is searched.
 use Rattle.std.proofs.Common.{◌-◌, Option, arith, length, drop, sym, subst}
 use Rattle.std.proofs.lemmas.List.{length-drop, take_all}
 use Rattle.time_unfold.specs.declared.stamp.Stamp.{Stamp}

@@ -1,4 +1,4 @@
--- The packet is put behind those that are kept, in the room of the oldest of 64.
+-- The packet is put after those that are kept, in the room of the oldest of 64.
 use Rattle.std.proofs.Common.{[], ◌∷◌, ◌+◌, ◌++◌, ap, sym, ◌∙◌, subst, length, vec_len}
 use Rattle.circular_buffer.specs.Buffer.{Buffer, buffer}
 use Rattle.clock_track.specs.declared.clock.Kept.{Kept}

@@ -1,4 +1,4 @@
--- What the verdict says of the entry is done.
+-- The code does what the verdict says.
 use Rattle.std.proofs.Common.{◌≡◌, false, Some, ap, sym, subst, ◌∙◌, arith, w64, to_z, of_z}
 use Rattle.std.proofs.lemmas.Int.{ints}
 use Rattle.sample_schedule.specs.declared.pending.Pending.TheVariants.{Item as PendingItem}

@@ -1,4 +1,4 @@
--- A packet is noted with its own stream: one that is tracked, one after as many others as can be, or a new one.
+-- A packet is noted with its stream, which is tracked already, or cannot be because 1,024 others are, or is new.
 use Rattle.std.proofs.Common.{◌≡◌, ℕ, ◌+◌, ◌<◌, ◌≤◌, List, length, Option, Some, None, sym, ap, ◌∙◌, subst, arith, rules}
 use Rattle.std.specs.Prelude.{if◌then◌else◌, is_some}
 use Rattle.std.specs.HashMap.{HashMap}

@@ -1,4 +1,4 @@
--- From the place behind the instant, the keys of the same instant are looked at.
+-- The search begins at the place after the instant and covers the keys of that instant.
 use Rattle.std.proofs.Common.{◌≡◌, ◌≢◌, ◌≤ℤ◌, ◌<ℤ◌, List, ap, sym, ◌∙◌, arith, w64, to_z, of_z}
 use Rattle.std.specs.List.{list_any}
 use Rattle.std.proofs.lemmas.Int.{ints}

@@ -3,7 +3,7 @@ use Rattle.std.specs.List.{AllByRecursion, list_any}
 use Rattle.sorted_keys.specs.Keys.{is_key}
 use Rattle.sorted_keys.proofs.block.Block.has.Given as goal
 
--- those looked at are others
+-- the keys searched so far are others
 abbrev pub invariant-loop-end : goal.invariant-loop-end
 invariant-loop-end l = record {
   within : l.end ≤ length l.self-inside.keys.items;

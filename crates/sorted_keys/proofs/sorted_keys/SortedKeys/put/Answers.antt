@@ -1,4 +1,4 @@
--- A block that is full is split into one that waits: as it is full, there are so few others that one does.
+-- A full block is split with a spare one. There is a spare one, because a full block leaves few others.
 use Rattle.std.proofs.Common.{◌≡◌, ◌≤◌, ◌<◌, List, [], ◌∷◌, ℕ, true, false, length, get_or, arith, rules, ap, sym, subst, ◌∙◌}
 use Rattle.std.specs.Prelude.{nat_le}
 use Rattle.std.specs.List.{AllByRecursion}

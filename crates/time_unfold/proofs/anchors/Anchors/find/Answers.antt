@@ -1,4 +1,4 @@
--- The newer stamps are behind the older.
+-- The newer stamps are after the older.
 use Rattle.std.proofs.Common.{◌≡◌, ◌++◌, All, List, sym, ap, ◌∙◌, subst}
 use Rattle.time_unfold.specs.declared.stamp.Stamp.{Stamp}
 use Rattle.time_unfold.specs.declared.stamp.Want.{Want}
