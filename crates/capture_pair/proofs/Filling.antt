@@ -100,7 +100,7 @@ drop-all n xs e = ap (λ k. drop k xs) e ∙ all xs
     all [] = refl
     all (x ∷ xs) = all xs
 
-none-left : (n : ℕ) (xs : List Shown) → n ≡ length xs → presented_of (drop n xs) ≡ []
+pub none-left : (n : ℕ) (xs : List Shown) → n ≡ length xs → presented_of (drop n xs) ≡ []
 none-left n xs e = ap presented_of (drop-all n xs e)
 
 pub goes-on : (list other : List Shown) (n k given : ℕ) (over_a over_b : Bool) (m : MatchingState) → IsHeard list → IsHeard other → Matches list other n k given m → (m.ended_a ≡ true → over_a ≡ true) → (m.ended_b ≡ true → over_b ≡ true)

@@ -9,7 +9,7 @@ use Rattle.listener.specs.Laws.{presented_of}
 use Rattle.listener_pair.specs.declared.difference.Which.{Which}
 use Rattle.listener_pair.specs.declared.difference.Which.TheVariants.{A, B}
 use Rattle.listener_pair.specs.Merged.{IsInOrder}
-use Rattle.listener_pair.specs.Matching.{MatchingState, StandsFor, ended_by, given_to, lacks, wanted}
+use Rattle.listener_pair.specs.Matching.{MatchingState, StandsFor, ended_by, given_to, lacks, nexts_left, wanted}
 use Rattle.listener_pair.proofs.Standing.{ended-a, ended-b, given-a, given-b, lacks-open, wants-a, wants-b}
 use Rattle.capture_pair.specs.Pairing.{Matches}
 use Rattle.capture_pair.specs.state.Sides.{Filled, Fills, Going, IsHeard, IsOtherSame, MatchesOn, ended_of, handed, is_passed, one_if_open, open_sides, wants_side}
@@ -248,6 +248,16 @@ handed-fewer which (Some (Present batch)) ended m was is w le = inr (let e = giv
 handed-fewer which (Some (Flag frame seq reason)) ended m was is w le = inr (omega arith)
 handed-fewer which None true m was is w le = inr (let h = ended-less which m w in omega arith)
 handed-fewer which None false m was is w le = inl w
+
+-- what was handed on takes from the work what it adds to the next batches
+pub handed-nexts : (which : Which) (next : Option Shown) (ended : Bool) (m : MatchingState) (was is : ℕ)
+    → is + length (option_to_list next) ≤ was → is + nexts_left (handed which next ended m) ≤ was + nexts_left m
+handed-nexts A (Some (Present batch)) ended m was is le = omega arith
+handed-nexts B (Some (Present batch)) ended m was is le = omega arith
+handed-nexts which (Some (Flag frame seq reason)) ended m was is le = omega arith
+handed-nexts A None true m was is le = omega arith
+handed-nexts B None true m was is le = omega arith
+handed-nexts which None false m was is le = omega arith
 
 -- ---- the side that is asked
 

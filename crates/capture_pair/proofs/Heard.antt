@@ -122,12 +122,12 @@ shown-in-order plan records =
     subst IsInOrder (sym (batches_are gs))
     (batches-in-order (presented gs) (presented-timely clock_spot (schedule_plan plan) (entries_in plan records)) (presented-ordered clock_spot (schedule_plan plan) (entries_in plan records)))
 
-due-in-order : (plan : ListenPlan) (records : List Record) → IsInOrder (presented_of (due_of plan records))
+pub due-in-order : (plan : ListenPlan) (records : List Record) → IsInOrder (presented_of (due_of plan records))
 due-in-order plan records =
     let first = due_first plan records in
     order-front (presented_of (due_of plan records)) (presented_of first.0) (subst IsInOrder (ap presented_of (sym first.1) ∙ presented-append (due_of plan records) first.0) (shown-in-order plan records))
 
-out-in-order : (b : Bool) (plan : ListenPlan) (records : List Record) → IsInOrder (presented_of (if b then shown_of plan records else due_of plan records))
+pub out-in-order : (b : Bool) (plan : ListenPlan) (records : List Record) → IsInOrder (presented_of (if b then shown_of plan records else due_of plan records))
 out-in-order true plan records = shown-in-order plan records
 out-in-order false plan records = due-in-order plan records
 

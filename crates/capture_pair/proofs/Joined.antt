@@ -287,7 +287,7 @@ any-batch s (x ∷ l) a more e = at s x.side x.batch e (λ f. any-batch s l a mo
     at B A c e ih = ih e
     at B B c e ih = refl
 
-none-batch : (s : Which) (l : List Sided) → batches_of s l ≡ [] → list_any (λ y. is_side s y.side) l ≡ false
+pub none-batch : (s : Which) (l : List Sided) → batches_of s l ≡ [] → list_any (λ y. is_side s y.side) l ≡ false
 none-batch s [] e = refl
 none-batch s (x ∷ l) e = at s x.side x.batch e (λ f. none-batch s l f)
   where
@@ -301,11 +301,11 @@ and-false : (u : Bool) → (u && false) ≡ false
 and-false true = refl
 and-false false = refl
 
-unsettled-a : (ea eb : Bool) (l : List Sided) → is_settled ea A l ≡ false → known ea eb l ≡ []
+pub unsettled-a : (ea eb : Bool) (l : List Sided) → is_settled ea A l ≡ false → known ea eb l ≡ []
 unsettled-a ea eb [] h = known-nil ea eb
 unsettled-a ea eb (x ∷ l) h = known-cons ea eb x l ∙ ap (λ v. cond (v && is_settled eb B (x ∷ l)) (x ∷ known ea eb l) []) h
 
-unsettled-b : (ea eb : Bool) (l : List Sided) → is_settled eb B l ≡ false → known ea eb l ≡ []
+pub unsettled-b : (ea eb : Bool) (l : List Sided) → is_settled eb B l ≡ false → known ea eb l ≡ []
 unsettled-b ea eb [] h = known-nil ea eb
 unsettled-b ea eb (x ∷ l) h =
     known-cons ea eb x l ∙ ap (λ v. cond (is_settled ea A (x ∷ l) && v) (x ∷ known ea eb l) []) h ∙ ap (λ v. cond v (x ∷ known ea eb l) []) (and-false (is_settled ea A (x ∷ l)))
@@ -364,7 +364,7 @@ cross-nexts-b done na nb sorted = all-weaker (λ d. AllByRecursion (MayPrecede d
         by false p = p.1
 
 -- a list is what a matching was given of a side, and then what it was not
-given-back : (xs done more : List Presented) (next : Option Presented) → done ++ option_to_list next ≡ xs → xs ++ more ≡ done ++ rest_of next more
+pub given-back : (xs done more : List Presented) (next : Option Presented) → done ++ option_to_list next ≡ xs → xs ++ more ≡ done ++ rest_of next more
 given-back xs done more next e = ap (λ (l : List Presented). l ++ more) (sym e) ∙ append_assoc done (option_to_list next) more
 
 -- the merged list of all is what was worked through and the merged list of the rest

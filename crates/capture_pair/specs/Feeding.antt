@@ -1,13 +1,13 @@
 -- Two listeners with one plan, each of which is fed the bytes of a capture, and the differences of what they present.
-use Rattle.std.specs.Prelude.{◌≡◌, ℕ, ◌^◌, ◌≤◌, Bool, List, length, Option}
+use Rattle.std.specs.Prelude.{◌≡◌, ℕ, ◌+◌, ◌^◌, ◌≤◌, Bool, List, length, Option}
 use Rattle.sample_schedule.specs.Batches.{Presented}
 use Rattle.listener.specs.declared.plan.ListenPlan.{ListenPlan}
-use Rattle.listener.specs.Feeding.{Feeding, StandsFor as IsFed, is_ended, out}
+use Rattle.listener.specs.Feeding.{Feeding, StandsFor as IsFed, is_ended, out, work}
 use Rattle.listener.specs.Laws.{presented_of}
 use Rattle.listener_pair.specs.declared.difference.Which.{Which}
 use Rattle.listener_pair.specs.declared.difference.Which.TheVariants.{A, B}
 use Rattle.listener_pair.specs.Merged.{Sided, known, merged}
-use Rattle.listener_pair.specs.Matching.{IsIdle, MatchingState, wanted}
+use Rattle.listener_pair.specs.Matching.{IsIdle, MatchingState, nexts_left, wanted}
 use Rattle.capture_pair.specs.Pairing.{Pairs, other_of}
 
 -- Two listeners that are fed, and the matching of what they present.
@@ -52,6 +52,11 @@ StandsFor bytes others given pair = Pairs (λ list n. IsFed bytes n pair.a) (λ 
 -- nothing more is known: what comes next in the merged list rests on what a listener presents later, or both have ended and are through
 abbrev pub IsThrough : FedPair → Type 0
 IsThrough pair = IsIdle pair.matching
+
+-- The most differences that it can still give of what it was fed: one for each item that a listener can still show, and for each
+-- next batch.
+abbrev pub most_left : FedPair → ℕ
+most_left pair = (work pair.a + work pair.b) + nexts_left pair.matching
 
 -- both listeners have their plans and readers, have ended or not, and found memory or not, as before
 pub record Keeps (old new : FedPair) : Type 0 where

@@ -1,15 +1,15 @@
 -- Two listeners with one plan, each of which is given the records of a capture, and the differences of what they present.
-use Rattle.std.specs.Prelude.{◌≡◌, ℕ, ◌+◌, ◌≤◌, Bool, true, List, length, take, Option, Some}
+use Rattle.std.specs.Prelude.{◌≡◌, ℕ, ◌+◌, ◌≤◌, Bool, true, List, [], length, take, Option, Some}
 use Rattle.pcap_frames.specs.Capture.{Record}
 use Rattle.sample_schedule.specs.Batches.{Presented}
 use Rattle.sample_schedule.specs.declared.shown.Shown.{Shown}
 use Rattle.listener.specs.declared.plan.ListenPlan.{ListenPlan}
 use Rattle.listener.specs.Laws.{presented_of}
-use Rattle.listener.specs.Listening.{ListenState, StandsFor as IsGiven, is_closed, out}
+use Rattle.listener.specs.Listening.{ListenState, StandsFor as IsGiven, is_closed, out, work}
 use Rattle.listener_pair.specs.declared.difference.Which.{Which}
 use Rattle.listener_pair.specs.declared.difference.Which.TheVariants.{A, B}
 use Rattle.listener_pair.specs.Merged.{Sided, known, merged}
-use Rattle.listener_pair.specs.Matching.{IsIdle, MatchingState, StandsFor as IsMatched, wanted}
+use Rattle.listener_pair.specs.Matching.{IsIdle, MatchingState, StandsFor as IsMatched, nexts_left, wanted}
 
 -- Two listeners, and the matching of what they present.
 pub record PairState : Type 0 where
@@ -72,6 +72,24 @@ StandsFor records others given pair = Pairs (λ list n. IsGiven records n pair.a
 -- nothing more is known: what comes next in the merged list rests on what a listener presents later, or both are closed and through
 abbrev pub IsThrough : PairState → Type 0
 IsThrough pair = IsIdle pair.matching
+
+-- a side that has ended for the matching is closed
+pub record EndsAreClosed (pair : PairState) : Type 0 where
+  pub a : pair.matching.ended_a ≡ true → is_closed pair.a ≡ true
+  pub b : pair.matching.ended_b ≡ true → is_closed pair.b ≡ true
+
+-- A pair goes on from another, given these further records of A and of B: the plans are the same, and a side that was closed is
+-- closed and was given no more.
+pub record Continues (more more_others : List Record) (old new : PairState) : Type 0 where
+  pub plan_a : new.a.plan ≡ old.a.plan
+  pub plan_b : new.b.plan ≡ old.b.plan
+  pub closed_a : is_closed old.a ≡ true → (is_closed new.a ≡ true) × (more ≡ [])
+  pub closed_b : is_closed old.b ≡ true → (is_closed new.b ≡ true) × (more_others ≡ [])
+
+-- The most differences that it can still give of what it was given: one for each item that a listener can still show, and for each
+-- next batch.
+abbrev pub most_left : PairState → ℕ
+most_left pair = (work pair.a + work pair.b) + nexts_left pair.matching
 
 -- both listeners have their plans, were given as many records, and are closed or open, as before
 pub record Keeps (old new : PairState) : Type 0 where

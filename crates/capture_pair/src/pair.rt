@@ -11,7 +11,7 @@ ghost use Rattle.listener.specs.Feeding.{bytes_after, is_ended, is_memory};
 ghost use Rattle.listener.specs.Heard.{schedule_plan};
 ghost use Rattle.listener.specs.declared.listener.ListenFault.TheVariants.{Refused as IsRefused, Memory as OutOfMemory};
 ghost use Rattle.listener_pair.specs.Differences.{counts_of, differences};
-ghost use Rattle.capture_pair.specs.Feeding.{AreShort, HavePlan, IsThrough, Keeps, KeepsOther, StandsFor, bytes_of, fed_of, known_by, wanted_by};
+ghost use Rattle.capture_pair.specs.Feeding.{AreShort, HavePlan, IsThrough, Keeps, KeepsOther, StandsFor, bytes_of, fed_of, known_by, most_left, wanted_by};
 ghost use Rattle.capture_pair.specs.state.Fed.{EndedBy, EndedOn, FedBy, FedOn, IsBegun, IsBoundedOn, IsOpen, IsOpenOn};
 
 use crate::sides::{fill_both, next_difference};
@@ -114,12 +114,13 @@ impl Pair {
     }
 
     /// The next difference of the known part of the merged list of what both listeners present. None comes exactly if no further one
-    /// is in it. Takes no memory.
+    /// is in it. The differences that can be given of what was given so far are finitely many. Takes no memory.
     pub fn next_difference(&mut self) -> Option<Difference>
         ensures given { (bytes others : List ℕ) (given : ℕ) → AreShort bytes others → StandsFor bytes others given self.old → result ≡ slice_get (differences (known_by self.old bytes others)) given }
         ensures stands { (bytes others : List ℕ) (given : ℕ) → AreShort bytes others → StandsFor bytes others given self.old → StandsFor bytes others (given + length (option_to_list result)) self.new }
         ensures through { IfNone result (IsThrough self.new) }
         ensures keeps { Keeps self.old self.new }
+        ensures less { most_left self.new + length (option_to_list result) ≤ most_left self.old }
     {
         next_difference(&mut self.a, &mut self.b, &mut self.matching)
     }

@@ -1,6 +1,6 @@
 //! Two captures, from one record at a time.
 
-ghost use Rattle.std.specs.Prelude.{◌≡◌, ◌+◌, ◌^◌, ◌<◌, ◌++◌, ◌∷◌, [], ℕ, true, false, List, length, slice_get, None, Some, IfNone, IfOk, OnErr, OnOk};
+ghost use Rattle.std.specs.Prelude.{◌≡◌, ◌+◌, ◌^◌, ◌<◌, ◌≤◌, ◌++◌, ◌∷◌, [], ℕ, true, false, List, length, slice_get, None, Some, IfNone, IfOk, OnErr, OnOk};
 ghost use Rattle.std.specs.Option.{option_to_list};
 ghost use Rattle.pcap_frames.specs.Capture.{Record};
 ghost use Rattle.pcap_frames.specs.Reading.{shown};
@@ -9,7 +9,7 @@ ghost use Rattle.time_unfold.specs.Time.{IsArrival};
 ghost use Rattle.listener.specs.Heard.{schedule_plan};
 ghost use Rattle.listener.specs.Listening.{is_closed};
 ghost use Rattle.listener_pair.specs.Differences.{counts_of, differences};
-ghost use Rattle.capture_pair.specs.Pairing.{Changes, HavePlan, IsThrough, Keeps, StandsFor, known_by, listener_of, wanted_by};
+ghost use Rattle.capture_pair.specs.Pairing.{Changes, EndsAreClosed, HavePlan, IsThrough, Keeps, StandsFor, known_by, listener_of, most_left, wanted_by};
 ghost use Rattle.capture_pair.specs.state.Taking.{Closed, ClosedOn, IsBegun, IsQuiet, IsQuietOn, IsReady, IsReadyOn, Took, TookOn};
 
 use crate::sides::{fill_both, next_difference};
@@ -57,6 +57,7 @@ impl RecordPair {
         ensures open { IfOk result (λ pair. wanted_by pair ≡ Some Which.A) }
         ensures none_a { IfOk result (λ pair. pair.a.counts.frames ≡ 0) }
         ensures none_b { IfOk result (λ pair. pair.b.counts.frames ≡ 0) }
+        ensures going { IfOk result (λ pair. (is_closed pair.a ≡ false) × (is_closed pair.b ≡ false)) }
     {
         let a = begin_source(alloc, plan)?;
         let b = begin_source(alloc, plan)?;
@@ -70,6 +71,7 @@ impl RecordPair {
         ensures wanted { result ≡ wanted_by self.now }
         ensures open { (which : Which) → result ≡ Some which → is_closed (listener_of which self.now) ≡ false }
         ensures closed { result ≡ None → IsThrough self.now → (is_closed self.now.a ≡ true) × (is_closed self.now.b ≡ true) }
+        ensures ends { EndsAreClosed self.now }
     {
         self.matching.wants()
     }
@@ -106,12 +108,14 @@ impl RecordPair {
     }
 
     /// The next difference of the known part of the merged list of what both listeners present. None comes exactly if no further one
-    /// is in it. Takes no memory.
+    /// is in it. The differences that can be given of what was given so far are finitely many. Takes no memory.
     pub fn next_difference(&mut self) -> Option<Difference>
         ensures given { (records others : List Record) (given : ℕ) → StandsFor records others given self.old → result ≡ slice_get (differences (known_by self.old records others)) given }
         ensures stands { (records others : List Record) (given : ℕ) → StandsFor records others given self.old → StandsFor records others (given + length (option_to_list result)) self.new }
         ensures through { IfNone result (IsThrough self.new) }
         ensures keeps { Keeps self.old self.new }
+        ensures ends { EndsAreClosed self.new }
+        ensures less { most_left self.new + length (option_to_list result) ≤ most_left self.old }
     {
         next_difference(&mut self.a, &mut self.b, &mut self.matching)
     }

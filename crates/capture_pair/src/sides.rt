@@ -6,7 +6,7 @@ ghost use Rattle.sample_schedule.specs.declared.shown.Shown.{Shown as ShownValue
 ghost use Rattle.listener.specs.Laws.{presented_of};
 ghost use Rattle.listener_pair.specs.Differences.{differences};
 ghost use Rattle.listener_pair.specs.Merged.{known, merged};
-ghost use Rattle.listener_pair.specs.Matching.{IsIdle, wanted};
+ghost use Rattle.listener_pair.specs.Matching.{IsIdle, nexts_left, wanted};
 ghost use Rattle.capture_pair.specs.Pairing.{Pairs};
 ghost use Rattle.capture_pair.specs.state.Sides.{Filled, Fills, Holds, IsBounded, IsHeard, IsSettled, MatchesOn, Taken, handed, is_passed, open_sides, wants_side};
 
@@ -53,6 +53,7 @@ fn fill<S: Source>(source: &mut S, matching: &mut Matching, which: Which)
     ensures kept { S.kept source.new ≡ S.kept source.old }
     ensures less { S.work source.new + open_sides matching.new ≤ S.work source.old + open_sides matching.old }
     ensures fewer { wanted matching.old ≡ Some which → (wanted matching.new ≡ Some which) ⊎ (S.work source.new + open_sides matching.new < S.work source.old + open_sides matching.old) }
+    ensures nexts { S.work source.new + nexts_left matching.new ≤ S.work source.old + nexts_left matching.old }
 {
     if !is_wanted(matching, which) {
         return;
@@ -75,6 +76,7 @@ pub fn fill_both<S: Source>(a: &mut S, b: &mut S, matching: &mut Matching)
     ensures kept_b { S.kept b.new ≡ S.kept b.old }
     ensures same { wanted matching.old ≡ None → matching.new ≡ matching.old }
     ensures less { IsSome (wanted matching.old) → wanted matching.new ≡ None → (S.work a.new + S.work b.new) + open_sides matching.new < (S.work a.old + S.work b.old) + open_sides matching.old }
+    ensures nexts { (S.work a.new + S.work b.new) + nexts_left matching.new ≤ (S.work a.old + S.work b.old) + nexts_left matching.old }
 {
     fill(a, matching, Which::A);
     fill(b, matching, Which::B);
@@ -95,6 +97,7 @@ pub fn next_difference<S: Source>(
     ensures idle { IfNone result (IsIdle matching.new) }
     ensures kept_a { S.kept a.new ≡ S.kept a.old }
     ensures kept_b { S.kept b.new ≡ S.kept b.old }
+    ensures less { ((S.work a.new + S.work b.new) + nexts_left matching.new) + length (option_to_list result) ≤ (S.work a.old + S.work b.old) + nexts_left matching.old }
 {
     loop {
         let difference = matching.next_difference();

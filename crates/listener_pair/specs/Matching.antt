@@ -35,6 +35,10 @@ lacks false (Some batch) = false
 abbrev pub wanted : MatchingState → Option Which
 wanted m = if lacks m.ended_a m.next_a then Some A else if lacks m.ended_b m.next_b then Some B else None
 
+-- the number of next batches
+abbrev pub nexts_left : MatchingState → ℕ
+nexts_left m = length (option_to_list m.next_a) + length (option_to_list m.next_b)
+
 -- the matching after the wanted side presented its next batch
 abbrev pub given_to : Which → Presented → MatchingState → MatchingState
 given_to A batch m = record m { next_a = Some batch }

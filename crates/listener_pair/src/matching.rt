@@ -5,8 +5,8 @@ ghost use Rattle.std.specs.Option.{option_to_list};
 ghost use Rattle.sample_schedule.specs.Batches.{Presented};
 ghost use Rattle.listener_pair.specs.Merged.{IsInOrder};
 ghost use Rattle.listener_pair.specs.Differences.{between as between_of, counts_of, difference_of as difference_of_pair, differences};
-ghost use Rattle.listener_pair.specs.Matching.{IsIdle, StandsFor, ended_by, given_to, known_of, wanted};
-ghost use Rattle.listener_pair.specs.state.Window.{EntersSide, counted as counted_by, difference_by_pair, next_of, next_side, nexts_left, without_next};
+ghost use Rattle.listener_pair.specs.Matching.{IsIdle, StandsFor, ended_by, given_to, known_of, nexts_left, wanted};
+ghost use Rattle.listener_pair.specs.state.Window.{EntersSide, counted as counted_by, difference_by_pair, next_of, next_side, without_next};
 
 use crate::difference::{Difference, PairCounts, Which};
 use crate::placed::{Paired, Placed};
@@ -106,13 +106,14 @@ impl Matching {
         }
     }
 
-    /// The next difference of the known part of the merged list, and `None` exactly if there is no further one. Allocates
-    /// nothing.
+    /// The next difference of the known part of the merged list, and `None` exactly if there is no further one. Each difference
+    /// takes a next batch. Allocates nothing.
     pub fn next_difference(&mut self) -> Option<Difference>
         ensures given { (xs ys : List Presented) (given : ℕ) → StandsFor xs ys given self.old → result ≡ slice_get (differences (known_of self.old xs ys)) given }
         ensures stands { (xs ys : List Presented) (given : ℕ) → StandsFor xs ys given self.old → StandsFor xs ys (given + length (option_to_list result)) self.new }
         ensures idle { IfNone result (IsIdle self.new) }
         ensures ended { (self.new.ended_a ≡ self.old.ended_a) × (self.new.ended_b ≡ self.old.ended_b) }
+        ensures less { nexts_left self.new + length (option_to_list result) ≤ nexts_left self.old }
     {
         loop {
             let Some(side) = self.next_side() else {

@@ -1,16 +1,19 @@
 //! Laws of the pairs of two captures. Each call is its contract, and does nothing.
 
-ghost use Rattle.std.specs.Prelude.{◌≡◌, ◌<◌, [], ℕ, ℤ, Any, Bool, List, Some, length, slice_get};
+ghost use Rattle.std.specs.Prelude.{◌≡◌, ◌<◌, ◌≤◌, ◌++◌, [], ℕ, ℤ, Any, Bool, true, false, List, Some, length, slice_get, take};
 ghost use Rattle.std.specs.List.{AllByRecursion};
 ghost use Rattle.pcap_frames.specs.Capture.{Record};
 ghost use Rattle.packet_journal.specs.Packets.{IsConforming, PacketJournal};
 ghost use Rattle.sample_schedule.specs.Batches.{Presented};
 ghost use Rattle.listener.specs.declared.plan.ListenPlan.{ListenPlan};
-ghost use Rattle.listener.specs.Heard.{shown_of};
+ghost use Rattle.listener.specs.Heard.{due_of, shown_of};
 ghost use Rattle.listener.specs.Laws.{HearsTalker, IsOfPacket, by_clock, presented_of};
+ghost use Rattle.listener.specs.Listening.{is_closed};
+ghost use Rattle.listener_pair.specs.declared.difference.Which.TheVariants.{A, B};
 ghost use Rattle.listener_pair.specs.Differences.{counts_of, differences};
-ghost use Rattle.listener_pair.specs.Merged.{Sided, merged};
+ghost use Rattle.listener_pair.specs.Merged.{Sided, known, merged};
 ghost use Rattle.listener_pair.specs.Pairs.{pairs};
+ghost use Rattle.capture_pair.specs.Pairing.{Continues, EndsAreClosed, HavePlan, PairState, StandsFor, known_by, wanted_by};
 ghost use Rattle.pair_laws.specs.Agreeing.{IsOneOf, IsPairOf, IsPresentedOfTalker};
 ghost use Rattle.pair_laws.specs.Beside.{IsPresentation};
 
@@ -42,4 +45,35 @@ pub fn batches_of_one_talker_never_differ()
     ensures differ { (shift : ℤ) (by : Bool) (p : PacketJournal) (list : List Sided) → IsConforming shift p → AllByRecursion (λ x. IsPresentedOfTalker by p x.batch) list → differences list ≡ [] }
     ensures one { (shift : ℤ) (by : Bool) (p : PacketJournal) (list : List Sided) → IsConforming shift p → AllByRecursion (λ x. IsPresentedOfTalker by p x.batch) list → AllByRecursion (IsOneOf by p) (pairs list) }
     ensures presented { (shift : ℤ) (p : PacketJournal) (plan : ListenPlan) (records : List Record) → HearsTalker shift p plan records → AllByRecursion (IsPresentedOfTalker (by_clock plan) p) (presented_of (shown_of plan records)) }
+{}
+
+/// The differences that a pair has given are the first of those that are known, and stay so however the two captures go on or end.
+pub fn what_was_given_stays()
+    ensures within { (records others : List Record) (given : ℕ) (pair : PairState) → StandsFor records others given pair → EndsAreClosed pair → given ≤ length (differences (known_by pair records others)) }
+    ensures stays { (records others more more_others : List Record) (given : ℕ) (old new : PairState) → StandsFor records others given old → EndsAreClosed old → Continues more more_others old new
+        → take given (differences (known_by new (records ++ more) (others ++ more_others))) ≡ take given (differences (known_by old records others)) }
+{}
+
+/// What is known while a pair wants more of a capture, as where that capture cannot be read on: of that capture what is due of its
+/// records so far, which may go on, beside all that is shown of the other one, whatever is read of it further. Once both are
+/// closed, all that both show is known.
+pub fn what_a_fault_leaves_is_known()
+    ensures a { (plan : ListenPlan) (records others more : List Record) (given : ℕ) (pair : PairState) → StandsFor records others given pair → HavePlan plan pair → EndsAreClosed pair → wanted_by pair ≡ Some A → is_closed pair.a ≡ false → (is_closed pair.b ≡ true → more ≡ [])
+        → known_by pair records others ≡ known false true (merged (presented_of (due_of plan records)) (presented_of (shown_of plan (others ++ more)))) }
+    ensures b { (plan : ListenPlan) (records others more : List Record) (given : ℕ) (pair : PairState) → StandsFor records others given pair → HavePlan plan pair → EndsAreClosed pair → wanted_by pair ≡ Some B → is_closed pair.b ≡ false → (is_closed pair.a ≡ true → more ≡ [])
+        → known_by pair records others ≡ known true false (merged (presented_of (shown_of plan (records ++ more))) (presented_of (due_of plan others))) }
+    ensures both { (plan : ListenPlan) (records others : List Record) (pair : PairState) → HavePlan plan pair → is_closed pair.a ≡ true → is_closed pair.b ≡ true
+        → known_by pair records others ≡ merged (presented_of (shown_of plan records)) (presented_of (shown_of plan others)) }
+{}
+
+/// What is known of captures of one talker never differs, however far each was read: of what is due of the records so far, or of
+/// all that is shown, on either side, whether the sides go on or not.
+pub fn what_is_known_of_one_talker_never_differs()
+    ensures pair { (shift : ℤ) (p : PacketJournal) (plan : ListenPlan) (records others : List Record) (pair : PairState) → HearsTalker shift p plan records → HearsTalker shift p plan others → HavePlan plan pair → differences (known_by pair records others) ≡ [] }
+    ensures due_a { (shift : ℤ) (p : PacketJournal) (plan : ListenPlan) (records others : List Record) (ended_a ended_b : Bool) → HearsTalker shift p plan records → HearsTalker shift p plan others
+        → differences (known ended_a ended_b (merged (presented_of (due_of plan records)) (presented_of (shown_of plan others)))) ≡ [] }
+    ensures due_b { (shift : ℤ) (p : PacketJournal) (plan : ListenPlan) (records others : List Record) (ended_a ended_b : Bool) → HearsTalker shift p plan records → HearsTalker shift p plan others
+        → differences (known ended_a ended_b (merged (presented_of (shown_of plan records)) (presented_of (due_of plan others)))) ≡ [] }
+    ensures shown { (shift : ℤ) (p : PacketJournal) (plan : ListenPlan) (records others : List Record) (ended_a ended_b : Bool) → HearsTalker shift p plan records → HearsTalker shift p plan others
+        → differences (known ended_a ended_b (merged (presented_of (shown_of plan records)) (presented_of (shown_of plan others)))) ≡ [] }
 {}

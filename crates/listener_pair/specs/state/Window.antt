@@ -2,7 +2,6 @@
 -- What waits for a partner, and a batch that comes.
 use Rattle.std.specs.Prelude.{◌≡◌, ℕ, suc, ◌+◌, ◌-◌, ◌^◌, ◌<◌, ◌≤◌, nat_le, min, Bool, true, false, if◌then◌else◌, List, [], ◌∷◌, ◌++◌, length, Option, None, Some, option_map, is_some, int_lt}
 use Rattle.std.specs.List.{find}
-use Rattle.std.specs.Option.{option_to_list}
 use Rattle.sample_schedule.specs.Batches.{Presented}
 use Rattle.sample_schedule.specs.Verdicts.{first_instant}
 use Rattle.listener_pair.specs.declared.difference.Difference.{Difference}
@@ -89,10 +88,6 @@ next_side m = if is_some (wanted m) then None else first_side m.next_a m.next_b
 abbrev pub next_of : Which → MatchingState → Option Presented
 next_of A m = m.next_a
 next_of B m = m.next_b
-
--- the number of next batches
-abbrev pub nexts_left : MatchingState → ℕ
-nexts_left m = length (option_to_list m.next_a) + length (option_to_list m.next_b)
 
 -- the matching without the next batch of a side
 abbrev pub without_next : Which → MatchingState → MatchingState

@@ -1,4 +1,4 @@
-use Rattle.std.proofs.Common.{◌≡◌, ◌+◌, ◌∙◌, List, ℕ, Bool, Option, None, true, false, length, ap, sym, refl, subst}
+use Rattle.std.proofs.Common.{◌≡◌, ◌+◌, ◌∙◌, List, ℕ, Bool, Option, None, true, false, length, ap, sym, refl, subst, arith}
 use Rattle.std.specs.Prelude.{is_some, not}
 use Rattle.std.specs.Option.{option_to_list}
 use Rattle.listener_pair.specs.Matching.{IsIdle, MatchingState, wanted}
@@ -77,4 +77,26 @@ loop-wanted-preserved g c =
       settled = c.fill_both.ensures.settled;
       kept_a = c.fill_both.ensures.kept_a ∙ c.loop-wanted.invariant.kept_a;
       kept_b = c.fill_both.ensures.kept_b ∙ c.loop-wanted.invariant.kept_b;
+      less = let f = c.fill_both.ensures.nexts in let n = c.next_difference-difference.ensures.less in let i = c.loop-wanted.invariant.less in omega arith;
     }
+
+pub returns-then-is_some-clause-less : goal.returns-then-is_some-clause-less
+returns-then-is_some-clause-less g c =
+    let f = c.fill_both.ensures.nexts in
+    let n = c.next_difference-difference.ensures.less in
+    let i = c.loop-wanted.invariant.less in
+    omega arith
+
+pub returns-then-is_none-clause-less : goal.returns-then-is_none-clause-less
+returns-then-is_none-clause-less g c =
+    let f = c.fill_both.ensures.nexts in
+    let n = c.next_difference-difference.ensures.less in
+    let i = c.loop-wanted.invariant.less in
+    omega arith
+
+pub returns-then-is_some-2-clause-less : goal.returns-then-is_some-2-clause-less
+returns-then-is_some-2-clause-less g c =
+    let f = c.fill_both.ensures.nexts in
+    let n = c.next_difference-difference.ensures.less in
+    let i = c.loop-wanted.invariant.less in
+    omega arith

@@ -1,4 +1,5 @@
-use Rattle.std.proofs.Common.{◌≡◌, ◌+◌, List, ℕ}
+use Rattle.std.proofs.Common.{◌≡◌, ◌+◌, ◌≤◌, List, ℕ}
+use Rattle.listener_pair.specs.Matching.{nexts_left}
 use Rattle.sample_schedule.specs.declared.shown.Shown.{Shown as ShownValue}
 use Rattle.capture_pair.specs.Pairing.{Pairs}
 use Rattle.capture_pair.specs.state.Sides.{IsHeard, IsSettled, Taken, open_sides}
@@ -11,6 +12,8 @@ invariant-loop-wanted g l = record {
   settled : IsSettled (g.S.Source.kept l.a).ended (g.S.Source.kept l.b).ended (g.S.Source.is_quiet l.a) (g.S.Source.is_quiet l.b) l.matching;
   kept_a : g.S.Source.kept l.a ≡ g.S.Source.kept l.initial.a;
   kept_b : g.S.Source.kept l.b ≡ g.S.Source.kept l.initial.b;
+  less : (g.S.Source.work l.a + g.S.Source.work l.b) + nexts_left l.matching
+      ≤ (g.S.Source.work l.initial.a + g.S.Source.work l.initial.b) + nexts_left l.initial.matching;
 }
 
 abbrev pub decreases-loop-wanted : goal.decreases-loop-wanted

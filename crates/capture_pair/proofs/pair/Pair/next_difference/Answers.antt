@@ -1,9 +1,9 @@
-use Rattle.std.proofs.Common.{◌≡◌, ◌+◌, ◌∙◌, length, ap, sym, subst}
+use Rattle.std.proofs.Common.{◌≡◌, ◌+◌, ◌≤◌, ◌∙◌, length, ap, sym, subst}
 use Rattle.std.specs.Prelude.{slice_get}
 use Rattle.std.specs.Option.{option_to_list}
 use Rattle.listener.specs.Feeding.{out}
 use Rattle.listener_pair.specs.Differences.{differences}
-use Rattle.capture_pair.specs.Feeding.{FedPair, StandsFor, known_by}
+use Rattle.capture_pair.specs.Feeding.{FedPair, StandsFor, known_by, most_left}
 use Rattle.capture_pair.specs.state.Sides.{OfBytes}
 use Rattle.capture_pair.proofs.Fed.{heard-a, heard-b, sides-as, stands-as}
 use Rattle.capture_pair.proofs.pair.Pair.next_difference.Goals as goal
@@ -21,3 +21,9 @@ returns-clause-stands c bytes others given short s =
     let st = subst (StandsFor bytes others given) (sym c.self.view_is) s in
     stands-as bytes others (out pair.a bytes) (out pair.b others) (given + length (option_to_list c.next_difference.result)) c.next_difference.new.a.listener c.next_difference.new.b.listener c.next_difference.new.matching
     (c.next_difference.ensures.pairs (OfBytes bytes) (OfBytes others) (out pair.a bytes) (out pair.b others) given (heard-a bytes others pair short) (heard-b bytes others pair short) (sides-as bytes others given pair st))
+
+pub returns-clause-less : goal.returns-clause-less
+returns-clause-less c =
+    let left = c.next_difference.new in
+    let new : FedPair = record { a = left.a.listener; b = left.b.listener; matching = left.matching } in
+    subst (λ (p : FedPair). most_left new + length (option_to_list c.next_difference.result) ≤ most_left p) c.self.view_is c.next_difference.ensures.less

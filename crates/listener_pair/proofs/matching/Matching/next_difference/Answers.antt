@@ -1,6 +1,7 @@
 -- Nothing more is known.
-use Rattle.std.proofs.Common.{◌≡◌, List, ap, sym, ◌∙◌}
+use Rattle.std.proofs.Common.{◌≡◌, ◌≤◌, List, Option, Some, None, length, ap, sym, ◌∙◌, arith}
 use Rattle.std.specs.Prelude.{slice_get}
+use Rattle.std.specs.Option.{option_to_list}
 use Rattle.listener_pair.specs.Merged.{known, merged}
 use Rattle.listener_pair.specs.Differences.{differences}
 use Rattle.listener_pair.proofs.Standing.{idle-none, no-next}
@@ -14,3 +15,15 @@ returns-in_default-clause-given c xs ys given s =
     sym (ap (λ e. slice_get (differences (known e c.args.self.now.ended_b (merged xs ys))) given) (sym c.loop-side.invariant.ended_a)
     ∙ ap (λ e. slice_get (differences (known c.loop-side.self.ended_a e (merged xs ys))) given) (sym c.loop-side.invariant.ended_b)
     ∙ idle-none xs ys given c.loop-side.self (c.loop-side.invariant.stands xs ys given s) (no-next c.loop-side.self (sym c.next_side.ensures ∙ c.in_default.is)))
+
+at-most-one : {T : Type 0} (o : Option T) → length (option_to_list o) ≤ 1
+at-most-one None = omega arith
+at-most-one (Some x) = omega arith
+
+-- a difference takes a next batch
+pub returns-then-is_some-clause-less : goal.returns-then-is_some-clause-less
+returns-then-is_some-clause-less c =
+    let one = at-most-one c.step-difference.result in
+    let step = c.step-difference.ensures.less in
+    let so_far = c.loop-side.invariant.less in
+    omega arith
