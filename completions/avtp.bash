@@ -2,7 +2,7 @@
 _avtp() {
     local cur=${COMP_WORDS[COMP_CWORD]} prev=${COMP_WORDS[COMP_CWORD - 1]} command=${COMP_WORDS[1]} words=''
     if [ "$COMP_CWORD" -eq 1 ]; then
-        COMPREPLY=($(compgen -W 'show check listen talk soak' -- "$cur"))
+        COMPREPLY=($(compgen -W 'show check listen talk soak agree' -- "$cur"))
         return
     fi
     case $command:$prev in
@@ -32,6 +32,13 @@ _avtp() {
         talk:--crf-points) words='' ;;
         talk:--crf-rate) words='' ;;
         talk:--crf-pull) words='' ;;
+        agree:--limit) words='' ;;
+        agree:--buffer) words='' ;;
+        agree:--room) words='' ;;
+        agree:--look) words='' ;;
+        agree:--lead) words='' ;;
+        agree:--clock) words='' ;;
+        agree:--crf-shift) words='' ;;
         soak:soak) words='' ;;
         *) words=- ;;
     esac
@@ -44,6 +51,7 @@ _avtp() {
             listen) words='--limit --buffer --room --look --lead --clock --crf-shift --ring --raw --silence --annexb' ;;
             talk) words='--kind --format --rate --channels --count --id --start --lead --sparse --restart --jump --crf --crf-interval --crf-points --crf-rate --crf-pull --last-stamp' ;;
             soak) words='' ;;
+            agree) words='--limit --buffer --room --look --lead --clock --crf-shift' ;;
         esac
         COMPREPLY=($(compgen -W "$words" -- "$cur"))
     else

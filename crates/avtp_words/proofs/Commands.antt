@@ -17,7 +17,7 @@ use Rattle.avtp_words.specs.declared.command.Offence.{Offence}
 use Rattle.avtp_words.specs.declared.crf.Crf.{Crf}
 use Rattle.avtp_words.specs.declared.device.Silence.{Silence}
 use Rattle.avtp_words.specs.declared.device.Silence.TheVariants.{Zero, Am824 as Blocks}
-use Rattle.avtp_words.specs.Given.{IsGiven, IsGivenId, IsGivenIdIf, IsGivenIf, IsGivenSigned, IsGivenSilence}
+use Rattle.avtp_words.specs.Given.{IsGiven, IsGivenId, IsGivenIdIf, IsGivenIf, IsGivenSilence}
 use Rattle.avtp_words.specs.Number.{IsNumber}
 use Rattle.avtp_words.specs.Operands.{AreOperands}
 use Rattle.avtp_words.specs.declared.listener.ListenerOptions.{ListenerOptions}
@@ -26,7 +26,7 @@ use Rattle.avtp_words.specs.Word.{texts, BeginsWithDash, IsId}
 use Rattle.avtp_words.specs.Limits as limits
 use Rattle.avtp_words.specs.Limits.{NumberOption, default_rate, number, signed, with_default}
 use Rattle.avtp_words.specs.Options.{Row, row_named, Setting, words_of, IsValue, IsSetting, stands_alone, value_in}
-use Rattle.avtp_words.specs.Grammar.{request_of, Request, Listening, Talking, show, check, listen, talk, soak, Form, form_named, show_form, check_form, listen_form, talk_form, soak_form, IsOf, IsShow, IsCheck, IsGivenFile, IsGivenRaw, IsSoak, NamedFile, NamedRaw, NamesFile, SaysClock, SaysKind, SaysListen, SaysListener, SaysTalk, KeepsNames, KeepsRules, IsCommandLine, IsLine, Begins, Stops, StopsAt, IsOffence, of_a_word, of_a_rule}
+use Rattle.avtp_words.specs.Grammar.{request_of, Request, Agreeing, Listening, Talking, show, check, listen, talk, soak, agree, Form, form_named, show_form, check_form, listen_form, talk_form, soak_form, agree_form, IsOf, IsShow, IsCheck, IsGivenFile, IsGivenRaw, IsSoak, NamedFile, NamedRaw, NamesFile, SaysAgree, SaysClock, SaysKind, SaysListen, SaysListener, SaysTalk, KeepsNames, KeepsRules, IsCommandLine, IsLine, Begins, Stops, StopsAt, IsOffence, of_a_word, of_a_rule}
 use Rattle.avtp_words.proofs.Settings.{same-true}
 use Rattle.avtp_words.proofs.CommandLines.{same_line, left_is, value_is, value-after, number_given, number_given_if, id_given, id_given_if, signed_given, format_given, within, same_number, same_number_if, same_id, same_id_given, same_id_given_if, same_signed, same_format_given, options_to, beyond}
 use Rattle.avtp_words.proofs.Clocks.{clock_within, same_clock}
@@ -75,6 +75,7 @@ line_of words (show limit file) s = record { form = show_form; known = refl; set
 line_of words (check limit files) s = record { form = check_form; known = refl; settings = s.settings; names = files; line = s.line }
 line_of words (listen asked) (s, rules) = record { form = listen_form; known = refl; settings = s.settings; names = s.id ∷ asked.files; line = s.line }
 line_of words (soak packets) s = record { form = soak_form; known = refl; settings = s.settings; names = s.number ∷ []; line = s.line }
+line_of words (agree asked) s = record { form = agree_form; known = refl; settings = s.settings; names = s.id ∷ asked.a ∷ asked.b ∷ []; line = s.line }
 line_of words (talk asked) (s, rules) = record { form = talk_form; known = refl; settings = s.settings; names = asked.input ∷ asked.output ∷ []; line = s.line }
 
 -- ---- no command
@@ -108,8 +109,8 @@ pub words_are : (words rest : List (String Global)) (command : String Global) (n
 words_are words rest command name e same = ap texts e ∙ ap (λ (first : List ℕ). first ∷ texts rest) same
 
 -- a word that is no command's has no form
-no_form : (word : List ℕ) → (word ≡ codes "show" → ⊥) → (word ≡ codes "check" → ⊥) → (word ≡ codes "listen" → ⊥) → (word ≡ codes "talk" → ⊥) → (word ≡ codes "soak" → ⊥) → form_named word ≡ None
-no_form word not_show not_check not_listen not_talk not_soak = elim (cases_Bool (bytes_eq (codes "show") word)) [
+no_form : (word : List ℕ) → (word ≡ codes "show" → ⊥) → (word ≡ codes "check" → ⊥) → (word ≡ codes "listen" → ⊥) → (word ≡ codes "talk" → ⊥) → (word ≡ codes "soak" → ⊥) → (word ≡ codes "agree" → ⊥) → form_named word ≡ None
+no_form word not_show not_check not_listen not_talk not_soak not_agree = elim (cases_Bool (bytes_eq (codes "show") word)) [
   | inl same ↦ absurd (not_show (sym (same-true (codes "show") word same)))
   | inr shown ↦ elim (cases_Bool (bytes_eq (codes "check") word)) [
     | inl same ↦ absurd (not_check (sym (same-true (codes "check") word same)))
@@ -119,15 +120,18 @@ no_form word not_show not_check not_listen not_talk not_soak = elim (cases_Bool 
         | inl same ↦ absurd (not_talk (sym (same-true (codes "talk") word same)))
         | inr said ↦ elim (cases_Bool (bytes_eq (codes "soak") word)) [
           | inl same ↦ absurd (not_soak (sym (same-true (codes "soak") word same)))
-          | inr soaked ↦ rw (shown, checked, heard, said, soaked) refl
+          | inr soaked ↦ elim (cases_Bool (bytes_eq (codes "agree") word)) [
+            | inl same ↦ absurd (not_agree (sym (same-true (codes "agree") word same)))
+            | inr agreed ↦ rw (shown, checked, heard, said, soaked, agreed) refl
+          ]
         ]
       ]
     ]
   ]
 ]
 
-pub other_first : (words rest : List (String Global)) (command : String Global) → words ≡ command ∷ rest → (string_bytes command ≡ codes "show" → ⊥) → (string_bytes command ≡ codes "check" → ⊥) → (string_bytes command ≡ codes "listen" → ⊥) → (string_bytes command ≡ codes "talk" → ⊥) → (string_bytes command ≡ codes "soak" → ⊥) → IsNoCommand (texts words)
-other_first words rest command e not_show not_check not_listen not_talk not_soak = rw e (no_form (string_bytes command) not_show not_check not_listen not_talk not_soak)
+pub other_first : (words rest : List (String Global)) (command : String Global) → words ≡ command ∷ rest → (string_bytes command ≡ codes "show" → ⊥) → (string_bytes command ≡ codes "check" → ⊥) → (string_bytes command ≡ codes "listen" → ⊥) → (string_bytes command ≡ codes "talk" → ⊥) → (string_bytes command ≡ codes "soak" → ⊥) → (string_bytes command ≡ codes "agree" → ⊥) → IsNoCommand (texts words)
+other_first words rest command e not_show not_check not_listen not_talk not_soak not_agree = rw e (no_form (string_bytes command) not_show not_check not_listen not_talk not_soak not_agree)
 
 pub none_first : (words : List (String Global)) → length words ≡ 0 → IsNoCommand (texts words)
 none_first [] e = tt
@@ -150,6 +154,38 @@ operand_at form words place k r = ap (λ n. slice_get words (n + k)) r.here ∙ 
 
 first_operand : (form : Form) (words : List (List ℕ)) (place : ℕ) (r : IsRestTo form.rows form.operands words place) → slice_get words place ≡ slice_get r.rest.names 0
 first_operand form words place r = ap (slice_get words) {y = place + 0} (omega arith) ∙ operand_at form words place 0 r
+
+-- ---- a listener
+
+-- The options of a command make a listener.
+record MakesListener (form : Form) : Type 0 where
+  sound : are_sound form.rows ≡ true
+  limit : row_named form.rows limits.limit.name ≡ Some (number limits.limit)
+  buffer : row_named form.rows limits.buffer.name ≡ Some (number limits.buffer)
+  room : row_named form.rows limits.room.name ≡ Some (number limits.room)
+  look : row_named form.rows limits.look.name ≡ Some (number limits.look)
+  lead : row_named form.rows limits.listen_lead.name ≡ Some (number limits.listen_lead)
+  clock : row_named form.rows (codes "--clock") ≡ Some (record { name = codes "--clock"; takes = takes.Id })
+  shift : row_named form.rows limits.crf_shift.name ≡ Some (signed limits.crf_shift)
+
+listener_says : (form : Form) (words : List (String Global)) (place : ℕ) (r : IsRestTo form.rows form.operands (texts words) place) (id : List ℕ) (asked : ListenerOptions) → MakesListener form → IsId id asked.stream → IsReadListener (texts (take place words)) asked → SaysListener r.rest.settings id asked
+listener_says form words place r id asked makes is read = record {
+  stream = is;
+  limit = number_is form words place r limits.limit (2 ^ 40) (2 ^ 64) asked.limit makes.sound makes.limit refl (omega arith) read.limit;
+  buffer = number_is form words place r limits.buffer 4096 (2 ^ 32) asked.buffer makes.sound makes.buffer refl (omega arith) read.buffer;
+  room = number_is form words place r limits.room (2 ^ 26) (2 ^ 32) asked.room makes.sound makes.room refl (omega arith) read.room;
+  look = number_is form words place r limits.look 0 (2 ^ 32) asked.look makes.sound makes.look refl (omega arith) read.look;
+  lead = number_is form words place r limits.listen_lead 2000000 (2 ^ 32) asked.lead makes.sound makes.lead refl (omega arith) read.lead;
+  clock = id_given_if asked.clock (value_in clock.name r.rest.settings) (value_is form.rows clock.name clock r.rest.settings makes.clock r.rest.options.each)
+      (subst (λ v. IsReadIdIf v asked.clock) (after_options form words place r clock.name clock makes.sound makes.clock refl) read.clock);
+  shift = signed_given limits.crf_shift.most limits.crf_shift.default asked.shift (value_in shift.name r.rest.settings) (omega arith) (value_is form.rows shift.name shift r.rest.settings makes.shift r.rest.options.each)
+      (subst (λ v. IsReadSigned limits.crf_shift.default v asked.shift) (after_options form words place r shift.name shift makes.sound makes.shift refl) read.shift);
+} where
+  clock : Row
+  clock = record { name = codes "--clock"; takes = takes.Id }
+
+  shift : Row
+  shift = signed limits.crf_shift
 
 -- ---- show
 
@@ -244,33 +280,13 @@ listen_says words place id asked r here is next read = record {
   settings = gs;
   id = id;
   line = listen_line (texts words) place gs (id_and_names (texts words) place r) id asked.files here next;
-  listener = listener_says asked.listener is read.listener;
+  listener = listener_says listen_form words place r id asked.listener (record { sound = refl; limit = refl; buffer = refl; room = refl; look = refl; lead = refl; clock = refl; shift = refl }) is read.listener;
   ring = number_is listen_form words place r limits.ring 64 (2 ^ 32) asked.ring refl refl refl (omega arith) read.ring;
   raw = raw_says asked.raw read.raw;
   annexb = file_says (codes "--annexb") refl asked.annexb read.annexb;
 } where
   gs : List Setting
   gs = r.rest.settings
-
-  clock : Row
-  clock = record { name = codes "--clock"; takes = takes.Id }
-
-  shift : Row
-  shift = signed limits.crf_shift
-
-  listener_says : (asked : ListenerOptions) → IsId id asked.stream → IsReadListener (texts (take place words)) asked → SaysListener gs id asked
-  listener_says asked is read = record {
-    stream = is;
-    limit = number_is listen_form words place r limits.limit (2 ^ 40) (2 ^ 64) asked.limit refl refl refl (omega arith) read.limit;
-    buffer = number_is listen_form words place r limits.buffer 4096 (2 ^ 32) asked.buffer refl refl refl (omega arith) read.buffer;
-    room = number_is listen_form words place r limits.room (2 ^ 26) (2 ^ 32) asked.room refl refl refl (omega arith) read.room;
-    look = number_is listen_form words place r limits.look 0 (2 ^ 32) asked.look refl refl refl (omega arith) read.look;
-    lead = number_is listen_form words place r limits.listen_lead 2000000 (2 ^ 32) asked.lead refl refl refl (omega arith) read.lead;
-    clock = id_given_if asked.clock (value_in clock.name gs) (value_is listen_form.rows clock.name clock gs refl r.rest.options.each)
-        (subst (λ v. IsReadIdIf v asked.clock) (after_options listen_form words place r clock.name clock refl refl refl) read.clock);
-    shift = signed_given limits.crf_shift.most limits.crf_shift.default asked.shift (value_in shift.name gs) (omega arith) (value_is listen_form.rows shift.name shift gs refl r.rest.options.each)
-        (subst (λ v. IsReadSigned limits.crf_shift.default v asked.shift) (after_options listen_form words place r shift.name shift refl refl refl) read.shift);
-  }
 
   -- a word among the options is among all words, one place later
   after_command : (k : ℕ) (word : List ℕ) → slice_get (texts (take place words)) k ≡ Some word → slice_get (codes "listen" ∷ texts words) (k + 1) ≡ Some word
@@ -491,6 +507,75 @@ soak_is words place word packets r here is =
     let same : t.number ≡ word = cc in
     record { settings = r.rest.settings; number = word; line = subst (λ (n : List ℕ). IsOf soak_form (codes "soak" ∷ words) r.rest.settings (n ∷ [])) same t.line; packets_given = is }
 
+-- ---- agree
+
+-- The operands of `agree`.
+pub record IdAndTwo (words : List (List ℕ)) (place : ℕ) (settings : List Setting) : Type 0 where
+  pub id : List ℕ
+  pub a : List ℕ
+  pub b : List ℕ
+  pub line : IsOf agree_form (codes "agree" ∷ words) settings (id ∷ a ∷ b ∷ [])
+  pub at_id : slice_get words place ≡ Some id
+  pub at_a : slice_get words (place + 1) ≡ Some a
+  pub at_b : slice_get words (place + 2) ≡ Some b
+
+id_and_two : (words : List (List ℕ)) (place : ℕ) (r : IsRestTo agree_form.rows agree_form.operands words place) → IdAndTwo words place r.rest.settings
+id_and_two words place r = go r.rest.names r.rest.spelled r.rest.named (first_operand agree_form words place r) (operand_at agree_form words place 1 r) (operand_at agree_form words place 2 r) where
+  go : (ns : List (List ℕ)) → words ≡ flat_map words_of r.rest.settings ++ ns → AreOperands agree_form.operands ns → slice_get words place ≡ slice_get ns 0 → slice_get words (place + 1) ≡ slice_get ns 1 → slice_get words (place + 2) ≡ slice_get ns 2
+      → IdAndTwo words place r.rest.settings
+  go [] spelled named at_id at_a at_b = absurd named
+  go (id ∷ []) spelled named at_id at_a at_b = absurd named.1
+  go (id ∷ a ∷ []) spelled named at_id at_a at_b = absurd named.1.1
+  go (id ∷ a ∷ b ∷ []) spelled named at_id at_a at_b = record {
+    id = id;
+    a = a;
+    b = b;
+    line = record { spelled = ap (λ ws. codes "agree" ∷ ws) spelled; options = r.rest.options; operands = named };
+    at_id = at_id;
+    at_a = at_a;
+    at_b = at_b;
+  }
+  go (id ∷ a ∷ b ∷ more ∷ ns) spelled named at_id at_a at_b = absurd named.1.1.1
+
+-- each operand is there
+pub agree_stands : (words : List (List ℕ)) (place : ℕ) → IsRestTo agree_form.rows agree_form.operands words place → slice_get words place ≡ None → ⊥
+agree_stands words place r none = let t = id_and_two words place r in let both = sym t.at_id ∙ none in cc
+
+pub agree_a : (words : List (List ℕ)) (place : ℕ) → IsRestTo agree_form.rows agree_form.operands words place → slice_get words (place + 1) ≡ None → ⊥
+agree_a words place r none = let t = id_and_two words place r in let both = sym t.at_a ∙ none in cc
+
+pub agree_b : (words : List (List ℕ)) (place : ℕ) → IsRestTo agree_form.rows agree_form.operands words place → slice_get words (place + 2) ≡ None → ⊥
+agree_b words place r none = let t = id_and_two words place r in let both = sym t.at_b ∙ none in cc
+
+-- the first operand is an id
+pub agree_id : (words : List (List ℕ)) (place : ℕ) (word : List ℕ) → IsRestTo agree_form.rows agree_form.operands words place → slice_get words place ≡ Some word → ((stream : ℕ) → IsId word stream → ⊥) → ⊥
+agree_id words place word r here none =
+    let t = id_and_two words place r in
+    let both = sym t.at_id ∙ here in
+    let same : t.id ≡ word = cc in
+    let id = t.line.operands.0 in
+    none id.0 (subst (λ w. IsId w id.0) same id.1)
+
+-- the line with the operands that are there
+agree_line : (words : List (List ℕ)) (place : ℕ) (settings : List Setting) (t : IdAndTwo words place settings) (id a b : List ℕ) → slice_get words place ≡ Some id → slice_get words (place + 1) ≡ Some a → slice_get words (place + 2) ≡ Some b → IsOf agree_form (codes "agree" ∷ words) settings (id ∷ a ∷ b ∷ [])
+agree_line words place settings t id a b at_id at_a at_b =
+    let ids : t.id ≡ id = (let e = sym t.at_id ∙ at_id in cc) in
+    let firsts : t.a ≡ a = (let e = sym t.at_a ∙ at_a in cc) in
+    let seconds : t.b ≡ b = (let e = sym t.at_b ∙ at_b in cc) in
+    subst (λ (n : List ℕ). IsOf agree_form (codes "agree" ∷ words) settings (id ∷ a ∷ n ∷ [])) seconds
+    (subst (λ (n : List ℕ). IsOf agree_form (codes "agree" ∷ words) settings (id ∷ n ∷ t.b ∷ [])) firsts
+    (subst (λ (n : List ℕ). IsOf agree_form (codes "agree" ∷ words) settings (n ∷ t.a ∷ t.b ∷ [])) ids t.line))
+
+pub agree_says : (words : List (String Global)) (place : ℕ) (id : List ℕ) (asked : Agreeing) → IsRestTo agree_form.rows agree_form.operands (texts words) place
+    → slice_get (texts words) place ≡ Some id → IsId id asked.listener.stream → slice_get (texts words) (place + 1) ≡ Some asked.a → slice_get (texts words) (place + 2) ≡ Some asked.b
+    → IsReadListener (texts (take place words)) asked.listener → SaysAgree (codes "agree" ∷ texts words) asked
+agree_says words place id asked r here is first second read = record {
+  settings = r.rest.settings;
+  id = id;
+  line = agree_line (texts words) place r.rest.settings (id_and_two (texts words) place r) id asked.a asked.b here first second;
+  listener = listener_says agree_form words place r id asked.listener (record { sound = refl; limit = refl; buffer = refl; room = refl; look = refl; lead = refl; clock = refl; shift = refl }) is read;
+}
+
 -- ---- one request
 
 -- equal words are of one command
@@ -533,6 +618,21 @@ listen_soak e = let first = ap (λ (word : List ℕ). get_or word 0 0) e in absu
 
 talk_soak : codes "talk" ≡ codes "soak" → ⊥
 talk_soak e = let first = ap (λ (word : List ℕ). get_or word 0 0) e in absurd (omega (arith, first))
+
+show_agree : codes "show" ≡ codes "agree" → ⊥
+show_agree e = let first = ap (λ (word : List ℕ). get_or word 0 0) e in absurd (omega (arith, first))
+
+check_agree : codes "check" ≡ codes "agree" → ⊥
+check_agree e = let first = ap (λ (word : List ℕ). get_or word 0 0) e in absurd (omega (arith, first))
+
+listen_agree : codes "listen" ≡ codes "agree" → ⊥
+listen_agree e = let first = ap (λ (word : List ℕ). get_or word 0 0) e in absurd (omega (arith, first))
+
+talk_agree : codes "talk" ≡ codes "agree" → ⊥
+talk_agree e = let first = ap (λ (word : List ℕ). get_or word 0 0) e in absurd (omega (arith, first))
+
+soak_agree : codes "soak" ≡ codes "agree" → ⊥
+soak_agree e = let first = ap (λ (word : List ℕ). get_or word 0 0) e in absurd (omega (arith, first))
 
 aaf_am824 : codes "am824" ≡ codes "aaf" → ⊥
 aaf_am824 e = let second = ap (λ (word : List ℕ). get_or word 1 0) e in absurd (omega (arith, second))
@@ -606,6 +706,7 @@ offence_of_rule words asked says breaks = of_a_rule refl
       none (show limit file) s = show_talk (same_command show_form talk_form words s.settings says.settings (file ∷ []) (asked.input ∷ asked.output ∷ []) s.line says.line)
       none (check limit files) s = check_talk (same_command check_form talk_form words s.settings says.settings files (asked.input ∷ asked.output ∷ []) s.line says.line)
       none (listen other) (s, rules) = listen_talk (same_command listen_form talk_form words s.settings says.settings (s.id ∷ other.files) (asked.input ∷ asked.output ∷ []) s.line says.line)
+      none (agree other) s = talk_agree (sym (same_command agree_form talk_form words s.settings says.settings (s.id ∷ other.a ∷ other.b ∷ []) (asked.input ∷ asked.output ∷ []) s.line says.line))
       none (soak packets) s = talk_soak (sym (same_command soak_form talk_form words s.settings says.settings (s.number ∷ []) (asked.input ∷ asked.output ∷ []) s.line says.line))
       none (talk other) (s, rules) = breaks (subst (KeepsRules (drop 1 words)) (same_talk words other asked s says) rules)
 
@@ -652,9 +753,30 @@ offence_of_names words asked says breaks = of_a_rule refl
       none : (request : Request) → IsCommandLine words request → ⊥
       none (show limit file) s = show_listen (same_command show_form listen_form words s.settings says.settings (file ∷ []) (says.id ∷ asked.files) s.line says.line)
       none (check limit files) s = check_listen (same_command check_form listen_form words s.settings says.settings files (says.id ∷ asked.files) s.line says.line)
+      none (agree other) s = listen_agree (sym (same_command agree_form listen_form words s.settings says.settings (s.id ∷ other.a ∷ other.b ∷ []) (says.id ∷ asked.files) s.line says.line))
       none (soak packets) s = listen_soak (sym (same_command soak_form listen_form words s.settings says.settings (s.number ∷ []) (says.id ∷ asked.files) s.line says.line))
       none (talk other) (s, rules) = listen_talk (sym (same_command talk_form listen_form words s.settings says.settings (other.input ∷ other.output ∷ []) (says.id ∷ asked.files) s.line says.line))
       none (listen other) (s, rules) = breaks (subst (KeepsNames (drop 1 words)) (same_listen words other asked s says) rules)
+
+-- words of `agree` ask for one thing
+same_agree : (words : List (List ℕ)) (a b : Agreeing) → SaysAgree words a → SaysAgree words b → a ≡ b
+same_agree words a b p q = same
+    (same_listener q.settings q.id a.listener b.listener (subst (λ word. SaysListener q.settings word a.listener) ids (subst (λ gs. SaysListener gs p.id a.listener) both.0 p.listener)) q.listener)
+    firsts seconds where
+      both : (p.settings ≡ q.settings) × ((p.id ∷ a.a ∷ a.b ∷ []) ≡ (q.id ∷ b.a ∷ b.b ∷ []))
+      both = same_line agree_form words p.settings q.settings (p.id ∷ a.a ∷ a.b ∷ []) (q.id ∷ b.a ∷ b.b ∷ []) p.line q.line
+
+      ids : p.id ≡ q.id
+      ids = cc (both.1)
+
+      firsts : a.a ≡ b.a
+      firsts = cc (both.1)
+
+      seconds : a.b ≡ b.b
+      seconds = cc (both.1)
+
+      same : a.listener ≡ b.listener → a.a ≡ b.a → a.b ≡ b.b → a ≡ b
+      same listeners firsts seconds = rw (listeners, firsts, seconds) refl
 
 -- words ask for one thing
 pub same_request : (words : List (List ℕ)) (r s : Request) → IsCommandLine words r → IsCommandLine words s → r ≡ s
@@ -679,6 +801,17 @@ same_request words (soak packets) (show other name) p q = absurd (show_soak (one
 same_request words (soak packets) (check other names) p q = absurd (check_soak (one_command words (check other names) (soak packets) q p))
 same_request words (soak packets) (listen other) p q = absurd (listen_soak (one_command words (listen other) (soak packets) q p))
 same_request words (soak packets) (talk other) p q = absurd (talk_soak (one_command words (talk other) (soak packets) q p))
+same_request words (show limit file) (agree other) p q = absurd (show_agree (one_command words (show limit file) (agree other) p q))
+same_request words (check limit files) (agree other) p q = absurd (check_agree (one_command words (check limit files) (agree other) p q))
+same_request words (listen asked) (agree other) p q = absurd (listen_agree (one_command words (listen asked) (agree other) p q))
+same_request words (talk asked) (agree other) p q = absurd (talk_agree (one_command words (talk asked) (agree other) p q))
+same_request words (soak packets) (agree other) p q = absurd (soak_agree (one_command words (soak packets) (agree other) p q))
+same_request words (agree asked) (show other name) p q = absurd (show_agree (one_command words (show other name) (agree asked) q p))
+same_request words (agree asked) (check other names) p q = absurd (check_agree (one_command words (check other names) (agree asked) q p))
+same_request words (agree asked) (listen other) p q = absurd (listen_agree (one_command words (listen other) (agree asked) q p))
+same_request words (agree asked) (talk other) p q = absurd (talk_agree (one_command words (talk other) (agree asked) q p))
+same_request words (agree asked) (soak other) p q = absurd (soak_agree (one_command words (soak other) (agree asked) q p))
+same_request words (agree asked) (agree other) p q = ap agree (same_agree words asked other p q)
 same_request words (show limit file) (check other names) p q = absurd (show_check (one_command words (show limit file) (check other names) p q))
 same_request words (show limit file) (listen other) p q = absurd (show_listen (one_command words (show limit file) (listen other) p q))
 same_request words (show limit file) (talk other) p q = absurd (show_talk (one_command words (show limit file) (talk other) p q))

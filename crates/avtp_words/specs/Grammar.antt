@@ -7,8 +7,9 @@ use Rattle.aaf_format.specs.declared.aaf.AafFormat.TheVariants.{Int16}
 use Rattle.aaf_format.specs.Aaf.{rate_of, frame_size}
 use Rattle.clock_track.specs.Pairs.{pull_down, pull_up}
 use Rattle.iec61883_format.specs.Iec.{rate_of_fdf, syt_interval, block_size}
+use Rattle.avtp_words.specs.declared.agree.Agree.{Agree as AskedAgree}
 use Rattle.avtp_words.specs.declared.command.Command.{Command}
-use Rattle.avtp_words.specs.declared.command.Command.TheVariants.{Show, Check, Listen, Talk, Soak}
+use Rattle.avtp_words.specs.declared.command.Command.TheVariants.{Show, Check, Listen, Talk, Soak, Agree}
 use Rattle.avtp_words.specs.declared.crf.Crf.{Crf}
 use Rattle.avtp_words.specs.declared.device.DeviceFile.{DeviceFile}
 use Rattle.avtp_words.specs.declared.device.RawFile.{RawFile}
@@ -65,6 +66,12 @@ pub record Talking : Type 0 where
   pub input : List ℕ
   pub output : List ℕ
 
+-- what `agree` is asked for: the stream and the listener to it, and the two captures
+pub record Agreeing : Type 0 where
+  pub listener : ListenerOptions
+  pub a : List ℕ
+  pub b : List ℕ
+
 -- what a command line asks for, by its command
 pub data Request : Type 0 where
   show : (limit : ℕ) → (file : List ℕ) → Request
@@ -72,6 +79,7 @@ pub data Request : Type 0 where
   listen : Listening → Request
   talk : Talking → Request
   soak : (packets : ℕ) → Request
+  agree : Agreeing → Request
 
 -- a file that is written, without its name's location in memory
 abbrev pub named_file : DeviceFile → NamedFile
@@ -108,6 +116,10 @@ talking_of asked = record {
   output = asked.output.now;
 }
 
+-- what `agree` is asked for, without its names' location in memory
+abbrev pub agreeing_of : AskedAgree → Agreeing
+agreeing_of asked = record { listener = asked.listener; a = asked.a.now; b = asked.b.now }
+
 -- what a command is asked for, without its names' location in memory
 abbrev pub request_of : Command → Request
 request_of (Show limit file) = show limit file.now
@@ -115,6 +127,7 @@ request_of (Check limit files) = check limit (texts files.now)
 request_of (Listen asked) = listen (listening_of asked)
 request_of (Talk asked) = talk (talking_of asked)
 request_of (Soak packets) = soak packets
+request_of (Agree asked) = agree (agreeing_of asked)
 
 -- the files that a request reads, in order
 abbrev pub files_of : Request → List (List ℕ)
@@ -123,6 +136,7 @@ files_of (check limit files) = files
 files_of (listen asked) = asked.files
 files_of (talk asked) = asked.input ∷ []
 files_of (soak packets) = []
+files_of (agree asked) = asked.a ∷ asked.b ∷ []
 
 -- the capture that a request writes, if it writes one
 abbrev pub output_of : Request → Option (List ℕ)
@@ -131,6 +145,7 @@ output_of (check limit files) = None
 output_of (listen asked) = None
 output_of (talk asked) = Some asked.output
 output_of (soak packets) = None
+output_of (agree asked) = None
 
 -- ---- the commands
 
@@ -212,9 +227,17 @@ soak_form = record {
   operands = operand.Packets ∷ [];
 }
 
+-- agree [options] STREAM A B
+abbrev pub agree_form : Form
+agree_form = record {
+  command = codes "agree";
+  rows = listener_rows;
+  operands = operand.Id ∷ operand.Name ∷ operand.Name ∷ [];
+}
+
 -- the forms of all commands
 abbrev pub forms : List Form
-forms = show_form ∷ check_form ∷ listen_form ∷ talk_form ∷ soak_form ∷ []
+forms = show_form ∷ check_form ∷ listen_form ∷ talk_form ∷ soak_form ∷ agree_form ∷ []
 
 -- the form of the command with this name, if there is one
 abbrev pub form_named : List ℕ → Option Form
@@ -290,6 +313,13 @@ pub record IsSoak (words : List (List ℕ)) (packets : ℕ) : Type 0 where
   pub number : List ℕ
   pub line : IsOf soak_form words settings (number ∷ [])
   pub packets_given : IsNumber 0 limits.packets number packets
+
+-- what `agree` is asked for
+pub record SaysAgree (words : List (List ℕ)) (asked : Agreeing) : Type 0 where
+  pub settings : List Setting
+  pub id : List ℕ
+  pub line : IsOf agree_form words settings (id ∷ asked.a ∷ asked.b ∷ [])
+  pub listener : SaysListener settings id asked.listener
 
 -- An AAF stream: of this format of samples, and sparse or not.
 pub record SaysAaf (words : List (List ℕ)) (settings : List Setting) (format : AafFormat) (sparse : Bool) : Type 0 where
@@ -447,6 +477,7 @@ IsCommandLine words (show limit file) = IsShow words limit file
 IsCommandLine words (check limit files) = IsCheck words limit files
 IsCommandLine words (listen asked) = SaysListen words asked × KeepsNames (drop 1 words) asked
 IsCommandLine words (soak packets) = IsSoak words packets
+IsCommandLine words (agree asked) = SaysAgree words asked
 IsCommandLine words (talk asked) = SaysTalk words asked × KeepsRules (drop 1 words) asked
 
 -- the words fit the form of their command: each can be at its place, and none is missing

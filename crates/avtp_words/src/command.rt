@@ -4,6 +4,7 @@ ghost use Rattle.std.specs.Prelude.{◌≡◌, ℕ, ◌+◌, ◌-◌, ◌^◌, �
 ghost use Rattle.avtp_words.specs.Grammar.{Request, request_of, IsCommandLine, IsOffence};
 ghost use Rattle.avtp_words.specs.Word.{texts};
 
+use crate::agree::{Agree, read_agree};
 use crate::limits::{CHECK_OPTIONS, LIMIT, MAX_LIMIT, SHOW_OPTIONS, SOAK_OPTIONS};
 use crate::listen::{Listen, read_listen};
 use crate::operand::{Operand, operands_at, packets_of};
@@ -26,6 +27,8 @@ pub enum Command<'a> {
     /// Listen to a stream of this many packets, 0 to 1,000,000, some of which are late, lost or repeated, and print what became
     /// of them.
     Soak { packets: u32 },
+    /// Print where two captures present different samples of a stream.
+    Agree(Agree<'a>),
 }
 
 /// The words are not a command line.
@@ -77,6 +80,7 @@ pub fn parse(words: &[String]) -> Result<Command<'_>, Offence>
         "listen" => read_listen(rest),
         "talk" => read_talk(rest),
         "soak" => read_soak(rest),
+        "agree" => read_agree(rest),
         _ => Err(Offence { position: 1 }),
     }
 }

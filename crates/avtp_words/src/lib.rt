@@ -2,6 +2,7 @@
 //! that is wrong.
 #![tactic(auto)]
 
+mod agree;
 mod command;
 mod crf;
 mod device;
@@ -14,6 +15,7 @@ mod option;
 mod talk;
 mod value;
 
+pub use agree::Agree;
 pub use command::{Command, Offence, parse};
 pub use crf::Crf;
 pub use device::{DeviceFile, RawFile, Silence};

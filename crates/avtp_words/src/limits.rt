@@ -32,6 +32,17 @@ pub const LISTEN_OPTIONS: [OptionRow; 11] = [
     ANNEXB,
 ];
 
+/// The options that make a listener. `agree` has no others.
+pub const AGREE_OPTIONS: [OptionRow; 7] = [
+    LIMIT,
+    BUFFER,
+    ROOM,
+    LOOK,
+    LISTEN_LEAD,
+    CLOCK,
+    CRF_SHIFT,
+];
+
 /// How many packets may wait for their presentation time.
 pub const BUFFER: OptionRow = OptionRow {
     name: "--buffer",

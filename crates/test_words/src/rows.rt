@@ -56,6 +56,22 @@ listen 0200000000010001 a b => listen 0200000000010001 (a) (b)
 listen 0200000000010001 b a b => listen 0200000000010001 (b) (a) (b)
 listen 0200000000010001 0200000000010001 listen 5 => listen 0200000000010001 (0200000000010001) (listen) (5)
 listen --lead 2000000 0200000000010001 a b- _ => listen 0200000000010001 (a) (b-) ( )
+agree 0200000000010001 a b => agree 0200000000010001 (a) (b)
+agree 02aBCdef00010001 b a => agree 02abcdef00010001 (b) (a)
+agree FFFFFFFFFFFFFFFF a a => agree ffffffffffffffff (a) (a)
+agree 0200000000010001 0200000000010001 agree => agree 0200000000010001 (0200000000010001) (agree)
+agree 0200000000010001 a- _ => agree 0200000000010001 (a-) ( )
+agree --limit 1 0200000000010001 a b => agree 0200000000010001 limit 1 (a) (b)
+agree --limit 1099511627776 0200000000010001 a b => agree 0200000000010001 (a) (b)
+agree --buffer 1 --room 1 0200000000010001 a b => agree 0200000000010001 buffer 1 room 1 (a) (b)
+agree --room 1073741824 --buffer 65536 0200000000010001 a b => agree 0200000000010001 buffer 65536 room 1073741824 (a) (b)
+agree --look 0 0200000000010001 a b => agree 0200000000010001 (a) (b)
+agree --look 64 0200000000010001 a b => agree 0200000000010001 look 64 (a) (b)
+agree --lead 0 0200000000010001 a b => agree 0200000000010001 lead 0 (a) (b)
+agree --lead 1000000000 0200000000010001 a b => agree 0200000000010001 lead 1000000000 (a) (b)
+agree --clock 02aBCdef00010001 0200000000010001 a b => agree 0200000000010001 clock 02abcdef00010001 (a) (b)
+agree --crf-shift -1000000000 0200000000010001 a b => agree 0200000000010001 shift -1000000000 (a) (b)
+agree --crf-shift 5 --lead 7 --clock 0000000000000000 --limit 106 --look 2 --room 3 --buffer 4 0200000000010001 a b => agree 0200000000010001 limit 106 buffer 4 room 3 look 2 lead 7 clock 0000000000000000 shift 5 (a) (b)
 talk a b => talk Aaf { format: Int16, sparse: false } (a) (b)
 talk --kind aaf a b => talk Aaf { format: Int16, sparse: false } (a) (b)
 talk --format float32 a b => talk Aaf { format: Float32, sparse: false } (a) (b)
@@ -166,6 +182,33 @@ listen 0200000000010001 a b - => 5
 listen --silence zero 0200000000010001 => 5
 listen --raw x --annexb x c.pcap => 6
 listen --raw a 0200000000010001 a --silence zero => 6
+agree => 2
+agree a b => 2
+agree a b 0200000000010001 => 2
+agree 020000000001000g a b => 2
+agree --ring 64 0200000000010001 a b => 2
+agree --raw x 0200000000010001 a b => 2
+agree --silence zero 0200000000010001 a b => 2
+agree --annexb x 0200000000010001 a b => 2
+agree --format int16 0200000000010001 a b => 2
+agree 0200000000010001 => 3
+agree 0200000000010001 '' b => 3
+agree 0200000000010001 --limit 1 a b => 3
+agree --limit 0 0200000000010001 a b => 3
+agree --look 65 0200000000010001 a b => 3
+agree --lead 0200000000010001 a b => 3
+agree 0200000000010001 a => 4
+agree 0200000000010001 a '' => 4
+agree 0200000000010001 a -b => 4
+agree 0200000000010001 a --look 1 b => 4
+agree --limit 1 => 4
+agree --limit 1 a b => 4
+agree --look 1 --look 1 0200000000010001 a b => 4
+agree 0200000000010001 a b c => 5
+agree 0200000000010001 a b --look 1 => 5
+agree --look 1 0200000000010001 => 5
+agree --look 1 0200000000010001 a => 6
+agree --look 1 0200000000010001 a b c => 7
 talk => 2
 talk --limit 1 a b => 2
 talk a => 3
@@ -192,6 +235,13 @@ listen --ring 1 : 0 257 01 +1 -1 ''
 listen --raw x : '' - -x --silence
 listen --silence zero : '' Zero zeros 0 aaf AM824 --raw
 listen --annexb x : '' - -x --raw
+agree --limit 1 : 0 1099511627777 01 +1 -1 -0 ''
+agree --buffer 1 : 0 65537
+agree --room 1 : 0 1073741825
+agree --look 1 : 65 01 00 +1 -1 -0 ''
+agree --lead 0 : 1000000001 -1
+agree --clock 02aBCdef00010001 : 0 02aBCdef0001000 02aBCdef000100011 -2aBCdef00010001 ''
+agree --crf-shift -1 : 1000000001 -1000000001 01 -01 +1 -0 - --clock ''
 talk --kind aaf : AM824 h265
 talk --format int16 : int8 ''
 talk --rate 1 : 0 192001

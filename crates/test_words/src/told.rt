@@ -1,6 +1,6 @@
 //! A command as a line of text.
 
-use avtp_words::{Command, Crf, Listen, Offence, Silence, Talk, parse};
+use avtp_words::{Agree, Command, Crf, Listen, ListenerOptions, Offence, Silence, Talk, parse};
 use std::alloc::{AllocError, Global};
 use std::fmt::Display;
 
@@ -46,6 +46,7 @@ fn told(alloc: Global, command: Command<'_>) -> Result<String, AllocError> {
         Command::Listen(asked) => add_listen(&mut text, &asked)?,
         Command::Talk(asked) => add_talk(&mut text, &asked)?,
         Command::Soak { packets } => write!(text, "soak {packets}")?,
+        Command::Agree(asked) => add_agree(&mut text, &asked)?,
     }
     Ok(text)
 }
@@ -75,17 +76,32 @@ fn add_names(text: &mut String, names: &[String]) -> Result<(), AllocError> {
     Ok(())
 }
 
-fn add_listen(text: &mut String, asked: &Listen<'_>) -> Result<(), AllocError> {
-    write!(text, "listen {:016x}", asked.listener.stream)?;
-    add(text, "limit", asked.listener.limit, LIMIT)?;
-    add(text, "buffer", asked.listener.buffer, 4_096)?;
-    add(text, "room", asked.listener.room, 67_108_864)?;
-    add(text, "look", asked.listener.look, 0)?;
-    add(text, "lead", asked.listener.lead, 2_000_000)?;
-    if let Some(clock) = asked.listener.clock {
+/// The command's name, the stream, and the options of its listener.
+fn add_listener(
+    text: &mut String,
+    command: &str,
+    listener: &ListenerOptions,
+) -> Result<(), AllocError> {
+    write!(text, "{command} {:016x}", listener.stream)?;
+    add(text, "limit", listener.limit, LIMIT)?;
+    add(text, "buffer", listener.buffer, 4_096)?;
+    add(text, "room", listener.room, 67_108_864)?;
+    add(text, "look", listener.look, 0)?;
+    add(text, "lead", listener.lead, 2_000_000)?;
+    if let Some(clock) = listener.clock {
         write!(text, " clock {clock:016x}")?;
     }
-    add(text, "shift", asked.listener.shift, 0)?;
+    add(text, "shift", listener.shift, 0)
+}
+
+fn add_agree(text: &mut String, asked: &Agree<'_>) -> Result<(), AllocError> {
+    add_listener(text, "agree", &asked.listener)?;
+    add_name(text, asked.a)?;
+    add_name(text, asked.b)
+}
+
+fn add_listen(text: &mut String, asked: &Listen<'_>) -> Result<(), AllocError> {
+    add_listener(text, "listen", &asked.listener)?;
     add(text, "ring", asked.ring, 64)?;
     add_devices(text, asked)?;
     add_names(text, asked.files)

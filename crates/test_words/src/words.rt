@@ -37,6 +37,7 @@ fn names_of(command: &str) -> &'static str {
     match command {
         "listen" => "0200000000010001 c.pcap",
         "talk" => "a b",
+        "agree" => "0200000000010001 a b",
         _ => "c.pcap",
     }
 }
@@ -70,7 +71,12 @@ fn assert_option(
     let twice = format!(in alloc; "{command} {option} {option} {names}")?;
     assert_offence(rt, alloc, &twice, "4")?;
     let late = format!(in alloc; "{command} {names} {option}")?;
-    assert_offence(rt, alloc, &late, if names == "c.pcap" { "3" } else { "4" })
+    let place = match command {
+        "show" | "check" => "3",
+        "agree" => "5",
+        _ => "4",
+    };
+    assert_offence(rt, alloc, &late, place)
 }
 
 #[test]

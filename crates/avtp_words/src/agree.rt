@@ -1,0 +1,55 @@
+//! The command `agree`: which two captures to compare.
+
+ghost use Rattle.std.specs.Prelude.{◌≡◌, ◌∷◌, codes, IfOk, IfErr};
+ghost use Rattle.avtp_words.specs.Grammar.{IsCommandLine, IsOffence, SaysAgree, agreeing_of, request_of};
+ghost use Rattle.avtp_words.specs.Word.{texts};
+
+use crate::command::{Command, Offence};
+use crate::limits::AGREE_OPTIONS;
+use crate::listener::{ListenerOptions, listener_after};
+use crate::operand::{Operand, id_of, operands_at};
+use crate::option::word_at;
+
+/// Which stream to compare in two captures, and by which listener.
+#[derive(Clone, Copy, Debug, PartialEq, Eq)]
+pub struct Agree<'a> {
+    /// The stream, and the listener to it in either capture.
+    pub listener: ListenerOptions,
+    /// The name of one capture.
+    pub a: &'a str,
+    /// The name of the other.
+    pub b: &'a str,
+}
+
+const AGREE_OPERANDS: [Operand; 3] = [Operand::Id, Operand::Name, Operand::Name];
+
+/// The words after `agree`.
+pub fn read_agree(words: &[String]) -> Result<Command<'_>, Offence>
+    ensures ok { IfOk result (λ command. IsCommandLine (codes "agree" ∷ texts words.now) (request_of command)) }
+    ensures err { IfErr result (λ offence. IsOffence (codes "agree" ∷ texts words.now) offence.position) }
+{
+    let asked = read_words(words)?;
+    Ok(Command::Agree(asked))
+}
+
+/// What the words after `agree` ask for.
+fn read_words(words: &[String]) -> Result<Agree<'_>, Offence>
+    ensures ok { IfOk result (λ asked. SaysAgree (codes "agree" ∷ texts words.now) (agreeing_of asked)) }
+    ensures err { IfErr result (λ offence. IsOffence (codes "agree" ∷ texts words.now) offence.position) }
+{
+    let place = operands_at(&AGREE_OPTIONS, &AGREE_OPERANDS, words)?;
+    let Some(id) = word_at(words, place) else {
+        unreachable!()
+    };
+    let Some(stream) = id_of(id) else {
+        unreachable!()
+    };
+    let Some(a) = word_at(words, place + 1) else {
+        unreachable!()
+    };
+    let Some(b) = word_at(words, place + 2) else {
+        unreachable!()
+    };
+    let listener = listener_after(&words[..place], stream);
+    Ok(Agree { listener, a, b })
+}
