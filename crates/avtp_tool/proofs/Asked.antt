@@ -12,12 +12,16 @@ use Rattle.avtp_words.specs.declared.command.Offence.{Offence}
 use Rattle.avtp_words.specs.declared.crf.Crf.{Crf}
 use Rattle.avtp_words.specs.declared.talk.Kind.{Kind}
 use Rattle.avtp_words.specs.declared.talk.Kind.TheVariants as words
-use Rattle.avtp_words.specs.Grammar.{FitsClock, FitsKind, FitsOptions, HasWholeRuns as KeepsWholeRuns, IsCommandLine, KeepsRules, Request, SaysClock, SaysTalk, show, check, listen, soak, talk, Talking}
+use Rattle.avtp_words.specs.Grammar.{FitsClock, FitsKind, FitsOptions, HasWholeRuns as KeepsWholeRuns, IsCommandLine, KeepsRules, Request, SaysClock, SaysTalk, SaysListener, show, check, listen, soak, talk, agree, Talking}
+use Rattle.avtp_words.specs.declared.listener.ListenerOptions.{ListenerOptions}
 use Rattle.avtp_words.specs.Limits.{default_rate}
 use Rattle.avtp_words.specs.Number.{IsNumber, IsSigned}
 use Rattle.avtp_words.specs.Word.{IsId}
 use Rattle.avtp_words.proofs.Lacking.{video_clock, video_restart}
 use Rattle.avtp_words.specs.Options.{Setting, value_in}
+use Rattle.sample_schedule.specs.Limits.{IsPlan as IsSchedulePlan}
+use Rattle.listener.specs.Heard.{schedule_plan}
+use Rattle.avtp_tool.specs.Listen.{plan_of}
 use Rattle.avtp_tool.specs.state.Run.{IsRequest}
 use Rattle.avtp_tool.specs.Talk.{talk_clock, talk_kind, talk_plan}
 
@@ -160,24 +164,27 @@ shift_within : (o : Option (List ℕ)) (z : ℤ) → MatchOption o (z ≡ pos 0)
 shift_within None z given = rw given (omega (arith, ints), omega (arith, ints))
 shift_within (Some word) z given = small_shift z given.size
 
+-- a listener that words ask for
+listener_within : (settings : List Setting) (id : List ℕ) (asked : ListenerOptions) → SaysListener settings id asked → (asked.limit ≤ 2 ^ 40) × IsSchedulePlan (schedule_plan (plan_of asked))
+listener_within settings id asked says =
+    let limit = given_within (value_in (codes "--limit") settings) 1 (2 ^ 40) (2 ^ 40) asked.limit (omega arith) (omega arith) says.limit in
+    let buffer = given_within (value_in (codes "--buffer") settings) 1 65536 4096 asked.buffer (omega arith) (omega arith) says.buffer in
+    let room = given_within (value_in (codes "--room") settings) 1 (2 ^ 30) (2 ^ 26) asked.room (omega arith) (omega arith) says.room in
+    let look = given_within (value_in (codes "--look") settings) 0 64 0 asked.look (omega arith) (omega arith) says.look in
+    let lead = given_within (value_in (codes "--lead") settings) 0 (10 ^ 9) 2000000 asked.lead (omega arith) (omega arith) says.lead in
+    let shift = shift_within (value_in (codes "--crf-shift") settings) asked.shift says.shift in
+    (limit.1, record { some_buffer = buffer.0; buffer = buffer.1; some_room = room.0; room = omega (arith, room.1); look = look.1; lead = lead.1; shift_from = shift.0; shift_to = shift.1 })
+
 -- what words ask for is within its bounds
 pub requested : (words : List (List ℕ)) (request : Request) → IsCommandLine words request → IsRequest request
 requested words (show limit file) line = (given_within (value_in (codes "--limit") line.settings) 1 (2 ^ 40) (2 ^ 40) limit (omega arith) (omega arith) line.limit_given).1
 requested words (check limit names) line = (given_within (value_in (codes "--limit") line.settings) 1 (2 ^ 40) (2 ^ 40) limit (omega arith) (omega arith) line.limit_given).1
 requested words (listen asked) (line, rules) =
-    let limit = given_within (value_in (codes "--limit") line.settings) 1 (2 ^ 40) (2 ^ 40) asked.listener.limit (omega arith) (omega arith) line.listener.limit in
-    let buffer = given_within (value_in (codes "--buffer") line.settings) 1 65536 4096 asked.listener.buffer (omega arith) (omega arith) line.listener.buffer in
-    let room = given_within (value_in (codes "--room") line.settings) 1 (2 ^ 30) (2 ^ 26) asked.listener.room (omega arith) (omega arith) line.listener.room in
-    let look = given_within (value_in (codes "--look") line.settings) 0 64 0 asked.listener.look (omega arith) (omega arith) line.listener.look in
-    let lead = given_within (value_in (codes "--lead") line.settings) 0 (10 ^ 9) 2000000 asked.listener.lead (omega arith) (omega arith) line.listener.lead in
-    let shift = shift_within (value_in (codes "--crf-shift") line.settings) asked.listener.shift line.listener.shift in
-    record {
-      limit = limit.1;
-      plan = record { some_buffer = buffer.0; buffer = buffer.1; some_room = room.0; room = omega (arith, room.1); look = look.1; lead = lead.1; shift_from = shift.0; shift_to = shift.1 };
-      ring = given_within (value_in (codes "--ring") line.settings) 1 256 64 asked.ring (omega arith) (omega arith) line.ring;
-    }
+    let within = listener_within line.settings line.id asked.listener line.listener in
+    record { limit = within.0; plan = within.1; ring = given_within (value_in (codes "--ring") line.settings) 1 256 64 asked.ring (omega arith) (omega arith) line.ring }
 requested words (soak packets) line = line.packets_given.most
 requested words (talk asked) (line, rules) = talk_asked asked.kind words asked refl line rules
+requested words (agree asked) line = let within = listener_within line.settings line.id asked.listener line.listener in record { limit = within.0; plan = within.1 }
 
 -- words that were read have no offence
 pub not_offence : (r : Result Command Offence) (command : Command) (position : ℕ) → IsErrAnd r (λ offence. offence.position ≡ position) → r ≡ Ok command → ⊥

@@ -19,7 +19,7 @@ use Rattle.capture_io.specs.declared.end.End.TheVariants as end
 use Rattle.capture_io.specs.Ends.{at_end, EndsAt, end_of}
 use Rattle.capture_io.proofs.Ending.{at_end_is}
 use Rattle.avtp_text.specs.Notices.{limit_line}
-use Rattle.avtp_words.specs.Grammar.{Listening, Request, show, check, listen, talk, soak}
+use Rattle.avtp_words.specs.Grammar.{agree, Agreeing, Listening, Request, show, check, listen, talk, soak}
 use Rattle.avtp_tool.specs.declared.status.Status.{Status}
 use Rattle.avtp_tool.specs.declared.status.Status.TheVariants as status
 use Rattle.avtp_tool.specs.Check.{check_plan}
@@ -31,6 +31,8 @@ use Rattle.avtp_tool.specs.Yield.{says, with_more, Yield}
 use Rattle.avtp_tool.proofs.Yields.{more_more, more_none}
 use Rattle.avtp_tool.specs.Show.{show_plan}
 use Rattle.avtp_tool.specs.Talk.{line_by, status_by, TalkedOutcome, TalkOutcome, talk_plan, talk_report, talk_status}
+use Rattle.avtp_tool.specs.Agree.{agree_report}
+use Rattle.avtp_tool.proofs.AgreeRun.{agree_complete, agree_here}
 use Rattle.avtp_tool.proofs.InOrder.{order_here, rest_done}
 use Rattle.avtp_tool.proofs.OneFile.{file_here}
 
@@ -125,6 +127,7 @@ outcome_here (check limit names) files cause failed = plan_here (check_plan limi
 outcome_here (listen asked) files cause failed = record { heard = plan_status (listen_plan asked) files; given = plan_yield (listen_plan asked) files; reads = plan_here (listen_plan asked) files cause; status = refl; notice = refl }
 outcome_here (talk asked) files cause failed = (refl, talk_here (talk_plan asked) (files asked.input) cause, refl)
 outcome_here (soak packets) files cause failed = (refl, (refl, refl))
+outcome_here (agree asked) files cause failed = (agree_here asked files cause, refl)
 
 same_says : (yields : Yield) (text : List ℕ) → yields.items ≡ [] → yields.text ≡ text → yields ≡ says text
 same_says yields text none is = let e : record { text = yields.text; items = yields.items } ≡ says text = rw (none, is) refl in e
@@ -143,6 +146,9 @@ complete_of (talk asked) files cause failed came ended yields none o =
     let same = complete_input (talk_plan asked) (files asked.input) cause ended yields.text none o.1 in
     (o.0 ∙ ap (talk_came asked) same.0, same.0, same_says yields (talk_report (talk_plan asked) (files asked.input)) o.2 same.1)
 complete_of (soak packets) files cause failed came ended yields none o = (o.0, o.1.0, o.1.1)
+complete_of (agree asked) files cause failed came ended yields none o =
+    let same = agree_complete none o.0 in
+    (same.0, same.1, same_says yields (agree_report asked (files asked.a) (files asked.b)) o.1 same.2)
 
 -- ---- the headline
 

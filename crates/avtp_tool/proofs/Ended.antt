@@ -9,7 +9,7 @@ use Rattle.avtp_base.specs.Told.{Appends}
 use Rattle.avtp_base.specs.States.{Asks, ShelfState, SinkState, WasAsked}
 use Rattle.avtp_text.specs.Written.{AppendsPrefix, written}
 use Rattle.avtp_text.proofs.Printing.{prefix_none, prefix_whole}
-use Rattle.avtp_words.specs.Grammar.{IsCommandLine, output_of, Request, show, check, listen, Listening, talk, soak, Talking}
+use Rattle.avtp_words.specs.Grammar.{IsCommandLine, output_of, Request, show, check, listen, Listening, talk, soak, agree, Talking}
 use Rattle.avtp_tool.specs.declared.status.Status.{Status}
 use Rattle.avtp_tool.specs.declared.status.Status.TheVariants as status
 use Rattle.avtp_tool.specs.Made.{KeepsFilesBut}
@@ -89,6 +89,7 @@ untouched_of (check limit names) all f g result done write memory makes = makes
 untouched_of (listen asked) all f g result done write memory makes = makes
 untouched_of (talk asked) all f g result done write memory makes = untouched_from asked (all asked.input) f g result done write memory makes
 untouched_of (soak packets) all f g result done write memory makes = makes
+untouched_of (agree asked) all f g result done write memory makes = makes
 
 -- a run that was not cut short leaves all files as they were, where not all was done
 pub untouched_by : (request : Request) (f g : Option Files) (ended : Result Status Failed) (result : Status) → ended ≡ Ok result → result ≢ status.Done → result ≢ status.WriteFault → result ≢ status.Memory
@@ -113,3 +114,4 @@ listens_to words (show limit file) listens line = absurd cc
 listens_to words (check limit names) listens line = absurd cc
 listens_to words (talk asked) listens line = absurd cc
 listens_to words (soak packets) listens line = absurd cc
+listens_to words (agree asked) listens line = absurd cc

@@ -18,10 +18,10 @@ use Rattle.avtp_tool.specs.Listen.{listen_plan}
 use Rattle.avtp_tool.specs.Outcome.{AsksFor}
 use Rattle.avtp_tool.specs.state.Outcome.{EndsWith, TellsRun}
 use Rattle.avtp_tool.specs.Reading.{PlanOutcome, ReadPlan}
-use Rattle.avtp_tool.specs.state.Reading.{DoesFiles}
+use Rattle.avtp_tool.specs.state.Reading.{DoesFiles, DoesReading}
 use Rattle.avtp_tool.specs.Run.{device_notice, device_status, ListenOutcome}
 use Rattle.avtp_tool.specs.state.Run.{IsThrough, Runs, TellsDevices}
-use Rattle.avtp_tool.specs.Yield.{says, with_more}
+use Rattle.avtp_tool.specs.Yield.{says, with_more, Yield}
 use Rattle.avtp_tool.specs.state.Yield.{Gives, GivesPart, HandsNothing}
 use Rattle.avtp_tool.proofs.Leaving.{never_ends, only_read}
 use Rattle.avtp_tool.proofs.Outcomes.{counts_failed, ends_not, sink_failed, sink_then}
@@ -160,8 +160,8 @@ less_is first second less = rw (sym first, sym second) (lt-ltb _ _ less)
 pub more_is : {a b x y : ℕ} → a ≡ x → b ≡ y → b ≤ a → nat_lt x y ≡ true → ⊥
 more_is first second more is = let t : false ≡ true = sym (rw (sym first, sym second) (le-ltb _ _ more)) ∙ is in cc
 
-pub failed_as : {h h' : SinkState} {l l' : List ℕ} {plan : ReadPlan} {s t : ShelfState} {handed : List Shown → Type 0} {e : Failed} (result : Result Status Failed) → IsErr result
-    → DoesFiles plan handed s t h h' l l' (Err e) → DoesFiles plan handed s t h h' l l' result
+pub failed_as : {h h' : SinkState} {l l' : List ℕ} {Comes : Files → Type 0 → List (List ℕ) → Status → Yield → Type 0} {names : List (List ℕ)} {s t : ShelfState} {handed : List Shown → Type 0} {e : Failed} (result : Result Status Failed) → IsErr result
+    → DoesReading Comes names handed s t h h' l l' (Err e) → DoesReading Comes names handed s t h h' l l' result
 failed_as (Ok ended) err does = absurd cc
 failed_as (Err e') err does = record {
   tells = λ all told still. let to = does.tells all told still in record { came = to.came; ended = to.ended; yields = to.yields; outcome = to.outcome; whole = tt; part = to.part };

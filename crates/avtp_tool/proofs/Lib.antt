@@ -9,9 +9,12 @@ pub mod CheckedTo
 pub mod Passing
 pub mod HearingTo
 pub mod HeardTo
+pub mod TwoFiles
+pub mod SideBySide
 pub mod InOrder
 pub mod ReadFiles
 pub mod PlanRuns
+pub mod AgreeRun
 pub mod Finished
 pub mod Complete
 pub mod Asked

@@ -10,39 +10,55 @@ use Rattle.avtp_base.specs.States.{Asks, ShelfState, SinkState}
 use Rattle.sample_schedule.specs.declared.shown.Shown.{Shown}
 use Rattle.capture_io.specs.Reads.{OnlyReads}
 use Rattle.avtp_text.specs.Written.{written}
-use Rattle.avtp_words.specs.Grammar.{check, files_of, listen, output_of, Request, show, soak, talk}
+use Rattle.avtp_words.specs.Grammar.{agree, check, files_of, listen, output_of, Request, show, soak, talk}
 use Rattle.avtp_tool.specs.declared.status.Status.{Status}
 use Rattle.avtp_tool.specs.declared.status.Status.TheVariants as status
 use Rattle.avtp_tool.specs.Made.{KeepsFilesBut, KeepsSlotsFor}
 use Rattle.avtp_tool.specs.state.Made.{CountsWriting}
 use Rattle.avtp_tool.specs.Outcome.{AsksFor, is_done}
 use Rattle.avtp_tool.specs.state.Outcome.{CountsReading, IsDone, TellsRun, TellsYield}
-use Rattle.avtp_tool.specs.Reading.{InOrder, one_outcome, PlanOutcome, ReadPlan}
-use Rattle.avtp_tool.specs.state.Reading.{DoesFile, DoesFiles}
+use Rattle.avtp_tool.specs.Reading.{InOrder, one_outcome, ReadPlan}
+use Rattle.avtp_tool.specs.state.Reading.{DoesFile, DoesFiles, DoesReading}
 use Rattle.avtp_tool.specs.Run.{is_listening, Outcome}
 use Rattle.avtp_tool.specs.state.Run.{IsThrough, MakesOf, Runs, TellsDevices}
 use Rattle.avtp_tool.specs.Yield.{Yield}
-use Rattle.avtp_tool.specs.state.Yield.{Gives, HandsNothing}
+use Rattle.avtp_tool.specs.state.Yield.{Gives, GivesPart, HandsNothing}
 use Rattle.avtp_tool.proofs.Yields.{gives_as, part_as}
 use Rattle.avtp_tool.proofs.InOrder.{order_last, order_one}
 use Rattle.avtp_tool.proofs.Leaving.{never_ends, only_read}
+use Rattle.avtp_tool.proofs.Outcomes.{IsCut, tells_weaker}
 
 -- ---- one file
 
-single : {a b : ShelfState} {before now : Option (List ℕ)} {handed : List Shown → Type 0} {result : Result Status Failed} (one : List ℕ → Status → Yield → Type 0) (name : List ℕ) → TellsYield (one name) handed before now result → Asks (name ∷ []) a b
-    → TellsRun (InOrder one (name ∷ [])) handed a b before now result
-single {a} {b} {before} {now} {handed} {result} one name t asked = record {
-  came = name ∷ [];
+-- a run that told what it came to, and asked for these names
+pub run_asked : {a b : ShelfState} {before now : Option (List ℕ)} {handed : List Shown → Type 0} {result : Result Status Failed} (Outcome : List (List ℕ) → Status → Yield → Type 0) (came : List (List ℕ)) → TellsYield (Outcome came) handed before now result → Asks came a b
+    → TellsRun Outcome handed a b before now result
+run_asked {a} {b} {before} {now} {handed} {result} Outcome came t asked = record {
+  came = came;
   ended = t.ended;
   yields = t.yields;
-  outcome = elim (cases_Bool (is_done t.ended)) [ inl done ↦ order_one one name t.yields t.ended done t.outcome | inr stops ↦ order_last one name t.yields [] t.ended stops t.outcome ];
+  outcome = t.outcome;
   whole = whole_at result t.whole;
   part = t.part;
 } where
   whole_at : (r : Result Status Failed) → IfOk r (λ s. s ≢ status.Memory → s ≢ status.WriteFault → (s ≡ t.ended) × Gives handed before now t.yields)
-      → IfOk r (λ s. s ≢ status.Memory → s ≢ status.WriteFault → (s ≡ t.ended) × Gives handed before now t.yields × Asks (name ∷ []) a b)
+      → IfOk r (λ s. s ≢ status.Memory → s ≢ status.WriteFault → (s ≡ t.ended) × Gives handed before now t.yields × Asks came a b)
   whole_at (Ok s) whole = λ memory write. let w = whole memory write in (w.0, w.1, asked)
   whole_at (Err e) whole = tt
+
+-- a run that was cut short
+pub run_cut : {a b : ShelfState} {before now : Option (List ℕ)} {handed : List Shown → Type 0} {result : Result Status Failed} (Outcome : List (List ℕ) → Status → Yield → Type 0) (came : List (List ℕ)) (ended : Status) (yields : Yield)
+    → Outcome came ended yields → IsCut result → GivesPart handed before now yields → TellsRun Outcome handed a b before now result
+run_cut {a} {b} {before} {now} {handed} {result} Outcome came ended yields outcome cut part = record { came = came; ended = ended; yields = yields; outcome = outcome; whole = whole_at result cut; part = part } where
+  whole_at : (r : Result Status Failed) → IsCut r → IfOk r (λ s. s ≢ status.Memory → s ≢ status.WriteFault → (s ≡ ended) × Gives handed before now yields × Asks came a b)
+  whole_at (Ok s) cut = λ memory write. elim cut [ inl is ↦ absurd (memory is) | inr is ↦ absurd (write is) ]
+  whole_at (Err e) cut = tt
+
+single : {a b : ShelfState} {before now : Option (List ℕ)} {handed : List Shown → Type 0} {result : Result Status Failed} (one : List ℕ → Status → Yield → Type 0) (name : List ℕ) → TellsYield (one name) handed before now result → Asks (name ∷ []) a b
+    → TellsRun (InOrder one (name ∷ [])) handed a b before now result
+single one name t asked =
+    run_asked (InOrder one (name ∷ [])) (name ∷ [])
+    (tells_weaker (λ ended yields outcome. elim (cases_Bool (is_done ended)) [ inl done ↦ order_one one name yields ended done outcome | inr stops ↦ order_last one name yields [] ended stops outcome ]) t) asked
 
 pub one_file : {s t : ShelfState} {h h' : SinkState} {l l' : List ℕ} {result : Result Status Failed} {handed : List Shown → Type 0} (plan : ReadPlan) (name : List ℕ) → plan.names ≡ name ∷ []
     → DoesFile (plan.report name) handed plan.limit name s t h h' l l' result → DoesFiles plan handed s t h h' l l' result
@@ -60,9 +76,9 @@ one_file {s} {t} {h} {h'} {l} {l'} {result = result} {handed} plan name named do
 
 -- ---- a command
 
--- what a plan can come to, the request of it can
-abbrev pub IsPlanOf : Request → ReadPlan → Type 1
-IsPlanOf request plan = (all : Files) (fault : Type 0) (failed : Bool) (came : List (List ℕ)) (ended : Status) (yields : Yield) → PlanOutcome plan all fault came ended yields → Outcome request all fault failed came ended yields
+-- what a reading can come to, the request of it can
+abbrev pub IsReadingOf : Request → (Files → Type 0 → List (List ℕ) → Status → Yield → Type 0) → Type 1
+IsReadingOf request Comes = (all : Files) (fault : Type 0) (failed : Bool) (came : List (List ℕ)) (ended : Status) (yields : Yield) → Comes all fault came ended yields → Outcome request all fault failed came ended yields
 
 through_done : (result : Result Status Failed) → (result ≡ Ok status.DeviceFault → ⊥) → IsThrough result → IsDone result
 through_done (Ok status.Done) other through = refl
@@ -84,9 +100,10 @@ through_as {result = result} other asks = record { count = asks.count; within = 
 pub no_devices : {request : Request} {failed : Bool} {result : Result Status Failed} → is_listening request ≡ false → (result ≡ Ok status.DeviceFault → ⊥) → TellsDevices request failed result
 no_devices other never = record { fault = λ e. absurd (never e); quiet = λ listens. absurd (let t : true ≡ false = sym listens ∙ other in cc) }
 
-pub plan_runs : {s t : ShelfState} {h h' : SinkState} {l l' : List ℕ} {result : Result Status Failed} {handed : List Shown → Type 0} (request : Request) (plan : ReadPlan) (failed : Bool) (other : Request) → request ≡ other → IsPlanOf request plan → is_listening request ≡ false → files_of request ≡ plan.names → output_of request ≡ None
-    → ((all : Files) → KeepsFiles s.files t.files → MakesOf request all s.files t.files result) → DoesFiles plan handed s t h h' l l' result → Runs other handed failed s t h h' l l' result
-plan_runs {s} {t} {h} {h'} {l} {l'} {result} {handed} request plan failed other same is deaf named none makes does = subst (λ (q : Request). Runs q handed failed s t h h' l l' result) same (record {
+pub reading_runs : {s t : ShelfState} {h h' : SinkState} {l l' : List ℕ} {result : Result Status Failed} {handed : List Shown → Type 0} {Comes : Files → Type 0 → List (List ℕ) → Status → Yield → Type 0} {names : List (List ℕ)} (request : Request) (failed : Bool) (other : Request)
+    → request ≡ other → IsReadingOf request Comes → is_listening request ≡ false → files_of request ≡ names → output_of request ≡ None
+    → ((all : Files) → KeepsFiles s.files t.files → MakesOf request all s.files t.files result) → DoesReading Comes names handed s t h h' l l' result → Runs other handed failed s t h h' l l' result
+reading_runs {s} {t} {h} {h'} {l} {l'} {result} {handed} {names = names} request failed other same is deaf named none makes does = subst (λ (q : Request). Runs q handed failed s t h h' l l' result) same (record {
   tells = λ all told still.
       let to = does.tells all told still in
       record { came = to.came; ended = to.ended; yields = to.yields; outcome = is all (Rose s.reading_faults t.reading_faults) failed to.came to.ended to.yields to.outcome; whole = to.whole; part = to.part };
@@ -97,7 +114,8 @@ plan_runs {s} {t} {h} {h'} {l} {l'} {result} {handed} request plan failed other 
   writing = subst (λ (o : Option (List ℕ)). CountsWriting o s.writing_faults t.writing_faults result) (sym none) (only_read does.keeps.writing (never_ends result status.WriteFault refl does.own));
   no_words = never_ends result status.Words refl does.own;
   devices = no_devices deaf (never_ends result status.DeviceFault refl does.own);
-  asks = subst (λ (ns : List (List ℕ)). AsksFor ns s t (IsThrough result)) (sym (rw (named, none) (append-nil plan.names))) (through_as (never_ends result status.DeviceFault refl does.own) (record { count = does.count; within = does.within; all = does.all; asked = does.keeps.asked }));
+  asks = subst (λ (ns : List (List ℕ)). AsksFor ns s t (IsThrough result)) (sym (rw (named, none) (append-nil names)))
+      (through_as (never_ends result status.DeviceFault refl does.own) (record { count = does.count; within = does.within; all = does.all; asked = does.keeps.asked }));
   sink = does.sink;
 })
 
@@ -109,6 +127,7 @@ outcome_deaf (check limit names) all fault failed other came ended yields deaf o
 outcome_deaf (listen asked) all fault failed other came ended yields deaf o = absurd cc
 outcome_deaf (talk asked) all fault failed other came ended yields deaf o = o
 outcome_deaf (soak packets) all fault failed other came ended yields deaf o = o
+outcome_deaf (agree asked) all fault failed other came ended yields deaf o = o
 
 pub runs_deaf : {s t : ShelfState} {h h' : SinkState} {l l' : List ℕ} {result : Result Status Failed} {handed : List Shown → Type 0} {failed : Bool} (request : Request) → is_listening request ≡ false → handed []
     → Runs request HandsNothing false s t h h' l l' result → Runs request handed failed s t h h' l l' result

@@ -13,10 +13,12 @@ use Rattle.avtp_text.proofs.Growth.{grows_further}
 use Rattle.avtp_text.proofs.Printing.{prefix_none}
 use Rattle.packet_journal.specs.Packets.{PacketJournal}
 use Rattle.sample_schedule.specs.declared.shown.Shown.{Shown}
-use Rattle.avtp_words.specs.Grammar.{output_of, Listening, Request, talk, Talking}
+use Rattle.avtp_words.specs.Grammar.{Agreeing, output_of, Listening, Request, talk, Talking}
 use Rattle.avtp_tool.specs.declared.status.Status.{Status}
 use Rattle.avtp_tool.specs.declared.status.Status.TheVariants as status
-use Rattle.avtp_tool.specs.HasRun.{HasCauses, HasRun, HearsFile, LeavesFiles, ReadsAll, RefusesWords, Reports, TellsFailed}
+use Rattle.avtp_tool.specs.Agree.{HasAgreement, agree_report, compared_text}
+use Rattle.avtp_tool.proofs.AgreeRun.{has_agreement}
+use Rattle.avtp_tool.specs.HasRun.{ComparesTalker, HasCauses, HasRun, HearsFile, LeavesFiles, ReadsAll, RefusesWords, Reports, TellsFailed}
 use Rattle.avtp_tool.specs.Listen.{HasHeadline}
 use Rattle.avtp_tool.specs.Run.{came_for, is_listening, names_of, Outcome, status_for, yield_for}
 use Rattle.avtp_tool.specs.Yield.{Yield}
@@ -32,6 +34,13 @@ use Rattle.avtp_tool.proofs.Finished.{flushed, gains_prefix, rose_later}
 use Rattle.avtp_tool.proofs.Making.{files_still, slots_here}
 
 -- ---- what is printed
+
+agreement_of : (request : Request) (files : Files) (failed : Bool) (yields : Yield) (asked : Agreeing) (x y : List ℕ) (shift : ℤ) (p : PacketJournal)
+    → yields ≡ yield_for request files failed → ComparesTalker request files asked x y shift p → HasAgreement asked p x y yields.text
+agreement_of request files failed yields asked x y shift p whole compares =
+    let same : yields.text ≡ agree_report asked (files asked.a) (files asked.b) = ap (λ (y : Yield). y.text) (whole ∙ ap (λ (q : Request). yield_for q files failed) compares.compares) in
+    let told : yields.text ≡ compared_text asked x y = same ∙ rw (compares.told_a, compares.told_b) refl in
+    subst (HasAgreement asked p x y) (sym told) (has_agreement asked x y shift p compares.hears_a compares.hears_b)
 
 headline_of : (request : Request) (files : Files) (failed : Bool) (yields : Yield) (asked : Listening) (name bytes : List ℕ) (shift : ℤ) (p : PacketJournal)
     → yields ≡ yield_for request files failed → HearsFile request files asked name bytes shift p → HasHeadline asked name shift p bytes yields
@@ -63,6 +72,9 @@ reports_of {request} {handed} {failed} {shelf} {shelf'} {out} {mid} {out'} {w} {
       headline = λ quiet asked name bytes shift p hears.
           headline_of request files failed tells.yields asked name bytes shift p
           (complete_of request files _ failed tells.came tells.ended tells.yields (quiet_not _ _ quiet) tells.outcome).2 hears;
+      agreement = λ quiet asked x y shift p compares.
+          agreement_of request files failed tells.yields asked x y shift p
+          (complete_of request files _ failed tells.came tells.ended tells.yields (quiet_not _ _ quiet) tells.outcome).2 compares;
     }
 
 -- ---- the files
@@ -137,6 +149,7 @@ no_memory request handed still failed shelf out nothing kept = record {
     given = nothing;
     complete = λ quiet. (refl, refl, refl);
     headline = λ quiet asked name bytes shift p hears. headline_of request files failed (yield_for request files failed) asked name bytes shift p refl hears;
+    agreement = λ quiet asked x y shift p compares. agreement_of request files failed (yield_for request files failed) asked x y shift p refl compares;
   };
   grows = record { more = []; appends = Appends-nil out.held };
   leaves = record {

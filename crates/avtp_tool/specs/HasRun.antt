@@ -1,5 +1,5 @@
 -- What the command promises: a record for words that are a command line, and one for words that are not.
-use Rattle.std.specs.Prelude.{◌≡◌, ◌≢◌, ◌≤◌, ◌⊎◌, ◌++◌, ◌∷◌, ℕ, ℤ, List, length, Option, Some, None, IsSome, Bool, true, false}
+use Rattle.std.specs.Prelude.{◌≡◌, ◌≢◌, ◌≤◌, ◌⊎◌, ◌++◌, ◌∷◌, ℕ, ℤ, List, length, take, Option, Some, None, IsSome, Bool, true, false}
 use mathlib.Core.List.{IsPrefix}
 use Rattle.avtp_base.specs.Faults.{IsQuiet, Rose}
 use Rattle.avtp_base.specs.Files.{Files, KeepsFiles, PutsFile}
@@ -13,9 +13,10 @@ use Rattle.listener.specs.Laws.{HearsTalker}
 use Rattle.talker.specs.Frames.{capture}
 use Rattle.avtp_text.specs.Notices.{words_line}
 use Rattle.avtp_text.specs.Written.{AppendsPrefix, Grows}
-use Rattle.avtp_words.specs.Grammar.{files_of, listen, Listening, output_of, Request, talk, Talking}
+use Rattle.avtp_words.specs.Grammar.{agree, Agreeing, files_of, listen, Listening, output_of, Request, talk, Talking}
 use Rattle.avtp_tool.specs.declared.status.Status.{Status}
 use Rattle.avtp_tool.specs.declared.status.Status.TheVariants as status
+use Rattle.avtp_tool.specs.Agree.{HasAgreement}
 use Rattle.avtp_tool.specs.Listen.{HasHeadline, listen_status, plan_of}
 use Rattle.avtp_tool.specs.Made.{KeepsFilesBut, KeepsSlotsFor}
 use Rattle.avtp_tool.specs.Outcome.{AsksFor, IsOneMissing}
@@ -41,6 +42,15 @@ pub record HearsFile (request : Request) (files : Files) (asked : Listening) (na
   pub fits : length bytes ≤ asked.listener.limit
   pub hears : HearsTalker shift p (plan_of asked.listener) (records_in bytes)
 
+-- Two captures that `agree` compares, each up to its end, a refused field or the limit, have what a listener hears of one talker
+-- that keeps the rules, whatever each lost, repeated or reordered.
+pub record ComparesTalker (request : Request) (files : Files) (asked : Agreeing) (x y : List ℕ) (shift : ℤ) (p : PacketJournal) : Type 0 where
+  pub compares : request ≡ agree asked
+  pub told_a : files asked.a ≡ Some x
+  pub told_b : files asked.b ≡ Some y
+  pub hears_a : HearsTalker shift p (plan_of asked.listener) (records_in (take asked.listener.limit x))
+  pub hears_b : HearsTalker shift p (plan_of asked.listener) (records_in (take asked.listener.limit y))
+
 -- What was printed, given to devices and asked for over these files.
 pub record Reports (request : Request) (files : Files) (failed : Bool) (handed : List Shown → Type 0) (shelf shelf' : ShelfState)
     (out out' : SinkState) (ended : Status) : Type 0 where
@@ -64,6 +74,9 @@ pub record Reports (request : Request) (files : Files) (failed : Bool) (handed :
   -- What `listen` yields of a talker that keeps the rules, of each file with a journal of its own.
   pub headline : ReadsAll shelf shelf' → (asked : Listening) (name bytes : List ℕ) (shift : ℤ) (p : PacketJournal) →
       HearsFile request files asked name bytes shift p → HasHeadline asked name shift p bytes yields
+  -- What `agree` prints of two captures of a talker that keeps the rules.
+  pub agreement : ReadsAll shelf shelf' → (asked : Agreeing) (x y : List ℕ) (shift : ℤ) (p : PacketJournal) →
+      ComparesTalker request files asked x y shift p → HasAgreement asked p x y yields.text
 
 -- ---- what is written
 

@@ -10,6 +10,7 @@ pub mod Check
 pub mod Listen
 pub mod Talk
 pub mod Soak
+pub mod Agree
 pub mod DeviceWords
 pub mod Run
 pub mod HasRun

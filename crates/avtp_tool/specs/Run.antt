@@ -2,9 +2,10 @@
 use Rattle.std.specs.Prelude.{◌≡◌, ℕ, List, [], ◌∷◌, ◌++◌, if◌then◌else◌, option_to_list, Bool, true, false}
 use Rattle.avtp_base.specs.Files.{Files}
 use Rattle.avtp_text.specs.Notices.{device_fault_line}
-use Rattle.avtp_words.specs.Grammar.{files_of, output_of, Request, show, check, listen, talk, soak, Listening, Talking}
+use Rattle.avtp_words.specs.Grammar.{files_of, output_of, Request, show, check, listen, talk, soak, agree, Listening, Talking}
 use Rattle.avtp_tool.specs.declared.status.Status.{Status}
 use Rattle.avtp_tool.specs.declared.status.Status.TheVariants as status
+use Rattle.avtp_tool.specs.Agree.{AgreeOutcome, agree_came, agree_ended, agree_report}
 use Rattle.avtp_tool.specs.Check.{check_plan}
 use Rattle.avtp_tool.specs.Listen.{listen_plan}
 use Rattle.avtp_tool.specs.Outcome.{is_done, Only}
@@ -45,6 +46,7 @@ Outcome (listen asked) files fault failed came ended yields = ListenOutcome aske
 Outcome (talk asked) files fault failed came ended yields =
     (came ≡ talk_came asked ended) × TalkOutcome (talk_plan asked) (files asked.input) fault ended yields.text × (yields.items ≡ [])
 Outcome (soak packets) files fault failed came ended yields = (came ≡ []) × Only status.Done (says (soak_report packets)) ended yields
+Outcome (agree asked) files fault failed came ended yields = AgreeOutcome asked files fault came ended yields.text × (yields.items ≡ [])
 
 -- ---- if no fault of reading comes
 
@@ -55,6 +57,7 @@ status_for (check limit names) files failed = plan_status (check_plan limit name
 status_for (listen asked) files failed = device_status failed (plan_status (listen_plan asked) files)
 status_for (talk asked) files failed = talk_status (talk_plan asked) (files asked.input)
 status_for (soak packets) files failed = status.Done
+status_for (agree asked) files failed = agree_ended asked (files asked.a) (files asked.b)
 
 -- all that a run yields, if no fault of reading comes
 abbrev pub yield_for : Request → Files → Bool → Yield
@@ -64,6 +67,7 @@ yield_for (listen asked) files failed =
     with_more (plan_yield (listen_plan asked) files) (says (device_notice failed (plan_status (listen_plan asked) files)))
 yield_for (talk asked) files failed = says (talk_report (talk_plan asked) (files asked.input))
 yield_for (soak packets) files failed = says (soak_report packets)
+yield_for (agree asked) files failed = says (agree_report asked (files asked.a) (files asked.b))
 
 -- the names that a run reaches, if no fault of reading comes
 abbrev pub came_for : Request → Files → List (List ℕ)
@@ -72,6 +76,7 @@ came_for (check limit names) files = plan_read (check_plan limit names) files
 came_for (listen asked) files = plan_read (listen_plan asked) files
 came_for (talk asked) files = talk_came asked (talk_status (talk_plan asked) (files asked.input))
 came_for (soak packets) files = []
+came_for (agree asked) files = agree_came asked (files asked.a)
 
 -- ---- what a run does besides
 

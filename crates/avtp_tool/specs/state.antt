@@ -1,5 +1,7 @@
 -- Kept for proofs alone: no clause of a public call rests on what lies here.
+pub mod Agree
 pub mod Check
+pub mod Comparing
 pub mod Files
 pub mod Hearing
 pub mod Listen

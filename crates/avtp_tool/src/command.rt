@@ -10,6 +10,7 @@ ghost use Rattle.avtp_tool.specs.Run.{is_listening};
 ghost use Rattle.avtp_tool.specs.state.Run.{IsAsked, Runs};
 ghost use Rattle.avtp_tool.specs.Yield.{HandsOn};
 
+use crate::agree::agree;
 use crate::files::{Reading, hear_files, read_files};
 use crate::show::show;
 use crate::soak::soak;
@@ -83,6 +84,7 @@ fn execute<T: Threads + Sync, F: Shelf + Send, S: Sink + Send, G: Gate, D: Devic
         Ok(Command::Listen(asked)) => hear_files(rt, alloc, &asked, shelf, text, out, gate, rack),
         Ok(Command::Talk(asked)) => talk(alloc, &asked, shelf, text, out),
         Ok(Command::Soak { packets }) => soak(rt, alloc, packets, text, out),
+        Ok(Command::Agree(asked)) => agree(alloc, &asked, shelf, text, out),
         Err(offence) => print_offence(text, out, offence.position as u64),
     }
 }

@@ -1,11 +1,13 @@
 //! The command `avtp`: from words and captures to text and a status.
 #![tactic(auto)]
 
+mod agree;
 mod ahead;
 mod capture_out;
 mod check;
 mod checked;
 mod command;
+mod comparing;
 mod device_words;
 mod files;
 mod hearing;

@@ -34,7 +34,7 @@ use std::alloc::Global;
 use std::thread::Threads;
 
 /// The listener that the words ask for.
-fn plan(asked: &ListenerOptions) -> ListenPlan
+pub fn plan(asked: &ListenerOptions) -> ListenPlan
     ensures { result ≡ plan_of asked.now }
 {
     ListenPlan {

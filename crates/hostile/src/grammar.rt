@@ -4,8 +4,8 @@ use avtp_base::NoMemory;
 use std::alloc::Global;
 
 /// The rules: the pattern for each word in capital letters, which may use the words of later rules.
-const RULES: [(&str, &str); 23] = [
-    ("TEXT", "^(?:SHOW|CHECK|LISTEN|TALK)\n$"),
+const RULES: [(&str, &str); 25] = [
+    ("TEXT", "^(?:SHOW|CHECK|LISTEN|TALK|AGREE)\n$"),
     (
         "SHOW",
         "show\n(?:frame N at INSTANT RECORD\n)*(?:end frames N\nstatus 0|UNREAD)",
@@ -21,6 +21,14 @@ const RULES: [(&str, &str); 23] = [
     (
         "TALK",
         "talk\n(?:talk packets N clock N\nmade SOME\nstatus 0|talk input: (?:frames|start_code|nal_type|packets)\nstatus 9)",
+    ),
+    (
+        "AGREE",
+        "agree\n(?:end matched N only 0 0 differ 0\nstatus 0|BESIDE)",
+    ),
+    (
+        "BESIDE",
+        "capture refused: FILE at N(?: short)?\ncapture refused: FILE at N(?: short)?\nstatus 3|limit SOME\nlimit SOME\nstatus 7",
     ),
     (
         "RECORD",

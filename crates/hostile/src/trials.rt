@@ -28,6 +28,15 @@ const LISTENS: [&str; 12] = [
     "ffffffffffffffff",
 ];
 
+/// What `agree` is asked for, of a capture beside itself.
+const AGREES: [&str; 5] = [
+    "0200000000010001",
+    "--look 64 --lead 1000000000 0200000000010001",
+    "--buffer 3 --room 24 0200000000010001",
+    "--clock 0200000000010002 --look 8 0200000000010001",
+    "--clock 0200000000010001 0200000000010002",
+];
+
 /// A command line, and what is wrong with its run.
 #[derive(Drop)]
 pub struct Found {
@@ -64,11 +73,14 @@ pub fn try_commands<T: Threads + Sync>(
     let listen = format!(in alloc; "listen --limit {limit} {options} in")?;
     let options = draws.pick_text(&TALKS);
     let talk = format!(in alloc; "talk {options} in out")?;
+    let options = draws.pick_text(&AGREES);
+    let agree = format!(in alloc; "agree --limit {limit} {options} in in")?;
     let cases = [
         (show, &capture),
         (check, &capture),
         (listen, &capture),
         (talk, input),
+        (agree, &capture),
     ];
     let mut found = Vec::new(alloc);
     for (line, file) in cases {

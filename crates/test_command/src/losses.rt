@@ -48,7 +48,7 @@ const ROWS: &str = "\
 const MIXED: &str = "0 1 1 3 2 5 6 8 9 7 9 11 13 12 14 16 17 19 18 20 23 25 24 26 32 33 33 39";
 
 /// The numbers of the records that are delivered, of a capture with `records` records.
-fn places_of(alloc: Global, comes: &str, records: usize) -> Result<Vec<usize>, NoMemory> {
+pub fn places_of(alloc: Global, comes: &str, records: usize) -> Result<Vec<usize>, NoMemory> {
     match comes {
         "mixed" => numbers_in(alloc, MIXED),
         _ if comes.contains('/') => network_places(alloc, comes, records),

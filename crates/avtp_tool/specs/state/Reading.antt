@@ -16,6 +16,7 @@ use Rattle.avtp_tool.specs.declared.status.Status.TheVariants as status
 use Rattle.sample_schedule.specs.declared.shown.Shown.{Shown}
 use Rattle.avtp_tool.specs.state.Outcome.{CountsReading, IsDone, KeepsSink, TellsRun, TellsYield}
 use Rattle.avtp_tool.specs.Reading.{Report, FileOutcome, ReadPlan, PlanOutcome}
+use Rattle.avtp_tool.specs.Yield.{Yield}
 
 -- ---- an open capture
 
@@ -71,14 +72,18 @@ pub record DoesFile (report : Report) (handed : List Shown → Type 0) (limit : 
   pub own : IsReadingStatus result
   pub sink : KeepsSink out out' result
 
--- The files of a plan were read in order, as far as the run came, and nothing else was done, except that items were given to
--- devices.
-pub record DoesFiles (plan : ReadPlan) (handed : List Shown → Type 0) (shelf shelf' : ShelfState) (out out' : SinkState) (waits waits' : List ℕ) (result : Result Status Failed) : Type 0 where
-  pub tells : (all : Files) → shelf.files ≡ Some all → IsSome shelf'.files → TellsRun (PlanOutcome plan all (Rose shelf.reading_faults shelf'.reading_faults)) handed shelf shelf' (written out.held waits) (written out'.held waits') result
+-- A command read some of these files, in this order, as far as the run came, and nothing else was done, except that items were given
+-- to devices. `Outcome` is what it can come to over the files that a shelf tells.
+pub record DoesReading (Outcome : Files → Type 0 → List (List ℕ) → Status → Yield → Type 0) (names : List (List ℕ)) (handed : List Shown → Type 0) (shelf shelf' : ShelfState) (out out' : SinkState) (waits waits' : List ℕ) (result : Result Status Failed) : Type 0 where
+  pub tells : (all : Files) → shelf.files ≡ Some all → IsSome shelf'.files → TellsRun (Outcome all (Rose shelf.reading_faults shelf'.reading_faults)) handed shelf shelf' (written out.held waits) (written out'.held waits') result
   pub count : ℕ
-  pub within : count ≤ length plan.names
-  pub all : IsDone result → count ≡ length plan.names
-  pub keeps : OnlyReads shelf shelf' (take count plan.names)
-  pub counts : CountsReading plan.names shelf.files shelf.reading_faults shelf'.reading_faults result
+  pub within : count ≤ length names
+  pub all : IsDone result → count ≡ length names
+  pub keeps : OnlyReads shelf shelf' (take count names)
+  pub counts : CountsReading names shelf.files shelf.reading_faults shelf'.reading_faults result
   pub own : IsReadingStatus result
   pub sink : KeepsSink out out' result
+
+-- The files of a plan were read in order.
+abbrev pub DoesFiles : ReadPlan → (List Shown → Type 0) → ShelfState → ShelfState → SinkState → SinkState → List ℕ → List ℕ → Result Status Failed → Type 0
+DoesFiles plan handed shelf shelf' out out' waits waits' result = DoesReading (PlanOutcome plan) plan.names handed shelf shelf' out out' waits waits' result

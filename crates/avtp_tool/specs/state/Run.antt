@@ -11,10 +11,11 @@ use Rattle.sample_schedule.specs.Limits.{IsPlan as IsSchedulePlan}
 use Rattle.listener.specs.Heard.{schedule_plan}
 use Rattle.avtp_text.specs.Written.{written}
 use Rattle.sample_schedule.specs.declared.shown.Shown.{Shown}
-use Rattle.avtp_words.specs.Grammar.{files_of, IsCommandLine, IsOffence, output_of, Request, show, check, listen, talk, soak, Listening, Talking}
+use Rattle.avtp_words.specs.Grammar.{files_of, IsCommandLine, IsOffence, output_of, Request, show, check, listen, talk, soak, agree, Listening, Talking}
 use Rattle.avtp_tool.specs.declared.status.Status.{Status}
 use Rattle.avtp_tool.specs.declared.status.Status.TheVariants as status
 use Rattle.avtp_tool.specs.Listen.{plan_of}
+use Rattle.avtp_tool.specs.state.Agree.{IsAgreeing}
 use Rattle.avtp_tool.specs.Made.{KeepsFilesBut, KeepsSlotsFor}
 use Rattle.avtp_tool.specs.state.Made.{CountsWriting, Makes}
 use Rattle.avtp_tool.specs.Outcome.{AsksFor}
@@ -33,6 +34,7 @@ MakesOf (check limit names) all files files' result = KeepsFiles files files'
 MakesOf (listen asked) all files files' result = KeepsFiles files files'
 MakesOf (talk asked) all files files' result = MakesFrom asked (all asked.input) files files' result
 MakesOf (soak packets) all files files' result = KeepsFiles files files'
+MakesOf (agree asked) all files files' result = KeepsFiles files files'
 
 abbrev pub IsThrough : Result Status Failed → Type 0
 IsThrough (Ok ended) = is_through ended ≡ true
@@ -75,3 +77,4 @@ IsRequest (check limit names) = limit ≤ 2 ^ 40
 IsRequest (listen asked) = IsListening asked
 IsRequest (talk asked) = IsPlan (talk_plan asked)
 IsRequest (soak packets) = packets ≤ 1000000
+IsRequest (agree asked) = IsAgreeing asked

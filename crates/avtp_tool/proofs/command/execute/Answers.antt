@@ -1,11 +1,10 @@
 use Rattle.std.proofs.Common.{false, refl, sym, ap}
-use Rattle.avtp_words.specs.Grammar.{check, listen, listening_of, show, soak, talk, talking_of}
+use Rattle.avtp_words.specs.Grammar.{agree, agreeing_of, check, listen, listening_of, show, soak, talk, talking_of}
 use Rattle.avtp_words.specs.Word.{texts}
-use Rattle.avtp_tool.specs.Check.{check_plan}
 use Rattle.avtp_tool.specs.Show.{show_plan}
 use Rattle.avtp_tool.proofs.Asked.{not_offence, requested}
 use Rattle.avtp_tool.specs.Run.{is_listening}
-use Rattle.avtp_tool.proofs.PlanRuns.{one_file, plan_runs, runs_deaf, runs_of}
+use Rattle.avtp_tool.proofs.PlanRuns.{one_file, reading_runs, runs_deaf, runs_of}
 use Rattle.avtp_tool.proofs.Soaked.{soak_runs}
 use Rattle.avtp_tool.proofs.Yields.{hands_nothing}
 use Rattle.avtp_tool.proofs.command.execute.Goals as goal
@@ -33,14 +32,14 @@ returns-in-Ok-Show-clause-runs g c request line =
     let limit = c.in-Ok-Show.limit in
     let file = c.in-Ok-Show.file.now in
     let same = rw c.in-Ok-Show.field-0-is at (c.in-Ok-Show.ensures.only request line) in
-    runs_deaf request (ap is_listening (sym same)) (hands_nothing g.D.Devices.handed _) (plan_runs (show limit file) (show_plan limit file) false request same (λ all fault failed came ended yields o. o) refl refl refl (λ all keeps. keeps) (one_file (show_plan limit file) file refl c.show.ensures))
+    runs_deaf request (ap is_listening (sym same)) (hands_nothing g.D.Devices.handed _) (reading_runs (show limit file) false request same (λ all fault failed came ended yields o. o) refl refl refl (λ all keeps. keeps) (one_file (show_plan limit file) file refl c.show.ensures))
 
 pub returns-in-Ok-Check-clause-runs : goal.returns-in-Ok-Check-clause-runs
 returns-in-Ok-Check-clause-runs g c request line =
     let limit = c.in-Ok-Check.limit in
     let names = texts c.in-Ok-Check.files.now in
     let same = rw c.in-Ok-Check.field-0-is at (c.in-Ok-Check.ensures.only request line) in
-    plan_runs (check limit names) (check_plan limit names) _ request same (λ all fault failed came ended yields o. o) refl refl refl (λ all keeps. keeps) c.read_files.ensures.does
+    reading_runs (check limit names) _ request same (λ all fault failed came ended yields o. o) refl refl refl (λ all keeps. keeps) c.read_files.ensures.does
 
 pub returns-in-Ok-Check-clause-words : goal.returns-in-Ok-Check-clause-words
 returns-in-Ok-Check-clause-words g c position offence = absurd (not_offence c.parse.result _ position (c.parse.ensures.only_offence position offence) c.in-Ok-Check.is)
@@ -65,3 +64,15 @@ pub returns-in-Ok-Soak-clause-runs : goal.returns-in-Ok-Soak-clause-runs
 returns-in-Ok-Soak-clause-runs g c request line =
     let same = rw c.in-Ok-Soak.field-0-is at (c.in-Ok-Soak.ensures.only request line) in
     runs_deaf request (ap is_listening (sym same)) (hands_nothing g.D.Devices.handed _) (soak_runs c.in-Ok-Soak.packets request same c.soak.ensures)
+
+pub agree-requires : goal.agree-requires
+agree-requires g c = requested (texts c.args.words.now) (agree (agreeing_of c.in-Ok-Agree.asked)) (rw c.in-Ok-Agree.field-0-is at c.in-Ok-Agree.ensures.found)
+
+pub returns-in-Ok-Agree-clause-words : goal.returns-in-Ok-Agree-clause-words
+returns-in-Ok-Agree-clause-words g c position offence = absurd (not_offence c.parse.result _ position (c.parse.ensures.only_offence position offence) c.in-Ok-Agree.is)
+
+pub returns-in-Ok-Agree-clause-runs : goal.returns-in-Ok-Agree-clause-runs
+returns-in-Ok-Agree-clause-runs g c request line =
+    let same = rw c.in-Ok-Agree.field-0-is at (c.in-Ok-Agree.ensures.only request line) in
+    runs_deaf request (ap is_listening (sym same)) (hands_nothing g.D.Devices.handed _)
+    (reading_runs (agree (agreeing_of c.in-Ok-Agree.asked)) false request same (λ all fault failed came ended yields o. o) refl refl refl (λ all keeps. keeps) c.agree.ensures)

@@ -1,0 +1,153 @@
+-- What `agree` prints and how it ends.
+use Rattle.std.specs.Prelude.{◌≡◌, ◌⊎◌, ℕ, ℤ, ◌≤◌, ◌==◌, true, false, if◌then◌else◌, List, [], ◌∷◌, ◌++◌, Any, flat_map, length, slice_get, take, Option, Some, None, IsSome}
+use Rattle.std.specs.List.{AllByRecursion}
+use Rattle.avtp_base.specs.Files.{Files}
+use Rattle.capture_io.specs.declared.end.End.{End}
+use Rattle.capture_io.specs.declared.end.End.TheVariants as end
+use Rattle.capture_io.specs.Ends.{EndsAt, end_of}
+use Rattle.capture_io.specs.Formats.{records_in}
+use Rattle.packet_journal.specs.Packets.{PacketJournal}
+use Rattle.sample_schedule.specs.Batches.{Presented}
+use Rattle.listener.specs.Heard.{due_of, shown_of}
+use Rattle.listener.specs.Laws.{IsOfPacket, by_clock, presented_of}
+use Rattle.listener_pair.specs.declared.difference.Difference.{Difference}
+use Rattle.listener_pair.specs.declared.difference.PairCounts.{PairCounts}
+use Rattle.listener_pair.specs.declared.difference.Way.{Way}
+use Rattle.listener_pair.specs.declared.difference.Way.TheVariants.{Count, At, Bytes}
+use Rattle.listener_pair.specs.Differences.{counts_of, differences}
+use Rattle.listener_pair.specs.Merged.{Sided, known, merged}
+use Rattle.listener_pair.specs.Pairs.{pairs}
+use Rattle.pair_laws.specs.Agreeing.{IsOneOf, IsPairOf}
+use Rattle.avtp_words.specs.Grammar.{Agreeing}
+use Rattle.avtp_text.specs.Agree.{differ_at_line, differ_bytes_line, differ_count_line, end_agree_line}
+use Rattle.avtp_text.specs.Notices.{capture_refused_line, limit_line, read_fault_line}
+use Rattle.avtp_tool.specs.declared.status.Status.{Status}
+use Rattle.avtp_tool.specs.declared.status.Status.TheVariants as status
+use Rattle.avtp_tool.specs.Listen.{plan_of}
+use Rattle.avtp_tool.specs.Status.{status_of}
+
+-- ---- lines
+
+-- the line of a pair of batches with these frames and this sequence number, which differ in this way
+abbrev pub way_line : ℕ → ℕ → ℕ → Way → List ℕ
+way_line a b seq (Count count_a count_b) = differ_count_line a b seq count_a count_b
+way_line a b seq (At sample at_a at_b) = differ_at_line a b seq sample at_a at_b
+way_line a b seq (Bytes sample) = differ_bytes_line a b seq sample
+
+-- the line of a difference
+abbrev pub difference_line : Difference → List ℕ
+difference_line d = way_line d.frame_a d.frame_b d.seq d.way
+
+-- a line for each difference
+abbrev pub difference_lines : List Difference → List ℕ
+difference_lines list = flat_map difference_line list
+
+-- the line of the counts
+abbrev pub counts_line : PairCounts → List ℕ
+counts_line counts = end_agree_line counts.matched counts.only_a counts.only_b counts.differ
+
+-- the line of a capture that was not read to its end
+abbrev pub side_line : ℕ → End → List ℕ
+side_line limit end.Whole = []
+side_line limit (end.Refused refusal) = capture_refused_line refusal
+side_line limit end.ReadFault = read_fault_line
+side_line limit end.Limit = limit_line limit
+
+-- The last lines, given how the readings of A and B ended: the counts if both were read to their ends; otherwise a line for
+-- each that was not, A's before B's.
+abbrev pub last_lines : ℕ → PairCounts → End → End → List ℕ
+last_lines limit counts end.Whole end.Whole = counts_line counts
+last_lines limit counts a b = side_line limit a ++ side_line limit b
+
+-- The status, given the number of differences and how the readings ended: that of the first of the last lines.
+abbrev pub agree_status : ℕ → End → End → Status
+agree_status found end.Whole end.Whole = if found == 0 then status.Done else status.Findings
+agree_status found end.Whole b = status_of b
+agree_status found a b = status_of a
+
+-- ---- two captures that are read without a fault
+
+-- what a listener presents of a capture of these bytes: everything up to its end, a refused field or the limit
+abbrev pub presented_in : Agreeing → List ℕ → List Presented
+presented_in asked bytes = presented_of (shown_of (plan_of asked.listener) (records_in (take asked.listener.limit bytes)))
+
+-- what is presented of two captures, in one list
+abbrev pub merged_in : Agreeing → List ℕ → List ℕ → List Sided
+merged_in asked x y = merged (presented_in asked x) (presented_in asked y)
+
+-- the whole text of `agree` of two captures: their differences, and the last lines
+abbrev pub compared_text : Agreeing → List ℕ → List ℕ → List ℕ
+compared_text asked x y =
+    difference_lines (differences (merged_in asked x y))
+    ++ last_lines asked.listener.limit (counts_of (merged_in asked x y)) (end_of asked.listener.limit x) (end_of asked.listener.limit y)
+
+-- the status of `agree` of two captures
+abbrev pub compared_status : Agreeing → List ℕ → List ℕ → Status
+compared_status asked x y =
+    agree_status (counts_of (merged_in asked x y)).differ (end_of asked.listener.limit x) (end_of asked.listener.limit y)
+
+-- ---- a fault of reading
+
+-- what is due of the first bytes of a capture
+abbrev pub due_in : Agreeing → List ℕ → List Presented
+due_in asked prefix = presented_of (due_of (plan_of asked.listener) (records_in prefix))
+
+-- the text of `agree` if a fault of reading comes after these bytes of A: the differences in what is known by then, given all
+-- that is presented of B
+abbrev pub text_without_a : Agreeing → List ℕ → List ℕ → List ℕ
+text_without_a asked prefix y = difference_lines (differences (known false true (merged (due_in asked prefix) (presented_in asked y)))) ++ read_fault_line
+
+-- the same if it comes after these bytes of B, given all that is presented of A
+abbrev pub text_without_b : Agreeing → List ℕ → List ℕ → List ℕ
+text_without_b asked x prefix = difference_lines (differences (known true false (merged (presented_in asked x) (due_in asked prefix)))) ++ read_fault_line
+
+-- a file was asked for and not opened: it is missing, or a fault of reading came
+abbrev pub IsUnopened : Files → Type 0 → List ℕ → Type 0
+IsUnopened files fault name = (files name ≡ None) ⊎ fault
+
+-- Over the files that a shelf tells, `agree` can reach these names, end with this status and print this. `fault` is what a fault
+-- of reading needs.
+pub data AgreeOutcome (asked : Agreeing) (files : Files) (fault : Type 0) (came : List (List ℕ)) (ended : Status) (text : List ℕ) : Type 0 where
+  -- A was not opened.
+  without_a : IsUnopened files fault asked.a → came ≡ asked.a ∷ [] → ended ≡ status.ReadFault → text ≡ read_fault_line → AgreeOutcome asked files fault came ended text
+  -- A was opened, and B was not.
+  without_b : IsSome (files asked.a) → IsUnopened files fault asked.b → came ≡ asked.a ∷ asked.b ∷ [] → ended ≡ status.ReadFault → text ≡ read_fault_line → AgreeOutcome asked files fault came ended text
+  -- Both were opened and read to their ends, to a refused field or to the limit.
+  compared : (x y : List ℕ) → files asked.a ≡ Some x → files asked.b ≡ Some y → came ≡ asked.a ∷ asked.b ∷ []
+      → ended ≡ compared_status asked x y → text ≡ compared_text asked x y → AgreeOutcome asked files fault came ended text
+  -- A fault of reading came in A, after a prefix of it.
+  cut_a : (x y prefix : List ℕ) → files asked.a ≡ Some x → files asked.b ≡ Some y → came ≡ asked.a ∷ asked.b ∷ []
+      → EndsAt asked.listener.limit (Some x) fault end.ReadFault prefix → ended ≡ status.ReadFault → text ≡ text_without_a asked prefix y → AgreeOutcome asked files fault came ended text
+  -- A fault of reading came in B, after a prefix of it.
+  cut_b : (x y prefix : List ℕ) → files asked.a ≡ Some x → files asked.b ≡ Some y → came ≡ asked.a ∷ asked.b ∷ []
+      → EndsAt asked.listener.limit (Some y) fault end.ReadFault prefix → ended ≡ status.ReadFault → text ≡ text_without_b asked x prefix → AgreeOutcome asked files fault came ended text
+
+-- ---- if no fault of reading comes
+
+-- the names that are asked for, by what a shelf tells of A
+abbrev pub agree_came : Agreeing → Option (List ℕ) → List (List ℕ)
+agree_came asked None = asked.a ∷ []
+agree_came asked (Some x) = asked.a ∷ asked.b ∷ []
+
+-- the status of `agree` of two files, of which a shelf tells the bytes or that they are missing
+abbrev pub agree_ended : Agreeing → Option (List ℕ) → Option (List ℕ) → Status
+agree_ended asked None told = status.ReadFault
+agree_ended asked (Some x) None = status.ReadFault
+agree_ended asked (Some x) (Some y) = compared_status asked x y
+
+-- the whole text of `agree` of two files
+abbrev pub agree_report : Agreeing → Option (List ℕ) → Option (List ℕ) → List ℕ
+agree_report asked None told = read_fault_line
+agree_report asked (Some x) None = read_fault_line
+agree_report asked (Some x) (Some y) = compared_text asked x y
+
+-- ---- two captures of a talker that keeps the rules
+
+-- What `agree` prints of two captures of a talker that keeps the rules, whatever each lost: no difference. Each pair is of one
+-- packet or unit, and two batches of one packet or unit are a pair.
+pub record HasAgreement (asked : Agreeing) (p : PacketJournal) (x y : List ℕ) (text : List ℕ) : Type 0 where
+  pub printed : text ≡ last_lines asked.listener.limit (counts_of (merged_in asked x y)) (end_of asked.listener.limit x) (end_of asked.listener.limit y)
+  pub none : (counts_of (merged_in asked x y)).differ ≡ 0
+  pub one : AllByRecursion (IsOneOf (by_clock (plan_of asked.listener)) p) (pairs (merged_in asked x y))
+  pub paired : (n i k : ℕ) (a b : Presented) → slice_get (presented_in asked x) i ≡ Some a → slice_get (presented_in asked y) k ≡ Some b
+      → IsOfPacket (by_clock (plan_of asked.listener)) p n a → IsOfPacket (by_clock (plan_of asked.listener)) p n b → Any (IsPairOf a b) (pairs (merged_in asked x y))
