@@ -1,5 +1,5 @@
 -- Records that belong to a stream or to its clock.
-use Rattle.std.proofs.Common.{◌≡◌, ℕ, Bool, true, false, List, Option, Some, None, refl, sym, ap, if◌then◌else◌}
+use Rattle.std.proofs.Common.{◌≡◌, ℕ, Bool, true, false, List, Some, None, refl, sym, ap, if◌then◌else◌}
 use Rattle.avtp_header.specs.declared.header.Peeked.{Peeked}
 use Rattle.avtp_header.specs.Header.{peeked_of}
 use Rattle.packet_journal.specs.Deliveries.{belongs, is_avtp, is_wanted, packet_in, stream_kinds}

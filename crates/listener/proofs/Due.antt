@@ -22,7 +22,7 @@ numbered_more {X} n [] ys = (enumerate_from n ys, refl)
 numbered_more {X} n (x ∷ xs) ys = let more = numbered_more (n + 1) xs ys in (more.0, ap {B = List (ℕ × X)} (λ t. (n, x) ∷ t) more.1)
 
 -- the deliveries of a longer list of records begin with those of a shorter
-deliveries_more : (plan : ListenPlan) (records others : List Record) → (rest : List Delivery) × (deliveries_of plan (records ++ others) ≡ deliveries_of plan records ++ rest)
+pub deliveries_more : (plan : ListenPlan) (records others : List Record) → (rest : List Delivery) × (deliveries_of plan (records ++ others) ≡ deliveries_of plan records ++ rest)
 deliveries_more plan records others =
     let more = numbered_more 1 records others in
     let test : ℕ × Record → Bool = λ (x : ℕ × Record). is_delivered plan.stream plan.clock x.1.bytes in

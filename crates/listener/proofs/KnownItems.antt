@@ -1,21 +1,19 @@
 -- What is known by the packets that came is known to the listener.
-use Rattle.std.proofs.Common.{◌≡◌, ◌≢◌, ◌⊎◌, inl, inr, ℕ, zero, suc, ◌+◌, ◌%◌, ◌^◌, ◌<◌, Bool, true, false, ℤ, pos, List, [], ◌∷◌, All, Option, Some, None, is_some, length, refl, sym, ap, ◌∙◌, subst, arith}
-use Rattle.std.specs.Prelude.{◌==◌, if◌then◌else◌, map, slice_get, take, IfSome, option_map, option_and_then}
+use Rattle.std.proofs.Common.{◌≡◌, ◌≢◌, inl, inr, ℕ, zero, suc, ◌+◌, ◌%◌, ◌^◌, ◌<◌, Bool, true, false, ℤ, pos, List, [], ◌∷◌, All, Option, Some, None, is_some, refl, sym, ap, ◌∙◌, subst}
+use Rattle.std.specs.Prelude.{if◌then◌else◌, map, slice_get, take, IfSome, option_map, option_and_then}
 use Rattle.std.specs.List.{cons_option, filter_map}
 use Rattle.std.specs.Option.{option_or}
 use Rattle.std.proofs.lemmas.List.Elements.{All-head, All-tail, All-take}
 use Rattle.time_unfold.specs.declared.head_rule.Distance.{Distance}
 use Rattle.time_unfold.specs.declared.head_rule.Head.{Head}
 use Rattle.time_unfold.specs.declared.stamp.Stamp.{Stamp}
-use Rattle.time_unfold.specs.Heads.{distance, stamped_block}
+use Rattle.time_unfold.specs.Heads.{stamped_block}
 use Rattle.time_unfold.specs.Stamps.{found}
 use Rattle.time_unfold.specs.Time.{unfolded}
 use Rattle.clock_track.specs.declared.clock_row.ClockRow.{ClockRow}
-use Rattle.clock_track.specs.Pairs.{Spot}
 use Rattle.clock_track.specs.Rows.{clock_spot}
 use Rattle.pcap_frames.specs.Capture.{Record}
-use Rattle.stream_journal.specs.Clocks.{ClockJournal}
-use Rattle.stream_journal.specs.Conforming.{IsAudio, IsClock}
+use Rattle.stream_journal.specs.Conforming.{IsAudio}
 use Rattle.stream_journal.specs.Delivered.{Copy, IsAudioKind, IsDelivered}
 use Rattle.stream_journal.specs.Heads.{IsTrue, stamp_at, wanted}
 use Rattle.stream_journal.specs.Journal.{Journal, Kind, DenseAaf, SparseAaf, Am824, H264, Part, head_of, rule_of}
@@ -23,22 +21,21 @@ use Rattle.stream_journal.specs.Known.{IsCounted, IsCoveredBy, IsTimed, stamps_i
 use Rattle.stream_journal.proofs.FoundHeads.{found_so}
 use Rattle.stream_journal.proofs.TrueTime.{true_time}
 use Rattle.sample_schedule.specs.declared.entry.Entry.{Entry}
-use Rattle.sample_schedule.specs.declared.entry.Entry.TheVariants.{Item as OfItem, Clock as OfClockEntry}
-use Rattle.sample_schedule.specs.declared.item.Item.TheVariants.{Packet as OfPacket, Unit as OfUnit}
-use Rattle.sample_schedule.specs.declared.item.Packet.{Packet}
+use Rattle.sample_schedule.specs.declared.entry.Entry.TheVariants.{Item as OfItem}
+use Rattle.sample_schedule.specs.declared.item.Item.TheVariants.{Packet as OfPacket}
 use Rattle.sample_schedule.specs.declared.plan.SchedulePlan.{SchedulePlan}
 use Rattle.sample_schedule.specs.Heads as heads
 use Rattle.sample_schedule.specs.Schedule.{prefix_of}
 use Rattle.sample_schedule.specs.Verdicts.{moved, nominal_spot, row_of}
 use Rattle.packet_journal.specs.Deliveries.{Delivery}
-use Rattle.packet_journal.specs.Delivered.{AreFrom, IsCopyOf, IsFrom, Origin, OfClock, OfStream, stream_numbers}
+use Rattle.packet_journal.specs.Delivered.{AreFrom, IsCopyOf, Origin, OfClock, OfStream, stream_numbers}
 use Rattle.packet_journal.specs.Packets.{IsConforming, PacketJournal, carried}
 use Rattle.listener.specs.declared.plan.ListenPlan.{ListenPlan}
 use Rattle.listener.specs.Heard.{deliveries_of, entries_in, items_in, schedule_plan}
 use Rattle.listener.specs.Items.{MadeItem, entry_of, items_of, made_entry, made_of_one}
-use Rattle.listener.specs.Known.{IsKnownCopy, IsKnownItem, IsKnownUnit, came_by, clock_numbers}
-use Rattle.listener.specs.Laws.{HearsTalker, IsMadeOf}
-use Rattle.listener.specs.state.Known.{is_known, spot_in}
+use Rattle.listener.specs.Known.{IsKnownCopy, IsKnownItem, IsKnownUnit, clock_numbers}
+use Rattle.listener.specs.Laws.{HearsTalker}
+use Rattle.listener.specs.state.Known.{is_known}
 use Rattle.listener.proofs.ItemKinds.{at_place}
 use Rattle.listener.proofs.KnownRows.{AreRows, covered_line}
 use Rattle.listener.proofs.Made.{items_other}

@@ -1,9 +1,9 @@
 -- The rows of the clock's packets that came, one by one.
-use Rattle.std.proofs.Common.{◌≡◌, ◌≢◌, ℕ, zero, suc, ◌-◌, ◌<◌, Bool, true, false, ℤ, List, [], ◌∷◌, Option, None, length, refl, ap, ◌∙◌, subst, arith}
-use Rattle.std.specs.Prelude.{Contains, drop, filter, if◌then◌else◌, slice_index_or}
+use Rattle.std.proofs.Common.{◌≡◌, ◌≢◌, ℕ, zero, suc, ◌-◌, ◌<◌, Bool, true, ℤ, List, [], ◌∷◌, None, length, refl, ap, ◌∙◌, subst, arith}
+use Rattle.std.specs.Prelude.{Contains, drop, if◌then◌else◌, slice_index_or}
 use Rattle.time_unfold.specs.Stamps.{last_of}
 use Rattle.clock_track.specs.declared.clock_row.ClockRow.{ClockRow}
-use Rattle.clock_track.specs.Rows.{clock_spot, used, window}
+use Rattle.clock_track.specs.Rows.{clock_spot, used}
 use Rattle.stream_journal.specs.Clocks.{ClockJournal}
 use Rattle.stream_journal.specs.ClockRows.{IsRowOf}
 use Rattle.stream_journal.specs.Conforming.{IsClock}

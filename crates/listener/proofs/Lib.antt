@@ -21,7 +21,6 @@ pub mod Shown
 pub mod KnownRows
 pub mod KnownItems
 pub mod Welcome
-pub mod ClockWelcome
 pub mod UnitWelcome
 pub mod TrueHeadline
 pub mod Belonging

@@ -27,9 +27,9 @@ use Rattle.sample_schedule.specs.Verdicts.{Clock, timed, verdict}
 use Rattle.sample_schedule.proofs.Judged.{In, IsJudged, all-judged, as-judged, judged-frame}
 use Rattle.packet_journal.specs.Deliveries.{Delivery, delivery, is_delivered}
 use Rattle.listener.specs.declared.plan.ListenPlan.{ListenPlan}
-use Rattle.listener.specs.Heard.{deliveries_of, items_in, schedule_plan, shown_of}
+use Rattle.listener.specs.Heard.{deliveries_of, entries_in, items_in, schedule_plan, shown_of}
 use Rattle.listener.specs.Items.{MadeItem, aaf_item, events_to, flagged, made_entry, unit_by, blocks_of, clock_row, entries, entry_of, iec_item, item_of, items_of, refused_or, samples_of, sources}
-use Rattle.listener.specs.Laws.{IsInOneItem, frame_of, shown_by, shown_of_frame, verdict_of}
+use Rattle.listener.specs.Laws.{IsInOneItem, IsShownItem, frame_of, shown_by, shown_of_frame, verdict_of}
 use Rattle.cvf_format.specs.Stretches.{last_stretch}
 use Rattle.listener.proofs.ItemKinds.{at_place}
 use Rattle.listener.proofs.Made.{OfEach, all_made, count-cons, find_one, items_all, last_all, last_counts, same_place, tally}
@@ -316,6 +316,31 @@ unfolding timed verdict
 not_bad clock plan es place (OfPacket packet) is = refl
 not_bad clock plan es place (OfUnit whole) is = refl
 not_bad clock plan es place (OfBad bad) is = absurd is
+
+-- what is shown is an item's, as its verdict says
+shown_as : (plan : ListenPlan) (records : List Record) (g : Given) → IsJudged clock_spot (schedule_plan plan) (entries_in plan records) g → IsShownItem plan records (given_shown g)
+shown_as plan records g j =
+    let ms = items_in plan records in
+    let m = made_of ms (place_of g) j.item j.there in
+    let own = (at_place IsOwn ms (place_of g) m.made (all_own (deliveries_of plan records)) m.there).of_last j.item m.same in
+    record {
+      place = place_of g;
+      made = m.made;
+      item = j.item;
+      there = m.there;
+      is = m.same;
+      same = sym (ap given_shown j.same) ∙ shown_so (place_of g) m.made.last j.item (verdict_of plan records (place_of g) j.item) own;
+    }
+
+shown_by_each : (P : Shown → Type 0) (gs : List Given) → ((g : Given) → In gs g → P (given_shown g)) → All P (map given_shown gs)
+unfolding In
+shown_by_each P [] each = All-nil P
+shown_by_each P (g ∷ gs) each = All-cons P (given_shown g) (map given_shown gs) (each g (inl refl)) (shown_by_each P gs (λ h here. each h (inr here)))
+
+pub no_other_shown : (plan : ListenPlan) (records : List Record) → All (IsShownItem plan records) (shown_of plan records)
+no_other_shown plan records =
+    shown_by_each (IsShownItem plan records) (given clock_spot (schedule_plan plan) (entries_in plan records))
+    (λ g here. shown_as plan records g (all-judged clock_spot (schedule_plan plan) (entries_in plan records) g here))
 
 -- what is shown is at the place of an item, and has its frame
 pub record IsPlaced (ms : List MadeItem) (g : Given) : Type 0 where

@@ -14,7 +14,7 @@ use Rattle.listener.specs.Headline.{KeepsHeadline}
 use Rattle.listener.specs.Heard.{entries_in, schedule_plan, shown_of}
 use Rattle.listener.specs.Items.{MadeItem}
 use Rattle.listener.specs.Laws.{HearsTalker, IsFurther, by_clock, shown_by, shown_of_frame}
-use Rattle.listener.proofs.Shown.{each_in_one_item, item_shown}
+use Rattle.listener.proofs.Shown.{each_in_one_item, item_shown, no_other_shown}
 use Rattle.listener.proofs.TrueList.{presented_heard}
 use Rattle.listener.proofs.TrueOnce.{all_agree, presented_once}
 use Rattle.listener.proofs.TrueOrder.{never_falls}
@@ -36,6 +36,7 @@ headline shift p plan records h = record {
   repeats = λ place n made. further_flagged shift p plan records place n made h;
   each_made = each_in_one_item plan records;
   each_shown = item_shown plan records;
+  no_other = no_other_shown plan records;
   agrees = λ other others g same. all_agree (by_clock plan) p _ _ h.conforming.times;
   buffer = λ place. (bounded clock_spot (schedule_plan plan) (entries_in plan records) place).batches;
   room = λ place. (bounded clock_spot (schedule_plan plan) (entries_in plan records) place).bytes;

@@ -1,5 +1,5 @@
 -- A unit of H.264 at the beginning of a capture must be presented if its packets came in order.
-use Rattle.std.proofs.Common.{◌≡◌, ◌⊎◌, ℕ, zero, suc, ◌+◌, ◌%◌, ◌<◌, ◌≤◌, ◌^◌, Bool, true, false, ℤ, pos, ◌≤ℤ◌, List, [], ◌∷◌, ◌++◌, All, drop, length, map, Option, Some, None, refl, sym, ap, ◌∙◌, subst, inl, inr, arith, append-nil, append_assoc, eq-eqb, length-append}
+use Rattle.std.proofs.Common.{◌≡◌, ◌⊎◌, ℕ, zero, suc, ◌+◌, ◌%◌, ◌<◌, ◌≤◌, Bool, true, false, ℤ, pos, ◌≤ℤ◌, List, [], ◌∷◌, ◌++◌, All, drop, length, map, Option, Some, None, refl, sym, ap, ◌∙◌, subst, inl, inr, arith, append-nil, append_assoc, eq-eqb, length-append}
 use Rattle.std.specs.Prelude.{◌-◌, ◌==◌, nat_lt, not, if◌then◌else◌, slice_get, Contains, IfSome, option_map}
 use Rattle.std.specs.List.{flat_map}
 use Rattle.std.proofs.lemmas.Bool.{cases_lt}
@@ -27,7 +27,7 @@ use Rattle.stream_journal.specs.Conforming.{Ends, IsVideo}
 use Rattle.stream_journal.specs.Journal.{IsAtBy, Journal, Kind, H264, Part, Single, First, Middle, Last}
 use Rattle.packet_journal.specs.Deliveries.{Delivery}
 use Rattle.packet_journal.specs.Delivered.{IsCopyOf}
-use Rattle.packet_journal.specs.Packets.{IsConforming, IsCvfPacket, PacketJournal, part_of}
+use Rattle.packet_journal.specs.Packets.{IsConforming, PacketJournal, part_of}
 use Rattle.packet_journal.specs.Units.{AreUnit, IsContentBy, first_byte, unit_bytes}
 use Rattle.listener.specs.declared.plan.ListenPlan.{ListenPlan}
 use Rattle.listener.specs.Heard.{deliveries_of, entries_in, items_in, schedule_plan}
@@ -37,7 +37,7 @@ use Rattle.time_unfold.specs.Time.{unfolded}
 use Rattle.listener.proofs.KnownItems.{unit_item_known}
 use Rattle.listener.specs.Laws.{AreCopiesFrom, AreOfUnit, HearsTalker, IsMadeOf, IsOfPacket, IsWelcome, by_clock, time_of}
 use Rattle.listener.specs.Units.{event_of, events, flaw_in, flaw_of, flaw_or, fragment_in, in_stream, last_ones}
-use Rattle.listener.proofs.ItemKinds.{all_before, at_place}
+use Rattle.listener.proofs.ItemKinds.{all_before}
 use Rattle.listener.proofs.Made.{none_last, so_far_more}
 use Rattle.listener.proofs.Shown.{entry_at}
 use Rattle.listener.proofs.TrueItems.{Shows, all_shown}
@@ -491,49 +491,6 @@ unit_welcome shift p plan records part from n earlier last rest h kind same u ea
       content = subst (λ (k : Kind). IsContentBy k p n (unit_bytes p from n)) (sym kind) (record { from = from; packets = u.packets; bytes = refl });
       room = rw none (has_room sp (time_of plan records 0) (length (unit_bytes p from n)) some fits);
     }
-
--- ---- one packet with a whole unit
-
-single_nal : (part : NalPart) → part_of part ≡ Single → part ≡ SingleNal
-single_nal SingleNal e = refl
-single_nal FirstNal e = absurd cc
-single_nal MiddleNal e = absurd cc
-single_nal LastNal e = absurd cc
-
--- a packet holds far less than the longest unit
-body_fits : (p : PacketJournal) (part : Part) (n : ℕ) (v : Cvf) → IsCvfPacket p.times part p.stream n v → v.part ≡ SingleNal → length v.body ≤ 65530
-body_fits p part n v is single =
-    let stated : v.header.data_length < 2 ^ 16 = is.fits.1.1.1.1.1.1.1.1.1.0.0 in
-    let size : 24 + v.header.data_length ≡ 29 + length v.body = rw single at is.writable.data_length in
-    omega (arith, stated, size)
-
-one_size : (p : PacketJournal) (part : ℕ → Part) (n : ℕ) (d : Delivery) → IsVideoCopy p part n d → part n ≡ Single → length (unit_bytes p n n) ≤ longest_unit
-one_size p part n d c whole =
-    let fits = body_fits p (part n) n c.view c.packet (single_nal c.view.part (c.packet.part_is ∙ whole)) in
-    let one : suc n - n ≡ 1 = omega arith in
-    rw (one, c.is) (omega (arith, ap length (append-nil c.view.body), fits))
-
-one_of_unit : (p : PacketJournal) (part : ℕ → Part) (lead n : ℕ) (d : Delivery) → IsCopyOf p lead n d → IsVideoCopy p part n d → part n ≡ Single → AreOfUnit p part lead n n [] d
-one_of_unit p part lead n d copy c whole = record {
-  to = omega arith;
-  packets = inl (refl, whole);
-  earlier_copies = tt;
-  last_copy = copy;
-  same_byte = λ k low high. let same : k ≡ n = omega (arith, low, high) in ap (λ (i : ℕ). first_byte (p.packet i)) same;
-  size = one_size p part n d c whole;
-  few = omega arith;
-}
-
-first_is : (ds : List Delivery) (d : Delivery) → slice_get ds 0 ≡ Some d → (rest : List Delivery) × (ds ≡ d ∷ rest)
-first_is [] d at = absurd cc
-first_is (x ∷ xs) d at = let same : x ≡ d = cc in (xs, ap (λ (y : Delivery). y ∷ xs) same)
-
-pub one_welcome : (shift : ℤ) (p : PacketJournal) (plan : ListenPlan) (records : List Record) (part : ℕ → Part) (n : ℕ) (d : Delivery) → HearsTalker shift p plan records → p.times.kind ≡ H264 part → slice_get (deliveries_of plan records) 0 ≡ Some d
-    → IsCopyOf p plan.lead n d → part n ≡ Single → d.arrival ≤ℤ pos (p.times.due n) → 1 ≤ plan.buffer → length (unit_bytes p n n) ≤ plan.room → IsWelcome p plan records 0 n (unit_by [] d)
-one_welcome shift p plan records part n d h kind at copy whole early some fits =
-    let c = video_copy shift p part plan.lead n d h.conforming kind copy (at_place Shows (deliveries_of plan records) 0 d (all_shown plan.stream plan.clock records) at) in
-    let rest = first_is (deliveries_of plan records) d at in
-    unit_welcome shift p plan records part n n [] d rest.0 h kind rest.1 (one_of_unit p part plan.lead n d copy c whole) early some fits
 
 -- ---- a unit whose packets came in order, wherever in the capture
 

@@ -13,7 +13,7 @@ use Rattle.packet_journal.specs.Packets.{PacketJournal}
 use Rattle.listener.specs.declared.plan.ListenPlan.{ListenPlan}
 use Rattle.listener.specs.Heard.{deliveries_of, entries_in, items_in, schedule_plan, shown_of}
 use Rattle.listener.specs.Items.{MadeItem}
-use Rattle.listener.specs.Laws.{Agree, AreOther, HearsTalker, IsFurther, IsHeardFrom, IsInOneItem, IsPresentedOf, IsWelcome, ComesBefore, by_clock, presented_of, shown_by, shown_of_frame, verdict_of}
+use Rattle.listener.specs.Laws.{Agree, AreOther, HearsTalker, IsFurther, IsHeardFrom, IsInOneItem, IsPresentedOf, IsShownItem, IsWelcome, ComesBefore, by_clock, presented_of, shown_by, shown_of_frame, verdict_of}
 
 -- What is shown of the records of a capture keeps the headline.
 pub record KeepsHeadline (shift : ℤ) (p : PacketJournal) (plan : ListenPlan) (records : List Record) (shown : List Shown) : Type 0 where
@@ -34,6 +34,8 @@ pub record KeepsHeadline (shift : ℤ) (p : PacketJournal) (plan : ListenPlan) (
   -- each item of the stream is shown once: it is presented, or flagged with the reason of its verdict
   pub each_shown : (place : ℕ) (made : MadeItem) (item : Item) → slice_get (items_in plan records) place ≡ Some made → made.entry ≡ OfItem item
       → shown_of_frame made.last.frame shown ≡ shown_by made.last (verdict_of plan records place item) ∷ []
+  -- nothing else is shown
+  pub no_other : All (IsShownItem plan records) shown
   -- any other listener that hears the talker, if both or neither use its clock: for each packet that both present, both have
   -- the same bytes, and each sample at the same nanosecond
   pub agrees : (other : ListenPlan) (others : List Record) → HearsTalker shift p other others → by_clock other ≡ by_clock plan → All (λ a. All (Agree (by_clock plan) p a) (presented_of (shown_of other others))) (presented_of shown)

@@ -1,27 +1,20 @@
 -- What a listener hears of a talker that keeps the rules.
-use Rattle.std.specs.Prelude.{Any, Contains, true, ◌≡◌, ◌⊎◌, ℕ, suc, ◌+◌, ◌-◌, ◌^◌, ◌<◌, ◌≤◌, ◌%◌, ◌==◌, ⊤, Bool, false, ℤ, pos, ◌≤ℤ◌, ◌<ℤ◌, List, [], ◌∷◌, length, filter, All, slice_get, Option, Some, None, is_some, option_and_then, Result, Ok, Err}
+use Rattle.std.specs.Prelude.{Any, Contains, ◌≡◌, ◌⊎◌, ℕ, suc, ◌+◌, ◌<◌, ◌≤◌, ◌%◌, ◌==◌, ⊤, Bool, false, ℤ, pos, ◌≤ℤ◌, ◌<ℤ◌, List, [], ◌∷◌, length, filter, All, slice_get, Option, Some, None, is_some, Result, Ok, Err}
 use Rattle.std.specs.List.{sum_by}
-use Rattle.clock_track.specs.Pairs.{Covers, Spot}
 use Rattle.clock_track.specs.Rows.{clock_spot}
 use Rattle.pcap_frames.specs.Capture.{Record}
 use Rattle.sample_schedule.specs.declared.accepted.Accepted.{Accepted}
-use Rattle.sample_schedule.specs.declared.entry.Entry.{Entry}
-use Rattle.sample_schedule.specs.declared.entry.Entry.TheVariants.{Item as OfItem, Clock as OfClock}
+use Rattle.sample_schedule.specs.declared.entry.Entry.TheVariants.{Item as OfItem}
 use Rattle.sample_schedule.specs.declared.item.Item.{Item}
-use Rattle.sample_schedule.specs.declared.item.Item.TheVariants.{Packet as OfPacket, Unit as OfUnit, Bad as OfBad}
-use Rattle.sample_schedule.specs.declared.item.Packet.{Packet}
 use Rattle.sample_schedule.specs.declared.item.Unit.{Unit as WholeUnit}
-use Rattle.sample_schedule.specs.declared.plan.SchedulePlan.{SchedulePlan}
-use Rattle.sample_schedule.specs.Heads.{head_of}
 use Rattle.sample_schedule.specs.Laws.{verdict_in}
 use Rattle.sample_schedule.specs.Order.{standing}
-use Rattle.sample_schedule.specs.Schedule.{accepted, now_at, prefix_of}
-use Rattle.sample_schedule.specs.Verdicts.{is_full, spot_of}
+use Rattle.sample_schedule.specs.Schedule.{accepted, now_at}
+use Rattle.sample_schedule.specs.Verdicts.{is_full}
 use Rattle.sample_schedule.specs.Batches.{Presented, sample_instant}
 use Rattle.sample_schedule.specs.declared.shown.Reason.{Reason}
 use Rattle.sample_schedule.specs.declared.shown.Shown.{Shown}
 use Rattle.sample_schedule.specs.declared.shown.Shown.TheVariants.{Present, Flag}
-use Rattle.stream_journal.specs.Clocks.{ClockJournal, IsJoinedAt, Place, pair_at, point}
 use Rattle.stream_journal.specs.Journal.{IsAt, Kind, DenseAaf, SparseAaf, Am824, H264, Part}
 use Rattle.packet_journal.specs.Deliveries.{Delivery}
 use Rattle.packet_journal.specs.Delivered.{Delivers, IsCopyOf}
@@ -213,26 +206,11 @@ abbrev pub shown_by : Delivery → Result Accepted Reason → Shown
 shown_by d (Ok a) = Present a.batch
 shown_by d (Err reason) = Flag d.frame d.seq reason
 
--- ---- two packets of a clock
-
--- the place of the last point of packet m of a clock
-abbrev pub last_of : ClockJournal → ℕ → Place
-last_of c m = record { packet = m; at = length (c.points m) - 1 }
-
--- the place of the first point of the packet after packet m of a clock
-abbrev pub first_of : ℕ → Place
-first_of m = record { packet = suc m; at = 0 }
-
--- The last timestamp of packet m of a clock and the first of the next are joined, and a listener that adds nothing to
--- timestamps accepts both.
-pub record AreJoined (c : ClockJournal) (m : ℕ) : Type 0 where
-  pub joined : IsJoinedAt c (last_of c m) (first_of m)
-  pub earlier : point c (last_of c m) < 2 ^ 62
-  pub later : point c (first_of m) < 2 ^ 62
-
--- the pair of the last timestamp of clock packet m and the first of the next covers the timestamp of packet n, which is at this
--- instant
-pub record CoversPacket (p : PacketJournal) (m n instant : ℕ) : Type 0 where
-  pub points : AreJoined p.times.clock m
-  pub stamped : p.times.stamp n ≡ Some instant
-  pub covers : Covers (pair_at p.times.clock (last_of p.times.clock m) (first_of m)) p.times.rate (pos instant)
+-- The verdict of one of the items says that this is shown.
+pub record IsShownItem (plan : ListenPlan) (records : List Record) (s : Shown) : Type 0 where
+  pub place : ℕ
+  pub made : MadeItem
+  pub item : Item
+  pub there : slice_get (items_in plan records) place ≡ Some made
+  pub is : made.entry ≡ OfItem item
+  pub same : s ≡ shown_by made.last (verdict_of plan records place item)

@@ -1,14 +1,14 @@
 //! Laws of what a listener hears. Each call only states its contract, and does nothing.
 
-ghost use Rattle.std.specs.Prelude.{Contains, ◌≡◌, ◌≤◌, ◌≤ℤ◌, ◌+◌, suc, true, ◌∷◌, ◌++◌, [], All, AllPairs, Any, ℕ, ℤ, Bool, pos, List, None, Some, length, slice_get};
+ghost use Rattle.std.specs.Prelude.{Contains, ◌≡◌, ◌≤◌, ◌≤ℤ◌, ◌+◌, true, ◌∷◌, ◌++◌, [], All, AllPairs, Any, ℕ, ℤ, Bool, pos, List, None, Some, length, slice_get};
 ghost use mathlib.Core.List.{IsPrefix};
 ghost use Rattle.pcap_frames.specs.Capture.{Record};
 ghost use Rattle.stream_journal.specs.Delivered.{AreNear, IsAudioKind};
-ghost use Rattle.stream_journal.specs.Journal.{Am824, DenseAaf, H264, IsAt, Part, Single, SparseAaf};
+ghost use Rattle.stream_journal.specs.Journal.{H264, Part};
 ghost use Rattle.packet_journal.specs.Carried.{AllCarryFrom};
 ghost use Rattle.packet_journal.specs.Deliveries.{Delivery};
-ghost use Rattle.packet_journal.specs.Delivered.{IsClockCopyOf, IsCopyOf, Origin, stream_numbers};
-ghost use Rattle.packet_journal.specs.Packets.{IsConforming, PacketJournal, carried};
+ghost use Rattle.packet_journal.specs.Delivered.{Origin, stream_numbers};
+ghost use Rattle.packet_journal.specs.Packets.{IsConforming, PacketJournal};
 ghost use Rattle.packet_journal.specs.Units.{unit_bytes};
 ghost use Rattle.sample_schedule.specs.declared.entry.Entry.{Entry};
 ghost use Rattle.sample_schedule.specs.declared.item.Item.{Item};
@@ -19,8 +19,8 @@ ghost use Rattle.sample_schedule.specs.Batches.{Presented};
 ghost use Rattle.listener.specs.declared.plan.ListenPlan.{ListenPlan};
 ghost use Rattle.listener.specs.Heard.{counts_of, deliveries_of, due_of, items_in, shown_of};
 ghost use Rattle.listener.specs.Headline.{KeepsHeadline};
-ghost use Rattle.listener.specs.Items.{MadeItem, made_of_one, unit_by};
-ghost use Rattle.listener.specs.Laws.{Agree, AreOfUnit, AreOther, CoversPacket, FollowsClock, HearsTalker, IsFurther, IsHeardFrom, IsInOneItem, IsOfJournal, IsOfPacket, IsPresentedOf, IsUnitFrom, IsWelcome, ComesBefore, by_clock, fragments_in, presented_of, shown_by, shown_of_frame, verdict_of};
+ghost use Rattle.listener.specs.Items.{MadeItem, unit_by};
+ghost use Rattle.listener.specs.Laws.{Agree, AreOfUnit, AreOther, FollowsClock, HearsTalker, IsFurther, IsHeardFrom, IsInOneItem, IsOfJournal, IsOfPacket, IsPresentedOf, IsShownItem, IsUnitFrom, IsWelcome, ComesBefore, by_clock, fragments_in, presented_of, shown_by, shown_of_frame, verdict_of};
 ghost use Rattle.listener.specs.Units.{in_stream};
 
 use packet_journal::laws::records_of_both_are_delivered;
@@ -35,11 +35,12 @@ pub fn each_packet_is_shown_once()
 /// Each packet of the stream and of its clock is in one item: it is an item by itself, or one of the fragments of one whole
 /// unit, which has the frame number of the last of them. Each item of the stream is shown once, as its verdict says: it is
 /// presented, or flagged with the first reason that holds. So the list says for each frame of the stream why it is not
-/// presented.
+/// presented. Nothing else is shown.
 pub fn each_delivery_is_shown()
     ensures in_one_item { (plan : ListenPlan) (records : List Record) → All (IsInOneItem (items_in plan records)) (deliveries_of plan records) }
     ensures shown { (plan : ListenPlan) (records : List Record) (place : ℕ) (made : MadeItem) (item : Item) → slice_get (items_in plan records) place ≡ Some made → made.entry ≡ Entry.Item item
         → shown_of_frame made.last.frame (shown_of plan records) ≡ shown_by made.last (verdict_of plan records place item) ∷ [] }
+    ensures no_other { (plan : ListenPlan) (records : List Record) → All (IsShownItem plan records) (shown_of plan records) }
 {}
 
 /// What is due of the records so far stays, whatever records follow: what is due of more records begins with it. If no record
@@ -50,13 +51,11 @@ pub fn what_is_due_stays()
 {}
 
 /// Records that carry packets of a talker that keeps the rules, and of its clock, in any selection and order, meet the whole
-/// premise of the laws below, for each kind of stream, for listeners with the clock and without. For H.264, two adjacent
-/// fragments, at least one of them without a timestamp, must be of packets that are at most 254 apart.
+/// premise of the laws below, for listeners with the clock and without. For H.264, two adjacent fragments, at least one of
+/// them without a timestamp, must be of packets that are at most 254 apart.
 pub fn carried_packets_are_heard()
-    ensures dense { (shift : ℤ) (p : PacketJournal) (plan : ListenPlan) (origins : List Origin) (records : List Record) → IsConforming shift p → p.times.kind ≡ DenseAaf → plan.stream ≡ p.stream → FollowsClock shift p plan.shift plan.clock → AllCarryFrom p plan.lead origins records → HearsTalker shift p plan records }
-    ensures sparse { (shift : ℤ) (p : PacketJournal) (plan : ListenPlan) (origins : List Origin) (records : List Record) → IsConforming shift p → p.times.kind ≡ SparseAaf → plan.stream ≡ p.stream → FollowsClock shift p plan.shift plan.clock → AllCarryFrom p plan.lead origins records → HearsTalker shift p plan records }
-    ensures am824 { (shift : ℤ) (p : PacketJournal) (plan : ListenPlan) (origins : List Origin) (records : List Record) (interval : ℕ) (dbc : ℕ → ℕ) → IsConforming shift p → p.times.kind ≡ Am824 interval dbc → plan.stream ≡ p.stream → FollowsClock shift p plan.shift plan.clock → AllCarryFrom p plan.lead origins records → HearsTalker shift p plan records }
-    ensures h264 { (shift : ℤ) (p : PacketJournal) (plan : ListenPlan) (origins : List Origin) (records : List Record) (part : ℕ → Part) → IsConforming shift p → p.times.kind ≡ H264 part → plan.stream ≡ p.stream → FollowsClock shift p plan.shift plan.clock → AllCarryFrom p plan.lead origins records → AreNear p.times (stream_numbers origins) → HearsTalker shift p plan records }
+    ensures audio { (shift : ℤ) (p : PacketJournal) (plan : ListenPlan) (origins : List Origin) (records : List Record) → IsConforming shift p → IsAudioKind p.times.kind → plan.stream ≡ p.stream → FollowsClock shift p plan.shift plan.clock → AllCarryFrom p plan.lead origins records → HearsTalker shift p plan records }
+    ensures h264 { (shift : ℤ) (p : PacketJournal) (plan : ListenPlan) (origins : List Origin) (records : List Record) → IsConforming shift p → plan.stream ≡ p.stream → FollowsClock shift p plan.shift plan.clock → AllCarryFrom p plan.lead origins records → AreNear p.times (stream_numbers origins) → HearsTalker shift p plan records }
 {
     records_of_both_are_delivered();
 }
@@ -128,44 +127,12 @@ pub fn known_and_in_time_is_presented()
     ensures { (shift : ℤ) (p : PacketJournal) (plan : ListenPlan) (records : List Record) (place n : ℕ) (made : MadeItem) → HearsTalker shift p plan records → IsWelcome p plan records place n made → Any (IsPresentedOf (by_clock plan) p n made) (presented_of (shown_of plan records)) }
 {}
 
-/// For a listener without a clock, the first packet of an audio stream in a capture must be presented if it is stamped, came
-/// before it is due, and its bytes fit the room. So the headline demands something.
-pub fn first_packet_is_welcome()
-    ensures { (shift : ℤ) (p : PacketJournal) (plan : ListenPlan) (records : List Record) (n instant : ℕ) (delivery : Delivery) → HearsTalker shift p plan records → IsAudioKind p.times.kind → plan.clock ≡ None → slice_get (deliveries_of plan records) 0 ≡ Some delivery
-        → IsCopyOf p plan.lead n delivery → p.times.stamp n ≡ Some instant → delivery.arrival ≤ℤ pos (p.times.due n) → 1 ≤ plan.buffer → length (carried (p.packet n)) ≤ plan.room → IsWelcome p plan records 0 n (made_of_one delivery) }
-{}
-
-/// The first packet of an H.264 stream in a capture must be presented, with the clock or without, if it has a whole unit, came
-/// before that is due, and the unit's bytes fit the room.
-pub fn first_unit_is_welcome()
-    ensures { (shift : ℤ) (p : PacketJournal) (plan : ListenPlan) (records : List Record) (n : ℕ) (part : ℕ → Part) (delivery : Delivery) → HearsTalker shift p plan records → p.times.kind ≡ H264 part → slice_get (deliveries_of plan records) 0 ≡ Some delivery
-        → IsCopyOf p plan.lead n delivery → part n ≡ Single → delivery.arrival ≤ℤ pos (p.times.due n) → 1 ≤ plan.buffer → length (unit_bytes p n n) ≤ plan.room → IsWelcome p plan records 0 n (unit_by [] delivery) }
-{}
-
 /// The first packets of an H.264 stream must be presented together if they are all packets of one unit of the talker, in their
 /// order, the last came before the unit is due, each carries the unit's first byte, the unit is within the limits of units, and
 /// its bytes fit the room.
 pub fn first_fragments_are_welcome()
     ensures { (shift : ℤ) (p : PacketJournal) (plan : ListenPlan) (records : List Record) (from n : ℕ) (part : ℕ → Part) (earlier : List Delivery) (last : Delivery) (rest : List Delivery) → HearsTalker shift p plan records → p.times.kind ≡ H264 part → deliveries_of plan records ≡ earlier ++ last ∷ rest
         → AreOfUnit p part plan.lead from n earlier last → last.arrival ≤ℤ pos (p.times.due n) → 1 ≤ plan.buffer → length (unit_bytes p from n) ≤ plan.room → IsWelcome p plan records 0 n (unit_by earlier last) }
-{}
-
-/// For a listener with the clock, an audio packet that comes after two adjacent packets of the clock must be presented if the
-/// last timestamp of the first and the first of the second cover its timestamp, all came before its first instant on their
-/// line, and its bytes fit the room. So the headline demands something with a clock, too.
-pub fn clocked_packet_is_welcome()
-    ensures { (p : PacketJournal) (plan : ListenPlan) (records : List Record) (m n instant : ℕ) (x : ℤ) (first second third : Delivery) → HearsTalker (pos 0) p plan records → IsAudioKind p.times.kind → plan.clock ≡ Some p.clock → plan.look ≡ 0
-        → slice_get (deliveries_of plan records) 0 ≡ Some first → slice_get (deliveries_of plan records) 1 ≡ Some second → slice_get (deliveries_of plan records) 2 ≡ Some third
-        → IsClockCopyOf p m first → IsClockCopyOf p (suc m) second → IsCopyOf p plan.lead n third → CoversPacket p m n instant → IsAt true p.times n 0 x → pos 0 ≤ℤ x → first.arrival ≤ℤ x → second.arrival ≤ℤ x → third.arrival ≤ℤ x
-        → 1 ≤ plan.buffer → length (carried (p.packet n)) ≤ plan.room → IsWelcome p plan records 2 n (made_of_one third) }
-{}
-
-/// If the second packet of an audio stream in a capture repeats the first, and also came before it is due, it is a further
-/// copy, and must be flagged as a repeat.
-pub fn second_copy_is_further()
-    ensures { (shift : ℤ) (p : PacketJournal) (plan : ListenPlan) (records : List Record) (n instant : ℕ) (first second : Delivery) → HearsTalker shift p plan records → IsAudioKind p.times.kind → plan.clock ≡ None → IsWelcome p plan records 0 n (made_of_one first)
-        → slice_get (deliveries_of plan records) 0 ≡ Some first → slice_get (deliveries_of plan records) 1 ≡ Some second → IsCopyOf p plan.lead n second → p.times.stamp n ≡ Some instant → second.arrival ≤ℤ pos (p.times.due n)
-        → IsFurther p plan records 1 n (made_of_one second) }
 {}
 
 /// A further copy of a packet that was accepted before is flagged as a repeat if its timestamp is known and it came in time,

@@ -8,6 +8,7 @@ ghost use Rattle.pcap_frames.specs.Capture.{first_refusal, whole_records};
 ghost use Rattle.pcap_frames.specs.Layout.{certain};
 ghost use Rattle.pcap_frames.specs.Reading.{IsNext, Passes, held as held_by, taken};
 ghost use Rattle.sample_schedule.specs.Limits.{IsPlan};
+ghost use Rattle.sample_schedule.specs.Verdicts.{total_bytes};
 ghost use Rattle.listener.specs.Feeding.{IsQuiet, IsReady, Keeps, StandsFor, bytes_after, is_ended, is_memory, out, work};
 ghost use Rattle.listener.specs.state.Feeding.{HasHeard};
 ghost use Rattle.listener.specs.Heard.{counts_of, schedule_plan};
@@ -143,7 +144,8 @@ impl Listener {
     }
 
     /// The next item that is shown of the bytes so far: before `end` only of what is due, after it of all. `None` comes exactly
-    /// if all of that was given. Allocates nothing.
+    /// if all of that was given. Of a talker that keeps the rules, what is given is as the headline says
+    /// (`listener_laws::bytes_are_given_truly`). Allocates nothing.
     pub fn next_out(&mut self) -> Option<Shown>
         ensures given { (bytes : List ℕ) (given : ℕ) → StandsFor bytes given self.old → result ≡ slice_get (out self.old bytes) given }
         ensures stands { (bytes : List ℕ) (given : ℕ) → StandsFor bytes given self.old → StandsFor bytes (given + length (option_to_list result)) self.new }
@@ -182,6 +184,15 @@ impl Listener {
             Ok(()) => Ok(()),
             Err(refusal) => Err(ListenFault::Refused(refusal)),
         }
+    }
+
+    /// How many batches wait for their instants: at most as many as the buffer takes, with at most as many bytes as its room.
+    pub fn held(&self) -> u32
+        ensures held { result ≡ length self.now.listener.judge.waiting }
+        ensures batches { result ≤ self.now.listener.plan.buffer }
+        ensures bytes { total_bytes self.now.listener.judge.waiting ≤ self.now.listener.plan.room }
+    {
+        self.listener.held()
     }
 
     /// The numbers of records so far, of those that belong to the stream, and of the batches and flags that were given.

@@ -7,6 +7,7 @@ ghost use Rattle.pcap_frames.specs.Reading.{shown};
 ghost use Rattle.sample_schedule.specs.declared.entry.Entry.{Entry as EntryValue};
 ghost use Rattle.sample_schedule.specs.Judge.{IsIdle as IsIdleJudge, taken};
 ghost use Rattle.sample_schedule.specs.Limits.{IsPlan};
+ghost use Rattle.sample_schedule.specs.Verdicts.{total_bytes};
 ghost use Rattle.time_unfold.specs.Time.{IsArrival};
 ghost use Rattle.packet_journal.specs.Deliveries.{Delivery};
 ghost use Rattle.listener.specs.Gathering.{HasUnits, left};
@@ -118,7 +119,8 @@ impl RecordListener {
     }
 
     /// The next item that is shown of the records so far: before `close` only of what is due, after it of all. `None` comes
-    /// exactly if all of that was shown. Allocates nothing.
+    /// exactly if all of that was shown. Of a talker that keeps the rules, what is given is as the headline says
+    /// (`listener_laws::records_are_given_truly`). Allocates nothing.
     #[inline(always)]
     pub fn next_out(&mut self) -> Option<Shown>
         ensures given { (records : List Record) (given : ℕ) → StandsFor records given self.old → result ≡ slice_get (out self.old records) given }
@@ -174,6 +176,15 @@ impl RecordListener {
         self.units.end();
         self.ended = true;
         self.idle = false;
+    }
+
+    /// How many batches wait for their instants: at most as many as the buffer takes, with at most as many bytes as its room.
+    pub fn held(&self) -> u32
+        ensures held { result ≡ length self.now.judge.waiting }
+        ensures batches { result ≤ self.now.plan.buffer }
+        ensures bytes { total_bytes self.now.judge.waiting ≤ self.now.plan.room }
+    {
+        self.judge.held()
     }
 
     /// The numbers of the records so far, of those that belong to the stream, and of the batches and flags that were shown.

@@ -1,5 +1,5 @@
 -- Packets of AM824, by the rules.
-use Rattle.std.proofs.Common.{◌≡◌, ℕ, ◌*◌, ◌%◌, ◌^◌, pos, Option, Some, None, is_some, refl, inl, lit<, arith}
+use Rattle.std.proofs.Common.{◌≡◌, ℕ, ◌*◌, ◌%◌, ◌^◌, ℤ, Option, Some, None, is_some, refl, inl, lit<, arith}
 use Rattle.std.specs.Prelude.{IfSome, unwrap_or}
 use Rattle.avtp_base.specs.Layout.{Fits}
 use Rattle.avtp_base.proofs.BitLemmas.{flag-below}
@@ -58,8 +58,8 @@ packet n = record {
   count = refl;
 }
 
-pub blocks_conform : Conforms each_eighth → IsConforming (pos 0) block_packets
-blocks_conform times = record {
+pub blocks_conform : Conforms each_eighth → (shift : ℤ) → IsConforming shift block_packets
+blocks_conform times shift = record {
   times = times;
   packets = λ n h. packet n;
   clock_packets = λ m h. absurd (omega arith);

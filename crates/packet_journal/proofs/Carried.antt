@@ -22,7 +22,7 @@ use Rattle.stream_journal.specs.Delivered.{AreNear}
 use Rattle.packet_journal.specs.Deliveries.{Delivery, avtp_ethertype, belongs, clock_kinds, delivery, is_delivered, packet_in, stream_kinds}
 use Rattle.packet_journal.specs.Packets.{IsClockPacket, IsConforming, IsHeader, IsPacket, PacketJournal, PacketView, Pcm, Am824Data, H264Data}
 use Rattle.packet_journal.specs.Delivered.{AreFrom, Delivers, IsClockCopyOf, IsCopyOf, OfClock, OfStream, Origin, stream_numbers}
-use Rattle.packet_journal.specs.Carried.{AllCarry, AllCarryFrom, Carries, CarriesClock, IsReadKind, subtype_of}
+use Rattle.packet_journal.specs.Carried.{AllCarry, AllCarryFrom, Carries, CarriesClock}
 use Rattle.packet_journal.specs.Laws.{IsReadAs}
 use Rattle.packet_journal.proofs.Copies.{CvfAgain, crf_read, packet_read}
 
@@ -93,6 +93,20 @@ cvf_of_stream j stream n v bytes writable is s =
     let f = s.fields in
     of_stream j cvf_subtype stream n v.header bytes kind.0 is writable.subtype f.0.0 f.1.0.0 f.1.1.1.1.0.0
 
+-- the subtype of a stream's packets
+abbrev subtype_of : Kind → ℕ
+subtype_of DenseAaf = aaf_subtype
+subtype_of SparseAaf = aaf_subtype
+subtype_of (Am824 interval dbc) = iec_subtype
+subtype_of (H264 part) = cvf_subtype
+
+-- listeners read streams of each kind
+is_read : (kind : Kind) → list_any (λ (k : ℕ). subtype_of kind == k) stream_kinds ≡ true
+is_read DenseAaf = refl
+is_read SparseAaf = refl
+is_read (Am824 interval dbc) = refl
+is_read (H264 part) = refl
+
 packet_of_stream : (kind : Kind) (j : Journal) (stream n : ℕ) (view : PacketView) (bytes : List ℕ) → IsPacket kind j stream n view → IsReadAs view bytes → IsOfStream (subtype_of kind) stream bytes
 packet_of_stream DenseAaf j stream n (Pcm v) bytes is read = aaf_of_stream j stream n v bytes is.writable is.header read
 packet_of_stream DenseAaf j stream n (Am824Data v) bytes is read = absurd is
@@ -135,11 +149,11 @@ clock_of_stream c shift id m v bytes is s =
         let short : nat_lt (length bytes) 12 ≡ false = within.1.1.1.1.0 in
         grind (arith, nat_tests)
 
-pub carried_belongs : CvfAgain → (shift : ℤ) (p : PacketJournal) (lead n : ℕ) (r : Record) → IsConforming shift p → IsReadKind p.times.kind → Carries p lead n r → belongs stream_kinds p.stream r.bytes ≡ true
-carried_belongs again shift p lead n r is known c =
+pub carried_belongs : CvfAgain → (shift : ℤ) (p : PacketJournal) (lead n : ℕ) (r : Record) → IsConforming shift p → Carries p lead n r → belongs stream_kinds p.stream r.bytes ≡ true
+carried_belongs again shift p lead n r is c =
     let packet = is.packets n c.delivered.known in
     let read = packet_read again p.times.kind p.times p.stream n (p.packet n) c.frame.payload packet c.packet in
-    belongs_so stream_kinds (subtype_of p.times.kind) p.stream r.bytes c.frame.payload known (frame_is p lead n r c)
+    belongs_so stream_kinds (subtype_of p.times.kind) p.stream r.bytes c.frame.payload (is_read p.times.kind) (frame_is p lead n r c)
     (packet_of_stream p.times.kind p.times p.stream n (p.packet n) c.frame.payload packet read)
 
 pub copy_of : (p : PacketJournal) (lead n i : ℕ) (r : Record) → Carries p lead n r → IsCopyOf p lead n (delivery i r)
@@ -156,20 +170,20 @@ numbers_again : (numbers : List ℕ) → stream_numbers (map OfStream numbers) �
 numbers_again [] = refl
 numbers_again (n ∷ numbers) = ap (λ (l : List ℕ). n ∷ l) (numbers_again numbers)
 
-all_from : CvfAgain → (shift : ℤ) (p : PacketJournal) (clock : Option ℕ) (lead i : ℕ) (numbers : List ℕ) (records : List Record) → IsConforming shift p → IsReadKind p.times.kind → AllCarry p lead numbers records
+all_from : CvfAgain → (shift : ℤ) (p : PacketJournal) (clock : Option ℕ) (lead i : ℕ) (numbers : List ℕ) (records : List Record) → IsConforming shift p → AllCarry p lead numbers records
     → AreFrom p lead (map OfStream numbers) (map (λ (x : ℕ × Record). delivery x.0 x.1) (filter (λ (x : ℕ × Record). is_delivered p.stream clock x.1.bytes) (enumerate_from i records)))
-all_from again shift p clock lead i [] [] is known all = tt
-all_from again shift p clock lead i [] (r ∷ records) is known all = absurd all
-all_from again shift p clock lead i (n ∷ numbers) [] is known all = absurd all
-all_from again shift p clock lead i (n ∷ numbers) (r ∷ records) is known all =
-    rw (carried_belongs again shift p lead n r is known all.0)
-    (copy_of p lead n i r all.0, all_from again shift p clock lead (i + 1) numbers records is known all.1)
+all_from again shift p clock lead i [] [] is all = tt
+all_from again shift p clock lead i [] (r ∷ records) is all = absurd all
+all_from again shift p clock lead i (n ∷ numbers) [] is all = absurd all
+all_from again shift p clock lead i (n ∷ numbers) (r ∷ records) is all =
+    rw (carried_belongs again shift p lead n r is all.0)
+    (copy_of p lead n i r all.0, all_from again shift p clock lead (i + 1) numbers records is all.1)
 
-pub all_delivered : CvfAgain → (shift : ℤ) (p : PacketJournal) (clock : Option ℕ) (lead : ℕ) (numbers : List ℕ) (records : List Record) → IsConforming shift p → IsReadKind p.times.kind → AllCarry p lead numbers records
+pub all_delivered : CvfAgain → (shift : ℤ) (p : PacketJournal) (clock : Option ℕ) (lead : ℕ) (numbers : List ℕ) (records : List Record) → IsConforming shift p → AllCarry p lead numbers records
     → AreNear p.times numbers → Delivers p clock lead records
-all_delivered again shift p clock lead numbers records is known all near = record {
+all_delivered again shift p clock lead numbers records is all near = record {
   origins = map OfStream numbers;
-  copies = all_from again shift p clock lead 1 numbers records is known all;
+  copies = all_from again shift p clock lead 1 numbers records is all;
   near = rw (numbers_again numbers) near;
 }
 
@@ -197,28 +211,28 @@ clock_kept : (p : PacketJournal) (lead m : ℕ) (numbers : List ℕ) (d : Delive
 clock_kept p lead m numbers d i r rest true copy kept = record { origins = OfClock m ∷ kept.origins; copies = (copy, kept.copies); same = kept.same }
 clock_kept p lead m numbers d i r rest false copy kept = kept
 
-both_from : CvfAgain → (shift : ℤ) (p : PacketJournal) (clock : Option ℕ) (lead i : ℕ) (origins : List Origin) (records : List Record) → IsConforming shift p → IsReadKind p.times.kind
+both_from : CvfAgain → (shift : ℤ) (p : PacketJournal) (clock : Option ℕ) (lead i : ℕ) (origins : List Origin) (records : List Record) → IsConforming shift p
     → AllCarryFrom p lead origins records
     → AreKept p lead (stream_numbers origins) (map (λ (x : ℕ × Record). delivery x.0 x.1) (filter (λ (x : ℕ × Record). is_delivered p.stream clock x.1.bytes) (enumerate_from i records)))
-both_from again shift p clock lead i [] [] is known all = record { origins = []; copies = tt; same = refl }
-both_from again shift p clock lead i [] (r ∷ records) is known all = absurd all
-both_from again shift p clock lead i (o ∷ origins) [] is known all = absurd all
-both_from again shift p clock lead i (OfStream n ∷ origins) (r ∷ records) is known all =
-    let rest = both_from again shift p clock lead (i + 1) origins records is known all.1 in
-    rw (carried_belongs again shift p lead n r is known all.0)
+both_from again shift p clock lead i [] [] is all = record { origins = []; copies = tt; same = refl }
+both_from again shift p clock lead i [] (r ∷ records) is all = absurd all
+both_from again shift p clock lead i (o ∷ origins) [] is all = absurd all
+both_from again shift p clock lead i (OfStream n ∷ origins) (r ∷ records) is all =
+    let rest = both_from again shift p clock lead (i + 1) origins records is all.1 in
+    rw (carried_belongs again shift p lead n r is all.0)
     (record {
       origins = OfStream n ∷ rest.origins;
       copies = (copy_of p lead n i r all.0, rest.copies);
       same = ap (λ (l : List ℕ). n ∷ l) rest.same;
     })
-both_from again shift p clock lead i (OfClock m ∷ origins) (r ∷ records) is known all =
+both_from again shift p clock lead i (OfClock m ∷ origins) (r ∷ records) is all =
     clock_kept p lead m (stream_numbers origins) (delivery i r) i r
     (filter (λ (x : ℕ × Record). is_delivered p.stream clock x.1.bytes) (enumerate_from (i + 1) records))
     (is_delivered p.stream clock r.bytes) (clock_copy_of p m i r all.0)
-    (both_from again shift p clock lead (i + 1) origins records is known all.1)
+    (both_from again shift p clock lead (i + 1) origins records is all.1)
 
-pub both_delivered : CvfAgain → (shift : ℤ) (p : PacketJournal) (clock : Option ℕ) (lead : ℕ) (origins : List Origin) (records : List Record) → IsConforming shift p → IsReadKind p.times.kind
+pub both_delivered : CvfAgain → (shift : ℤ) (p : PacketJournal) (clock : Option ℕ) (lead : ℕ) (origins : List Origin) (records : List Record) → IsConforming shift p
     → AllCarryFrom p lead origins records → AreNear p.times (stream_numbers origins) → Delivers p clock lead records
-both_delivered again shift p clock lead origins records is known all near =
-    let kept = both_from again shift p clock lead 1 origins records is known all in
+both_delivered again shift p clock lead origins records is all near =
+    let kept = both_from again shift p clock lead 1 origins records is all in
     record { origins = kept.origins; copies = kept.copies; near = rw kept.same near }

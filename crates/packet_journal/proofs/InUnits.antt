@@ -4,7 +4,7 @@ use Rattle.std.proofs.lemmas.Bool.{cases_lt}
 use Rattle.stream_journal.specs.Conforming.{Begins, Ends, IsVideo}
 use Rattle.stream_journal.specs.Journal.{Journal, Part, Single, First, Middle, Last}
 use Rattle.packet_journal.specs.InUnits.{IsInUnit}
-use Rattle.packet_journal.specs.Units.{AreFragments, AreUnit}
+use Rattle.packet_journal.specs.Units.{AreUnit}
 
 -- ---- parts
 

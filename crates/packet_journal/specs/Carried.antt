@@ -1,28 +1,12 @@
 -- Records whose frames carry a journal's packets.
-use Rattle.std.specs.Prelude.{◌≡◌, ◌<◌, ◌==◌, ℕ, true, pos, List, [], ◌∷◌, ⊤}
-use Rattle.std.specs.List.{list_any}
+use Rattle.std.specs.Prelude.{◌≡◌, ◌<◌, ℕ, pos, List, [], ◌∷◌, ⊤}
 use Rattle.pcap_frames.specs.Capture.{Record}
 use Rattle.pcap_frames.specs.Frame.{Frame, IsWritableFrame, frame_spelling}
-use Rattle.aaf_format.specs.Aaf.{aaf_subtype}
-use Rattle.iec61883_format.specs.Iec.{iec_subtype}
-use Rattle.cvf_format.specs.Cvf.{cvf_subtype}
 use Rattle.crf_format.specs.Crf.{crf_spelling}
-use Rattle.stream_journal.specs.Journal.{Kind, DenseAaf, SparseAaf, Am824, H264}
 use Rattle.stream_journal.specs.Delivered.{IsDelivered}
-use Rattle.packet_journal.specs.Deliveries.{avtp_ethertype, stream_kinds}
+use Rattle.packet_journal.specs.Deliveries.{avtp_ethertype}
 use Rattle.packet_journal.specs.Delivered.{Origin, OfClock, OfStream, Spells}
 use Rattle.packet_journal.specs.Packets.{PacketJournal, spelling_of}
-
--- the subtype of a stream's packets (IEEE 1722-2016, table 6)
-abbrev pub subtype_of : Kind → ℕ
-subtype_of DenseAaf = aaf_subtype
-subtype_of SparseAaf = aaf_subtype
-subtype_of (Am824 interval dbc) = iec_subtype
-subtype_of (H264 part) = cvf_subtype
-
--- a listener reads streams of this kind: its subtype is one of `stream_kinds`
-abbrev pub IsReadKind : Kind → Type 0
-IsReadKind kind = list_any (λ subtype. subtype_of kind == subtype) stream_kinds ≡ true
 
 -- A record holds an Ethernet frame of AVTP with packet n, captured near enough to the packet's instant.
 pub record Carries (p : PacketJournal) (lead n : ℕ) (r : Record) : Type 0 where

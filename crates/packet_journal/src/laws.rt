@@ -9,7 +9,7 @@ ghost use Rattle.packet_journal.specs.InUnits.{IsInUnit};
 ghost use Rattle.packet_journal.specs.Deliveries.{Delivery, belongs, clock_kinds, delivery, stream_kinds};
 ghost use Rattle.packet_journal.specs.Packets.{IsConforming, PacketJournal};
 ghost use Rattle.packet_journal.specs.Delivered.{Delivers, IsClockCopyOf, IsCopyOf, Origin, stream_numbers};
-ghost use Rattle.packet_journal.specs.Carried.{AllCarry, AllCarryFrom, Carries, CarriesClock, IsReadKind};
+ghost use Rattle.packet_journal.specs.Carried.{AllCarry, AllCarryFrom, Carries, CarriesClock};
 ghost use Rattle.packet_journal.specs.Laws.{IsClockReadAs, IsReadAs};
 
 /// A listener reads a copy of a packet as the packet that was sent, whatever trailing bytes the copy has.
@@ -20,19 +20,19 @@ pub fn copies_are_read()
     cvf_format::laws::packet_again();
 }
 
-/// A record that carries a packet of a conforming talker belongs to the talker's stream, if the kind is one that listeners
-/// read, and its delivery is a copy of the packet.
+/// A record that carries a packet of a conforming talker belongs to the talker's stream, and its delivery is a copy of the
+/// packet.
 pub fn carried_packet_is_delivered()
-    ensures belongs { (shift : ℤ) (p : PacketJournal) (lead n : ℕ) (r : Record) → IsConforming shift p → IsReadKind p.times.kind → Carries p lead n r → belongs stream_kinds p.stream r.bytes ≡ true }
+    ensures belongs { (shift : ℤ) (p : PacketJournal) (lead n : ℕ) (r : Record) → IsConforming shift p → Carries p lead n r → belongs stream_kinds p.stream r.bytes ≡ true }
     ensures copy { (p : PacketJournal) (lead n frame : ℕ) (r : Record) → Carries p lead n r → IsCopyOf p lead n (delivery frame r) }
 {
     cvf_format::laws::packet_again();
 }
 
 /// Records whose frames carry packets of a conforming talker, captured in time, deliver its journal, whichever packets they
-/// are, if the kind is one that listeners read.
+/// are.
 pub fn carried_packets_are_delivered()
-    ensures { (shift : ℤ) (p : PacketJournal) (clock : Option ℕ) (lead : ℕ) (numbers : List ℕ) (records : List Record) → IsConforming shift p → IsReadKind p.times.kind → AllCarry p lead numbers records → AreNear p.times numbers → Delivers p clock lead records }
+    ensures { (shift : ℤ) (p : PacketJournal) (clock : Option ℕ) (lead : ℕ) (numbers : List ℕ) (records : List Record) → IsConforming shift p → AllCarry p lead numbers records → AreNear p.times numbers → Delivers p clock lead records }
 {
     cvf_format::laws::packet_again();
 }
@@ -47,7 +47,7 @@ pub fn carried_clock_packet_is_delivered()
 /// Records whose frames carry packets of a conforming talker's stream, captured in time, and of its clock deliver its
 /// journal, whichever packets they are, to listeners with a clock and without.
 pub fn records_of_both_are_delivered()
-    ensures { (shift : ℤ) (p : PacketJournal) (clock : Option ℕ) (lead : ℕ) (origins : List Origin) (records : List Record) → IsConforming shift p → IsReadKind p.times.kind → AllCarryFrom p lead origins records → AreNear p.times (stream_numbers origins) → Delivers p clock lead records }
+    ensures { (shift : ℤ) (p : PacketJournal) (clock : Option ℕ) (lead : ℕ) (origins : List Origin) (records : List Record) → IsConforming shift p → AllCarryFrom p lead origins records → AreNear p.times (stream_numbers origins) → Delivers p clock lead records }
 {
     cvf_format::laws::packet_again();
 }

@@ -6,7 +6,7 @@ use Rattle.std.proofs.Math.Nat.{mod-one}
 use Rattle.std.proofs.lemmas.Int.{ints}
 use Rattle.pcap_frames.specs.Capture.{HasSpelling}
 use Rattle.stream_journal.specs.Delivered.{AreNear, IsAudioKind, IsDelivered, IsInHalfCircle, IsWithin}
-use Rattle.packet_journal.specs.Carried.{AllCarry, Carries, IsReadKind}
+use Rattle.packet_journal.specs.Carried.{AllCarry, Carries}
 use Rattle.packet_journal.specs.Packets.{IsConforming, spelling_of}
 use Rattle.talker.specs.Frames.{capture_style}
 use Rattle.talk_plan.specs.Ethernet.{ethernet, packet_bytes}
@@ -110,10 +110,6 @@ all_carried packets few = each_carried packets (deliveries_of packets) few (are_
 pub conforms : (packets : ℕ) → packets ≤ 1000000 → IsConforming (pos 0) (soak_stream packets).journal
 unfolding soak_stream
 conforms packets few = (stream_keeps packets few).conforms (omega arith)
-
-pub read_kind : (packets : ℕ) → packets ≤ 1000000 → IsReadKind (soak_stream packets).journal.times.kind
-unfolding soak_stream
-read_kind packets few = (stream_keeps packets few).read tt
 
 pub all_near : (packets : ℕ) (numbers : List ℕ) → packets ≤ 1000000 → AreNear (soak_stream packets).journal.times numbers
 unfolding soak_stream

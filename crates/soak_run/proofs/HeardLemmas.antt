@@ -22,7 +22,7 @@ use Rattle.soak_run.specs.Soak.{deliveries_of}
 use Rattle.soak_run.specs.declared.counts.SoakCounts.{SoakCounts}
 use Rattle.soak_run.specs.Captured.{captured, soak_capture, soak_listener, soak_records, soak_stream}
 use Rattle.soak_run.specs.Outcomes.{outcomes, soak_counts, soak_shown, total}
-use Rattle.soak_run.proofs.CaptureLemmas.{all_carried, all_near, all_spelled, audio_stream, conforms, numbers_of, read_kind, stream_id}
+use Rattle.soak_run.proofs.CaptureLemmas.{all_carried, all_near, all_spelled, audio_stream, conforms, numbers_of, stream_id}
 use Rattle.soak_run.proofs.ItemLemmas.{each_delivered, entries_sound, no_fragments}
 use Rattle.soak_run.proofs.OutcomeLemmas.{shown_so, total_all}
 
@@ -49,7 +49,7 @@ hears again packets few = record {
   conforming = conforms packets few;
   stream = stream_id packets;
   clock = tt;
-  delivered = all_delivered again (pos 0) (soak_stream packets).journal None 2000000 (numbers_of packets) (soak_records packets) (conforms packets few) (read_kind packets few) (all_carried packets few)
+  delivered = all_delivered again (pos 0) (soak_stream packets).journal None 2000000 (numbers_of packets) (soak_records packets) (conforms packets few) (all_carried packets few)
       (all_near packets (numbers_of packets) few);
 }
 
@@ -94,7 +94,7 @@ add_up again packets few =
     total_all (length (deliveries_of packets)) (soak_shown packets) (shown_so clock_spot (schedule_plan soak_listener) (entries_in soak_listener records) refl sound)
     ∙ counted_by _ _ _ fragments whole
     ∙ ap (λ (s : ℕ). length (deliveries s None records)) heard.stream
-    ∙ each_delivered p 2000000 (numbers_of packets) records (all_carried packets few) (λ n r. carried_belongs again (pos 0) p 2000000 n r (conforms packets few) (read_kind packets few))
+    ∙ each_delivered p 2000000 (numbers_of packets) records (all_carried packets few) (λ n r. carried_belongs again (pos 0) p 2000000 n r (conforms packets few))
     ∙ records_long packets
 
 pub counts_total : (packets : ℕ) (counts : SoakCounts) → total (soak_counts packets) ≡ (soak_counts packets).delivered → counts ≡ soak_counts packets → total counts ≡ counts.delivered

@@ -16,16 +16,10 @@ use Rattle.stream_journal.proofs.RestartedCopies.{same_stamp, no_stamp}
 record IsKept (j : Journal) (n : ℕ) : Type 0 where
   stamps : is_some (j.stamp n) ≡ is_stamped (rule_of j.kind n) n 6
   due : IfSome (head_of j n) (λ head. pos (j.due n) ≡ nominal_instant j head 0)
-  within : j.due n ≤ 2 ^ 62
-  stamp_within : IfSome (j.stamp n) (λ instant. instant ≤ 2 ^ 62)
 
 due_by : (j : Journal) (n : ℕ) (r : Option Head) (head : Head) → r ≡ Some head → IfSome r (λ head. pos (j.due n) ≡ nominal_instant j head 0) → pos (j.due n) ≡ nominal_instant j head 0
 due_by j n None head e is = absurd cc
 due_by j n (Some h) head e is = let same : h ≡ head = cc in rw (← same) is
-
-within_by : (r : Option ℕ) (instant : ℕ) → r ≡ Some instant → IfSome r (λ instant. instant ≤ 2 ^ 62) → instant ≤ 2 ^ 62
-within_by None instant e is = absurd cc
-within_by (Some i) instant e is = let same : i ≡ instant = cc in rw (← same) is
 
 -- a talker of such packets keeps the rules
 conforms_by : (rate interval : ℕ) (dues : List ℕ) (stamps : List (Option ℕ)) → 8000 ≤ rate → rate ≤ 192000 → (interval ≡ 8) ⊎ ((interval ≡ 16) ⊎ (interval ≡ 32))
@@ -48,7 +42,6 @@ conforms_by rate interval dues stamps from to standard kept apart =
     record {
       kind = (audio, no_clock-agrees j refl);
       holds = λ n k other few known. refl;
-      instants = record { due = λ n h. (is n h).within; stamp = λ n instant h e. within_by (j.stamp n) instant e (is n h).stamp_within };
       clock = no_clock-is;
     }
 
@@ -62,21 +55,21 @@ kept_eighth = (
             (
               (
                 tt,
-                record { stamps = refl; due = refl; within = omega arith; stamp_within = omega arith },
+                record { stamps = refl; due = refl },
               ),
-              record { stamps = refl; due = refl; within = omega arith; stamp_within = omega arith },
+              record { stamps = refl; due = refl },
             ),
-            record { stamps = refl; due = refl; within = omega arith; stamp_within = omega arith },
+            record { stamps = refl; due = refl },
           ),
-          record { stamps = refl; due = refl; within = omega arith; stamp_within = tt },
+          record { stamps = refl; due = refl },
         ),
-        record { stamps = refl; due = refl; within = omega arith; stamp_within = omega arith },
+        record { stamps = refl; due = refl },
       ),
-      record { stamps = refl; due = refl; within = omega arith; stamp_within = omega arith },
+      record { stamps = refl; due = refl },
     ),
-    record { stamps = refl; due = refl; within = omega arith; stamp_within = omega arith },
+    record { stamps = refl; due = refl },
   ),
-  record { stamps = refl; due = refl; within = omega arith; stamp_within = tt },
+  record { stamps = refl; due = refl },
 )
 
 kept_sixteenth : Each (IsKept each_sixteenth) 8
@@ -89,21 +82,21 @@ kept_sixteenth = (
             (
               (
                 tt,
-                record { stamps = refl; due = refl; within = omega arith; stamp_within = omega arith },
+                record { stamps = refl; due = refl },
               ),
-              record { stamps = refl; due = refl; within = omega arith; stamp_within = tt },
+              record { stamps = refl; due = refl },
             ),
-            record { stamps = refl; due = refl; within = omega arith; stamp_within = omega arith },
+            record { stamps = refl; due = refl },
           ),
-          record { stamps = refl; due = refl; within = omega arith; stamp_within = tt },
+          record { stamps = refl; due = refl },
         ),
-        record { stamps = refl; due = refl; within = omega arith; stamp_within = tt },
+        record { stamps = refl; due = refl },
       ),
-      record { stamps = refl; due = refl; within = omega arith; stamp_within = omega arith },
+      record { stamps = refl; due = refl },
     ),
-    record { stamps = refl; due = refl; within = omega arith; stamp_within = tt },
+    record { stamps = refl; due = refl },
   ),
-  record { stamps = refl; due = refl; within = omega arith; stamp_within = tt },
+  record { stamps = refl; due = refl },
 )
 
 pub eighth_conform : Conforms each_eighth

@@ -6,7 +6,7 @@ use Rattle.time_unfold.specs.Lines.{floor_of, instant_at}
 use Rattle.clock_track.specs.Pairs.{period, spot_by}
 use Rattle.stream_journal.specs.Clocks.{ClockJournal, Follows, IsNext, IsPlace, Place, pair_at, point}
 use Rattle.stream_journal.specs.Journal.{head_of, nominal_instant}
-use Rattle.stream_journal.specs.Conforming.{AgreesWithClock, Conforms, IsAudio, IsClock, IsCovered, IsSteady}
+use Rattle.stream_journal.specs.Conforming.{AgreesWithClock, Conforms, IsAudio, IsClock, IsCovered}
 use Rattle.stream_journal.specs.Examples.{clocked}
 use Rattle.time_unfold.proofs.Floors.{floor_above, floor_below, floor_only}
 use Rattle.stream_journal.proofs.TrueClock.{at_place, period_at}
@@ -38,15 +38,6 @@ follows_by base p q f =
 even : (base : ℕ) (p q : Place) → Follows (clock base) p q → period (pair_at (clock base) p q) ≡ 2000000
 even base p q f = let e = period_at (clock base) p q in let n = follows_by base p q f in omega arith
 
-longer_by : (base d e : ℕ) → d ≡ 2000000 → e ≡ 2000000 → 4 * (e * (base * 1)) ≤ 4 * (d * (base * 1)) + 1000000000 * 1
-longer_by base d e f g = rw (f, g) (omega arith)
-
-steady : (base : ℕ) (p q r : Place) → Follows (clock base) p q → Follows (clock base) q r → IsSteady (pair_at (clock base) p q) (pair_at (clock base) q r)
-steady base p q r f g = record {
-  longer = longer_by base (period (pair_at (clock base) p q)) (period (pair_at (clock base) q r)) (even base p q f) (even base q r g);
-  shorter = longer_by base (period (pair_at (clock base) q r)) (period (pair_at (clock base) p q)) (even base q r g) (even base p q f);
-}
-
 spaced_by : (base d : ℕ) → 42000 ≤ base → d ≡ 2000000 → 3 * (96 * 1000000000 * 1) ≤ 4 * (d * (base * 1))
 spaced_by base d from e = rw e (omega arith)
 
@@ -58,19 +49,13 @@ most_by base d to e = rw e (omega arith)
 
 clock_is : (base : ℕ) → 42000 ≤ base → base ≤ 54000 → IsClock (clock base)
 clock_is base from to = record {
-  base = omega arith;
-  pull = omega arith;
   interval = omega arith;
   some = λ n h. record { packet = h; at = omega arith };
-  instants = λ p is. let e = point_is base p is in let a = is.packet in let b = is.at in omega arith;
   spaced = λ p q f. spaced_by base (period (pair_at (clock base) p q)) from (even base p q f);
   even = λ p q f o. record {
     least = least_by base (period (pair_at (clock base) p q)) from (even base p q f);
     most = most_by base (period (pair_at (clock base) p q)) to (even base p q f);
   };
-  steady = λ p q r f g o u. steady base p q r f g;
-  renewed = λ p q r f g o u. absurd (u refl);
-  holds = λ n k e h g. refl;
 }
 
 -- ---- the timestamps
@@ -190,7 +175,6 @@ conforms : (base : ℕ) → 42000 ≤ base → base ≤ 54000 → Conforms (cloc
 conforms base from to = record {
   kind = (audio base, agrees base);
   holds = λ n k e h g. refl;
-  instants = record { due = λ n h. omega arith; stamp = λ n i h e. let same = stamp_of n i e in omega arith };
   clock = clock_is base from to;
 }
 

@@ -1,12 +1,11 @@
 -- Stamps and clock packets of small journals that are at hand.
-use Rattle.std.proofs.Common.{true, subst, inl, ◌≡◌, inr, ℕ, zero, suc, ◌+◌, ◌-◌, ◌*◌, ◌^◌, ◌<◌, ◌≤◌, false, pos, ◌<ℤ◌, ◌+ℤ◌, List, [], ◌∷◌, All, Some, None, length, refl, arith}
+use Rattle.std.proofs.Common.{true, subst, inl, ◌≡◌, inr, ℕ, zero, suc, ◌<◌, false, pos, ◌+ℤ◌, [], ◌∷◌, All, Some, refl, arith}
 use Rattle.std.specs.Prelude.{get_or, replicate}
 use Rattle.avtp_base.specs.Octets.{bits}
 use Rattle.std.proofs.lemmas.Bool.Decides.{nat_tests}
 use Rattle.std.proofs.lemmas.Int.{ints}
 use Rattle.std.proofs.lemmas.List.Elements.{All-cons, All-nil, All-replicate}
 use Rattle.clock_track.specs.Rows.{timestamp}
-use Rattle.stream_journal.specs.Clocks.{ClockJournal}
 use Rattle.stream_journal.specs.ClockRows.{IsRowOf, IsTrueRow}
 use Rattle.stream_journal.specs.Delivered.{IsDelivered}
 use Rattle.stream_journal.specs.Examples.{came, clocked, restarted}

@@ -1,11 +1,10 @@
 -- A stamp that is at hand is found.
-use Rattle.std.proofs.Common.{◌≡◌, inl, inr, ◌⊎◌, ◌↔◌, ℕ, zero, suc, ◌+◌, ◌-◌, ◌*◌, ◌/◌, ◌%◌, ◌<◌, ◌≤◌, Bool, true, false, ℤ, pos, ◌+ℤ◌, ◌-ℤ◌, List, [], ◌∷◌, ◌++◌, All, Option, Some, None, is_some, refl, sym, ap, ◌∙◌, subst, arith}
+use Rattle.std.proofs.Common.{◌≡◌, inl, inr, ◌⊎◌, ℕ, zero, suc, ◌+◌, ◌-◌, ◌*◌, ◌%◌, ◌<◌, ◌≤◌, Bool, true, false, pos, ◌-ℤ◌, List, ◌∷◌, ◌++◌, All, Option, Some, None, is_some, refl, sym, ap, ◌∙◌, subst, arith}
 use Rattle.std.specs.Prelude.{◌==◌, nat_le, nat_lt, if◌then◌else◌, unsigned_abs, IfSome, Contains}
 use Rattle.std.specs.Int.{div_ceil}
 use Rattle.std.proofs.Math.Nat.{mul-le-mul_left}
-use Rattle.std.proofs.lemmas.Bool.{cases_eq, cases_lt, le-leb}
+use Rattle.std.proofs.lemmas.Bool.{cases_lt, le-leb}
 use Rattle.std.proofs.lemmas.Bool.Decides.{nat_tests}
-use Rattle.std.proofs.lemmas.Grind.{div_ceil_times}
 use Rattle.std.proofs.lemmas.Int.{ints}
 use Rattle.std.proofs.lemmas.List.Elements.{All-contains, Contains-append_right}
 use Rattle.time_unfold.specs.declared.head_rule.Distance.{Distance}
@@ -13,19 +12,17 @@ use Rattle.time_unfold.specs.declared.head_rule.Head.{Head}
 use Rattle.time_unfold.specs.declared.stamp.Stamp.{Stamp}
 use Rattle.time_unfold.specs.declared.stamp.Want.{Want}
 use Rattle.time_unfold.specs.Heads.{counted_block, distance, stamped_block, stamped_index}
-use Rattle.time_unfold.specs.Lines.{instant_at, nominal_line}
-use Rattle.time_unfold.specs.Stamps.{IsFound, IsLastFit, candidate, fits, found, is_near, last_of, same_block, same_flag}
-use Rattle.time_unfold.specs.declared.head_rule.HeadRule.{HeadRule}
-use Rattle.time_unfold.specs.declared.head_rule.HeadRule.TheVariants.{Own, Eight, Blocks}
+use Rattle.time_unfold.specs.Stamps.{IsFound, fits, found, is_near, last_of, same_block, same_flag}
+use Rattle.time_unfold.specs.declared.head_rule.HeadRule.TheVariants.{Blocks}
 use Rattle.time_unfold.proofs.Found.{find_last-found}
-use Rattle.stream_journal.specs.Journal.{Journal, Kind, DenseAaf, SparseAaf, Am824, H264, head_of, nominal_instant, rule_of}
+use Rattle.stream_journal.specs.Journal.{Journal, Kind, DenseAaf, SparseAaf, Am824, H264, nominal_instant, rule_of}
 use Rattle.stream_journal.specs.Conforming.{BlocksGoOn, HasBlocks, HoldsEight, IsAudio, is_stamped}
 use Rattle.stream_journal.specs.Delivered.{Copy}
-use Rattle.stream_journal.specs.Found.{HasNoRestart, IsAtHand, IsExpected}
-use Rattle.stream_journal.specs.Heads.{IsCountedFrom, IsHeadOf, IsStampOf, IsTrue, IsUnstamped, behind, stamp_at, wanted}
+use Rattle.stream_journal.specs.Found.{IsAtHand, IsExpected}
+use Rattle.stream_journal.specs.Heads.{IsHeadOf, IsTrue, IsUnstamped, behind, stamp_at, wanted}
 use Rattle.stream_journal.proofs.Apart.{back_of, stamped_within}
 use Rattle.stream_journal.proofs.OneInstant.{no_restart}
-use Rattle.stream_journal.proofs.TrueHeads.{candidate_is, flag_of, head_back, true_heads}
+use Rattle.stream_journal.proofs.TrueHeads.{flag_of, head_back, true_heads}
 
 -- ---- the packet is due where it is counted
 

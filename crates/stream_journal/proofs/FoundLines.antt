@@ -1,5 +1,5 @@
 -- Points whose packets are at hand give the line that the journal has.
-use Rattle.std.proofs.Common.{◌≡◌, ◌≢◌, inl, inr, ◌⊎◌, ℕ, suc, ◌+◌, ◌-◌, ◌%◌, ◌^◌, ◌<◌, ◌≤◌, Bool, true, false, ℤ, pos, ◌+ℤ◌, ◌<ℤ◌, List, All, Option, Some, None, length, refl, sym, ap, ◌∙◌, subst, arith}
+use Rattle.std.proofs.Common.{◌≡◌, ◌≢◌, inl, inr, ℕ, suc, ◌+◌, ◌-◌, ◌%◌, ◌^◌, ◌<◌, Bool, true, false, ℤ, pos, ◌+ℤ◌, List, All, Option, Some, None, length, refl, sym, ap, ◌∙◌, subst, arith}
 use Rattle.std.specs.Prelude.{◌==◌, if◌then◌else◌, IfSome}
 use Rattle.std.proofs.lemmas.Bool.Decides.{nat_tests}
 use Rattle.std.proofs.lemmas.Int.{ints}
@@ -7,9 +7,9 @@ use Rattle.time_unfold.specs.declared.head_rule.Head.{Head}
 use Rattle.time_unfold.specs.Stamps.{same_flag}
 use Rattle.clock_track.specs.declared.clock_row.ClockRow.{ClockRow}
 use Rattle.clock_track.specs.declared.pair.Pair.{Pair}
-use Rattle.clock_track.specs.Adjacent.{AreAcross, AreInside, AreTaken, pair_across, pair_inside}
+use Rattle.clock_track.specs.Adjacent.{AreTaken}
 use Rattle.clock_track.specs.Pairs.{Covers, IsJoined, Spot, spot_by}
-use Rattle.clock_track.specs.Rows.{clock_spot, pair_of, seems_next, timestamp, timestamps}
+use Rattle.clock_track.specs.Rows.{clock_spot, seems_next, timestamp, timestamps}
 use Rattle.clock_track.proofs.FoundPairs.{across-found_line, inside-found_line}
 use Rattle.stream_journal.specs.Clocks.{ClockJournal, IsJoinedAt, IsNext, Place, pair_at, point}
 use Rattle.stream_journal.specs.ClockRows.{IsRowOf, IsSpotAt, IsTrueRow}

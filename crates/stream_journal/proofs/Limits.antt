@@ -1,52 +1,28 @@
 -- The rules at their limits.
-use Rattle.std.proofs.Common.{◌≡◌, ◌⊎◌, inl, inr, ◌↔◌, ℕ, zero, suc, ◌+◌, ◌-◌, ◌*◌, ◌^◌, ◌<◌, ◌≤◌, Some, refl, sym, ap, ◌∙◌, arith}
+use Rattle.std.proofs.Common.{◌≡◌, ◌⊎◌, inl, inr, ◌↔◌, ℕ, zero, suc, ◌+◌, ◌-◌, ◌*◌, ◌<◌, ◌≤◌, Some, refl, sym, ap, ◌∙◌, arith}
 use Rattle.clock_track.specs.Pairs.{period}
-use Rattle.stream_journal.specs.Clocks.{ClockJournal, Follows, IsNext, Place, pair_at, point}
+use Rattle.stream_journal.specs.Clocks.{Follows, IsNext, Place, pair_at, point}
 use Rattle.stream_journal.specs.Journal.{Single}
-use Rattle.stream_journal.specs.Conforming.{AgreesWithClock, Conforms, IsAudio, IsClock, IsCovered, IsVideo}
-use Rattle.stream_journal.specs.Examples.{beside, one_access_unit, overlapped, pulled, unsteady}
+use Rattle.stream_journal.specs.Conforming.{AgreesWithClock, Conforms, IsCovered, IsVideo}
+use Rattle.stream_journal.specs.Regular.{IsRegularClock}
+use Rattle.stream_journal.specs.Examples.{one_access_unit, overlapped, pulled, unsteady}
 use Rattle.stream_journal.proofs.TrueClock.{at_place, period_at}
 use Rattle.stream_journal.proofs.Worked.{no_clock-is}
 
--- ---- a talker of nothing
-
-no_audio : (c : ClockJournal) → IsAudio (beside c)
-no_audio c = record {
-  rate_from = omega arith;
-  rate_to = omega arith;
-  some = omega arith;
-  stamps = λ n h. absurd (omega arith);
-  blocks = tt;
-  spacing = λ n h. absurd (omega arith);
-  first_instants = λ n head h e. absurd (omega arith);
-}
-
-with_clock : (c : ClockJournal) → IsClock c → Conforms (beside c)
-with_clock c is = record {
-  kind = (no_audio c, record { one = λ n i p q r s a b. let h = a.known in absurd (omega arith); exact = λ n i p q a o. let h = a.known in absurd (omega arith) });
-  holds = λ n k e h g. refl;
-  instants = record { due = λ n h. omega arith; stamp = λ n i h e. absurd cc };
-  clock = is;
-}
-
 -- ---- pulls
 
-pulled_is : (pull : ℕ) → pull ≤ 5 → IsClock (pulled pull)
+pulled_is : (pull : ℕ) → pull ≤ 5 → IsRegularClock (pulled pull)
 pulled_is pull few = record {
   base = omega arith;
   pull = few;
-  interval = omega arith;
-  some = λ n h. absurd (omega arith);
   instants = λ p is. absurd (omega arith);
-  spaced = λ p q f. let h = f.first in absurd (omega arith);
-  even = λ p q f o. let h = f.first in absurd (omega arith);
   steady = λ p q r f g o u. let h = f.first in absurd (omega arith);
   renewed = λ p q r f g o u. let h = f.first in absurd (omega arith);
   holds = λ n k e h g. absurd (omega arith);
 }
 
-pub pulls : (pull : ℕ) → Conforms (beside (pulled pull)) ↔ pull ≤ 5
-pulls pull = ((λ is. is.clock.pull), (λ few. with_clock (pulled pull) (pulled_is pull few)))
+pub pulls : (pull : ℕ) → IsRegularClock (pulled pull) ↔ pull ≤ 5
+pulls pull = ((λ is. is.pull), pulled_is pull)
 
 -- ---- periods
 
@@ -94,12 +70,6 @@ long late p q f = by (periods late p q f)
     by (inl g) = rw g.1 (record { from = omega arith; to = omega arith })
     by (inr g) = rw g.1 (record { from = omega arith; to = omega arith })
 
-even_by : (late d : ℕ) → late ≤ 5208 → IsLong late d → (7 * (96 * 1000000000 * 1) ≤ 8 * (d * (48000 * 1))) × (8 * (d * (48000 * 1)) ≤ 9 * (96 * 1000000000 * 1))
-even_by late d few l = let a = l.from in let b = l.to in (omega arith, omega arith)
-
-spaced_by : (late d : ℕ) → IsLong late d → 3 * (96 * 1000000000 * 1) ≤ 4 * (d * (48000 * 1))
-spaced_by late d l = let a = l.from in omega arith
-
 steady_by : (late d e : ℕ) → late ≤ 5208 → IsLong late d → IsLong late e → 4 * (e * (48000 * 1)) ≤ 4 * (d * (48000 * 1)) + 1000000000 * 1
 steady_by late d e few l m = let a = l.from in let b = m.to in omega arith
 
@@ -109,15 +79,11 @@ point_below late (suc zero) h = omega arith
 point_below late (suc (suc zero)) h = omega arith
 point_below late (suc (suc (suc i))) h = absurd (omega arith)
 
-unsteady_is : (late : ℕ) → late ≤ 5208 → IsClock (unsteady late)
+unsteady_is : (late : ℕ) → late ≤ 5208 → IsRegularClock (unsteady late)
 unsteady_is late few = record {
   base = omega arith;
   pull = omega arith;
-  interval = omega arith;
-  some = λ n h. record { packet = h; at = omega arith };
   instants = λ p is. let b = point_below late p.at is.at in omega arith;
-  spaced = λ p q f. spaced_by late (period (pair_at (unsteady late) p q)) (long late p q f);
-  even = λ p q f o. let e = even_by late (period (pair_at (unsteady late) p q)) few (long late p q f) in record { least = e.0; most = e.1 };
   steady = λ p q r f g o u. record {
     longer = steady_by late (period (pair_at (unsteady late) p q)) (period (pair_at (unsteady late) q r)) few (long late p q f) (long late q r g);
     shorter = steady_by late (period (pair_at (unsteady late) q r)) (period (pair_at (unsteady late) p q)) few (long late q r g) (long late p q f);
@@ -136,15 +102,15 @@ follows_at late i h = record {
 late_by : (late d e : ℕ) → d ≡ 2000000 → e ≡ 2000000 + late → 4 * (e * (48000 * 1)) ≤ 4 * (d * (48000 * 1)) + 1000000000 * 1 → late ≤ 5208
 late_by late d e f g h = let h = rw (f, g) at h in omega arith
 
-not_late : (late : ℕ) → Conforms (beside (unsteady late)) → late ≤ 5208
+not_late : (late : ℕ) → IsRegularClock (unsteady late) → late ≤ 5208
 not_late late is =
-    let h = is.clock.steady (at_place 0 0) (at_place 0 1) (at_place 0 2) (follows_at late 0 (omega arith)) (follows_at late 1 (omega arith)) refl refl in
+    let h = is.steady (at_place 0 0) (at_place 0 1) (at_place 0 2) (follows_at late 0 (omega arith)) (follows_at late 1 (omega arith)) refl refl in
     late_by late (period (pair_at (unsteady late) (at_place 0 0) (at_place 0 1))) (period (pair_at (unsteady late) (at_place 0 1) (at_place 0 2)))
     (period_is late (at_place 0 0) (at_place 0 1) (follows_at late 0 (omega arith)))
     (period_is late (at_place 0 1) (at_place 0 2) (follows_at late 1 (omega arith)) ∙ (let e : gap late 1 ≡ 2000000 + late = omega arith in e)) h.longer
 
-pub steady : (late : ℕ) → Conforms (beside (unsteady late)) ↔ late ≤ 5208
-steady late = (not_late late, (λ few. with_clock (unsteady late) (unsteady_is late few)))
+pub steady : (late : ℕ) → IsRegularClock (unsteady late) ↔ late ≤ 5208
+steady late = (not_late late, unsteady_is late)
 
 -- ---- pairs that overlap
 
@@ -189,7 +155,6 @@ unit_is packets small = record {
   last = λ n e. inl refl;
   beside = λ n h. ((λ e. inl refl), (λ e. inl refl));
   unit = λ n h e. refl;
-  together = λ n k m a b h e. refl;
   few = λ n m h e. omega arith;
 }
   where
@@ -200,12 +165,8 @@ unit_conforms : (packets : ℕ) → packets ≤ 255 → Conforms (one_access_uni
 unit_conforms packets small = record {
   kind = unit_is packets small;
   holds = λ n k e h g. refl;
-  instants = record { due = λ n h. omega arith; stamp = λ n i h e. stamp_within i e };
   clock = no_clock-is;
 }
-  where
-    stamp_within : (i : ℕ) → Some 1002000000 ≡ Some i → i ≤ 2 ^ 62
-    stamp_within i e = let same : 1002000000 ≡ i = cc in rw (← same) (omega arith)
 
 not_many : (packets : ℕ) → Conforms (one_access_unit packets) → packets ≤ 255
 not_many zero is = omega arith

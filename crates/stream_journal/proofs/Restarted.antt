@@ -1,5 +1,5 @@
 -- A sparse talker that restarts, packet by packet.
-use Rattle.std.proofs.Common.{◌≡◌, inl, inr, ℕ, zero, suc, ◌+◌, ◌-◌, ◌%◌, ◌^◌, ◌<◌, ◌≤◌, Bool, true, false, pos, Option, Some, None, is_some, refl, subst, arith}
+use Rattle.std.proofs.Common.{◌≡◌, inl, inr, ℕ, zero, suc, ◌+◌, ◌-◌, ◌%◌, ◌<◌, ◌≤◌, Bool, true, false, pos, Option, Some, None, is_some, refl, subst, arith}
 use Rattle.std.specs.Prelude.{IfSome, ◌==◌, if◌then◌else◌}
 use Rattle.std.proofs.lemmas.Bool.{cases_lt}
 use Rattle.std.proofs.lemmas.Bool.Decides.{nat_tests}
@@ -39,13 +39,6 @@ stamps_by : (n : ℕ) (b : Bool) → is_some (if b then Some (restarted_due n) e
 stamps_by n true = refl
 stamps_by n false = refl
 
-due_within : (n : ℕ) → n < 20 → restarted_due n ≤ 2 ^ 62
-due_within n h = grind (arith, nat_tests)
-
-stamp_within : (n instant : ℕ) (b : Bool) → n < 20 → (if b then Some (restarted_due n) else None) ≡ Some instant → instant ≤ 2 ^ 62
-stamp_within n instant true h e = let same : restarted_due n ≡ instant = cc in rw (← same) (due_within n h)
-stamp_within n instant false h e = absurd cc
-
 apart : (n : ℕ) → suc n < 20 → IsApart restarted 3 (restarted_due n) (restarted_due (suc n))
 apart n h = grind (arith, nat_tests)
 
@@ -67,7 +60,6 @@ pub conforms : Conforms restarted
 conforms = record {
   kind = (audio, no_clock-agrees restarted refl);
   holds = holds;
-  instants = record { due = due_within; stamp = λ n i h e. stamp_within n i (n % 8 == 0) h e };
   clock = no_clock-is;
 }
 

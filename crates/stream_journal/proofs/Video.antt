@@ -1,7 +1,6 @@
 -- Four packets of H.264, by the rules.
-use Rattle.std.proofs.Common.{◌≡◌, ◌⊎◌, inl, inr, ◌↔◌, ℕ, suc, ◌^◌, ◌≤◌, Bool, true, false, Some, None, is_some, refl, subst, arith}
+use Rattle.std.proofs.Common.{◌≡◌, ◌⊎◌, inl, inr, ◌↔◌, ℕ, suc, Bool, true, false, Some, None, is_some, refl, subst, arith}
 use Rattle.std.specs.Prelude.{◌==◌, if◌then◌else◌}
-use Rattle.std.proofs.lemmas.Bool.Decides.{nat_tests}
 use Rattle.stream_journal.specs.Journal.{Part, First, Middle, Last}
 use Rattle.stream_journal.specs.Conforming.{Begins, Conforms, Ends, IsVideo}
 use Rattle.stream_journal.specs.Examples.{video, video_part}
@@ -70,12 +69,6 @@ stamp_due n instant e = by (n == 0) (n == 3) e
     by false true e = cc
     by false false e = absurd cc
 
-due_within : (n : ℕ) → video.due n ≤ 2 ^ 62
-due_within n = grind (arith, nat_tests)
-
-together : (n k m : ℕ) → n ≤ k → k ≤ m → video.due n ≡ video.due m → video.due k ≡ video.due n
-together n k m a b e = grind (arith, nat_tests)
-
 is_video : IsVideo video video_part
 is_video = record {
   stamps = inr (λ n h. each_below StampsEnd 4 each_stamp n h);
@@ -84,7 +77,6 @@ is_video = record {
   last = last_of;
   beside = λ n h. each_below IsBeside 3 each_beside n (omega arith);
   unit = λ n h e. each_below IsOfUnit 3 each_unit n (omega arith) e;
-  together = λ n k m a b h e. together n k m a b e;
   few = λ n m h e. omega arith;
 }
 
@@ -92,6 +84,5 @@ pub conforms : Conforms video
 conforms = record {
   kind = is_video;
   holds = λ n k e h g. refl;
-  instants = record { due = λ n h. due_within n; stamp = λ n i h e. rw (stamp_due n i e) (due_within n) };
   clock = no_clock-is;
 }

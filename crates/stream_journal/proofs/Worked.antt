@@ -1,23 +1,27 @@
 -- Three packets, by the rules.
-use Rattle.std.proofs.Common.{◌≡◌, ◌↔◌, ℕ, ◌+◌, ◌*◌, ◌^◌, ◌<◌, ◌≤◌, pos, Some, refl, arith}
-use Rattle.std.proofs.Math.Nat.{mul-le-mul_left}
+use Rattle.std.proofs.Common.{◌≡◌, ◌↔◌, ℕ, ◌+◌, ◌*◌, ◌≤◌, pos, Some, refl, arith}
 use Rattle.std.proofs.lemmas.Int.{ints}
 use Rattle.stream_journal.specs.Clocks.{no_clock}
 use Rattle.time_unfold.specs.declared.head_rule.Head.{Head}
 use Rattle.stream_journal.specs.Journal.{Journal, head_of, nominal_instant}
 use Rattle.stream_journal.specs.Conforming.{AgreesWithClock, Conforms, IsAudio, IsClock}
+use Rattle.stream_journal.specs.Regular.{IsRegularClock}
 use Rattle.stream_journal.specs.Examples.{three_packets}
 
 -- a clock of no packets keeps every rule
 pub no_clock-is : IsClock no_clock
 no_clock-is = record {
-  base = omega arith;
-  pull = omega arith;
   interval = omega arith;
   some = λ n h. absurd (omega arith);
-  instants = λ p is. absurd (omega arith);
   spaced = λ p q f. let h = f.first in absurd (omega arith);
   even = λ p q f o. let h = f.first in absurd (omega arith);
+}
+
+pub no_clock-regular : IsRegularClock no_clock
+no_clock-regular = record {
+  base = omega arith;
+  pull = omega arith;
+  instants = λ p is. absurd (omega arith);
   steady = λ p q r f g o u. let h = f.first in absurd (omega arith);
   renewed = λ p q r f g o u. let h = f.first in absurd (omega arith);
   holds = λ n k e h g. absurd (omega arith);
@@ -46,25 +50,15 @@ three_audio spacing wide = record {
   first_instants = λ n head h e. first_of spacing n head e;
 }
 
-within : (spacing n : ℕ) → spacing ≤ 1000000000 → n < 3 → 1002000000 + n * spacing ≤ 2 ^ 62
-within spacing n small few = let most : n * spacing ≤ n * 1000000000 = mul-le-mul_left n small in omega arith
-
-stamp_within : (spacing n instant : ℕ) → spacing ≤ 1000000000 → n < 3 → (three_packets spacing).stamp n ≡ Some instant → instant ≤ 2 ^ 62
-stamp_within spacing n instant small few e =
-    let same : 1002000000 + n * spacing ≡ instant = cc in
-    let most = within spacing n small few in
-    omega arith
-
-three : (spacing : ℕ) → spacing ≤ 1000000000 → 93750 ≤ spacing → Conforms (three_packets spacing)
-three spacing small wide = record {
+three : (spacing : ℕ) → 93750 ≤ spacing → Conforms (three_packets spacing)
+three spacing wide = record {
   kind = (three_audio spacing wide, no_clock-agrees (three_packets spacing) refl);
   holds = λ n k e h g. refl;
-  instants = record { due = λ n h. within spacing n small h; stamp = λ n i h e. stamp_within spacing n i small h e };
   clock = no_clock-is;
 }
 
 apart : (spacing : ℕ) → Conforms (three_packets spacing) → 93750 ≤ spacing
 apart spacing is = let h = is.kind.0.spacing 0 (omega arith) in omega arith
 
-pub three_conform : (spacing : ℕ) → spacing ≤ 1000000000 → Conforms (three_packets spacing) ↔ 93750 ≤ spacing
-three_conform spacing small = (apart spacing, three spacing small)
+pub three_conform : (spacing : ℕ) → Conforms (three_packets spacing) ↔ 93750 ≤ spacing
+three_conform spacing = (apart spacing, three spacing)

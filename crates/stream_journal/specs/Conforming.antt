@@ -1,14 +1,13 @@
--- The rules that a talker keeps. Everything that is counted from its timestamps rests on these alone. They are this project's
--- own if no standard is named.
-use Rattle.std.specs.Prelude.{◌≡◌, ◌≢◌, ◌⊎◌, ◌↔◌, ℕ, suc, ◌+◌, ◌*◌, ◌%◌, ◌^◌, ◌==◌, ◌<◌, ◌≤◌, nat_lt, Bool, true, ⊤, pos, Some, is_some}
+-- The rules that a talker keeps. Everything that is promised of listeners rests on these alone: a proof uses each of them. They
+-- are this project's own if no standard is named.
+use Rattle.std.specs.Prelude.{◌≡◌, ◌≢◌, ◌⊎◌, ◌↔◌, ℕ, suc, ◌+◌, ◌*◌, ◌%◌, ◌==◌, ◌<◌, ◌≤◌, nat_lt, Bool, true, ⊤, pos, Some, is_some}
 use Rattle.time_unfold.specs.declared.head_rule.Head.{Head}
 use Rattle.time_unfold.specs.declared.head_rule.HeadRule.{HeadRule}
 use Rattle.time_unfold.specs.declared.head_rule.HeadRule.TheVariants.{Own, Eight, Blocks}
 use Rattle.time_unfold.specs.Heads.{stamped_index}
 use Rattle.time_unfold.specs.Lines.{instant_at}
-use Rattle.clock_track.specs.declared.pair.Pair.{Pair}
-use Rattle.clock_track.specs.Pairs.{Covers, IsJoined, IsOfRate, IsSpaced, period, spot_by}
-use Rattle.stream_journal.specs.Clocks.{ClockJournal, Follows, InOneRun, IsJoinedAt, IsPlace, Place, pair_at, point}
+use Rattle.clock_track.specs.Pairs.{Covers, IsJoined, IsOfRate, IsSpaced, spot_by}
+use Rattle.stream_journal.specs.Clocks.{ClockJournal, Follows, InOneRun, IsJoinedAt, IsPlace, Place, pair_at}
 use Rattle.stream_journal.specs.Journal.{Journal, Kind, DenseAaf, SparseAaf, Am824, H264, Part, Single, First, Last, head_of, nominal_instant, rule_of}
 
 -- ---- rules for every stream
@@ -17,11 +16,6 @@ use Rattle.stream_journal.specs.Journal.{Journal, Kind, DenseAaf, SparseAaf, Am8
 abbrev pub HoldsEight : ℕ → (ℕ → Bool) → Type 0
 HoldsEight packets mr =
     (n k : ℕ) → mr (suc n) ≢ mr n → k < 8 → suc n + k < packets → mr (suc n + k) ≡ mr (suc n)
-
--- all instants lie between 0 and 2^62
-pub record AreInstants (j : Journal) : Type 0 where
-  pub due : (n : ℕ) → n < j.packets → j.due n ≤ 2 ^ 62
-  pub stamp : (n instant : ℕ) → n < j.packets → j.stamp n ≡ Some instant → instant ≤ 2 ^ 62
 
 -- ---- audio
 
@@ -89,37 +83,21 @@ pub record IsVideo (j : Journal) (part : ℕ → Part) : Type 0 where
   pub beside : (n : ℕ) → suc n < j.packets → Ends (part n) ↔ Begins (part (suc n))
   -- the fragments of a unit are of one access unit
   pub unit : (n : ℕ) → suc n < j.packets → ¬ Ends (part n) → j.due (suc n) ≡ j.due n
-  -- the packets of one access unit are adjacent, and at most 255
-  pub together : (n k m : ℕ) → n ≤ k → k ≤ m → m < j.packets → j.due n ≡ j.due m → j.due k ≡ j.due n
+  -- an access unit has at most 255 packets, from its first to its last
   pub few : (n m : ℕ) → m < j.packets → j.due n ≡ j.due m → m < n + 255
 
 -- ---- the clock
 
--- two periods of the clock differ by at most a quarter of the nominal spacing of two events
-pub record IsSteady (first second : Pair) : Type 0 where
-  pub longer : 4 * (period second * second.up) ≤ 4 * (period first * first.up) + 1000000000 * first.down
-  pub shorter : 4 * (period first * first.up) ≤ 4 * (period second * second.up) + 1000000000 * first.down
-
 -- A clock that keeps the rules. Adjacent points of one run are in one packet or in adjacent packets with equal `mr`. A new run
 -- begins with a new packet and the other `mr`, which tells the runs apart.
 pub record IsClock (c : ClockJournal) : Type 0 where
-  pub base : 1 ≤ c.base
-  pub pull : c.pull ≤ 5
   pub interval : 1 ≤ c.interval
   -- each packet has a point
   pub some : (n : ℕ) → n < c.packets → IsPlace c (record { packet = n; at = 0 })
-  pub instants : (p : Place) → IsPlace c p → point c p ≤ 2 ^ 62
   -- each point is at least 3/4 of the nominal interval after the one before it, over all runs
   pub spaced : (p q : Place) → Follows c p q → IsSpaced (pair_at c p q)
   -- adjacent points of a run are within 1/8 of the nominal interval
   pub even : (p q : Place) → Follows c p q → InOneRun c p q → IsJoined (pair_at c p q)
-  -- adjacent periods of a run differ little
-  pub steady : (p q r : Place) → Follows c p q → Follows c q r → InOneRun c p q → InOneRun c q r
-      → IsSteady (pair_at c p q) (pair_at c q r)
-  -- the first point of a new run is at least the last period after the last point of the run before
-  pub renewed : (p q r : Place) → Follows c p q → Follows c q r → InOneRun c p q → ¬ InOneRun c q r
-      → point c q + period (pair_at c p q) ≤ point c r
-  pub holds : HoldsEight c.packets c.mr
 
 -- ---- the clock and the timestamps of an audio stream
 
@@ -152,5 +130,4 @@ IsOfKind (H264 part) j = IsVideo j part
 pub record Conforms (j : Journal) : Type 0 where
   pub kind : IsOfKind j.kind j
   pub holds : HoldsEight j.packets j.mr
-  pub instants : AreInstants j
   pub clock : IsClock j.clock

@@ -146,19 +146,6 @@ video = record {
 
 -- ---- at the limits of the rules
 
--- an audio stream without packets, with a clock
-abbrev pub beside : ClockJournal → Journal
-beside clock = record {
-  kind = DenseAaf;
-  rate = 48000;
-  count = 6;
-  packets = 0;
-  due = λ n. 0;
-  stamp = λ n. None;
-  mr = λ n. false;
-  clock = clock;
-}
-
 -- a clock without packets, with this code of pull
 abbrev pub pulled : ℕ → ClockJournal
 pulled pull = record no_clock { pull = pull }

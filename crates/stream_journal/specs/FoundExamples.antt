@@ -1,5 +1,5 @@
 -- Stamps and clock packets that a listener has of small journals.
-use Rattle.std.specs.Prelude.{◌≡◌, ℕ, ◌+◌, ◌*◌, ◌%◌, false, true, pos, List, [], ◌∷◌, ◌++◌, replicate}
+use Rattle.std.specs.Prelude.{ℕ, ◌+◌, ◌*◌, ◌%◌, false, List, [], ◌∷◌, ◌++◌, replicate}
 use Rattle.clock_track.specs.declared.clock_row.ClockRow.{ClockRow}
 use Rattle.clock_track.specs.Examples.{worked_row}
 use Rattle.time_unfold.specs.declared.head_rule.Distance.{Distance}

@@ -1,5 +1,5 @@
 -- When a listener finds the clock's line of an instant.
-use Rattle.std.specs.Prelude.{◌≡◌, ℕ, ◌^◌, ℤ, pos, ◌+ℤ◌, ◌<ℤ◌, List, Contains}
+use Rattle.std.specs.Prelude.{ℕ, ◌^◌, ℤ, pos, ◌+ℤ◌, ◌<ℤ◌, List, Contains}
 use Rattle.clock_track.specs.declared.clock_row.ClockRow.{ClockRow}
 use Rattle.clock_track.specs.Rows.{window}
 use Rattle.stream_journal.specs.Clocks.{ClockJournal, Follows, InOneRun, Place, point}

@@ -1,6 +1,7 @@
 pub mod Clocks
 pub mod Journal
 pub mod Conforming
+pub mod Regular
 pub mod Delivered
 pub mod Examples
 pub mod Heads

@@ -5,8 +5,9 @@ ghost use Rattle.time_unfold.specs.Stamps.{found};
 ghost use Rattle.clock_track.specs.Pairs.{Covers};
 ghost use Rattle.clock_track.specs.Rows.{clock_spot};
 ghost use Rattle.stream_journal.specs.Conforming.{AgreesWithClock, Conforms};
+ghost use Rattle.stream_journal.specs.Regular.{IsRegularClock};
 ghost use Rattle.stream_journal.specs.Delivered.{AreDelivered};
-ghost use Rattle.stream_journal.specs.Examples.{beside, came, clocked, each_eighth, each_sixteenth, one_access_unit, overlapped, pulled, restarted, restarted_copies, sixteenth_copies, three_packets, unsteady, video};
+ghost use Rattle.stream_journal.specs.Examples.{came, clocked, each_eighth, each_sixteenth, one_access_unit, overlapped, pulled, restarted, restarted_copies, sixteenth_copies, three_packets, unsteady, video};
 ghost use Rattle.stream_journal.specs.Clocks.{pair_at};
 ghost use Rattle.stream_journal.specs.ClockRows.{IsTrueRow};
 ghost use Rattle.stream_journal.specs.Found.{IsAtHand, IsExpected};
@@ -19,7 +20,7 @@ ghost use Rattle.stream_journal.specs.Journal.{IsAt, head_of};
 /// Three packets of 6 samples at 48 kHz take 125,000 ns each. They keep the rules exactly if they are due at least 3/4 of that
 /// apart.
 pub fn three_packets_conform()
-    ensures { (spacing : ℕ) → spacing ≤ 1000000000 → Conforms (three_packets spacing) ↔ 93750 ≤ spacing }
+    ensures { (spacing : ℕ) → Conforms (three_packets spacing) ↔ 93750 ≤ spacing }
 {}
 
 /// Copies of the packets of `restarted`, of which one was lost, one came again and two changed places, are delivered to a
@@ -75,8 +76,8 @@ pub fn samples_are_clocked()
 /// two events of 48 kHz; a stream that agrees with its clock has no timestamp that two joined pairs cover; an access unit has
 /// at most 255 packets.
 pub fn rules_have_limits()
-    ensures pull { (pull : ℕ) → Conforms (beside (pulled pull)) ↔ pull ≤ 5 }
-    ensures steady { (late : ℕ) → Conforms (beside (unsteady late)) ↔ late ≤ 5208 }
+    ensures pull { (pull : ℕ) → IsRegularClock (pulled pull) ↔ pull ≤ 5 }
+    ensures steady { (late : ℕ) → IsRegularClock (unsteady late) ↔ late ≤ 5208 }
     ensures one { ¬ AgreesWithClock overlapped }
     ensures few { (packets : ℕ) → Conforms (one_access_unit packets) ↔ packets ≤ 255 }
 {}

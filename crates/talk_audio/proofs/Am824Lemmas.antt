@@ -311,7 +311,6 @@ am824_format f plan p is =
       silence = (let quarter : 4 * (plan.count * plan.channels) ≡ plan.count * block_size plan.channels = omega arith in length-silent
           (plan.count * plan.channels) ∙ quarter);
       kind = am824_times f plan p is;
-      read = refl;
       bytes = λ n blocks size. omega (arith, iec_size (iec_packet plan n blocks), size);
       packet = λ packets n blocks id size. packet_is f plan packets n blocks p is id size;
       leads = λ lead n expects unstamped.

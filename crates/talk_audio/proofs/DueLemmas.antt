@@ -21,7 +21,6 @@ use Rattle.stream_journal.specs.Delivered.{IsFragment}
 use Rattle.stream_journal.proofs.Spacing.{IsBefore, scaled}
 use Rattle.talk_plan.specs.declared.plan.TalkPlan.{TalkPlan}
 use Rattle.talk_plan.specs.declared.plan.CrfPlan.{CrfPlan}
-use Rattle.packet_journal.specs.Carried.{IsReadKind}
 use Rattle.packet_journal.specs.Packets.{IsPacket}
 use Rattle.talk_audio.specs.Audio.{Audio}
 use Rattle.talk_plan.specs.Ethernet.{packet_bytes}
@@ -414,7 +413,6 @@ pub record IsFormatOf (plan : TalkPlan) (a : Audio) (headers : ℕ) : Type 0 whe
   pub size : headers + plan.count * a.frame ≤ 1518
   pub silence : length a.silence ≡ plan.count * a.frame
   pub kind : IsKindOf plan a.kind
-  pub read : IsReadKind a.kind
   pub bytes : (n : ℕ) (samples : List ℕ) → length samples ≡ plan.count * a.frame → length (packet_bytes (a.packet n samples)) ≡ headers + plan.count * a.frame
   pub packet : (packets n : ℕ) (samples : List ℕ) → plan.id < 2 ^ 64 → length samples ≡ plan.count * a.frame
       → IsPacket a.kind (audio_times a.kind plan packets) plan.id n (a.packet n samples)

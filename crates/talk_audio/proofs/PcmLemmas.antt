@@ -19,7 +19,6 @@ use Rattle.pcap_frames.specs.Frame.{frame_layout}
 use Rattle.time_unfold.specs.declared.head_rule.Distance.{Distance}
 use Rattle.stream_journal.specs.Journal.{Journal, rule_of}
 use Rattle.stream_journal.specs.Conforming.{is_stamped}
-use Rattle.packet_journal.specs.Carried.{IsReadKind}
 use Rattle.packet_journal.specs.Packets.{IsAafPacket, IsPacket, Pcm}
 use Rattle.talk_audio.specs.declared.pcm.PcmFormat.{PcmFormat}
 use Rattle.talk_plan.specs.declared.plan.TalkKind.{TalkKind}
@@ -199,10 +198,6 @@ leads_by : (kind : TalkKind) (format : AafFormat) (sparse : Bool) (plan : TalkPl
 leads_by kind format false plan lead n e expects unstamped = absurd cc
 leads_by kind format true plan lead n e expects unstamped = rw e at expects
 
-read_kind : (sparse : Bool) → IsReadKind (kind_of sparse)
-read_kind false = refl
-read_kind true = refl
-
 -- ---- its packets
 
 code_is : (plan : TalkPlan) (code : ℕ) → rate_code plan.rate ≡ Some code → unwrap_or (rate_code plan.rate) 0 ≡ code
@@ -266,7 +261,6 @@ pcm_format f plan p is =
       size = omega arith;
       silence = length-replicate (plan.count * frame_size plan.channels f.format) 0;
       kind = pcm_kind plan f.sparse p;
-      read = read_kind f.sparse;
       bytes = λ n samples size. omega (arith, aaf_size (aaf_packet f.format f.sparse plan n samples), size);
       packet = λ packets n samples id size. of_mode f.sparse (audio_times (kind_of f.sparse) plan packets) plan.id n _
           (packet_is f plan packets n samples p is id size);

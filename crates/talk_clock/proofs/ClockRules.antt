@@ -6,8 +6,9 @@ use Rattle.clock_track.specs.declared.pair.Pair.{Pair}
 use Rattle.clock_track.specs.Pairs.{IsJoined, IsSpaced, nominal, period}
 use Rattle.clock_track.proofs.Pairs.{period-natural}
 use Rattle.stream_journal.specs.Clocks.{Follows, Place, pair_at, point}
-use Rattle.stream_journal.specs.Conforming.{HoldsEight, IsClock, IsSteady}
-use Rattle.stream_journal.proofs.Worked.{no_clock-is}
+use Rattle.stream_journal.specs.Conforming.{HoldsEight, IsClock}
+use Rattle.stream_journal.specs.Regular.{IsRegularClock, IsSteady}
+use Rattle.stream_journal.proofs.Worked.{no_clock-is, no_clock-regular}
 use Rattle.talk_plan.specs.declared.plan.CrfPlan.{CrfPlan}
 use Rattle.talk_plan.specs.declared.plan.TalkPlan.{TalkPlan}
 use Rattle.talk_plan.specs.Beats.{IsNextStart, pair_from, point_at}
@@ -131,22 +132,34 @@ clock_with : (plan : TalkPlan) (crf : CrfPlan) (packets : ℕ) → IsAudioPlan p
 clock_with plan crf packets p e few =
     let of = clock_of plan crf p e in
     let is = is_beat plan crf p e in
-    let c = clock_times crf plan packets in
     let beat = beat_of crf plan in
     record {
-      base = of.some_rate;
-      pull = of.pull;
       interval = of.some_interval;
       some = λ m h. record {
         packet = h;
         at = (let first = first_in plan crf packets m p e h in rw size_is
             (some_size crf.points (points_for crf plan packets) (first_point crf m) of.some_points first));
       };
-      instants = λ a at. (let k = known crf plan packets a at in omega (arith, k.value, point_small plan crf packets (number crf a) p e few k.below, p.lead));
       spaced = λ a b f. spaced_is plan crf packets a b p e f;
       even = λ a b f one. (let beside = one_run plan crf packets a b p e f one in
           subst IsJoined (sym (pair_is plan crf packets a b p e f beside))
           (joined beat (run_start plan (run_at plan crf (number crf a))) (place_of plan crf (number crf a)) is));
+    }
+  where
+    some_size : (size points first : ℕ) → 1 ≤ size → first < points → 0 < min size (points - first)
+    some_size size points first some h = omega arith
+
+clock_regular_with : (plan : TalkPlan) (crf : CrfPlan) (packets : ℕ) → IsAudioPlan plan → plan.crf ≡ Some crf → AreFew plan packets
+    → IsRegularClock (clock_times crf plan packets)
+clock_regular_with plan crf packets p e few =
+    let of = clock_of plan crf p e in
+    let is = is_beat plan crf p e in
+    let c = clock_times crf plan packets in
+    let beat = beat_of crf plan in
+    record {
+      base = of.some_rate;
+      pull = of.pull;
+      instants = λ a at. (let k = known crf plan packets a at in omega (arith, k.value, point_small plan crf packets (number crf a) p e few k.below, p.lead));
       steady = λ a b d f g one two. (let first = one_run plan crf packets a b p e f one in
           let second = one_run plan crf packets b d p e g two in
           let start : ℕ = run_start plan (run_at plan crf (number crf a)) in
@@ -157,9 +170,6 @@ clock_with plan crf packets p e few =
           (other_run plan crf packets b d p e g other);
       holds = holds_is plan crf (clock_packets crf plan packets) p e;
     }
-  where
-    some_size : (size points first : ℕ) → 1 ≤ size → first < points → 0 < min size (points - first)
-    some_size size points first some h = omega arith
 
 clock_is_by : (crf : Option CrfPlan) (plan : TalkPlan) (packets : ℕ) → IsAudioPlan plan → plan.crf ≡ crf → AreFew plan packets
     → IsClock (clock_by crf plan packets)
@@ -168,3 +178,11 @@ clock_is_by (Some crf) plan packets p e few = clock_with plan crf packets p e fe
 
 pub clock_is : (plan : TalkPlan) (packets : ℕ) → IsAudioPlan plan → AreFew plan packets → IsClock (clock_by plan.crf plan packets)
 clock_is plan packets p few = clock_is_by plan.crf plan packets p refl few
+
+clock_regular_by : (crf : Option CrfPlan) (plan : TalkPlan) (packets : ℕ) → IsAudioPlan plan → plan.crf ≡ crf → AreFew plan packets
+    → IsRegularClock (clock_by crf plan packets)
+clock_regular_by None plan packets p e few = no_clock-regular
+clock_regular_by (Some crf) plan packets p e few = clock_regular_with plan crf packets p e few
+
+pub clock_regular : (plan : TalkPlan) (packets : ℕ) → IsAudioPlan plan → AreFew plan packets → IsRegularClock (clock_by plan.crf plan packets)
+clock_regular plan packets p few = clock_regular_by plan.crf plan packets p refl few

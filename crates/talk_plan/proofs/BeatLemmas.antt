@@ -11,7 +11,7 @@ use Rattle.time_unfold.specs.Lines.{floor_of, instant_at}
 use borrow.Author.Differences.{up, down}
 use Rattle.clock_track.specs.Pairs.{Covers, IsJoined, IsOfRate, event_line, nearest_event, period, spot_by}
 use Rattle.clock_track.proofs.Pairs.{period-natural}
-use Rattle.stream_journal.specs.Conforming.{IsSteady}
+use Rattle.stream_journal.specs.Regular.{IsSteady}
 use Rattle.talk_plan.specs.Beats.{Beat, IsBeat, IsNextStart, pair_from, point_at, stamped_at}
 use Rattle.talk_plan.specs.Timing.{nominal_offset}
 use Rattle.talk_plan.proofs.TimingLemmas.{is_offset, sum_of}

@@ -4,7 +4,7 @@ ghost use Rattle.std.specs.Prelude.{◌≡◌, ◌↔◌, ◌<◌, ◌≤◌, �
 ghost use Rattle.aaf_format.specs.Aaf.{rate_of};
 ghost use Rattle.iec61883_format.specs.Iec.{rate_of_fdf, syt_interval};
 ghost use Rattle.clock_track.specs.Pairs.{Covers, IsJoined, IsOfRate, period};
-ghost use Rattle.stream_journal.specs.Conforming.{IsSteady};
+ghost use Rattle.stream_journal.specs.Regular.{IsSteady};
 ghost use Rattle.talk_plan.specs.Beats.{Beat, IsBeat, IsNextStart, IsOnEvent, pair_from, point_at, stamped_at};
 ghost use Rattle.talk_plan.specs.Plan.{fdf_of, interval_of, rate_code};
 

@@ -206,7 +206,7 @@ one_unit plan bytes units n more = elim (next_packet units n) [
   | inr new ↦ absurd (more ((part_tells units n).ended new.last))
 ]
 
-together : (plan : TalkPlan) (bytes : List ℕ) (units : List (ℕ × ℕ)) (n k m : ℕ) → IsVideoPlan plan → n ≤ k → k ≤ m
+pub together : (plan : TalkPlan) (bytes : List ℕ) (units : List (ℕ × ℕ)) (n k m : ℕ) → IsVideoPlan plan → n ≤ k → k ≤ m
     → video_due plan bytes units n ≡ video_due plan bytes units m
     → video_due plan bytes units k ≡ video_due plan bytes units n
 together plan bytes units n k m p low high e =
@@ -236,6 +236,5 @@ video_is last_stamp plan bytes units p sent = record {
   last = λ n e. last_ends units n e;
   beside = λ n h. beside units n;
   unit = λ n h more. one_unit plan bytes units n more;
-  together = λ n k m low high h e. together plan bytes units n k m p low high e;
   few = λ n m h e. few plan bytes units n m p sent h e;
 }

@@ -4,7 +4,7 @@ use Rattle.std.specs.Prelude.{IsSomeAnd, slice_get}
 use Rattle.std.specs.List.{range_with_len}
 use Rattle.aaf_format.specs.declared.aaf.AafFormat.{AafFormat}
 use Rattle.stream_journal.specs.Delivered.{IsAudioKind as IsAudioStream}
-use Rattle.packet_journal.specs.Carried.{AllCarry, Carries, IsReadKind}
+use Rattle.packet_journal.specs.Carried.{AllCarry, Carries}
 use Rattle.packet_journal.specs.Packets.{PacketJournal}
 use Rattle.talk_plan.specs.declared.plan.TalkKind.{TalkKind}
 use Rattle.talk_plan.specs.declared.plan.TalkKind.TheVariants.{Aaf, Am824, H264}
@@ -26,15 +26,6 @@ heard_by (H264 last_stamp) plan input kind = absurd kind
 pub kind_heard : (plan : TalkPlan) (input : List ℕ) → IsAudioPlan plan → IsAudioStream (journal plan input).times.kind
 kind_heard plan input p = heard_by plan.kind plan input p.kind
 
-read_by : (kind : TalkKind) (plan : TalkPlan) (input : List ℕ) → IsAudioKind kind → IsReadKind (stream_by (audio_by kind plan) plan input).journal.times.kind
-read_by (Aaf format false) plan input kind = refl
-read_by (Aaf format true) plan input kind = refl
-read_by Am824 plan input kind = refl
-read_by (H264 last_stamp) plan input kind = absurd kind
-
-pub kind_read : (plan : TalkPlan) (input : List ℕ) → IsAudioPlan plan → IsReadKind (journal plan input).times.kind
-kind_read plan input p = read_by plan.kind plan input p.kind
-
 id_by : (audio : Option Audio) (plan : TalkPlan) (input : List ℕ) → plan.id ≡ (stream_by audio plan input).journal.stream
 id_by (Some audio) plan input = refl
 id_by None plan input = refl
@@ -50,9 +41,6 @@ video_plan plan last_stamp e p = subst (λ (k : TalkKind). IsPlanOf k plan) (sym
 -- any listener can tell its packets apart by when they come
 pub video_expects : (plan : TalkPlan) (last_stamp : Bool) (lead : ℕ) → plan.kind ≡ H264 last_stamp → Expects plan lead
 video_expects plan last_stamp lead e = rw e tt
-
-pub video_read : (plan : TalkPlan) (input : List ℕ) (last_stamp : Bool) → plan.kind ≡ H264 last_stamp → IsReadKind (journal plan input).times.kind
-video_read plan input last_stamp e = rw e refl
 
 -- ---- the first frame of a capture
 

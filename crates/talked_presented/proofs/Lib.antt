@@ -13,6 +13,6 @@ pub mod VideoSent
 pub mod VideoDefaults
 pub mod Taken
 pub mod Anywhere
-pub mod Fronts
 pub mod Examples
 pub mod Counts
+pub mod VideoHeard

@@ -1,25 +1,24 @@
 //! What a listener presents of a talker's captures. Each call only states its contract, and does nothing.
 
-ghost use Rattle.std.specs.Prelude.{List, ℕ, ℤ, Bool, false, true, length, [], ◌≡◌, ◌≤◌, ◌∷◌, ◌++◌};
+ghost use Rattle.std.specs.Prelude.{List, ℕ, Bool, false, true, length, [], ◌≡◌, ◌<◌, ◌≤◌, ◌∷◌, ◌++◌};
 ghost use Rattle.std.specs.List.{range_with_len};
 ghost use Rattle.pcap_frames.specs.Capture.{Record, whole_records};
 ghost use Rattle.packet_journal.specs.Packets.{PacketJournal};
+ghost use Rattle.packet_journal.specs.Units.{AreUnit};
 ghost use Rattle.listener.specs.declared.plan.ListenPlan.{ListenPlan};
 ghost use Rattle.listener.specs.Heard.{counts_of, shown_of};
 ghost use Rattle.listener.specs.Items.{MadeItem};
-ghost use Rattle.listener.specs.Laws.{HearsTalker, IsFurther, IsWelcome, by_clock};
+ghost use Rattle.listener.specs.Laws.{IsFurther, IsWelcome, by_clock};
 ghost use Rattle.talk_plan.specs.declared.plan.TalkPlan.{TalkPlan};
 ghost use Rattle.talk_plan.specs.Plan.{most_input};
 ghost use Rattle.talker.specs.Examples.{six_blocks};
 ghost use Rattle.talker.specs.Frames.{capture};
 ghost use Rattle.talker.specs.Journal.{journal};
-ghost use Rattle.talked_headline.specs.Premises.{captured};
+ghost use Rattle.talked_headline.specs.Premises.{HasRoomForUnit, ListensToVideo, captured, part_sent};
 ghost use Rattle.talked_presented.specs.Anywhere.{ComesInTime, MustBePresented};
 ghost use Rattle.talked_presented.specs.Examples.{plain, silence, thirty};
-ghost use Rattle.talked_presented.specs.Fronts.{IsTrueFront};
 ghost use Rattle.talked_presented.specs.Whole.{ArePresented, HasDefaultLead, HearsAll, HearsUnits, IsDefaultVideo, default_listener, unit_ends};
 
-use listener::laws::{headline_holds, what_is_due_stays};
 use packet_journal::laws::carried_packet_is_delivered;
 use talked_headline::laws::talked_is_heard;
 use talker::laws::{capture_delivers, capture_reads_back, journal_conforms, losses_are_delivered};
@@ -67,6 +66,16 @@ pub fn defaults_present_all_units()
     whole_video_is_presented();
 }
 
+/// A listener with the default options of `listen` hears a capture of an H.264 plan with the default lead of `talk`: a whole one,
+/// and if each packet has a timestamp any other, whatever it loses, repeats or reorders. It has room for each unit of the plan.
+pub fn defaults_hear_units()
+    ensures whole { (plan : TalkPlan) (input : List ℕ) → IsDefaultVideo plan input → ListensToVideo plan input (range_with_len 0 (journal plan input).times.packets) (default_listener plan.id) }
+    ensures stamped { (plan : TalkPlan) (input places : List ℕ) → (is : IsDefaultVideo plan input) → is.last_stamp ≡ false → ListensToVideo plan input places (default_listener plan.id) }
+    ensures room { (plan : TalkPlan) (input : List ℕ) (from n : ℕ) → IsDefaultVideo plan input → n < (journal plan input).times.packets → AreUnit (part_sent input) from n → HasRoomForUnit plan input (default_listener plan.id) from n }
+{
+    journal_conforms();
+}
+
 /// A captured copy of an audio packet must be presented, wherever it is in a capture and whatever the capture loses, repeats or
 /// reorders, if the packet has a timestamp or can be counted from one that came, no packet up to it was captured after it is due,
 /// it is the first copy, and the buffer has room for it.
@@ -110,12 +119,3 @@ pub fn examples_are_so()
     ensures h264 { (input : List ℕ) (last_stamp : Bool) → length input ≤ most_input → IsDefaultVideo (thirty last_stamp) input }
     ensures repeated { MustBePresented (plain false) silence (default_listener 0x0200000000010001) (0 ∷ 2 ∷ []) 1 (1 ∷ []) }
 {}
-
-/// If the first records of a capture are a talker's, what is due of them is true, whatever records follow: a capture that is cut
-/// short, or has records of others after them, is shown with this beginning.
-pub fn fronts_are_true()
-    ensures { (shift : ℤ) (p : PacketJournal) (plan : ListenPlan) (records others : List Record) → HearsTalker shift p plan records → IsTrueFront p plan records others }
-{
-    headline_holds();
-    what_is_due_stays();
-}

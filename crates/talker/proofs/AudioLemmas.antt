@@ -1,11 +1,14 @@
 -- A stream of audio keeps all that streams keep, whatever its format.
-use Rattle.std.proofs.Common.{◌≡◌, ℕ, suc, ◌+◌, ◌*◌, ◌^◌, ◌%◌, ◌<◌, ◌≤◌, Bool, true, false, List, [], ◌∷◌, length, Option, Some, None, is_some, pos, refl, sym}
+use Rattle.std.proofs.Common.{◌≡◌, inl, inr, ℕ, suc, ◌+◌, ◌*◌, ◌^◌, ◌%◌, ◌<◌, ◌≤◌, Bool, true, false, List, [], ◌∷◌, length, Option, Some, None, is_some, pos, refl, sym}
 use Rattle.std.proofs.Common.{ap, ◌∙◌, arith}
 use Rattle.std.specs.Prelude.{◌==◌, if◌then◌else◌}
 use Rattle.std.proofs.Math.Nat.{le-mul_of_pos_right, mul-le-mul_right, mul_assoc}
 use Rattle.stream_journal.specs.Conforming.{Conforms, HoldsEight, IsApart, IsAudio, is_stamped}
+use Rattle.std.proofs.lemmas.Bool.{cases_lt}
 use Rattle.stream_journal.specs.Delivered.{AreNear, IsDelivered, IsInHalfCircle, IsWithin}
-use Rattle.stream_journal.specs.Journal.{Kind, rule_of}
+use Rattle.stream_journal.specs.Journal.{Journal, Kind, rule_of}
+use Rattle.stream_journal.specs.Regular.{IsRegular}
+use Rattle.stream_journal.proofs.Spacing.{rising as due_rises}
 use Rattle.time_unfold.specs.Heads.{stamped_index}
 use Rattle.packet_journal.specs.Packets.{IsConforming}
 use Rattle.talk_plan.specs.declared.plan.CrfPlan.{CrfPlan}
@@ -19,7 +22,7 @@ use Rattle.talk_plan.specs.Plan.{Expects, IsAhead, IsNearLead, IsAudioPlan, most
 use Rattle.talk_plan.specs.Timing.{arrival_of, event_of, first_instant, mr_of, nominal_instant}
 use Rattle.talk_plan.proofs.StampLemmas.{early_by, most_early, most_late, stamped_near}
 use Rattle.talk_clock.proofs.ClockPackets.{clock_early, clock_fits, clock_packet_is, clock_rises}
-use Rattle.talk_clock.proofs.ClockRules.{clock_is}
+use Rattle.talk_clock.proofs.ClockRules.{clock_is, clock_regular}
 use Rattle.talk_audio.proofs.ClockStamps.{clock_agrees}
 use Rattle.talk_audio.proofs.DueLemmas.{IsKindOf, due_near, head_due, stamp_is}
 use Rattle.talk_plan.proofs.RateLemmas.{rate_from, rate_range}
@@ -134,11 +137,27 @@ times_conform plan a headers input p is limit =
     record {
       kind = is.kind.of_kind (audio_times a.kind plan packets) (audio a.kind plan packets p is.kind) (clock_agrees a.kind plan packets p is.kind);
       holds = holds plan packets p;
+      clock = clock_is plan packets p (λ n h. timely plan a headers input n p is limit h);
+    }
+
+-- no two packets of audio are due at one instant
+due_once : (j : Journal) → IsAudio j → (n k m : ℕ) → n ≤ k → k ≤ m → m < j.packets → j.due n ≡ j.due m → j.due k ≡ j.due n
+due_once j is n k m low high known e = elim (cases_lt n m) [
+  | inl before ↦ absurd (let h = due_rises j is n m before known in omega arith)
+  | inr same ↦ let here : k ≡ n = omega arith in ap j.due here
+]
+
+times_regular : (plan : TalkPlan) (a : Audio) (headers : ℕ) (input : List ℕ) → IsAudioPlan plan → IsFormatOf plan a headers → length input ≤ most_input
+    → IsRegular (audio_times a.kind plan (packets_of a plan input))
+times_regular plan a headers input p is limit =
+    let packets : ℕ = packets_of a plan input in
+    record {
       instants = record {
         due = λ n h. due_within plan a headers packets input n p is limit h;
         stamp = λ n instant h e. stamp_within plan a headers input n instant p is limit h e;
       };
-      clock = clock_is plan packets p (λ n h. timely plan a headers input n p is limit h);
+      together = due_once (audio_times a.kind plan packets) (audio a.kind plan packets p is.kind);
+      clock = clock_regular plan packets p (λ n h. timely plan a headers input n p is limit h);
     }
 
 audio_conforms : (plan : TalkPlan) (a : Audio) (headers : ℕ) (input : List ℕ) → IsAudioPlan plan → IsFormatOf plan a headers → length input ≤ most_input
@@ -231,7 +250,7 @@ audio_stream plan a headers input p is limit = record {
   clock_sent = λ m h. clock_early plan (packets_of a plan input) m p (λ n k. timely plan a headers input n p is limit k) h;
   clock_size = λ m h. clock_fits plan (packets_of a plan input) m p h;
   conforms = λ id. audio_conforms plan a headers input p is limit id;
-  read = λ kind. is.read;
+  regular = times_regular plan a headers input p is limit;
   on_time = λ lead n expects h. on_time plan a headers input lead n p is limit expects h;
   near = λ numbers near. all_near a.kind plan (packets_of a plan input) numbers is.kind;
 }

@@ -13,7 +13,8 @@ use Rattle.pcap_frames.specs.Frame.{IsWritableFrame, SpellsFrame}
 use Rattle.pcap_frames.proofs.FrameLemmas.{frame_again}
 use Rattle.stream_journal.specs.Delivered.{AreNear, IsDelivered}
 use Rattle.crf_format.specs.Crf.{crf_spelling}
-use Rattle.packet_journal.specs.Carried.{AllCarry, AllCarryFrom, Carries, CarriesClock, IsReadKind}
+use Rattle.stream_journal.specs.Regular.{IsRegular}
+use Rattle.packet_journal.specs.Carried.{AllCarry, AllCarryFrom, Carries, CarriesClock}
 use Rattle.packet_journal.specs.Delivered.{OfClock, OfStream, Origin, stream_numbers}
 use Rattle.stream_journal.specs.Journal.{Journal}
 use Rattle.packet_journal.specs.Packets.{IsConforming, PacketJournal, PacketView, spelling_of}
@@ -50,8 +51,8 @@ pub record IsStream (plan : TalkPlan) (s : Stream) : Type 0 where
   pub clock_size : (m : ℕ) → m < clocks_in s → length (clock_bytes (s.journal.clock_packet m)) ≤ 1518
   -- the talker keeps the rules
   pub conforms : plan.id < 2 ^ 64 → IsConforming (pos 0) s.journal
+  pub regular : IsRegular s.journal.times
   -- a capture delivers each packet
-  pub read : IsAudioKind plan.kind → IsReadKind s.journal.times.kind
   pub on_time : (lead n : ℕ) → Expects plan lead → n < packets_in s → IsDelivered s.journal.times lead (record { number = n; arrival = s.arrival n })
   pub near : (numbers : List ℕ) → StaysNearBy plan.kind s.journal.times numbers → AreNear s.journal.times numbers
 

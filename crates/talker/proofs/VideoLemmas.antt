@@ -9,7 +9,8 @@ use Rattle.cvf_format.specs.declared.cvf.NalPart.TheVariants.{Single, First, Mid
 use Rattle.cvf_format.specs.Cvf.{Cvf, cvf_layout, cvf_subtype, ends, header_size, headers_of, layout_of, starts}
 use Rattle.stream_journal.specs.Conforming.{Conforms, IsClock}
 use Rattle.stream_journal.specs.Delivered.{AreNear, IsDelivered}
-use Rattle.stream_journal.proofs.Worked.{no_clock-is}
+use Rattle.stream_journal.specs.Regular.{IsRegular, IsRegularClock}
+use Rattle.stream_journal.proofs.Worked.{no_clock-is, no_clock-regular}
 use Rattle.packet_journal.specs.Packets.{H264Data, IsConforming, IsCvfPacket, part_of}
 use Rattle.talk_plan.specs.declared.plan.CrfPlan.{CrfPlan}
 use Rattle.talk_plan.specs.declared.plan.TalkKind.{TalkKind}
@@ -27,7 +28,7 @@ use Rattle.talk_video.proofs.AccessLemmas.{access_step, unit_known}
 use Rattle.talk_plan.proofs.HeaderLemmas.{header_fits, stamped_at, bytes_size}
 use Rattle.talker.proofs.StreamLemmas.{IsStream}
 use Rattle.talk_video.proofs.VideoParts.{packet_short, short_at, writable}
-use Rattle.talk_video.proofs.VideoRules.{AreSent, access_known, in_time, instant_rises, stamp_is, video_is}
+use Rattle.talk_video.proofs.VideoRules.{AreSent, access_known, in_time, instant_rises, stamp_is, together, video_is}
 
 -- ---- what a packet's fields hold
 
@@ -112,6 +113,10 @@ no_clock_of : (crf : Option CrfPlan) (plan : TalkPlan) (packets : ℕ) → crf �
 no_clock_of None plan packets e = no_clock-is
 no_clock_of (Some crf) plan packets e = absurd cc
 
+no_clock_regular : (crf : Option CrfPlan) (plan : TalkPlan) (packets : ℕ) → crf ≡ None → IsRegularClock (clock_by crf plan packets)
+no_clock_regular None plan packets e = no_clock-regular
+no_clock_regular (Some crf) plan packets e = absurd cc
+
 pub none_sent : (crf : Option CrfPlan) (plan : TalkPlan) (packets : ℕ) → crf ≡ None → (clock_by crf plan packets).packets ≡ 0
 none_sent None plan packets e = refl
 none_sent (Some crf) plan packets e = absurd cc
@@ -128,12 +133,20 @@ times_conform : (last_stamp : Bool) (plan : TalkPlan) (bytes : List ℕ) (units 
 times_conform last_stamp plan bytes units p sent limit = record {
   kind = video_is last_stamp plan bytes units p sent;
   holds = λ n k other few known. absurd (other (one_bit plan (suc n) p.restart ∙ sym (one_bit plan n p.restart)));
+  clock = no_clock_of plan.crf plan (all_packets units) p.crf;
+}
+
+times_regular : (last_stamp : Bool) (plan : TalkPlan) (bytes : List ℕ) (units : List (ℕ × ℕ)) → IsVideoPlan plan → AreSent bytes units
+    → length bytes ≤ 268435456
+    → IsRegular (video_times last_stamp plan bytes units)
+times_regular last_stamp plan bytes units p sent limit = record {
   instants = record {
     due = λ n h. due_within plan bytes units n p sent limit h;
     stamp = λ n instant h e. (let same = stamp_is last_stamp (part_at units (place_of units n)) (video_due plan bytes units n) instant e in rw same
         (due_within plan bytes units n p sent limit h));
   };
-  clock = no_clock_of plan.crf plan (all_packets units) p.crf;
+  together = λ n k m low high h e. together plan bytes units n k m p low high e;
+  clock = no_clock_regular plan.crf plan (all_packets units) p.crf;
 }
 
 conforms : (last_stamp : Bool) (plan : TalkPlan) (bytes : List ℕ) (units : List (ℕ × ℕ)) → IsVideoPlan plan → AreSent bytes units → length bytes ≤ 268435456
@@ -212,7 +225,7 @@ video_stream_keeps last_stamp plan bytes units p kind sent limit = record {
   clock_sent = λ m h. absurd (let none = none_sent plan.crf plan (all_packets units) p.crf in omega arith);
   clock_size = λ m h. absurd (let none = none_sent plan.crf plan (all_packets units) p.crf in omega arith);
   conforms = λ id. conforms last_stamp plan bytes units p sent limit id;
-  read = λ audio. absurd (subst (λ (k : TalkKind). IsAudioKind k) kind audio);
+  regular = times_regular last_stamp plan bytes units p sent limit;
   on_time = λ lead n expects h. on_time last_stamp plan bytes units lead n p sent limit h;
   near = λ numbers near. near_by last_stamp plan bytes units numbers
       (subst (λ (k : TalkKind). StaysNearBy k (video_times last_stamp plan bytes units) numbers) kind near);

@@ -7,12 +7,13 @@ ghost use Rattle.aaf_format.specs.Aaf.{SpellsAaf, aaf_spelling, frame_size};
 ghost use Rattle.iec61883_format.specs.Iec.{SpellsIec, block_size, iec_spelling};
 ghost use Rattle.std.specs.List.{range_with_len};
 ghost use Rattle.cvf_format.specs.Cvf.{SpellsCvf, cvf_spelling};
-ghost use Rattle.packet_journal.specs.Carried.{AllCarry, IsReadKind};
+ghost use Rattle.packet_journal.specs.Carried.{AllCarry};
 ghost use Rattle.packet_journal.specs.Delivered.{Delivers};
 ghost use Rattle.packet_journal.specs.Packets.{Am824Data, H264Data, IsConforming};
 ghost use Rattle.pcap_frames.specs.Capture.{IsCapture, first_refusal, whole_records};
 ghost use Rattle.pcap_frames.specs.Frame.{SpellsFrame};
 ghost use Rattle.stream_journal.specs.Journal.{head_of};
+ghost use Rattle.stream_journal.specs.Regular.{IsRegular};
 ghost use Rattle.talk_plan.specs.declared.plan.TalkKind.TheVariants.{Aaf, Am824};
 ghost use Rattle.talk_plan.specs.declared.plan.CrfPlan.{CrfPlan};
 ghost use Rattle.talk_plan.specs.declared.plan.TalkPlan.{TalkPlan};
@@ -107,22 +108,22 @@ pub fn capture_reads_back()
     ensures refusal { (plan : TalkPlan) (input : List ℕ) → IsPlan plan → length input ≤ most_input → first_refusal (capture plan input) ≡ None }
 {}
 
-/// The journal of a plan conforms: its talker keeps every rule that a listener relies on.
+/// The journal of a plan conforms: its talker keeps every rule that a listener relies on. It keeps the further rules of regular
+/// talkers, too.
 pub fn journal_conforms()
-    ensures { (plan : TalkPlan) (input : List ℕ) → IsPlan plan → plan.id < 2 ^ 64 → length input ≤ most_input → IsConforming (pos 0) (journal plan input) }
+    ensures conforms { (plan : TalkPlan) (input : List ℕ) → IsPlan plan → plan.id < 2 ^ 64 → length input ≤ most_input → IsConforming (pos 0) (journal plan input) }
+    ensures regular { (plan : TalkPlan) (input : List ℕ) → IsPlan plan → length input ≤ most_input → IsRegular (journal plan input).times }
 {}
 
 /// The capture of a plan delivers its journal: its records carry the packets of the stream and of its clock, each once, and
 /// without a clock those of the stream in their order. If each packet is stamped, it does so to every listener. For a sparse
 /// stream, or one of AM824 with fewer data blocks in a packet than its interval, it does so to every listener that expects
-/// packets by about the plan's lead before their first instants. Packets of H.264 are delivered if listeners accept their kind.
+/// packets by about the plan's lead before their first instants.
 pub fn capture_delivers()
     ensures carries { (plan : TalkPlan) (input : List ℕ) (lead : ℕ) → IsPlan plan → plan.crf ≡ None → length input ≤ most_input → Expects plan lead
         → AllCarry (journal plan input) lead (range_with_len 0 (journal plan input).times.packets) (records plan input) }
-    ensures delivers { (plan : TalkPlan) (input : List ℕ) (clock : Option ℕ) (lead : ℕ) → IsAudioPlan plan → plan.id < 2 ^ 64 → length input ≤ most_input
+    ensures delivers { (plan : TalkPlan) (input : List ℕ) (clock : Option ℕ) (lead : ℕ) → IsPlan plan → plan.id < 2 ^ 64 → length input ≤ most_input
         → Expects plan lead → Delivers (journal plan input) clock lead (records plan input) }
-    ensures delivers_all { (plan : TalkPlan) (input : List ℕ) (clock : Option ℕ) (lead : ℕ) → IsPlan plan → plan.id < 2 ^ 64 → length input ≤ most_input
-        → Expects plan lead → IsReadKind (journal plan input).times.kind → Delivers (journal plan input) clock lead (records plan input) }
 {
     records_of_both_are_delivered();
 }
@@ -137,7 +138,7 @@ pub fn losses_are_delivered()
     ensures delivers { (plan : TalkPlan) (input places : List ℕ) (clock : Option ℕ) (lead : ℕ) → IsAudioPlan plan → plan.id < 2 ^ 64
         → length input ≤ most_input → Expects plan lead → Delivers (journal plan input) clock lead (whole_records (capture_of (frames_at plan input places))) }
     ensures delivers_all { (plan : TalkPlan) (input places : List ℕ) (clock : Option ℕ) (lead : ℕ) → IsPlan plan → plan.id < 2 ^ 64 → length input ≤ most_input
-        → Expects plan lead → IsReadKind (journal plan input).times.kind → StaysNear plan input (frames_at plan input places)
+        → Expects plan lead → StaysNear plan input (frames_at plan input places)
         → Delivers (journal plan input) clock lead (whole_records (capture_of (frames_at plan input places))) }
 {
     records_of_both_are_delivered();

@@ -15,7 +15,7 @@ use Rattle.sample_schedule.specs.Limits.{IsItem}
 use Rattle.time_unfold.specs.Time.{IsArrival, unfolded}
 use Rattle.packet_journal.specs.Deliveries.{Delivery}
 use Rattle.listener.specs.Items.{given_by, lost_for, made_entry}
-use Rattle.listener.specs.Units.{events, fragment_in, mark_of}
+use Rattle.listener.specs.Units.{fragment_in, mark_of}
 use Rattle.listener.specs.Gathering.{Gathered, lost_item, item_entry, left, HasUnits}
 
 -- ---- what a delivery does

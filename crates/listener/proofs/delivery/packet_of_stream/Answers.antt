@@ -1,4 +1,4 @@
-use Rattle.std.proofs.Common.{◌≡◌, ap, sym, ◌∙◌}
+use Rattle.std.proofs.Common.{ap, sym, ◌∙◌}
 use Rattle.avtp_header.specs.Header.{peeked_of}
 use Rattle.packet_journal.specs.Deliveries.{belongs, is_avtp, packet_in, stream_kinds}
 use Rattle.listener.specs.Streams.{stream_packet}

@@ -12,7 +12,7 @@ use Rattle.talker.specs.Journal.{journal}
 use Rattle.talked_headline.specs.Premises.{captured, part_sent}
 use Rattle.std.specs.List.{range_with_len}
 use Rattle.talked_headline.proofs.Fragments.{all_belong, all_copies, few_packets, first_before, first_deliveries, frames_of, numbered, numbered_long, parts_are, same_byte, unit_size}
-use Rattle.talked_headline.proofs.Talked.{carries_at, early_frame, first_kept, stream_is, video_expects, video_plan, video_read}
+use Rattle.talked_headline.proofs.Talked.{carries_at, early_frame, first_kept, stream_is, video_expects, video_plan}
 use Rattle.talked_headline.proofs.laws.talked_unit_is_welcome.Goals as goal
 
 pub returns : goal.returns
@@ -23,7 +23,7 @@ returns c plan input places listen from n l room =
     let taken = range_with_len from (n - from) ++ n ∷ places in
     let all = captured plan input taken in
     let low = first_before (part_sent input) from n room.packets in
-    let conforming = c.journal_conforms.ensures plan input talked l.stream_id l.limit in
+    let conforming = c.journal_conforms.ensures.conforms plan input talked l.stream_id l.limit in
     let carry = c.capture_delivers.ensures.carries plan input listen.lead talked l.talked.crf l.limit (video_expects plan l.last_stamp listen.lead l.kind) in
     let early = λ (k : ℕ) (known : k < p.times.packets). early_frame plan input k (c.packets_are_sent_in_time.ensures.alone plan input k talked l.talked.crf l.limit known) in
     let carries = λ (k : ℕ) (f : SentFrame) (known : k < p.times.packets) (there : slice_get (frames plan input) k ≡ Some f). carries_at p listen.lead 0 p.times.packets k k (frames plan input) f (omega arith) carry known there in
@@ -40,7 +40,7 @@ returns c plan input places listen from n l room =
     c.losses_are_delivered.ensures.records plan input taken talked l.limit
     ∙ (ap (λ (fs : List SentFrame). map record_of fs) (front.same (n ∷ places) ∙ ap (λ (fs : List SentFrame). front.sent ++ fs) (first_kept plan input places n found.0 found.1.there))
     ∙ map-append record_of front.sent (found.0 ∷ frames_at plan input places)) in
-    let reads = λ (k : ℕ) (s : Record) (h : Carries p listen.lead k s). c.carried_packet_is_delivered.ensures.belongs (pos 0) p listen.lead k s conforming (video_read plan input l.last_stamp l.kind) h in
+    let reads = λ (k : ℕ) (s : Record) (h : Carries p listen.lead k s). c.carried_packet_is_delivered.ensures.belongs (pos 0) p listen.lead k s conforming h in
     let copies = λ (k frame : ℕ) (s : Record) (h : Carries p listen.lead k s). c.carried_packet_is_delivered.ensures.copy p listen.lead k frame s h in
     let last_carries = carries n found.0 room.known found.1.there in
     let listed = first_deliveries listen.stream p.stream listen.clock all rs r rest (l.stream ∙ stream_is plan input) records (all_belong p listen.lead from (n - from) rs reads front.carry) (reads n r last_carries) in

@@ -4,7 +4,6 @@ use Rattle.listener.specs.Laws.{IsWelcome}
 use Rattle.talker.specs.Journal.{journal}
 use Rattle.talker.proofs.TalkLemmas.{audio_plan}
 use Rattle.talked_headline.specs.Premises.{captured}
-use Rattle.talked_headline.proofs.Talked.{kind_read}
 use Rattle.talked_presented.proofs.Anywhere.{caught, further_here, in_place}
 use Rattle.talked_presented.proofs.laws.talked_copy_is_further.Goals as goal
 
@@ -15,11 +14,11 @@ returns c plan input before between after n listen first second =
     let front = before ++ n ∷ between in
     let ks = front ++ n ∷ after in
     let is_plan = audio_plan plan l.talked in
-    let conforming = c.journal_conforms.ensures plan input is_plan l.id l.limit in
+    let conforming = c.journal_conforms.ensures.conforms plan input is_plan l.id l.limit in
     let w = caught plan input ks listen l second.alone second.without second.sent (c.talked_is_heard.ensures plan input ks listen l)
     (c.losses_are_delivered.ensures.records plan input ks is_plan l.limit)
     (c.capture_delivers.ensures.carries plan input listen.lead is_plan second.alone l.limit l.lead)
-    (λ k r. c.carried_packet_is_delivered.ensures.belongs (pos 0) p listen.lead k r conforming (kind_read plan input l.talked))
+    (λ k r. c.carried_packet_is_delivered.ensures.belongs (pos 0) p listen.lead k r conforming)
     (λ k frame r. c.carried_packet_is_delivered.ensures.copy p listen.lead k frame r) in
     let made = c.talked_copy_is_welcome.ensures plan input before (between ++ n ∷ after) n listen first in
     let same : before ++ n ∷ (between ++ n ∷ after) ≡ ks = sym (append_assoc before (n ∷ between) (n ∷ after)) in

@@ -3,20 +3,16 @@ use Rattle.stream_journal.specs.Delivered.{AreNear}
 use Rattle.talker.specs.Frames.{frames, packet_numbers, records}
 use Rattle.talker.specs.Journal.{journal}
 use Rattle.talker.proofs.LawLemmas.{all_carry, every_carried, whole_near}
-use Rattle.talker.proofs.TalkLemmas.{audio_plan, plan_keeps}
+use Rattle.talker.proofs.TalkLemmas.{plan_keeps}
 use Rattle.talker.proofs.laws.capture_delivers.Goals as goal
 
 pub returns-clause-carries : goal.returns-clause-carries
 returns-clause-carries c = λ plan input lead p none limit expects. all_carry plan input lead p none limit expects
 
-pub returns-clause-delivers_all : goal.returns-clause-delivers_all
-returns-clause-delivers_all c = λ plan input clock lead p id limit expects read.
+pub returns-clause-delivers : goal.returns-clause-delivers
+returns-clause-delivers c = λ plan input clock lead p id limit expects.
     let is = plan_keeps plan input p limit in
     let carried = every_carried plan input lead p limit expects in
     let near = is.near (packet_numbers (frames plan input)) (whole_near plan input p limit) in
     c.records_of_both_are_delivered.ensures (pos 0) (journal plan input) clock lead carried.origins (records plan input)
-    (is.conforms id) read carried.carry (subst (λ (numbers : List ℕ). AreNear (journal plan input).times numbers) (sym carried.numbers) near)
-
-pub returns-clause-delivers : goal.returns-clause-delivers
-returns-clause-delivers c = λ plan input clock lead p id limit expects.
-    returns-clause-delivers_all c plan input clock lead (audio_plan plan p) id limit expects ((plan_keeps plan input (audio_plan plan p) limit).read p.kind)
+    (is.conforms id) carried.carry (subst (λ (numbers : List ℕ). AreNear (journal plan input).times numbers) (sym carried.numbers) near)

@@ -12,18 +12,17 @@ returns-clause-records c = λ plan input places p limit. written_records capture
     (kept_spelled plan input places p limit)
 
 pub returns-clause-delivers_all : goal.returns-clause-delivers_all
-returns-clause-delivers_all c = λ plan input places clock lead p id limit expects read near.
+returns-clause-delivers_all c = λ plan input places clock lead p id limit expects near.
     let records = map record_of (frames_at plan input places) in
     let is = plan_keeps plan input p limit in
     let carried = kept_carried plan input places lead p limit expects in
     rw (written_records capture_style records (kept_spelled plan input places p limit))
     (c.records_of_both_are_delivered.ensures (pos 0) (journal plan input) clock lead carried.origins records
-    (is.conforms id) read carried.carry
+    (is.conforms id) carried.carry
     (subst (λ (numbers : List ℕ). AreNear (journal plan input).times numbers) (sym carried.numbers)
     (is.near (packet_numbers (frames_at plan input places)) near)))
 
 pub returns-clause-delivers : goal.returns-clause-delivers
 returns-clause-delivers c = λ plan input places clock lead p id limit expects.
     returns-clause-delivers_all c plan input places clock lead (audio_plan plan p) id limit expects
-    ((plan_keeps plan input (audio_plan plan p) limit).read p.kind)
     (audio_near plan input (frames_at plan input places) p)

@@ -1,0 +1,45 @@
+-- A small capture of a talker with a clock.
+use Rattle.std.specs.Prelude.{ℕ, pos, List, [], ◌∷◌, length, None, Some}
+use Rattle.pcap_frames.specs.Capture.{Record}
+use Rattle.pcap_frames.specs.Frame.{Frame, frame_spelling}
+use Rattle.aaf_format.specs.Aaf.{aaf_spelling}
+use Rattle.crf_format.specs.Crf.{crf_spelling}
+use Rattle.packet_journal.specs.Deliveries.{avtp_ethertype}
+use Rattle.packet_journal.specs.Delivered.{Origin, OfClock, OfStream}
+use Rattle.packet_journal.specs.Examples.{clock_data, silent}
+use Rattle.listener.specs.declared.plan.ListenPlan.{ListenPlan}
+
+-- an Ethernet frame with a packet of AVTP
+abbrev pub framed : List ℕ → Frame
+framed packet = record { dst = 0x91E0F000FE00; src = 0x020000000001; tag = None; ethertype = avtp_ethertype; start = 14; payload = packet }
+
+-- a record of a capture with a packet of AVTP, captured at this time
+abbrev pub recorded : ℕ → List ℕ → Record
+recorded arrival packet = record { arrival = pos arrival; orig_len = length packet; bytes = frame_spelling (framed packet) }
+
+-- packet n of `clocked_packets`, captured at this time
+abbrev pub recorded_stream : ℕ → ℕ → Record
+recorded_stream arrival n = recorded arrival (aaf_spelling (silent n))
+
+-- packet m of the clock of `clocked_packets`, captured at this time
+abbrev pub recorded_clock : ℕ → ℕ → Record
+recorded_clock arrival m = recorded arrival (crf_spelling (clock_data m))
+
+-- What a capture of `clocked_packets` has: packet 34 comes before packet 33, which comes twice.
+abbrev pub swapped : List Origin
+swapped = OfClock 0 ∷ OfClock 1 ∷ OfStream 34 ∷ OfStream 33 ∷ OfStream 33 ∷ []
+
+-- the records of that capture
+abbrev pub swapped_records : List Record
+swapped_records =
+    recorded_clock 1003000000 0 ∷
+    recorded_clock 1003100000 1 ∷
+    recorded_stream 1003200000 34 ∷
+    recorded_stream 1003300000 33 ∷
+    recorded_stream 1003400000 33 ∷
+    []
+
+-- a listener with the clock of `clocked_packets`, which adds a microsecond to its timestamps, with the other options as `listen`
+-- has them by default
+abbrev pub clocked_listener : ListenPlan
+clocked_listener = record { stream = 0x0200000000010001; clock = Some 0x0200000000010002; buffer = 4096; room = 67108864; look = 0; lead = 2000000; shift = pos 1000 }

@@ -1,0 +1,33 @@
+-- What a listener shows of a capture whose first records are a talker's.
+use Rattle.std.specs.Prelude.{◌≡◌, ◌+◌, ◌<◌, ℕ, List, [], ◌∷◌, ◌++◌, length, All, AllPairs, Any, slice_get, Some}
+use mathlib.Core.List.{IsPrefix}
+use Rattle.pcap_frames.specs.Capture.{Record}
+use Rattle.packet_journal.specs.Packets.{PacketJournal}
+use Rattle.sample_schedule.specs.declared.entry.Entry.TheVariants.{Item as OfItem}
+use Rattle.sample_schedule.specs.declared.item.Item.{Item}
+use Rattle.sample_schedule.specs.declared.shown.Reason.TheVariants.{Repeat}
+use Rattle.sample_schedule.specs.declared.shown.Shown.TheVariants.{Flag}
+use Rattle.listener.specs.declared.plan.ListenPlan.{ListenPlan}
+use Rattle.listener.specs.Heard.{deliveries_of, due_of, items_in, shown_of}
+use Rattle.listener.specs.Items.{MadeItem, items_so_far}
+use Rattle.listener.specs.Laws.{AreOther, ComesBefore, IsFurther, IsHeardFrom, IsPresentedOf, IsWelcome, by_clock, presented_of, shown_by, shown_of_frame, verdict_of}
+
+-- the item at a place is judged by these records alone: `look` more items follow it, whatever records come
+abbrev pub IsSettled : ListenPlan → List Record → ℕ → Type 0
+IsSettled plan records place = place + plan.look < length (items_so_far (deliveries_of plan records))
+
+-- What is shown of records and of any others after them begins with what is due of the first ones, and that is as the headline
+-- says. Each batch is the talker's packet that its item was made of, with its bytes and at its instants; no packet is presented
+-- twice; and first instants never fall. Of the items that are judged by the first records, those that must be presented are,
+-- further copies are flagged as repeats, and each is shown once, as its verdict says.
+pub record IsTrueFront (p : PacketJournal) (plan : ListenPlan) (records others : List Record) : Type 0 where
+  pub begins : IsPrefix (due_of plan records) (shown_of plan (records ++ others))
+  pub genuine : All (IsHeardFrom (by_clock plan) (items_in plan records) p plan.lead) (presented_of (due_of plan records))
+  pub once : AllPairs (AreOther (by_clock plan) p) (presented_of (due_of plan records))
+  pub in_order : AllPairs ComesBefore (presented_of (due_of plan records))
+  pub known : (place n : ℕ) (made : MadeItem) → IsSettled plan records place → IsWelcome p plan records place n made
+      → Any (IsPresentedOf (by_clock plan) p n made) (presented_of (shown_of plan (records ++ others)))
+  pub repeats : (place n : ℕ) (made : MadeItem) → IsSettled plan records place → IsFurther p plan records place n made
+      → shown_of_frame made.last.frame (shown_of plan (records ++ others)) ≡ Flag made.last.frame made.last.seq Repeat ∷ []
+  pub each_shown : (place : ℕ) (made : MadeItem) (item : Item) → IsSettled plan records place → slice_get (items_in plan records) place ≡ Some made → made.entry ≡ OfItem item
+      → shown_of_frame made.last.frame (shown_of plan (records ++ others)) ≡ shown_by made.last (verdict_of plan records place item) ∷ []

@@ -1,0 +1,4 @@
+pub mod Fronts
+pub mod Anywhere
+pub mod Examples
+pub mod Completed

@@ -1,0 +1,96 @@
+//! Laws of a listener that is given a capture piece by piece. Each call only states its contract, and does nothing.
+
+ghost use Rattle.std.specs.Prelude.{Any, List, None, ℕ, ℤ, false, true, [], ◌∷◌, ◌++◌, ◌≡◌, ◌<◌};
+ghost use Rattle.cvf_format.specs.Cvf.{cvf_subtype};
+ghost use Rattle.cvf_format.specs.declared.piece.Piece.TheVariants.{Whole};
+ghost use Rattle.cvf_format.specs.Stretches.{piece};
+ghost use Rattle.sample_schedule.specs.declared.shown.Reason.TheVariants.{Repeat};
+ghost use Rattle.sample_schedule.specs.declared.shown.Shown.{Shown};
+ghost use Rattle.sample_schedule.specs.declared.shown.Shown.TheVariants.{Flag};
+ghost use Rattle.pcap_frames.specs.Capture.{Record, whole_records};
+ghost use Rattle.stream_journal.specs.Delivered.{IsAudioKind};
+ghost use Rattle.stream_journal.specs.Journal.{H264, Part};
+ghost use Rattle.packet_journal.specs.Deliveries.{Delivery};
+ghost use Rattle.packet_journal.specs.Packets.{PacketJournal};
+ghost use Rattle.listener.specs.declared.plan.ListenPlan.{ListenPlan};
+ghost use Rattle.listener.specs.Feeding.{Feeding, is_ended, out as out_of};
+ghost use Rattle.listener.specs.Heard.{deliveries_of, due_of};
+ghost use Rattle.listener.specs.Headline.{KeepsHeadline};
+ghost use Rattle.listener.specs.Items.{MadeItem, events_to, made_of_one, unit_by};
+ghost use Rattle.listener.specs.Units.{flaw_of};
+ghost use Rattle.listener.specs.Laws.{HearsTalker, IsFurther, IsPresentedOf, IsUnitFrom, IsWelcome, by_clock, presented_of, shown_of_frame};
+ghost use Rattle.listener.specs.Listening.{ListenState, is_closed, out};
+ghost use Rattle.listener_laws.specs.Anywhere.{ComesInTime, MustBePresented};
+ghost use Rattle.listener_laws.specs.Completed.{completed};
+ghost use Rattle.listener_laws.specs.Fronts.{IsTrueFront};
+
+use listener::laws::{headline_holds, units_are_true, what_is_due_stays};
+
+/// If the first records of a capture are a talker's, what is due of them is as the headline says, whatever records follow: a
+/// capture that is cut short, or has records of others after them, is shown with this beginning.
+pub fn fronts_are_true()
+    ensures { (shift : ℤ) (p : PacketJournal) (plan : ListenPlan) (records others : List Record) → HearsTalker shift p plan records → IsTrueFront p plan records others }
+{
+    headline_holds();
+    what_is_due_stays();
+}
+
+/// A capture whose reading ends early has what a listener hears of a talker, if the whole one has. So what is due of the records
+/// that were read, before a fault or a limit, is a true front.
+pub fn shorter_captures_are_heard()
+    ensures { (shift : ℤ) (p : PacketJournal) (plan : ListenPlan) (records others : List Record) → HearsTalker shift p plan (records ++ others) → HearsTalker shift p plan records }
+{}
+
+/// What a listener gives of a talker's records is as the headline says: all of it once the records have ended, and before that
+/// what is due, which is a true front. `RecordListener::next_out` gives just these items, one by one.
+pub fn records_are_given_truly()
+    ensures ended { (shift : ℤ) (p : PacketJournal) (listener : ListenState) (records : List Record) → is_closed listener ≡ true → HearsTalker shift p listener.plan records → KeepsHeadline shift p listener.plan records (out listener records) }
+    ensures due { (shift : ℤ) (p : PacketJournal) (listener : ListenState) (records others : List Record) → is_closed listener ≡ false → HearsTalker shift p listener.plan records → (out listener records ≡ due_of listener.plan records) × IsTrueFront p listener.plan records others }
+{
+    headline_holds();
+    fronts_are_true();
+}
+
+/// The same of a capture's bytes, in pieces of any length. `Listener::next_out` gives just these items, one by one.
+pub fn bytes_are_given_truly()
+    ensures ended { (shift : ℤ) (p : PacketJournal) (fed : Feeding) (bytes : List ℕ) → is_ended fed ≡ true → HearsTalker shift p fed.listener.plan (whole_records bytes) → KeepsHeadline shift p fed.listener.plan (whole_records bytes) (out_of fed bytes) }
+    ensures due { (shift : ℤ) (p : PacketJournal) (fed : Feeding) (bytes : List ℕ) (others : List Record) → is_ended fed ≡ false → HearsTalker shift p fed.listener.plan (whole_records bytes) → (out_of fed bytes ≡ due_of fed.listener.plan (whole_records bytes)) × IsTrueFront p fed.listener.plan (whole_records bytes) others }
+{
+    records_are_given_truly();
+}
+
+/// A copy of an audio packet must be presented, wherever it is in a capture and whatever the capture loses, repeats or reorders,
+/// for listeners with the talker's clock and without: if the packets that came time it, nothing up to it was captured after its
+/// first instant, no copy of it came before, and the buffer has room for it.
+pub fn copies_anywhere_are_welcome()
+    ensures { (shift : ℤ) (p : PacketJournal) (plan : ListenPlan) (records : List Record) (place n : ℕ) (d : Delivery) → HearsTalker shift p plan records → IsAudioKind p.times.kind → MustBePresented p plan records place n d → IsWelcome p plan records place n (made_of_one d) }
+{}
+
+/// If the packet comes again, anywhere later, and nothing up to that copy was captured after the packet's first instant, the copy
+/// must be flagged as a repeat.
+pub fn copies_anywhere_are_further()
+    ensures { (shift : ℤ) (p : PacketJournal) (plan : ListenPlan) (records : List Record) (earlier place n : ℕ) (made : MadeItem) (d : Delivery) → HearsTalker shift p plan records → IsAudioKind p.times.kind → IsWelcome p plan records earlier n made → earlier < place
+        → ComesInTime p plan records place n d → IsFurther p plan records place n (made_of_one d) }
+{}
+
+/// The headline alone demands this, wherever a copy is in a capture, with a clock or without: what keeps it presents the copy if
+/// that must be presented, and flags a further copy as a repeat.
+pub fn headline_demands()
+    ensures presented { (shift : ℤ) (p : PacketJournal) (plan : ListenPlan) (records : List Record) (shown : List Shown) (place n : ℕ) (d : Delivery) → KeepsHeadline shift p plan records shown → HearsTalker shift p plan records → IsAudioKind p.times.kind → MustBePresented p plan records place n d
+        → Any (IsPresentedOf (by_clock plan) p n (made_of_one d)) (presented_of shown) }
+    ensures repeated { (shift : ℤ) (p : PacketJournal) (plan : ListenPlan) (records : List Record) (shown : List Shown) (earlier place n : ℕ) (made : MadeItem) (d : Delivery) → KeepsHeadline shift p plan records shown → HearsTalker shift p plan records → IsAudioKind p.times.kind
+        → IsWelcome p plan records earlier n made → earlier < place → ComesInTime p plan records place n d → shown_of_frame d.frame shown ≡ Flag d.frame d.seq Repeat ∷ [] }
+{
+    copies_anywhere_are_welcome();
+    copies_anywhere_are_further();
+}
+
+/// If a packet of H.264 completes a unit after those before it, which `Assembler::push` answers with `Whole`, then the unit is one
+/// of the talker's: it was put together from one copy of each packet of that unit, in their order, and has its bytes and its
+/// instant.
+pub fn assembled_units_are_true()
+    ensures { (shift : ℤ) (p : PacketJournal) (plan : ListenPlan) (records : List Record) (part : ℕ → Part) (before : List Delivery) (d : Delivery) (rest : List Delivery) → HearsTalker shift p plan records → p.times.kind ≡ H264 part → deliveries_of plan records ≡ before ++ d ∷ rest
+        → d.subtype ≡ cvf_subtype → flaw_of d ≡ None → piece (events_to before d) ≡ Whole → (n : ℕ) × IsUnitFrom p part plan.lead n (unit_by before d) (completed before d) }
+{
+    units_are_true();
+}

@@ -1,0 +1,38 @@
+-- Further rules that a regular talker keeps, as `avtp talk` does. Nothing that is promised of listeners rests on them. They are
+-- this project's own if no standard is named.
+use Rattle.std.specs.Prelude.{◌≡◌, ℕ, ◌+◌, ◌*◌, ◌^◌, ◌<◌, ◌≤◌, Some}
+use Rattle.clock_track.specs.declared.pair.Pair.{Pair}
+use Rattle.clock_track.specs.Pairs.{period}
+use Rattle.stream_journal.specs.Clocks.{ClockJournal, Follows, InOneRun, IsPlace, Place, pair_at, point}
+use Rattle.stream_journal.specs.Conforming.{HoldsEight}
+use Rattle.stream_journal.specs.Journal.{Journal}
+
+-- all instants lie between 0 and 2^62
+pub record AreInstants (j : Journal) : Type 0 where
+  pub due : (n : ℕ) → n < j.packets → j.due n ≤ 2 ^ 62
+  pub stamp : (n instant : ℕ) → n < j.packets → j.stamp n ≡ Some instant → instant ≤ 2 ^ 62
+
+-- two periods of the clock differ by at most a quarter of the nominal spacing of two events
+pub record IsSteady (first second : Pair) : Type 0 where
+  pub longer : 4 * (period second * second.up) ≤ 4 * (period first * first.up) + 1000000000 * first.down
+  pub shorter : 4 * (period first * first.up) ≤ 4 * (period second * second.up) + 1000000000 * first.down
+
+-- a clock with a code of pull of the standard's (IEEE 1722-2016, 10), even periods, and runs that do not overlap
+pub record IsRegularClock (c : ClockJournal) : Type 0 where
+  pub base : 1 ≤ c.base
+  pub pull : c.pull ≤ 5
+  pub instants : (p : Place) → IsPlace c p → point c p ≤ 2 ^ 62
+  -- adjacent periods of a run differ little
+  pub steady : (p q r : Place) → Follows c p q → Follows c q r → InOneRun c p q → InOneRun c q r
+      → IsSteady (pair_at c p q) (pair_at c q r)
+  -- the first point of a new run is at least the last period after the last point of the run before
+  pub renewed : (p q r : Place) → Follows c p q → Follows c q r → InOneRun c p q → ¬ InOneRun c q r
+      → point c q + period (pair_at c p q) ≤ point c r
+  pub holds : HoldsEight c.packets c.mr
+
+-- the journal keeps these rules, too
+pub record IsRegular (j : Journal) : Type 0 where
+  pub instants : AreInstants j
+  -- packets that are due at one instant, as those of an access unit of H.264, are adjacent
+  pub together : (n k m : ℕ) → n ≤ k → k ≤ m → m < j.packets → j.due n ≡ j.due m → j.due k ≡ j.due n
+  pub clock : IsRegularClock j.clock
