@@ -1,3 +1,2 @@
 -- Kept for proofs alone: no clause of a public call rests on what lies here.
 pub mod FileShelf
-pub mod Parts

@@ -1,8 +1,8 @@
 //! Which file a path leads to.
 
-use std::fs;
 use std::os::unix::fs::MetadataExt;
 use std::rt::Files;
+use std::{fs, io};
 
 /// The path of standard output.
 pub const STANDARD_OUTPUT: &str = "/dev/stdout";
@@ -24,4 +24,9 @@ pub fn identity_of<R: Files>(files: &R, path: &str) -> Option<FileIdentity> {
         device: metadata.dev(),
         number: metadata.ino(),
     })
+}
+
+/// Why a file is not written over.
+pub fn already_used() -> io::Error {
+    io::Error::other("the run reads or writes this file already")
 }

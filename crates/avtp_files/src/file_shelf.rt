@@ -1,26 +1,28 @@
 //! Real files.
 
-ghost use Rattle.std.specs.Prelude.{◌≡◌, ◌<◌, ◌≤◌, ℕ, None, length, IsSome, IfSome};
+ghost use Rattle.std.specs.Prelude.{◌≡◌, ◌<◌, ◌≤◌, ℕ, None, length, IsSome, IfOk};
+ghost use Rattle.std.specs.Io.KnownBytes.{ReadConsumes, WriteAppends};
 ghost use Rattle.std.proofs.Common.{rules};
 ghost use Rattle.avtp_files.specs.Entries.{entry_at};
 ghost use Rattle.avtp_files.specs.FileShelf.{known_at, real_slots};
 ghost use Rattle.avtp_files.specs.state.FileShelf.{real_state};
-ghost use Rattle.avtp_files.specs.state.Parts.{GivesPart, TakesPart};
 
-use crate::file_identity::{FileIdentity, STANDARD_OUTPUT, identity_of};
+use crate::fault_teller::FaultTeller;
+use crate::file_identity::{FileIdentity, STANDARD_OUTPUT, already_used, identity_of};
 use crate::part::write_part;
 use crate::shelf::{Shelf, Slot};
 use crate::slots::Slots;
 use avtp_base::{Failed, NoMemory, OpenFault};
-use std::alloc::Global;
+use std::alloc::{Alloc, Global};
 use std::fs;
-use std::io::{Read, Write};
+use std::io::{self, Eprint, Read, Write};
 use std::rt::Files;
 
-/// A real file that is open, and whether it was made for writing.
+/// A real file that is open, its path, and whether it was made for writing.
 #[derive(Drop)]
 pub struct RealFile<F> {
     file: F,
+    path: String,
     made: bool,
 }
 
@@ -31,13 +33,15 @@ pub struct RealFile<F> {
 #[derive(Drop)]
 pub struct FileShelf<'a, R: Files> {
     rt: &'a R,
+    alloc: Global,
+    teller: FaultTeller<&'a R>,
     live: Slots<RealFile<R::File>>,
     inputs: Vec<FileIdentity>,
     reading_faults: u64,
     writing_faults: u64,
 }
 
-impl<'a, R: Files> FileShelf<'a, R> {
+impl<'a, R: Files + Eprint + Alloc> FileShelf<'a, R> {
     pub fn new(alloc: Global, rt: &'a R) -> Self
         ensures closed { (k : ℕ) → real_slots result.live k ≡ None }
         ensures reading { result.reading_faults ≡ 0 }
@@ -45,10 +49,31 @@ impl<'a, R: Files> FileShelf<'a, R> {
     {
         FileShelf {
             rt,
+            alloc,
+            teller: FaultTeller::new(rt, None),
             live: Slots::new(alloc),
             inputs: Vec::new(alloc),
             reading_faults: 0,
             writing_faults: 0,
+        }
+    }
+
+    /// The same shelf, which also tells each fault on standard error, after the name of the program.
+    pub fn telling(self, program: &'static str) -> Self
+        ensures live { result.live ≡ self.entry.live }
+        ensures reading { result.reading_faults ≡ self.entry.reading_faults }
+        ensures writing { result.writing_faults ≡ self.entry.writing_faults }
+    {
+        FileShelf {
+            teller: FaultTeller::new(self.rt, Some(program)),
+            ..self
+        }
+    }
+
+    /// Tells why a call failed on the file in a slot.
+    fn tell(&self, slot: Slot, error: &io::Error) {
+        if let Some(open) = self.live.get(slot) {
+            self.teller.tell(open.path.as_str(), error);
         }
     }
 
@@ -66,6 +91,14 @@ impl<'a, R: Files> FileShelf<'a, R> {
         Ok(())
     }
 
+    /// Makes the file at a path, or empties it, unless the path leads to a file that must not be written.
+    fn make(&self, name: &str) -> io::Result<R::File> {
+        if self.is_taken(name) {
+            return Err(already_used());
+        }
+        fs::create(self.rt, name)
+    }
+
     /// Whether a path leads to a file that was opened for reading, or to standard output.
     fn is_taken(&self, name: &str) -> bool {
         match identity_of(self.rt, name) {
@@ -78,7 +111,7 @@ impl<'a, R: Files> FileShelf<'a, R> {
     }
 }
 
-impl<R: Files> Shelf for FileShelf<'_, R> {
+impl<R: Files + Eprint + Alloc> Shelf for FileShelf<'_, R> {
     ghost use Rattle.std.specs.Io.KnownBytes.{ReadConsumes, WriteAppends};
     ghost use Rattle.avtp_files.specs.FileShelf.{known_at};
 
@@ -94,14 +127,22 @@ impl<R: Files> Shelf for FileShelf<'_, R> {
         let Ok(slot) = self.live.free_slot() else {
             return Err(OpenFault::Memory);
         };
-        let Ok(file) = fs::open(self.rt, name) else {
+        let Ok(path) = String::from_str(self.alloc, name) else {
+            return Err(OpenFault::Memory);
+        };
+        let opened = fs::open(self.rt, name);
+        if let Err(error) = &opened {
+            self.teller.tell(name, error);
+        }
+        let Ok(file) = opened else {
             self.reading_faults = self.reading_faults.saturating_add(1);
             return Err(OpenFault::Failed);
         };
         if self.keep_input(name).is_err() {
             return Err(OpenFault::Memory);
         }
-        self.live.set(slot, Some(RealFile { file, made: false }));
+        let made = false;
+        self.live.set(slot, Some(RealFile { file, path, made }));
         Ok(slot)
     }
 
@@ -109,22 +150,27 @@ impl<R: Files> Shelf for FileShelf<'_, R> {
         let Ok(slot) = self.live.free_slot() else {
             return Err(OpenFault::Memory);
         };
-        if self.is_taken(name) {
-            self.writing_faults = self.writing_faults.saturating_add(1);
-            return Err(OpenFault::Failed);
+        let Ok(path) = String::from_str(self.alloc, name) else {
+            return Err(OpenFault::Memory);
+        };
+        let opened = self.make(name);
+        if let Err(error) = &opened {
+            self.teller.tell(name, error);
         }
-        let Ok(file) = fs::create(self.rt, name) else {
+        let Ok(file) = opened else {
             self.writing_faults = self.writing_faults.saturating_add(1);
             return Err(OpenFault::Failed);
         };
-        self.live.set(slot, Some(RealFile { file, made: true }));
+        let made = true;
+        self.live.set(slot, Some(RealFile { file, path, made }));
         Ok(slot)
     }
 
     fn read(&mut self, slot: Slot, buf: &mut [u8]) -> Result<usize, Failed> {
         match read_open(&mut self.live, slot, buf) {
-            Some(moved) => Ok(moved),
-            None => {
+            Ok(moved) => Ok(moved),
+            Err(error) => {
+                self.tell(slot, &error);
                 self.reading_faults = self.reading_faults.saturating_add(1);
                 Err(Failed)
             }
@@ -133,8 +179,9 @@ impl<R: Files> Shelf for FileShelf<'_, R> {
 
     fn write(&mut self, slot: Slot, piece: &[u8]) -> Result<usize, Failed> {
         match write_open(&mut self.live, slot, piece) {
-            Some(taken) => Ok(taken),
-            None => {
+            Ok(taken) => Ok(taken),
+            Err(error) => {
+                self.tell(slot, &error);
                 self.writing_faults = self.writing_faults.saturating_add(1);
                 Err(Failed)
             }
@@ -146,36 +193,40 @@ impl<R: Files> Shelf for FileShelf<'_, R> {
     }
 }
 
-// Reads from the file in a live slot. `None` if that failed.
+// Reads from the file in a live slot.
 fn read_open<F: Read + Drop>(
     live: &mut Slots<RealFile<F>>,
     slot: Slot,
     buf: &mut [u8],
-) -> Option<usize>
+) -> io::Result<usize>
     requires { IsSome (entry_at live.old.entries.items slot.0) }
-    ensures within { IfSome result (λ n. n ≤ length buf.new) }
-    ensures moved { GivesPart (known_at F.remaining live.old slot.0) (known_at F.remaining live.new slot.0) buf.new result }
+    ensures within { IfOk result (λ n. n ≤ length buf.new) }
+    ensures moved { ReadConsumes (known_at F.remaining live.old slot.0) (known_at F.remaining live.new slot.0) result buf.new }
     ensures same { (k : ℕ) → real_slots live.new k ≡ real_slots live.old k }
 {
-    let mut open = live.take(slot)?;
-    let moved = open.file.read(buf).ok();
+    let Some(mut open) = live.take(slot) else {
+        unreachable!()
+    };
+    let moved = open.file.read(buf);
     live.set(slot, Some(open));
     moved
 }
 
-// Writes to the file in a live slot. `None` if that failed, or took nothing.
+// Writes to the file in a live slot, at least one byte.
 fn write_open<F: Write + Drop>(
     live: &mut Slots<RealFile<F>>,
     slot: Slot,
     piece: &[u8],
-) -> Option<usize>
+) -> io::Result<usize>
     requires { IsSome (entry_at live.old.entries.items slot.0) }
-    ensures some { IfSome result (λ n. 0 < n) }
-    ensures within { IfSome result (λ n. n ≤ length piece.now) }
-    ensures taken { TakesPart (known_at F.contents live.old slot.0) (known_at F.contents live.new slot.0) piece.now result }
+    ensures some { IfOk result (λ n. 0 < n) }
+    ensures within { IfOk result (λ n. n ≤ length piece.now) }
+    ensures taken { WriteAppends (known_at F.contents live.old slot.0) (known_at F.contents live.new slot.0) result piece.now }
     ensures same { (k : ℕ) → real_slots live.new k ≡ real_slots live.old k }
 {
-    let mut open = live.take(slot)?;
+    let Some(mut open) = live.take(slot) else {
+        unreachable!()
+    };
     let taken = write_part(&mut open.file, piece);
     live.set(slot, Some(open));
     taken

@@ -1,13 +1,16 @@
 //! A real file that is written from its start.
 
-ghost use Rattle.std.specs.Prelude.{◌≡◌, ◌≤◌, ◌<◌, None, length, IfSome, option_and_then};
-ghost use Rattle.avtp_files.specs.state.Parts.{TakesPart};
+ghost use Rattle.std.specs.Prelude.{◌≡◌, ◌≤◌, ◌<◌, None, length, IfOk, option_and_then};
+ghost use Rattle.std.specs.Io.KnownBytes.{WriteAppends};
 
-use crate::file_identity::{STANDARD_OUTPUT, identity_of};
+use crate::fault_teller::FaultTeller;
+use crate::file_identity::{STANDARD_OUTPUT, already_used, identity_of};
 use crate::part::write_part;
 use crate::sink::Sink;
 use avtp_base::Failed;
+use std::alloc::Alloc;
 use std::fs;
+use std::io::{self, Eprint};
 use std::rt::Files;
 
 /// A real file. Contracts see nothing of what it holds, but that a write adds to it just what it says, if the system tells what
@@ -21,10 +24,11 @@ pub struct FileSink<R: Files> {
     name: String,
     apart: Vec<String>,
     file: Option<R::File>,
+    program: Option<&'static str>,
     faults: u64,
 }
 
-impl<R: Files> FileSink<R> {
+impl<R: Files + Eprint + Alloc> FileSink<R> {
     /// The file at this path, which must not be one of the files at the other paths. It is not made yet: the first `write`
     /// makes or empties it.
     pub fn named(rt: R, name: String, apart: Vec<String>) -> Self
@@ -35,7 +39,18 @@ impl<R: Files> FileSink<R> {
             name,
             apart,
             file: None,
+            program: None,
             faults: 0,
+        }
+    }
+
+    /// The same sink, which also tells each fault on standard error, after the name of the program.
+    pub fn telling(self, program: &'static str) -> Self
+        ensures { result.faults ≡ self.faults }
+    {
+        FileSink {
+            program: Some(program),
+            ..self
         }
     }
 
@@ -52,26 +67,33 @@ impl<R: Files> FileSink<R> {
         identity_of(&self.rt, STANDARD_OUTPUT) == Some(identity)
     }
 
-    // Makes or empties the file if that was not done yet, and writes to it. `None` if that failed, or took nothing. If the file
-    // could not be made, the next write tries again.
-    fn write_some(&mut self, piece: &[u8]) -> Option<usize>
-        ensures some { IfSome result (λ n. 0 < n) }
-        ensures within { IfSome result (λ n. n ≤ length piece.now) }
-        ensures taken { TakesPart (option_and_then R.File.contents self.old.file) (option_and_then R.File.contents self.new.file) piece.now result }
+    /// Makes the file or empties it, unless it must not be written.
+    fn make(&self) -> io::Result<R::File> {
+        if self.is_taken() {
+            return Err(already_used());
+        }
+        fs::create(&self.rt, self.name.as_str())
+    }
+
+    // Makes or empties the file if that was not done yet, and writes to it, at least one byte. If the file could not be made,
+    // the next write tries again.
+    fn write_some(&mut self, piece: &[u8]) -> io::Result<usize>
+        ensures some { IfOk result (λ n. 0 < n) }
+        ensures within { IfOk result (λ n. n ≤ length piece.now) }
+        ensures taken { WriteAppends (option_and_then R.File.contents self.old.file) (option_and_then R.File.contents self.new.file) result piece.now }
         ensures faults { self.new.faults ≡ self.old.faults }
     {
         if self.file.is_none() {
-            if self.is_taken() {
-                return None;
-            }
-            self.file = fs::create(&self.rt, self.name.as_str()).ok();
+            self.file = Some(self.make()?);
         }
-        let file = self.file.as_mut()?;
+        let Some(file) = self.file.as_mut() else {
+            unreachable!()
+        };
         write_part(file, piece)
     }
 }
 
-impl<R: Files> Sink for FileSink<R> {
+impl<R: Files + Eprint + Alloc> Sink for FileSink<R> {
     ghost use Rattle.std.specs.Prelude.{option_and_then};
     ghost use Rattle.std.specs.Io.KnownBytes.{WriteAppends};
 
@@ -81,8 +103,9 @@ impl<R: Files> Sink for FileSink<R> {
 
     fn write(&mut self, piece: &[u8]) -> Result<usize, Failed> {
         match self.write_some(piece) {
-            Some(taken) => Ok(taken),
-            None => {
+            Ok(taken) => Ok(taken),
+            Err(error) => {
+                FaultTeller::new(&self.rt, self.program).tell(self.name.as_str(), &error);
                 self.faults = self.faults.saturating_add(1);
                 Err(Failed)
             }

@@ -1,6 +1,7 @@
 //! Files by name, and text that is written: the outside as two traits, over real files and standard output.
 #![tactic(auto)]
 
+mod fault_teller;
 mod file_identity;
 mod file_shelf;
 mod file_sink;
@@ -10,6 +11,7 @@ mod sink;
 pub mod slots;
 mod std_sink;
 
+pub use fault_teller::FaultTeller;
 pub use file_shelf::FileShelf;
 pub use file_sink::FileSink;
 pub use shelf::{Shelf, Slot};

@@ -1,18 +1,19 @@
 //! Writing that may take a part.
 
-ghost use Rattle.std.specs.Prelude.{◌≤◌, ◌<◌, length, IfSome};
-ghost use Rattle.avtp_files.specs.state.Parts.{TakesPart};
+ghost use Rattle.std.specs.Prelude.{◌≤◌, ◌<◌, length, IfOk};
+ghost use Rattle.std.specs.Io.KnownBytes.{WriteAppends};
 
-use std::io::Write;
+use std::io::{Error, ErrorKind, Result, Write};
 
-/// Writes the piece, or a part of it, and answers how many bytes were taken. None if that failed, or took nothing.
-pub fn write_part<W: Write>(file: &mut W, piece: &[u8]) -> Option<usize>
-    ensures some { IfSome result (λ n. 0 < n) }
-    ensures within { IfSome result (λ n. n ≤ length piece.now) }
-    ensures taken { TakesPart (W.contents file.old) (W.contents file.new) piece.now result }
+/// Writes the piece, or a part of it, and answers how many bytes were taken. It is an error if none were.
+pub fn write_part<W: Write>(file: &mut W, piece: &[u8]) -> Result<usize>
+    ensures some { IfOk result (λ n. 0 < n) }
+    ensures within { IfOk result (λ n. n ≤ length piece.now) }
+    ensures taken { WriteAppends (W.contents file.old) (W.contents file.new) result piece.now }
 {
     match file.write(piece) {
-        Ok(taken) if taken > 0 => Some(taken),
-        _ => None,
+        Ok(taken) if taken > 0 => Ok(taken),
+        Ok(_) => Err(Error::from(ErrorKind::WriteZero)),
+        Err(error) => Err(error),
     }
 }

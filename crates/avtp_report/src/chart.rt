@@ -2,7 +2,7 @@
 
 use crate::units::Signed;
 use std::io::{self, Write};
-use stream_report::{Column, Range, Spread, Stream};
+use stream_report::{Column, Range, Spread, Stream, Trace};
 
 /// The width and height of a picture, in its own units.
 const WIDTH: u64 = 1000;
@@ -47,7 +47,7 @@ pub fn write_chart<W: Write>(
         Shown::Lead => (&stream.leads, "Lead", "lead"),
         Shown::Distance => (&stream.distances, "Arrival distance", "gap"),
     };
-    let Some(scale) = scale_of(spread) else {
+    let (Some(trace), Some(scale)) = (&stream.trace, scale_of(spread)) else {
         return Ok(());
     };
     let high = Signed(scale.high);
@@ -61,10 +61,12 @@ pub fn write_chart<W: Write>(
         "<svg viewBox=\"0 0 {WIDTH} {HEIGHT}\" preserveAspectRatio=\"none\" role=\"img\" aria-label=\"{name}\">"
     )?;
     write_rules(out, scale)?;
-    write_losses(out, stream, duration)?;
+    if stream.lost().count > 0 {
+        write_losses(out, trace, duration)?;
+    }
     write!(out, "<path class=\"{style}\" d=\"")?;
-    for column in stream.trace.columns().iter() {
-        write_column(out, stream, column, shown, scale, duration)?;
+    for column in trace.columns().iter() {
+        write_column(out, trace, column, shown, scale, duration)?;
     }
     writeln!(out, "\"/></svg>")?;
     let end = Signed(i64::try_from(duration).unwrap_or(i64::MAX));
@@ -114,8 +116,8 @@ fn right(since: u64, duration: u64) -> Place {
 }
 
 /// Where a column begins, in nanoseconds.
-fn begin_of(stream: &Stream, column: &Column) -> u64 {
-    column.slot.saturating_mul(stream.trace.width())
+fn begin_of(trace: &Trace, column: &Column) -> u64 {
+    column.slot.saturating_mul(trace.width())
 }
 
 /// Three lines across, and one at 0 if that is in the picture.
@@ -132,14 +134,11 @@ fn write_rules<W: Write>(out: &mut W, scale: Scale) -> io::Result<()> {
 }
 
 /// A line from top to bottom at each place where packets are missing.
-fn write_losses<W: Write>(out: &mut W, stream: &Stream, duration: u64) -> io::Result<()> {
-    if stream.lost().count == 0 {
-        return Ok(());
-    }
+fn write_losses<W: Write>(out: &mut W, trace: &Trace, duration: u64) -> io::Result<()> {
     write!(out, "<path class=\"loss\" d=\"")?;
-    for column in stream.trace.columns().iter() {
+    for column in trace.columns().iter() {
         if column.lost > 0 {
-            let x = right(begin_of(stream, column), duration);
+            let x = right(begin_of(trace, column), duration);
             write!(out, "M{x} 0V{HEIGHT}")?;
         }
     }
@@ -148,7 +147,7 @@ fn write_losses<W: Write>(out: &mut W, stream: &Stream, duration: u64) -> io::Re
 
 fn write_column<W: Write>(
     out: &mut W,
-    stream: &Stream,
+    trace: &Trace,
     column: &Column,
     shown: Shown,
     scale: Scale,
@@ -161,7 +160,7 @@ fn write_column<W: Write>(
     let Some(Range { least, greatest }) = range else {
         return Ok(());
     };
-    let x = right(begin_of(stream, column), duration);
+    let x = right(begin_of(trace, column), duration);
     let top = down(scale, greatest);
     let bottom = down(scale, least);
     write!(out, "M{x} {top}V{bottom}")

@@ -2,13 +2,13 @@
 
 use avtp_base::{Field, NoMemory};
 use avtp_header::{ETHERTYPE, peek};
-use avtp_packet::{Packet, read_packet, reserved, stamp_is_wrong, stream_of};
+use avtp_packet::{Packet, read_packet, stamp_is_wrong};
 use pcap_frames::{FrameView, RecordView, read_frame};
 use std::alloc::Global;
 use std::collections::HashMap;
 use stream_report::{
-    At, Facts, Noted, Other, Others, Sender, Stream, StreamKey, aaf_facts, crf_facts, h264_facts,
-    iec_facts, other_frame, unread_format,
+    At, Came, Facts, Other, Others, Sender, Stream, StreamKey, Trace, aaf_facts, crf_facts,
+    h264_facts, iec_facts, other_frame, unread_format,
 };
 
 /// The most streams that are counted apart.
@@ -18,6 +18,8 @@ pub const MOST_STREAMS: usize = 1024;
 #[derive(Drop)]
 pub struct Report {
     alloc: Global,
+    /// Whether pictures of the streams are wanted.
+    pictured: bool,
     places: HashMap<StreamKey, usize>,
     /// The stream of the last packet, which often is that of the next.
     last: Option<(StreamKey, usize)>,
@@ -32,18 +34,11 @@ pub struct Report {
     pub duration: u64,
 }
 
-/// Where and when a frame came.
-#[derive(Clone, Copy)]
-struct Came {
-    at: At,
-    arrival: i64,
-    since: u64,
-}
-
 impl Report {
-    pub fn new(alloc: Global) -> Self {
+    pub fn new(alloc: Global, pictured: bool) -> Self {
         Report {
             alloc,
+            pictured,
             places: HashMap::new(alloc),
             last: None,
             streams: Vec::new(alloc),
@@ -68,47 +63,40 @@ impl Report {
         };
         match read_frame(record.bytes) {
             Err(refusal) => self.others.note(Other::Malformed(refusal.field)),
-            Ok(frame) if frame.ethertype == ETHERTYPE => self.note_frame(came, &frame),
+            Ok(frame) if frame.ethertype == ETHERTYPE => self.note_frame(&came, &frame),
             Ok(frame) => self.others.note(other_frame(&frame)),
         }
     }
 
     /// Counts a frame that holds an AVTP packet.
-    fn note_frame(&mut self, came: Came, frame: &FrameView<'_>) -> Result<(), NoMemory> {
-        match read_packet(frame.payload) {
-            Ok(packet) => self.note_packet(came, frame, &packet),
-            Err(refusal) => self.note_refused(came, frame, refusal.field),
-        }
+    fn note_frame(&mut self, came: &Came, frame: &FrameView<'_>) -> Result<(), NoMemory> {
+        let packet = match read_packet(frame.payload) {
+            Ok(packet) => packet,
+            Err(refusal) => return self.note_refused(came, frame, refusal.field),
+        };
+        let mut facts = match &packet {
+            Packet::Aaf(view) => aaf_facts(view),
+            Packet::Iec(view) => iec_facts(view),
+            Packet::H264(view) => h264_facts(view),
+            Packet::Crf(view) => crf_facts(view),
+            Packet::Other(subtype) => return self.others.note(Other::Subtype(*subtype)),
+        };
+        facts.stamp_wrong = stamp_is_wrong(&packet);
+        self.note_packet(came, frame, &facts)
     }
 
     fn note_packet(
         &mut self,
-        came: Came,
+        came: &Came,
         frame: &FrameView<'_>,
-        packet: &Packet<'_>,
+        facts: &Facts,
     ) -> Result<(), NoMemory> {
-        let (Some(place), Some(facts)) = (stream_of(packet), facts_of(packet)) else {
-            return self.others.note(Other::Subtype(subtype_in(frame)));
-        };
-        if !place.sv {
-            return self.others.note(Other::NoStream(place.subtype));
+        if !facts.sv {
+            return self.others.note(Other::NoStream(facts.key.subtype));
         }
-        let key = StreamKey {
-            subtype: place.subtype,
-            id: place.id,
-        };
-        let noted = Noted {
-            at: came.at,
-            arrival: came.arrival,
-            since: came.since,
-            sender: sender_of(frame),
-            seq: place.seq,
-            facts,
-            reserved: reserved(packet),
-            stamp_wrong: stamp_is_wrong(packet),
-        };
-        match self.stream(key, noted.sender, came.at)? {
-            Some(stream) => stream.note(&noted),
+        let sender = sender_of(frame);
+        match self.stream(facts.key, &sender, came.at)? {
+            Some(stream) => stream.note(came, &sender, facts),
             None => self.others.note(Other::Untracked),
         }
     }
@@ -116,7 +104,7 @@ impl Report {
     /// Counts a packet that is refused at this field.
     fn note_refused(
         &mut self,
-        came: Came,
+        came: &Came,
         frame: &FrameView<'_>,
         field: Field,
     ) -> Result<(), NoMemory> {
@@ -133,7 +121,7 @@ impl Report {
             subtype: peeked.subtype,
             id: peeked.stream_id,
         };
-        match self.stream(key, sender_of(frame), came.at)? {
+        match self.stream(key, &sender_of(frame), came.at)? {
             Some(stream) => stream.note_malformed(came.at, field),
             None => self.others.note(Other::Untracked),
         }
@@ -143,7 +131,7 @@ impl Report {
     fn stream(
         &mut self,
         key: StreamKey,
-        sender: Sender,
+        sender: &Sender,
         at: At,
     ) -> Result<Option<&mut Stream>, NoMemory> {
         let place = match self.known(key) {
@@ -155,11 +143,12 @@ impl Report {
     }
 
     /// Begins a stream, and answers its place: one where there is none if the most streams are tracked already.
-    fn begin(&mut self, key: StreamKey, sender: Sender, at: At) -> Result<usize, NoMemory> {
+    fn begin(&mut self, key: StreamKey, sender: &Sender, at: At) -> Result<usize, NoMemory> {
         let place = self.streams.len();
         if place < MOST_STREAMS {
+            let trace = self.pictured.then(|| Trace::new(self.alloc));
             self.streams
-                .push(Stream::new(self.alloc, key, sender, at)?)?;
+                .push(Stream::new(self.alloc, key, *sender, at, trace))?;
             self.places.insert(key, place)?;
         }
         Ok(place)
@@ -172,21 +161,6 @@ impl Report {
             _ => self.places.get(&key).copied(),
         }
     }
-}
-
-/// The facts of a packet. `None` if its format is not read.
-fn facts_of(packet: &Packet<'_>) -> Option<Facts> {
-    match packet {
-        Packet::Aaf(view) => Some(aaf_facts(view)),
-        Packet::Iec(view) => Some(iec_facts(view)),
-        Packet::H264(view) => Some(h264_facts(view)),
-        Packet::Crf(view) => Some(crf_facts(view)),
-        Packet::Other(_) => None,
-    }
-}
-
-fn subtype_in(frame: &FrameView<'_>) -> u8 {
-    frame.payload.first().copied().unwrap_or(0)
 }
 
 fn sender_of(frame: &FrameView<'_>) -> Sender {

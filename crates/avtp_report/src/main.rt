@@ -18,6 +18,7 @@ use crate::reading::{Ending, Reading, read_files};
 use crate::table::write_table;
 use crate::words::{Words, read_words};
 use avtp_base::NoMemory;
+use avtp_files::FaultTeller;
 use std::alloc::Global;
 use std::io::{BufWriter, ErrorKind, Write};
 use std::process::ExitCode;
@@ -50,6 +51,9 @@ impl Status {
     }
 }
 
+/// The program's name, which stands before what it says on standard error.
+const PROGRAM: &str = "avtp-report";
+
 const USAGE: &str = "usage: avtp-report [--html OUT] FILE..";
 
 static HELP: &str = "usage: avtp-report [--html OUT] FILE..
@@ -77,8 +81,8 @@ fn run(rt: &HostRuntime) -> Status {
         Err(status) => return status,
     };
     match read_words(&words) {
-        Words::Help => print_status(print!(rt; "{HELP}")),
-        Words::Version => print_status(println!(rt; "{VERSION}")),
+        Words::Help => print_status(rt, print!(rt; "{HELP}")),
+        Words::Version => print_status(rt, println!(rt; "{VERSION}")),
         Words::Report { html } => report(rt, &words, html),
         Words::Faulty => {
             let _ = eprintln!(rt; "{USAGE}");
@@ -100,19 +104,25 @@ fn words_of(rt: &HostRuntime) -> Result<Vec<String>, Status> {
     }
 }
 
-fn print_status(written: io::Result<()>) -> Status {
+fn print_status(rt: &HostRuntime, written: io::Result<()>) -> Status {
     match written {
         Ok(()) => Status::Done,
-        Err(error) => written_status(&error),
+        Err(error) => unwritten(rt, STANDARD_OUTPUT, &error),
     }
 }
 
-fn written_status(error: &io::Error) -> Status {
+/// What standard output is called on standard error.
+const STANDARD_OUTPUT: &str = "standard output";
+
+/// How a run ends that could not write a file. Standard error says why, unless memory ran out or the reader of a pipe is gone.
+fn unwritten(rt: &HostRuntime, name: &str, error: &io::Error) -> Status {
     if error.kind() == ErrorKind::OutOfMemory {
-        Status::Memory
-    } else {
-        Status::WriteFault
+        return Status::Memory;
     }
+    if error.kind() != ErrorKind::BrokenPipe {
+        FaultTeller::new(rt, Some(PROGRAM)).tell(name, error);
+    }
+    Status::WriteFault
 }
 
 /// Reads the captures and writes what was found.
@@ -133,7 +143,7 @@ fn report(rt: &HostRuntime, words: &[String], html: Option<usize>) -> Status {
         order: &order,
     };
     if let Err(error) = print_table(rt, &told) {
-        return written_status(&error);
+        return unwritten(rt, STANDARD_OUTPUT, &error);
     }
     let Some(place) = html else {
         return ended(&told);
@@ -143,8 +153,7 @@ fn report(rt: &HostRuntime, words: &[String], html: Option<usize>) -> Status {
         None => return Status::Words,
     };
     if let Err(error) = make_page(rt, name, &told) {
-        let _ = eprintln!(rt; "avtp-report: {name}: {error}");
-        return written_status(&error);
+        return unwritten(rt, name, &error);
     }
     ended(&told)
 }

@@ -3,13 +3,13 @@
 ghost use Rattle.std.specs.Prelude.{IsSome};
 ghost use Rattle.capture_io.specs.Source.{slot_of};
 
+use crate::PROGRAM;
 use crate::gather::Report;
 use crate::words::is_capture;
 use avtp_base::{NoMemory, OpenFault, Refusal};
 use avtp_files::{FileShelf, Shelf};
 use capture_io::{End, Source};
 use std::alloc::Global;
-use std::fs;
 use stream_report::At;
 
 /// How the reading of a file ended.
@@ -39,7 +39,8 @@ pub struct Reading {
 /// The most bytes of a file that are read.
 const LIMIT: u64 = 1 << 62;
 
-/// Reads the captures that the words name, of which one may be that of the page. The first that is not read to its end is the last, and standard error says why.
+/// Reads the captures that the words name, of which one may be that of the page. The first that is not read to its end is the
+/// last, and standard error says why.
 pub fn read_files(
     rt: &HostRuntime,
     alloc: Global,
@@ -47,8 +48,8 @@ pub fn read_files(
     html: Option<usize>,
 ) -> Result<Reading, NoMemory> {
     let mut files = Vec::new(alloc);
-    let mut report = Report::new(alloc);
-    let mut shelf = FileShelf::new(alloc, rt);
+    let mut report = Report::new(alloc, html.is_some());
+    let mut shelf = FileShelf::new(alloc, rt).telling(PROGRAM);
     for (place, word) in words.iter().enumerate() {
         if !is_capture(html, place) {
             continue;
@@ -63,34 +64,24 @@ pub fn read_files(
             frames: read.frames,
             ending,
         })?;
-        if is_last(rt, word.as_str(), ending) {
-            break;
+        match ending {
+            Ending::Whole => {}
+            Ending::Refused(refusal) => {
+                say_refusal(rt, word.as_str(), &refusal);
+                break;
+            }
+            Ending::Fault => break,
         }
     }
     Ok(Reading { files, report })
 }
 
-/// Whether a file was not read to its end; then it says why.
-fn is_last(rt: &HostRuntime, name: &str, ending: Ending) -> bool {
-    match ending {
-        Ending::Whole => return false,
-        Ending::Refused(refusal) => {
-            let field = refusal.field.name();
-            let at = refusal.at;
-            let short = if refusal.short { " short" } else { "" };
-            let _ = eprintln!(rt; "avtp-report: {name}: capture refused: {field} at {at}{short}");
-        }
-        Ending::Fault => say_fault(rt, name),
-    }
-    true
-}
-
-/// Says why a file cannot be read: the system's reason, if opening it fails again.
-fn say_fault(rt: &HostRuntime, name: &str) {
-    let _ = match fs::open(rt, name) {
-        Ok(_) => eprintln!(rt; "avtp-report: {name}: read fault"),
-        Err(error) => eprintln!(rt; "avtp-report: {name}: {error}"),
-    };
+/// Says at which field a capture is refused.
+fn say_refusal(rt: &HostRuntime, name: &str, refusal: &Refusal) {
+    let field = refusal.field.name();
+    let at = refusal.at;
+    let short = if refusal.short { " short" } else { "" };
+    let _ = eprintln!(rt; "{PROGRAM}: {name}: capture refused: {field} at {at}{short}");
 }
 
 /// How much of a file was read.

@@ -1,5 +1,6 @@
 //! The system that a program is started on.
 
+use crate::PROGRAM;
 use crate::system::System;
 use avtp_base::NoMemory;
 use avtp_files::FileSink;
@@ -34,6 +35,6 @@ impl System<FileSink<HostRuntime>> for Host {
 
     fn file(&self, name: &str, apart: Vec<String>) -> Result<FileSink<HostRuntime>, NoMemory> {
         let name = String::from_str(self.rt.alloc(), name)?;
-        Ok(FileSink::named(self.rt, name, apart))
+        Ok(FileSink::named(self.rt, name, apart).telling(PROGRAM))
     }
 }

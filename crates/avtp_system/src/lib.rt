@@ -6,25 +6,30 @@ ghost use Rattle.std.specs.Process.{exit_status};
 ghost use Rattle.avtp_tool.specs.Status.{code_of};
 
 mod host;
+mod output;
 mod program;
 mod system;
 
+use crate::output::Output;
 use avtp_files::{FileShelf, StdSink};
 use avtp_tool::Status;
 pub use host::Host;
 pub use program::run_over;
-use std::io;
 use std::process::ExitCode;
 use std::thread::Threads;
 pub use system::System;
 
-/// Does what the arguments ask for, over real files and standard output, and returns the exit status.
+/// The program's name, which stands before what it says on standard error.
+const PROGRAM: &str = "avtp";
+
+/// Does what the arguments ask for, over real files and standard output, and returns the exit status. If a file or standard
+/// output fails, standard error says which and why.
 pub fn run_program<T: Threads + Sync>(rt: &HostRuntime, threads: &T) -> ExitCode
     ensures { (ended : Status) × (exit_status result ≡ code_of ended) }
 {
     let alloc = rt.alloc();
-    let mut shelf = FileShelf::new(alloc, rt);
-    let mut out = StdSink::new(io::writer(rt));
+    let mut shelf = FileShelf::new(alloc, rt).telling(PROGRAM);
+    let mut out = StdSink::new(Output::of(rt, PROGRAM));
     let status = run_over(threads, alloc, &Host { rt: *rt }, &mut shelf, &mut out);
     ExitCode::from(status.code())
 }

@@ -4,4 +4,5 @@ pub mod Lost
 pub mod Buckets
 pub mod Counting
 pub mod Spreads
+pub mod Widening
 pub mod Orders

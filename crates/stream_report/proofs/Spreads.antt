@@ -11,8 +11,9 @@ use Rattle.std.proofs.Math.Seq.{take-set-lt}
 use Rattle.std.proofs.Math.Nat.{mul-le-mul_left}
 use Rattle.stream_report.specs.declared.spread.Spread.{Spread}
 use Rattle.stream_report.specs.Spreads.{RoundedUp, TellsOf, edge, greatest_of, least_of, most_values, number_below, number_up_to, rank, side}
-use Rattle.stream_report.specs.state.Places.{HasPlace, Reaches}
+use Rattle.stream_report.specs.state.Places.{HasPlace, Reaches, Widens}
 use Rattle.stream_report.proofs.Buckets.{edges-ordered, end, near-edge}
+use Rattle.stream_report.proofs.Widening.{sum-zeros}
 use Rattle.stream_report.proofs.Counting.{Crossing, below-length, below-no, below-ordered, below-up, below-yes, crossing, up-next, up-yes}
 
 -- ---- the counts of the buckets
@@ -35,35 +36,36 @@ count-le xs k inside = omega (arith, get_or-take (k + 1) xs k 0 (omega arith), g
 
 -- ---- no value
 
-sum-zeros : (p n : ℕ) → sum (take p (replicate n 0)) ≡ 0
-sum-zeros p n = none (sum_by-take-le (λ (m : ℕ). m) (replicate n 0) p) (sum_by-replicate (λ (m : ℕ). m) n 0)
-  where
-    none : {a b : ℕ} → a ≤ b → b ≡ n * 0 → a ≡ 0
-    none le e = omega (arith, le, e)
-
-pub tells-none : (spread : Spread) → spread.counts.items ≡ replicate 7424 0 → spread.count ≡ 0 → spread.least ≡ pos (2 ^ 63 - 1) → spread.greatest ≡ negsuc (2 ^ 63 - 1) → TellsOf spread []
-tells-none spread zeros count least greatest = record {
+pub tells-none : (spread : Spread) → spread.counts.items ≡ [] → spread.first ≡ 0 → spread.count ≡ 0 → spread.least ≡ pos (2 ^ 63 - 1) → spread.greatest ≡ negsuc (2 ^ 63 - 1) → TellsOf spread []
+tells-none spread empty first count least greatest = record {
   count = count;
   few = omega arith;
   least = least;
   greatest = greatest;
-  places = ap (λ (l : List ℕ). length l) zeros ∙ length-replicate {A = ℕ} 7424 0;
-  counts = λ place _. ap (λ (l : List ℕ). sum (take place l)) zeros ∙ sum-zeros place 7424;
+  places = subst (λ (l : List ℕ). spread.first + length l ≤ 2 * side) (sym empty) (omega (arith, first));
+  counts = λ place _. ap (λ (l : List ℕ). sum (take (place - spread.first) l)) empty ∙ sum-zeros (place - spread.first) 0;
 }
 
 -- ---- one more value
 
-counts-more : (xs : List ℕ) (v : ℤ) (values : List ℤ) (k p : ℕ) → length xs ≡ 2 * side → length values < most_values → p ≤ 2 * side → HasPlace v k
-    → ((place : ℕ) → place ≤ 2 * side → sum (take place xs) ≡ number_below (edge place) values)
-    → sum (take p (set xs k (min (get_or xs k 0 + 1) (2 ^ 32 - 1)))) ≡ number_below (edge p) (v ∷ values)
-counts-more xs v values k p places few within at counts =
+-- the counts of the buckets from the one at place `from` on, with one more at place k
+counts-more : (from : ℕ) (xs : List ℕ) (v : ℤ) (values : List ℤ) (k p : ℕ) → from ≤ k → k < from + length xs → length values < most_values → p ≤ 2 * side → HasPlace v k
+    → ((place : ℕ) → place ≤ 2 * side → sum (take (place - from) xs) ≡ number_below (edge place) values)
+    → sum (take (p - from) (set xs (k - from) (min (get_or xs (k - from) 0 + 1) (2 ^ 32 - 1)))) ≡ number_below (edge p) (v ∷ values)
+counts-more from xs v values k p least reached few within at counts =
     elim (cases_lt k p) [
-      | inl past ↦ one-more (sum-past xs k (min (get_or xs k 0 + 1) (2 ^ 32 - 1)) p inside past) (counts p within) (below-yes (edge p) v values (under past)) fits
-      | inr before ↦ sum-before xs k (min (get_or xs k 0 + 1) (2 ^ 32 - 1)) p before ∙ counts p within ∙ sym (below-no (edge p) v values (over before))
+      | inl past ↦ one-more (sum-past xs (k - from) (min (get_or xs (k - from) 0 + 1) (2 ^ 32 - 1)) (p - from) inside (nearer-past past)) (counts p within) (below-yes (edge p) v values (under past)) fits
+      | inr before ↦ sum-before xs (k - from) (min (get_or xs (k - from) 0 + 1) (2 ^ 32 - 1)) (p - from) (omega (arith, before)) ∙ counts p within ∙ sym (below-no (edge p) v values (over before))
     ]
   where
-    inside : k < length xs
-    inside = omega (arith, places, at.within)
+    inside : k - from < length xs
+    inside = omega (arith, least, reached)
+
+    nearer-past : k < p → k - from < p - from
+    nearer-past lt = omega (arith, least, lt)
+
+    next-place : k + 1 - from ≡ k - from + 1
+    next-place = omega (arith, least)
 
     under : k < p → v <ℤ edge p
     under past = let n = at.next in omega (arith, ints, n, edges-ordered (k + 1) p (omega (arith, past)))
@@ -71,22 +73,24 @@ counts-more xs v values k p places few within at counts =
     over : p ≤ k → edge p ≤ℤ v
     over before = let f = at.first in omega (arith, ints, f, edges-ordered p k before)
 
-    fits : get_or xs k 0 < 2 ^ 32 - 1
-    fits = omega (arith, count-le xs k inside, counts (k + 1) (omega (arith, at.within)), below-length (edge (k + 1)) values, few)
+    fits : get_or xs (k - from) 0 < 2 ^ 32 - 1
+    fits = omega (arith, count-le xs (k - from) inside, sym (ap (λ (n : ℕ). sum (take n xs)) next-place) ∙ counts (k + 1) (omega (arith, at.within)), below-length (edge (k + 1)) values, few)
 
     one-more : {a b c d g : ℕ} → a + g ≡ b + min (g + 1) (2 ^ 32 - 1) → b ≡ c → d ≡ c + 1 → g < 2 ^ 32 - 1 → a ≡ d
     one-more e f h lt = omega (arith, e, f, h, lt)
 
-pub tells-more : (old new : Spread) (v : ℤ) (values : List ℤ) (k : ℕ) → TellsOf old values → length values < most_values → HasPlace v k
-    → new.counts.items ≡ set old.counts.items k (min (get_or old.counts.items k 0 + 1) (2 ^ 32 - 1)) → new.count ≡ min (old.count + 1) (2 ^ 64 - 1)
+pub tells-more : (old new : Spread) (v : ℤ) (values : List ℤ) (k : ℕ) (wide : List ℕ) → TellsOf old values → length values < most_values → HasPlace v k
+    → Widens old.first old.counts.items k wide new.first
+    → new.counts.items ≡ set wide (k - new.first) (min (get_or wide (k - new.first) 0 + 1) (2 ^ 32 - 1)) → new.count ≡ min (old.count + 1) (2 ^ 64 - 1)
     → new.least ≡ int_min old.least v → new.greatest ≡ int_max old.greatest v → TellsOf new (v ∷ values)
-tells-more old new v values k tells few at items count least greatest = record {
+tells-more old new v values k wide tells few at widens items count least greatest = record {
   count = count ∙ next (length values) old.count tells.count few;
   few = few;
   least = least ∙ ap (λ (z : ℤ). int_min z v) tells.least;
   greatest = greatest ∙ ap (λ (z : ℤ). int_max z v) tells.greatest;
-  places = ap (λ (l : List ℕ). length l) items ∙ length-set _ k _ ∙ tells.places;
-  counts = λ place within. ap (λ (l : List ℕ). sum (take place l)) items ∙ counts-more old.counts.items v values k place tells.places few within at tells.counts;
+  places = subst (λ (n : ℕ). new.first + n ≤ 2 * side) (sym (ap (λ (l : List ℕ). length l) items ∙ length-set wide (k - new.first) _)) (widens.within tells.places);
+  counts = λ place within. ap (λ (l : List ℕ). sum (take (place - new.first) l)) items
+      ∙ counts-more new.first wide v values k place widens.from widens.reached few within at (λ to under. widens.same to ∙ tells.counts to under);
 }
   where
     next : (n c : ℕ) → c ≡ n → n < most_values → min (c + 1) (2 ^ 64 - 1) ≡ suc n

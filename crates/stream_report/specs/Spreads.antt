@@ -65,5 +65,5 @@ pub record TellsOf (spread : Spread) (values : List ℤ) : Type 0 where
   pub few : length values ≤ most_values
   pub least : spread.least ≡ least_of values
   pub greatest : spread.greatest ≡ greatest_of values
-  pub places : length spread.counts.items ≡ 2 * side
-  pub counts : (place : ℕ) → place ≤ 2 * side → sum (take place spread.counts.items) ≡ number_below (edge place) values
+  pub places : spread.first + length spread.counts.items ≤ 2 * side
+  pub counts : (place : ℕ) → place ≤ 2 * side → sum (take (place - spread.first) spread.counts.items) ≡ number_below (edge place) values

@@ -2,6 +2,7 @@
 
 use crate::pace::Stamp;
 use crate::rate::Rate;
+use crate::stream::StreamKey;
 use aaf_format::{AafFormat, AafView, rate_of};
 use avtp_header::{StreamHeader, subtype};
 use crf_format::{CrfView, point};
@@ -39,6 +40,17 @@ pub enum Format {
     Unknown,
 }
 
+impl Format {
+    /// The nominal rate of its events. `None` if it tells none.
+    pub fn rate(&self) -> Option<Rate> {
+        match *self {
+            Format::Aaf { rate, .. } | Format::Iec { rate, .. } => rate.map(Rate::of),
+            Format::Crf { base, pull, .. } => Rate::of_clock(base, pull),
+            Format::H264 | Format::Unknown => None,
+        }
+    }
+}
+
 /// The labels of a packet's AM824 quadlets.
 #[derive(Clone, Copy)]
 pub struct Labels {
@@ -52,15 +64,22 @@ pub struct Labels {
 /// What a report notes of a packet.
 #[derive(Clone, Copy)]
 pub struct Facts {
+    pub key: StreamKey,
+    /// The stream id is valid.
+    pub sv: bool,
+    pub seq: u8,
+    pub mr: bool,
+    pub tu: bool,
+    /// A reserved bit is set.
+    pub reserved: bool,
+    /// It has a timestamp that it should not have, or lacks one that it should have.
+    pub stamp_wrong: bool,
     pub format: Format,
-    pub rate: Option<Rate>,
     /// The number of its sample frames, data blocks, or events of a media clock; 0 for H.264.
     pub count: u32,
     /// The event that its timestamp belongs to, counted from its first.
     pub anchor: u32,
     pub stamp: Option<Stamp>,
-    pub mr: bool,
-    pub tu: bool,
     /// The block count, modulo 256, of its first data block.
     pub dbc: Option<u8>,
     pub labels: Labels,
@@ -72,16 +91,23 @@ const NO_LABELS: Labels = Labels {
     first_reserved: 0,
 };
 
-/// The facts of a packet with the common header.
+/// The facts that the common header tells.
 fn header_facts(header: &StreamHeader, format: Format) -> Facts {
     Facts {
+        key: StreamKey {
+            subtype: header.subtype,
+            id: header.stream_id,
+        },
+        sv: header.sv,
+        seq: header.seq,
+        mr: header.mr,
+        tu: header.tu,
+        reserved: false,
+        stamp_wrong: false,
         format,
-        rate: None,
         count: 0,
         anchor: 0,
         stamp: header.tv.then_some(Stamp::Short(header.timestamp)),
-        mr: header.mr,
-        tu: header.tu,
         dbc: None,
         labels: NO_LABELS,
     }
@@ -89,29 +115,27 @@ fn header_facts(header: &StreamHeader, format: Format) -> Facts {
 
 /// The facts of a packet of PCM.
 pub fn aaf_facts(view: &AafView<'_>) -> Facts {
-    let rate = rate_of(view.nsr);
     let format = Format::Aaf {
         format: view.format,
-        rate,
+        rate: rate_of(view.nsr),
         channels: view.channels,
         depth: view.depth,
         sparse: view.sparse,
     };
     let mut facts = header_facts(&view.header, format);
-    facts.rate = rate.map(Rate::of);
+    facts.reserved = view.reserved;
     facts.count = view.count;
     facts
 }
 
 /// The facts of a packet of AM824.
 pub fn iec_facts(view: &IecView<'_>) -> Facts {
-    let rate = rate_of_fdf(view.cip.fdf);
     let format = Format::Iec {
-        rate,
+        rate: rate_of_fdf(view.cip.fdf),
         quadlets: view.cip.dbs,
     };
     let mut facts = header_facts(&view.header, format);
-    facts.rate = rate.map(Rate::of);
+    facts.reserved = view.reserved;
     facts.count = view.count;
     facts.anchor = anchor_of(view);
     facts.dbc = Some(view.cip.dbc);
@@ -130,7 +154,9 @@ fn anchor_of(view: &IecView<'_>) -> u32 {
 
 /// The facts of a packet of H.264.
 pub fn h264_facts(view: &CvfView<'_>) -> Facts {
-    header_facts(&view.header, Format::H264)
+    let mut facts = header_facts(&view.header, Format::H264);
+    facts.reserved = view.reserved;
+    facts
 }
 
 /// The facts of a packet of a media clock.
@@ -144,13 +170,20 @@ pub fn crf_facts(view: &CrfView<'_>) -> Facts {
         points,
     };
     Facts {
+        key: StreamKey {
+            subtype: subtype::CRF,
+            id: view.stream_id,
+        },
+        sv: view.sv,
+        seq: view.seq,
+        mr: view.mr,
+        tu: view.tu,
+        reserved: view.reserved,
+        stamp_wrong: false,
         format,
-        rate: Rate::of_clock(view.base_frequency, view.pull),
         count: points.saturating_mul(u32::from(view.interval)),
         anchor: 0,
         stamp: first_point(view),
-        mr: view.mr,
-        tu: view.tu,
         dbc: None,
         labels: NO_LABELS,
     }

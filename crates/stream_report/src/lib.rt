@@ -23,7 +23,7 @@ pub use pace::{Advance, Miss, Misses, Pace, Stamp, Stamped};
 pub use rate::{Beat, Rate};
 pub use sequence::{Place, Window, places_tell_what_is_lost};
 pub use spread::Spread;
-pub use stream::{FieldCount, Noted, Sender, Stream, StreamKey};
+pub use stream::{Came, FieldCount, Sender, Stream, StreamKey};
 pub use tally::{At, Tally};
 pub use trace::{Column, Range, Trace};
 pub use trend::Trend;

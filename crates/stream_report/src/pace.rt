@@ -196,30 +196,48 @@ impl Pace {
     }
 
     /// Notes a timestamp, after the one that was noted before.
-    pub fn note(&mut self, stamped: Stamped, beat: Option<Beat>) -> Advance {
-        let Some(last) = self.last.replace(stamped) else {
+    pub fn note(&mut self, stamped: &Stamped, beat: Option<Beat>) -> Advance {
+        let before = self.last;
+        self.last = Some(*stamped);
+        let Some(last) = before else {
             return Advance::Begun;
         };
         let is_first = self.compared == 0;
         self.compared = self.compared.saturating_add(1);
-        let Some(beat) = beat else {
-            return self.note_unpaced(last, stamped, is_first);
-        };
+        match beat {
+            Some(beat) => self.note_paced(&last, stamped, beat, is_first),
+            None => self.note_unpaced(&last, stamped, is_first),
+        }
+    }
+
+    /// Notes a timestamp of a stream with a rate. If both readings want the same advance, one comparison is enough.
+    fn note_paced(
+        &mut self,
+        last: &Stamped,
+        stamped: &Stamped,
+        beat: Beat,
+        is_first: bool,
+    ) -> Advance {
         let slack = beat.time_of(u64::from(last.count)) / PART_OF_PACKET;
         let events = stamped.first.saturating_sub(last.first);
         let by_first = beat.time_of(events);
-        let by_anchor = beat.time_of(
-            events
-                .saturating_add(u64::from(stamped.anchor))
-                .saturating_sub(u64::from(last.anchor)),
-        );
+        let by_anchor = if stamped.anchor == last.anchor {
+            by_first
+        } else {
+            beat.time_of(
+                events
+                    .saturating_add(u64::from(stamped.anchor))
+                    .saturating_sub(u64::from(last.anchor)),
+            )
+        };
         let plain = stamped.stamp.since(last.stamp);
         let even = self
             .by_anchor
             .compare(stamped.at, by_anchor, plain, slack, is_first);
-        let even_first = self
-            .by_first
-            .compare(stamped.at, by_first, plain, slack, is_first);
+        let even_first = even && by_first == by_anchor
+            || self
+                .by_first
+                .compare(stamped.at, by_first, plain, slack, is_first);
         if even || even_first {
             let wanted = if even { by_anchor } else { by_first };
             self.nominal = self.nominal.saturating_add(wanted);
@@ -237,7 +255,7 @@ impl Pace {
     }
 
     /// Notes a timestamp of a stream without a rate: it may stay, or advance by a limited amount.
-    fn note_unpaced(&mut self, last: Stamped, stamped: Stamped, is_first: bool) -> Advance {
+    fn note_unpaced(&mut self, last: &Stamped, stamped: &Stamped, is_first: bool) -> Advance {
         let plain = stamped.stamp.since(last.stamp);
         if is_advance(plain) {
             return Advance::Even;

@@ -1,8 +1,8 @@
 //! The spread of values: the least, the greatest, and percentiles from a histogram.
 
-ghost use Rattle.std.specs.Prelude.{◌≡◌, ◌≤ℤ◌, ◌<◌, ◌≤◌, ◌^◌, ◌+◌, ◌-◌, ◌*◌, ◌-ℤ◌, pos, ◌↔◌, IsNone, IfSome, OnOk, IfOk, ℤ, List, [], ◌∷◌, length, get_or, set, min};
+ghost use Rattle.std.specs.Prelude.{◌≡◌, ◌≤ℤ◌, ◌<◌, ◌≤◌, ◌^◌, ◌+◌, ◌-◌, ◌*◌, ◌-ℤ◌, pos, ◌↔◌, IsNone, IfSome, OnOk, IfOk, ℤ, List, [], ◌∷◌, ◌++◌, length, get_or, set, sum, take, replicate, min};
 ghost use Rattle.stream_report.specs.Spreads.{NearestRank, RoundedUp, TellsOf, edge, first_in, most_values, rank, side};
-ghost use Rattle.stream_report.specs.state.Places.{HasPlace, InBucket, Reaches};
+ghost use Rattle.stream_report.specs.state.Places.{HasPlace, InBucket, Reaches, Widens};
 
 use avtp_base::NoMemory;
 use std::alloc::Global;
@@ -13,11 +13,13 @@ const SIDE: usize = 58 * 64;
 /// The magnitudes below this have a bucket each.
 const NARROW: u64 = 128;
 
-/// The number of values in each bucket. A bucket's width is at most a 64th of its values, so a percentile is exact to 1.6 %.
+/// The number of values in each bucket, from the lowest bucket in use to the highest. A bucket's width is at most a 64th of its
+/// values, so a percentile is exact to 1.6 %.
 #[derive(Drop)]
 pub struct Spread {
-    /// First those of negative values, from the lowest on, then the others.
     counts: Vec<u32>,
+    /// The place of the lowest bucket in use among all: first come those of negative values, from the lowest on.
+    first: usize,
     pub count: u64,
     pub least: i64,
     pub greatest: i64,
@@ -55,6 +57,38 @@ fn place_of(value: i64) -> usize
     }
 }
 
+/// Widens counts, the first of which is that of the bucket at `first`, until they reach a place. Returns the place of the first
+/// one then.
+fn widen(counts: &mut Vec<u32>, first: usize, place: usize) -> Result<usize, NoMemory>
+    requires { place < 2 * side }
+    ensures { IfOk result (Widens first counts.old.items place counts.new.items) }
+{
+    if counts.is_empty() {
+        counts.push(0)?;
+        return Ok(place);
+    }
+    if place < first {
+        put_before(counts, first - place)?;
+        return Ok(place);
+    }
+    let reached = place - first + 1;
+    if counts.len() < reached {
+        counts.resize(reached, 0)?;
+    }
+    Ok(first)
+}
+
+/// Puts counts of 0 before the others.
+fn put_before(counts: &mut Vec<u32>, more: usize) -> Result<(), NoMemory>
+    ensures { OnOk result (counts.new.items ≡ replicate more 0 ++ counts.old.items) }
+{
+    let alloc = *counts.allocator();
+    let mut wider = vec![in alloc; 0u32; more]?;
+    wider.append(counts)?;
+    *counts = wider;
+    Ok(())
+}
+
 /// Counts one more at a place.
 fn count_at(counts: &mut Vec<u32>, place: usize)
     ensures { counts.new.items ≡ set counts.old.items place (min (get_or counts.old.items place 0 + 1) (2 ^ 32 - 1)) }
@@ -86,27 +120,40 @@ fn rank_of(count: u64, hundredths: u64) -> u128
 }
 
 impl Spread {
-    /// No values yet. It allocates its memory here, and none later.
-    pub fn new(alloc: Global) -> Result<Self, NoMemory>
-        ensures { IfOk result (λ spread. TellsOf spread []) }
+    /// No values yet.
+    pub fn new(alloc: Global) -> Self
+        ensures { TellsOf result [] }
     {
-        let counts = vec![in alloc; 0u32; 2 * SIDE]?;
-        Ok(Spread {
-            counts,
+        Spread {
+            counts: Vec::new(alloc),
+            first: 0,
             count: 0,
             least: i64::MAX,
             greatest: i64::MIN,
-        })
+        }
     }
 
-    /// Notes one more value. Of up to 4,294,967,295 values percentiles are told.
-    pub fn note(&mut self, value: i64)
-        ensures { (values : List ℤ) → TellsOf self.old values → length values < most_values → TellsOf self.new (value ∷ values) }
+    /// Notes one more value. Of up to 4,294,967,295 values percentiles are told. After `NoMemory` the spread must not be used.
+    pub fn note(&mut self, value: i64) -> Result<(), NoMemory>
+        ensures { OnOk result ((values : List ℤ) → TellsOf self.old values → length values < most_values → TellsOf self.new (value ∷ values)) }
     {
-        count_at(&mut self.counts, place_of(value));
+        let place = place_of(value);
+        self.first = widen(&mut self.counts, self.first, place)?;
+        count_at(&mut self.counts, place - self.first);
         self.count = self.count.saturating_add(1);
         self.least = self.least.min(value);
         self.greatest = self.greatest.max(value);
+        Ok(())
+    }
+
+    /// The number of values in the bucket at a place.
+    fn count_in(&self, place: usize) -> u32
+        ensures { sum (take (place - self.now.first) self.now.counts.items) + result ≡ sum (take (place + 1 - self.now.first) self.now.counts.items) }
+    {
+        if place < self.first {
+            return 0;
+        }
+        self.counts.get(place - self.first).copied().unwrap_or(0)
     }
 
     /// The nearest-rank percentile, rounded up by at most a 64th of its magnitude. `None` if no value was noted.
@@ -129,8 +176,7 @@ impl Spread {
     {
         let mut below: u128 = 0;
         for place in 0..2 * SIDE {
-            let count = self.counts.get(place).copied().unwrap_or(0);
-            below = below.saturating_add(u128::from(count));
+            below = below.saturating_add(u128::from(self.count_in(place)));
             if below >= rank {
                 return place;
             }

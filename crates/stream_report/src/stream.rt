@@ -1,9 +1,9 @@
 //! A stream, and what is counted for it.
 
-use crate::facts::{Facts, Format};
+use crate::facts::{Facts, Format, Labels};
 use crate::limits::{LEAST_STEP, LEAST_UNEVEN};
 use crate::order::Order;
-use crate::pace::{Advance, Pace, Stamp, Stamped};
+use crate::pace::{Advance, Pace, Stamped};
 use crate::rate::Beat;
 use crate::sequence::Place;
 use crate::spread::Spread;
@@ -31,21 +31,14 @@ pub struct Sender {
     pub tag: Option<Tag>,
 }
 
-/// A packet of a stream, as it is counted.
+/// Where and when a frame came.
 #[derive(Clone, Copy)]
-pub struct Noted {
+pub struct Came {
     pub at: At,
     /// In nanoseconds of the capture's clock.
     pub arrival: i64,
-    /// How long after the capture's first frame it arrived, in nanoseconds.
+    /// How long after the capture's first frame, in nanoseconds.
     pub since: u64,
-    pub sender: Sender,
-    pub seq: u8,
-    pub facts: Facts,
-    /// A reserved bit is set.
-    pub reserved: bool,
-    /// It has a timestamp that it should not have, or lacks one that it should have.
-    pub stamp_wrong: bool,
 }
 
 /// The number of packets that were refused by a field.
@@ -116,7 +109,8 @@ pub struct Stream {
     /// Packets of a sender, and of a format, other than the first packet's.
     pub senders: Tally,
     pub formats: Tally,
-    pub trace: Trace,
+    /// `None` if no pictures are wanted.
+    pub trace: Option<Trace>,
     /// None before a packet tells its rate.
     beat: Option<Beat>,
     /// None before its first packet that is not refused.
@@ -150,9 +144,15 @@ impl Step {
 }
 
 impl Stream {
-    /// A stream for which nothing is counted yet, given its first packet.
-    pub fn new(alloc: Global, key: StreamKey, sender: Sender, first: At) -> Result<Self, NoMemory> {
-        Ok(Stream {
+    /// A stream for which nothing is counted yet, given its first packet, and a trace if pictures of it are wanted.
+    pub fn new(
+        alloc: Global,
+        key: StreamKey,
+        sender: Sender,
+        first: At,
+        trace: Option<Trace>,
+    ) -> Self {
+        Stream {
             key,
             sender,
             first,
@@ -162,8 +162,8 @@ impl Stream {
             packets: 0,
             first_arrival: 0,
             last_arrival: 0,
-            distances: Spread::new(alloc)?,
-            leads: Spread::new(alloc)?,
+            distances: Spread::new(alloc),
+            leads: Spread::new(alloc),
             late: Tally::NONE,
             pace: Pace::NONE,
             trend: Trend::NONE,
@@ -183,13 +183,13 @@ impl Stream {
             fields: Vec::new(alloc),
             senders: Tally::NONE,
             formats: Tally::NONE,
-            trace: Trace::new(alloc),
+            trace,
             beat: None,
             order: None,
             last: None,
             events: 0,
             last_lead: None,
-        })
+        }
     }
 
     /// Counts a packet that its format refuses at this field.
@@ -206,17 +206,20 @@ impl Stream {
     }
 
     /// Counts a packet.
-    pub fn note(&mut self, noted: &Noted) -> Result<(), NoMemory> {
-        let distance = self.note_arrival(noted.arrival);
-        self.note_kind(noted);
-        let step = self.note_order(noted, distance);
+    pub fn note(&mut self, came: &Came, sender: &Sender, facts: &Facts) -> Result<(), NoMemory> {
+        let distance = self.note_arrival(came.arrival)?;
+        self.note_kind(came.at, sender, facts);
+        let step = self.note_order(came.at, facts.seq, distance);
         if matches!(step, Step::First | Step::Next | Step::After(_)) {
-            self.note_next(noted, step, distance);
+            self.note_next(came, facts, step, distance);
         }
         let lead = if step == Step::Repeat {
             None
         } else {
-            self.note_lead(noted)
+            self.note_lead(came, facts)?
+        };
+        let Some(trace) = &mut self.trace else {
+            return Ok(());
         };
         let column = Column {
             slot: 0,
@@ -224,44 +227,49 @@ impl Stream {
             distance: distance.map(Range::of),
             lost: step.missing(),
         };
-        self.trace.note(noted.since, column)
+        trace.note(came.since, column)
     }
 
     /// Counts its arrival. Returns how long after the packet before it came.
-    fn note_arrival(&mut self, arrival: i64) -> Option<i64> {
+    fn note_arrival(&mut self, arrival: i64) -> Result<Option<i64>, NoMemory> {
         let before = self.last_arrival;
         self.last_arrival = arrival;
         self.packets = self.packets.saturating_add(1);
         if self.packets == 1 {
             self.first_arrival = arrival;
-            return None;
+            return Ok(None);
         }
         let distance = arrival.saturating_sub(before);
-        self.distances.note(distance);
-        Some(distance)
+        self.distances.note(distance)?;
+        Ok(Some(distance))
     }
 
     /// Counts what a packet shows by itself.
-    fn note_kind(&mut self, noted: &Noted) {
-        let at = noted.at;
-        if noted.sender != self.sender {
+    fn note_kind(&mut self, at: At, sender: &Sender, facts: &Facts) {
+        if *sender != self.sender {
             self.senders.note(at);
         }
         if self.packets == 1 {
-            self.format = noted.facts.format;
-        } else if is_change(&self.format, &noted.facts.format) {
+            self.format = facts.format;
+        } else if is_change(&self.format, &facts.format) {
             self.formats.note(at);
         }
         if self.packet_time == 0 {
-            self.note_time(&noted.facts);
+            self.note_time(facts);
         }
-        if noted.reserved {
+        if facts.reserved {
             self.reserved.note(at);
         }
-        if noted.facts.tu {
+        if facts.tu {
             self.uncertain.note(at);
         }
-        let labels = noted.facts.labels;
+        if facts.labels.other > 0 {
+            self.note_labels(at, facts.labels);
+        }
+    }
+
+    /// Counts labels other than 0x40.
+    fn note_labels(&mut self, at: At, labels: Labels) {
         if self.reserved_labels.count == 0 {
             self.first_label = labels.first_reserved;
         }
@@ -276,7 +284,7 @@ impl Stream {
         }
         let rate = match self.beat {
             Some(beat) => Some(beat.rate),
-            None => facts.rate,
+            None => facts.format.rate(),
         };
         if let Some(rate) = rate {
             self.beat = Some(Beat::new(rate, self.count));
@@ -313,17 +321,17 @@ impl Stream {
     }
 
     /// Counts a packet by its sequence number, and answers how it follows those before.
-    fn note_order(&mut self, noted: &Noted, distance: Option<i64>) -> Step {
+    fn note_order(&mut self, at: At, seq: u8, distance: Option<i64>) -> Step {
         let pause = self.packet_time.saturating_mul(LONG_PAUSE);
         let paused = pause > 0 && distance.unwrap_or(0).unsigned_abs() >= pause;
         let Some(order) = &mut self.order else {
-            self.order = Some(Order::first(noted.seq));
+            self.order = Some(Order::first(seq));
             return Step::First;
         };
         if paused {
-            return after(order.resume(noted.seq, noted.at));
+            return after(order.resume(seq, at));
         }
-        match order.note(noted.seq, noted.at) {
+        match order.note(seq, at) {
             Place::Ahead { missing } => after(u64::from(missing)),
             Place::Late | Place::Early => Step::Late,
             Place::Repeat => Step::Repeat,
@@ -331,13 +339,12 @@ impl Stream {
     }
 
     /// Counts what a packet shows together with the one before it in the stream.
-    fn note_next(&mut self, noted: &Noted, step: Step, distance: Option<i64>) {
-        let missing = step.missing();
+    fn note_next(&mut self, came: &Came, facts: &Facts, step: Step, distance: Option<i64>) {
         let last = self.last;
-        let restarted = self.note_restart(noted, last, missing);
-        let steady = self.note_block_count(noted, last, step);
+        let restarted = self.note_restart(came.at, facts, step.missing());
+        let steady = step != Step::Next || self.note_block_count(came.at, facts, last);
         if step == Step::Next && !restarted {
-            self.note_evenness(noted.at, last, distance);
+            self.note_evenness(came.at, last, distance);
         }
         self.events = self
             .events
@@ -346,25 +353,26 @@ impl Stream {
             self.pace.restart();
         }
         if steady {
-            self.note_stamp(noted, restarted);
+            self.note_stamp(came, facts, restarted);
         }
     }
 
     /// Counts a restart of the media clock, and keeps the packet as the last one. Returns whether it is a restart.
-    fn note_restart(&mut self, noted: &Noted, last: Option<Last>, missing: u64) -> bool {
-        let mr = noted.facts.mr;
-        let restarted = last.is_some_and(|last| last.mr != mr);
-        let held = last.and_then(|last| last.held);
+    fn note_restart(&mut self, at: At, facts: &Facts, missing: u64) -> bool {
+        let (restarted, held) = match &self.last {
+            Some(last) => (last.mr != facts.mr, last.held),
+            None => (false, None),
+        };
         if restarted {
-            self.restarts.note(noted.at);
+            self.restarts.note(at);
             if held.is_some_and(|held| held.saturating_add(missing) < LEAST_HOLD) {
-                self.flapping.note(noted.at);
+                self.flapping.note(at);
             }
         }
         self.last = Some(Last {
-            count: noted.facts.count,
-            dbc: noted.facts.dbc,
-            mr,
+            count: facts.count,
+            dbc: facts.dbc,
+            mr: facts.mr,
             held: if restarted {
                 Some(1)
             } else {
@@ -374,22 +382,19 @@ impl Stream {
         restarted
     }
 
-    /// Counts a block count that does not continue. Returns false only in that case.
-    fn note_block_count(&mut self, noted: &Noted, last: Option<Last>, step: Step) -> bool {
-        if step != Step::Next {
-            return true;
-        }
+    /// Counts a block count that does not continue that of the packet directly before. Returns false only in that case.
+    fn note_block_count(&mut self, at: At, facts: &Facts, last: Option<Last>) -> bool {
         let Some(last) = last else {
             return true;
         };
-        let (Some(before), Some(now)) = (last.dbc, noted.facts.dbc) else {
+        let (Some(before), Some(now)) = (last.dbc, facts.dbc) else {
             return true;
         };
         let low = u8::try_from(last.count % 256).unwrap_or(0);
         if before.wrapping_add(low) == now {
             return true;
         }
-        self.blocks.note(noted.at);
+        self.blocks.note(at);
         false
     }
 
@@ -407,12 +412,11 @@ impl Stream {
     }
 
     /// Counts a timestamp that is missing or unwanted, and compares a timestamp with the one before.
-    fn note_stamp(&mut self, noted: &Noted, restarted: bool) {
-        let facts = &noted.facts;
-        if noted.stamp_wrong {
+    fn note_stamp(&mut self, came: &Came, facts: &Facts, restarted: bool) {
+        if facts.stamp_wrong {
             match facts.stamp {
-                Some(_) => self.unwanted.note(noted.at),
-                None => self.missing.note(noted.at),
+                Some(_) => self.unwanted.note(came.at),
+                None => self.missing.note(came.at),
             }
         }
         let Some(stamp) = facts.stamp else {
@@ -422,26 +426,27 @@ impl Stream {
             return;
         }
         let stamped = Stamped {
-            at: noted.at,
+            at: came.at,
             stamp,
             first: self.events,
             anchor: facts.anchor,
             count: facts.count,
         };
-        let advance = self.pace.note(stamped, self.beat);
+        let advance = self.pace.note(&stamped, self.beat);
         let advance = if restarted { Advance::Missed } else { advance };
-        self.note_trend(noted, stamp, advance);
+        self.note_trend(came.arrival, &stamped, advance);
     }
 
     /// Adds a timestamp to the line of the drift, by the lead of its packet's first event. If the timestamps step, the line
     /// goes on unchanged. A timestamp that advances by its packets' time is not a step, however late its packet arrives.
-    fn note_trend(&mut self, noted: &Noted, stamp: Stamp, advance: Advance) {
+    fn note_trend(&mut self, arrival: i64, stamped: &Stamped, advance: Advance) {
         let before_anchor = match self.beat {
-            Some(beat) => beat.time_of(u64::from(noted.facts.anchor)),
+            Some(beat) => beat.time_of(u64::from(stamped.anchor)),
             None => 0,
         };
+        let stamp = stamped.stamp;
         let lead = stamp
-            .lead(noted.arrival)
+            .lead(arrival)
             .saturating_sub(i64::try_from(before_anchor).unwrap_or(0));
         let change = match self.last_lead {
             Some(before) => stamp.wrapped(lead.saturating_sub(before)),
@@ -454,22 +459,24 @@ impl Stream {
         };
         let change = if goes_on { change } else { 0 };
         self.last_lead = Some(lead);
-        let since = noted.arrival.saturating_sub(self.first_arrival);
+        let since = arrival.saturating_sub(self.first_arrival);
         self.trend.note(u64::try_from(since).unwrap_or(0), change);
     }
 
     /// Counts the lead of a packet, if it has one.
-    fn note_lead(&mut self, noted: &Noted) -> Option<i64> {
-        let stamp = noted.facts.stamp?;
-        if noted.facts.tu {
-            return None;
+    fn note_lead(&mut self, came: &Came, facts: &Facts) -> Result<Option<i64>, NoMemory> {
+        let Some(stamp) = facts.stamp else {
+            return Ok(None);
+        };
+        if facts.tu {
+            return Ok(None);
         }
-        let lead = stamp.lead(noted.arrival);
-        self.leads.note(lead);
+        let lead = stamp.lead(came.arrival);
+        self.leads.note(lead)?;
         if lead < 0 {
-            self.late.note(noted.at);
+            self.late.note(came.at);
         }
-        Some(lead)
+        Ok(Some(lead))
     }
 }
 
@@ -485,7 +492,7 @@ fn after(missing: u64) -> Step {
 /// Whether a packet has another format than the stream. A packet without data has no rate, and a packet of a media clock may
 /// have fewer timestamps.
 fn is_change(was: &Format, now: &Format) -> bool {
-    match (*was, *now) {
+    match (was, now) {
         (
             Format::Iec { rate, quadlets },
             Format::Iec {

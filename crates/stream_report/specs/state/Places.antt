@@ -1,6 +1,6 @@
 -- Kept for proofs: what the code's own parts hold and do. No clause of a public call rests on it.
 -- The buckets of a spread, and the one in which a rank is reached.
-use Rattle.std.specs.Prelude.{ℕ, ◌+◌, ◌*◌, ◌<◌, ◌≤◌, ℤ, ◌≤ℤ◌, ◌<ℤ◌, List}
+use Rattle.std.specs.Prelude.{◌≡◌, ℕ, ◌+◌, ◌-◌, ◌*◌, ◌<◌, ◌≤◌, ℤ, ◌≤ℤ◌, ◌<ℤ◌, List, length, sum, take}
 use Rattle.stream_report.specs.Spreads.{edge, first_in, number_below, side}
 
 -- a magnitude lies in this bucket
@@ -19,3 +19,11 @@ pub record HasPlace (value : ℤ) (place : ℕ) : Type 0 where
 pub record Reaches (values : List ℤ) (rank place : ℕ) : Type 0 where
   pub before : number_below (edge place) values < rank
   pub reached : rank ≤ number_below (edge (place + 1)) values
+
+-- Counts of buckets from the one at place `first` on became counts from the one at place `now` on, which reach a place. They count
+-- as many values in the buckets up to any place as before.
+pub record Widens (first : ℕ) (old : List ℕ) (place : ℕ) (new : List ℕ) (now : ℕ) : Type 0 where
+  pub same : (to : ℕ) → sum (take (to - now) new) ≡ sum (take (to - first) old)
+  pub from : now ≤ place
+  pub reached : place < now + length new
+  pub within : first + length old ≤ 2 * side → now + length new ≤ 2 * side

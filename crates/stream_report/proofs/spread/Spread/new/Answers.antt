@@ -3,4 +3,4 @@ use Rattle.stream_report.proofs.Spreads.{tells-none}
 use Rattle.stream_report.proofs.spread.Spread.new.Goals as goal
 
 pub returns : goal.returns
-returns c = tells-none _ (c.in_ok-counts.ensures.items_if_clones_equal (λ y h. h)) refl refl refl
+returns c = tells-none _ c.new.ensures.items refl refl refl refl

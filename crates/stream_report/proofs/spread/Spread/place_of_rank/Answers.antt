@@ -1,4 +1,4 @@
-use Rattle.std.proofs.Common.{◌≡◌, ◌≤◌, ℕ, sum, take, ap, ◌∙◌, arith}
+use Rattle.std.proofs.Common.{◌≡◌, ◌-◌, ◌≤◌, ℕ, sum, take, ap, ◌∙◌, arith}
 use Rattle.std.proofs.lemmas.Int.{ints}
 use Rattle.stream_report.proofs.Spreads.{all-below}
 use Rattle.stream_report.proofs.spread.Spread.place_of_rank.Goals as goal
@@ -9,5 +9,5 @@ all-places le ge = omega (arith, le, ge)
 pub returns-clause-reaches : goal.returns-clause-reaches
 returns-clause-reaches c values tells within =
     let at : c.loop-place.place ≡ 7424 = all-places c.loop-place-test.false c.loop-place.auto.place-end in
-    let is = c.loop-place.invariant.0 ∙ ap (λ (p : ℕ). sum (take p c.args.self.now.counts.items)) at ∙ tells.counts 7424 (omega arith) in
+    let is = c.loop-place.invariant.0 ∙ ap (λ (p : ℕ). sum (take (p - c.args.self.now.first) c.args.self.now.counts.items)) at ∙ tells.counts 7424 (omega arith) in
     absurd (omega (arith, is, c.loop-place.invariant.1, within, all-below c.args.self.now values tells (omega (arith, ints))))

@@ -1,0 +1,41 @@
+//! Faults of the system, told on standard error.
+
+use std::alloc::Alloc;
+use std::io::{self, Eprint};
+
+/// Tells on standard error which file a call of the system failed on, and why, after the name of a program. It is silent if it
+/// has no name.
+#[derive(Clone, Copy, Drop)]
+pub struct FaultTeller<R> {
+    rt: R,
+    program: Option<&'static str>,
+}
+
+impl<R: Eprint + Alloc> FaultTeller<R> {
+    pub fn new(rt: R, program: Option<&'static str>) -> Self {
+        FaultTeller { rt, program }
+    }
+
+    /// Tells why a call failed on the file with this name.
+    pub fn tell(&self, name: &str, error: &io::Error) {
+        let Some(program) = self.program else {
+            return;
+        };
+        let alloc = self.rt.alloc();
+        let _ = match format!(in alloc; "{error}") {
+            Ok(reason) => {
+                let reason = without_number(reason.as_str());
+                eprintln!(self.rt; "{program}: {name}: {reason}")
+            }
+            Err(_) => eprintln!(self.rt; "{program}: {name}: {error}"),
+        };
+    }
+}
+
+/// The system's reason without its number, as the system's own commands print it.
+fn without_number(reason: &str) -> &str {
+    match reason.split_once(" (os error ") {
+        Some((words, _)) => words,
+        None => reason,
+    }
+}
