@@ -14,8 +14,9 @@ use Rattle.listener_pair.specs.declared.placed.Placed.{Placed}
 use Rattle.listener_pair.specs.Merged.{Sided, is_side}
 use Rattle.listener_pair.specs.Pairs.{at_place, left_by, may_pair, pair_by, pairs, pairs_from, partner_of, unpaired, unpaired_from, unpaired_with, without_first}
 use Rattle.listener_pair.specs.Differences.{alone, counts_of, difference_of, differences}
-use Rattle.listener_pair.specs.Matching.{of_side}
+use Rattle.listener_pair.specs.Matching.{batches_of, of_side}
 use Rattle.listener_pair.specs.state.Window.{counted, difference_by_pair, paired_with, risen, risen_if}
+use Rattle.listener_pair.proofs.Sorting.{length-of}
 use Rattle.listener_pair.proofs.Windows.{IsAscending, ascending-filter, ascending-length, ascending-with, fewer, find-passes, filter-no, filter-yes, other_side, partner-side, side-of, without-apart}
 
 -- ---- one batch after the others
@@ -173,3 +174,37 @@ pub differences-front : (xs ys : List Sided) → (more : List Difference) × (di
 differences-front xs ys =
     let front = pairs-front xs ys in
     (filter_map difference_of front.0, ap (filter_map difference_of) front.1 ∙ differences-append (pairs xs) front.0)
+
+-- ---- all batches of a side
+
+count-one : (s r : Which) (n : ℕ) (b : Presented) (u : List Placed) (o : Option Placed) → find (may_pair (at_place n (of_side r b))) u ≡ o
+    → length (pair_by (at_place n (of_side r b)) o) + alone s (left_by (at_place n (of_side r b)) u o) ≡ alone s u + length (batches_of s (of_side r b ∷ []))
+count-one A A n b u None e = let h = alone-own A (at_place n (of_side A b)) u refl in omega arith
+count-one B B n b u None e = let h = alone-own B (at_place n (of_side B b)) u refl in omega arith
+count-one A B n b u None e = let h = alone-not A (at_place n (of_side B b)) u refl in omega arith
+count-one B A n b u None e = let h = alone-not B (at_place n (of_side A b)) u refl in omega arith
+count-one A A n b u (Some y) e = let h = alone-same (at_place n (of_side A b)) u in omega arith
+count-one B B n b u (Some y) e = let h = alone-same (at_place n (of_side B b)) u in omega arith
+count-one A B n b u (Some y) e =
+    let x = at_place n (of_side B b) in
+    let h = fewer (may_pair x) (λ z. is_side A z.side) u y (partner-side x y (find-passes (may_pair x) u y e)) e in
+    omega arith
+count-one B A n b u (Some y) e =
+    let x = at_place n (of_side A b) in
+    let h = fewer (may_pair x) (λ z. is_side B z.side) u y (partner-side x y (find-passes (may_pair x) u y e)) e in
+    omega arith
+
+count-from : (s : Which) (place : ℕ) (u : List Placed) (xs : List Sided) → length (pairs_from place u xs) + alone s (unpaired_from place u xs) ≡ alone s u + length (batches_of s xs)
+unfolding pairs_from unpaired_from
+count-from s place u [] = omega arith
+count-from s place u (x ∷ xs) =
+    let p = at_place place x in
+    let one = count-one s x.side place x.batch u (partner_of p u) refl in
+    let rest = count-from s (suc place) (unpaired_with p u) xs in
+    let both = length-append (pair_by p (partner_of p u)) (pairs_from (suc place) (unpaired_with p u) xs) in
+    let all = length-of s x xs in
+    omega arith
+
+-- each batch of a side is in a pair or in none
+pub count-all : (s : Which) (list : List Sided) → length (pairs list) + alone s (unpaired list) ≡ length (batches_of s list)
+count-all s list = let h = count-from s 0 [] list in omega arith

@@ -1,5 +1,5 @@
 -- A list in merged order is the merged list of its two sides.
-use Rattle.std.proofs.Common.{◌≡◌, Bool, true, false, cond, ◌⊎◌, inl, inr, ℤ, ◌≤ℤ◌, ◌<ℤ◌, List, [], ◌∷◌, ◌++◌, filter, map, Option, Some, None, refl, sym, ap, ◌∙◌, subst, arith}
+use Rattle.std.proofs.Common.{◌≡◌, Bool, true, false, cond, ◌⊎◌, inl, inr, ℤ, ◌≤ℤ◌, ◌<ℤ◌, ℕ, suc, ◌+◌, List, [], ◌∷◌, ◌++◌, length, filter, map, Option, Some, None, refl, sym, ap, ◌∙◌, subst, arith, length-append}
 use Rattle.std.specs.Prelude.{int_lt, IfSome}
 use Rattle.std.specs.List.{AllByRecursion}
 use Rattle.std.proofs.lemmas.Int.{ints}
@@ -214,3 +214,54 @@ sorted-with-b done b na sorted ends order =
     sorted-join done (nexts na (Some b)) front (nexts-sorted na (Some b))
     (all-two (λ x. AllByRecursion (MayPrecede x) (nexts na None)) (λ x. MayPrecede x (of_side B b)) (λ x. AllByRecursion (MayPrecede x) (nexts na (Some b)))
     (λ x p q. nexts-all (MayPrecede x) na (Some b) (next-a (MayPrecede x) na p) q) done (sorted-cross done (nexts na None) sorted) (before-end B done b front ends order))
+
+-- ---- how many
+
+pub length-of : (s : Which) (x : Sided) (xs : List Sided) → length (batches_of s (x ∷ xs)) ≡ length (batches_of s (x ∷ [])) + length (batches_of s xs)
+length-of s x xs = ap length (batches-append s (x ∷ []) xs) ∙ length-append (batches_of s (x ∷ [])) (batches_of s xs)
+
+put-length : (s : Which) (x : Sided) (ys : List Sided) → length (batches_of s (put_before x ys)) ≡ length (batches_of s (x ∷ ys))
+put-length s x [] = refl
+put-length s x (y ∷ ys) = at (int_lt (first_instant y.batch) (first_instant x.batch)) (put-length s x ys)
+  where
+    at : (v : Bool) → length (batches_of s (put_before x ys)) ≡ length (batches_of s (x ∷ ys)) → length (batches_of s (cond v (y ∷ put_before x ys) (x ∷ y ∷ ys))) ≡ length (batches_of s (x ∷ y ∷ ys))
+    at false h = refl
+    at true h =
+        let a = length-of s y (put_before x ys) in
+        let b = length-of s x ys in
+        let c = length-of s x (y ∷ ys) in
+        let d = length-of s y ys in
+        omega arith
+
+by-length : (s : Which) (xs : List Sided) → length (batches_of s (by_instant xs)) ≡ length (batches_of s xs)
+by-length s [] = ap (λ (l : List Sided). length (batches_of s l)) by-nil
+by-length s (x ∷ xs) =
+    let a = ap (λ (l : List Sided). length (batches_of s l)) (by-cons x xs) in
+    let b = put-length s x (by_instant xs) in
+    let c = length-of s x (by_instant xs) in
+    let d = by-length s xs in
+    let e = length-of s x xs in
+    omega arith
+
+of-other : (ys : List Presented) → length (batches_of A (all_of B ys)) ≡ 0
+of-other [] = refl
+of-other (y ∷ ys) = of-other ys
+
+of-own-b : (ys : List Presented) → length (batches_of B (all_of B ys)) ≡ length ys
+of-own-b [] = refl
+of-own-b (y ∷ ys) = ap suc (of-own-b ys)
+
+of-a : (xs ys : List Presented) → length (batches_of A (all_of A xs ++ all_of B ys)) ≡ length xs
+of-a [] ys = of-other ys
+of-a (x ∷ xs) ys = ap suc (of-a xs ys)
+
+of-b : (xs ys : List Presented) → length (batches_of B (all_of A xs ++ all_of B ys)) ≡ length ys
+of-b [] ys = of-own-b ys
+of-b (x ∷ xs) ys = of-b xs ys
+
+-- merging keeps all batches of each side
+pub length-a : (xs ys : List Presented) → length (batches_of A (merged xs ys)) ≡ length xs
+length-a xs ys = ap (λ (l : List Sided). length (batches_of A l)) (merged-def xs ys) ∙ by-length A (all_of A xs ++ all_of B ys) ∙ of-a xs ys
+
+pub length-b : (xs ys : List Presented) → length (batches_of B (merged xs ys)) ≡ length ys
+length-b xs ys = ap (λ (l : List Sided). length (batches_of B l)) (merged-def xs ys) ∙ by-length B (all_of A xs ++ all_of B ys) ∙ of-b xs ys

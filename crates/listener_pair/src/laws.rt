@@ -1,10 +1,11 @@
 //! Laws of pairs and differences. Each is a function whose contract states the law; a call does nothing.
 
-ghost use Rattle.std.specs.Prelude.{◌≡◌, ◌≤◌, ◌++◌, Bool, true, ℕ, List};
+ghost use Rattle.std.specs.Prelude.{◌≡◌, ◌+◌, ◌≤◌, ◌++◌, Bool, true, ℕ, List, length};
 ghost use Rattle.std.specs.List.{AllByRecursion};
 ghost use mathlib.Core.List.{IsPrefix};
+ghost use Rattle.sample_schedule.specs.Batches.{Presented};
 ghost use Rattle.listener_pair.specs.declared.difference.Which.TheVariants.{A, B};
-ghost use Rattle.listener_pair.specs.Differences.{differences};
+ghost use Rattle.listener_pair.specs.Differences.{counts_of, differences};
 ghost use Rattle.listener_pair.specs.Laws.{IsPair, times_paired};
 ghost use Rattle.listener_pair.specs.Matching.{IsSorted, batches_of};
 ghost use Rattle.listener_pair.specs.Merged.{Sided, known, merged};
@@ -36,4 +37,10 @@ pub fn each_batch_is_paired_once()
 /// A list in merged order is the merged list of its two sides, and so the only one.
 pub fn merged_is_the_only_one()
     ensures { (list : List Sided) → IsSorted list → merged (batches_of A list) (batches_of B list) ≡ list }
+{}
+
+/// Each batch is in one pair or in none: of each side, the pairs and the batches in none are as many as its batches.
+pub fn counts_add_up()
+    ensures a { (xs ys : List Presented) → (counts_of (merged xs ys)).matched + (counts_of (merged xs ys)).only_a ≡ length xs }
+    ensures b { (xs ys : List Presented) → (counts_of (merged xs ys)).matched + (counts_of (merged xs ys)).only_b ≡ length ys }
 {}

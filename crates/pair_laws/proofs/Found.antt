@@ -21,11 +21,11 @@ use Rattle.listener_pair.specs.declared.difference.Which.TheVariants.{A, B}
 use Rattle.listener_pair.specs.declared.placed.Paired.{Paired}
 use Rattle.listener_pair.specs.declared.placed.Placed.{Placed}
 use Rattle.listener_pair.specs.Merged.{Sided, is_side, merged}
-use Rattle.listener_pair.specs.Pairs.{are_near, at_place, fits, left_by, may_pair, pair_by, pairs, pairs_from, partner_of, reaches, unpaired_from, within_reach, without_first}
+use Rattle.listener_pair.specs.Pairs.{are_near, at_place, fits, left_by, may_pair, pair_by, pairs, pairs_from, partner_of, reaches, unpaired, unpaired_from, within_reach, without_first}
 use Rattle.listener_pair.specs.Matching.{IsSorted, MayPrecede, batches_of, of_side}
-use Rattle.listener_pair.proofs.Sorting.{all-left, all-right, batches-append}
+use Rattle.listener_pair.proofs.Sorting.{all-left, all-right, all-weaker, batches-append}
 use Rattle.listener_pair.proofs.Windows.{le-yes}
-use Rattle.pair_laws.specs.Agreeing.{HasPace, IsPairOf, IsPresentedOfTalker, KeepsPace}
+use Rattle.pair_laws.specs.Agreeing.{HasPace, IsOfAnother, IsPairOf, IsPresentedOfTalker, KeepsPace}
 use Rattle.pair_laws.specs.Beside.{AreAllTold, AreTold, IsPresentation}
 use Rattle.pair_laws.proofs.Agreeing.{both-left, both-right, left-all, one-that-fits, without-all}
 use Rattle.pair_laws.proofs.Beside.{AllAt, batches-at, between-at, part-few, parts, pairs-cons, pairs-nil, same-same, sides-length, sorted-after, sorted-back, sorted-before, unpaired-cons, unpaired-nil, zero-far}
@@ -122,6 +122,13 @@ first-of : (by : Bool) (p : PacketJournal) (n : ℕ) (x w : Placed) (l r : List 
 first-of by p n x w [] r is tx ox h may = ap (λ v. cond v (Some w) (find (may_pair x) r)) may
 first-of by p n x w (u ∷ l) r is tx ox h may = ap (λ v. cond v (Some u) (find (may_pair x) (l ++ w ∷ r))) (false-of (may_pair x u) (no-pair by p n x u is tx ox h.0)) ∙ first-of by p n x w l r is tx ox h.1 may
 
+-- none of the packet is left once x was paired
+without-found : (by : Bool) (p : PacketJournal) (n : ℕ) (x w : Placed) (l r : List Placed) → Conforms p.times → IsPresentedOfTalker by p x.batch → IsOfPacket by p n x.batch → AllElse by p n l → AllElse by p n r → may_pair x w ≡ true → AllElse by p n (without_first (may_pair x) (l ++ w ∷ r))
+without-found by p n x w [] r is tx ox hl hr may = subst (AllElse by p n) (sym (ap (λ v. cond v r (w ∷ without_first (may_pair x) r)) may)) hr
+without-found by p n x w (u ∷ l) r is tx ox hl hr may =
+    subst (AllElse by p n) (sym (ap (λ v. cond v (l ++ w ∷ r) (u ∷ without_first (may_pair x) (l ++ w ∷ r))) (false-of (may_pair x u) (no-pair by p n x u is tx ox hl.0))))
+    (hl.0, without-found by p n x w l r is tx ox hl.1 hr may)
+
 -- the batch waits among others
 record Waits (by : Bool) (p : PacketJournal) (n : ℕ) (w : Placed) (us : List Placed) : Type 0 where
   before : List Placed
@@ -189,6 +196,19 @@ pairs-split place us (x ∷ xs) ys =
     ∙ ap (λ k. pairs_from place us (x ∷ xs) ++ pairs_from k (unpaired_from (suc place) vs xs) ys) e
     ∙ ap (λ (l : List Placed). pairs_from place us (x ∷ xs) ++ pairs_from (place + suc (length xs)) l ys) (sym (unpaired-cons place us x xs))
 
+unpaired-split : (place : ℕ) (us : List Placed) (xs ys : List Sided) → unpaired_from place us (xs ++ ys) ≡ unpaired_from (place + length xs) (unpaired_from place us xs) ys
+unpaired-split place us [] ys =
+    let e : place ≡ place + 0 = omega arith in
+    ap (λ k. unpaired_from k us ys) e ∙ ap (λ (l : List Placed). unpaired_from (place + 0) l ys) (sym (unpaired-nil place us))
+unpaired-split place us (x ∷ xs) ys =
+    let q = at_place place x in
+    let vs = left_by q us (partner_of q us) in
+    let e : suc place + length xs ≡ place + suc (length xs) = omega arith in
+    unpaired-cons place us x (xs ++ ys)
+    ∙ unpaired-split (suc place) vs xs ys
+    ∙ ap (λ k. unpaired_from k (unpaired_from (suc place) vs xs) ys) e
+    ∙ ap (λ (l : List Placed). unpaired_from (place + suc (length xs)) l ys) (sym (unpaired-cons place us x xs))
+
 any-here : {X : Type 0} (P : X → Type 0) (before : List X) (x : X) (after : List X) → P x → Any P (before ++ x ∷ after)
 any-here P before x after h = (length before, x, within before, there before, h)
   where
@@ -202,10 +222,15 @@ any-here P before x after h = (length before, x, within before, there before, h)
 any-later : {X : Type 0} (P : X → Type 0) (before : List X) (x : X) (list after : List X) → list ≡ x ∷ after → P x → Any P (before ++ list)
 any-later P before x list after e h = subst (λ (l : List _). Any P (before ++ l)) (sym e) (any-here P before x after h)
 
+-- two batches are a pair, and none of packet n is left
+record AreFound (by : Bool) (p : PacketJournal) (n : ℕ) (a b : Presented) (list : List Sided) : Type 0 where
+  pair : Any (IsPairOf a b) (pairs list)
+  left : AllElse by p n (unpaired list)
+
 -- of a list, a batch of packet n, others, and another of packet n of the other side, near enough: the two are a pair
-pub meets : (by : Bool) (p : PacketJournal) (n : ℕ) (front mid rest : List Sided) (w z : Sided) → Conforms p.times → IsPresentedOfTalker by p w.batch → IsPresentedOfTalker by p z.batch → IsOfPacket by p n w.batch → IsOfPacket by p n z.batch → is_side z.side w.side ≡ false
-    → AllByRecursion (λ x. IsElse by p n x.batch) front → AllByRecursion (λ x. IsElse by p n x.batch) mid → length (w ∷ mid) ≤ 512 → Any (IsPairOf w.batch z.batch) (pairs (front ++ w ∷ (mid ++ z ∷ rest)))
-meets by p n front mid rest w z is tw tz ow oz sides hf hm near =
+meets : (by : Bool) (p : PacketJournal) (n : ℕ) (front mid rest : List Sided) (w z : Sided) → Conforms p.times → IsPresentedOfTalker by p w.batch → IsPresentedOfTalker by p z.batch → IsOfPacket by p n w.batch → IsOfPacket by p n z.batch → is_side z.side w.side ≡ false
+    → AllByRecursion (λ x. IsElse by p n x.batch) front → AllByRecursion (λ x. IsElse by p n x.batch) mid → AllByRecursion (λ x. IsElse by p n x.batch) rest → length (w ∷ mid) ≤ 512 → AreFound by p n w.batch z.batch (front ++ w ∷ (mid ++ z ∷ rest))
+meets by p n front mid rest w z is tw tz ow oz sides hf hm hr near =
     let place = 0 + length front in
     let u0 = unpaired_from 0 [] front in
     let wp = at_place place w in
@@ -227,8 +252,18 @@ meets by p n front mid rest w z is tw tz ow oz sides hf hm near =
     let all = pairs-split 0 [] front (w ∷ (mid ++ z ∷ rest)) ∙ ap (λ (l : List Paired). pairs_from 0 [] front ++ l) (pairs-cons place u0 w (mid ++ z ∷ rest) ∙ ap (λ (l : List Paired). pair_by wp (partner_of wp u0) ++ l) (pairs-split (suc place) u1 mid (z ∷ rest))) in
     let assoc : pairs_from 0 [] front ++ (pair_by wp (partner_of wp u0) ++ (after_w ++ tail)) ≡ (pairs_from 0 [] front ++ (pair_by wp (partner_of wp u0) ++ after_w)) ++ tail =
     ap (λ (l : List Paired). pairs_from 0 [] front ++ l) (sym (append_assoc (pair_by wp (partner_of wp u0)) after_w tail)) ∙ sym (append_assoc (pairs_from 0 [] front) (pair_by wp (partner_of wp u0) ++ after_w) tail) in
-    subst (λ (l : List Paired). Any (IsPairOf w.batch z.batch) l) (sym (all ∙ assoc))
-    (any-later (IsPairOf w.batch z.batch) (pairs_from 0 [] front ++ (pair_by wp (partner_of wp u0) ++ after_w)) pair tail (pairs_from (suc (suc place + length mid)) (left_by zp u2 (Some wp)) rest) last (inl (refl, refl)))
+    let end = suc (suc place + length mid) in
+    let u3 = left_by zp u2 (partner_of zp u2) in
+    let others : AllElse by p n u3 =
+    subst (λ (o : Option Placed). AllElse by p n (left_by zp u2 o)) (sym found)
+    (subst (λ (k : List Placed). AllElse by p n (without_first (may_pair zp) k)) (sym waits2.split) (without-found by p n zp wp waits2.before waits2.after is tz oz waits2.all_before waits2.all_after may)) in
+    let rest_of =
+    unpaired-split 0 [] front (w ∷ (mid ++ z ∷ rest)) ∙ unpaired-cons place u0 w (mid ++ z ∷ rest) ∙ unpaired-split (suc place) u1 mid (z ∷ rest) ∙ unpaired-cons (suc place + length mid) u2 z rest in
+    record {
+      pair = subst (λ (l : List Paired). Any (IsPairOf w.batch z.batch) l) (sym (all ∙ assoc))
+          (any-later (IsPairOf w.batch z.batch) (pairs_from 0 [] front ++ (pair_by wp (partner_of wp u0) ++ after_w)) pair tail (pairs_from end (left_by zp u2 (Some wp)) rest) last (inl (refl, refl)));
+      left = subst (AllElse by p n) (sym rest_of) (unpaired-all (IsElse by p n) end u3 rest others hr);
+    }
 
 -- ---- where the two stand
 
@@ -390,50 +425,54 @@ talker-in : (by : Bool) (p : PacketJournal) (before : List Presented) (x : Prese
 talker-in by p before x after list e all = (all-right (IsPresentedOfTalker by p) before (x ∷ after) (subst (AreTalkers by p) e all)).0
 
 a-first : (by : Bool) (p : PacketJournal) (n : ℕ) (xs ys : List Presented) (a b : Presented) (front r1 r2 list : List Sided) (x1 x2 y1 y2 m : List Presented) → Conforms p.times → Given by p n xs ys a b → IsSorted list → batches_of A list ≡ xs → batches_of B list ≡ ys
-    → list ≡ front ++ of_side A a ∷ (r1 ++ of_side B b ∷ r2) → xs ≡ x1 ++ a ∷ x2 → ys ≡ y1 ++ b ∷ y2 → batches_of A front ≡ x1 → batches_of A (r1 ++ of_side B b ∷ r2) ≡ x2 → batches_of B r1 ≡ m → y1 ≡ batches_of B front ++ m
-    → Any (IsPairOf a b) (pairs list)
-a-first by p n xs ys a b front r1 r2 list x1 x2 y1 y2 m is g sorted ea eb whole ex ey fa ra rb first =
+    → list ≡ front ++ of_side A a ∷ (r1 ++ of_side B b ∷ r2) → xs ≡ x1 ++ a ∷ x2 → ys ≡ y1 ++ b ∷ y2 → batches_of A front ≡ x1 → batches_of A (r1 ++ of_side B b ∷ r2) ≡ x2 → batches_of B r1 ≡ m → y1 ≡ batches_of B front ++ m → batches_of B r2 ≡ y2
+    → AreFound by p n a b list
+a-first by p n xs ys a b front r1 r2 list x1 x2 y1 y2 m is g sorted ea eb whole ex ey fa ra rb first last =
     let ox = others-of by p n xs x1 a x2 ex is g.of_a g.talkers_a g.is_a.told in
     let oy = others-of by p n ys y1 b y2 ey is g.of_b g.talkers_b g.is_b.told in
     let y_all = subst (AllByRecursion (IsElse by p n)) first oy.before_all in
     let hf = both-else by p n front (subst (AllByRecursion (IsElse by p n)) (sym fa) ox.before_all) (all-left (IsElse by p n) (batches_of B front) m y_all) in
     let x_all = subst (AllByRecursion (IsElse by p n)) (sym ra ∙ batches-append A r1 (of_side B b ∷ r2)) ox.after_all in
     let hm = both-else by p n r1 (all-left (IsElse by p n) (batches_of A r1) (batches_of A (of_side B b ∷ r2)) x_all) (subst (AllByRecursion (IsElse by p n)) (sym rb) (all-right (IsElse by p n) (batches_of B front) m y_all)) in
+    let hr = both-else by p n r2 (all-right (IsElse by p n) (batches_of A r1) (batches_of A (of_side B b ∷ r2)) x_all) (subst (AllByRecursion (IsElse by p n)) (sym last) oy.after_all) in
     let near = few-between front r1 r2 (of_side A a) (of_side B b) xs ys (subst IsSorted whole sorted) (one-first by p n a b is g.of_a g.of_b) (ap (batches_of A) (sym whole) ∙ ea) (ap (batches_of B) (sym whole) ∙ eb) g.is_a g.is_b in
-    subst (λ (l : List Sided). Any (IsPairOf a b) (pairs l)) (sym whole) (meets by p n front r1 r2 (of_side A a) (of_side B b) is g.talker_a g.talker_b g.of_a g.of_b refl hf hm near)
+    subst (AreFound by p n a b) (sym whole) (meets by p n front r1 r2 (of_side A a) (of_side B b) is g.talker_a g.talker_b g.of_a g.of_b refl hf hm hr near)
 
 b-first : (by : Bool) (p : PacketJournal) (n : ℕ) (xs ys : List Presented) (a b : Presented) (front r1 r2 list : List Sided) (x1 x2 y1 y2 m : List Presented) → Conforms p.times → Given by p n xs ys a b → IsSorted list → batches_of A list ≡ xs → batches_of B list ≡ ys
-    → list ≡ front ++ of_side B b ∷ (r1 ++ of_side A a ∷ r2) → xs ≡ x1 ++ a ∷ x2 → ys ≡ y1 ++ b ∷ y2 → batches_of B front ≡ y1 → batches_of A front ++ batches_of A r1 ≡ x1 → batches_of B r1 ++ m ≡ y2
-    → Any (IsPairOf a b) (pairs list)
-b-first by p n xs ys a b front r1 r2 list x1 x2 y1 y2 m is g sorted ea eb whole ex ey fb fa rb =
+    → list ≡ front ++ of_side B b ∷ (r1 ++ of_side A a ∷ r2) → xs ≡ x1 ++ a ∷ x2 → ys ≡ y1 ++ b ∷ y2 → batches_of B front ≡ y1 → batches_of A front ++ batches_of A r1 ≡ x1 → batches_of B r1 ++ m ≡ y2 → batches_of A r2 ≡ x2 → batches_of B r2 ≡ m
+    → AreFound by p n a b list
+b-first by p n xs ys a b front r1 r2 list x1 x2 y1 y2 m is g sorted ea eb whole ex ey fb fa rb last_a last_b =
     let ox = others-of by p n xs x1 a x2 ex is g.of_a g.talkers_a g.is_a.told in
     let oy = others-of by p n ys y1 b y2 ey is g.of_b g.talkers_b g.is_b.told in
     let x_all = subst (AllByRecursion (IsElse by p n)) (sym fa) ox.before_all in
+    let y_all = subst (AllByRecursion (IsElse by p n)) (sym rb) oy.after_all in
     let hf = both-else by p n front (all-left (IsElse by p n) (batches_of A front) (batches_of A r1) x_all) (subst (AllByRecursion (IsElse by p n)) (sym fb) oy.before_all) in
-    let hm = both-else by p n r1 (all-right (IsElse by p n) (batches_of A front) (batches_of A r1) x_all) (all-left (IsElse by p n) (batches_of B r1) m (subst (AllByRecursion (IsElse by p n)) (sym rb) oy.after_all)) in
+    let hm = both-else by p n r1 (all-right (IsElse by p n) (batches_of A front) (batches_of A r1) x_all) (all-left (IsElse by p n) (batches_of B r1) m y_all) in
+    let hr = both-else by p n r2 (subst (AllByRecursion (IsElse by p n)) (sym last_a) ox.after_all) (subst (AllByRecursion (IsElse by p n)) (sym last_b) (all-right (IsElse by p n) (batches_of B r1) m y_all)) in
     let near = few-between front r1 r2 (of_side B b) (of_side A a) xs ys (subst IsSorted whole sorted) (one-first by p n b a is g.of_b g.of_a) (ap (batches_of A) (sym whole) ∙ ea) (ap (batches_of B) (sym whole) ∙ eb) g.is_a g.is_b in
-    any-swap a b (pairs list) (subst (λ (l : List Sided). Any (IsPairOf b a) (pairs l)) (sym whole) (meets by p n front r1 r2 (of_side B b) (of_side A a) is g.talker_b g.talker_a g.of_b g.of_a refl hf hm near))
+    let found = subst (AreFound by p n b a) (sym whole) (meets by p n front r1 r2 (of_side B b) (of_side A a) is g.talker_b g.talker_a g.of_b g.of_a refl hf hm hr near) in
+    record { pair = any-swap a b (pairs list) found.pair; left = found.left }
 
-found-at : (by : Bool) (p : PacketJournal) (n : ℕ) (xs ys : List Presented) (a b : Presented) (list : List Sided) (x1 x2 y1 y2 : List Presented) → Conforms p.times → Given by p n xs ys a b → IsSorted list → batches_of A list ≡ xs → batches_of B list ≡ ys → xs ≡ x1 ++ a ∷ x2 → ys ≡ y1 ++ b ∷ y2 → Any (IsPairOf a b) (pairs list)
+found-at : (by : Bool) (p : PacketJournal) (n : ℕ) (xs ys : List Presented) (a b : Presented) (list : List Sided) (x1 x2 y1 y2 : List Presented) → Conforms p.times → Given by p n xs ys a b → IsSorted list → batches_of A list ≡ xs → batches_of B list ≡ ys → xs ≡ x1 ++ a ∷ x2 → ys ≡ y1 ++ b ∷ y2 → AreFound by p n a b list
 found-at by p n xs ys a b list x1 x2 y1 y2 is g sorted ea eb ex ey = at (locate (batches_of B sa.front) (batches_of B sa.rest) y1 b y2 (sym (batches-append B sa.front (of_side A a ∷ sa.rest)) ∙ ap (batches_of B) (sym sa.whole) ∙ eb ∙ ey))
   where
     sa : Split A list x1 a x2
     sa = split-at A list x1 a x2 (ea ∙ ex)
 
-    at : InFirst (batches_of B sa.front) (batches_of B sa.rest) y1 b y2 ⊎ InSecond (batches_of B sa.front) (batches_of B sa.rest) y1 b y2 → Any (IsPairOf a b) (pairs list)
+    at : InFirst (batches_of B sa.front) (batches_of B sa.rest) y1 b y2 ⊎ InSecond (batches_of B sa.front) (batches_of B sa.rest) y1 b y2 → AreFound by p n a b list
     at (inr h) =
         let sb = split-at B sa.rest h.mid b y2 h.is in
-        a-first by p n xs ys a b sa.front sb.front sb.rest list x1 x2 y1 y2 h.mid is g sorted ea eb (sa.whole ∙ ap (λ (l : List Sided). sa.front ++ of_side A a ∷ l) sb.whole) ex ey sa.ahead (ap (batches_of A) (sym sb.whole) ∙ sa.behind) sb.ahead h.first
+        a-first by p n xs ys a b sa.front sb.front sb.rest list x1 x2 y1 y2 h.mid is g sorted ea eb (sa.whole ∙ ap (λ (l : List Sided). sa.front ++ of_side A a ∷ l) sb.whole) ex ey sa.ahead (ap (batches_of A) (sym sb.whole) ∙ sa.behind) sb.ahead h.first sb.behind
     at (inl h) =
         let sb = split-at B sa.front y1 b h.mid h.is in
         b-first by p n xs ys a b sb.front sb.rest sa.rest list x1 x2 y1 y2 (batches_of B sa.rest) is g sorted ea eb
         (sa.whole ∙ ap (λ (l : List Sided). l ++ of_side A a ∷ sa.rest) sb.whole ∙ append_assoc sb.front (of_side B b ∷ sb.rest) (of_side A a ∷ sa.rest)) ex ey sb.ahead
-        (sym (batches-append A sb.front (of_side B b ∷ sb.rest)) ∙ ap (batches_of A) (sym sb.whole) ∙ sa.ahead) (ap (λ (l : List Presented). l ++ batches_of B sa.rest) sb.behind ∙ sym h.then)
+        (sym (batches-append A sb.front (of_side B b ∷ sb.rest)) ∙ ap (batches_of A) (sym sb.whole) ∙ sa.ahead) (ap (λ (l : List Presented). l ++ batches_of B sa.rest) sb.behind ∙ sym h.then) sa.behind refl
 
--- two batches that two listeners present of one packet are a pair
-pub captures-paired : (shift : ℤ) (p : PacketJournal) (plan other : ListenPlan) (records others : List Record) → HearsTalker shift p plan records → HearsTalker shift p other others → by_clock other ≡ by_clock plan → (n i k : ℕ) (a b : Presented)
-    → slice_get (presented_of (shown_of plan records)) i ≡ Some a → slice_get (presented_of (shown_of other others)) k ≡ Some b → IsOfPacket (by_clock plan) p n a → IsOfPacket (by_clock plan) p n b → Any (IsPairOf a b) (pairs (merged (presented_of (shown_of plan records)) (presented_of (shown_of other others))))
-captures-paired shift p plan other records others h g e n i k a b there_a there_b oa ob =
+-- two batches that two listeners present of one packet are found
+captures-found : (shift : ℤ) (p : PacketJournal) (plan other : ListenPlan) (records others : List Record) → HearsTalker shift p plan records → HearsTalker shift p other others → by_clock other ≡ by_clock plan → (n i k : ℕ) (a b : Presented)
+    → slice_get (presented_of (shown_of plan records)) i ≡ Some a → slice_get (presented_of (shown_of other others)) k ≡ Some b → IsOfPacket (by_clock plan) p n a → IsOfPacket (by_clock plan) p n b → AreFound (by_clock plan) p n a b (merged (presented_of (shown_of plan records)) (presented_of (shown_of other others)))
+captures-found shift p plan other records others h g e n i k a b there_a there_b oa ob =
     let xs = presented_of (shown_of plan records) in
     let ys = presented_of (shown_of other others) in
     let tx = presented-of-talker shift p plan records h in
@@ -446,3 +485,15 @@ captures-paired shift p plan other records others h g e n i k a b there_a there_
     found-at (by_clock plan) p n xs ys a b (merged xs ys) ca.before ca.after cb.before cb.after h.conforming.times
     (record { talkers_a = tx; talkers_b = ty; is_a = px; is_b = py; of_a = oa; of_b = ob; talker_a = talker-in (by_clock plan) p ca.before a ca.after xs ca.is tx; talker_b = talker-in (by_clock plan) p cb.before b cb.after ys cb.is ty })
     m.sorted m.a m.b ca.is cb.is
+
+-- two batches that two listeners present of one packet are a pair
+pub captures-paired : (shift : ℤ) (p : PacketJournal) (plan other : ListenPlan) (records others : List Record) → HearsTalker shift p plan records → HearsTalker shift p other others → by_clock other ≡ by_clock plan → (n i k : ℕ) (a b : Presented)
+    → slice_get (presented_of (shown_of plan records)) i ≡ Some a → slice_get (presented_of (shown_of other others)) k ≡ Some b → IsOfPacket (by_clock plan) p n a → IsOfPacket (by_clock plan) p n b → Any (IsPairOf a b) (pairs (merged (presented_of (shown_of plan records)) (presented_of (shown_of other others))))
+captures-paired shift p plan other records others h g e n i k a b there_a there_b oa ob = (captures-found shift p plan other records others h g e n i k a b there_a there_b oa ob).pair
+
+-- of a packet that both listeners present, no batch is in no pair
+pub captures-leave-none : (shift : ℤ) (p : PacketJournal) (plan other : ListenPlan) (records others : List Record) → HearsTalker shift p plan records → HearsTalker shift p other others → by_clock other ≡ by_clock plan → (n i k : ℕ) (a b : Presented)
+    → slice_get (presented_of (shown_of plan records)) i ≡ Some a → slice_get (presented_of (shown_of other others)) k ≡ Some b → IsOfPacket (by_clock plan) p n a → IsOfPacket (by_clock plan) p n b → AllByRecursion (IsOfAnother (by_clock plan) p n) (unpaired (merged (presented_of (shown_of plan records)) (presented_of (shown_of other others))))
+captures-leave-none shift p plan other records others h g e n i k a b there_a there_b oa ob =
+    all-weaker (λ u. IsElse (by_clock plan) p n u.batch) (IsOfAnother (by_clock plan) p n) (λ u d. d.other) (unpaired (merged (presented_of (shown_of plan records)) (presented_of (shown_of other others))))
+    (captures-found shift p plan other records others h g e n i k a b there_a there_b oa ob).left

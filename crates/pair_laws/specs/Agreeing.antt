@@ -5,6 +5,7 @@ use Rattle.stream_journal.specs.Journal.{Am824, DenseAaf, H264, Kind, SparseAaf}
 use Rattle.packet_journal.specs.Packets.{PacketJournal}
 use Rattle.listener.specs.Laws.{IsOfJournal, IsOfPacket}
 use Rattle.listener_pair.specs.declared.placed.Paired.{Paired}
+use Rattle.listener_pair.specs.declared.placed.Placed.{Placed}
 
 -- the samples of a batch are 7/8 to 9/8 of their nominal spacing apart, at this rate
 pub record HasPace (rate : ℕ) (batch : Presented) : Type 0 where
@@ -30,6 +31,10 @@ pub record IsOneOf (by : Bool) (p : PacketJournal) (pair : Paired) : Type 0 wher
   pub number : ℕ
   pub earlier : IsOfPacket by p number pair.earlier.batch
   pub later : IsOfPacket by p number pair.later.batch
+
+-- a batch is not this packet or unit of the journal
+abbrev pub IsOfAnother : Bool → PacketJournal → ℕ → Placed → Type 0
+IsOfAnother by p number x = IsOfPacket by p number x.batch → ⊥
 
 -- two batches are a pair, in the one order or the other
 abbrev pub IsPairOf : Presented → Presented → Paired → Type 0

@@ -12,9 +12,9 @@ ghost use Rattle.listener.specs.Listening.{is_closed};
 ghost use Rattle.listener_pair.specs.declared.difference.Which.TheVariants.{A, B};
 ghost use Rattle.listener_pair.specs.Differences.{counts_of, differences};
 ghost use Rattle.listener_pair.specs.Merged.{Sided, known, merged};
-ghost use Rattle.listener_pair.specs.Pairs.{pairs};
+ghost use Rattle.listener_pair.specs.Pairs.{pairs, unpaired};
 ghost use Rattle.capture_pair.specs.Pairing.{Continues, EndsAreClosed, HavePlan, PairState, StandsFor, known_by, wanted_by};
-ghost use Rattle.pair_laws.specs.Agreeing.{IsOneOf, IsPairOf, IsPresentedOfTalker};
+ghost use Rattle.pair_laws.specs.Agreeing.{IsOfAnother, IsOneOf, IsPairOf, IsPresentedOfTalker};
 ghost use Rattle.pair_laws.specs.Beside.{IsPresentation};
 
 /// A capture beside itself never differs, whatever it holds: all that a listener presents of it is paired, each batch with itself.
@@ -27,8 +27,8 @@ pub fn a_capture_beside_itself_never_differs()
 
 /// Captures of one talker that keeps the rules never differ. Whatever each of two captures lost, repeated or reordered of the
 /// talker's packets and of its clock's, and wherever these restart: each pair is of one packet or unit of the talker, no pair
-/// differs, and two batches that are one packet or unit are a pair. The two listeners have one choice of the clock; their buffers,
-/// look-ahead and lead may differ.
+/// differs, and two batches that are one packet or unit are a pair. So the pairs are the packets and units that both present: of
+/// these no batch is in no pair. The two listeners have one choice of the clock; their buffers, look-ahead and lead may differ.
 pub fn captures_of_one_talker_never_differ()
     ensures differ { (shift : ℤ) (p : PacketJournal) (plan other : ListenPlan) (records others : List Record) → HearsTalker shift p plan records → HearsTalker shift p other others → by_clock other ≡ by_clock plan
         → differences (merged (presented_of (shown_of plan records)) (presented_of (shown_of other others))) ≡ [] }
@@ -37,6 +37,9 @@ pub fn captures_of_one_talker_never_differ()
     ensures paired { (shift : ℤ) (p : PacketJournal) (plan other : ListenPlan) (records others : List Record) → HearsTalker shift p plan records → HearsTalker shift p other others → by_clock other ≡ by_clock plan → (n i k : ℕ) (a b : Presented)
         → slice_get (presented_of (shown_of plan records)) i ≡ Some a → slice_get (presented_of (shown_of other others)) k ≡ Some b → IsOfPacket (by_clock plan) p n a → IsOfPacket (by_clock plan) p n b
         → Any (IsPairOf a b) (pairs (merged (presented_of (shown_of plan records)) (presented_of (shown_of other others)))) }
+    ensures none_left { (shift : ℤ) (p : PacketJournal) (plan other : ListenPlan) (records others : List Record) → HearsTalker shift p plan records → HearsTalker shift p other others → by_clock other ≡ by_clock plan → (n i k : ℕ) (a b : Presented)
+        → slice_get (presented_of (shown_of plan records)) i ≡ Some a → slice_get (presented_of (shown_of other others)) k ≡ Some b → IsOfPacket (by_clock plan) p n a → IsOfPacket (by_clock plan) p n b
+        → AllByRecursion (IsOfAnother (by_clock plan) p n) (unpaired (merged (presented_of (shown_of plan records)) (presented_of (shown_of other others)))) }
 {}
 
 /// The same of any list of batches that are the talker's, as the part that is known while captures go on. All that a listener
