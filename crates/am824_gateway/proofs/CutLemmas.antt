@@ -119,7 +119,7 @@ cuts_all P n batch [] all = tt
 cuts_all P n batch (p ∷ pieces) all = (all.0, cuts_all P (suc n) batch pieces all.1)
 
 -- what holds of instants from a sample on holds of all pieces that begin there or later
-cuts_begin : (P : ℤ → Type 0) (n : ℕ) (batch : Presented) (first : ℕ) (pieces : List Piece) → ((j : ℕ) → first ≤ j → j < batch.count → P (sample_instant batch j)) → AllByRecursion (BeginsFrom batch first) pieces
+pub cuts_begin : (P : ℤ → Type 0) (n : ℕ) (batch : Presented) (first : ℕ) (pieces : List Piece) → ((j : ℕ) → first ≤ j → j < batch.count → P (sample_instant batch j)) → AllByRecursion (BeginsFrom batch first) pieces
     → AllByRecursion P (map cut_instant (cuts_from n batch pieces))
 cuts_begin P n batch first pieces holds all = cuts_all P n batch pieces (all_by (BeginsFrom batch first) (λ p. P (sample_instant batch p.first)) (λ p is. holds p.first is.from is.inside) pieces all)
 
@@ -182,7 +182,7 @@ after_by to shape given b bs x l None is e h rising skipped taken =
     (taken (omega (arith, ints, h, begun, ended))))
 
 -- all pieces are after an instant that is not after the last that was given out
-after_all : (to : To) (shape : Shape) (given : Given) (batches : List Presented) (x l : ℤ) → given.last ≡ Some l → x ≤ℤ l → AllByRecursion HasRisingInstants batches
+pub after_all : (to : To) (shape : Shape) (given : Given) (batches : List Presented) (x l : ℤ) → given.last ≡ Some l → x ≤ℤ l → AllByRecursion HasRisingInstants batches
     → AllByRecursion (λ y. x <ℤ y) (map cut_instant (cuts_after to shape given batches))
 after_all to shape given [] x l e h all = tt
 after_all to shape given (b ∷ bs) x l e h all =

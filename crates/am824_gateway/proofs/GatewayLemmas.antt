@@ -121,7 +121,7 @@ length_values to shape batch p h size =
     length-part (p.first * (value_in to * shape.channels)) (p.count * (value_in to * shape.channels)) batch.bytes
     (values_within p.first p.count batch.count (value_in to * shape.channels) (length batch.bytes) h size)
 
-length_turned : (to : To) (shape : Shape) (p : Piece) (values : List ℕ) → length values ≡ p.count * (value_in to * shape.channels)
+pub length_turned : (to : To) (shape : Shape) (p : Piece) (values : List ℕ) → length values ≡ p.count * (value_in to * shape.channels)
     → length (turned to (p.count * shape.channels) values) ≡ p.count * (value_out to * shape.channels)
 length_turned Am824 shape p values size = length_labelled (p.count * shape.channels) values (omega arith) ∙ omega arith
 length_turned Aaf shape p values size = length_unlabelled (p.count * shape.channels) values (omega arith) ∙ omega arith

@@ -6,3 +6,6 @@ pub mod HistoryLemmas
 pub mod CutLemmas
 pub mod ValueLemmas
 pub mod SampleLemmas
+pub mod Accepted
+pub mod Timely
+pub mod Shaped

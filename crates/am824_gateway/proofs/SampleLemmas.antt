@@ -45,7 +45,7 @@ no_offset zero = refl
 no_offset (suc rate) = omega arith
 
 -- so it is where it is counted
-counted_at : (to : To) (shape : Shape) (batch : Presented) (first k : ℕ) → k < piece_count to shape batch first → sample_instant batch first +ℤ pos (nominal_offset shape.rate k) ≡ sample_instant batch (first + k)
+pub counted_at : (to : To) (shape : Shape) (batch : Presented) (first k : ℕ) → k < piece_count to shape batch first → sample_instant batch first +ℤ pos (nominal_offset shape.rate k) ≡ sample_instant batch (first + k)
 counted_at to shape batch first zero h =
     let none = no_offset shape.rate in
     let same : first + 0 ≡ first = omega arith in

@@ -14,7 +14,7 @@ shape_more : (stream : ℕ) (first : Option Shape) (xs : List Record) (r : Recor
 shape_more stream first [] r = refl
 shape_more stream first (x ∷ xs) r = shape_more stream (shape_after first (content stream x.bytes)) xs r
 
-passed : (frame : ℕ) (fault : Option ScanFault) (later : Option FaultAt) → fault_or frame fault later ≡ None → (fault ≡ None) × (later ≡ None)
+pub passed : (frame : ℕ) (fault : Option ScanFault) (later : Option FaultAt) → fault_or frame fault later ≡ None → (fault ≡ None) × (later ≡ None)
 passed frame None later e = (refl, e)
 passed frame (Some fault) later e = absurd cc
 

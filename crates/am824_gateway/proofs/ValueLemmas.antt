@@ -48,7 +48,7 @@ values_front (suc n) xs ys h =
 
 -- ---- there and back
 
-back : (n : ℕ) (v : List ℕ) → 3 * n ≤ length v → unlabelled n (labelled n v) ≡ take (3 * n) v
+pub back : (n : ℕ) (v : List ℕ) → 3 * n ≤ length v → unlabelled n (labelled n v) ≡ take (3 * n) v
 back zero v h = refl
 back (suc n) v h =
     let quad : List ℕ = 0x40 ∷ take 3 (drop (3 * n) v) in

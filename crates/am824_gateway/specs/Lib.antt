@@ -7,4 +7,5 @@ pub mod Gateways
 pub mod Lending
 pub mod Laws
 pub mod Samples
+pub mod Shaped
 pub mod state

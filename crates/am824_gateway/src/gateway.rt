@@ -162,7 +162,7 @@ impl Gateway {
         })
     }
 
-    /// Cuts the next batch that is presented into pieces, and returns their number. Fewer than 2^40 batches were given out. A
+    /// Cuts the next batch that is presented into pieces, and returns their number. Fewer than 2^44 batches were given out. A
     /// skipped batch changes nothing. It allocates nothing.
     ///
     /// A batch is skipped for the first of these reasons that holds: `ShapeOff`: there is no shape, the batch is a unit of
@@ -170,7 +170,7 @@ impl Gateway {
     /// `Overlap`: it does not begin after the last sample that was given out. `Range`: a packet would arrive at 2^32 seconds or
     /// later.
     pub fn put(&mut self, batch: Batch) -> Result<u32, Skip>
-        requires few { self.old.given.batches < 2 ^ 40 }
+        requires few { self.old.given.batches < 2 ^ 44 }
         ensures given { OnOk result (self.new ≡ given_out self.old.shape self.old batch) }
         ensures number { IfOk result (λ number. number ≡ length self.new.frames) }
         ensures taken { OnOk result (skip_of self.old.to self.old.shape self.old.given batch ≡ None) }
@@ -208,6 +208,20 @@ impl Gateway {
             first,
         });
         Ok(number as u32)
+    }
+
+    /// The number of batches that were not skipped.
+    pub fn batches(&self) -> u64
+        ensures { result ≡ self.now.given.batches }
+    {
+        self.batches
+    }
+
+    /// The number of packets that carry them.
+    pub fn packets(&self) -> u64
+        ensures { result ≡ self.now.given.packets }
+    {
+        self.packets
     }
 
     /// What is sent for piece `i` of the last batch that was not skipped, counted from 0.

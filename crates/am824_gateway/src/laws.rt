@@ -1,6 +1,6 @@
 //! Laws of a gateway. Each is stated by a contract; the call does nothing.
 
-ghost use Rattle.std.specs.Prelude.{◌≡◌, ◌++◌, ◌∷◌, [], ℕ, List, map};
+ghost use Rattle.std.specs.Prelude.{◌≡◌, ◌≢◌, ◌++◌, ◌∷◌, [], ℕ, List, None, Option, Some, map};
 ghost use Rattle.std.specs.List.{AllByRecursion, flat_map};
 ghost use Rattle.talker.specs.Frames.{RiseByArrival};
 ghost use Rattle.sample_schedule.specs.Batches.{Presented};
@@ -8,9 +8,15 @@ ghost use Rattle.am824_gateway.specs.declared.scan.Shape.{Shape as ShapeValue};
 ghost use Rattle.am824_gateway.specs.declared.scan.To.{To as ToValue};
 ghost use Rattle.am824_gateway.specs.Laws.{HasRisingInstants, IsFrame, Rise, cut_frame, cut_instant, cuts_after, given_batches};
 ghost use Rattle.am824_gateway.specs.Packets.{frames_after, frames_with};
-ghost use Rattle.am824_gateway.specs.Pieces.{Given, given_by, skip_by, unless};
+ghost use Rattle.am824_gateway.specs.Pieces.{Given, given_by, skip_by, skip_of, unless};
 ghost use Rattle.am824_gateway.specs.Samples.{samples_presented, samples_sent};
-ghost use Rattle.am824_gateway.specs.Scan.{IsShape};
+ghost use Rattle.am824_gateway.specs.Scan.{IsShape, first_fault, shape_in};
+ghost use Rattle.am824_gateway.specs.Shaped.{IsShapedAs};
+ghost use Rattle.am824_gateway.specs.declared.skip.Skip.TheVariants.{ShapeOff};
+ghost use Rattle.listener.specs.declared.plan.ListenPlan.{ListenPlan};
+ghost use Rattle.listener.specs.Heard.{due_of, shown_of};
+ghost use Rattle.listener.specs.Laws.{presented_of};
+ghost use Rattle.pcap_frames.specs.Capture.{Record};
 
 /// The frames of one batch more come after those of the batches before it, if it is not skipped. So the frames that a gateway
 /// makes batch by batch are those of all batches.
@@ -43,4 +49,12 @@ pub fn frames_are_short_enough()
 pub fn samples_are_kept()
     ensures { (to : ToValue) (shape : ShapeValue) (given : Given) (batches : List Presented) → IsShape shape →
         flat_map (samples_sent to shape) (cuts_after to shape given batches) ≡ flat_map (samples_presented to shape) (given_batches to shape given batches) }
+{}
+
+/// Each batch that a listener presents of records in which a scan finds no fault has the shape that the scan finds. So a gateway
+/// never skips it for its shape. If the stream has no shape, nothing is presented.
+pub fn presented_batches_have_the_shape()
+    ensures shown { (to : ToValue) (plan : ListenPlan) (records : List Record) → first_fault to plan.stream records ≡ None → AllByRecursion (IsShapedAs to (shape_in plan.stream records)) (presented_of (shown_of plan records)) }
+    ensures due { (to : ToValue) (plan : ListenPlan) (records : List Record) → first_fault to plan.stream records ≡ None → AllByRecursion (IsShapedAs to (shape_in plan.stream records)) (presented_of (due_of plan records)) }
+    ensures kept { (to : ToValue) (shape : Option ShapeValue) (given : Given) (batch : Presented) → IsShapedAs to shape batch → skip_of to shape given batch ≢ Some ShapeOff }
 {}

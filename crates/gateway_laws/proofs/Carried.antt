@@ -42,7 +42,7 @@ steps : (f : ℤ) (k : ℕ) → f ≡ neg_ℤ (pos 0) → (f +ℤ pos k) *ℤ po
 steps f k e = rw e (omega (arith, ints))
 
 -- sample j of a packet that is stamped on its first one
-counted_sample : (p : Packet) (x : ℤ) (rate j : ℕ) → p.rate ≡ rate → 1 ≤ rate → sample_instant (counted_from_first p x) j ≡ x +ℤ pos (nominal_offset rate j)
+pub counted_sample : (p : Packet) (x : ℤ) (rate j : ℕ) → p.rate ≡ rate → 1 ≤ rate → sample_instant (counted_from_first p x) j ≡ x +ℤ pos (nominal_offset rate j)
 counted_sample p x rate j same some =
     ap (λ (z : ℤ). x +ℤ floor_of z p.rate) (steps (neg_ℤ (pos 0)) j refl)
     ∙ (ap (λ (d : ℕ). x +ℤ floor_of (pos (j * 1000000000)) d) same ∙ ap (λ (z : ℤ). x +ℤ z) (floor_natural (j * 1000000000) rate some))
@@ -72,7 +72,7 @@ all_heard to shape (p ∷ ps) (c ∷ cs) all =
     let rest = all_heard to shape ps cs all.1 in
     ap (λ (l : List Sample). l ++ flat_map (samples_heard to shape) (all_counted ps (map cut_instant cs))) here ∙ ap (λ (l : List Sample). samples_sent to shape c ++ l) rest
 
-stamped_all : (to : To) (shape : Shape) (ps : List Packet) (cs : List Cut) → CarryCuts to shape ps cs → AreStamped ps (map cut_instant cs)
+pub stamped_all : (to : To) (shape : Shape) (ps : List Packet) (cs : List Cut) → CarryCuts to shape ps cs → AreStamped ps (map cut_instant cs)
 stamped_all to shape [] [] all = tt
 stamped_all to shape [] (c ∷ cs) all = absurd all
 stamped_all to shape (p ∷ ps) [] all = absurd all

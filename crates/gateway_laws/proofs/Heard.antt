@@ -31,19 +31,26 @@ use Rattle.gateway_laws.specs.Heard.{BeginsInTime, packet_heard, packets_heard, 
 low_of : (z : ℤ) → pos 0 ≤ℤ z → pos (unsigned_abs z) ≡ z
 low_of z h = omega (arith, ints)
 
+-- a timestamp has 32 bits
+pub timestamp_small : (x : ℤ) → timestamp_at x < 2 ^ 32
+timestamp_small x =
+    let low = rest_natural x (2 ^ 32) in
+    let below = rest_below x (2 ^ 32) (omega arith) in
+    let same = low_of (int_rem_euclid x (pos (2 ^ 32))) low in
+    omega (arith, ints, same, below)
+
 -- a timestamp means the instant that was stamped
 means : (x : ℤ) → pos 0 ≤ℤ x → unfolded (timestamp_at x) (arrival_at x) ≡ x
 means x begun =
     let low = rest_natural x (2 ^ 32) in
-    let below = rest_below x (2 ^ 32) (omega arith) in
     let same = low_of (int_rem_euclid x (pos (2 ^ 32))) low in
-    let small : timestamp_at x < 2 ^ 32 = omega (arith, ints, same, below) in
+    let small = timestamp_small x in
     one_unfolded (timestamp_at x) (arrival_at x) (unfolded (timestamp_at x) (arrival_at x)) x (unfolded-unfolds (timestamp_at x) (arrival_at x) small)
     (record { low_bits = sym same; from = omega (arith, ints, int_max_is, begun); to = omega (arith, ints, int_max_is, begun) })
 
 -- ---- block counts
 
-interval_known : (shape : Shape) → IsShape shape → IsSytInterval (interval_of shape.rate)
+pub interval_known : (shape : Shape) → IsShape shape → IsSytInterval (interval_of shape.rate)
 interval_known shape is = (let known = is.rate in grind (arith, nat_tests))
 
 multiple_by : (interval n : ℕ) → IsSytInterval interval → n * interval % 256 % interval ≡ 0
@@ -58,7 +65,7 @@ after_multiple : (interval block : ℕ) (pieces : List Piece) → IsSytInterval 
 after_multiple interval block [] is e = e
 after_multiple interval block (p ∷ pieces) is e = after_multiple interval (next_block interval p.block p.count) pieces is (next_multiple interval p.block p.count is)
 
-first_stamped : (to : To) (shape : Shape) (p : Piece) → IsSytInterval (interval_of shape.rate) → p.block % interval_of shape.rate ≡ 0 → stamped_index (rule_of to shape p) ≡ 0
+pub first_stamped : (to : To) (shape : Shape) (p : Piece) → IsSytInterval (interval_of shape.rate) → p.block % interval_of shape.rate ≡ 0 → stamped_index (rule_of to shape p) ≡ 0
 first_stamped Aaf shape p is e = refl
 first_stamped Am824 shape p is e = rw e (whole (interval_of shape.rate) is)
   where
@@ -70,10 +77,10 @@ first_stamped Am824 shape p is e = rw e (whole (interval_of shape.rate) is)
 -- ---- pieces
 
 -- what a piece has for its packet to be heard
-record IsSound (interval : ℕ) (c : Cut) : Type 0 where
-  some : 1 ≤ c.piece.count
-  block : c.piece.block % interval ≡ 0
-  begun : pos 0 ≤ℤ cut_instant c
+pub record IsSound (interval : ℕ) (c : Cut) : Type 0 where
+  pub some : 1 ≤ c.piece.count
+  pub block : c.piece.block % interval ≡ 0
+  pub begun : pos 0 ≤ℤ cut_instant c
 
 sound_by : (interval n : ℕ) (batch : Presented) (first count block : ℕ) (rest : List Piece) (b : Bool) → nat_lt first batch.count ≡ b → 1 ≤ count → block % interval ≡ 0 → BeginsInTime batch
     → AllByRecursion (IsSound interval) (cuts_from (suc n) batch rest) → AllByRecursion (IsSound interval) (cuts_from n batch (if b then record { first = first; count = count; block = block } ∷ rest else []))
@@ -101,7 +108,7 @@ sound_unless : (P : Cut → Type 0) (skip : Option Skip) (xs ys zs : List Cut) �
 sound_unless P None xs ys zs first second third = all_two P xs ys first second
 sound_unless P (Some why) xs ys zs first second third = third
 
-all_sound : (to : To) (shape : Shape) (given : Given) (batches : List Presented) → IsSytInterval (interval_of shape.rate) → given.block % interval_of shape.rate ≡ 0 → AllByRecursion BeginsInTime batches
+pub all_sound : (to : To) (shape : Shape) (given : Given) (batches : List Presented) → IsSytInterval (interval_of shape.rate) → given.block % interval_of shape.rate ≡ 0 → AllByRecursion BeginsInTime batches
     → AllByRecursion (IsSound (interval_of shape.rate)) (cuts_after to shape given batches)
 all_sound to shape given [] known multiple all = tt
 all_sound to shape given (b ∷ bs) known multiple all =

@@ -3,3 +3,9 @@ pub mod Stamped
 pub mod Carried
 pub mod Heard
 pub mod Noted
+pub mod Read
+pub mod Delivered
+pub mod Kept
+pub mod Timely
+pub mod Apart
+pub mod Returned

@@ -29,7 +29,7 @@ use Rattle.gateway_laws.proofs.InOrder.{all_presented}
 no_steps : (den : ℕ) → 1 ≤ den → floor_of (pos 0) den ≡ pos 0
 no_steps den some = floor_only (pos 0) (floor_of (pos 0) den) (pos 0) den (floor_below (pos 0) den some) (floor_above (pos 0) den some) (omega (arith, ints)) (omega (arith, ints, some))
 
-starts_at : (p : Packet) (x : ℤ) → 1 ≤ p.rate → first_instant (counted_from_first p x) ≡ x
+pub starts_at : (p : Packet) (x : ℤ) → 1 ≤ p.rate → first_instant (counted_from_first p x) ≡ x
 starts_at p x some =
     let none : (neg_ℤ (pos 0) +ℤ pos 0) *ℤ pos 1000000000 ≡ pos 0 = refl in
     ap (λ (z : ℤ). x +ℤ floor_of z p.rate) none ∙ (ap (λ (z : ℤ). x +ℤ z) (no_steps p.rate some) ∙ omega (arith, ints))

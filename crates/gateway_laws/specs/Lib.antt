@@ -3,3 +3,5 @@ pub mod Stamped
 pub mod Carried
 pub mod Heard
 pub mod Noted
+pub mod Kept
+pub mod Returned

@@ -1,6 +1,6 @@
 //! Laws of what listeners present of the captures that a gateway makes. Each call is its contract, and does nothing.
 
-ghost use Rattle.std.specs.Prelude.{◌≡◌, ◌%◌, ◌∷◌, ◌++◌, ℕ, ℤ, List, false, map};
+ghost use Rattle.std.specs.Prelude.{◌≡◌, ◌%◌, ◌^◌, ◌<◌, ◌∷◌, ◌++◌, ℕ, ℤ, IfSome, List, Option, Some, false, map};
 ghost use Rattle.am824_gateway.specs.Laws.{Cut};
 ghost use Rattle.gateway_laws.specs.Noted.{cut_seen, nothing_found};
 ghost use Rattle.sequence_track.specs.Findings.{findings};
@@ -15,14 +15,23 @@ ghost use Rattle.sample_schedule.specs.declared.plan.SchedulePlan.{SchedulePlan}
 ghost use Rattle.sample_schedule.specs.Laws.{presented};
 ghost use Rattle.sample_schedule.specs.Schedule.{given, shown};
 ghost use Rattle.sample_schedule.specs.Verdicts.{Clock};
+ghost use Rattle.talker.specs.Frames.{capture_of};
 ghost use Rattle.am824_gateway.specs.declared.scan.Shape.{Shape as ShapeValue};
 ghost use Rattle.am824_gateway.specs.declared.scan.To.{To as ToValue};
 ghost use Rattle.am824_gateway.specs.Laws.{HasRisingInstants, Rise, cuts_after, given_batches};
+ghost use Rattle.am824_gateway.specs.Packets.{gateway_frames};
 ghost use Rattle.am824_gateway.specs.Pieces.{Given as GivenOut};
 ghost use Rattle.am824_gateway.specs.Samples.{samples_presented};
 ghost use Rattle.am824_gateway.specs.Scan.{IsShape};
 ghost use Rattle.gateway_laws.specs.Carried.{CarryCuts, samples_heard};
 ghost use Rattle.gateway_laws.specs.InOrder.{AreInOrder, IsNotFull};
+ghost use Rattle.am824_gateway.specs.declared.scan.To.TheVariants.{Aaf, Am824};
+ghost use Rattle.gateway_laws.specs.Kept.{Hears, Keeps};
+ghost use Rattle.gateway_laws.specs.Returned.{gateway_records, presented_again};
+ghost use Rattle.listener.specs.declared.plan.ListenPlan.{ListenPlan};
+ghost use Rattle.listener.specs.Heard.{due_of, shown_of};
+ghost use Rattle.listener.specs.Laws.{presented_of};
+ghost use Rattle.pcap_frames.specs.Capture.{Record};
 ghost use Rattle.gateway_laws.specs.Stamped.{AreStamped, all_counted, packet_entries};
 
 /// A schedule whose items all have instants, come before these, and are in their order presents all of them in this order, if none
@@ -58,4 +67,27 @@ pub fn frames_carry_the_pieces()
 pub fn nothing_is_found_in_frames()
     ensures { (to : ToValue) (shape : ShapeValue) (id : ℕ) (given_before : GivenOut) (batches : List Presented) (earlier later : List Cut) (c : Cut) → cuts_after to shape given_before batches ≡ earlier ++ c ∷ later
         → findings (map (cut_seen to id) earlier) (cut_seen to id c) ≡ nothing_found }
+{}
+
+/// The frames of a gateway make a whole capture that reads back. Of it a listener without a clock, whose buffer is never full,
+/// presents just the samples of the batches that were not skipped: in order, once, with the same values at the same instants. And
+/// `check` finds nothing in it. So it is if the batches begin at 0 or later and their instants rise, as those of each listener do.
+pub fn captures_of_pieces_are_kept()
+    ensures { (to : ToValue) (shape : Option ShapeValue) (id : ℕ) (batches : List Presented) → IfSome shape IsShape → id < 2 ^ 64 → AllByRecursion BeginsInTime batches
+        → Keeps to shape id batches (capture_of (gateway_frames to shape id batches)) }
+{}
+
+/// Each batch that a listener presents begins at 0 or later, and its instants rise, whatever the records and whether the listener
+/// has a clock. So it is of what is due while more records may follow.
+pub fn presented_batches_begin_in_time()
+    ensures shown { (plan : ListenPlan) (records : List Record) → AllByRecursion BeginsInTime (presented_of (shown_of plan records)) }
+    ensures due { (plan : ListenPlan) (records : List Record) → AllByRecursion BeginsInTime (presented_of (due_of plan records)) }
+{}
+
+/// AM824 of a gateway comes back as the same bytes: it is turned into PCM, under any stream id, and what a listener presents of that
+/// is turned into AM824 under the first id. The listeners have no clock, and their buffers are never full.
+pub fn am824_comes_back()
+    ensures { (shape : ShapeValue) (id via : ℕ) (batches : List Presented) (there back : ListenPlan) → IsShape shape → id < 2 ^ 64 → via < 2 ^ 64 → AllByRecursion BeginsInTime batches
+        → Hears id there (gateway_records Am824 shape id batches) → Hears via back (gateway_records Aaf shape via (presented_again there Am824 shape id batches))
+        → gateway_frames Am824 (Some shape) id (presented_again back Aaf shape via (presented_again there Am824 shape id batches)) ≡ gateway_frames Am824 (Some shape) id batches }
 {}

@@ -49,7 +49,7 @@ pub record IsGateway (g : Inside) : Type 0 where
   pub cut : IsCutFrom g.current g.pieces.items
   pub packets : first_in g.current + length g.pieces.items ≤ g.packets
   pub few : g.packets ≤ 65535 * g.batches
-  pub batches : g.batches ≤ 2 ^ 40
+  pub batches : g.batches ≤ 2 ^ 44
   pub room : 65535 ≤ vec_capacity g.pieces
   pub spare : 65535 ≤ vec_capacity g.spare
   pub frame : length g.frame.items ≡ 1518

@@ -23,7 +23,7 @@ invariant_of-self-2 c =
     let all = all_within to shape batch batch.count 0 inside.block is none in
     let n : c.len-number.result ≡ length c.swap.new.x.items = search rules in
     let few : length c.swap.new.x.items ≤ batch.count = rw c.swap.ensures.x_after c.cut-block.ensures.cuts.few in
-    let begun : inside.batches < 2 ^ 40 = rw (← c.self.view_is) at c.requires.few in
+    let begun : inside.batches < 2 ^ 44 = rw (← c.self.view_is) at c.requires.few in
     let most = presentable.count in
     record {
       shape = c.self.invariant.shape;

@@ -1,0 +1,66 @@
+-- What listeners and `check` make of the capture that a gateway makes.
+use Rattle.std.specs.Prelude.{◌≡◌, ℕ, true, List, [], ◌∷◌, ◌++◌, map, Option, Some, None, ⊤}
+use Rattle.std.specs.List.{AllByRecursion, flat_map}
+use Rattle.pcap_frames.specs.Capture.{Record, first_refusal, whole_records}
+use Rattle.pcap_frames.specs.Frame.{frame_of, frame_refusal}
+use Rattle.sample_schedule.specs.Batches.{Presented}
+use Rattle.sequence_track.specs.declared.seen.Seen.{Seen}
+use Rattle.sequence_track.specs.Findings.{findings}
+use Rattle.packet_journal.specs.Deliveries.{avtp_ethertype, packet_in}
+use Rattle.avtp_packet.specs.Packet.{packet_of, packet_refusal}
+use Rattle.avtp_packet.specs.PacketStream.{has_reserved, stream_of}
+use Rattle.avtp_packet.specs.StampPattern.{stamp_is_off}
+use Rattle.talker.specs.Frames.{record_of}
+use Rattle.listener.specs.declared.plan.ListenPlan.{ListenPlan}
+use Rattle.listener.specs.Heard.{shown_of}
+use Rattle.listener.specs.Laws.{presented_of}
+use Rattle.am824_gateway.specs.declared.scan.Shape.{Shape}
+use Rattle.am824_gateway.specs.declared.scan.To.{To}
+use Rattle.am824_gateway.specs.Laws.{given_batches}
+use Rattle.am824_gateway.specs.Packets.{gateway_frames}
+use Rattle.am824_gateway.specs.Pieces.{nothing_given}
+use Rattle.am824_gateway.specs.Samples.{samples_presented}
+use Rattle.gateway_laws.specs.Carried.{samples_heard}
+use Rattle.gateway_laws.specs.InOrder.{IsNotFull}
+use Rattle.gateway_laws.specs.Noted.{nothing_found}
+
+-- ---- what listeners present
+
+-- A listener of the stream with this id has no clock, and flags nothing of these records because its buffer is full.
+pub record Hears (id : ℕ) (plan : ListenPlan) (records : List Record) : Type 0 where
+  pub stream : plan.stream ≡ id
+  pub clock : plan.clock ≡ None
+  pub room : AllByRecursion IsNotFull (shown_of plan records)
+
+-- What is presented of a gateway's capture is just the samples of the batches that it was given and did not skip: in order, once,
+-- with the same values at the same instants. A stream without a shape has none.
+abbrev pub Presents : To → Option Shape → List Presented → List Presented → Type 0
+Presents to None batches heard = heard ≡ []
+Presents to (Some shape) batches heard = flat_map (samples_heard to shape) heard ≡ flat_map (samples_presented to shape) (given_batches to shape nothing_given batches)
+
+-- ---- what `check` finds
+
+-- `check` notes this of a record: it is an Ethernet frame that holds a packet of a stream with a valid id.
+pub record IsNotedAs (bytes : List ℕ) (seen : Seen) : Type 0 where
+  pub frame : frame_refusal bytes ≡ None
+  pub ethertype : (frame_of bytes).ethertype ≡ avtp_ethertype
+  pub packet : packet_refusal (packet_in bytes) ≡ None
+  pub stream : stream_of (packet_of (packet_in bytes)) ≡ Some (record { subtype = seen.subtype; id = seen.id; sv = true; seq = seen.seq; mr = seen.mr })
+  pub reserved : has_reserved (packet_of (packet_in bytes)) ≡ seen.reserved
+  pub stamp : stamp_is_off (packet_of (packet_in bytes)) ≡ seen.stamp_wrong
+
+-- `check` notes something of each of these records, and finds nothing in it, after these notes
+abbrev pub FindsNothingAfter : List Seen → List Record → Type 0
+FindsNothingAfter notes [] = ⊤
+FindsNothingAfter notes (r ∷ records) =
+    (seen : Seen) × IsNotedAs r.bytes seen × (findings notes seen ≡ nothing_found) × FindsNothingAfter (notes ++ seen ∷ []) records
+
+-- ---- both
+
+-- The bytes are a whole capture of the frames of a gateway to this format, under this id, for these batches. A listener presents
+-- just the samples of the batches that were not skipped, and `check` finds nothing.
+pub record Keeps (to : To) (shape : Option Shape) (id : ℕ) (batches : List Presented) (bytes : List ℕ) : Type 0 where
+  pub records : whole_records bytes ≡ map record_of (gateway_frames to shape id batches)
+  pub whole : first_refusal bytes ≡ None
+  pub heard : (plan : ListenPlan) → Hears id plan (whole_records bytes) → Presents to shape batches (presented_of (shown_of plan (whole_records bytes)))
+  pub checked : FindsNothingAfter [] (whole_records bytes)

@@ -1,0 +1,17 @@
+//! Tests of the gateway as a library: what a scan finds, where batches are cut, and what is heard of what is sent.
+#![tactic(auto)]
+
+#[cfg(test)]
+mod captures;
+#[cfg(test)]
+mod checking;
+#[cfg(test)]
+mod hearing;
+#[cfg(test)]
+mod pieces;
+#[cfg(test)]
+mod scans;
+#[cfg(test)]
+mod streams;
+#[cfg(test)]
+mod turning;
