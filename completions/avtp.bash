@@ -2,7 +2,7 @@
 _avtp() {
     local cur=${COMP_WORDS[COMP_CWORD]} prev=${COMP_WORDS[COMP_CWORD - 1]} command=${COMP_WORDS[1]} words=''
     if [ "$COMP_CWORD" -eq 1 ]; then
-        COMPREPLY=($(compgen -W 'show check listen talk soak agree' -- "$cur"))
+        COMPREPLY=($(compgen -W 'show check listen talk soak agree gateway' -- "$cur"))
         return
     fi
     case $command:$prev in
@@ -39,6 +39,15 @@ _avtp() {
         agree:--lead) words='' ;;
         agree:--clock) words='' ;;
         agree:--crf-shift) words='' ;;
+        gateway:--limit) words='' ;;
+        gateway:--buffer) words='' ;;
+        gateway:--room) words='' ;;
+        gateway:--look) words='' ;;
+        gateway:--lead) words='' ;;
+        gateway:--clock) words='' ;;
+        gateway:--crf-shift) words='' ;;
+        gateway:--to) words='am824 aaf' ;;
+        gateway:--id) words='' ;;
         soak:soak) words='' ;;
         *) words=- ;;
     esac
@@ -52,6 +61,7 @@ _avtp() {
             talk) words='--kind --format --rate --channels --count --id --start --lead --sparse --restart --jump --crf --crf-interval --crf-points --crf-rate --crf-pull --last-stamp' ;;
             soak) words='' ;;
             agree) words='--limit --buffer --room --look --lead --clock --crf-shift' ;;
+            gateway) words='--limit --buffer --room --look --lead --clock --crf-shift --to --id' ;;
         esac
         COMPREPLY=($(compgen -W "$words" -- "$cur"))
     else

@@ -7,6 +7,7 @@
 //!   packet in 125 us.
 //! - `capture OUT COUNT STREAMS faulty`: the same with faults. Of 64 packets, some 4 are lost, 4 come twice, in 8 the restart
 //!   bit turns, and one each has a reserved bit set, no timestamp, or a stream id that is not valid.
+//! - `capture OUT COUNT lost SEED`: COUNT packets of which one in 100 is lost. Which ones depends on the seed.
 //! - `capture OUT COUNT damaged IN`: the packets of the classic capture IN in turn. Half of them are damaged, and one in 16 comes
 //!   twice.
 //! - `capture OUT COUNT STYLE`: packets in `le-ns`, `le-us`, `be-ns` or `be-us`. Half of them are damaged, of every 2,048 the
@@ -134,6 +135,17 @@ fn frames_of(path: &str) -> io::Result<Vec<Vec<u8>>> {
     }
 }
 
+/// Packets of one stream, of which one in 100 is lost.
+fn put_lossy_packets(capture: &mut Capture<impl Write>, count: u64, seed: u64) -> io::Result<()> {
+    let mut noise = seed;
+    for n in 0..count {
+        if draw(&mut noise, 100) > 0 {
+            capture.record(n, &packet(n))?;
+        }
+    }
+    Ok(())
+}
+
 /// A section header, an interface in nanoseconds, and an enhanced packet block for each packet.
 fn write_pcapng(path: &str, count: u64) -> io::Result<()> {
     let mut out = BufWriter::new(File::create(path)?);
@@ -162,7 +174,7 @@ fn main() -> io::Result<()> {
     let words: Vec<String> = env::args().skip(1).collect();
     let words: Vec<&str> = words.iter().map(String::as_str).collect();
     let [path, count, how @ ..] = words.as_slice() else {
-        return Err(Error::other("capture OUT COUNT [ng, STREAMS [faulty], damaged IN, or STYLE]"));
+        return Err(Error::other("capture OUT COUNT [ng, STREAMS [faulty], lost SEED, damaged IN, or STYLE]"));
     };
     let count: u64 = count.parse().map_err(Error::other)?;
     if how == ["ng"] {
@@ -181,6 +193,7 @@ fn main() -> io::Result<()> {
                 capture.record(n, &packet(n))?;
             }
         }
+        ["lost", seed] => put_lossy_packets(&mut capture, count, seed.parse().map_err(Error::other)?)?,
         ["damaged", whole] => {
             let frames = frames_of(whole)?;
             put_damaged_packets(&mut capture, count, |n| frames[n as usize % frames.len()].clone())?;

@@ -1,6 +1,6 @@
 -- The run of `agree`.
-use Rattle.std.proofs.Common.{◌≡◌, ◌≢◌, ℕ, ◌≤◌, zero, suc, ℤ, List, [], ◌∷◌, ◌++◌, length, take, Option, Some, None, Result, Ok, Err, true, false, inl, inr, refl, sym, ap, subst, ◌∙◌, arith}
-use Rattle.std.specs.Prelude.{◌⊎◌, ◌==◌, Contains, IsSome, if◌then◌else◌}
+use Rattle.std.proofs.Common.{◌≡◌, ◌≢◌, ℕ, zero, suc, ℤ, List, [], ◌∷◌, ◌++◌, length, take, Option, Some, None, Result, Ok, Err, true, false, inl, inr, refl, sym, ap, subst, ◌∙◌, arith}
+use Rattle.std.specs.Prelude.{◌==◌, Contains, IsSome, if◌then◌else◌}
 use Rattle.avtp_base.specs.declared.failed.Failed.{Failed}
 use Rattle.avtp_base.specs.declared.failed.OpenFault.{OpenFault}
 use Rattle.avtp_base.specs.declared.failed.OpenFault.TheVariants as open_fault
@@ -8,13 +8,13 @@ use Rattle.avtp_base.specs.Faults.{Rose}
 use Rattle.avtp_base.specs.Files.{Files}
 use Rattle.avtp_base.specs.States.{Asks, ShelfState, SinkState}
 use Rattle.avtp_base.specs.Told.{Appends}
-use Rattle.avtp_base.proofs.Told.{Appends-kept, Appends-trans}
+use Rattle.avtp_base.proofs.Told.{Appends-trans}
 use Rattle.avtp_text.specs.Notices.{read_fault_line}
 use Rattle.avtp_text.specs.Written.{AppendsPrefix, written}
-use Rattle.avtp_text.proofs.Printing.{prefix_after, prefix_before, prefix_whole}
+use Rattle.avtp_text.proofs.Printing.{prefix_after, prefix_before}
 use Rattle.capture_io.specs.declared.end.End.{End}
 use Rattle.capture_io.specs.declared.end.End.TheVariants as end
-use Rattle.capture_io.specs.Ends.{EndsAt, end_of}
+use Rattle.capture_io.specs.Ends.{end_of}
 use Rattle.capture_io.specs.Formats.{records_in}
 use Rattle.capture_io.specs.Reads.{OnlyReads}
 use Rattle.capture_io.specs.Source.{Sourcing, slot_of}
@@ -33,7 +33,6 @@ use Rattle.avtp_tool.specs.declared.status.Status.TheVariants as status
 use Rattle.avtp_tool.specs.Agree.{AgreeOutcome, HasAgreement, IsUnopened, agree_came, agree_ended, agree_report, agree_status, compared_text, difference_lines, last_lines, merged_in}
 use Rattle.avtp_tool.specs.Agree.AgreeOutcome.{without_a, without_b, compared, cut_a, cut_b}
 use Rattle.avtp_tool.specs.Listen.{plan_of}
-use Rattle.avtp_tool.specs.Outcome.{IsOneMissing, is_done}
 use Rattle.avtp_tool.specs.state.Agree.{AgreeYields, EndsWithLines}
 use Rattle.avtp_tool.specs.declared.comparing.Compared.{Compared}
 use Rattle.avtp_tool.specs.declared.comparing.Compared.TheVariants as ended_as
@@ -44,7 +43,6 @@ use Rattle.avtp_tool.specs.state.Comparing.RefusesTwo.{first, second}
 use Rattle.avtp_tool.specs.state.Outcome.{CountsReading, EndsUnopened, EndsWith, KeepsSink, TellsRun, TellsYield}
 use Rattle.avtp_tool.specs.state.Reading.{DoesReading, IsReadingStatus, is_of_reading}
 use Rattle.avtp_tool.specs.state.Yield.{Gives, HandsNothing}
-use Rattle.avtp_tool.specs.Status.{status_of}
 use Rattle.avtp_tool.specs.Yield.{Yield, says}
 use Rattle.avtp_tool.proofs.Leaving.{own_as}
 use Rattle.avtp_tool.proofs.Outcomes.{IsCut, counts_by, counts_failed, counts_memory, counts_unopened, missing_none, sink_err, sink_ok, sink_then, tells_cut, tells_end, tells_last, unopened_own, unopened_undone, yield_telling}

@@ -12,7 +12,7 @@ use Rattle.avtp_words.specs.declared.command.Offence.{Offence}
 use Rattle.avtp_words.specs.declared.crf.Crf.{Crf}
 use Rattle.avtp_words.specs.declared.talk.Kind.{Kind}
 use Rattle.avtp_words.specs.declared.talk.Kind.TheVariants as words
-use Rattle.avtp_words.specs.Grammar.{FitsClock, FitsKind, FitsOptions, HasWholeRuns as KeepsWholeRuns, IsCommandLine, KeepsRules, Request, SaysClock, SaysTalk, SaysListener, show, check, listen, soak, talk, agree, Talking}
+use Rattle.avtp_words.specs.Grammar.{FitsClock, FitsKind, FitsOptions, HasWholeRuns as KeepsWholeRuns, IsCommandLine, KeepsRules, Request, SaysClock, SaysTalk, SaysListener, show, check, gateway, listen, soak, talk, agree, Talking}
 use Rattle.avtp_words.specs.declared.listener.ListenerOptions.{ListenerOptions}
 use Rattle.avtp_words.specs.Limits.{default_rate}
 use Rattle.avtp_words.specs.Number.{IsNumber, IsSigned}
@@ -184,6 +184,9 @@ requested words (listen asked) (line, rules) =
     record { limit = within.0; plan = within.1; ring = given_within (value_in (codes "--ring") line.settings) 1 256 64 asked.ring (omega arith) (omega arith) line.ring }
 requested words (soak packets) line = line.packets_given.most
 requested words (talk asked) (line, rules) = talk_asked asked.kind words asked refl line rules
+requested words (gateway asked) (line, rules) =
+    let within = listener_within line.settings line.id asked.listener line.listener in
+    record { limit = within.0; plan = within.1; apart = rules.apart }
 requested words (agree asked) line = let within = listener_within line.settings line.id asked.listener line.listener in record { limit = within.0; plan = within.1 }
 
 -- words that were read have no offence

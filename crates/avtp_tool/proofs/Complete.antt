@@ -15,34 +15,29 @@ use Rattle.talk_plan.specs.declared.plan.TalkPlan.{TalkPlan}
 use Rattle.talker.specs.Faults.{fault_of}
 use Rattle.talk_plan.specs.Plan.{most_input}
 use Rattle.capture_io.specs.declared.end.End.{End}
-use Rattle.capture_io.specs.declared.end.End.TheVariants as end
-use Rattle.capture_io.specs.Ends.{at_end, EndsAt, end_of}
+use Rattle.capture_io.specs.Ends.{at_end, end_of}
 use Rattle.capture_io.proofs.Ending.{at_end_is}
 use Rattle.avtp_text.specs.Notices.{limit_line}
-use Rattle.avtp_words.specs.Grammar.{agree, Agreeing, Listening, Request, show, check, listen, talk, soak}
+use Rattle.avtp_words.specs.Grammar.{agree, gateway, Listening, Request, show, check, listen, talk, soak}
 use Rattle.avtp_tool.specs.declared.status.Status.{Status}
 use Rattle.avtp_tool.specs.declared.status.Status.TheVariants as status
 use Rattle.avtp_tool.specs.Check.{check_plan}
 use Rattle.avtp_tool.specs.Listen.{HasHeadline, end_line, heard_yield, listen_plan, listen_report, listen_status, plan_of, shown_text, YieldsHeadline}
 use Rattle.avtp_tool.specs.Outcome.{is_done}
 use Rattle.avtp_tool.specs.Reading.{FileOutcome, file_status, file_yield, InOrder, in_order_read, in_order_status, in_order_yield, joined, one_outcome, one_status, one_yield, PlanOutcome, plan_read, plan_status, plan_yield, ReadPlan, Report}
-use Rattle.avtp_tool.specs.Run.{came_for, device_notice, device_status, Outcome, status_for, talk_came, yield_for}
+use Rattle.avtp_tool.specs.Run.{came_for, device_notice, device_status, made_for, Outcome, status_for, talk_came, yield_for}
 use Rattle.avtp_tool.specs.Yield.{says, with_more, Yield}
 use Rattle.avtp_tool.proofs.Yields.{more_more, more_none}
 use Rattle.avtp_tool.specs.Show.{show_plan}
-use Rattle.avtp_tool.specs.Talk.{line_by, status_by, TalkedOutcome, TalkOutcome, talk_plan, talk_report, talk_status}
+use Rattle.avtp_tool.specs.Talk.{line_by, status_by, TalkedOutcome, TalkOutcome, talk_made, talk_plan, talk_report, talk_status}
 use Rattle.avtp_tool.specs.Agree.{agree_report}
+use Rattle.avtp_tool.specs.Gateway.{gateway_report}
 use Rattle.avtp_tool.proofs.AgreeRun.{agree_complete, agree_here}
+use Rattle.avtp_tool.proofs.GatewayRun.{by_end, gateway_complete, gateway_here}
 use Rattle.avtp_tool.proofs.InOrder.{order_here, rest_done}
 use Rattle.avtp_tool.proofs.OneFile.{file_here}
 
 -- ---- files
-
-by_end : (limit : ℕ) (bytes prefix : List ℕ) (fault : Type 0) (how : End) → (fault → ⊥) → EndsAt limit (Some bytes) fault how prefix → (how ≡ end_of limit bytes) × (prefix ≡ take limit bytes)
-by_end limit bytes prefix fault end.Whole none ends = ends
-by_end limit bytes prefix fault (end.Refused refusal) none ends = ends
-by_end limit bytes prefix fault end.ReadFault none ends = absurd (none ends.0)
-by_end limit bytes prefix fault end.Limit none ends = ends
 
 complete_file : (report : Report) (limit : ℕ) (told : Option (List ℕ)) (fault : Type 0) (ended : Status) (yields : Yield) → (fault → ⊥) → FileOutcome report limit told fault ended yields → (ended ≡ file_status report limit told) × (yields ≡ file_yield report limit told)
 complete_file report limit None fault ended yields none o = o
@@ -121,34 +116,44 @@ complete_input plan (Some bytes) cause ended text unfaulty o = complete_talk pla
 
 -- ---- any request
 
-pub outcome_here : (request : Request) (files : Files) (cause : Type 0) (failed : Bool) → Outcome request files cause failed (came_for request files) (status_for request files failed) (yield_for request files failed)
-outcome_here (show limit file) files cause failed = plan_here (show_plan limit file) files cause
-outcome_here (check limit names) files cause failed = plan_here (check_plan limit names) files cause
-outcome_here (listen asked) files cause failed = record { heard = plan_status (listen_plan asked) files; given = plan_yield (listen_plan asked) files; reads = plan_here (listen_plan asked) files cause; status = refl; notice = refl }
-outcome_here (talk asked) files cause failed = (refl, talk_here (talk_plan asked) (files asked.input) cause, refl)
-outcome_here (soak packets) files cause failed = (refl, (refl, refl))
-outcome_here (agree asked) files cause failed = (agree_here asked files cause, refl)
+pub outcome_here : (request : Request) (files : Files) (cause : Type 0) (failed : Bool) → Outcome request files cause failed (came_for request files) (status_for request files failed) (yield_for request files failed) (made_for request files)
+outcome_here (show limit file) files cause failed = (plan_here (show_plan limit file) files cause, refl)
+outcome_here (check limit names) files cause failed = (plan_here (check_plan limit names) files cause, refl)
+outcome_here (listen asked) files cause failed =
+    (record { heard = plan_status (listen_plan asked) files; given = plan_yield (listen_plan asked) files; reads = plan_here (listen_plan asked) files cause; status = refl; notice = refl }, refl)
+outcome_here (talk asked) files cause failed = (refl, talk_here (talk_plan asked) (files asked.input) cause, refl, refl)
+outcome_here (soak packets) files cause failed = (refl, (refl, refl), refl)
+outcome_here (agree asked) files cause failed = (agree_here asked files cause, refl, refl)
+outcome_here (gateway asked) files cause failed = (gateway_here asked files cause, refl)
 
 same_says : (yields : Yield) (text : List ℕ) → yields.items ≡ [] → yields.text ≡ text → yields ≡ says text
 same_says yields text none is = let e : record { text = yields.text; items = yields.items } ≡ says text = rw (none, is) refl in e
 
-pub complete_of : (request : Request) (files : Files) (cause : Type 0) (failed : Bool) (came : List (List ℕ)) (ended : Status) (yields : Yield) → (cause → ⊥) → Outcome request files cause failed came ended yields
-    → (came ≡ came_for request files) × (ended ≡ status_for request files failed) × (yields ≡ yield_for request files failed)
-complete_of (show limit file) files cause failed came ended yields none o = complete_plan (show_plan limit file) files cause came ended yields none o
-complete_of (check limit names) files cause failed came ended yields none o = complete_plan (check_plan limit names) files cause came ended yields none o
-complete_of (listen asked) files cause failed came ended yields none o =
-    let same = complete_plan (listen_plan asked) files cause came o.heard o.given none o.reads in (
+pub complete_of : (request : Request) (files : Files) (cause : Type 0) (failed : Bool) (came : List (List ℕ)) (ended : Status) (yields : Yield) (made : Option (List ℕ)) → (cause → ⊥) → Outcome request files cause failed came ended yields made
+    → (came ≡ came_for request files) × (ended ≡ status_for request files failed) × (yields ≡ yield_for request files failed) × (made ≡ made_for request files)
+complete_of (show limit file) files cause failed came ended yields made none o = let same = complete_plan (show_plan limit file) files cause came ended yields none o.0 in (same.0, same.1, same.2, o.1)
+complete_of (check limit names) files cause failed came ended yields made none o = let same = complete_plan (check_plan limit names) files cause came ended yields none o.0 in (same.0, same.1, same.2, o.1)
+complete_of (listen asked) files cause failed came ended yields made none o =
+    let same = complete_plan (listen_plan asked) files cause came o.0.heard o.0.given none o.0.reads in (
       same.0,
-      o.status ∙ ap (device_status failed) same.1,
-      o.notice ∙ ap (λ (y : Yield). with_more y (says (device_notice failed o.heard))) same.2 ∙ ap (λ (s : Status). with_more (plan_yield (listen_plan asked) files) (says (device_notice failed s))) same.1,
+      o.0.status ∙ ap (device_status failed) same.1,
+      o.0.notice ∙ ap (λ (y : Yield). with_more y (says (device_notice failed o.0.heard))) same.2 ∙ ap (λ (s : Status). with_more (plan_yield (listen_plan asked) files) (says (device_notice failed s))) same.1,
+      o.1,
     )
-complete_of (talk asked) files cause failed came ended yields none o =
-    let same = complete_input (talk_plan asked) (files asked.input) cause ended yields.text none o.1 in
-    (o.0 ∙ ap (talk_came asked) same.0, same.0, same_says yields (talk_report (talk_plan asked) (files asked.input)) o.2 same.1)
-complete_of (soak packets) files cause failed came ended yields none o = (o.0, o.1.0, o.1.1)
-complete_of (agree asked) files cause failed came ended yields none o =
+complete_of (talk asked) files cause failed came ended yields made none o =
+    let same = complete_input (talk_plan asked) (files asked.input) cause ended yields.text none o.1 in (
+      o.0 ∙ ap (talk_came asked) same.0,
+      same.0,
+      same_says yields (talk_report (talk_plan asked) (files asked.input)) o.2 same.1,
+      o.3 ∙ ap (talk_made (talk_plan asked) (files asked.input)) same.0,
+    )
+complete_of (soak packets) files cause failed came ended yields made none o = (o.0, o.1.0, o.1.1, o.2)
+complete_of (agree asked) files cause failed came ended yields made none o =
     let same = agree_complete none o.0 in
-    (same.0, same.1, same_says yields (agree_report asked (files asked.a) (files asked.b)) o.1 same.2)
+    (same.0, same.1, same_says yields (agree_report asked (files asked.a) (files asked.b)) o.1 same.2, o.2)
+complete_of (gateway asked) files cause failed came ended yields made none o =
+    let same = gateway_complete none o.0 in
+    (same.0, same.1, same_says yields (gateway_report asked (files asked.input)) o.1 same.2, same.3)
 
 -- ---- the headline
 

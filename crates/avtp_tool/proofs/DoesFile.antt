@@ -43,7 +43,7 @@ pub record IsReadAndTold (report : Report) (handed : List Shown → Type 0) (lim
   pub tells : TellsYield (Only (report.status records how) (report.yields records how)) handed before now result
 
 -- what is said of the counts while it was open is said of them before and after, too
-around : {r r' q' q : ℕ} (P : ℕ → ℕ → Type 0) → r' ≡ r → q ≡ q' → P r' q' → P r q
+pub around : {r r' q' q : ℕ} (P : ℕ → ℕ → Type 0) → r' ≡ r → q ≡ q' → P r' q' → P r q
 around {r' = r'} {q = q} P first last p = subst (λ (n : ℕ). P n q) first (subst (P r') (sym last) p)
 
 -- it was opened, read and closed again

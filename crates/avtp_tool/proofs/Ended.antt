@@ -1,22 +1,20 @@
 -- How a run ends whose text was written to its end, or not.
-use Rattle.std.proofs.Common.{◌≡◌, ◌≢◌, ℕ, List, Option, Some, None, Result, Ok, Err, true, false, refl, sym, ap, subst, ◌∙◌, arith}
+use Rattle.std.proofs.Common.{◌≡◌, ◌≢◌, ℕ, List, Option, Result, Ok, Err, true, false, sym, ap, subst, ◌∙◌, arith}
 use Rattle.std.specs.Prelude.{IfOk}
 use Rattle.std.proofs.lemmas.List.{append-nil}
 use Rattle.avtp_base.specs.declared.failed.Failed.{Failed}
 use Rattle.avtp_base.specs.Faults.{IsQuiet, Rose}
-use Rattle.avtp_base.specs.Files.{Files, KeepsFiles}
 use Rattle.avtp_base.specs.Told.{Appends}
 use Rattle.avtp_base.specs.States.{Asks, ShelfState, SinkState, WasAsked}
 use Rattle.avtp_text.specs.Written.{AppendsPrefix, written}
 use Rattle.avtp_text.proofs.Printing.{prefix_none, prefix_whole}
-use Rattle.avtp_words.specs.Grammar.{IsCommandLine, output_of, Request, show, check, listen, Listening, talk, soak, agree, Talking}
+use Rattle.avtp_words.specs.Grammar.{IsCommandLine, Request, show, check, gateway, listen, Listening, talk, soak, agree}
 use Rattle.avtp_tool.specs.declared.status.Status.{Status}
 use Rattle.avtp_tool.specs.declared.status.Status.TheVariants as status
-use Rattle.avtp_tool.specs.Made.{KeepsFilesBut}
 use Rattle.avtp_tool.specs.Outcome.{AsksFor}
 use Rattle.avtp_tool.specs.state.Outcome.{EndsWith, Finishes, TellsRun}
 use Rattle.avtp_tool.specs.Run.{is_listening, is_through}
-use Rattle.avtp_tool.specs.state.Run.{IsThrough, MakesFrom, MakesOf}
+use Rattle.avtp_tool.specs.state.Run.{IsThrough}
 use Rattle.avtp_tool.specs.Yield.{Yield}
 use Rattle.avtp_tool.specs.state.Yield.{Gives}
 use Rattle.sample_schedule.specs.declared.shown.Shown.{Shown}
@@ -72,31 +70,6 @@ quiet_if {P} result same fault memory write quiet = subst (λ (r : Result Status
 pub offence_ends : {h h' : SinkState} {w w' : List ℕ} {ended : Result Status Failed} {line : List ℕ} (other : Status) → status.Words ≢ other → EndsWith status.Words h h' w w' ended line → ended ≡ Ok other → ⊥
 offence_ends {ended = ended} other differs ends e = differs (sym (ends_whole other e ends).0)
 
--- ---- files
-
-still_untold : (name : Option (List ℕ)) (g : Option Files) → KeepsFilesBut name None g → KeepsFiles None g
-still_untold None g keeps = keeps
-still_untold (Some name) None keeps = tt
-still_untold (Some name) (Some g) keeps = absurd keeps
-
-untouched_from : (asked : Talking) (told : Option (List ℕ)) (f g : Option Files) (result : Status) → result ≢ status.Done → result ≢ status.WriteFault → result ≢ status.Memory → MakesFrom asked told f g (Ok result) → KeepsFiles f g
-untouched_from asked None f g result done write memory makes = makes
-untouched_from asked (Some bytes) f g result done write memory makes = makes.untouched done write memory
-
-untouched_of : (request : Request) (all : Files) (f g : Option Files) (result : Status) → result ≢ status.Done → result ≢ status.WriteFault → result ≢ status.Memory → MakesOf request all f g (Ok result) → KeepsFiles f g
-untouched_of (show limit file) all f g result done write memory makes = makes
-untouched_of (check limit names) all f g result done write memory makes = makes
-untouched_of (listen asked) all f g result done write memory makes = makes
-untouched_of (talk asked) all f g result done write memory makes = untouched_from asked (all asked.input) f g result done write memory makes
-untouched_of (soak packets) all f g result done write memory makes = makes
-untouched_of (agree asked) all f g result done write memory makes = makes
-
--- a run that was not cut short leaves all files as they were, where not all was done
-pub untouched_by : (request : Request) (f g : Option Files) (ended : Result Status Failed) (result : Status) → ended ≡ Ok result → result ≢ status.Done → result ≢ status.WriteFault → result ≢ status.Memory
-    → ((all : Files) → f ≡ Some all → MakesOf request all f g ended) → KeepsFilesBut (output_of request) f g → KeepsFiles f g
-untouched_by request None g ended result same done write memory makes keeps = still_untold (output_of request) g keeps
-untouched_by request (Some all) g ended result same done write memory makes keeps = untouched_of request all (Some all) g result done write memory (subst (MakesOf request all (Some all) g) same (makes all refl))
-
 -- ---- names
 
 pub asks_same : {a b : ShelfState} {p q : Type 0} (names : List (List ℕ)) → (q → p) → AsksFor names a b p → AsksFor names a b q
@@ -115,3 +88,4 @@ listens_to words (check limit names) listens line = absurd cc
 listens_to words (talk asked) listens line = absurd cc
 listens_to words (soak packets) listens line = absurd cc
 listens_to words (agree asked) listens line = absurd cc
+listens_to words (gateway asked) listens line = absurd cc

@@ -1,5 +1,5 @@
 -- The run of `listen` over all its files, and what it says of the devices at its end.
-use Rattle.std.proofs.Common.{◌≡◌, ◌≢◌, ℕ, ◌<◌, ◌≤◌, Bool, true, false, List, [], ◌++◌, Option, Result, Ok, Err, refl, sym, ap, subst, ◌∙◌, arith}
+use Rattle.std.proofs.Common.{◌≡◌, ◌≢◌, ℕ, ◌<◌, ◌≤◌, Bool, true, false, List, [], ◌++◌, Option, None, Result, Ok, Err, refl, sym, ap, subst, ◌∙◌, arith}
 use Rattle.std.specs.Prelude.{IfOk, is_err, IsErr, nat_lt}
 use Rattle.std.proofs.lemmas.Bool.{le-ltb, lt-ltb, false_from_ne_true}
 use Rattle.std.proofs.lemmas.List.{append-nil}
@@ -17,15 +17,15 @@ use Rattle.avtp_tool.specs.declared.status.Status.TheVariants as status
 use Rattle.avtp_tool.specs.Listen.{listen_plan}
 use Rattle.avtp_tool.specs.Outcome.{AsksFor}
 use Rattle.avtp_tool.specs.state.Outcome.{EndsWith, TellsRun}
-use Rattle.avtp_tool.specs.Reading.{PlanOutcome, ReadPlan}
+use Rattle.avtp_tool.specs.Reading.{PlanOutcome}
 use Rattle.avtp_tool.specs.state.Reading.{DoesFiles, DoesReading}
-use Rattle.avtp_tool.specs.Run.{device_notice, device_status, ListenOutcome}
+use Rattle.avtp_tool.specs.Run.{device_notice, device_status, ListenOutcome, Outcome}
 use Rattle.avtp_tool.specs.state.Run.{IsThrough, Runs, TellsDevices}
 use Rattle.avtp_tool.specs.Yield.{says, with_more, Yield}
 use Rattle.avtp_tool.specs.state.Yield.{Gives, GivesPart, HandsNothing}
 use Rattle.avtp_tool.proofs.Leaving.{never_ends, only_read}
 use Rattle.avtp_tool.proofs.Outcomes.{counts_failed, ends_not, sink_failed, sink_then}
-use Rattle.avtp_tool.proofs.PlanRuns.{through_as}
+use Rattle.avtp_tool.proofs.PlanRuns.{tells_all, through_as}
 use Rattle.avtp_tool.proofs.Yields.{gives_then, Joins, more_none, part_before, part_none, part_then, part_whole}
 
 -- text behind items that were handed on
@@ -106,6 +106,11 @@ module _ {s t : ShelfState} {handed : List Shown → Type 0} {before : Option (L
 
 -- ---- the run
 
+-- nothing is made
+tells_listening : {s t : ShelfState} {handed : List Shown → Type 0} {before now : Option (List ℕ)} {result : Result Status Failed} {asked : Listening} {all : Files} {fault : Type 0} {failed : Bool} → TellsRun (ListenOutcome asked all fault failed) handed s t before now result
+    → TellsRun (λ came ended yields. Outcome (listen asked) all fault failed came ended yields None) handed s t before now result
+tells_listening told = record { came = told.came; ended = told.ended; yields = told.yields; outcome = (told.outcome, refl); whole = told.whole; part = told.part }
+
 -- no run but one that was done tells of a device
 tells_plain : (asked : Listening) (failed : Bool) (result : Result Status Failed) → IsPlain failed result → (result ≡ Ok status.DeviceFault → ⊥) → TellsDevices (listen asked) failed result
 tells_plain asked failed result plain never = record { fault = λ e. absurd (never e); quiet = λ listens done. false_from_ne_true failed (plain done) }
@@ -116,8 +121,7 @@ module _ {s t : ShelfState} {h h' : SinkState} {l l' : List ℕ} {handed : List 
       let does = subst (DoesFiles (listen_plan asked) handed s t h h' l l') same did in
       let never = never_ends result status.DeviceFault refl does.own in
       record {
-        tells = λ all told still. plain_tells asked all (Rose s.reading_faults t.reading_faults) failed result plain (does.tells all told still);
-        makes = λ all told. does.keeps.files;
+        tells = λ all told still. tells_all does.keeps.files (tells_listening (plain_tells asked all (Rose s.reading_faults t.reading_faults) failed result plain (does.tells all told still)));
         files = does.keeps.files;
         slots = does.keeps.slots;
         counts = does.counts;
@@ -134,8 +138,7 @@ module _ {s t : ShelfState} {h h' : SinkState} {l l' : List ℕ} {handed : List 
       let does = subst (DoesFiles (listen_plan asked) handed s t h h' l l') done did in
       let still : t.reading_faults ≡ s.reading_faults = does.counts.quiet (λ e. cc) (λ e. cc) (λ e. cc) in
       record {
-        tells = λ all told still. fault_tells asked all (Rose s.reading_faults t.reading_faults) failed result is last (does.tells all told still);
-        makes = λ all told. does.keeps.files;
+        tells = λ all told still. tells_all does.keeps.files (tells_listening (fault_tells asked all (Rose s.reading_faults t.reading_faults) failed result is last (does.tells all told still)));
         files = does.keeps.files;
         slots = does.keeps.slots;
         counts = record { never_falls = omega (arith, still); fault = λ e. absurd (ends_not status.ReadFault (λ x. cc) last e); quiet = quiet_at result still };

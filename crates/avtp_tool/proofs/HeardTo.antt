@@ -69,7 +69,8 @@ ended_within plan limit bytes fault items records end.Whole first ends given = l
 ended_within plan limit bytes fault items records (end.Refused refusal) first ends given = let all : records ≡ records_in (take limit bytes) = sym ends.whole ∙ ap records_in ends.ends.1 in rw (sym ends.ends.0, sym all) given
 ended_within plan limit bytes fault items records end.Limit first ends given = let all : records ≡ records_in (take limit bytes) = sym ends.whole ∙ ap records_in ends.ends.1 in rw (sym ends.ends.0, sym all) given
 
-within : (stage : Stage) (limit : ℕ) (bytes : List ℕ) (fault : Type 0) (remains : Option (List ℕ)) (source : Sourcing) (listener : ListenState) (items : List Shown) → is_closed listener ≡ closed_at stage → IsShown stage limit bytes fault remains source listener items
+-- the items so far are the first of what is shown of the file
+pub within : (stage : Stage) (limit : ℕ) (bytes : List ℕ) (fault : Type 0) (remains : Option (List ℕ)) (source : Sourcing) (listener : ListenState) (items : List Shown) → is_closed listener ≡ closed_at stage → IsShown stage limit bytes fault remains source listener items
     → IsPrefix items (shown_by listener.plan (records_in (take limit bytes)) (end_of limit bytes))
 within Reading limit bytes fault remains source listener items closed shown =
     due_within listener.plan items shown.records (records_in (take limit bytes)) (end_of limit bytes) shown.first (subst (IsPrefix items) (out_at end.Limit listener shown.records closed) shown.given)
@@ -107,19 +108,33 @@ take_all : {X : Type 0} (xs : List X) → take (length xs) xs ≡ xs
 take_all {X} [] = refl
 take_all {X} (x ∷ xs) = ap (λ (l : List X). x ∷ l) (take_all xs)
 
+-- All was shown of a capture whose reading ended in this way after these records, and counted.
+pub record IsAllHeard (plan : ListenPlan) (records : List Record) (how : End) (counts : Counts) (items : List Shown) : Type 0 where
+  pub items_are : items ≡ shown_by plan records how
+  pub counted : counts ≡ counts_of plan records (shown_by plan records how)
+
+pub all_heard : (plan : ListenPlan) (limit : ℕ) (bytes : List ℕ) (how : End) (fault : Type 0) (remains : Option (List ℕ)) (source : Sourcing) (listener : ListenState) (items : List Shown)
+    → listener.plan ≡ plan → is_closed listener ≡ is_all how → (shown : IsShown (Ended how) limit bytes fault remains source listener items) → IsAllHeard plan shown.records how listener.counts items
+all_heard plan limit bytes how fault remains source listener items is closed shown =
+    let all : items ≡ out listener shown.records = shown.whole how refl in
+    let list : out listener shown.records ≡ shown_by plan shown.records how = out_at how listener shown.records closed ∙ ap (λ (p : ListenPlan). shown_by p shown.records how) is in
+    let taken : take (length items) (out listener shown.records) ≡ shown_by plan shown.records how =
+    ap (λ (l : List Shown). take (length l) (out listener shown.records)) all ∙ take_all (out listener shown.records) ∙ list in
+    record {
+      items_are = all ∙ list;
+      counted = shown.stands.counts ∙ ap (λ (l : List Shown). counts_of listener.plan shown.records l) taken ∙ ap (λ (p : ListenPlan). counts_of p shown.records (shown_by plan shown.records how)) is;
+    }
+
 items_heard : {handed : List Shown → Type 0} {before now : Option (List ℕ)} (asked : Listening) (name bytes : List ℕ) (how : End) (fault : Type 0) (remains : Option (List ℕ)) (source : Sourcing) (listener : ListenState) (items : List Shown)
     → listener.plan ≡ plan_of asked.listener → is_closed listener ≡ is_all how → IsShown (Ended how) asked.listener.limit bytes fault remains source listener items → Appends before now (shown_text name items) → handed items → HasHeard asked handed name bytes fault how listener.counts before now
 items_heard {handed} {before} {now} asked name bytes how fault remains source listener items plan closed shown lines hands =
-    let all : items ≡ out listener shown.records = shown.whole how refl in
-    let list : out listener shown.records ≡ shown_by (plan_of asked.listener) shown.records how = out_at how listener shown.records closed ∙ ap (λ (p : ListenPlan). shown_by p shown.records how) plan in
-    let taken : take (length items) (out listener shown.records) ≡ shown_by (plan_of asked.listener) shown.records how =
-    ap (λ (l : List Shown). take (length l) (out listener shown.records)) all ∙ take_all (out listener shown.records) ∙ list in
+    let all = all_heard (plan_of asked.listener) asked.listener.limit bytes how fault remains source listener items plan closed shown in
     record {
       records = shown.records;
       ends = shown.read;
-      counted = shown.stands.counts ∙ ap (λ (l : List Shown). counts_of listener.plan shown.records l) taken ∙ ap (λ (p : ListenPlan). counts_of p shown.records (shown_by (plan_of asked.listener) shown.records how)) plan;
-      lines = subst (λ (l : List Shown). Appends before now (shown_text name l)) (all ∙ list) lines;
-      items = subst handed (all ∙ list) hands;
+      counted = all.counted;
+      lines = subst (λ (l : List Shown). Appends before now (shown_text name l)) all.items_are lines;
+      items = subst handed all.items_are hands;
     }
 
 -- the hearing has ended, and all that was shown was printed

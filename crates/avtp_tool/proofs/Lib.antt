@@ -15,6 +15,7 @@ pub mod InOrder
 pub mod ReadFiles
 pub mod PlanRuns
 pub mod AgreeRun
+pub mod GatewayRun
 pub mod Finished
 pub mod Complete
 pub mod Asked
@@ -26,3 +27,11 @@ pub mod TalkRun
 pub mod HearFiles
 pub mod Ended
 pub mod Promised
+pub mod PutBatches
+pub mod Scanned
+pub mod HeardBeside
+pub mod TurningTo
+pub mod TurnRun
+pub mod ScanRuns
+pub mod TurnedInput
+pub mod Putting

@@ -1,15 +1,15 @@
 -- What a run leaves of the file that it makes.
-use Rattle.std.proofs.Common.{◌≡◌, ℕ, ◌≤◌, take, if◌then◌else◌, List, [], ◌∷◌, ◌++◌, Option, Some, None, Result, Ok, Err, true, false, inl, inr, refl, sym, ap, subst, ◌∙◌, append-nil, append_assoc, arith}
-use Rattle.std.specs.Prelude.{◌≢◌, ◌⊎◌, IfOk, IsErr, IsOk, is_err}
+use Rattle.std.proofs.Common.{◌≡◌, ℕ, suc, ◌≤◌, take, if◌then◌else◌, List, [], ◌∷◌, ◌++◌, Option, Some, None, Result, Ok, Err, true, false, inl, inr, refl, sym, ap, subst, ◌∙◌, append-nil, append_assoc, arith}
+use Rattle.std.specs.Prelude.{◌≢◌, ◌⊎◌, IfOk, IsErr, IsOk, IsSome, is_err}
 use Rattle.avtp_base.specs.declared.failed.Failed.{Failed}
 use Rattle.avtp_base.specs.declared.failed.OpenFault.{OpenFault}
 use Rattle.avtp_base.specs.declared.failed.OpenFault.TheVariants as open_fault
 use Rattle.avtp_base.specs.Faults.{IsCounted, Rose}
-use Rattle.avtp_base.specs.Files.{Files, Slots, KeepsFiles, PutsFile}
+use Rattle.avtp_base.specs.Files.{Files, Slots, KeepsFiles, KeepsSlots, PutsFile, name_in}
 use Rattle.avtp_base.specs.States.{Asks, ShelfState, WasAsked}
 use Rattle.avtp_base.proofs.Files.{KeepsFiles-refl, KeepsFiles-puts, KeepsFiles-trans}
 use Rattle.capture_io.specs.Writing.{IsWriting, KeepsSlotsBut, MakesPrefix, PutsPrefix, Writing}
-use Rattle.avtp_tool.specs.Made.{KeepsFilesBut, KeepsSlotsFor}
+use Rattle.avtp_tool.specs.Made.{KeepsFilesBut, KeepsSlotsFor, MakesOutput, MakesPart}
 use Rattle.avtp_tool.specs.state.Made.{CountsWriting, IsWritingPart, Makes, MakesFile, unmade_as}
 use Rattle.avtp_tool.specs.Outcome.{AsksFor, is_done}
 use Rattle.avtp_tool.specs.state.Outcome.{IsDone}
@@ -32,9 +32,30 @@ files_still None files = KeepsFiles-refl files
 files_still (Some name) None = tt
 files_still (Some name) (Some files) = λ other differs. refl
 
+-- nothing was made
+pub part_kept : (output made : Option (List ℕ)) (f g : Option Files) → KeepsFiles f g → MakesPart output made f g
+part_kept None made f g keeps = keeps
+part_kept (Some name) None f g keeps = keeps
+part_kept (Some name) (Some bytes) f g keeps = inl keeps
+
+-- files stood so before
+pub output_after : (output made : Option (List ℕ)) (f g k : Option Files) → KeepsFiles f g → MakesOutput output made g k → MakesOutput output made f k
+output_after None made f g k keeps makes = KeepsFiles-trans f g k keeps makes
+output_after (Some name) None f g k keeps makes = KeepsFiles-trans f g k keeps makes
+output_after (Some name) (Some bytes) f g k keeps makes = KeepsFiles-puts f g k name bytes keeps makes
+
+prefix_after : {f g k : Option Files} {name bytes : List ℕ} → KeepsFiles f g → MakesPrefix g k name bytes → MakesPrefix f k name bytes
+prefix_after {f} {g} {k} {name} keeps (inl kept) = inl (KeepsFiles-trans f g k keeps kept)
+prefix_after {f} {g} {k} {name} keeps (inr p) = inr (record { prefix = p.prefix; rest = p.rest; split = p.split; put = KeepsFiles-puts f g k name p.prefix keeps p.put })
+
+pub part_after : (output made : Option (List ℕ)) (f g k : Option Files) → KeepsFiles f g → MakesPart output made g k → MakesPart output made f k
+part_after None made f g k keeps makes = KeepsFiles-trans f g k keeps makes
+part_after (Some name) None f g k keeps makes = KeepsFiles-trans f g k keeps makes
+part_after (Some name) (Some bytes) f g k keeps makes = prefix_after keeps makes
+
 -- ---- slots
 
-slots_still : (files : Option Files) (slots : Slots) (name : List ℕ) → KeepsSlotsBut files slots slots name
+pub slots_still : (files : Option Files) (slots : Slots) (name : List ℕ) → KeepsSlotsBut files slots slots name
 slots_still files slots name = record { same = λ j. refl; left = λ told j differs. refl }
 
 pub slots_here : (output : Option (List ℕ)) (files : Option Files) (slots : Slots) → KeepsSlotsFor output files slots slots
@@ -125,7 +146,7 @@ makes_none {name} {bytes} f result never = record { done = λ e. absurd (never e
 pub makes_after : {a b c : Option Files} {name bytes : List ℕ} {result : Result Status Failed} → KeepsFiles a b → Makes name bytes b c result → Makes name bytes a c result
 makes_after {a} {b} {c} {name} {bytes} {result} keeps m = record {
   done = λ e. KeepsFiles-puts a b c name bytes keeps (m.done e);
-  part = elim m.part [ inl kept ↦ inl (KeepsFiles-trans a b c keeps kept) | inr p ↦ inr (record { prefix = p.prefix; rest = p.rest; split = p.split; put = KeepsFiles-puts a b c name p.prefix keeps p.put }) ];
+  part = prefix_after keeps m.part;
   untouched = still result m.untouched;
 } where
   still : (r : Result Status Failed) → IfOk r (λ s. s ≢ status.Done → s ≢ status.WriteFault → s ≢ status.Memory → KeepsFiles b c) → IfOk r (λ s. s ≢ status.Done → s ≢ status.WriteFault → s ≢ status.Memory → KeepsFiles a c)
@@ -170,3 +191,42 @@ writes_made {s = s} {t} name made result makes files writing done ends = record 
   by_status (Ok ended) done (inr (inl is)) = λ memory write. absurd (write is)
   by_status (Ok ended) done (inr (inr is)) = λ memory write. rw is (asked_one makes.asked.count (makes.asked.all (done (rw is refl))) makes.asked.asked)
   by_status (Err e) done ends = tt
+
+-- ---- a file that was read before
+
+pub kept_but : (f g : Option Files) (name : List ℕ) → KeepsFiles f g → KeepsFilesBut (Some name) f g
+kept_but None None name keeps = tt
+kept_but None (Some g) name keeps = absurd keeps
+kept_but (Some f) None name keeps = tt
+kept_but (Some f) (Some g) name keeps = λ other differs. keeps other
+
+pub slots_but : (files : Option Files) (s t : Slots) (name : List ℕ) → KeepsSlots s t → KeepsSlotsBut files s t name
+slots_but files s t name keeps = record { same = λ j. rw (keeps j) refl; left = λ told j differs. rw (keeps j) refl }
+
+pub files_from : (f g k : Option Files) (name : List ℕ) → KeepsFiles f g → KeepsFilesBut (Some name) g k → KeepsFilesBut (Some name) f k
+files_from None None None name first second = tt
+files_from None None (Some k) name first second = absurd second
+files_from None (Some g) k name first second = absurd first
+files_from (Some f) g None name first second = tt
+files_from (Some f) None (Some k) name first second = absurd second
+files_from (Some f) (Some g) (Some k) name first second = λ other differs. second other differs ∙ first other
+
+pub told_before : (g k : Option Files) (name : List ℕ) → KeepsFilesBut (Some name) g k → IsSome k → IsSome g
+told_before None None name keeps some = some
+told_before None (Some k) name keeps some = absurd keeps
+told_before (Some g) k name keeps some = refl
+
+pub slots_from : (g k : Option Files) (s t u : Slots) (name : List ℕ) → KeepsFilesBut (Some name) g k → KeepsSlots s t → KeepsSlotsBut g t u name → KeepsSlotsBut k s u name
+slots_from g k s t u name files first second = record {
+  same = λ j. second.same j ∙ (rw (first j) refl);
+  left = λ told j differs. second.left (told_before g k name files told) j (λ (e : name_in t j ≡ Some name). differs (rw (first j) at e)) ∙ (rw (first j) refl);
+}
+
+-- and its name asked for
+pub asks_from : {a b c : ShelfState} {done : Type 0} {names : List (List ℕ)} (input : List ℕ) → Asks (input ∷ []) a b → AsksFor names b c done → AsksFor (input ∷ names) a c done
+asks_from {c = c} {names = names} input first second = record {
+  count = suc second.count;
+  within = omega (arith, second.within);
+  all = λ done. ap suc (second.all done);
+  asked = λ before stands. subst (WasAsked c.asked) (append_assoc before (input ∷ []) (take second.count names)) (second.asked (before ++ input ∷ []) (first before stands));
+}

@@ -1,5 +1,5 @@
 -- The run of a command that reads files.
-use Rattle.std.proofs.Common.{◌≡◌, ℕ, Bool, true, false, List, [], ◌∷◌, length, take, Option, None, Result, Ok, Err, inl, inr, refl, sym, subst, ◌∙◌, arith}
+use Rattle.std.proofs.Common.{◌≡◌, ℕ, Bool, true, false, List, [], ◌∷◌, length, take, Option, None, Some, Result, Ok, Err, inl, inr, refl, sym, subst, ◌∙◌, arith}
 use Rattle.std.specs.Prelude.{◌≢◌, IfOk}
 use Rattle.std.proofs.lemmas.Bool.{cases_Bool}
 use Rattle.std.proofs.lemmas.List.{append-nil}
@@ -10,17 +10,17 @@ use Rattle.avtp_base.specs.States.{Asks, ShelfState, SinkState}
 use Rattle.sample_schedule.specs.declared.shown.Shown.{Shown}
 use Rattle.capture_io.specs.Reads.{OnlyReads}
 use Rattle.avtp_text.specs.Written.{written}
-use Rattle.avtp_words.specs.Grammar.{agree, check, files_of, listen, output_of, Request, show, soak, talk}
+use Rattle.avtp_words.specs.Grammar.{agree, check, files_of, gateway, listen, output_of, Request, show, soak, talk}
 use Rattle.avtp_tool.specs.declared.status.Status.{Status}
 use Rattle.avtp_tool.specs.declared.status.Status.TheVariants as status
-use Rattle.avtp_tool.specs.Made.{KeepsFilesBut, KeepsSlotsFor}
+use Rattle.avtp_tool.specs.Made.{KeepsFilesBut, KeepsSlotsFor, MakesOutput, MakesPart}
 use Rattle.avtp_tool.specs.state.Made.{CountsWriting}
 use Rattle.avtp_tool.specs.Outcome.{AsksFor, is_done}
 use Rattle.avtp_tool.specs.state.Outcome.{CountsReading, IsDone, TellsRun, TellsYield}
 use Rattle.avtp_tool.specs.Reading.{InOrder, one_outcome, ReadPlan}
 use Rattle.avtp_tool.specs.state.Reading.{DoesFile, DoesFiles, DoesReading}
-use Rattle.avtp_tool.specs.Run.{is_listening, Outcome}
-use Rattle.avtp_tool.specs.state.Run.{IsThrough, MakesOf, Runs, TellsDevices}
+use Rattle.avtp_tool.specs.Run.{again_of, is_listening, Outcome}
+use Rattle.avtp_tool.specs.state.Run.{IsThrough, Runs, TellsAll, TellsDevices}
 use Rattle.avtp_tool.specs.Yield.{Yield}
 use Rattle.avtp_tool.specs.state.Yield.{Gives, GivesPart, HandsNothing}
 use Rattle.avtp_tool.proofs.Yields.{gives_as, part_as}
@@ -76,9 +76,25 @@ one_file {s} {t} {h} {h'} {l} {l'} {result = result} {handed} plan name named do
 
 -- ---- a command
 
+-- nothing is made
+makes_nothing : (output : Option (List ℕ)) (f g : Option Files) → KeepsFiles f g → MakesOutput output None f g × MakesPart output None f g
+makes_nothing None f g keeps = (keeps, keeps)
+makes_nothing (Some name) f g keeps = (keeps, keeps)
+
+-- a run that makes no file told this
+pub tells_all : {request : Request} {all : Files} {fault : Type 0} {failed : Bool} {handed : List Shown → Type 0} {s t : ShelfState} {before now : Option (List ℕ)} {result : Result Status Failed} → KeepsFiles s.files t.files
+    → TellsRun (λ came ended yields. Outcome request all fault failed came ended yields None) handed s t before now result → TellsAll request all fault failed handed s t before now result
+tells_all {request} {s = s} {t} {result = result} keeps tells = record { made = None; tells = tells; whole = whole_at result; begun = nothing.1 } where
+  nothing : MakesOutput (output_of request) None s.files t.files × MakesPart (output_of request) None s.files t.files
+  nothing = makes_nothing (output_of request) s.files t.files keeps
+
+  whole_at : (r : Result Status Failed) → IfOk r (λ e. e ≢ status.Memory → e ≢ status.WriteFault → MakesOutput (output_of request) None s.files t.files)
+  whole_at (Ok e) = λ memory write. nothing.0
+  whole_at (Err e) = tt
+
 -- what a reading can come to, the request of it can
 abbrev pub IsReadingOf : Request → (Files → Type 0 → List (List ℕ) → Status → Yield → Type 0) → Type 1
-IsReadingOf request Comes = (all : Files) (fault : Type 0) (failed : Bool) (came : List (List ℕ)) (ended : Status) (yields : Yield) → Comes all fault came ended yields → Outcome request all fault failed came ended yields
+IsReadingOf request Comes = (all : Files) (fault : Type 0) (failed : Bool) (came : List (List ℕ)) (ended : Status) (yields : Yield) → Comes all fault came ended yields → Outcome request all fault failed came ended yields None
 
 through_done : (result : Result Status Failed) → (result ≡ Ok status.DeviceFault → ⊥) → IsThrough result → IsDone result
 through_done (Ok status.Done) other through = refl
@@ -101,48 +117,54 @@ pub no_devices : {request : Request} {failed : Bool} {result : Result Status Fai
 no_devices other never = record { fault = λ e. absurd (never e); quiet = λ listens. absurd (let t : true ≡ false = sym listens ∙ other in cc) }
 
 pub reading_runs : {s t : ShelfState} {h h' : SinkState} {l l' : List ℕ} {result : Result Status Failed} {handed : List Shown → Type 0} {Comes : Files → Type 0 → List (List ℕ) → Status → Yield → Type 0} {names : List (List ℕ)} (request : Request) (failed : Bool) (other : Request)
-    → request ≡ other → IsReadingOf request Comes → is_listening request ≡ false → files_of request ≡ names → output_of request ≡ None
-    → ((all : Files) → KeepsFiles s.files t.files → MakesOf request all s.files t.files result) → DoesReading Comes names handed s t h h' l l' result → Runs other handed failed s t h h' l l' result
-reading_runs {s} {t} {h} {h'} {l} {l'} {result} {handed} {names = names} request failed other same is deaf named none makes does = subst (λ (q : Request). Runs q handed failed s t h h' l l' result) same (record {
+    → request ≡ other → IsReadingOf request Comes → is_listening request ≡ false → files_of request ≡ names → output_of request ≡ None → again_of request ≡ [] → DoesReading Comes names handed s t h h' l l' result → Runs other handed failed s t h h' l l' result
+reading_runs {s} {t} {h} {h'} {l} {l'} {result} {handed} {names = names} request failed other same is deaf named none once does = subst (λ (q : Request). Runs q handed failed s t h h' l l' result) same (record {
   tells = λ all told still.
       let to = does.tells all told still in
-      record { came = to.came; ended = to.ended; yields = to.yields; outcome = is all (Rose s.reading_faults t.reading_faults) failed to.came to.ended to.yields to.outcome; whole = to.whole; part = to.part };
-  makes = λ all told. makes all does.keeps.files;
+      tells_all does.keeps.files
+      (record { came = to.came; ended = to.ended; yields = to.yields; outcome = is all (Rose s.reading_faults t.reading_faults) failed to.came to.ended to.yields to.outcome; whole = to.whole; part = to.part });
   files = subst (λ (o : Option (List ℕ)). KeepsFilesBut o s.files t.files) (sym none) does.keeps.files;
   slots = subst (λ (o : Option (List ℕ)). KeepsSlotsFor o t.files s.slots t.slots) (sym none) does.keeps.slots;
   counts = subst (λ (ns : List (List ℕ)). CountsReading ns s.files s.reading_faults t.reading_faults result) (sym named) does.counts;
   writing = subst (λ (o : Option (List ℕ)). CountsWriting o s.writing_faults t.writing_faults result) (sym none) (only_read does.keeps.writing (never_ends result status.WriteFault refl does.own));
   no_words = never_ends result status.Words refl does.own;
   devices = no_devices deaf (never_ends result status.DeviceFault refl does.own);
-  asks = subst (λ (ns : List (List ℕ)). AsksFor ns s t (IsThrough result)) (sym (rw (named, none) (append-nil names)))
+  asks = subst (λ (ns : List (List ℕ)). AsksFor ns s t (IsThrough result)) (sym (rw (named, none, once) (append-nil names)))
       (through_as (never_ends result status.DeviceFault refl does.own) (record { count = does.count; within = does.within; all = does.all; asked = does.keeps.asked }));
   sink = does.sink;
 })
 
 -- ---- a command that hands nothing on
 
-outcome_deaf : (request : Request) (all : Files) (fault : Type 0) (failed other : Bool) (came : List (List ℕ)) (ended : Status) (yields : Yield) → is_listening request ≡ false → Outcome request all fault failed came ended yields → Outcome request all fault other came ended yields
-outcome_deaf (show limit file) all fault failed other came ended yields deaf o = o
-outcome_deaf (check limit names) all fault failed other came ended yields deaf o = o
-outcome_deaf (listen asked) all fault failed other came ended yields deaf o = absurd cc
-outcome_deaf (talk asked) all fault failed other came ended yields deaf o = o
-outcome_deaf (soak packets) all fault failed other came ended yields deaf o = o
-outcome_deaf (agree asked) all fault failed other came ended yields deaf o = o
+outcome_deaf : (request : Request) (all : Files) (fault : Type 0) (failed other : Bool) (came : List (List ℕ)) (ended : Status) (yields : Yield) (made : Option (List ℕ)) → is_listening request ≡ false
+    → Outcome request all fault failed came ended yields made → Outcome request all fault other came ended yields made
+outcome_deaf (show limit file) all fault failed other came ended yields made deaf o = o
+outcome_deaf (check limit names) all fault failed other came ended yields made deaf o = o
+outcome_deaf (listen asked) all fault failed other came ended yields made deaf o = absurd cc
+outcome_deaf (talk asked) all fault failed other came ended yields made deaf o = o
+outcome_deaf (soak packets) all fault failed other came ended yields made deaf o = o
+outcome_deaf (agree asked) all fault failed other came ended yields made deaf o = o
+outcome_deaf (gateway asked) all fault failed other came ended yields made deaf o = o
 
 pub runs_deaf : {s t : ShelfState} {h h' : SinkState} {l l' : List ℕ} {result : Result Status Failed} {handed : List Shown → Type 0} {failed : Bool} (request : Request) → is_listening request ≡ false → handed []
     → Runs request HandsNothing false s t h h' l l' result → Runs request handed failed s t h h' l l' result
 runs_deaf {s = s} {t} {h} {h'} {l} {l'} {result = result} {handed} {failed} request deaf none runs = record {
   tells = λ all told still.
-      let to = runs.tells all told still in
+      let so = runs.tells all told still in
+      let to = so.tells in
       record {
-        came = to.came;
-        ended = to.ended;
-        yields = to.yields;
-        outcome = outcome_deaf request all _ false failed to.came to.ended to.yields deaf to.outcome;
-        whole = whole_at result to.came to.ended to.yields to.whole;
-        part = part_as nothing to.yields to.part;
+        made = so.made;
+        tells = record {
+          came = to.came;
+          ended = to.ended;
+          yields = to.yields;
+          outcome = outcome_deaf request all _ false failed to.came to.ended to.yields so.made deaf to.outcome;
+          whole = whole_at result to.came to.ended to.yields to.whole;
+          part = part_as nothing to.yields to.part;
+        };
+        whole = so.whole;
+        begun = so.begun;
       };
-  makes = runs.makes;
   files = runs.files;
   slots = runs.slots;
   counts = runs.counts;

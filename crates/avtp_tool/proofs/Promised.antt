@@ -1,9 +1,9 @@
 -- A run that did what the words ask for, and whose text was then written, keeps what the command promises.
-use Rattle.std.proofs.Common.{◌≡◌, ◌≢◌, ℕ, ℤ, List, [], Option, Some, None, Result, Ok, Err, Bool, true, false, inl, inr, refl, sym, ap, subst, ◌∙◌, arith}
+use Rattle.std.proofs.Common.{◌≡◌, ◌≢◌, ℕ, ℤ, List, [], Some, Result, Bool, false, inl, inr, refl, sym, ap, subst, ◌∙◌, arith}
 use Rattle.std.specs.Prelude.{IfOk, IsSome}
 use Rattle.avtp_base.specs.declared.failed.Failed.{Failed}
 use Rattle.avtp_base.specs.Faults.{IsCounted}
-use Rattle.avtp_base.specs.Files.{Files, KeepsFiles}
+use Rattle.avtp_base.specs.Files.{Files}
 use Rattle.avtp_base.specs.States.{Asks, ShelfState, SinkState}
 use Rattle.avtp_base.proofs.Files.{KeepsFiles-refl}
 use Rattle.avtp_base.proofs.Told.{Appends-nil, Keeps-refl}
@@ -13,25 +13,23 @@ use Rattle.avtp_text.proofs.Growth.{grows_further}
 use Rattle.avtp_text.proofs.Printing.{prefix_none}
 use Rattle.packet_journal.specs.Packets.{PacketJournal}
 use Rattle.sample_schedule.specs.declared.shown.Shown.{Shown}
-use Rattle.avtp_words.specs.Grammar.{Agreeing, output_of, Listening, Request, talk, Talking}
+use Rattle.avtp_words.specs.Grammar.{Agreeing, output_of, Listening, Request}
 use Rattle.avtp_tool.specs.declared.status.Status.{Status}
 use Rattle.avtp_tool.specs.declared.status.Status.TheVariants as status
 use Rattle.avtp_tool.specs.Agree.{HasAgreement, agree_report, compared_text}
 use Rattle.avtp_tool.proofs.AgreeRun.{has_agreement}
-use Rattle.avtp_tool.specs.HasRun.{ComparesTalker, HasCauses, HasRun, HearsFile, LeavesFiles, ReadsAll, RefusesWords, Reports, TellsFailed}
+use Rattle.avtp_tool.specs.HasRun.{ComparesTalker, HasRun, HearsFile, RefusesWords, Reports}
 use Rattle.avtp_tool.specs.Listen.{HasHeadline}
-use Rattle.avtp_tool.specs.Run.{came_for, is_listening, names_of, Outcome, status_for, yield_for}
+use Rattle.avtp_tool.specs.Run.{came_for, is_listening, made_for, names_of, status_for, yield_for}
 use Rattle.avtp_tool.specs.Yield.{Yield}
-use Rattle.avtp_tool.specs.state.Made.{Makes}
+use Rattle.avtp_tool.specs.Made.{MakesOutput}
 use Rattle.avtp_tool.specs.state.Outcome.{EndsWith, Finishes}
-use Rattle.avtp_tool.specs.state.Run.{MakesFrom, MakesOf, Runs}
+use Rattle.avtp_tool.specs.state.Run.{Runs}
 use Rattle.avtp_tool.specs.state.Yield.{Gives}
-use Rattle.talker.specs.Frames.{capture}
-use Rattle.avtp_tool.specs.Talk.{talk_plan}
 use Rattle.avtp_tool.proofs.Complete.{complete_of, has_headline, outcome_here}
-use Rattle.avtp_tool.proofs.Ended.{asks_nothing, asks_same, ended_as, ends_prefix, ends_whole, not_ended, offence_ends, quiet_if, quiet_not, through_to, untouched_by}
+use Rattle.avtp_tool.proofs.Ended.{asks_nothing, asks_same, ended_as, ends_prefix, ends_whole, not_ended, offence_ends, quiet_if, quiet_not, through_to}
 use Rattle.avtp_tool.proofs.Finished.{flushed, gains_prefix, rose_later}
-use Rattle.avtp_tool.proofs.Making.{files_still, slots_here}
+use Rattle.avtp_tool.proofs.Making.{files_still, part_kept, slots_here}
 
 -- ---- what is printed
 
@@ -53,46 +51,33 @@ reports_of : {request : Request} {handed : List Shown → Type 0} {failed : Bool
     → w ≡ [] → Runs request handed failed shelf shelf' out mid w w1 r → Finishes mid out' w1 w2 r ended → Grows out.held out'.held
     → (files : Files) → shelf.files ≡ Some files → IsSome shelf'.files → Reports request files failed handed shelf shelf' out out' ended
 reports_of {request} {handed} {failed} {shelf} {shelf'} {out} {mid} {out'} {w} {w1} {w2} {r} {ended} none runs finishes grown files told some =
-    let tells = runs.tells files told some in
+    let so = runs.tells files told some in
+    let tells = so.tells in
     record {
       came = tells.came;
       reached = tells.ended;
       yields = tells.yields;
+      made = so.made;
       outcome = tells.outcome;
       whole = λ memory write.
           let done = finishes.whole write in
           let all = subst (λ (q : Result Status Failed). IfOk q (λ s. s ≢ status.Memory → s ≢ status.WriteFault
           → (s ≡ tells.ended) × Gives handed (written out.held w) (written mid.held w1) tells.yields × Asks tells.came shelf shelf')) done.0 tells.whole memory write in
-          (all.0, flushed _ _ _ _ _ _ none done.1 all.1.text finishes.kept, all.1.items, all.2);
+          let output = subst (λ (q : Result Status Failed). IfOk q (λ s. s ≢ status.Memory → s ≢ status.WriteFault → MakesOutput (output_of request) so.made shelf.files shelf'.files)) done.0 so.whole memory write in
+          (all.0, flushed _ _ _ _ _ _ none done.1 all.1.text finishes.kept, all.1.items, all.2, output);
       written = gains_prefix _ _ _ _ _ tells.yields.text none tells.part.text finishes.kept grown;
       items = tells.part.front;
       first = tells.part.first;
       given = tells.part.items;
-      complete = λ quiet. complete_of request files _ failed tells.came tells.ended tells.yields (quiet_not _ _ quiet) tells.outcome;
+      begun = so.begun;
+      complete = λ quiet. complete_of request files _ failed tells.came tells.ended tells.yields so.made (quiet_not _ _ quiet) tells.outcome;
       headline = λ quiet asked name bytes shift p hears.
           headline_of request files failed tells.yields asked name bytes shift p
-          (complete_of request files _ failed tells.came tells.ended tells.yields (quiet_not _ _ quiet) tells.outcome).2 hears;
+          (complete_of request files _ failed tells.came tells.ended tells.yields so.made (quiet_not _ _ quiet) tells.outcome).2 hears;
       agreement = λ quiet asked x y shift p compares.
           agreement_of request files failed tells.yields asked x y shift p
-          (complete_of request files _ failed tells.came tells.ended tells.yields (quiet_not _ _ quiet) tells.outcome).2 compares;
+          (complete_of request files _ failed tells.came tells.ended tells.yields so.made (quiet_not _ _ quiet) tells.outcome).2 compares;
     }
-
--- ---- the files
-
-makes_talk : (request : Request) (f g : Option Files) (r : Result Status Failed) (asked : Talking) (all : Files) (told : Option (List ℕ)) → request ≡ talk asked → f ≡ Some all → all asked.input ≡ told
-    → ((every : Files) → f ≡ Some every → MakesOf request every f g r) → MakesFrom asked told f g r
-makes_talk request f g r asked all told same tells has makes =
-    subst (λ (t : Option (List ℕ)). MakesFrom asked t f g r) has (subst (λ (q : Request). MakesOf q all f g r) same (makes all tells))
-
-leaves_of : {request : Request} {handed : List Shown → Type 0} {failed : Bool} {shelf shelf' : ShelfState} {out mid out' : SinkState} {w w1 w2 : List ℕ} {r : Result Status Failed} {ended : Status}
-    → Runs request handed failed shelf shelf' out mid w w1 r → Finishes mid out' w1 w2 r ended → LeavesFiles request shelf.files shelf'.files ended
-leaves_of {request} {shelf = shelf} {shelf' = shelf'} {r = r} {ended = ended} runs finishes = record {
-  made = λ is asked all bytes same told has. (makes_talk request shelf.files shelf'.files r asked all (Some bytes) same told has runs.makes).done (ended_as status.Done (λ e. cc) finishes is);
-  begun = λ asked all bytes same told has. (makes_talk request shelf.files shelf'.files r asked all (Some bytes) same told has runs.makes).part;
-  missing = λ asked all same told none. makes_talk request shelf.files shelf'.files r asked all None same told none runs.makes;
-  untouched = λ done write memory. untouched_by request shelf.files shelf'.files r ended (finishes.whole write).0 done write memory runs.makes runs.files;
-  others = runs.files;
-}
 
 -- ---- the command
 
@@ -104,7 +89,7 @@ has_run {request} {handed} {still} {failed} {shelf} {shelf'} {out} {mid} {out'} 
     record {
       reports = reports_of none runs finishes grown;
       grows = grown;
-      leaves = leaves_of runs finishes;
+      files = runs.files;
       slots = runs.slots;
       names = asks_same (names_of request) (through_to finishes) runs.asks;
       devices = record {
@@ -141,24 +126,20 @@ no_memory request handed still failed shelf out nothing kept = record {
     came = came_for request files;
     reached = status_for request files failed;
     yields = yield_for request files failed;
+    made = made_for request files;
     outcome = outcome_here request files _ failed;
     whole = λ memory write. absurd (memory refl);
     written = prefix_none _ _ _ (Keeps-refl _);
     items = [];
     first = (_, refl);
     given = nothing;
-    complete = λ quiet. (refl, refl, refl);
+    begun = part_kept (output_of request) (made_for request files) shelf.files shelf.files (KeepsFiles-refl shelf.files);
+    complete = λ quiet. (refl, refl, refl, refl);
     headline = λ quiet asked name bytes shift p hears. headline_of request files failed (yield_for request files failed) asked name bytes shift p refl hears;
     agreement = λ quiet asked x y shift p compares. agreement_of request files failed (yield_for request files failed) asked x y shift p refl compares;
   };
   grows = record { more = []; appends = Appends-nil out.held };
-  leaves = record {
-    made = λ is asked all bytes same told has. absurd cc;
-    begun = λ asked all bytes same told has. inl (KeepsFiles-refl shelf.files);
-    missing = λ asked all same told none. KeepsFiles-refl shelf.files;
-    untouched = λ done write memory. absurd (memory refl);
-    others = files_still (output_of request) shelf.files;
-  };
+  files = files_still (output_of request) shelf.files;
   slots = slots_here (output_of request) shelf.files shelf.slots;
   names = asks_nothing (names_of request) shelf (λ e. cc);
   devices = record { fault = λ is. absurd cc; quiet = λ listens is. absurd cc };

@@ -1,7 +1,6 @@
 -- Two captures that are read side by side, step by step.
-use Rattle.std.proofs.Common.{◌≡◌, ◌≢◌, ℕ, zero, suc, ◌+◌, ◌<◌, ◌≤◌, ◌^◌, Bool, true, false, inl, inr, List, [], ◌∷◌, ◌++◌, length, take, drop, Option, Some, None, Result, Ok, Err, refl, sym, ap, subst, ◌∙◌, arith, append-nil, append_assoc}
-use Rattle.std.specs.Prelude.{IfNone, IsSome, is_some, option_and_then, slice_get}
-use Rattle.std.specs.Option.{option_to_list}
+use Rattle.std.proofs.Common.{◌≡◌, ◌≢◌, ℕ, zero, suc, ◌+◌, ◌<◌, ◌≤◌, ◌^◌, Bool, true, false, List, [], ◌∷◌, ◌++◌, take, drop, Option, Some, None, Result, Ok, Err, refl, sym, ap, subst, ◌∙◌, arith, append-nil}
+use Rattle.std.specs.Prelude.{IsSome, is_some, option_and_then, slice_get}
 use Rattle.std.proofs.lemmas.Grind.{flat_map-append}
 use Rattle.avtp_base.specs.declared.failed.Failed.{Failed}
 use Rattle.avtp_base.specs.Faults.{Rose}
@@ -16,7 +15,7 @@ use Rattle.capture_io.specs.declared.end.End.TheVariants as end
 use Rattle.capture_io.specs.Ends.{CountsFault, EndsAt, end_of}
 use Rattle.capture_io.specs.Formats.{records_in}
 use Rattle.capture_io.specs.Reads.{ReadsSlot}
-use Rattle.capture_io.specs.Source.{EndsAfter, GivesNext, HasGiven, HasGivenOf, Sourcing, held_in, remains_of, slot_of, to_do}
+use Rattle.capture_io.specs.Source.{EndsAfter, GivesNext, HasGiven, HasGivenOf, Sourcing, remains_of, slot_of, to_do}
 use Rattle.capture_io.proofs.Ending.{ends_weaker}
 use Rattle.capture_io.proofs.Giving.{given_first}
 use Rattle.listener.specs.declared.plan.ListenPlan.{ListenPlan}
@@ -37,7 +36,7 @@ use Rattle.avtp_tool.specs.declared.comparing.Step.TheVariants as step
 use Rattle.avtp_tool.specs.Agree.{difference_line, difference_lines, due_in, merged_in, presented_in}
 use Rattle.avtp_tool.specs.Listen.{plan_of}
 use Rattle.avtp_tool.specs.state.Comparing.IsCutIn.{in_a, in_b}
-use Rattle.avtp_tool.specs.state.Comparing.{ComparesTo, EndsCompared, HasCompared, IsAmidTwo, IsBegun, IsComparedTo, IsCutIn, IsFresh, IsOpenAt, IsSideAt, PrintedAll, PrintsDifferences, Shuts, SideRead, StandsOn, StepsTo, Takes, TakesHeld, is_fault, left_by, left_of, AreOpen, ReadsOn, ReadsTwo}
+use Rattle.avtp_tool.specs.state.Comparing.{EndsCompared, HasCompared, IsAmidTwo, IsBegun, IsComparedTo, IsCutIn, IsFresh, IsOpenAt, IsSideAt, PrintsDifferences, Shuts, SideRead, StandsOn, StepsTo, Takes, is_fault, left_by, left_of, AreOpen, ReadsOn, ReadsTwo}
 use Rattle.avtp_tool.specs.state.Outcome.{KeepsSink}
 use Rattle.avtp_tool.proofs.Leaving.{ended_so, quiet_next, some_same}
 use Rattle.avtp_tool.proofs.TwoFiles.{two_begun, two_on_a, two_on_b}

@@ -15,7 +15,7 @@ use Rattle.avtp_tool.specs.Soak.{soak_report}
 use Rattle.avtp_tool.specs.state.Soak.{Says}
 use Rattle.avtp_tool.specs.Yield.{says as only_text}
 use Rattle.avtp_tool.specs.state.Yield.{Gives, HandsNothing}
-use Rattle.avtp_tool.proofs.PlanRuns.{no_devices}
+use Rattle.avtp_tool.proofs.PlanRuns.{no_devices, tells_all}
 use Rattle.avtp_tool.proofs.Yields.{part_text}
 use Rattle.avtp_tool.proofs.Ended.{ends_prefix}
 use Rattle.avtp_base.proofs.Files.{KeepsFiles-refl}
@@ -56,15 +56,14 @@ quiet count (Err e) = tt
 pub soak_runs : {s : ShelfState} {h h' : SinkState} {l l' : List ℕ} {result : Result Status Failed} (packets : ℕ) (other : Request) → soak packets ≡ other → Says (soak_report packets) h h' l l' result
     → Runs other HandsNothing false s s h h' l l' result
 soak_runs {s} {h} {h'} {l} {l'} {result} packets other same told = subst (λ (q : Request). Runs q HandsNothing false s s h h' l l' result) same (record {
-  tells = λ all is some. record {
+  tells = λ all is some. tells_all (KeepsFiles-refl s.files) (record {
     came = [];
     ended = told.tells.ended;
     yields = only_text told.tells.yields;
-    outcome = (refl, (told.tells.outcome.0, ap only_text told.tells.outcome.1));
+    outcome = (refl, (told.tells.outcome.0, ap only_text told.tells.outcome.1), refl);
     whole = with_names s (written h.held l) (written h'.held l') told.tells.yields told.tells.ended result told.tells.whole;
     part = part_text refl (only_text told.tells.yields) told.tells.part;
-  };
-  makes = λ all told. KeepsFiles-refl s.files;
+  });
   files = KeepsFiles-refl s.files;
   slots = λ k. refl;
   counts = record { never_falls = omega arith; fault = λ e. absurd (other_status result status.ReadFault told.own (λ d. cc) (λ d. cc) e); quiet = quiet s.reading_faults result };

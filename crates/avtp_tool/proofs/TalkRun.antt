@@ -1,12 +1,13 @@
 -- The run of `talk`, over an input that was opened or not.
-use Rattle.std.proofs.Common.{◌≡◌, ◌≢◌, ℕ, suc, List, [], ◌∷◌, ◌++◌, take, Option, Some, None, Result, Ok, Err, true, false, if◌then◌else◌, inl, refl, sym, ap, subst, ◌∙◌, append_assoc, arith}
-use Rattle.std.specs.Prelude.{IfOk, IsErrOf, IsSome}
+use Rattle.std.proofs.Common.{◌≡◌, ◌≢◌, ℕ, List, [], ◌∷◌, ◌++◌, Option, Some, None, Result, Ok, Err, true, false, if◌then◌else◌, inl, refl, sym, ap, subst, ◌∙◌, append_assoc, arith}
+use Rattle.std.specs.Prelude.{IfOk, IsErrOf}
 use Rattle.avtp_base.specs.declared.failed.Failed.{Failed}
 use Rattle.avtp_base.specs.declared.failed.OpenFault.{OpenFault}
 use Rattle.avtp_base.specs.declared.failed.OpenFault.TheVariants as open_fault
 use Rattle.avtp_base.specs.Faults.{Rose}
-use Rattle.avtp_base.specs.Files.{Files, Slots, IsMissing, KeepsFiles, KeepsSlots, name_in}
+use Rattle.avtp_base.specs.Files.{Files, IsMissing}
 use Rattle.avtp_base.specs.Told.{Appends}
+use Rattle.talk_plan.specs.declared.plan.TalkPlan.{TalkPlan}
 use Rattle.avtp_base.specs.States.{Asks, ShelfState, SinkState, WasAsked}
 use Rattle.capture_io.specs.declared.contents.Contents.{Contents}
 use Rattle.capture_io.specs.declared.end.Stop.{Stop}
@@ -14,30 +15,29 @@ use Rattle.capture_io.specs.declared.end.Stop.TheVariants as stop
 use Rattle.capture_io.specs.Contents.{IsContents, IsReadCounted}
 use Rattle.capture_io.specs.Ends.{CountsStop}
 use Rattle.capture_io.specs.Reads.{OnlyReads}
-use Rattle.capture_io.specs.Writing.{KeepsSlotsBut}
 use Rattle.talker.specs.Frames.{capture}
 use Rattle.talk_plan.specs.Plan.{most_input}
 use Rattle.avtp_text.specs.Written.{written}
 use Rattle.avtp_words.specs.Grammar.{talk, Talking}
 use Rattle.avtp_tool.specs.declared.status.Status.{Status}
 use Rattle.avtp_tool.specs.declared.status.Status.TheVariants as status
-use Rattle.avtp_tool.specs.Made.{KeepsFilesBut}
+use Rattle.avtp_tool.specs.Made.{MakesOutput, MakesPart}
 use Rattle.avtp_tool.specs.state.Made.{CountsWriting, Makes}
-use Rattle.avtp_tool.specs.Outcome.{AsksFor, is_done}
-use Rattle.avtp_tool.specs.state.Outcome.{EndsUnopened, IsDone, KeepsSink, TellsRun, TellsText}
+use Rattle.avtp_tool.specs.Outcome.{is_done}
+use Rattle.avtp_tool.specs.state.Outcome.{EndsUnopened, IsDone, KeepsSink, TellsText}
 use Rattle.avtp_tool.specs.Run.{talk_came}
-use Rattle.avtp_tool.specs.state.Run.{MakesFrom, Runs}
-use Rattle.avtp_tool.specs.Talk.{TalkedOutcome, TalkOutcome, talk_plan, talk_report, talk_status}
-use Rattle.avtp_tool.specs.state.Talk.{FaultStops, WritesOnly}
+use Rattle.avtp_tool.specs.state.Run.{Runs, TellsAll}
+use Rattle.avtp_tool.specs.Talk.{TalkedOutcome, TalkOutcome, talk_made, talk_plan, talk_report, talk_status}
+use Rattle.avtp_tool.specs.state.Talk.{FaultStops, OutcomeWith, WritesOnly}
 use Rattle.avtp_tool.proofs.Complete.{talk_here}
-use Rattle.avtp_tool.proofs.Making.{makes_after, makes_none}
+use Rattle.avtp_tool.proofs.Making.{asks_from, files_from, kept_but, makes_after, makes_none, slots_but, slots_from}
 use Rattle.avtp_text.specs.Notices.{read_fault_line}
 use Rattle.avtp_tool.specs.Yield.{says}
 use Rattle.avtp_tool.specs.state.Yield.{Gives, HandsNothing}
 use Rattle.avtp_tool.proofs.PlanRuns.{no_devices, through_as}
 use Rattle.avtp_tool.proofs.Yields.{part_text}
-use Rattle.avtp_tool.proofs.Outcomes.{counts_unopened, tells_unopened, text_telling, unopened_other, unopened_undone}
-use Rattle.avtp_tool.proofs.Talked.{read_counted, talks_unopened, tells_caused}
+use Rattle.avtp_tool.proofs.Outcomes.{counts_unopened, tells_unopened, tells_weaker, text_telling, unopened_other, unopened_undone}
+use Rattle.avtp_tool.proofs.Talked.{read_counted, talks_unopened, tells_caused, tells_since}
 
 -- ---- the names to which it came
 
@@ -45,20 +45,63 @@ use Rattle.avtp_tool.proofs.Talked.{read_counted, talks_unopened, tells_caused}
 abbrev pub CameAs : Talking → Result Status Failed → ShelfState → ShelfState → Type 0
 CameAs asked result a b = IfOk result (λ s. s ≢ status.Memory → s ≢ status.WriteFault → Asks (talk_came asked s) a b)
 
-talk_tells : {a b : ShelfState} {before now : Option (List ℕ)} {result : Result Status Failed} (asked : Talking) (told : Option (List ℕ)) (fault : Type 0) → CameAs asked result a b → TellsText (TalkOutcome (talk_plan asked) told fault) before now result
-    → TellsRun (λ came ended yields. (came ≡ talk_came asked ended) × TalkOutcome (talk_plan asked) told fault ended yields.text × (yields.items ≡ [])) HandsNothing a b before now result
-talk_tells {a} {b} {before} {now} {result} asked told fault came tells = record {
-  came = talk_came asked tells.ended;
-  ended = tells.ended;
-  yields = says tells.yields;
-  outcome = (refl, tells.outcome, refl);
-  whole = whole_at result came tells.whole;
-  part = part_text refl (says tells.yields) tells.part;
+-- what `talk` makes, by what a shelf tells of its input and by its status
+made_by : (P : Option (List ℕ) → Type 0) (plan : TalkPlan) (told : Option (List ℕ)) (ended : Status) → (told ≡ None → ended ≢ status.Done) → (ended ≢ status.Done → P None)
+    → ((bytes : List ℕ) → told ≡ Some bytes → ended ≡ status.Done → P (Some (capture plan bytes))) → P (talk_made plan told ended)
+made_by P plan None ended never none some = none (never refl)
+made_by P plan (Some bytes) status.Done never none some = some bytes refl refl
+made_by P plan (Some bytes) status.Findings never none some = none (λ e. cc)
+made_by P plan (Some bytes) status.Words never none some = none (λ e. cc)
+made_by P plan (Some bytes) status.Refused never none some = none (λ e. cc)
+made_by P plan (Some bytes) status.ReadFault never none some = none (λ e. cc)
+made_by P plan (Some bytes) status.WriteFault never none some = none (λ e. cc)
+made_by P plan (Some bytes) status.Memory never none some = none (λ e. cc)
+made_by P plan (Some bytes) status.Limit never none some = none (λ e. cc)
+made_by P plan (Some bytes) status.DeviceFault never none some = none (λ e. cc)
+made_by P plan (Some bytes) status.TalkInput never none some = none (λ e. cc)
+
+-- a missing input is never done
+missing_undone : (plan : TalkPlan) (told : Option (List ℕ)) (fault : Type 0) (ended : Status) (text : List ℕ) → TalkOutcome plan told fault ended text → told ≡ None → ended ≢ status.Done
+missing_undone plan None fault ended text o is e = let t : status.ReadFault ≡ status.Done = sym o.0 ∙ e in cc
+missing_undone plan (Some bytes) fault ended text o is e = absurd cc
+
+talk_tells : {all : Files} {a b : ShelfState} {before now : Option (List ℕ)} {result : Result Status Failed} (asked : Talking) (fault : Type 0) → CameAs asked result a b
+    → TellsText (OutcomeWith (TalkOutcome (talk_plan asked) (all asked.input) fault) a.files b.files) before now result
+    → ((bytes : List ℕ) → all asked.input ≡ Some bytes → Makes asked.output (capture (talk_plan asked) bytes) a.files b.files result) → TellsAll (talk asked) all fault false HandsNothing a b before now result
+talk_tells {all} {a} {b} {before} {now} {result} asked fault came tells makes = record {
+  made = talk_made plan told tells.ended;
+  tells = record {
+    came = talk_came asked tells.ended;
+    ended = tells.ended;
+    yields = says tells.yields;
+    outcome = (refl, tells.outcome.0, refl, refl);
+    whole = whole_at result came tells.whole;
+    part = part_text refl (says tells.yields) tells.part;
+  };
+  whole = made_at result tells.whole makes;
+  begun = made_by (λ (made : Option (List ℕ)). MakesPart (Some asked.output) made a.files b.files) plan told tells.ended never tells.outcome.1 (λ bytes is done. (makes bytes is).part);
 } where
+  plan : TalkPlan
+  plan = talk_plan asked
+
+  told : Option (List ℕ)
+  told = all asked.input
+
+  never : told ≡ None → tells.ended ≢ status.Done
+  never = missing_undone plan told fault tells.ended tells.yields tells.outcome.0
+
   whole_at : (r : Result Status Failed) → CameAs asked r a b → IfOk r (λ s. s ≢ status.Memory → s ≢ status.WriteFault → (s ≡ tells.ended) × Appends before now tells.yields)
       → IfOk r (λ s. s ≢ status.Memory → s ≢ status.WriteFault → (s ≡ tells.ended) × Gives HandsNothing before now (says tells.yields) × Asks (talk_came asked tells.ended) a b)
   whole_at (Ok s) asks whole = λ memory write. let w = whole memory write in (w.0, record { text = w.1; items = refl }, subst (λ (x : Status). Asks (talk_came asked x) a b) w.0 (asks memory write))
   whole_at (Err e) asks whole = tt
+
+  made_at : (r : Result Status Failed) → IfOk r (λ s. s ≢ status.Memory → s ≢ status.WriteFault → (s ≡ tells.ended) × Appends before now tells.yields)
+      → ((bytes : List ℕ) → told ≡ Some bytes → Makes asked.output (capture plan bytes) a.files b.files r) → IfOk r (λ s. s ≢ status.Memory → s ≢ status.WriteFault → MakesOutput (Some asked.output) (talk_made plan told tells.ended) a.files b.files)
+  made_at (Ok s) whole makes = λ memory write.
+      let same = (whole memory write).0 in
+      made_by (λ (made : Option (List ℕ)). MakesOutput (Some asked.output) made a.files b.files) plan told tells.ended never tells.outcome.1
+      (λ bytes is done. (makes bytes is).done (ap (λ (x : Status). Ok x) (same ∙ done)))
+  made_at (Err e) whole makes = tt
 
 came_unopened : (a b : ShelfState) (asked : Talking) (result : Result Status Failed) → Asks (asked.input ∷ []) a b → (IsDone result → ⊥) → CameAs asked result a b
 came_unopened a b asked (Ok s) asks not_done =
@@ -75,19 +118,6 @@ came_opened a b c asked (Err e) first second = tt
 
 -- ---- an input that was not opened
 
-kept_but : (f g : Option Files) (name : List ℕ) → KeepsFiles f g → KeepsFilesBut (Some name) f g
-kept_but None None name keeps = tt
-kept_but None (Some g) name keeps = absurd keeps
-kept_but (Some f) None name keeps = tt
-kept_but (Some f) (Some g) name keeps = λ other differs. keeps other
-
-slots_but : (files : Option Files) (s t : Slots) (name : List ℕ) → KeepsSlots s t → KeepsSlotsBut files s t name
-slots_but files s t name keeps = record { same = λ j. rw (keeps j) refl; left = λ told j differs. rw (keeps j) refl }
-
-made_none : (asked : Talking) (told : Option (List ℕ)) (f g : Option Files) (result : Result Status Failed) → KeepsFiles f g → (result ≡ Ok status.Done → ⊥) → MakesFrom asked told f g result
-made_none asked None f g result keeps never = keeps
-made_none asked (Some bytes) f g result keeps never = makes_after keeps (makes_none g result never)
-
 pub unopened_runs : {s t : ShelfState} {h h' : SinkState} {l l' : List ℕ} {result : Result Status Failed} (asked : Talking) (why : OpenFault)
     → (IsErrOf {T = Contents} (Err why) open_fault.Missing → IsMissing s.files asked.input) → IsReadCounted s.reading_faults t.reading_faults (Err why) → OnlyReads s t (asked.input ∷ []) → EndsUnopened why h h' l l' result
     → Runs (talk asked) HandsNothing false s t h h' l l' result
@@ -97,10 +127,11 @@ unopened_runs {s} {t} {h} {h'} {l} {l'} {result} asked why missing counts keeps 
     let not_failed = unopened_other why status.WriteFault (λ e. cc) (λ e. cc) ends in
     let not_device = unopened_other why status.DeviceFault (λ e. cc) (λ e. cc) ends in
     record {
-      tells = λ all told some. talk_tells asked (all asked.input) (Rose s.reading_faults t.reading_faults) (came_unopened s t asked result keeps.asked (unopened_undone why result ends))
+      tells = λ all told some. talk_tells asked (Rose s.reading_faults t.reading_faults) (came_unopened s t asked result keeps.asked (unopened_undone why result ends))
+          (tells_weaker (λ ended text o. (o, λ other. keeps.files))
           (tells_unopened {T = Contents} {Outcome = TalkOutcome plan (all asked.input) (Rose s.reading_faults t.reading_faults)} why s.reading_faults t.reading_faults s.files asked.input (talk_status plan (all asked.input)) (talk_report plan (all asked.input)) (text_telling (written h.held l) (written h'.held l') read_fault_line) (talk_here plan (all asked.input) (Rose s.reading_faults t.reading_faults))
-          (λ cause. talks_unopened plan s.reading_faults t.reading_faults s.files asked.input all told cause) (read_counted counts) missing ends);
-      makes = λ all told. made_none asked (all asked.input) s.files t.files result keeps.files not_done;
+          (λ cause. talks_unopened plan s.reading_faults t.reading_faults s.files asked.input all told cause) (read_counted counts) missing ends))
+          (λ bytes is. makes_after keeps.files (makes_none t.files result not_done));
       files = kept_but s.files t.files asked.output keeps.files;
       slots = slots_but t.files s.slots t.slots asked.output keeps.slots;
       counts = counts_unopened {T = Contents} why s.reading_faults t.reading_faults s.files asked.input (read_counted counts) missing ends;
@@ -112,33 +143,6 @@ unopened_runs {s} {t} {h} {h'} {l} {l'} {result} asked why missing counts keeps 
     }
 
 -- ---- an input that was read
-
-files_from : (f g k : Option Files) (name : List ℕ) → KeepsFiles f g → KeepsFilesBut (Some name) g k → KeepsFilesBut (Some name) f k
-files_from None None None name first second = tt
-files_from None None (Some k) name first second = absurd second
-files_from None (Some g) k name first second = absurd first
-files_from (Some f) g None name first second = tt
-files_from (Some f) None (Some k) name first second = absurd second
-files_from (Some f) (Some g) (Some k) name first second = λ other differs. second other differs ∙ first other
-
-told_before : (g k : Option Files) (name : List ℕ) → KeepsFilesBut (Some name) g k → IsSome k → IsSome g
-told_before None None name keeps some = some
-told_before None (Some k) name keeps some = absurd keeps
-told_before (Some g) k name keeps some = refl
-
-slots_from : (g k : Option Files) (s t u : Slots) (name : List ℕ) → KeepsFilesBut (Some name) g k → KeepsSlots s t → KeepsSlotsBut g t u name → KeepsSlotsBut k s u name
-slots_from g k s t u name files first second = record {
-  same = λ j. second.same j ∙ (rw (first j) refl);
-  left = λ told j differs. second.left (told_before g k name files told) j (λ (e : name_in t j ≡ Some name). differs (rw (first j) at e)) ∙ (rw (first j) refl);
-}
-
-asks_from : {a b c : ShelfState} {done : Type 0} (input output : List ℕ) → Asks (input ∷ []) a b → AsksFor (output ∷ []) b c done → AsksFor (input ∷ output ∷ []) a c done
-asks_from {c = c} input output first second = record {
-  count = suc second.count;
-  within = omega (arith, second.within);
-  all = λ done. ap suc (second.all done);
-  asked = λ before stands. subst (WasAsked c.asked) (append_assoc before (input ∷ []) (take second.count (output ∷ []))) (second.asked (before ++ input ∷ []) (first before stands));
-}
 
 rose_by : (halt : Stop) (before after : ℕ) → CountsStop (Some halt) before after → halt ≡ stop.Fault → Rose before after
 rose_by halt before after counts is = subst (λ (x : Stop). CountsStop (Some x) before after) is counts
@@ -157,12 +161,12 @@ quiet_by halt (Err e) before after counts quiet = tt
 abbrev pub IsInput : Option Files → List ℕ → Contents → Type 0
 IsInput files name contents = (all : Files) → files ≡ Some all → (bytes : List ℕ) × (all name ≡ Some bytes) × IsContents most_input bytes contents.stop contents.bytes.items
 
-made_from : (asked : Talking) (told : Option (List ℕ)) (bytes : List ℕ) (f g k : Option Files) (result : Result Status Failed) → told ≡ Some bytes → KeepsFiles f g → Makes asked.output (capture (talk_plan asked) bytes) g k result → MakesFrom asked told f k result
-made_from asked told bytes f g k result is keeps makes = subst (λ (t : Option (List ℕ)). MakesFrom asked t f k result) (sym is) (makes_after keeps makes)
+same_input : (told : Option (List ℕ)) (x y : List ℕ) → told ≡ Some x → told ≡ Some y → x ≡ y
+same_input told x y first second = cc
 
 pub opened_runs : {s t u : ShelfState} {h h' : SinkState} {l l' : List ℕ} {result : Result Status Failed} (asked : Talking) (contents : Contents)
     → IsInput s.files asked.input contents → CountsStop (Some contents.stop) s.reading_faults t.reading_faults → OnlyReads s t (asked.input ∷ [])
-    → ((bytes : List ℕ) → IsContents most_input bytes contents.stop contents.bytes.items → TellsText (TalkedOutcome (talk_plan asked) bytes (contents.stop ≡ stop.Fault)) (written h.held l) (written h'.held l') result)
+    → ((bytes : List ℕ) → IsContents most_input bytes contents.stop contents.bytes.items → TellsText (OutcomeWith (TalkedOutcome (talk_plan asked) bytes (contents.stop ≡ stop.Fault)) t.files u.files) (written h.held l) (written h'.held l') result)
     → ((bytes : List ℕ) → IsContents most_input bytes contents.stop contents.bytes.items → Makes asked.output (capture (talk_plan asked) bytes) t.files u.files result)
     → WritesOnly t u asked.output result → FaultStops contents.stop result → KeepsSink h h' result → Runs (talk asked) HandsNothing false s u h h' l l' result
 opened_runs {s} {t} {u} {h} {h'} {l} {l'} {result = result} asked contents read counted keeps tells makes writes stops sink =
@@ -171,16 +175,17 @@ opened_runs {s} {t} {u} {h} {h'} {l} {l'} {result = result} asked contents read 
     record {
       tells = λ all told some.
           let input = read all told in
-          talk_tells asked (all asked.input) (Rose s.reading_faults u.reading_faults) (came_opened s t u asked result keeps.asked writes.came)
-          (subst (λ (v : Option (List ℕ)). TellsText (TalkOutcome plan v (Rose s.reading_faults u.reading_faults)) (written h.held l) (written h'.held l') result) (sym input.1)
-          (tells_caused plan input.0 (contents.stop ≡ stop.Fault) (Rose s.reading_faults u.reading_faults) (rose_by contents.stop s.reading_faults u.reading_faults counts) (tells input.0 input.2)));
-      makes = λ all told. let input = read all told in made_from asked (all asked.input) input.0 s.files t.files u.files result input.1 keeps.files (makes input.0 input.2);
+          talk_tells asked (Rose s.reading_faults u.reading_faults) (came_opened s t u asked result keeps.asked writes.came)
+          (tells_since s.files t.files u.files keeps.files
+          (subst (λ (v : Option (List ℕ)). TellsText (OutcomeWith (TalkOutcome plan v (Rose s.reading_faults u.reading_faults)) t.files u.files) (written h.held l) (written h'.held l') result) (sym input.1)
+          (tells_caused t.files u.files plan input.0 (contents.stop ≡ stop.Fault) (Rose s.reading_faults u.reading_faults) (rose_by contents.stop s.reading_faults u.reading_faults counts) (tells input.0 input.2))))
+          (λ bytes is. makes_after keeps.files (subst (λ (b : List ℕ). Makes asked.output (capture plan b) t.files u.files result) (same_input (all asked.input) input.0 bytes input.1 is) (makes input.0 input.2)));
       files = files_from s.files t.files u.files asked.output keeps.files writes.files;
       slots = slots_from t.files u.files s.slots t.slots u.slots asked.output writes.files keeps.slots writes.slots;
       counts = record { never_falls = omega (arith, keeps.reading, writes.reading); fault = λ e. inl (rose_by contents.stop s.reading_faults u.reading_faults counts (stops.fault e)); quiet = quiet_by contents.stop result s.reading_faults u.reading_faults counts stops.quiet };
       writing = subst (λ (n : ℕ). CountsWriting (Some asked.output) n u.writing_faults result) keeps.writing writes.writing;
       no_words = stops.no_words;
       devices = no_devices refl stops.no_devices;
-      asks = through_as stops.no_devices (asks_from asked.input asked.output keeps.asked writes.asked);
+      asks = through_as stops.no_devices (asks_from asked.input keeps.asked writes.asked);
       sink = sink;
     }

@@ -5,7 +5,8 @@ use Rattle.avtp_base.specs.declared.failed.Failed.{Failed}
 use Rattle.avtp_base.specs.declared.failed.OpenFault.{OpenFault}
 use Rattle.avtp_base.specs.declared.failed.OpenFault.TheVariants as open_fault
 use Rattle.avtp_base.specs.Faults.{IsOpenCounted, Rose}
-use Rattle.avtp_base.specs.Files.{Files}
+use Rattle.avtp_base.specs.Files.{Files, KeepsFiles}
+use Rattle.avtp_base.proofs.Files.{KeepsFiles-refl, KeepsFiles-trans}
 use Rattle.avtp_base.specs.States.{SinkState}
 use Rattle.talk_plan.specs.declared.fault.TalkFault.{TalkFault}
 use Rattle.talk_plan.specs.declared.fault.TalkFault.TheVariants as fault
@@ -24,7 +25,7 @@ use Rattle.avtp_tool.specs.declared.status.Status.TheVariants as status
 use Rattle.avtp_tool.specs.state.Made.{unmade_as}
 use Rattle.avtp_tool.specs.state.Outcome.{EndsWith, IsDone, TellsText}
 use Rattle.avtp_tool.specs.Talk.{line_by, status_by, TalkedOutcome, TalkOutcome}
-use Rattle.avtp_tool.specs.state.Talk.{EndsRefused, FaultStops}
+use Rattle.avtp_tool.specs.state.Talk.{EndsRefused, FaultStops, OutcomeWith}
 use Rattle.avtp_tool.proofs.Complete.{talks_by}
 use Rattle.avtp_tool.proofs.Outcomes.{IsCut, ends_not, missing_none, ok_same, tells_cut, tells_line, tells_weaker, undone_as, undone_by, Unopened}
 
@@ -86,6 +87,21 @@ refused_undone result why ends =
       | inr differs ↦ undone_by result status.TalkInput refl (ends.other differs).status
     ]
 
+-- ---- files
+
+-- no file was written
+pub tells_unwritten : {Outcome : Status → List ℕ → Type 0} {before now : Option (List ℕ)} {result : Result Status Failed} (files : Option Files) → TellsText Outcome before now result → TellsText (OutcomeWith Outcome files files) before now result
+tells_unwritten files tells = tells_weaker (λ ended text o. (o, λ other. KeepsFiles-refl files)) tells
+
+-- all was done
+pub tells_made : {Outcome : Status → List ℕ → Type 0} {before now : Option (List ℕ)} {result : Result Status Failed} (files files' : Option Files) → ((ended : Status) (text : List ℕ) → Outcome ended text → ended ≡ status.Done) → TellsText Outcome before now result
+    → TellsText (OutcomeWith Outcome files files') before now result
+tells_made files files' done tells = tells_weaker (λ ended text o. (o, λ other. absurd (other (done ended text o)))) tells
+
+-- files stood so before
+pub tells_since : {Outcome : Status → List ℕ → Type 0} {before now : Option (List ℕ)} {result : Result Status Failed} (a b c : Option Files) → KeepsFiles a b → TellsText (OutcomeWith Outcome b c) before now result → TellsText (OutcomeWith Outcome a c) before now result
+tells_since a b c keeps tells = tells_weaker (λ ended text o. (o.0, λ other. KeepsFiles-trans a b c keeps (o.1 other))) tells
+
 -- ---- an input that was read
 
 talked_weaker : (plan : TalkPlan) (bytes : List ℕ) (a b : Type 0) (ended : Status) (text : List ℕ) → (a → b) → TalkedOutcome plan bytes a ended text → TalkedOutcome plan bytes b ended text
@@ -101,19 +117,19 @@ talked_weaker plan bytes a b status.Memory text weaker o = absurd o
 talked_weaker plan bytes a b status.DeviceFault text weaker o = absurd o
 
 -- for another cause of a fault of reading
-pub tells_caused : {before now : Option (List ℕ)} {result : Result Status Failed} (plan : TalkPlan) (bytes : List ℕ) (a b : Type 0) → (a → b) → TellsText (TalkedOutcome plan bytes a) before now result → TellsText (TalkedOutcome plan bytes b) before now result
-tells_caused plan bytes a b weaker tells = tells_weaker (λ ended text o. talked_weaker plan bytes a b ended text weaker o) tells
+pub tells_caused : {before now : Option (List ℕ)} {result : Result Status Failed} (f g : Option Files) (plan : TalkPlan) (bytes : List ℕ) (a b : Type 0) → (a → b) → TellsText (OutcomeWith (TalkedOutcome plan bytes a) f g) before now result → TellsText (OutcomeWith (TalkedOutcome plan bytes b) f g) before now result
+tells_caused f g plan bytes a b weaker tells = tells_weaker (λ ended text o. (talked_weaker plan bytes a b ended text weaker o.0, o.1)) tells
 
 -- the input was read whole
 pub whole_is : (limit : ℕ) (bytes : List ℕ) (halt : Stop) (prefix slice : List ℕ) → halt ≡ stop.End → slice ≡ prefix → IsContents limit bytes halt prefix → slice ≡ bytes
 whole_is limit bytes halt prefix slice is same has = same ∙ sym (subst (λ (h : Stop). IsContents limit bytes h prefix) is has).0
 
 -- so what is told of it is told of all its bytes
-pub tells_read : {before now : Option (List ℕ)} {result : Result Status Failed} {prefix : List ℕ} (plan : TalkPlan) (bytes input : List ℕ) (halt : Stop)
-    → halt ≡ stop.End → input ≡ prefix → IsContents most_input bytes halt prefix → TellsText (TalkedOutcome plan input ⊥) before now result → TellsText (TalkedOutcome plan bytes (halt ≡ stop.Fault)) before now result
-tells_read {before} {now} {result} {prefix} plan bytes input halt is same has tells =
-    subst (λ (b : List ℕ). TellsText (TalkedOutcome plan b (halt ≡ stop.Fault)) before now result) (whole_is most_input bytes halt prefix input is same has)
-    (tells_caused plan input ⊥ (halt ≡ stop.Fault) (λ none. absurd none) tells)
+pub tells_read : {before now : Option (List ℕ)} {result : Result Status Failed} {prefix : List ℕ} (f g : Option Files) (plan : TalkPlan) (bytes input : List ℕ) (halt : Stop)
+    → halt ≡ stop.End → input ≡ prefix → IsContents most_input bytes halt prefix → TellsText (OutcomeWith (TalkedOutcome plan input ⊥) f g) before now result → TellsText (OutcomeWith (TalkedOutcome plan bytes (halt ≡ stop.Fault)) f g) before now result
+tells_read {before} {now} {result} {prefix} f g plan bytes input halt is same has tells =
+    subst (λ (b : List ℕ). TellsText (OutcomeWith (TalkedOutcome plan b (halt ≡ stop.Fault)) f g) before now result) (whole_is most_input bytes halt prefix input is same has)
+    (tells_caused f g plan input ⊥ (halt ≡ stop.Fault) (λ none. absurd none) tells)
 
 -- it is longer than may be read
 pub too_long : (limit : ℕ) (bytes : List ℕ) (halt : Stop) (prefix : List ℕ) → halt ≡ stop.Limit → IsContents limit bytes halt prefix → limit < length bytes

@@ -2,26 +2,23 @@
 use Rattle.std.specs.Prelude.{◌≡◌, ◌≢◌, ◌≤◌, ◌⊎◌, ◌++◌, ◌∷◌, ℕ, ℤ, List, length, take, Option, Some, None, IsSome, Bool, true, false}
 use mathlib.Core.List.{IsPrefix}
 use Rattle.avtp_base.specs.Faults.{IsQuiet, Rose}
-use Rattle.avtp_base.specs.Files.{Files, KeepsFiles, PutsFile}
+use Rattle.avtp_base.specs.Files.{Files}
 use Rattle.avtp_base.specs.States.{Asks, ShelfState, SinkState}
 use Rattle.avtp_base.specs.Told.{Appends}
 use Rattle.capture_io.specs.Formats.{records_in}
-use Rattle.capture_io.specs.Writing.{MakesPrefix}
 use Rattle.packet_journal.specs.Packets.{PacketJournal}
 use Rattle.sample_schedule.specs.declared.shown.Shown.{Shown}
 use Rattle.listener.specs.Laws.{HearsTalker}
-use Rattle.talker.specs.Frames.{capture}
 use Rattle.avtp_text.specs.Notices.{words_line}
 use Rattle.avtp_text.specs.Written.{AppendsPrefix, Grows}
-use Rattle.avtp_words.specs.Grammar.{agree, Agreeing, files_of, listen, Listening, output_of, Request, talk, Talking}
+use Rattle.avtp_words.specs.Grammar.{agree, Agreeing, files_of, listen, Listening, output_of, Request}
 use Rattle.avtp_tool.specs.declared.status.Status.{Status}
 use Rattle.avtp_tool.specs.declared.status.Status.TheVariants as status
 use Rattle.avtp_tool.specs.Agree.{HasAgreement}
 use Rattle.avtp_tool.specs.Listen.{HasHeadline, listen_status, plan_of}
-use Rattle.avtp_tool.specs.Made.{KeepsFilesBut, KeepsSlotsFor}
+use Rattle.avtp_tool.specs.Made.{KeepsFilesBut, KeepsSlotsFor, MakesOutput, MakesPart}
 use Rattle.avtp_tool.specs.Outcome.{AsksFor, IsOneMissing}
-use Rattle.avtp_tool.specs.Run.{came_for, is_listening, is_through, names_of, Outcome, status_for, yield_for}
-use Rattle.avtp_tool.specs.Talk.{talk_plan}
+use Rattle.avtp_tool.specs.Run.{came_for, is_listening, is_through, made_for, names_of, Outcome, status_for, yield_for}
 use Rattle.avtp_tool.specs.Yield.{Yield}
 
 -- ---- what is printed and handed on
@@ -51,47 +48,36 @@ pub record ComparesTalker (request : Request) (files : Files) (asked : Agreeing)
   pub hears_a : HearsTalker shift p (plan_of asked.listener) (records_in (take asked.listener.limit x))
   pub hears_b : HearsTalker shift p (plan_of asked.listener) (records_in (take asked.listener.limit y))
 
--- What was printed, given to devices and asked for over these files.
+-- What was printed, given to devices, asked for and made over these files.
 pub record Reports (request : Request) (files : Files) (failed : Bool) (handed : List Shown → Type 0) (shelf shelf' : ShelfState)
     (out out' : SinkState) (ended : Status) : Type 0 where
   -- the names of the files that the run reached, the status of reading them, and what this yields
   pub came : List (List ℕ)
   pub reached : Status
   pub yields : Yield
-  pub outcome : Outcome request files (Rose shelf.reading_faults shelf'.reading_faults) failed came reached yields
+  -- the capture that the run makes, if it makes one
+  pub made : Option (List ℕ)
+  pub outcome : Outcome request files (Rose shelf.reading_faults shelf'.reading_faults) failed came reached yields made
   -- Unless memory ran out or a write failed, the run ends with that status, all of the text was written, each item was given to
-  -- the devices, and the shelf was asked only for these names.
+  -- the devices, the shelf was asked only for these names, and the output has what the run makes.
   pub whole : ended ≢ status.Memory → ended ≢ status.WriteFault →
-      (ended ≡ reached) × Appends out.held out'.held yields.text × handed yields.items × Asks came shelf shelf'
-  -- In any case a prefix of the text was written, and a prefix of the items was given to the devices.
+      (ended ≡ reached) × Appends out.held out'.held yields.text × handed yields.items × Asks came shelf shelf' × MakesOutput (output_of request) made shelf.files shelf'.files
+  -- In any case a prefix of the text was written, a prefix of the items was given to the devices, and the output is unchanged or has
+  -- a prefix of what the run makes.
   pub written : AppendsPrefix out.held out'.held yields.text
   pub items : List Shown
   pub first : IsPrefix items yields.items
   pub given : handed items
+  pub begun : MakesPart (output_of request) made shelf.files shelf'.files
   -- If no fault of reading came, this is the whole report on these files.
   pub complete : ReadsAll shelf shelf' →
-      (came ≡ came_for request files) × (reached ≡ status_for request files failed) × (yields ≡ yield_for request files failed)
+      (came ≡ came_for request files) × (reached ≡ status_for request files failed) × (yields ≡ yield_for request files failed) × (made ≡ made_for request files)
   -- What `listen` yields of a talker that keeps the rules, of each file with a journal of its own.
   pub headline : ReadsAll shelf shelf' → (asked : Listening) (name bytes : List ℕ) (shift : ℤ) (p : PacketJournal) →
       HearsFile request files asked name bytes shift p → HasHeadline asked name shift p bytes yields
   -- What `agree` prints of two captures of a talker that keeps the rules.
   pub agreement : ReadsAll shelf shelf' → (asked : Agreeing) (x y : List ℕ) (shift : ℤ) (p : PacketJournal) →
       ComparesTalker request files asked x y shift p → HasAgreement asked p x y yields.text
-
--- ---- what is written
-
--- What a run left of the files. `talk` makes one, and no other command any.
-pub record LeavesFiles (request : Request) (files files' : Option Files) (ended : Status) : Type 0 where
-  -- If all was done, the output of `talk` is the capture of its input.
-  pub made : ended ≡ status.Done → (asked : Talking) (all : Files) (bytes : List ℕ) → request ≡ talk asked → files ≡ Some all → all asked.input ≡ Some bytes →
-      PutsFile files files' asked.output (capture (talk_plan asked) bytes)
-  -- However the run ends, the output is unchanged or a prefix of that capture.
-  pub begun : (asked : Talking) (all : Files) (bytes : List ℕ) → request ≡ talk asked → files ≡ Some all → all asked.input ≡ Some bytes →
-      MakesPrefix files files' asked.output (capture (talk_plan asked) bytes)
-  pub missing : (asked : Talking) (all : Files) → request ≡ talk asked → files ≡ Some all → all asked.input ≡ None → KeepsFiles files files'
-  -- A run that ends with a fault of the input, a refusal or a limit leaves all files unchanged.
-  pub untouched : ended ≢ status.Done → ended ≢ status.WriteFault → ended ≢ status.Memory → KeepsFiles files files'
-  pub others : KeepsFilesBut (output_of request) files files'
 
 -- ---- why a run ended with a fault
 
@@ -120,7 +106,8 @@ pub record HasRun (request : Request) (handed : List Shown → Type 0) (still : 
   pub reports : (files : Files) → shelf.files ≡ Some files → IsSome shelf'.files → Reports request files failed handed shelf shelf' out out' ended
   -- what the sink held stays
   pub grows : Grows out.held out'.held
-  pub leaves : LeavesFiles request shelf.files shelf'.files ended
+  -- all files but the output are unchanged
+  pub files : KeepsFilesBut (output_of request) shelf.files shelf'.files
   -- each file that was opened is closed
   pub slots : KeepsSlotsFor (output_of request) shelf'.files shelf.slots shelf'.slots
   -- the names of the words are asked for, in their order, all of them if all was done, and no other

@@ -11,6 +11,7 @@ pub mod Listen
 pub mod Talk
 pub mod Soak
 pub mod Agree
+pub mod Gateway
 pub mod DeviceWords
 pub mod Run
 pub mod HasRun

@@ -1,18 +1,19 @@
 -- The possible outcomes of a run, whichever command the words ask for.
-use Rattle.std.specs.Prelude.{◌≡◌, ℕ, List, [], ◌∷◌, ◌++◌, if◌then◌else◌, option_to_list, Bool, true, false}
+use Rattle.std.specs.Prelude.{◌≡◌, ℕ, List, [], ◌∷◌, ◌++◌, if◌then◌else◌, Option, None, option_to_list, Bool, true, false}
 use Rattle.avtp_base.specs.Files.{Files}
 use Rattle.avtp_text.specs.Notices.{device_fault_line}
-use Rattle.avtp_words.specs.Grammar.{files_of, output_of, Request, show, check, listen, talk, soak, agree, Listening, Talking}
+use Rattle.avtp_words.specs.Grammar.{files_of, output_of, Request, show, check, listen, talk, soak, agree, gateway, Listening, Talking}
 use Rattle.avtp_tool.specs.declared.status.Status.{Status}
 use Rattle.avtp_tool.specs.declared.status.Status.TheVariants as status
 use Rattle.avtp_tool.specs.Agree.{AgreeOutcome, agree_came, agree_ended, agree_report}
 use Rattle.avtp_tool.specs.Check.{check_plan}
+use Rattle.avtp_tool.specs.Gateway.{GatewayOutcome, gateway_came, gateway_ended, gateway_made, gateway_report}
 use Rattle.avtp_tool.specs.Listen.{listen_plan}
 use Rattle.avtp_tool.specs.Outcome.{is_done, Only}
 use Rattle.avtp_tool.specs.Reading.{PlanOutcome, plan_read, plan_status, plan_yield}
 use Rattle.avtp_tool.specs.Show.{show_plan}
 use Rattle.avtp_tool.specs.Soak.{soak_report}
-use Rattle.avtp_tool.specs.Talk.{TalkOutcome, talk_plan, talk_report, talk_status}
+use Rattle.avtp_tool.specs.Talk.{TalkOutcome, talk_made, talk_plan, talk_report, talk_status}
 use Rattle.avtp_tool.specs.Yield.{says, with_more, Yield}
 
 -- the names that a run of `talk` with this status asks for: that of its output only if it was made
@@ -37,16 +38,18 @@ pub record ListenOutcome (asked : Listening) (files : Files) (fault : Type 0) (f
   pub status : ended ≡ device_status failed heard
   pub notice : yields ≡ with_more given (says (device_notice failed heard))
 
--- Over the files that a shelf tells, a run of the request can reach these names, end with this status and yield this. `fault`
--- is what a fault of reading needs, and `failed` says whether a device failed.
-abbrev pub Outcome : Request → Files → Type 0 → Bool → List (List ℕ) → Status → Yield → Type 0
-Outcome (show limit file) files fault failed came ended yields = PlanOutcome (show_plan limit file) files fault came ended yields
-Outcome (check limit names) files fault failed came ended yields = PlanOutcome (check_plan limit names) files fault came ended yields
-Outcome (listen asked) files fault failed came ended yields = ListenOutcome asked files fault failed came ended yields
-Outcome (talk asked) files fault failed came ended yields =
+-- Over the files that a shelf tells, a run of the request can reach these names, end with this status, yield this and make this.
+-- `fault` is what a fault of reading needs, and `failed` says whether a device failed.
+abbrev pub Outcome : Request → Files → Type 0 → Bool → List (List ℕ) → Status → Yield → Option (List ℕ) → Type 0
+Outcome (show limit file) files fault failed came ended yields made = PlanOutcome (show_plan limit file) files fault came ended yields × (made ≡ None)
+Outcome (check limit names) files fault failed came ended yields made = PlanOutcome (check_plan limit names) files fault came ended yields × (made ≡ None)
+Outcome (listen asked) files fault failed came ended yields made = ListenOutcome asked files fault failed came ended yields × (made ≡ None)
+Outcome (talk asked) files fault failed came ended yields made =
     (came ≡ talk_came asked ended) × TalkOutcome (talk_plan asked) (files asked.input) fault ended yields.text × (yields.items ≡ [])
-Outcome (soak packets) files fault failed came ended yields = (came ≡ []) × Only status.Done (says (soak_report packets)) ended yields
-Outcome (agree asked) files fault failed came ended yields = AgreeOutcome asked files fault came ended yields.text × (yields.items ≡ [])
+    × (made ≡ talk_made (talk_plan asked) (files asked.input) ended)
+Outcome (soak packets) files fault failed came ended yields made = (came ≡ []) × Only status.Done (says (soak_report packets)) ended yields × (made ≡ None)
+Outcome (agree asked) files fault failed came ended yields made = AgreeOutcome asked files fault came ended yields.text × (yields.items ≡ []) × (made ≡ None)
+Outcome (gateway asked) files fault failed came ended yields made = GatewayOutcome asked files fault came ended yields.text made × (yields.items ≡ [])
 
 -- ---- if no fault of reading comes
 
@@ -58,6 +61,7 @@ status_for (listen asked) files failed = device_status failed (plan_status (list
 status_for (talk asked) files failed = talk_status (talk_plan asked) (files asked.input)
 status_for (soak packets) files failed = status.Done
 status_for (agree asked) files failed = agree_ended asked (files asked.a) (files asked.b)
+status_for (gateway asked) files failed = gateway_ended asked (files asked.input)
 
 -- all that a run yields, if no fault of reading comes
 abbrev pub yield_for : Request → Files → Bool → Yield
@@ -68,6 +72,7 @@ yield_for (listen asked) files failed =
 yield_for (talk asked) files failed = says (talk_report (talk_plan asked) (files asked.input))
 yield_for (soak packets) files failed = says (soak_report packets)
 yield_for (agree asked) files failed = says (agree_report asked (files asked.a) (files asked.b))
+yield_for (gateway asked) files failed = says (gateway_report asked (files asked.input))
 
 -- the names that a run reaches, if no fault of reading comes
 abbrev pub came_for : Request → Files → List (List ℕ)
@@ -77,12 +82,25 @@ came_for (listen asked) files = plan_read (listen_plan asked) files
 came_for (talk asked) files = talk_came asked (talk_status (talk_plan asked) (files asked.input))
 came_for (soak packets) files = []
 came_for (agree asked) files = agree_came asked (files asked.a)
+came_for (gateway asked) files = gateway_came asked (files asked.input)
+
+-- the capture that a run makes, if it makes one and no fault of reading comes
+abbrev pub made_for : Request → Files → Option (List ℕ)
+made_for (talk asked) files = talk_made (talk_plan asked) (files asked.input) (talk_status (talk_plan asked) (files asked.input))
+made_for (gateway asked) files = gateway_made asked (files asked.input)
+made_for request files = None
 
 -- ---- what a run does besides
 
--- the names that a request asks a shelf for: of the files that are read, in order, and then of the one that is written
+-- the files that are read again once the output was made
+abbrev pub again_of : Request → List (List ℕ)
+again_of (gateway asked) = asked.input ∷ []
+again_of request = []
+
+-- the names that a request asks a shelf for: of the files that are read, in order, then of the one that is written, and then of
+-- those that are read again
 abbrev pub names_of : Request → List (List ℕ)
-names_of request = files_of request ++ option_to_list (output_of request)
+names_of request = files_of request ++ (option_to_list (output_of request) ++ again_of request)
 
 -- the request is one of `listen`, which is the only command that gives items to devices
 abbrev pub is_listening : Request → Bool

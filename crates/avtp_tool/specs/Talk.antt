@@ -9,14 +9,13 @@ use Rattle.avtp_words.specs.declared.talk.Kind.{Kind}
 use Rattle.avtp_words.specs.declared.talk.Kind.TheVariants as words
 use Rattle.talk_plan.specs.declared.plan.TalkPlan.{TalkPlan}
 use Rattle.talker.specs.Faults.{fault_of}
-use Rattle.talker.specs.Frames.{clock_frames, stream_frames}
+use Rattle.talker.specs.Frames.{capture, clock_frames, stream_frames}
 use Rattle.talk_plan.specs.Plan.{most_input}
 use Rattle.avtp_words.specs.Grammar.{Talking}
 use Rattle.avtp_text.specs.Notices.{limit_line, read_fault_line}
 use Rattle.avtp_text.specs.Talk.{talk_input_line, talk_line}
 use Rattle.avtp_tool.specs.declared.status.Status.{Status}
 use Rattle.avtp_tool.specs.declared.status.Status.TheVariants as status
-use Rattle.talk_plan.specs.declared.fault.TalkFault.TheVariants as fault
 
 -- the kind that the words ask for, as a talker has it
 abbrev pub talk_kind : Kind → TalkKind
@@ -84,3 +83,10 @@ talk_status plan (Some bytes) = if nat_le (length bytes) most_input then status_
 abbrev pub talk_report : TalkPlan → Option (List ℕ) → List ℕ
 talk_report plan None = read_fault_line
 talk_report plan (Some bytes) = if nat_le (length bytes) most_input then line_by (fault_of plan bytes) plan bytes else limit_line most_input
+
+-- ---- what it makes
+
+-- the capture that a run of `talk` with this status makes, by its input
+abbrev pub talk_made : TalkPlan → Option (List ℕ) → Status → Option (List ℕ)
+talk_made plan (Some bytes) status.Done = Some (capture plan bytes)
+talk_made plan told ended = None

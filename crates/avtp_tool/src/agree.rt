@@ -135,7 +135,7 @@ fn print_counts<S: Sink>(text: &mut Text, out: &mut S, counts: &PairCounts) -> R
 }
 
 /// Prints why a capture was not read to its end, if it was not.
-fn print_side<S: Sink>(text: &mut Text, out: &mut S, limit: u64, end: End) -> Result<(), Failed>
+pub fn print_side<S: Sink>(text: &mut Text, out: &mut S, limit: u64, end: End) -> Result<(), Failed>
     ensures { Prints (S.state out.old) (S.state out.new) text.old text.new result (side_line limit end) }
 {
     match end {

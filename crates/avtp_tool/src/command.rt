@@ -12,6 +12,7 @@ ghost use Rattle.avtp_tool.specs.Yield.{HandsOn};
 
 use crate::agree::agree;
 use crate::files::{Reading, hear_files, read_files};
+use crate::gateway::gateway;
 use crate::show::show;
 use crate::soak::soak;
 use crate::status::Status;
@@ -85,6 +86,7 @@ fn execute<T: Threads + Sync, F: Shelf + Send, S: Sink + Send, G: Gate, D: Devic
         Ok(Command::Talk(asked)) => talk(alloc, &asked, shelf, text, out),
         Ok(Command::Soak { packets }) => soak(rt, alloc, packets, text, out),
         Ok(Command::Agree(asked)) => agree(alloc, &asked, shelf, text, out),
+        Ok(Command::Gateway(asked)) => gateway(alloc, &asked, shelf, text, out),
         Err(offence) => print_offence(text, out, offence.position as u64),
     }
 }

@@ -142,7 +142,7 @@ fn send<F: Shelf, S: Sink>(
 }
 
 /// The status of a run whose file could not be made.
-fn unmade(fault: OpenFault) -> Status
+pub fn unmade(fault: OpenFault) -> Status
     ensures { result ≡ unmade_as fault }
 {
     match fault {

@@ -1,6 +1,6 @@
 -- The command lines of each command, and their offences.
-use Rattle.std.proofs.Common.{Contains, ◌↔◌, ◌≤◌, IsTrue, Bool, ◌≡◌, ◌≢◌, ℕ, zero, suc, ◌+◌, ◌<◌, ◌^◌, ◌⊎◌, inl, inr, true, false, List, [], ◌∷◌, ◌++◌, flat_map, length, take, drop, Option, Some, None, slice_get, get_or, IfSome, arith, sym, subst, ap, ◌∙◌, refl, append_assoc, length-append, codes, string_bytes, String, pos}
-use Rattle.std.specs.Prelude.{Result, Ok, Err, IfOk, IfErr, IsOkAnd, IsErrAnd}
+use Rattle.std.proofs.Common.{Contains, ◌↔◌, ◌-◌, ◌*◌, ◌≤◌, IsTrue, Bool, ◌≡◌, ◌≢◌, ℕ, zero, suc, ◌+◌, ◌<◌, ◌^◌, ◌⊎◌, inl, inr, true, false, List, [], ◌∷◌, ◌++◌, flat_map, length, take, drop, Option, Some, None, slice_get, get_or, IfSome, arith, sym, subst, ap, ◌∙◌, refl, append_assoc, length-append, codes, string_bytes, String, pos}
+use Rattle.std.specs.Prelude.{Result, Ok, Err, IfOk, IfErr, IsOkAnd, IsErrAnd, MatchOption}
 use Rattle.std.specs.Str.{bytes_eq}
 use Rattle.std.specs.declared.alloc.Global.{Global}
 use Rattle.std.proofs.lemmas.Bool.{cases_Bool}
@@ -14,6 +14,8 @@ use Rattle.avtp_words.specs.declared.command.Command.{Command}
 use Rattle.avtp_words.specs.declared.talk.Kind.{Kind}
 use Rattle.avtp_words.specs.declared.talk.Kind.TheVariants.{Aaf, Am824, H264}
 use Rattle.avtp_words.specs.declared.command.Offence.{Offence}
+use Rattle.avtp_words.specs.declared.gateway.GatewayFormat.{GatewayFormat}
+use Rattle.avtp_words.specs.declared.gateway.GatewayFormat.TheVariants as format
 use Rattle.avtp_words.specs.declared.crf.Crf.{Crf}
 use Rattle.avtp_words.specs.declared.device.Silence.{Silence}
 use Rattle.avtp_words.specs.declared.device.Silence.TheVariants.{Zero, Am824 as Blocks}
@@ -21,14 +23,15 @@ use Rattle.avtp_words.specs.Given.{IsGiven, IsGivenId, IsGivenIdIf, IsGivenIf, I
 use Rattle.avtp_words.specs.Number.{IsNumber}
 use Rattle.avtp_words.specs.Operands.{AreOperands}
 use Rattle.avtp_words.specs.declared.listener.ListenerOptions.{ListenerOptions}
+use Rattle.avtp_words.specs.state.Operands.{NameStreamAndTwo}
 use Rattle.avtp_words.specs.state.Reading.{IsReadListener, ClockIsWithin, IsRest, IsRestTo, StopsAfter, are_sound, value_after, IsRead, IsReadClock, IsReadId, IsReadIdIf, IsReadIf, IsReadSigned, IsReadFormat, IsReadKind, IsReadFile, IsReadRaw, IsReadSilence, ReadsFile, AreHeard, AreRead}
 use Rattle.avtp_words.specs.Word.{texts, BeginsWithDash, IsId}
 use Rattle.avtp_words.specs.Limits as limits
 use Rattle.avtp_words.specs.Limits.{NumberOption, default_rate, number, signed, with_default}
-use Rattle.avtp_words.specs.Options.{Row, row_named, Setting, words_of, IsValue, IsSetting, stands_alone, value_in}
-use Rattle.avtp_words.specs.Grammar.{request_of, Request, Agreeing, Listening, Talking, show, check, listen, talk, soak, agree, Form, form_named, show_form, check_form, listen_form, talk_form, soak_form, agree_form, IsOf, IsShow, IsCheck, IsGivenFile, IsGivenRaw, IsSoak, NamedFile, NamedRaw, NamesFile, SaysAgree, SaysClock, SaysKind, SaysListen, SaysListener, SaysTalk, KeepsNames, KeepsRules, IsCommandLine, IsLine, Begins, Stops, StopsAt, IsOffence, of_a_word, of_a_rule}
+use Rattle.avtp_words.specs.Options.{Row, row_named, Setting, words_of, IsValue, IsSetting, stands_alone, gateway_format_name, value_in}
+use Rattle.avtp_words.specs.Grammar.{request_of, Request, Agreeing, Listening, Talking, Turning, show, check, listen, talk, soak, agree, gateway, Form, form_named, show_form, check_form, listen_form, talk_form, soak_form, agree_form, gateway_form, IsOf, IsShow, IsCheck, IsGivenFile, IsGivenRaw, IsSoak, NamedFile, NamedRaw, NamesFile, SaysAgree, SaysClock, SaysGateway, SaysKind, SaysListen, SaysListener, SaysTalk, KeepsNames, KeepsOutput, KeepsRules, IsCommandLine, IsLine, Begins, Stops, StopsAt, IsOffence, of_a_word, of_a_rule}
 use Rattle.avtp_words.proofs.Settings.{same-true}
-use Rattle.avtp_words.proofs.CommandLines.{same_line, left_is, value_is, value-after, number_given, number_given_if, id_given, id_given_if, signed_given, format_given, within, same_number, same_number_if, same_id, same_id_given, same_id_given_if, same_signed, same_format_given, options_to, beyond}
+use Rattle.avtp_words.proofs.CommandLines.{same_line, left_is, value_is, value-after, number_given, number_given_if, id_given, id_given_if, signed_given, format_given, within, same_number, same_number_if, same_id, same_id_given, same_id_given_if, same_signed, same_format_given, options_to, words_after, beyond}
 use Rattle.avtp_words.proofs.Clocks.{clock_within, same_clock}
 use Rattle.avtp_words.proofs.Devices.{same_file, same_raw}
 use Rattle.avtp_words.proofs.Numbers.{spells_one}
@@ -37,14 +40,11 @@ use Rattle.avtp_words.proofs.Steps.{words_before, after_first}
 
 -- ---- What begins with the word of a command is a line exactly where the rest is one of its form.
 
+of_rest : (form : Form) (words : List (List ℕ)) (r : IsRest form.rows form.operands words) → IsOf form (form.command ∷ words) r.settings r.names
+of_rest form words r = record { spelled = ap (λ ws. form.command ∷ ws) r.spelled; options = r.options; operands = r.named }
+
 line_of_rest : (form : Form) (words : List (List ℕ)) → form_named form.command ≡ Some form → IsRest form.rows form.operands words → IsLine (form.command ∷ words)
-line_of_rest form words known r = record {
-  form = form;
-  known = known;
-  settings = r.settings;
-  names = r.names;
-  line = record { spelled = ap (λ ws. form.command ∷ ws) r.spelled; options = r.options; operands = r.named };
-}
+line_of_rest form words known r = record { form = form; known = known; settings = r.settings; names = r.names; line = of_rest form words r }
 
 rest_of_line : (form : Form) (words : List (List ℕ)) → form_named form.command ≡ Some form → IsLine (form.command ∷ words) → IsRest form.rows form.operands words
 rest_of_line form words known l =
@@ -76,6 +76,7 @@ line_of words (check limit files) s = record { form = check_form; known = refl; 
 line_of words (listen asked) (s, rules) = record { form = listen_form; known = refl; settings = s.settings; names = s.id ∷ asked.files; line = s.line }
 line_of words (soak packets) s = record { form = soak_form; known = refl; settings = s.settings; names = s.number ∷ []; line = s.line }
 line_of words (agree asked) s = record { form = agree_form; known = refl; settings = s.settings; names = s.id ∷ asked.a ∷ asked.b ∷ []; line = s.line }
+line_of words (gateway asked) (s, rules) = record { form = gateway_form; known = refl; settings = s.settings; names = s.id ∷ asked.input ∷ asked.output ∷ []; line = s.line }
 line_of words (talk asked) (s, rules) = record { form = talk_form; known = refl; settings = s.settings; names = asked.input ∷ asked.output ∷ []; line = s.line }
 
 -- ---- no command
@@ -109,8 +110,8 @@ pub words_are : (words rest : List (String Global)) (command : String Global) (n
 words_are words rest command name e same = ap texts e ∙ ap (λ (first : List ℕ). first ∷ texts rest) same
 
 -- a word that is no command's has no form
-no_form : (word : List ℕ) → (word ≡ codes "show" → ⊥) → (word ≡ codes "check" → ⊥) → (word ≡ codes "listen" → ⊥) → (word ≡ codes "talk" → ⊥) → (word ≡ codes "soak" → ⊥) → (word ≡ codes "agree" → ⊥) → form_named word ≡ None
-no_form word not_show not_check not_listen not_talk not_soak not_agree = elim (cases_Bool (bytes_eq (codes "show") word)) [
+no_form : (word : List ℕ) → (word ≡ codes "show" → ⊥) → (word ≡ codes "check" → ⊥) → (word ≡ codes "listen" → ⊥) → (word ≡ codes "talk" → ⊥) → (word ≡ codes "soak" → ⊥) → (word ≡ codes "agree" → ⊥) → (word ≡ codes "gateway" → ⊥) → form_named word ≡ None
+no_form word not_show not_check not_listen not_talk not_soak not_agree not_gateway = elim (cases_Bool (bytes_eq (codes "show") word)) [
   | inl same ↦ absurd (not_show (sym (same-true (codes "show") word same)))
   | inr shown ↦ elim (cases_Bool (bytes_eq (codes "check") word)) [
     | inl same ↦ absurd (not_check (sym (same-true (codes "check") word same)))
@@ -122,7 +123,10 @@ no_form word not_show not_check not_listen not_talk not_soak not_agree = elim (c
           | inl same ↦ absurd (not_soak (sym (same-true (codes "soak") word same)))
           | inr soaked ↦ elim (cases_Bool (bytes_eq (codes "agree") word)) [
             | inl same ↦ absurd (not_agree (sym (same-true (codes "agree") word same)))
-            | inr agreed ↦ rw (shown, checked, heard, said, soaked, agreed) refl
+            | inr agreed ↦ elim (cases_Bool (bytes_eq (codes "gateway") word)) [
+              | inl same ↦ absurd (not_gateway (sym (same-true (codes "gateway") word same)))
+              | inr turned ↦ rw (shown, checked, heard, said, soaked, agreed, turned) refl
+            ]
           ]
         ]
       ]
@@ -130,8 +134,8 @@ no_form word not_show not_check not_listen not_talk not_soak not_agree = elim (c
   ]
 ]
 
-pub other_first : (words rest : List (String Global)) (command : String Global) → words ≡ command ∷ rest → (string_bytes command ≡ codes "show" → ⊥) → (string_bytes command ≡ codes "check" → ⊥) → (string_bytes command ≡ codes "listen" → ⊥) → (string_bytes command ≡ codes "talk" → ⊥) → (string_bytes command ≡ codes "soak" → ⊥) → (string_bytes command ≡ codes "agree" → ⊥) → IsNoCommand (texts words)
-other_first words rest command e not_show not_check not_listen not_talk not_soak not_agree = rw e (no_form (string_bytes command) not_show not_check not_listen not_talk not_soak not_agree)
+pub other_first : (words rest : List (String Global)) (command : String Global) → words ≡ command ∷ rest → (string_bytes command ≡ codes "show" → ⊥) → (string_bytes command ≡ codes "check" → ⊥) → (string_bytes command ≡ codes "listen" → ⊥) → (string_bytes command ≡ codes "talk" → ⊥) → (string_bytes command ≡ codes "soak" → ⊥) → (string_bytes command ≡ codes "agree" → ⊥) → (string_bytes command ≡ codes "gateway" → ⊥) → IsNoCommand (texts words)
+other_first words rest command e not_show not_check not_listen not_talk not_soak not_agree not_gateway = rw e (no_form (string_bytes command) not_show not_check not_listen not_talk not_soak not_agree not_gateway)
 
 pub none_first : (words : List (String Global)) → length words ≡ 0 → IsNoCommand (texts words)
 none_first [] e = tt
@@ -219,7 +223,7 @@ check_is words place limit files r next reads =
     let same : r.rest.names ≡ files = sym (left_is check_form.rows (texts words) place (options_to check_form.rows check_form.operands (texts words) place r)) ∙ next in
     record {
       settings = r.rest.settings;
-      line = record { spelled = ap (λ ws. codes "check" ∷ ws) (r.rest.spelled ∙ ap (λ ns. flat_map words_of r.rest.settings ++ ns) same); options = r.rest.options; operands = subst (AreOperands check_form.operands) same r.rest.named };
+      line = subst (IsOf check_form (codes "check" ∷ texts words) r.rest.settings) same (of_rest check_form (texts words) r.rest);
       limit_given = number_is check_form words place r limits.limit (2 ^ 40) (2 ^ 64) limit refl refl refl (omega arith) reads;
     }
 
@@ -507,74 +511,55 @@ soak_is words place word packets r here is =
     let same : t.number ≡ word = cc in
     record { settings = r.rest.settings; number = word; line = subst (λ (n : List ℕ). IsOf soak_form (codes "soak" ∷ words) r.rest.settings (n ∷ [])) same t.line; packets_given = is }
 
+-- ---- a stream and two captures
+
+-- what the operands are, as a slice has them
+operands_here : (form : Form) (words : List (String Global)) (place : ℕ) (r : IsRestTo form.rows form.operands (texts words) place) → texts (take (length words - place) (drop place words)) ≡ r.rest.names
+operands_here form words place r = words_after words place ∙ left_is form.rows (texts words) place (options_to form.rows form.operands (texts words) place r)
+
+pub are_operands : (form : Form) (words : List (String Global)) (place : ℕ) → IsRestTo form.rows form.operands (texts words) place → AreOperands form.operands (texts (take (length words - place) (drop place words)))
+are_operands form words place r = subst (AreOperands form.operands) (sym (operands_here form words place r)) r.rest.named
+
+-- the line with the operands that were read
+line_named : (form : Form) (words : List (String Global)) (place stream : ℕ) (first second : List ℕ) (r : IsRestTo form.rows form.operands (texts words) place)
+    → (n : NameStreamAndTwo (texts (take (length words - place) (drop place words))) stream first second) → IsOf form (form.command ∷ texts words) r.rest.settings (n.id ∷ first ∷ second ∷ [])
+line_named form words place stream first second r n =
+    subst (IsOf form (form.command ∷ texts words) r.rest.settings) (sym (operands_here form words place r) ∙ n.spelled) (of_rest form (texts words) r.rest)
+
 -- ---- agree
 
--- The operands of `agree`.
-pub record IdAndTwo (words : List (List ℕ)) (place : ℕ) (settings : List Setting) : Type 0 where
-  pub id : List ℕ
-  pub a : List ℕ
-  pub b : List ℕ
-  pub line : IsOf agree_form (codes "agree" ∷ words) settings (id ∷ a ∷ b ∷ [])
-  pub at_id : slice_get words place ≡ Some id
-  pub at_a : slice_get words (place + 1) ≡ Some a
-  pub at_b : slice_get words (place + 2) ≡ Some b
-
-id_and_two : (words : List (List ℕ)) (place : ℕ) (r : IsRestTo agree_form.rows agree_form.operands words place) → IdAndTwo words place r.rest.settings
-id_and_two words place r = go r.rest.names r.rest.spelled r.rest.named (first_operand agree_form words place r) (operand_at agree_form words place 1 r) (operand_at agree_form words place 2 r) where
-  go : (ns : List (List ℕ)) → words ≡ flat_map words_of r.rest.settings ++ ns → AreOperands agree_form.operands ns → slice_get words place ≡ slice_get ns 0 → slice_get words (place + 1) ≡ slice_get ns 1 → slice_get words (place + 2) ≡ slice_get ns 2
-      → IdAndTwo words place r.rest.settings
-  go [] spelled named at_id at_a at_b = absurd named
-  go (id ∷ []) spelled named at_id at_a at_b = absurd named.1
-  go (id ∷ a ∷ []) spelled named at_id at_a at_b = absurd named.1.1
-  go (id ∷ a ∷ b ∷ []) spelled named at_id at_a at_b = record {
-    id = id;
-    a = a;
-    b = b;
-    line = record { spelled = ap (λ ws. codes "agree" ∷ ws) spelled; options = r.rest.options; operands = named };
-    at_id = at_id;
-    at_a = at_a;
-    at_b = at_b;
-  }
-  go (id ∷ a ∷ b ∷ more ∷ ns) spelled named at_id at_a at_b = absurd named.1.1.1
-
--- each operand is there
-pub agree_stands : (words : List (List ℕ)) (place : ℕ) → IsRestTo agree_form.rows agree_form.operands words place → slice_get words place ≡ None → ⊥
-agree_stands words place r none = let t = id_and_two words place r in let both = sym t.at_id ∙ none in cc
-
-pub agree_a : (words : List (List ℕ)) (place : ℕ) → IsRestTo agree_form.rows agree_form.operands words place → slice_get words (place + 1) ≡ None → ⊥
-agree_a words place r none = let t = id_and_two words place r in let both = sym t.at_a ∙ none in cc
-
-pub agree_b : (words : List (List ℕ)) (place : ℕ) → IsRestTo agree_form.rows agree_form.operands words place → slice_get words (place + 2) ≡ None → ⊥
-agree_b words place r none = let t = id_and_two words place r in let both = sym t.at_b ∙ none in cc
-
--- the first operand is an id
-pub agree_id : (words : List (List ℕ)) (place : ℕ) (word : List ℕ) → IsRestTo agree_form.rows agree_form.operands words place → slice_get words place ≡ Some word → ((stream : ℕ) → IsId word stream → ⊥) → ⊥
-agree_id words place word r here none =
-    let t = id_and_two words place r in
-    let both = sym t.at_id ∙ here in
-    let same : t.id ≡ word = cc in
-    let id = t.line.operands.0 in
-    none id.0 (subst (λ w. IsId w id.0) same id.1)
-
--- the line with the operands that are there
-agree_line : (words : List (List ℕ)) (place : ℕ) (settings : List Setting) (t : IdAndTwo words place settings) (id a b : List ℕ) → slice_get words place ≡ Some id → slice_get words (place + 1) ≡ Some a → slice_get words (place + 2) ≡ Some b → IsOf agree_form (codes "agree" ∷ words) settings (id ∷ a ∷ b ∷ [])
-agree_line words place settings t id a b at_id at_a at_b =
-    let ids : t.id ≡ id = (let e = sym t.at_id ∙ at_id in cc) in
-    let firsts : t.a ≡ a = (let e = sym t.at_a ∙ at_a in cc) in
-    let seconds : t.b ≡ b = (let e = sym t.at_b ∙ at_b in cc) in
-    subst (λ (n : List ℕ). IsOf agree_form (codes "agree" ∷ words) settings (id ∷ a ∷ n ∷ [])) seconds
-    (subst (λ (n : List ℕ). IsOf agree_form (codes "agree" ∷ words) settings (id ∷ n ∷ t.b ∷ [])) firsts
-    (subst (λ (n : List ℕ). IsOf agree_form (codes "agree" ∷ words) settings (n ∷ t.a ∷ t.b ∷ [])) ids t.line))
-
-pub agree_says : (words : List (String Global)) (place : ℕ) (id : List ℕ) (asked : Agreeing) → IsRestTo agree_form.rows agree_form.operands (texts words) place
-    → slice_get (texts words) place ≡ Some id → IsId id asked.listener.stream → slice_get (texts words) (place + 1) ≡ Some asked.a → slice_get (texts words) (place + 2) ≡ Some asked.b
+pub agree_says : (words : List (String Global)) (place stream : ℕ) (asked : Agreeing) → IsRestTo agree_form.rows agree_form.operands (texts words) place
+    → NameStreamAndTwo (texts (take (length words - place) (drop place words))) stream asked.a asked.b → asked.listener.stream ≡ stream
     → IsReadListener (texts (take place words)) asked.listener → SaysAgree (codes "agree" ∷ texts words) asked
-agree_says words place id asked r here is first second read = record {
+agree_says words place stream asked r n is read = record {
   settings = r.rest.settings;
-  id = id;
-  line = agree_line (texts words) place r.rest.settings (id_and_two (texts words) place r) id asked.a asked.b here first second;
-  listener = listener_says agree_form words place r id asked.listener (record { sound = refl; limit = refl; buffer = refl; room = refl; look = refl; lead = refl; clock = refl; shift = refl }) is read;
+  id = n.id;
+  line = line_named agree_form words place stream asked.a asked.b r n;
+  listener = listener_says agree_form words place r n.id asked.listener (record { sound = refl; limit = refl; buffer = refl; room = refl; look = refl; lead = refl; clock = refl; shift = refl }) (subst (IsId n.id) (sym is) n.is) read;
 }
+
+-- ---- gateway
+
+-- the word after `--to` is its value
+to_word : (words : List (String Global)) (place : ℕ) (r : IsRestTo gateway_form.rows gateway_form.operands (texts words) place) → value_after (codes "--to") (texts (take place words)) ≡ value_in (codes "--to") r.rest.settings
+to_word words place r = after_options gateway_form words place r (codes "--to") (record { name = codes "--to"; takes = takes.OutFormat }) refl refl refl
+
+pub gateway_says : (words : List (String Global)) (place stream : ℕ) (asked : Turning) → IsRestTo gateway_form.rows gateway_form.operands (texts words) place
+    → NameStreamAndTwo (texts (take (length words - place) (drop place words))) stream asked.input asked.output → asked.listener.stream ≡ stream
+    → IsReadListener (texts (take place words)) asked.listener → value_after (codes "--to") (texts (take place words)) ≡ Some (gateway_format_name asked.to)
+    → IsReadId stream (value_after (codes "--id") (texts (take place words))) asked.id → SaysGateway (codes "gateway" ∷ texts words) asked
+gateway_says words place stream asked r n is read to read_id = record {
+  settings = r.rest.settings;
+  id = n.id;
+  line = line_named gateway_form words place stream asked.input asked.output r n;
+  listener = listener_says gateway_form words place r n.id asked.listener (record { sound = refl; limit = refl; buffer = refl; room = refl; look = refl; lead = refl; clock = refl; shift = refl }) (subst (IsId n.id) (sym is) n.is) read;
+  to_given = sym (to_word words place r) ∙ to;
+  id_given = subst (λ default. IsGivenId own.name default r.rest.settings asked.id) (sym is)
+      (id_given stream asked.id (value_in own.name r.rest.settings) (value_is gateway_form.rows own.name own r.rest.settings refl r.rest.options.each)
+      (subst (λ v. IsReadId stream v asked.id) (after_options gateway_form words place r own.name own refl refl refl) read_id));
+} where
+  own : Row
+  own = record { name = codes "--id"; takes = takes.Id }
 
 -- ---- one request
 
@@ -589,50 +574,18 @@ one_command words r s p q =
     let m = line_of words s q in
     same_command l.form m.form words l.settings m.settings l.names m.names l.line m.line
 
-show_check : codes "show" ≡ codes "check" → ⊥
-show_check e = let first = ap (λ (word : List ℕ). get_or word 0 0) e in absurd (omega (arith, first))
+-- the word of each command has two first letters of its own
+abbrev mark : List ℕ → ℕ
+mark word = get_or word 0 0 * 256 + get_or word 1 0
 
-check_listen : codes "check" ≡ codes "listen" → ⊥
-check_listen e = let first = ap (λ (word : List ℕ). get_or word 0 0) e in absurd (omega (arith, first))
+one_mark : (words : List (List ℕ)) (r s : Request) (p : IsCommandLine words r) (q : IsCommandLine words s) → mark (line_of words r p).form.command ≡ mark (line_of words s q).form.command
+one_mark words r s p q = ap mark (one_command words r s p q)
 
-check_talk : codes "check" ≡ codes "talk" → ⊥
-check_talk e = let first = ap (λ (word : List ℕ). get_or word 0 0) e in absurd (omega (arith, first))
-
-show_listen : codes "show" ≡ codes "listen" → ⊥
-show_listen e = let first = ap (λ (word : List ℕ). get_or word 0 0) e in absurd (omega (arith, first))
-
-show_talk : codes "show" ≡ codes "talk" → ⊥
-show_talk e = let first = ap (λ (word : List ℕ). get_or word 0 0) e in absurd (omega (arith, first))
-
-listen_talk : codes "listen" ≡ codes "talk" → ⊥
-listen_talk e = let first = ap (λ (word : List ℕ). get_or word 0 0) e in absurd (omega (arith, first))
-
-show_soak : codes "show" ≡ codes "soak" → ⊥
-show_soak e = let second = ap (λ (word : List ℕ). get_or word 1 0) e in absurd (omega (arith, second))
-
-check_soak : codes "check" ≡ codes "soak" → ⊥
-check_soak e = let first = ap (λ (word : List ℕ). get_or word 0 0) e in absurd (omega (arith, first))
-
-listen_soak : codes "listen" ≡ codes "soak" → ⊥
-listen_soak e = let first = ap (λ (word : List ℕ). get_or word 0 0) e in absurd (omega (arith, first))
-
-talk_soak : codes "talk" ≡ codes "soak" → ⊥
-talk_soak e = let first = ap (λ (word : List ℕ). get_or word 0 0) e in absurd (omega (arith, first))
-
-show_agree : codes "show" ≡ codes "agree" → ⊥
-show_agree e = let first = ap (λ (word : List ℕ). get_or word 0 0) e in absurd (omega (arith, first))
-
-check_agree : codes "check" ≡ codes "agree" → ⊥
-check_agree e = let first = ap (λ (word : List ℕ). get_or word 0 0) e in absurd (omega (arith, first))
-
-listen_agree : codes "listen" ≡ codes "agree" → ⊥
-listen_agree e = let first = ap (λ (word : List ℕ). get_or word 0 0) e in absurd (omega (arith, first))
-
-talk_agree : codes "talk" ≡ codes "agree" → ⊥
-talk_agree e = let first = ap (λ (word : List ℕ). get_or word 0 0) e in absurd (omega (arith, first))
-
-soak_agree : codes "soak" ≡ codes "agree" → ⊥
-soak_agree e = let first = ap (λ (word : List ℕ). get_or word 0 0) e in absurd (omega (arith, first))
+-- The words fit a form, and no line of its command asks for anything.
+offence_of_form : (form : Form) (words : List (List ℕ)) (settings : List Setting) (names : List (List ℕ)) → form_named form.command ≡ Some form → IsOf form words settings names
+    → ((request : Request) (p : IsCommandLine words request) → mark (line_of words request p).form.command ≡ mark form.command → ⊥) → IsOffence words 1
+offence_of_form form words settings names known line none = of_a_rule refl (record { form = form; known = known; settings = settings; names = names; line = line })
+    (λ request p. let l = line_of words request p in none request p (ap mark (same_command l.form form words l.settings settings l.names names l.line line)))
 
 aaf_am824 : codes "am824" ≡ codes "aaf" → ⊥
 aaf_am824 e = let second = ap (λ (word : List ℕ). get_or word 1 0) e in absurd (omega (arith, second))
@@ -700,15 +653,15 @@ same_talk words a b p q = same inputs outputs
 
 -- each word is accepted, but they contradict one another
 pub offence_of_rule : (words : List (List ℕ)) (asked : Talking) → SaysTalk words asked → (KeepsRules (drop 1 words) asked → ⊥) → IsOffence words 1
-offence_of_rule words asked says breaks = of_a_rule refl
-    (record { form = talk_form; known = refl; settings = says.settings; names = asked.input ∷ asked.output ∷ []; line = says.line }) none where
-      none : (request : Request) → IsCommandLine words request → ⊥
-      none (show limit file) s = show_talk (same_command show_form talk_form words s.settings says.settings (file ∷ []) (asked.input ∷ asked.output ∷ []) s.line says.line)
-      none (check limit files) s = check_talk (same_command check_form talk_form words s.settings says.settings files (asked.input ∷ asked.output ∷ []) s.line says.line)
-      none (listen other) (s, rules) = listen_talk (same_command listen_form talk_form words s.settings says.settings (s.id ∷ other.files) (asked.input ∷ asked.output ∷ []) s.line says.line)
-      none (agree other) s = talk_agree (sym (same_command agree_form talk_form words s.settings says.settings (s.id ∷ other.a ∷ other.b ∷ []) (asked.input ∷ asked.output ∷ []) s.line says.line))
-      none (soak packets) s = talk_soak (sym (same_command soak_form talk_form words s.settings says.settings (s.number ∷ []) (asked.input ∷ asked.output ∷ []) s.line says.line))
-      none (talk other) (s, rules) = breaks (subst (KeepsRules (drop 1 words)) (same_talk words other asked s says) rules)
+offence_of_rule words asked says breaks = offence_of_form talk_form words says.settings (asked.input ∷ asked.output ∷ []) refl says.line none where
+  none : (request : Request) (p : IsCommandLine words request) → mark (line_of words request p).form.command ≡ mark (codes "talk") → ⊥
+  none (show limit file) p same = absurd (omega (arith, same))
+  none (check limit files) p same = absurd (omega (arith, same))
+  none (listen other) (s, rules) same = absurd (omega (arith, same))
+  none (talk other) (s, rules) same = breaks (subst (KeepsRules (drop 1 words)) (same_talk words other asked s says) rules)
+  none (soak packets) p same = absurd (omega (arith, same))
+  none (agree other) p same = absurd (omega (arith, same))
+  none (gateway other) (s, rules) same = absurd (omega (arith, same))
 
 -- ---- each line asks for one thing, and words have one offence
 
@@ -748,15 +701,15 @@ same_listen words a b p q = same
 
 -- each word after `listen` is accepted, but they contradict one another
 pub offence_of_names : (words : List (List ℕ)) (asked : Listening) → SaysListen words asked → (KeepsNames (drop 1 words) asked → ⊥) → IsOffence words 1
-offence_of_names words asked says breaks = of_a_rule refl
-    (record { form = listen_form; known = refl; settings = says.settings; names = says.id ∷ asked.files; line = says.line }) none where
-      none : (request : Request) → IsCommandLine words request → ⊥
-      none (show limit file) s = show_listen (same_command show_form listen_form words s.settings says.settings (file ∷ []) (says.id ∷ asked.files) s.line says.line)
-      none (check limit files) s = check_listen (same_command check_form listen_form words s.settings says.settings files (says.id ∷ asked.files) s.line says.line)
-      none (agree other) s = listen_agree (sym (same_command agree_form listen_form words s.settings says.settings (s.id ∷ other.a ∷ other.b ∷ []) (says.id ∷ asked.files) s.line says.line))
-      none (soak packets) s = listen_soak (sym (same_command soak_form listen_form words s.settings says.settings (s.number ∷ []) (says.id ∷ asked.files) s.line says.line))
-      none (talk other) (s, rules) = listen_talk (sym (same_command talk_form listen_form words s.settings says.settings (other.input ∷ other.output ∷ []) (says.id ∷ asked.files) s.line says.line))
-      none (listen other) (s, rules) = breaks (subst (KeepsNames (drop 1 words)) (same_listen words other asked s says) rules)
+offence_of_names words asked says breaks = offence_of_form listen_form words says.settings (says.id ∷ asked.files) refl says.line none where
+  none : (request : Request) (p : IsCommandLine words request) → mark (line_of words request p).form.command ≡ mark (codes "listen") → ⊥
+  none (show limit file) p same = absurd (omega (arith, same))
+  none (check limit files) p same = absurd (omega (arith, same))
+  none (listen other) (s, rules) same = breaks (subst (KeepsNames (drop 1 words)) (same_listen words other asked s says) rules)
+  none (talk other) (s, rules) same = absurd (omega (arith, same))
+  none (soak packets) p same = absurd (omega (arith, same))
+  none (agree other) p same = absurd (omega (arith, same))
+  none (gateway other) (s, rules) same = absurd (omega (arith, same))
 
 -- words of `agree` ask for one thing
 same_agree : (words : List (List ℕ)) (a b : Agreeing) → SaysAgree words a → SaysAgree words b → a ≡ b
@@ -778,6 +731,74 @@ same_agree words a b p q = same
       same : a.listener ≡ b.listener → a.a ≡ b.a → a.b ≡ b.b → a ≡ b
       same listeners firsts seconds = rw (listeners, firsts, seconds) refl
 
+-- a word is one format
+same_gateway_format : (a b : GatewayFormat) → gateway_format_name a ≡ gateway_format_name b → a ≡ b
+same_gateway_format format.Am824 format.Am824 e = refl
+same_gateway_format format.Am824 format.Aaf e = absurd (aaf_am824 e)
+same_gateway_format format.Aaf format.Am824 e = absurd (aaf_am824 (sym e))
+same_gateway_format format.Aaf format.Aaf e = refl
+
+-- words of `gateway` ask for one thing
+same_gateway : (words : List (List ℕ)) (a b : Turning) → SaysGateway words a → SaysGateway words b → a ≡ b
+same_gateway words a b p q = same listeners
+    (same_gateway_format a.to b.to (let both : Some (gateway_format_name a.to) ≡ Some (gateway_format_name b.to) = sym p.to_given ∙ ap (value_in (codes "--to")) both.0 ∙ q.to_given in cc))
+    (same_id_given (codes "--id") b.listener.stream a.id b.id q.settings (subst (λ stream. IsGivenId (codes "--id") stream q.settings a.id) (ap (λ (l : ListenerOptions). l.stream) listeners)
+    (subst (λ gs. IsGivenId (codes "--id") a.listener.stream gs a.id) both.0 p.id_given)) q.id_given)
+    inputs outputs where
+      both : (p.settings ≡ q.settings) × ((p.id ∷ a.input ∷ a.output ∷ []) ≡ (q.id ∷ b.input ∷ b.output ∷ []))
+      both = same_line gateway_form words p.settings q.settings (p.id ∷ a.input ∷ a.output ∷ []) (q.id ∷ b.input ∷ b.output ∷ []) p.line q.line
+
+      ids : p.id ≡ q.id
+      ids = cc (both.1)
+
+      inputs : a.input ≡ b.input
+      inputs = cc (both.1)
+
+      outputs : a.output ≡ b.output
+      outputs = cc (both.1)
+
+      listeners : a.listener ≡ b.listener
+      listeners = same_listener q.settings q.id a.listener b.listener (subst (λ word. SaysListener q.settings word a.listener) ids (subst (λ gs. SaysListener gs p.id a.listener) both.0 p.listener)) q.listener
+
+      same : a.listener ≡ b.listener → a.to ≡ b.to → a.id ≡ b.id → a.input ≡ b.input → a.output ≡ b.output → a ≡ b
+      same listeners formats ids inputs outputs = rw (listeners, formats, ids, inputs, outputs) refl
+
+-- words that fit the form of `gateway`, and no line of it
+offence_of_gateway : (words : List (List ℕ)) (settings : List Setting) (names : List (List ℕ)) → IsOf gateway_form words settings names → ((other : Turning) → SaysGateway words other → KeepsOutput other → ⊥) → IsOffence words 1
+offence_of_gateway words settings names line breaks = offence_of_form gateway_form words settings names refl line none where
+  none : (request : Request) (p : IsCommandLine words request) → mark (line_of words request p).form.command ≡ mark (codes "gateway") → ⊥
+  none (show limit file) p same = absurd (omega (arith, same))
+  none (check limit files) p same = absurd (omega (arith, same))
+  none (listen other) (s, rules) same = absurd (omega (arith, same))
+  none (talk other) (s, rules) same = absurd (omega (arith, same))
+  none (soak packets) p same = absurd (omega (arith, same))
+  none (agree other) p same = absurd (omega (arith, same))
+  none (gateway other) (s, rules) same = breaks other s rules
+
+-- no `--to` is given
+pub offence_without_to : (words : List (String Global)) (place : ℕ) → IsRestTo gateway_form.rows gateway_form.operands (texts words) place
+    → ((to : GatewayFormat) → value_after (codes "--to") (texts (take place words)) ≡ Some (gateway_format_name to) → ⊥) → IsOffence (codes "gateway" ∷ texts words) 1
+offence_without_to words place r none = offence_of_gateway (codes "gateway" ∷ texts words) r.rest.settings r.rest.names line breaks where
+  line : IsOf gateway_form (codes "gateway" ∷ texts words) r.rest.settings r.rest.names
+  line = of_rest gateway_form (texts words) r.rest
+
+  breaks : (other : Turning) → SaysGateway (codes "gateway" ∷ texts words) other → KeepsOutput other → ⊥
+  breaks other s rules =
+      let both = same_line gateway_form (codes "gateway" ∷ texts words) r.rest.settings s.settings r.rest.names (s.id ∷ other.input ∷ other.output ∷ []) line s.line in
+      none other.to (to_word words place r ∙ ap (value_in (codes "--to")) both.0 ∙ s.to_given)
+
+-- the capture that is written is the one that is read
+pub offence_of_output : (words : List (List ℕ)) (asked : Turning) → SaysGateway words asked → (KeepsOutput asked → ⊥) → IsOffence words 1
+offence_of_output words asked says breaks = offence_of_gateway words says.settings (says.id ∷ asked.input ∷ asked.output ∷ []) says.line
+    (λ other s rules. breaks (subst KeepsOutput (same_gateway words other asked s says) rules))
+
+-- the stream id of what `gateway` writes has 64 bits
+pub gateway_id : (words : List (List ℕ)) (asked : Turning) → SaysGateway words asked → asked.id < 2 ^ 64
+gateway_id words asked says = go (value_in (codes "--id") says.settings) says.id_given where
+  go : (v : Option (List ℕ)) → MatchOption v (asked.id ≡ asked.listener.stream) (λ word. IsId word asked.id) → asked.id < 2 ^ 64
+  go None given = subst (λ (n : ℕ). n < 2 ^ 64) (sym given) says.listener.stream.fits
+  go (Some word) given = given.fits
+
 -- words ask for one thing
 pub same_request : (words : List (List ℕ)) (r s : Request) → IsCommandLine words r → IsCommandLine words s → r ≡ s
 same_request words (show limit file) (show other name) p q =
@@ -793,37 +814,50 @@ same_request words (soak packets) (soak other) p q =
     let both = same_line soak_form words p.settings q.settings (p.number ∷ []) (q.number ∷ []) p.line q.line in
     let numbers : p.number ≡ q.number = cc (both.1) in
     ap soak (spells_one p.number packets other (omega (arith, p.packets_given.most)) (omega (arith, q.packets_given.most)) (numbers ∙ q.packets_given.spelled) p.packets_given.spelled)
-same_request words (show limit file) (soak other) p q = absurd (show_soak (one_command words (show limit file) (soak other) p q))
-same_request words (check limit files) (soak other) p q = absurd (check_soak (one_command words (check limit files) (soak other) p q))
-same_request words (listen asked) (soak other) p q = absurd (listen_soak (one_command words (listen asked) (soak other) p q))
-same_request words (talk asked) (soak other) p q = absurd (talk_soak (one_command words (talk asked) (soak other) p q))
-same_request words (soak packets) (show other name) p q = absurd (show_soak (one_command words (show other name) (soak packets) q p))
-same_request words (soak packets) (check other names) p q = absurd (check_soak (one_command words (check other names) (soak packets) q p))
-same_request words (soak packets) (listen other) p q = absurd (listen_soak (one_command words (listen other) (soak packets) q p))
-same_request words (soak packets) (talk other) p q = absurd (talk_soak (one_command words (talk other) (soak packets) q p))
-same_request words (show limit file) (agree other) p q = absurd (show_agree (one_command words (show limit file) (agree other) p q))
-same_request words (check limit files) (agree other) p q = absurd (check_agree (one_command words (check limit files) (agree other) p q))
-same_request words (listen asked) (agree other) p q = absurd (listen_agree (one_command words (listen asked) (agree other) p q))
-same_request words (talk asked) (agree other) p q = absurd (talk_agree (one_command words (talk asked) (agree other) p q))
-same_request words (soak packets) (agree other) p q = absurd (soak_agree (one_command words (soak packets) (agree other) p q))
-same_request words (agree asked) (show other name) p q = absurd (show_agree (one_command words (show other name) (agree asked) q p))
-same_request words (agree asked) (check other names) p q = absurd (check_agree (one_command words (check other names) (agree asked) q p))
-same_request words (agree asked) (listen other) p q = absurd (listen_agree (one_command words (listen other) (agree asked) q p))
-same_request words (agree asked) (talk other) p q = absurd (talk_agree (one_command words (talk other) (agree asked) q p))
-same_request words (agree asked) (soak other) p q = absurd (soak_agree (one_command words (soak other) (agree asked) q p))
+same_request words (show limit file) (soak other) p q = absurd (omega (arith, one_mark words (show limit file) (soak other) p q))
+same_request words (check limit files) (soak other) p q = absurd (omega (arith, one_mark words (check limit files) (soak other) p q))
+same_request words (listen asked) (soak other) p q = absurd (omega (arith, one_mark words (listen asked) (soak other) p q))
+same_request words (talk asked) (soak other) p q = absurd (omega (arith, one_mark words (talk asked) (soak other) p q))
+same_request words (soak packets) (show other name) p q = absurd (omega (arith, one_mark words (show other name) (soak packets) q p))
+same_request words (soak packets) (check other names) p q = absurd (omega (arith, one_mark words (check other names) (soak packets) q p))
+same_request words (soak packets) (listen other) p q = absurd (omega (arith, one_mark words (listen other) (soak packets) q p))
+same_request words (soak packets) (talk other) p q = absurd (omega (arith, one_mark words (talk other) (soak packets) q p))
+same_request words (show limit file) (agree other) p q = absurd (omega (arith, one_mark words (show limit file) (agree other) p q))
+same_request words (check limit files) (agree other) p q = absurd (omega (arith, one_mark words (check limit files) (agree other) p q))
+same_request words (listen asked) (agree other) p q = absurd (omega (arith, one_mark words (listen asked) (agree other) p q))
+same_request words (talk asked) (agree other) p q = absurd (omega (arith, one_mark words (talk asked) (agree other) p q))
+same_request words (soak packets) (agree other) p q = absurd (omega (arith, one_mark words (soak packets) (agree other) p q))
+same_request words (agree asked) (show other name) p q = absurd (omega (arith, one_mark words (show other name) (agree asked) q p))
+same_request words (agree asked) (check other names) p q = absurd (omega (arith, one_mark words (check other names) (agree asked) q p))
+same_request words (agree asked) (listen other) p q = absurd (omega (arith, one_mark words (listen other) (agree asked) q p))
+same_request words (agree asked) (talk other) p q = absurd (omega (arith, one_mark words (talk other) (agree asked) q p))
+same_request words (agree asked) (soak other) p q = absurd (omega (arith, one_mark words (soak other) (agree asked) q p))
 same_request words (agree asked) (agree other) p q = ap agree (same_agree words asked other p q)
-same_request words (show limit file) (check other names) p q = absurd (show_check (one_command words (show limit file) (check other names) p q))
-same_request words (show limit file) (listen other) p q = absurd (show_listen (one_command words (show limit file) (listen other) p q))
-same_request words (show limit file) (talk other) p q = absurd (show_talk (one_command words (show limit file) (talk other) p q))
-same_request words (check limit files) (show other name) p q = absurd (show_check (one_command words (show other name) (check limit files) q p))
-same_request words (check limit files) (listen other) p q = absurd (check_listen (one_command words (check limit files) (listen other) p q))
-same_request words (check limit files) (talk other) p q = absurd (check_talk (one_command words (check limit files) (talk other) p q))
-same_request words (listen asked) (show other name) p q = absurd (show_listen (one_command words (show other name) (listen asked) q p))
-same_request words (listen asked) (check other names) p q = absurd (check_listen (one_command words (check other names) (listen asked) q p))
-same_request words (listen asked) (talk other) p q = absurd (listen_talk (one_command words (listen asked) (talk other) p q))
-same_request words (talk asked) (show other name) p q = absurd (show_talk (one_command words (show other name) (talk asked) q p))
-same_request words (talk asked) (check other names) p q = absurd (check_talk (one_command words (check other names) (talk asked) q p))
-same_request words (talk asked) (listen other) p q = absurd (listen_talk (one_command words (listen other) (talk asked) q p))
+same_request words (show limit file) (gateway other) p q = absurd (omega (arith, one_mark words (show limit file) (gateway other) p q))
+same_request words (check limit files) (gateway other) p q = absurd (omega (arith, one_mark words (check limit files) (gateway other) p q))
+same_request words (listen asked) (gateway other) p q = absurd (omega (arith, one_mark words (listen asked) (gateway other) p q))
+same_request words (talk asked) (gateway other) p q = absurd (omega (arith, one_mark words (talk asked) (gateway other) p q))
+same_request words (soak packets) (gateway other) p q = absurd (omega (arith, one_mark words (soak packets) (gateway other) p q))
+same_request words (agree asked) (gateway other) p q = absurd (omega (arith, one_mark words (agree asked) (gateway other) p q))
+same_request words (gateway asked) (show other name) p q = absurd (omega (arith, one_mark words (gateway asked) (show other name) p q))
+same_request words (gateway asked) (check other names) p q = absurd (omega (arith, one_mark words (gateway asked) (check other names) p q))
+same_request words (gateway asked) (listen other) p q = absurd (omega (arith, one_mark words (gateway asked) (listen other) p q))
+same_request words (gateway asked) (talk other) p q = absurd (omega (arith, one_mark words (gateway asked) (talk other) p q))
+same_request words (gateway asked) (soak other) p q = absurd (omega (arith, one_mark words (gateway asked) (soak other) p q))
+same_request words (gateway asked) (agree other) p q = absurd (omega (arith, one_mark words (gateway asked) (agree other) p q))
+same_request words (gateway asked) (gateway other) (p, rules) (q, others) = ap gateway (same_gateway words asked other p q)
+same_request words (show limit file) (check other names) p q = absurd (omega (arith, one_mark words (show limit file) (check other names) p q))
+same_request words (show limit file) (listen other) p q = absurd (omega (arith, one_mark words (show limit file) (listen other) p q))
+same_request words (show limit file) (talk other) p q = absurd (omega (arith, one_mark words (show limit file) (talk other) p q))
+same_request words (check limit files) (show other name) p q = absurd (omega (arith, one_mark words (show other name) (check limit files) q p))
+same_request words (check limit files) (listen other) p q = absurd (omega (arith, one_mark words (check limit files) (listen other) p q))
+same_request words (check limit files) (talk other) p q = absurd (omega (arith, one_mark words (check limit files) (talk other) p q))
+same_request words (listen asked) (show other name) p q = absurd (omega (arith, one_mark words (show other name) (listen asked) q p))
+same_request words (listen asked) (check other names) p q = absurd (omega (arith, one_mark words (check other names) (listen asked) q p))
+same_request words (listen asked) (talk other) p q = absurd (omega (arith, one_mark words (listen asked) (talk other) p q))
+same_request words (talk asked) (show other name) p q = absurd (omega (arith, one_mark words (show other name) (talk asked) q p))
+same_request words (talk asked) (check other names) p q = absurd (omega (arith, one_mark words (check other names) (talk asked) q p))
+same_request words (talk asked) (listen other) p q = absurd (omega (arith, one_mark words (listen other) (talk asked) q p))
 same_request words (talk asked) (talk other) (p, rules) (q, others) = ap talk (same_talk words asked other p q)
 same_request words (listen asked) (listen other) (p, rules) (q, others) = ap listen (same_listen words asked other p q)
 

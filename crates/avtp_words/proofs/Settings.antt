@@ -8,11 +8,13 @@ use Rattle.std.proofs.lemmas.List.Quantifiers.{all_pairs_push}
 use Rattle.std.proofs.lemmas.Slice.Eq.{bytes_eq-Decides}
 use Rattle.aaf_format.specs.declared.aaf.AafFormat.{AafFormat}
 use Rattle.aaf_format.specs.declared.aaf.AafFormat.TheVariants.{Float32, Int32, Int24, Int16}
+use Rattle.avtp_words.specs.declared.gateway.GatewayFormat.{GatewayFormat}
+use Rattle.avtp_words.specs.declared.gateway.GatewayFormat.TheVariants.{Am824, Aaf}
 use Rattle.avtp_words.specs.declared.option.Takes.{Takes}
-use Rattle.avtp_words.specs.declared.option.Takes.TheVariants.{Number, Signed, Id, Kind, Format, Name, Silence, Nothing}
+use Rattle.avtp_words.specs.declared.option.Takes.TheVariants.{Number, Signed, Id, Kind, Format, Name, Silence, OutFormat, Nothing}
 use Rattle.avtp_words.specs.state.Reading.{is_sound, are_sound, begins_with_dashes}
 use Rattle.avtp_words.specs.Word.{BeginsWithDash, IsName}
-use Rattle.avtp_words.specs.Options.{Row, row_named, Setting, words_of, IsValue, IsTaken, stands_alone, format_name, IsSetting, AreSettings}
+use Rattle.avtp_words.specs.Options.{Row, row_named, Setting, words_of, IsValue, IsTaken, stands_alone, format_name, gateway_format_name, IsSetting, AreSettings}
 use Rattle.avtp_words.proofs.Numbers.{no_dash, one_dash, no_dashes}
 use Rattle.avtp_words.proofs.Operands.{id_name}
 
@@ -51,6 +53,10 @@ value-dashes Format word sound (format, is) dashes = named format (subst (λ w. 
 value-dashes Name word sound is dashes = name-dash word is (one_dash word dashes)
 value-dashes Silence word sound (inl is) dashes = plain (subst (λ w. begins_with_dashes w ≡ true) is dashes)
 value-dashes Silence word sound (inr is) dashes = plain (subst (λ w. begins_with_dashes w ≡ true) is dashes)
+value-dashes OutFormat word sound (format, is) dashes = named format (subst (λ w. begins_with_dashes w ≡ true) is dashes) where
+  named : (format : GatewayFormat) → begins_with_dashes (gateway_format_name format) ≡ true → ⊥
+  named Am824 found = plain found
+  named Aaf found = plain found
 value-dashes Nothing word sound is dashes = is
 
 -- an option that takes no value has none
@@ -62,6 +68,7 @@ alone Kind word stands is = absurd cc
 alone Format word stands is = absurd cc
 alone Name word stands is = absurd cc
 alone Silence word stands is = absurd cc
+alone OutFormat word stands is = absurd cc
 alone Nothing word stands is = is
 
 -- the row that a name finds is sound if all are, and the name begins with two dashes

@@ -11,8 +11,9 @@ use Rattle.std.proofs.lemmas.Option.{slice_get_within}
 use Rattle.std.proofs.Math.Seq.{take-append_seam}
 use Rattle.hex.specs.Hex.{decode_pairs}
 use Rattle.aaf_format.specs.declared.aaf.AafFormat.TheVariants.{Int16}
+use Rattle.avtp_words.specs.declared.gateway.GatewayFormat.TheVariants.{Aaf}
 use Rattle.avtp_words.specs.declared.option.Takes.{Takes}
-use Rattle.avtp_words.specs.declared.option.Takes.TheVariants.{Number, Signed, Id, Kind, Format, Name, Silence, Nothing}
+use Rattle.avtp_words.specs.declared.option.Takes.TheVariants.{Number, Signed, Id, Kind, Format, Name, Silence, OutFormat, Nothing}
 use Rattle.avtp_words.specs.declared.option.OptionRow.{OptionRow}
 use Rattle.avtp_words.specs.state.Reading.{row_of, rows_of, is_sound, are_sound, IsTail, AreOptionsTo, StopsOptions, IsTakenAt, LacksValue}
 use Rattle.avtp_words.specs.Word.{texts, BeginsWithDash}
@@ -126,6 +127,7 @@ sample Kind sound = (Some (codes "aaf"), inl refl)
 sample Format sound = (Some (codes "int16"), (Int16, refl))
 sample Name sound = (Some (codes "a"), λ e. absurd (omega (arith, e)))
 sample Silence sound = (Some (codes "zero"), inl refl)
+sample OutFormat sound = (Some (codes "aaf"), (Aaf, refl))
 sample Nothing sound = (None, refl)
 
 -- an option of the table, with a value that its row takes

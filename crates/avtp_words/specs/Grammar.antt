@@ -9,11 +9,13 @@ use Rattle.clock_track.specs.Pairs.{pull_down, pull_up}
 use Rattle.iec61883_format.specs.Iec.{rate_of_fdf, syt_interval, block_size}
 use Rattle.avtp_words.specs.declared.agree.Agree.{Agree as AskedAgree}
 use Rattle.avtp_words.specs.declared.command.Command.{Command}
-use Rattle.avtp_words.specs.declared.command.Command.TheVariants.{Show, Check, Listen, Talk, Soak, Agree}
+use Rattle.avtp_words.specs.declared.command.Command.TheVariants.{Show, Check, Listen, Talk, Soak, Agree, Gateway}
 use Rattle.avtp_words.specs.declared.crf.Crf.{Crf}
 use Rattle.avtp_words.specs.declared.device.DeviceFile.{DeviceFile}
 use Rattle.avtp_words.specs.declared.device.RawFile.{RawFile}
 use Rattle.avtp_words.specs.declared.device.Silence.{Silence}
+use Rattle.avtp_words.specs.declared.gateway.Gateway.{Gateway as AskedGateway}
+use Rattle.avtp_words.specs.declared.gateway.GatewayFormat.{GatewayFormat}
 use Rattle.avtp_words.specs.declared.listen.Listen.{Listen as AskedListen}
 use Rattle.avtp_words.specs.declared.listener.ListenerOptions.{ListenerOptions}
 use Rattle.avtp_words.specs.declared.talk.Talk.{Talk as AskedTalk}
@@ -28,7 +30,7 @@ use Rattle.avtp_words.specs.Limits.{default_rate, number, signed, with_default}
 use Rattle.avtp_words.specs.Number.{IsNumber}
 use Rattle.avtp_words.specs.Operands.{AreOperands}
 use Rattle.avtp_words.specs.Word.{texts, IsId}
-use Rattle.avtp_words.specs.Options.{Row, Setting, words_of, AreSettings, value_in}
+use Rattle.avtp_words.specs.Options.{Row, Setting, words_of, AreSettings, gateway_format_name, value_in}
 
 -- ---- what a command line asks for, without its names' location in memory
 
@@ -72,6 +74,15 @@ pub record Agreeing : Type 0 where
   pub a : List ℕ
   pub b : List ℕ
 
+-- what `gateway` is asked for: the stream and the listener to it, the format and the stream id of the capture that is written,
+-- and the captures that are read and written
+pub record Turning : Type 0 where
+  pub listener : ListenerOptions
+  pub to : GatewayFormat
+  pub id : ℕ
+  pub input : List ℕ
+  pub output : List ℕ
+
 -- what a command line asks for, by its command
 pub data Request : Type 0 where
   show : (limit : ℕ) → (file : List ℕ) → Request
@@ -80,6 +91,7 @@ pub data Request : Type 0 where
   talk : Talking → Request
   soak : (packets : ℕ) → Request
   agree : Agreeing → Request
+  gateway : Turning → Request
 
 -- a file that is written, without its name's location in memory
 abbrev pub named_file : DeviceFile → NamedFile
@@ -120,6 +132,10 @@ talking_of asked = record {
 abbrev pub agreeing_of : AskedAgree → Agreeing
 agreeing_of asked = record { listener = asked.listener; a = asked.a.now; b = asked.b.now }
 
+-- what `gateway` is asked for, without its names' location in memory
+abbrev pub turning_of : AskedGateway → Turning
+turning_of asked = record { listener = asked.listener; to = asked.to; id = asked.id; input = asked.input.now; output = asked.output.now }
+
 -- what a command is asked for, without its names' location in memory
 abbrev pub request_of : Command → Request
 request_of (Show limit file) = show limit file.now
@@ -128,6 +144,7 @@ request_of (Listen asked) = listen (listening_of asked)
 request_of (Talk asked) = talk (talking_of asked)
 request_of (Soak packets) = soak packets
 request_of (Agree asked) = agree (agreeing_of asked)
+request_of (Gateway asked) = gateway (turning_of asked)
 
 -- the files that a request reads, in order
 abbrev pub files_of : Request → List (List ℕ)
@@ -137,6 +154,7 @@ files_of (listen asked) = asked.files
 files_of (talk asked) = asked.input ∷ []
 files_of (soak packets) = []
 files_of (agree asked) = asked.a ∷ asked.b ∷ []
+files_of (gateway asked) = asked.input ∷ []
 
 -- the capture that a request writes, if it writes one
 abbrev pub output_of : Request → Option (List ℕ)
@@ -146,6 +164,7 @@ output_of (listen asked) = None
 output_of (talk asked) = Some asked.output
 output_of (soak packets) = None
 output_of (agree asked) = None
+output_of (gateway asked) = Some asked.output
 
 -- ---- the commands
 
@@ -235,9 +254,19 @@ agree_form = record {
   operands = operand.Id ∷ operand.Name ∷ operand.Name ∷ [];
 }
 
+-- gateway [options] STREAM IN OUT
+abbrev pub gateway_form : Form
+gateway_form = record {
+  command = codes "gateway";
+  rows = listener_rows ++
+      record { name = codes "--to"; takes = takes.OutFormat } ∷
+      record { name = codes "--id"; takes = takes.Id } ∷ [];
+  operands = operand.Id ∷ operand.Name ∷ operand.Name ∷ [];
+}
+
 -- the forms of all commands
 abbrev pub forms : List Form
-forms = show_form ∷ check_form ∷ listen_form ∷ talk_form ∷ soak_form ∷ agree_form ∷ []
+forms = show_form ∷ check_form ∷ listen_form ∷ talk_form ∷ soak_form ∷ agree_form ∷ gateway_form ∷ []
 
 -- the form of the command with this name, if there is one
 abbrev pub form_named : List ℕ → Option Form
@@ -320,6 +349,16 @@ pub record SaysAgree (words : List (List ℕ)) (asked : Agreeing) : Type 0 where
   pub id : List ℕ
   pub line : IsOf agree_form words settings (id ∷ asked.a ∷ asked.b ∷ [])
   pub listener : SaysListener settings id asked.listener
+
+-- What `gateway` is asked for, each word by itself. A rule over several words is among these facts: `--to` is given. The stream
+-- keeps its id if no other is given.
+pub record SaysGateway (words : List (List ℕ)) (asked : Turning) : Type 0 where
+  pub settings : List Setting
+  pub id : List ℕ
+  pub line : IsOf gateway_form words settings (id ∷ asked.input ∷ asked.output ∷ [])
+  pub listener : SaysListener settings id asked.listener
+  pub to_given : value_in (codes "--to") settings ≡ Some (gateway_format_name asked.to)
+  pub id_given : IsGivenId (codes "--id") asked.listener.stream settings asked.id
 
 -- An AAF stream: of this format of samples, and sparse or not.
 pub record SaysAaf (words : List (List ℕ)) (settings : List Setting) (format : AafFormat) (sparse : Bool) : Type 0 where
@@ -469,6 +508,10 @@ pub record KeepsNames (words : List (List ℕ)) (asked : Listening) : Type 0 whe
   pub new_annexb : IfSome asked.annexb (λ file. Contains asked.files file.name → ⊥)
   pub apart : IfSome asked.raw (λ raw. IfSome asked.annexb (λ file. raw.file.name ≢ file.name))
 
+-- The other rule over several words after `gateway`: the file written differs from the one read.
+pub record KeepsOutput (asked : Turning) : Type 0 where
+  pub apart : asked.input ≢ asked.output
+
 -- ---- command lines
 
 -- the words are a command line, and this is what they ask for
@@ -478,6 +521,7 @@ IsCommandLine words (check limit files) = IsCheck words limit files
 IsCommandLine words (listen asked) = SaysListen words asked × KeepsNames (drop 1 words) asked
 IsCommandLine words (soak packets) = IsSoak words packets
 IsCommandLine words (agree asked) = SaysAgree words asked
+IsCommandLine words (gateway asked) = SaysGateway words asked × KeepsOutput asked
 IsCommandLine words (talk asked) = SaysTalk words asked × KeepsRules (drop 1 words) asked
 
 -- the words fit the form of their command: each can be at its place, and none is missing

@@ -34,15 +34,15 @@ pub record SignedOption : Type 0 where
 abbrev pub signed : SignedOption → Row
 signed option = record { name = option.name; takes = Signed option.most }
 
--- show, check, listen and agree: the most bytes that are read of a capture
+-- show, check, listen, agree and gateway: the most bytes that are read of a capture
 abbrev pub limit : NumberOption
 limit = option (codes "--limit") 1 (2 ^ 40) (Some (2 ^ 40))
 
--- listen and agree: the most packets that wait
+-- listen, agree and gateway: the most packets that wait
 abbrev pub buffer : NumberOption
 buffer = option (codes "--buffer") 1 65536 (Some 4096)
 
--- listen and agree: the most bytes in the packets that wait
+-- listen, agree and gateway: the most bytes in the packets that wait
 abbrev pub room : NumberOption
 room = option (codes "--room") 1 (2 ^ 30) (Some (2 ^ 26))
 
@@ -50,15 +50,15 @@ room = option (codes "--room") 1 (2 ^ 30) (Some (2 ^ 26))
 abbrev pub ring : NumberOption
 ring = option (codes "--ring") 1 256 (Some 64)
 
--- listen and agree: how many later items are read before an item is judged
+-- listen, agree and gateway: how many later items are read before an item is judged
 abbrev pub look : NumberOption
 look = option (codes "--look") 0 64 (Some 0)
 
--- listen and agree: what is added to each timestamp of the media clock, in nanoseconds
+-- listen, agree and gateway: what is added to each timestamp of the media clock, in nanoseconds
 abbrev pub crf_shift : SignedOption
 crf_shift = record { name = codes "--crf-shift"; most = 10 ^ 9; default = pos 0 }
 
--- listen and agree: the max transit time in nanoseconds
+-- listen, agree and gateway: the max transit time in nanoseconds
 abbrev pub listen_lead : NumberOption
 listen_lead = option (codes "--lead") 0 (10 ^ 9) (Some 2000000)
 

@@ -4,8 +4,10 @@ use Rattle.std.specs.List.{find}
 use Rattle.std.specs.Str.{bytes_eq}
 use Rattle.aaf_format.specs.declared.aaf.AafFormat.{AafFormat}
 use Rattle.aaf_format.specs.declared.aaf.AafFormat.TheVariants.{Float32, Int32, Int24, Int16}
+use Rattle.avtp_words.specs.declared.gateway.GatewayFormat.{GatewayFormat}
+use Rattle.avtp_words.specs.declared.gateway.GatewayFormat.TheVariants.{Am824, Aaf}
 use Rattle.avtp_words.specs.declared.option.Takes.{Takes}
-use Rattle.avtp_words.specs.declared.option.Takes.TheVariants.{Number, Signed, Id, Kind, Format, Name, Silence, Nothing}
+use Rattle.avtp_words.specs.declared.option.Takes.TheVariants.{Number, Signed, Id, Kind, Format, Name, Silence, OutFormat, Nothing}
 use Rattle.avtp_words.specs.Number.{IsNumber, IsSigned}
 use Rattle.avtp_words.specs.Word.{BeginsWithDash, IsId, IsName}
 
@@ -34,6 +36,11 @@ format_name Int24 = codes "int24"
 format_name Int32 = codes "int32"
 format_name Float32 = codes "float32"
 
+-- the word of a format that `gateway` writes
+abbrev pub gateway_format_name : GatewayFormat → List ℕ
+gateway_format_name Am824 = codes "am824"
+gateway_format_name Aaf = codes "aaf"
+
 -- the word is a value that an option of this sort takes
 abbrev pub IsValue : Takes → List ℕ → Type 0
 IsValue (Number low high) word = (n : ℕ) × IsNumber low high word n
@@ -43,6 +50,7 @@ IsValue Kind word = (word ≡ codes "aaf") ⊎ ((word ≡ codes "am824") ⊎ (wo
 IsValue Format word = (format : AafFormat) × (word ≡ format_name format)
 IsValue Name word = IsName word
 IsValue Silence word = (word ≡ codes "zero") ⊎ (word ≡ codes "am824")
+IsValue OutFormat word = (format : GatewayFormat) × (word ≡ gateway_format_name format)
 IsValue Nothing word = ⊥
 
 -- the option takes no value
@@ -54,6 +62,7 @@ stands_alone Kind = false
 stands_alone Format = false
 stands_alone Name = false
 stands_alone Silence = false
+stands_alone OutFormat = false
 stands_alone Nothing = true
 
 -- An option is given with a value that it takes, or without one if it takes none.

@@ -7,8 +7,7 @@ ghost use Rattle.avtp_words.specs.Word.{texts};
 use crate::command::{Command, Offence};
 use crate::limits::AGREE_OPTIONS;
 use crate::listener::{ListenerOptions, listener_after};
-use crate::operand::{Operand, id_of, operands_at};
-use crate::option::word_at;
+use crate::operand::{STREAM_OPERANDS, StreamAndTwo, operands_at, stream_and_two};
 
 /// Which stream to compare in two captures, and by which listener.
 #[derive(Clone, Copy, Debug, PartialEq, Eq)]
@@ -20,8 +19,6 @@ pub struct Agree<'a> {
     /// The name of the other.
     pub b: &'a str,
 }
-
-const AGREE_OPERANDS: [Operand; 3] = [Operand::Id, Operand::Name, Operand::Name];
 
 /// The words after `agree`.
 pub fn read_agree(words: &[String]) -> Result<Command<'_>, Offence>
@@ -37,19 +34,12 @@ fn read_words(words: &[String]) -> Result<Agree<'_>, Offence>
     ensures ok { IfOk result (λ asked. SaysAgree (codes "agree" ∷ texts words.now) (agreeing_of asked)) }
     ensures err { IfErr result (λ offence. IsOffence (codes "agree" ∷ texts words.now) offence.position) }
 {
-    let place = operands_at(&AGREE_OPTIONS, &AGREE_OPERANDS, words)?;
-    let Some(id) = word_at(words, place) else {
-        unreachable!()
-    };
-    let Some(stream) = id_of(id) else {
-        unreachable!()
-    };
-    let Some(a) = word_at(words, place + 1) else {
-        unreachable!()
-    };
-    let Some(b) = word_at(words, place + 2) else {
-        unreachable!()
-    };
+    let place = operands_at(&AGREE_OPTIONS, &STREAM_OPERANDS, words)?;
+    let StreamAndTwo {
+        stream,
+        first: a,
+        second: b,
+    } = stream_and_two(&words[place..]);
     let listener = listener_after(&words[..place], stream);
     Ok(Agree { listener, a, b })
 }

@@ -5,6 +5,7 @@ ghost use Rattle.avtp_words.specs.Grammar.{Request, request_of, IsCommandLine, I
 ghost use Rattle.avtp_words.specs.Word.{texts};
 
 use crate::agree::{Agree, read_agree};
+use crate::gateway::{Gateway, read_gateway};
 use crate::limits::{CHECK_OPTIONS, LIMIT, MAX_LIMIT, SHOW_OPTIONS, SOAK_OPTIONS};
 use crate::listen::{Listen, read_listen};
 use crate::operand::{Operand, operands_at, packets_of};
@@ -29,6 +30,8 @@ pub enum Command<'a> {
     Soak { packets: u32 },
     /// Print where two captures present different samples of a stream.
     Agree(Agree<'a>),
+    /// Write a capture of a stream in the other format, with the same samples at the same times.
+    Gateway(Gateway<'a>),
 }
 
 /// The words are not a command line.
@@ -81,6 +84,7 @@ pub fn parse(words: &[String]) -> Result<Command<'_>, Offence>
         "talk" => read_talk(rest),
         "soak" => read_soak(rest),
         "agree" => read_agree(rest),
+        "gateway" => read_gateway(rest),
         _ => Err(Offence { position: 1 }),
     }
 }

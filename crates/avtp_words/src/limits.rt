@@ -43,6 +43,24 @@ pub const AGREE_OPTIONS: [OptionRow; 7] = [
     CRF_SHIFT,
 ];
 
+pub const GATEWAY_OPTIONS: [OptionRow; 9] = [
+    LIMIT,
+    BUFFER,
+    ROOM,
+    LOOK,
+    LISTEN_LEAD,
+    CLOCK,
+    CRF_SHIFT,
+    TO,
+    ID,
+];
+
+/// The format of the capture that `gateway` writes. It must be given.
+pub const TO: OptionRow = OptionRow {
+    name: "--to",
+    takes: Takes::OutFormat,
+};
+
 /// How many packets may wait for their presentation time.
 pub const BUFFER: OptionRow = OptionRow {
     name: "--buffer",

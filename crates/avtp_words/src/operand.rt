@@ -5,7 +5,7 @@ ghost use Rattle.avtp_words.specs.Grammar.{StopsAt};
 ghost use Rattle.avtp_words.specs.Limits as limits;
 ghost use Rattle.avtp_words.specs.Number.{IsNumber};
 ghost use Rattle.avtp_words.specs.Operands.{AreOperands, IsOperand};
-ghost use Rattle.avtp_words.specs.state.Operands.{takes_all as takes_all_of};
+ghost use Rattle.avtp_words.specs.state.Operands.{NameStreamAndTwo, stream_operands, takes_all as takes_all_of};
 ghost use Rattle.avtp_words.specs.state.Reading.{IsFirstUnnamed, IsRest, IsRestTo, StopsAfter, are_sound, rows_of};
 ghost use Rattle.avtp_words.specs.Word.{texts, IsName, IsId};
 
@@ -45,6 +45,34 @@ impl Operand {
         ensures { result ≡ takes_all_of self }
     {
         matches!(self, Operand::Names)
+    }
+}
+
+/// The operands of a command about a stream and two captures.
+pub const STREAM_OPERANDS: [Operand; 3] = [Operand::Id, Operand::Name, Operand::Name];
+
+/// A stream and the names of two captures.
+pub struct StreamAndTwo<'a> {
+    pub stream: u64,
+    pub first: &'a str,
+    pub second: &'a str,
+}
+
+/// What the operands of such a command name.
+pub fn stream_and_two(operands: &[String]) -> StreamAndTwo<'_>
+    requires { AreOperands stream_operands (texts operands.now) }
+    ensures { NameStreamAndTwo (texts operands.now) result.stream result.first.now result.second.now }
+{
+    let [id, first, second] = operands else {
+        unreachable!()
+    };
+    let Some(stream) = id_of(id.as_str()) else {
+        unreachable!()
+    };
+    StreamAndTwo {
+        stream,
+        first: first.as_str(),
+        second: second.as_str(),
     }
 }
 

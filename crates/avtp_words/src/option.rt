@@ -9,6 +9,7 @@ ghost use Rattle.avtp_words.specs.Options.{IsValue, stands_alone as stands_alone
 ghost use Rattle.avtp_words.specs.state.Reading.{EndsOptions, IsTakenAt, LacksValue, StopsOptions, are_sound, names_of, rows_of, value_after};
 ghost use Rattle.avtp_words.specs.Word.{texts, BeginsWithDash};
 
+use crate::gateway::gateway_format_of;
 use crate::number::{is_number, is_signed};
 use crate::operand::{id_of, is_name};
 use crate::value::format_of;
@@ -30,6 +31,8 @@ pub enum Takes {
     Name,
     /// What silence is made of: `zero` or `am824`.
     Silence,
+    /// The format of the capture that `gateway` writes: `am824` or `aaf`.
+    OutFormat,
     /// No value: the option is only its name.
     Nothing,
 }
@@ -46,6 +49,7 @@ impl Takes {
             Takes::Format => format_of(word).is_some(),
             Takes::Name => is_name(word),
             Takes::Silence => matches!(word, "zero" | "am824"),
+            Takes::OutFormat => gateway_format_of(word).is_some(),
             Takes::Nothing => false,
         }
     }

@@ -1,9 +1,9 @@
 -- What two calls after each other leave of a shelf.
 use Rattle.std.proofs.Common.{◌≡◌, ℕ, List, [], ◌∷◌, ◌++◌, refl, sym, subst, ◌∙◌, arith, append_assoc, append-nil}
-use Rattle.std.specs.Prelude.{IsSome}
-use Rattle.avtp_base.specs.Files.{KeepsOthers}
+use Rattle.std.specs.Prelude.{IsSome, option_map}
+use Rattle.avtp_base.specs.Files.{KeepsOthers, file_of}
 use Rattle.avtp_base.specs.States.{ShelfState, WasAsked}
-use Rattle.avtp_base.proofs.Files.{KeepsFiles-refl, KeepsFiles-trans, KeepsOthers-closed, KeepsOthers-trans}
+use Rattle.avtp_base.proofs.Files.{KeepsFiles-refl, KeepsFiles-trans, KeepsOthers-closed, KeepsOthers-trans, named_as}
 use Rattle.avtp_files.specs.ShelfCalls.{ClosesSlot}
 use Rattle.capture_io.specs.Reads.{OnlyReads, ReadsSlot, OpensSlot}
 
@@ -32,6 +32,7 @@ reads_nothing s k live = record {
   slot = refl;
   files = KeepsFiles-refl s.files;
   live = live;
+  same = refl;
   others = λ j differs. refl;
   reading = omega arith;
   writing = refl;
@@ -47,6 +48,7 @@ reads_then {s} {t} {u} {k} first second = record {
   slot = second.slot ∙ first.slot;
   files = KeepsFiles-trans s.files t.files u.files first.files second.files;
   live = subst (λ (n : ℕ). IsSome (u.slots n)) first.slot second.live;
+  same = subst (λ (n : ℕ). option_map file_of (u.slots n) ≡ option_map file_of (t.slots n)) first.slot second.same ∙ first.same;
   others = KeepsOthers-trans s.slots t.slots u.slots k first.others (subst (KeepsOthers t.slots u.slots) first.slot second.others);
   reading = omega (arith, first.reading, second.reading);
   writing = second.writing ∙ first.writing;
@@ -58,6 +60,7 @@ opens_then s t u name k j first second = record {
   free = first.free;
   files = KeepsFiles-trans s.files t.files u.files first.files second.files;
   live = second.live;
+  named = λ told. named_as (t.slots k) (u.slots k) second.same ∙ first.named told;
   others = KeepsOthers-trans s.slots t.slots u.slots k first.others second.others;
   reading = omega (arith, first.reading, second.reading);
   writing = second.writing ∙ first.writing;

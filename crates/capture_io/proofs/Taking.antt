@@ -18,6 +18,11 @@ opened_live None None name is = absurd is
 opened_live None (Some o) name is = refl
 opened_live (Some files) slot name is = rw is.0 refl
 
+-- and has the name, if files are shown
+pub opened_named : (files : Option Files) (slot : Option Open) (name : List ℕ) → IsOpened files slot name → IsSome files → option_and_then (λ (o : Open). o.name) slot ≡ Some name
+opened_named None slot name is told = absurd cc
+opened_named (Some files) slot name is told = rw is.0 refl
+
 -- and has all bytes of its file left, where files are told
 opened_left : (files : Option Files) (slot : Option Open) (name : List ℕ) (told : Files) → IsOpened files slot name → files ≡ Some told
     → (bytes : List ℕ) × (told name ≡ Some bytes) × (option_and_then (λ (o : Open). o.left) slot ≡ Some bytes)

@@ -1,9 +1,9 @@
 -- What reading leaves of a shelf: its files, its open files and its counts, and which names it asks for.
-use Rattle.std.specs.Prelude.{◌≡◌, ℕ, ◌≤◌, List, [], ◌∷◌, None, IfOk, IsErrOf, IsSome, OnErr, Result}
+use Rattle.std.specs.Prelude.{◌≡◌, ℕ, ◌≤◌, List, [], ◌∷◌, None, Some, IfOk, IsErrOf, IsSome, OnErr, Result, option_map}
 use Rattle.avtp_base.specs.declared.failed.OpenFault.{OpenFault}
 use Rattle.avtp_base.specs.declared.failed.OpenFault.TheVariants as open_fault
 use Rattle.avtp_base.specs.Faults.{IsOpenCounted}
-use Rattle.avtp_base.specs.Files.{IsMissing, KeepsFiles, KeepsOthers, KeepsSlots}
+use Rattle.avtp_base.specs.Files.{IsMissing, KeepsFiles, KeepsOthers, KeepsSlots, file_of, name_in}
 use Rattle.avtp_base.specs.States.{Asks, AsksNothing, ShelfState}
 
 -- A call that only reads: every file, every slot and the count of writing faults are unchanged; the count of reading faults did
@@ -17,21 +17,25 @@ pub record OnlyReads (before after : ShelfState) (names : List (List ℕ)) : Typ
 
 -- ---- while the file of one slot is open
 
--- The file in slot k was read, and is still open there: `now` is slot k, too. All else is unchanged, and no name was asked for.
+-- The file in slot k was read, and the same file is still open there: `now` is slot k, too. All else is unchanged, and no name
+-- was asked for.
 pub record ReadsSlot (before after : ShelfState) (k now : ℕ) : Type 0 where
   pub slot : now ≡ k
   pub files : KeepsFiles before.files after.files
   pub live : IsSome (after.slots k)
+  pub same : option_map file_of (after.slots k) ≡ option_map file_of (before.slots k)
   pub others : KeepsOthers before.slots after.slots k
   pub reading : before.reading_faults ≤ after.reading_faults
   pub writing : after.writing_faults ≡ before.writing_faults
   pub asked : AsksNothing before after
 
--- The file with this name was asked for and opened in slot k, which was free, and it was read or not; all else is unchanged.
+-- The file with this name was asked for and opened in slot k, which was free, and it was read or not; all else is unchanged. If
+-- files are shown, the slot has the name.
 pub record OpensSlot (before after : ShelfState) (name : List ℕ) (k : ℕ) : Type 0 where
   pub free : before.slots k ≡ None
   pub files : KeepsFiles before.files after.files
   pub live : IsSome (after.slots k)
+  pub named : IsSome before.files → name_in after.slots k ≡ Some name
   pub others : KeepsOthers before.slots after.slots k
   pub reading : before.reading_faults ≤ after.reading_faults
   pub writing : after.writing_faults ≡ before.writing_faults

@@ -35,10 +35,13 @@ impl Bases {
     /// Has each talker talk.
     pub fn new<T: Threads + Sync>(rt: &T, alloc: Global) -> Result<Self, NoMemory> {
         let input = input(alloc)?;
+        let labelled = labelled(alloc, &input)?;
         let mut streams = Vec::new(alloc);
         streams.push(vectors(alloc)?)?;
         for options in TALKS {
-            let capture = talked(rt, alloc, options, &input)?;
+            let is_am824 = options.starts_with("--kind am824");
+            let samples = if is_am824 { &labelled } else { &input };
+            let capture = talked(rt, alloc, options, samples)?;
             streams.push(records_of(alloc, &capture, MOST)?)?;
         }
         Ok(Bases { input, streams })
@@ -74,6 +77,15 @@ fn input(alloc: Global) -> Result<Vec<u8>, NoMemory> {
             4 if n < 1_200 => 0x65,
             _ => (n % 251) as u8,
         })?;
+    }
+    Ok(bytes)
+}
+
+/// The same bytes as AM824: each quadlet has the label of linear audio.
+fn labelled(alloc: Global, input: &[u8]) -> Result<Vec<u8>, NoMemory> {
+    let mut bytes = Vec::new(alloc);
+    for (place, byte) in input.iter().enumerate() {
+        bytes.push(if place % 4 == 0 { 0x40 } else { *byte })?;
     }
     Ok(bytes)
 }

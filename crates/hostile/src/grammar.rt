@@ -4,8 +4,8 @@ use avtp_base::NoMemory;
 use std::alloc::Global;
 
 /// The rules: the pattern for each word in capital letters, which may use the words of later rules.
-const RULES: [(&str, &str); 25] = [
-    ("TEXT", "^(?:SHOW|CHECK|LISTEN|TALK|AGREE)\n$"),
+const RULES: [(&str, &str); 27] = [
+    ("TEXT", "^(?:SHOW|CHECK|LISTEN|TALK|AGREE|GATEWAY)\n$"),
     (
         "SHOW",
         "show\n(?:frame N at INSTANT RECORD\n)*(?:end frames N\nstatus 0|UNREAD)",
@@ -30,6 +30,11 @@ const RULES: [(&str, &str); 25] = [
         "BESIDE",
         "capture refused: FILE at N(?: short)?\ncapture refused: FILE at N(?: short)?\nstatus 3|limit SOME\nlimit SOME\nstatus 7",
     ),
+    (
+        "GATEWAY",
+        "gateway\n(?:gateway batches N packets N skipped 0\nmade SOME\nstatus 0|(?:SKIP)+gateway batches SOME packets N skipped SOME\nmade SOME\nstatus 1|gateway input: (?:kind|format|rate|channels|label) at frame SOME\nstatus 9|UNREAD)",
+    ),
+    ("SKIP", "skip frame SOME (?:overlap|range)\n"),
     (
         "RECORD",
         "(?:refused REFUSAL|ethertype N bytes N|other N|AAF|IEC|H264|CRF)",

@@ -22,8 +22,8 @@ use std::env;
 use std::process::ExitCode;
 use std::thread::Threads;
 
-/// The runs over each capture: five commands, each once, once more, and once in pieces.
-const RUNS: u64 = 15;
+/// The runs over each capture: seven command lines, each once, once more, and once in pieces.
+const RUNS: u64 = 21;
 
 /// Which captures are made.
 #[derive(Clone, Copy)]

@@ -37,6 +37,15 @@ const AGREES: [&str; 5] = [
     "--clock 0200000000010001 0200000000010002",
 ];
 
+/// What `gateway` is asked for.
+const GATEWAYS: [&str; 5] = [
+    "0200000000010001",
+    "--look 64 --lead 1000000000 --id 0000000000000009 0200000000010001",
+    "--buffer 3 --room 24 0200000000010001",
+    "--clock 0200000000010002 --look 8 0200000000010001",
+    "ffffffffffffffff",
+];
+
 /// A command line, and what is wrong with its run.
 #[derive(Drop)]
 pub struct Found {
@@ -75,12 +84,17 @@ pub fn try_commands<T: Threads + Sync>(
     let talk = format!(in alloc; "talk {options} in out")?;
     let options = draws.pick_text(&AGREES);
     let agree = format!(in alloc; "agree --limit {limit} {options} in in")?;
+    let options = draws.pick_text(&GATEWAYS);
+    let to_am824 = format!(in alloc; "gateway --to am824 --limit {limit} {options} in out")?;
+    let to_aaf = format!(in alloc; "gateway --to aaf --limit {limit} {options} in out")?;
     let cases = [
         (show, &capture),
         (check, &capture),
         (listen, &capture),
         (talk, input),
         (agree, &capture),
+        (to_am824, &capture),
+        (to_aaf, &capture),
     ];
     let mut found = Vec::new(alloc);
     for (line, file) in cases {

@@ -8,6 +8,7 @@ use avtp_memory::{MemoryShelf, MemorySink};
 use avtp_tool::Status;
 use device_rack::Rack;
 use std::alloc::Global;
+use std::process::Abort;
 use std::thread::Threads;
 
 /// The most bytes that a read moves, and the most that a write moves.
@@ -15,12 +16,13 @@ const READS: [usize; 2] = [1, 65_536];
 
 const WRITES: [usize; 2] = [7, 65_536];
 
-/// A command that reads a capture: what it prints before it reads, what it prints once it has all bytes, what it prints at the
-/// end, and its status then.
+/// A command that reads one or two captures of as many bytes: what it prints before it reads, what it prints once it has all
+/// bytes, what it prints at the end, and its status then.
 #[derive(Clone, Copy)]
 struct Case {
     line: &'static str,
     capture: &'static str,
+    second: Option<&'static str>,
     before: &'static str,
     certain: &'static str,
     end: &'static str,
@@ -30,6 +32,7 @@ struct Case {
 const SHOWN: Case = Case {
     line: "show c.pcap",
     capture: "V1",
+    second: None,
     before: "",
     certain: "frame 1 at 1000000000 aaf id 0200000000010001 seq 0 ts 1002000000 tv 1 tu 0 mr 0 sp 0 evt 0 format int16 rate 48000 channels 2 depth 16 count 6 bytes 24\n",
     end: "end frames 1\n",
@@ -39,6 +42,7 @@ const SHOWN: Case = Case {
 const HEARD: Case = Case {
     line: "listen --buffer 8 --room 192 0200000000010001 c.pcap",
     capture: "V1",
+    second: None,
     before: "capture c.pcap\n",
     certain: "",
     end: "\
@@ -62,6 +66,7 @@ V1/58 ts:1004000000 record:1002000000
 V1/58 2=01 ts:1004125000 record:1002125000
 V4 2=01 point:1004000000 record:1002200000
 ",
+    second: None,
     before: "capture c.pcap\n",
     certain: "",
     end: "\
@@ -85,6 +90,7 @@ end frames 4 packets 2 presented 2 flagged 0
 const CHECKED: Case = Case {
     line: "check c.pcap",
     capture: "V1 32=4e 36=4e 61=fe zeros:12",
+    second: None,
     before: "capture c.pcap\n",
     certain: "finding frame 1 id 0200000000010001 reserved\n",
     end: "end frames 1 streams 1 findings 1\n",
@@ -102,25 +108,82 @@ const HEARD_NG: Case = Case {
     ..HEARD
 };
 
+/// Two packets in each of two captures. The first is due once the second comes, and what differs in it is certain once the first
+/// capture has ended.
+const AGREED: Case = Case {
+    line: "agree --buffer 8 --room 192 0200000000010001 c.pcap d.pcap",
+    capture: "\
+V1/58 capture:1000000000
+V1/58 2=01 ts:1012000000 record:1010000000
+",
+    second: Some(
+        "\
+V1/58 47=fb capture:1000000000
+V1/58 2=01 ts:1012000000 record:1010000000
+",
+    ),
+    before: "",
+    certain: "differ frame 1 1 seq 0 sample 5 bytes\n",
+    end: "end matched 2 only 0 0 differ 1\n",
+    status: Status::Findings,
+};
+
+/// The files of a shelf.
+pub type Files = Vec<(String, Vec<u8>)>;
+
+/// A shelf's only file.
+pub fn one_file(alloc: Global, name: &str, bytes: &[u8]) -> Result<Files, NoMemory> {
+    let mut files = Vec::new(alloc);
+    files.push((
+        String::from_str(alloc, name)?,
+        Vec::from_slice(alloc, bytes)?,
+    ))?;
+    Ok(files)
+}
+
+fn add_file(alloc: Global, files: &mut Files, name: &str, lines: &str) -> Result<(), NoMemory> {
+    files.push((String::from_str(alloc, name)?, file_of(alloc, lines)?))?;
+    Ok(())
+}
+
 impl Case {
-    /// What is printed, and the status, if this call of the shelf fails and the capture takes this many reads. The first call
-    /// opens the file, and the last one finds that nothing is left.
+    fn files(&self, alloc: Global) -> Result<Files, NoMemory> {
+        let mut files = Vec::new(alloc);
+        add_file(alloc, &mut files, "c.pcap", self.capture)?;
+        if let Some(second) = self.second {
+            add_file(alloc, &mut files, "d.pcap", second)?;
+        }
+        Ok(files)
+    }
+
+    fn captures(&self) -> usize {
+        if self.second.is_some() { 2 } else { 1 }
+    }
+
+    /// How many calls of the shelf a run makes if each capture takes this many reads: it opens all captures first, and the last
+    /// read of each finds that nothing is left.
+    fn calls(&self, reads: usize) -> usize {
+        self.captures().saturating_mul(reads.saturating_add(2))
+    }
+
+    /// What is printed, and the status, if this call of the shelf fails and each capture takes this many reads.
     fn told(&self, alloc: Global, call: usize, reads: usize) -> Result<(Status, String), NoMemory> {
         let Case {
             before,
             certain,
             ..
         } = self;
-        if call == 1 {
+        let last = self.calls(reads);
+        if call <= self.captures() {
             return Ok((Status::ReadFault, String::from_str(alloc, "read fault\n")?));
         }
-        if call <= reads.saturating_add(1) {
+        if call < last {
             return Ok((
                 Status::ReadFault,
                 format!(in alloc; "{before}read fault\n")?,
             ));
         }
-        if call == reads.saturating_add(2) {
+        if call == last {
             return Ok((
                 Status::ReadFault,
                 format!(in alloc; "{before}{certain}read fault\n")?,
@@ -135,28 +198,23 @@ impl Case {
     }
 }
 
-/// How a run ended, what it printed, and the file that it made.
+/// How a run ended, what it printed, and the file `c.pcap` then.
 #[derive(Drop)]
-struct Outcome {
-    status: Status,
-    text: Vec<u8>,
-    made: Option<Vec<u8>>,
+pub struct Outcome {
+    pub status: Status,
+    pub text: Vec<u8>,
+    pub made: Option<Vec<u8>>,
 }
 
-/// Runs a command over a file. One call of the shelf and one of the sink fail, and each call moves at most a few bytes.
-fn ended<T: Threads + Sync>(
+/// Runs a command over files. One call of the shelf and one of the sink fail, and each call moves at most a few bytes.
+pub fn ended<T: Threads + Sync>(
     rt: &T,
     alloc: Global,
     line: &str,
-    file: (&str, &[u8]),
+    files: Files,
     calls: (usize, usize),
     most: usize,
 ) -> Result<Outcome, NoMemory> {
-    let mut files = Vec::new(alloc);
-    files.push((
-        String::from_str(alloc, file.0)?,
-        Vec::from_slice(alloc, file.1)?,
-    ))?;
     let fails = Vec::from_slice(alloc, &[calls.0 as u64])?;
     let mut shelf = MemoryShelf::over(alloc, files, fails).at_most(most.max(1));
     let fails = Vec::from_slice(alloc, &[calls.1 as u64])?;
@@ -172,41 +230,54 @@ fn ended<T: Threads + Sync>(
     Ok(Outcome { status, text, made })
 }
 
-#[test]
-fn a_failing_read_ends_the_run_after_what_was_certain(rt: HostRuntime) -> Result<(), NoMemory> {
-    let alloc = rt.alloc();
-    for case in [SHOWN, HEARD, CLOCKED, CHECKED, SHOWN_NG, HEARD_NG] {
-        let capture = file_of(alloc, case.capture)?;
-        for most in READS {
-            let reads = capture.len().div_ceil(most.max(1));
-            for call in 1..=reads.saturating_add(3) {
-                let file = ("c.pcap", capture.as_slice());
-                let ran = ended(&rt, alloc, case.line, file, (call, 0), most)?;
-                let (status, text) = case.told(alloc, call, reads)?;
-                let line = case.line;
-                assert_eq!(rt; ran.status, status, "{line}: call {call} of {most} bytes");
-                assert!(rt;
-                    ran.text.as_slice() == text.as_bytes(),
-                    "{line}: call {call} of {most} bytes"
-                );
-            }
+/// The run ends as stated, whichever call of the shelf fails.
+fn ends_where_a_read_fails<T: Threads + Sync + Abort>(
+    rt: &T,
+    alloc: Global,
+    case: &Case,
+) -> Result<(), NoMemory> {
+    let capture = file_of(alloc, case.capture)?;
+    for most in READS {
+        let reads = capture.len().div_ceil(most.max(1));
+        for call in 1..=case.calls(reads).saturating_add(1) {
+            let files = case.files(alloc)?;
+            let ran = ended(rt, alloc, case.line, files, (call, 0), most)?;
+            let (status, text) = case.told(alloc, call, reads)?;
+            let line = case.line;
+            assert_eq!(rt; ran.status, status, "{line}: call {call} of {most} bytes");
+            assert!(rt;
+                ran.text.as_slice() == text.as_bytes(),
+                "{line}: call {call} of {most} bytes"
+            );
         }
     }
     Ok(())
+}
+
+#[test]
+fn a_failing_read_ends_the_run_after_what_was_certain(rt: HostRuntime) -> Result<(), NoMemory> {
+    for case in [SHOWN, HEARD, CLOCKED, CHECKED, SHOWN_NG, HEARD_NG] {
+        ends_where_a_read_fails(&rt, rt.alloc(), &case)?;
+    }
+    Ok(())
+}
+
+#[test]
+fn a_failing_read_of_either_capture_ends_their_comparison(rt: HostRuntime) -> Result<(), NoMemory> {
+    ends_where_a_read_fails(&rt, rt.alloc(), &AGREED)
 }
 
 /// What was written is a prefix of the whole text, and a later failure leaves at least as much.
 #[test]
 fn a_failing_write_leaves_a_prefix_of_the_text(rt: HostRuntime) -> Result<(), NoMemory> {
     let alloc = rt.alloc();
-    for case in [SHOWN, HEARD, CHECKED] {
-        let capture = file_of(alloc, case.capture)?;
+    for case in [SHOWN, HEARD, CHECKED, AGREED] {
         let whole = case.whole(alloc)?;
         for most in WRITES {
             let mut written = 0;
             for call in 1..=whole.len().saturating_add(1) {
-                let file = ("c.pcap", capture.as_slice());
-                let ran = ended(&rt, alloc, case.line, file, (0, call), most)?;
+                let files = case.files(alloc)?;
+                let ran = ended(&rt, alloc, case.line, files, (0, call), most)?;
                 let line = case.line;
                 assert!(rt;
                     whole.as_bytes().starts_with(&ran.text),
@@ -256,11 +327,11 @@ fn made(call: usize, most: usize) -> (Status, Option<usize>) {
 fn a_failing_call_of_talk_leaves_a_prefix_of_the_capture(rt: HostRuntime) -> Result<(), NoMemory> {
     let alloc = rt.alloc();
     let whole = file_of(alloc, "V1")?;
-    let samples = file_of(alloc, "V1/82")?;
     for most in [1, 7, 65_536] {
         for call in 1..=140 {
-            let file = ("a.raw", samples.as_slice());
-            let ran = ended(&rt, alloc, "talk a.raw c.pcap", file, (call, 0), most)?;
+            let mut files = Vec::new(alloc);
+            add_file(alloc, &mut files, "a.raw", "V1/82")?;
+            let ran = ended(&rt, alloc, "talk a.raw c.pcap", files, (call, 0), most)?;
             let (status, size) = made(call, most);
             let text = match status {
                 Status::ReadFault => "read fault\n",

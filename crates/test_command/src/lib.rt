@@ -10,6 +10,8 @@ mod devices;
 #[cfg(test)]
 mod faults;
 #[cfg(test)]
+mod gateway;
+#[cfg(test)]
 mod listen;
 #[cfg(test)]
 mod losses;

@@ -6,10 +6,12 @@ use crate::transcript::{Bench, numbers_in, records_at, records_in};
 use avtp_base::NoMemory;
 use std::alloc::Global;
 use std::thread::Threads;
+use vectors_avtp::Draws;
 
 /// A row has the options of `talk`, over 9,600 bytes of input; the options of `listen`; how many items it looks ahead; the records
 /// that come, in their order; and the end of the text, or the fewest packets that are presented. `mixed` are the records of
 /// `MIXED`. `7/5/3` loses each seventh record, and of the others each fifth comes twice and each third overtakes the one before.
+/// `drawn:9` draws what becomes of each record, from the seed 9.
 ///
 /// AAF restarts after each 12 packets, so 12 to 15 come after a restart and before the next stamp. Its rows lose nothing, some
 /// packets, or stamps; repeat each packet; and let packets overtake a stamp or a restart.
@@ -52,7 +54,10 @@ pub fn places_of(alloc: Global, comes: &str, records: usize) -> Result<Vec<usize
     match comes {
         "mixed" => numbers_in(alloc, MIXED),
         _ if comes.contains('/') => network_places(alloc, comes, records),
-        _ => numbers_in(alloc, comes),
+        _ => match comes.strip_prefix("drawn:") {
+            Some(seed) => drawn_places(alloc, number(seed), records),
+            None => numbers_in(alloc, comes),
+        },
     }
 }
 
@@ -62,19 +67,53 @@ fn network_places(alloc: Global, comes: &str, records: usize) -> Result<Vec<usiz
     let (lost, twice, overtaken) = (number(lost), number(twice), number(overtaken));
     let mut places = Vec::new(alloc);
     for n in 0..records {
-        if is_each(n, lost) {
-            continue;
-        }
-        places.push(n)?;
-        if is_each(n, twice) {
-            places.push(n)?;
-        }
-        let last = places.len().saturating_sub(1);
-        if is_each(n, overtaken) && last > 0 {
-            places.swap(last - 1, last);
-        }
+        let fate = Fate {
+            lost: is_each(n, lost),
+            twice: is_each(n, twice),
+            overtakes: is_each(n, overtaken),
+        };
+        deliver(&mut places, n, fate)?;
     }
     Ok(places)
+}
+
+/// Of eight records, about one is lost, one comes twice, and one overtakes the one before.
+fn drawn_places(alloc: Global, seed: usize, records: usize) -> Result<Vec<usize>, NoMemory> {
+    let mut draws = Draws::seeded(seed as u64);
+    let mut places = Vec::new(alloc);
+    for n in 0..records {
+        let drawn = draws.below(8);
+        let fate = Fate {
+            lost: drawn == 0,
+            twice: drawn == 1,
+            overtakes: drawn == 2,
+        };
+        deliver(&mut places, n, fate)?;
+    }
+    Ok(places)
+}
+
+/// What becomes of a record.
+#[derive(Clone, Copy)]
+struct Fate {
+    lost: bool,
+    twice: bool,
+    overtakes: bool,
+}
+
+fn deliver(places: &mut Vec<usize>, n: usize, fate: Fate) -> Result<(), NoMemory> {
+    if fate.lost {
+        return Ok(());
+    }
+    places.push(n)?;
+    if fate.twice {
+        places.push(n)?;
+    }
+    let last = places.len().saturating_sub(1);
+    if fate.overtakes && last > 0 {
+        places.swap(last - 1, last);
+    }
+    Ok(())
 }
 
 /// Whether `n`, counted from 0, is the last of every `each` numbers; never if `each` is 0.

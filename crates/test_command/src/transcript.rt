@@ -1,7 +1,8 @@
 //! Transcripts: runs of the command over files in memory, with what each prints and how it ends.
 //!
 //! - `< NAME STEPS` puts a file on the shelf, `+ NAME STEPS` adds to it, `@ NAME PLACES` keeps these records of it in this
-//!   order; `? NAME STEPS` asserts what it holds, and `# NAME 24` how many bytes.
+//!   order; `? NAME STEPS` asserts what it holds, `~ NAME OTHER` that it holds the same as another, and `# NAME 24` how many
+//!   bytes.
 //! - `! shelf 3`, `! sink 3` and `! devices 0 3 0` make the third call of the shelf, of the sink, and of the second of the three
 //!   devices fail in the next run.
 //! - `$ WORDS` runs the command, and the lines after it are its text, where `...` is any lines, and `*` at a line's end any
@@ -147,6 +148,7 @@ impl Bench {
                 let stated = bytes_of(self.alloc, steps)?;
                 assert!(rt; self.file(name) == stated.as_slice(), "? {rest}");
             }
+            "~" => assert!(rt; self.file(name) == self.file(steps), "~ {rest}"),
             "#" => assert_eq!(rt; self.file(name).len(), number(steps), "# {rest}"),
             "=" => assert_eq!(rt; self.took, three_numbers(rest), "= {rest}"),
             _ => {}

@@ -72,6 +72,28 @@ agree --lead 1000000000 0200000000010001 a b => agree 0200000000010001 lead 1000
 agree --clock 02aBCdef00010001 0200000000010001 a b => agree 0200000000010001 clock 02abcdef00010001 (a) (b)
 agree --crf-shift -1000000000 0200000000010001 a b => agree 0200000000010001 shift -1000000000 (a) (b)
 agree --crf-shift 5 --lead 7 --clock 0000000000000000 --limit 106 --look 2 --room 3 --buffer 4 0200000000010001 a b => agree 0200000000010001 limit 106 buffer 4 room 3 look 2 lead 7 clock 0000000000000000 shift 5 (a) (b)
+gateway --to am824 0200000000010001 a b => gateway 0200000000010001 to am824 (a) (b)
+gateway --to aaf 0200000000010001 a b => gateway 0200000000010001 to aaf (a) (b)
+gateway --to aaf 02aBCdef00010001 b a => gateway 02abcdef00010001 to aaf (b) (a)
+gateway --to aaf FFFFFFFFFFFFFFFF a A => gateway ffffffffffffffff to aaf (a) (A)
+gateway --to am824 0000000000000000 0000000000000000 gateway => gateway 0000000000000000 to am824 (0000000000000000) (gateway)
+gateway --to am824 0200000000010001 am824 aaf => gateway 0200000000010001 to am824 (am824) (aaf)
+gateway --to aaf 0200000000010001 a- _ => gateway 0200000000010001 to aaf (a-) ( )
+gateway --to aaf 0200000000010001 a ./a => gateway 0200000000010001 to aaf (a) (./a)
+gateway --to aaf --id 02aBCdef00010009 0200000000010001 a b => gateway 0200000000010001 to aaf id 02abcdef00010009 (a) (b)
+gateway --id 0000000000000000 --to am824 ffffffffffffffff a b => gateway ffffffffffffffff to am824 id 0000000000000000 (a) (b)
+gateway --id FFFFFFFFFFFFFFFF --to am824 0000000000000000 a b => gateway 0000000000000000 to am824 id ffffffffffffffff (a) (b)
+gateway --id 0200000000010001 --to am824 0200000000010001 a b => gateway 0200000000010001 to am824 (a) (b)
+gateway --limit 1 --to aaf 0200000000010001 a b => gateway 0200000000010001 limit 1 to aaf (a) (b)
+gateway --limit 1099511627776 --to aaf 0200000000010001 a b => gateway 0200000000010001 to aaf (a) (b)
+gateway --to aaf --buffer 1 --room 1 0200000000010001 a b => gateway 0200000000010001 buffer 1 room 1 to aaf (a) (b)
+gateway --room 1073741824 --to aaf --buffer 65536 0200000000010001 a b => gateway 0200000000010001 buffer 65536 room 1073741824 to aaf (a) (b)
+gateway --to aaf --look 64 0200000000010001 a b => gateway 0200000000010001 look 64 to aaf (a) (b)
+gateway --lead 0 --to aaf 0200000000010001 a b => gateway 0200000000010001 lead 0 to aaf (a) (b)
+gateway --lead 1000000000 --to aaf 0200000000010001 a b => gateway 0200000000010001 lead 1000000000 to aaf (a) (b)
+gateway --clock 02aBCdef00010002 --to aaf 0200000000010001 a b => gateway 0200000000010001 clock 02abcdef00010002 to aaf (a) (b)
+gateway --to aaf --crf-shift -1000000000 0200000000010001 a b => gateway 0200000000010001 shift -1000000000 to aaf (a) (b)
+gateway --crf-shift 5 --id 0200000000010003 --lead 7 --clock 0000000000000000 --to am824 --limit 106 --look 2 --room 3 --buffer 4 0200000000010001 a b => gateway 0200000000010001 limit 106 buffer 4 room 3 look 2 lead 7 clock 0000000000000000 shift 5 to am824 id 0200000000010003 (a) (b)
 talk a b => talk Aaf { format: Int16, sparse: false } (a) (b)
 talk --kind aaf a b => talk Aaf { format: Int16, sparse: false } (a) (b)
 talk --format float32 a b => talk Aaf { format: Float32, sparse: false } (a) (b)
@@ -209,6 +231,34 @@ agree 0200000000010001 a b --look 1 => 5
 agree --look 1 0200000000010001 => 5
 agree --look 1 0200000000010001 a => 6
 agree --look 1 0200000000010001 a b c => 7
+gateway => 2
+gateway a b => 2
+gateway a b 0200000000010001 => 2
+gateway 020000000001000g a b => 2
+gateway --format int24 0200000000010001 a b => 2
+gateway --kind aaf 0200000000010001 a b => 2
+gateway --ring 64 0200000000010001 a b => 2
+gateway --raw x 0200000000010001 a b => 2
+gateway --to=aaf 0200000000010001 a b => 2
+gateway 0200000000010001 => 3
+gateway 0200000000010001 '' b => 3
+gateway 0200000000010001 --to aaf a b => 3
+gateway --to 0200000000010001 a b => 3
+gateway --to h264 0200000000010001 a b => 3
+gateway --id 0200 0200000000010001 a b => 3
+gateway --limit 0 0200000000010001 a a => 3
+gateway 0200000000010001 a => 4
+gateway 0200000000010001 a '' => 4
+gateway 0200000000010001 a -b => 4
+gateway 0200000000010001 a --to aaf => 4
+gateway --to aaf => 4
+gateway --to aaf a b => 4
+gateway --to aaf --to am824 0200000000010001 a b => 4
+gateway 0200000000010001 a b c => 5
+gateway 0200000000010001 a b --to aaf => 5
+gateway --to aaf 0200000000010001 => 5
+gateway --to aaf 0200000000010001 a => 6
+gateway --to aaf 0200000000010001 a a c => 7
 talk => 2
 talk --limit 1 a b => 2
 talk a => 3
@@ -242,6 +292,16 @@ agree --look 1 : 65 01 00 +1 -1 -0 ''
 agree --lead 0 : 1000000001 -1
 agree --clock 02aBCdef00010001 : 0 02aBCdef0001000 02aBCdef000100011 -2aBCdef00010001 ''
 agree --crf-shift -1 : 1000000001 -1000000001 01 -01 +1 -0 - --clock ''
+gateway --limit 1 : 0 1099511627777 01 +1 -1 -0 ''
+gateway --buffer 1 : 0 65537
+gateway --room 1 : 0 1073741825
+gateway --look 1 : 65 01 00 +1 -1 -0 ''
+gateway --lead 0 : 1000000001 -1
+gateway --clock 02aBCdef00010001 : 0 02aBCdef0001000 02aBCdef000100011 -2aBCdef00010001 ''
+gateway --crf-shift -1 : 1000000001 -1000000001 01 -01 +1 -0 - --clock ''
+gateway --to am824 : AM824 am82 am8240 Aaf aa zero h264 int24 0 '' --id
+gateway --to aaf : aaf_ _aaf
+gateway --id 02aBCdef00010001 : 0 02aBCdef0001000 02aBCdef000100011 -2aBCdef00010001 '' --to
 talk --kind aaf : AM824 h265
 talk --format int16 : int8 ''
 talk --rate 1 : 0 192001
@@ -272,6 +332,14 @@ listen --raw x --annexb x 0200000000010001 c.pcap
 listen --annexb x --raw x 0200000000010001 c.pcap
 listen --raw x --annexb a 0200000000010001 a
 listen --raw 0200000000010001 0200000000010001 a 0200000000010001
+gateway 0200000000010001 a b
+gateway --id 0200000000010009 0200000000010001 a b
+gateway --limit 1 --buffer 1 --look 1 0200000000010001 a b
+gateway 0200000000010001 am824 aaf
+gateway 0200000000010001 a a
+gateway --to am824 0200000000010001 a a
+gateway --to aaf --id 0200000000010009 0200000000010001 a a
+gateway --to aaf 0200000000010001 0200000000010001 0200000000010001
 talk --jump 1000000 a b
 talk --jump 4 --sparse a b
 talk a a

@@ -1,6 +1,9 @@
 //! A command as a line of text.
 
-use avtp_words::{Agree, Command, Crf, Listen, ListenerOptions, Offence, Silence, Talk, parse};
+use avtp_words::{
+    Agree, Command, Crf, Gateway, GatewayFormat, Listen, ListenerOptions, Offence, Silence, Talk,
+    parse,
+};
 use std::alloc::{AllocError, Global};
 use std::fmt::Display;
 
@@ -47,6 +50,7 @@ fn told(alloc: Global, command: Command<'_>) -> Result<String, AllocError> {
         Command::Talk(asked) => add_talk(&mut text, &asked)?,
         Command::Soak { packets } => write!(text, "soak {packets}")?,
         Command::Agree(asked) => add_agree(&mut text, &asked)?,
+        Command::Gateway(asked) => add_gateway(&mut text, &asked)?,
     }
     Ok(text)
 }
@@ -98,6 +102,21 @@ fn add_agree(text: &mut String, asked: &Agree<'_>) -> Result<(), AllocError> {
     add_listener(text, "agree", &asked.listener)?;
     add_name(text, asked.a)?;
     add_name(text, asked.b)
+}
+
+/// The format and the stream ID of what is written come after the listener to what is read.
+fn add_gateway(text: &mut String, asked: &Gateway<'_>) -> Result<(), AllocError> {
+    let to = match asked.to {
+        GatewayFormat::Am824 => "am824",
+        GatewayFormat::Aaf => "aaf",
+    };
+    add_listener(text, "gateway", &asked.listener)?;
+    write!(text, " to {to}")?;
+    if asked.id != asked.listener.stream {
+        write!(text, " id {:016x}", asked.id)?;
+    }
+    add_name(text, asked.input)?;
+    add_name(text, asked.output)
 }
 
 fn add_listen(text: &mut String, asked: &Listen<'_>) -> Result<(), AllocError> {

@@ -37,7 +37,7 @@ fn names_of(command: &str) -> &'static str {
     match command {
         "listen" => "0200000000010001 c.pcap",
         "talk" => "a b",
-        "agree" => "0200000000010001 a b",
+        "agree" | "gateway" => "0200000000010001 a b",
         _ => "c.pcap",
     }
 }
@@ -73,7 +73,7 @@ fn assert_option(
     let late = format!(in alloc; "{command} {names} {option}")?;
     let place = match command {
         "show" | "check" => "3",
-        "agree" => "5",
+        "agree" | "gateway" => "5",
         _ => "4",
     };
     assert_offence(rt, alloc, &late, place)

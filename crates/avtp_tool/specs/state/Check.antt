@@ -1,6 +1,6 @@
 -- Kept for proofs: what the code's own parts hold and do. No clause of a public call rests on it.
 -- What `check` prints and how it ends. Its rules are this project's own.
-use Rattle.std.specs.Prelude.{◌≡◌, ◌≤◌, ℕ, ◌+◌, List, ◌++◌, length, take, Option, MatchResult, IfOk, Result, Ok, Err}
+use Rattle.std.specs.Prelude.{◌≡◌, ◌≤◌, ℕ, List, ◌++◌, length, take, Option, MatchResult, IfOk, Result, Ok, Err}
 use Rattle.avtp_base.specs.declared.failed.Failed.{Failed}
 use Rattle.avtp_base.specs.Told.{Appends, Keeps}
 use Rattle.pcap_frames.specs.Capture.{Record}

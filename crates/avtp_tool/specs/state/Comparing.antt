@@ -1,6 +1,6 @@
 -- Kept for proofs: what the code's own parts hold and do. No clause of a public call rests on it.
 -- Two captures that are read side by side and compared.
-use Rattle.std.specs.Prelude.{◌≡◌, ◌≢◌, ◌⊎◌, ℕ, ◌+◌, ◌^◌, ◌≤◌, ◌<◌, Bool, true, false, List, [], ◌∷◌, ◌++◌, length, take, Option, Some, None, IfErr, IfOk, IsErrOf, IsSome, is_some, OnErr, OnOk, Result, Ok, Err}
+use Rattle.std.specs.Prelude.{◌≡◌, ◌≢◌, ℕ, ◌+◌, ◌^◌, ◌≤◌, Bool, true, false, List, [], ◌∷◌, ◌++◌, take, Option, Some, None, IfErr, IfOk, IsErrOf, IsSome, is_some, OnErr, OnOk, Result, Ok, Err}
 use Rattle.avtp_base.specs.declared.failed.Failed.{Failed}
 use Rattle.avtp_base.specs.declared.failed.OpenFault.{OpenFault}
 use Rattle.avtp_base.specs.declared.failed.OpenFault.TheVariants as open_fault
@@ -23,7 +23,7 @@ use Rattle.listener_pair.specs.declared.difference.PairCounts.{PairCounts}
 use Rattle.listener_pair.specs.declared.difference.Which.{Which}
 use Rattle.listener_pair.specs.declared.difference.Which.TheVariants.{A, B}
 use Rattle.listener_pair.specs.Differences.{counts_of, differences}
-use Rattle.capture_pair.specs.Pairing.{Changes, EndsAreClosed, HavePlan, IsThrough, Keeps as KeepsPair, PairState, StandsFor, known_by, listener_of}
+use Rattle.capture_pair.specs.Pairing.{Changes, EndsAreClosed, HavePlan, IsThrough, Keeps as KeepsPair, PairState, StandsFor, known_by}
 use Rattle.avtp_words.specs.Grammar.{Agreeing}
 use Rattle.avtp_tool.specs.declared.comparing.Compared.{Compared}
 use Rattle.avtp_tool.specs.declared.comparing.Compared.TheVariants as compared

@@ -8,7 +8,9 @@ use Rattle.avtp_base.specs.Faults.{IsOpenCounted, Rose}
 use Rattle.avtp_base.specs.Files.{Files, KeepsFiles, PutsFile}
 use Rattle.avtp_base.specs.States.{ShelfState}
 use Rattle.capture_io.specs.Writing.{IsWriting, KeepsSlotsBut, MakesPrefix, WritesSlot, Writing}
+use Rattle.avtp_tool.specs.Made.{MakesOutput, MakesPart}
 use Rattle.avtp_tool.specs.Outcome.{AsksFor}
+use Rattle.avtp_tool.specs.state.Outcome.{TellsText}
 use Rattle.avtp_tool.specs.declared.status.Status.{Status}
 use Rattle.avtp_tool.specs.declared.status.Status.TheVariants as status
 
@@ -57,3 +59,12 @@ pub record WritesPart (before after : ShelfState) (old new : Writing) (bytes : L
 abbrev pub unmade_as : OpenFault → Status
 unmade_as open_fault.Memory = status.Memory
 unmade_as fault = status.WriteFault
+
+-- ---- a run that makes a file
+
+-- A run told one of the possible outcomes, and its output is what this outcome makes.
+pub record Produces (Outcome : Status → List ℕ → Option (List ℕ) → Type 0) (name : Option (List ℕ)) (before now : Option (List ℕ)) (files files' : Option Files) (result : Result Status Failed) : Type 0 where
+  pub made : Option (List ℕ)
+  pub tells : TellsText (λ ended text. Outcome ended text made) before now result
+  pub whole : IfOk result (λ s. s ≢ status.Memory → s ≢ status.WriteFault → MakesOutput name made files files')
+  pub begun : MakesPart name made files files'

@@ -1,6 +1,6 @@
 -- Kept for proofs: what the code's own parts hold and do. No clause of a public call rests on it. What the two sides of a ring
 -- did until everything was presented, or the presenter failed.
-use Rattle.std.specs.Prelude.{◌≡◌, ℕ, ◌+◌, ◌^◌, ◌≤◌, ◌<◌, ◌++◌, length, List, [], Option, None, IsSome, Result, Ok, Err, OnOk, OnErr}
+use Rattle.std.specs.Prelude.{◌≡◌, ℕ, ◌+◌, ◌^◌, ◌≤◌, ◌++◌, List, [], Option, None, IsSome, Result, Ok, Err, OnOk, OnErr}
 use mathlib.Core.List.{IsPrefix}
 use Rattle.avtp_base.specs.declared.failed.Failed.{Failed}
 use Rattle.avtp_base.specs.Faults.{Rose}

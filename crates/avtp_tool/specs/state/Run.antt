@@ -1,40 +1,34 @@
 -- Kept for proofs: what the code's own parts hold and do. No clause of a public call rests on it.
 -- What a run comes to, whichever command the words ask for.
-use Rattle.std.specs.Prelude.{◌≡◌, ◌≢◌, ◌⊎◌, ℕ, ◌^◌, ◌≤◌, List, Option, Some, None, IsSome, Result, Ok, Err, Bool, true, false}
+use Rattle.std.specs.Prelude.{◌≡◌, ◌≢◌, ◌⊎◌, ℕ, ◌^◌, ◌≤◌, List, Option, Some, IfOk, IsSome, Result, Ok, Err, Bool, true, false}
 use Rattle.avtp_base.specs.declared.failed.Failed.{Failed}
 use Rattle.avtp_base.specs.Faults.{Rose}
-use Rattle.avtp_base.specs.Files.{Files, KeepsFiles}
+use Rattle.avtp_base.specs.Files.{Files}
 use Rattle.avtp_base.specs.States.{ShelfState, SinkState}
-use Rattle.talker.specs.Frames.{capture}
 use Rattle.talk_plan.specs.Plan.{IsPlan}
 use Rattle.sample_schedule.specs.Limits.{IsPlan as IsSchedulePlan}
 use Rattle.listener.specs.Heard.{schedule_plan}
 use Rattle.avtp_text.specs.Written.{written}
 use Rattle.sample_schedule.specs.declared.shown.Shown.{Shown}
-use Rattle.avtp_words.specs.Grammar.{files_of, IsCommandLine, IsOffence, output_of, Request, show, check, listen, talk, soak, agree, Listening, Talking}
+use Rattle.avtp_words.specs.Grammar.{files_of, IsCommandLine, IsOffence, output_of, Request, show, check, listen, talk, soak, agree, gateway, Listening}
 use Rattle.avtp_tool.specs.declared.status.Status.{Status}
 use Rattle.avtp_tool.specs.declared.status.Status.TheVariants as status
 use Rattle.avtp_tool.specs.Listen.{plan_of}
 use Rattle.avtp_tool.specs.state.Agree.{IsAgreeing}
-use Rattle.avtp_tool.specs.Made.{KeepsFilesBut, KeepsSlotsFor}
-use Rattle.avtp_tool.specs.state.Made.{CountsWriting, Makes}
+use Rattle.avtp_tool.specs.Made.{KeepsFilesBut, KeepsSlotsFor, MakesOutput, MakesPart}
+use Rattle.avtp_tool.specs.state.Gateway.{IsTurning}
+use Rattle.avtp_tool.specs.state.Made.{CountsWriting}
 use Rattle.avtp_tool.specs.Outcome.{AsksFor}
 use Rattle.avtp_tool.specs.state.Outcome.{CountsReading, KeepsSink, TellsRun}
 use Rattle.avtp_tool.specs.Talk.{talk_plan}
 use Rattle.avtp_tool.specs.Run.{Outcome, names_of, is_listening, is_through}
 
-abbrev pub MakesFrom : Talking → Option (List ℕ) → Option Files → Option Files → Result Status Failed → Type 0
-MakesFrom asked None files files' result = KeepsFiles files files'
-MakesFrom asked (Some input) files files' result = Makes asked.output (capture (talk_plan asked) input) files files' result
-
--- What a run makes of the files: `talk` makes the capture of its input, if it has one.
-abbrev pub MakesOf : Request → Files → Option Files → Option Files → Result Status Failed → Type 0
-MakesOf (show limit file) all files files' result = KeepsFiles files files'
-MakesOf (check limit names) all files files' result = KeepsFiles files files'
-MakesOf (listen asked) all files files' result = KeepsFiles files files'
-MakesOf (talk asked) all files files' result = MakesFrom asked (all asked.input) files files' result
-MakesOf (soak packets) all files files' result = KeepsFiles files files'
-MakesOf (agree asked) all files files' result = KeepsFiles files files'
+-- What a run told, gave to devices and made, over the files that a shelf told before and after.
+pub record TellsAll (request : Request) (all : Files) (fault : Type 0) (failed : Bool) (handed : List Shown → Type 0) (shelf shelf' : ShelfState) (before now : Option (List ℕ)) (result : Result Status Failed) : Type 0 where
+  pub made : Option (List ℕ)
+  pub tells : TellsRun (λ came ended yields. Outcome request all fault failed came ended yields made) handed shelf shelf' before now result
+  pub whole : IfOk result (λ s. s ≢ status.Memory → s ≢ status.WriteFault → MakesOutput (output_of request) made shelf.files shelf'.files)
+  pub begun : MakesPart (output_of request) made shelf.files shelf'.files
 
 abbrev pub IsThrough : Result Status Failed → Type 0
 IsThrough (Ok ended) = is_through ended ≡ true
@@ -49,8 +43,7 @@ pub record TellsDevices (request : Request) (failed : Bool) (result : Result Sta
 -- names that were asked for. `failed` says whether a device failed.
 pub record Runs (request : Request) (handed : List Shown → Type 0) (failed : Bool) (shelf shelf' : ShelfState)
     (out out' : SinkState) (waits waits' : List ℕ) (result : Result Status Failed) : Type 0 where
-  pub tells : (all : Files) → shelf.files ≡ Some all → IsSome shelf'.files → TellsRun (Outcome request all (Rose shelf.reading_faults shelf'.reading_faults) failed) handed shelf shelf' (written out.held waits) (written out'.held waits') result
-  pub makes : (all : Files) → shelf.files ≡ Some all → MakesOf request all shelf.files shelf'.files result
+  pub tells : (all : Files) → shelf.files ≡ Some all → IsSome shelf'.files → TellsAll request all (Rose shelf.reading_faults shelf'.reading_faults) failed handed shelf shelf' (written out.held waits) (written out'.held waits') result
   pub files : KeepsFilesBut (output_of request) shelf.files shelf'.files
   pub slots : KeepsSlotsFor (output_of request) shelf'.files shelf.slots shelf'.slots
   pub counts : CountsReading (files_of request) shelf.files shelf.reading_faults shelf'.reading_faults result
@@ -78,3 +71,4 @@ IsRequest (listen asked) = IsListening asked
 IsRequest (talk asked) = IsPlan (talk_plan asked)
 IsRequest (soak packets) = packets ≤ 1000000
 IsRequest (agree asked) = IsAgreeing asked
+IsRequest (gateway asked) = IsTurning asked

@@ -2,6 +2,7 @@
 -- What `talk` prints and how it ends.
 use Rattle.std.specs.Prelude.{◌≡◌, ◌≢◌, ℕ, List, [], ◌∷◌, Option, Some, None, Result, Ok, IfOk, if◌then◌else◌, slice_get}
 use Rattle.avtp_base.specs.declared.failed.Failed.{Failed}
+use Rattle.avtp_base.specs.Files.{Files, KeepsFiles}
 use Rattle.avtp_base.specs.States.{Asks, ShelfState, SinkState}
 use Rattle.capture_io.specs.declared.contents.Contents.{Contents}
 use Rattle.capture_io.specs.Contents.{IsContents}
@@ -57,11 +58,15 @@ pub record WritesOnly (shelf shelf' : ShelfState) (name : List ℕ) (result : Re
   pub asked : AsksFor (name ∷ []) shelf shelf' (IsDone result)
   pub came : IfOk result (λ s. s ≢ status.Memory → s ≢ status.WriteFault → Asks (if is_done s then name ∷ [] else []) shelf shelf')
 
+-- a possible outcome, and the files are unchanged unless everything was done
+abbrev pub OutcomeWith : (Status → List ℕ → Type 0) → Option Files → Option Files → Status → List ℕ → Type 0
+OutcomeWith Outcome files files' ended text = Outcome ended text × (ended ≢ status.Done → KeepsFiles files files')
+
 -- A call that makes the file with this name of these bytes reported one of the possible outcomes; it wrote the file, and left
 -- all else unchanged.
 pub record Talks (Outcome : Status → List ℕ → Type 0) (name bytes : List ℕ) (shelf shelf' : ShelfState)
     (out out' : SinkState) (waits waits' : List ℕ) (result : Result Status Failed) : Type 0 where
-  pub tells : TellsText Outcome (written out.held waits) (written out'.held waits') result
+  pub tells : TellsText (OutcomeWith Outcome shelf.files shelf'.files) (written out.held waits) (written out'.held waits') result
   pub makes : Makes name bytes shelf.files shelf'.files result
   pub writes : WritesOnly shelf shelf' name result
   pub sink : KeepsSink out out' result
@@ -69,7 +74,7 @@ pub record Talks (Outcome : Status → List ℕ → Type 0) (name bytes : List �
 -- A call that makes the capture of an input reported one of the possible outcomes, by what was read of the input.
 pub record TalksContents (plan : TalkPlan) (contents : Contents) (name : List ℕ) (shelf shelf' : ShelfState)
     (out out' : SinkState) (waits waits' : List ℕ) (result : Result Status Failed) : Type 0 where
-  pub tells : (bytes : List ℕ) → IsContents most_input bytes contents.stop contents.bytes.items → TellsText (TalkedOutcome plan bytes (contents.stop ≡ stop.Fault)) (written out.held waits) (written out'.held waits') result
+  pub tells : (bytes : List ℕ) → IsContents most_input bytes contents.stop contents.bytes.items → TellsText (OutcomeWith (TalkedOutcome plan bytes (contents.stop ≡ stop.Fault)) shelf.files shelf'.files) (written out.held waits) (written out'.held waits') result
   pub makes : (bytes : List ℕ) → IsContents most_input bytes contents.stop contents.bytes.items → Makes name (capture plan bytes) shelf.files shelf'.files result
   pub writes : WritesOnly shelf shelf' name result
   pub counts : FaultStops contents.stop result

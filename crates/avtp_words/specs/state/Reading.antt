@@ -7,7 +7,7 @@ use Rattle.std.specs.Str.{bytes_eq}
 use Rattle.aaf_format.specs.declared.aaf.AafFormat.{AafFormat}
 use Rattle.avtp_words.specs.declared.listener.ListenerOptions.{ListenerOptions}
 use Rattle.avtp_words.specs.declared.option.Takes.{Takes}
-use Rattle.avtp_words.specs.declared.option.Takes.TheVariants.{Number, Signed, Id, Kind, Format, Name, Silence, Nothing}
+use Rattle.avtp_words.specs.declared.option.Takes.TheVariants.{Number, Signed, Id, Kind, Format, Name, Silence, OutFormat, Nothing}
 use Rattle.avtp_words.specs.declared.crf.Crf.{Crf}
 use Rattle.avtp_words.specs.declared.device.Silence.{Silence as RawSilence}
 use Rattle.avtp_words.specs.declared.device.Silence.TheVariants as silence
@@ -44,6 +44,7 @@ is_sound Kind = true
 is_sound Format = true
 is_sound Name = true
 is_sound Silence = true
+is_sound OutFormat = true
 is_sound Nothing = true
 
 -- the word begins with "--", as the name of each option does, and no value does

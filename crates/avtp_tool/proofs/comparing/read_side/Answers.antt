@@ -1,6 +1,6 @@
-use Rattle.std.proofs.Common.{sym, ap, ◌∙◌, Some}
+use Rattle.std.proofs.Common.{sym, ◌∙◌}
 use Rattle.avtp_tool.proofs.Outcomes.{sink_ok}
-use Rattle.avtp_tool.proofs.SideBySide.{no_fault, shuts_by, that_fault}
+use Rattle.avtp_tool.proofs.SideBySide.{no_fault, shuts_by}
 use Rattle.avtp_tool.proofs.comparing.read_side.Goals as goal
 
 pub returns : goal.returns

@@ -8,12 +8,12 @@ use Rattle.avtp_tool.specs.state.Made.{Makes}
 use Rattle.avtp_tool.specs.Talk.{sent_line}
 use Rattle.avtp_tool.proofs.Making.{makes_part, makes_whole, writes_made}
 use Rattle.avtp_tool.proofs.Outcomes.{IsCut, tells_cut, tells_line}
-use Rattle.avtp_tool.proofs.Talked.{cut_by, cut_undone, sent_done, unmade_cut}
+use Rattle.avtp_tool.proofs.Talked.{cut_by, cut_undone, sent_done, tells_made, unmade_cut}
 use Rattle.avtp_tool.proofs.talk.send.Goals as goal
 
 pub returns-in-Ok : goal.returns-in-Ok
 returns-in-Ok g c = record {
-  tells = tells_line (refl, rw (c.packets-packets.ensures, c.clocks-clocks.ensures) refl) c.print_sent.ensures;
+  tells = tells_made _ _ (λ ended text o. o.0) (tells_line (refl, rw (c.packets-packets.ensures, c.clocks-clocks.ensures) refl) c.print_sent.ensures);
   makes = makes_whole c.print_sent.result c.in-Ok.ensures.made c.print_sent.ensures.status;
   writes = writes_made c.args.output.now (Ok tt) c.print_sent.result c.in-Ok.ensures (search rules) (search rules) (λ done. refl) (sent_done c.print_sent.result c.print_sent.ensures.status);
   sink = (search rules);
@@ -22,7 +22,7 @@ returns-in-Ok g c = record {
 pub returns-in-Err : goal.returns-in-Err
 returns-in-Err g c = record {
   tells = (let cut = subst (λ (s : Status). IsCut (Ok s)) (sym c.unmade.ensures) (unmade_cut c.in-Err.fault) in
-      tells_cut status.Done (sent_line c.args.talker.now.plan c.args.talker.now.input) (refl, refl) cut (prefix_none _ _ _ (Keeps-refl _)));
+      tells_made _ _ (λ ended text o. o.0) (tells_cut status.Done (sent_line c.args.talker.now.plan c.args.talker.now.input) (refl, refl) cut (prefix_none _ _ _ (Keeps-refl _))));
   makes = subst (λ (s : Status). Makes c.args.output.now (capture c.args.talker.now.plan c.args.talker.now.input) (g.F.Shelf.state c.args.shelf.now).files (g.F.Shelf.state c.make_capture.new.shelf).files (Ok s)) (sym c.unmade.ensures) (makes_part c.in-Err.fault c.in-Err.ensures.part);
   writes = writes_made c.args.output.now (Err c.in-Err.fault) (Ok c.unmade.result) c.in-Err.ensures (search rules) (search rules) (λ done. absurd (cut_undone c.in-Err.fault _ c.unmade.ensures done)) (cut_by c.in-Err.fault _ c.unmade.ensures);
   sink = (search rules);

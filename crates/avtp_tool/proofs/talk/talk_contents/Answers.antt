@@ -3,7 +3,7 @@ use Rattle.talk_plan.specs.Plan.{most_input}
 use Rattle.avtp_tool.specs.declared.status.Status.TheVariants as status
 use Rattle.avtp_tool.proofs.Making.{makes_none, writes_none}
 use Rattle.avtp_tool.proofs.Outcomes.{ends_not, tells_line, undone_by}
-use Rattle.avtp_tool.proofs.Talked.{refused_not, refused_undone, stops_end, stops_fault, stops_limit, tells_read, tells_refused, too_long}
+use Rattle.avtp_tool.proofs.Talked.{refused_not, refused_undone, stops_end, stops_fault, stops_limit, tells_read, tells_refused, tells_unwritten, too_long}
 use Rattle.avtp_tool.proofs.talk.talk_contents.Goals as goal
 
 pub returns-in-Err : goal.returns-in-Err
@@ -17,7 +17,7 @@ returns-in-Err g c =
     let ended = c.print_talk_fault.ensures in
     let refused = tells_refused plan input ⊥ why fits c.in-Err.ensures.only ended in
     record {
-      tells = λ bytes has. tells_read plan bytes input contents.stop c.in-End.is same has refused;
+      tells = λ bytes has. tells_read _ _ plan bytes input contents.stop c.in-End.is same has (tells_unwritten _ refused);
       makes = λ bytes has. makes_none _ c.print_talk_fault.result (refused_not why status.Done (λ e. cc) (λ e. cc) ended);
       writes = writes_none c.args.output.now c.print_talk_fault.result (refused_undone _ why ended) (refused_not why status.WriteFault (λ e. cc) (λ e. cc) ended);
       counts = stops_end plan input contents.stop c.print_talk_fault.result c.in-End.is refused;
@@ -26,7 +26,7 @@ returns-in-Err g c =
 
 pub returns-in-Fault : goal.returns-in-Fault
 returns-in-Fault g c = record {
-  tells = λ bytes has. tells_line (c.in-Fault.is, refl) c.print_fault.ensures;
+  tells = λ bytes has. tells_unwritten _ (tells_line (c.in-Fault.is, refl) c.print_fault.ensures);
   makes = λ bytes has. makes_none _ c.print_fault.result (ends_not status.Done (λ e. cc) c.print_fault.ensures);
   writes = writes_none c.args.output.now c.print_fault.result (undone_by _ status.ReadFault refl c.print_fault.ensures.status) (ends_not status.WriteFault (λ e. cc) c.print_fault.ensures);
   counts = stops_fault c.args.contents.now.stop c.print_fault.result c.in-Fault.is c.print_fault.ensures;
@@ -35,7 +35,7 @@ returns-in-Fault g c = record {
 
 pub returns-in-Limit : goal.returns-in-Limit
 returns-in-Limit g c = record {
-  tells = λ bytes has. tells_line (too_long most_input bytes _ _ c.in-Limit.is has, refl) c.print_limit.ensures;
+  tells = λ bytes has. tells_unwritten _ (tells_line (too_long most_input bytes _ _ c.in-Limit.is has, refl) c.print_limit.ensures);
   makes = λ bytes has. makes_none _ c.print_limit.result (ends_not status.Done (λ e. cc) c.print_limit.ensures);
   writes = writes_none c.args.output.now c.print_limit.result (undone_by _ status.Limit refl c.print_limit.ensures.status) (ends_not status.WriteFault (λ e. cc) c.print_limit.ensures);
   counts = stops_limit c.args.contents.now.stop c.print_limit.result c.in-Limit.is c.print_limit.ensures;

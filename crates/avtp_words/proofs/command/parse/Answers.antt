@@ -63,6 +63,16 @@ returns-in-agree-clause-only_offence c =
     let all = words_are c.args.words.now c.in-Some.rest.now c.in-Some.command.now (codes "agree") c.in-Some.ensures.cases.0 (sym c.as_str.ensures.value ∙ c.in-agree.is) in
     rw all (answered_offence (codes "agree" ∷ texts c.in-Some.rest.now) c.read_agree.result c.read_agree.ensures.ok c.read_agree.ensures.err)
 
+pub returns-in-gateway-clause-only : goal.returns-in-gateway-clause-only
+returns-in-gateway-clause-only c =
+    let all = words_are c.args.words.now c.in-Some.rest.now c.in-Some.command.now (codes "gateway") c.in-Some.ensures.cases.0 (sym c.as_str.ensures.value ∙ c.in-gateway.is) in
+    rw all (answered_only (codes "gateway" ∷ texts c.in-Some.rest.now) c.read_gateway.result c.read_gateway.ensures.ok c.read_gateway.ensures.err)
+
+pub returns-in-gateway-clause-only_offence : goal.returns-in-gateway-clause-only_offence
+returns-in-gateway-clause-only_offence c =
+    let all = words_are c.args.words.now c.in-Some.rest.now c.in-Some.command.now (codes "gateway") c.in-Some.ensures.cases.0 (sym c.as_str.ensures.value ∙ c.in-gateway.is) in
+    rw all (answered_offence (codes "gateway" ∷ texts c.in-Some.rest.now) c.read_gateway.result c.read_gateway.ensures.ok c.read_gateway.ensures.err)
+
 pub returns-in_default-clause-offence : goal.returns-in_default-clause-offence
 returns-in_default-clause-offence c = offence_of_command (texts c.args.words.now) (none_first c.args.words.now c.in_default.ensures.cases)
 
@@ -72,7 +82,7 @@ returns-in_default-clause-only_offence c position offence = same_offence (texts 
 pub returns-in_default-as_str-clause-offence : goal.returns-in_default-as_str-clause-offence
 returns-in_default-as_str-clause-offence c =
     offence_of_command (texts c.args.words.now) (other_first c.args.words.now c.in-Some.rest.now c.in-Some.command.now c.in-Some.ensures.cases.0
-    (λ e. c.in_default-as_str.not-show (c.as_str.ensures.value ∙ e)) (λ e. c.in_default-as_str.not-check (c.as_str.ensures.value ∙ e)) (λ e. c.in_default-as_str.not-listen (c.as_str.ensures.value ∙ e)) (λ e. c.in_default-as_str.not-talk (c.as_str.ensures.value ∙ e)) (λ e. c.in_default-as_str.not-soak (c.as_str.ensures.value ∙ e)) (λ e. c.in_default-as_str.not-agree (c.as_str.ensures.value ∙ e)))
+    (λ e. c.in_default-as_str.not-show (c.as_str.ensures.value ∙ e)) (λ e. c.in_default-as_str.not-check (c.as_str.ensures.value ∙ e)) (λ e. c.in_default-as_str.not-listen (c.as_str.ensures.value ∙ e)) (λ e. c.in_default-as_str.not-talk (c.as_str.ensures.value ∙ e)) (λ e. c.in_default-as_str.not-soak (c.as_str.ensures.value ∙ e)) (λ e. c.in_default-as_str.not-agree (c.as_str.ensures.value ∙ e)) (λ e. c.in_default-as_str.not-gateway (c.as_str.ensures.value ∙ e)))
 
 pub returns-in_default-as_str-clause-only_offence : goal.returns-in_default-as_str-clause-only_offence
 returns-in_default-as_str-clause-only_offence c position offence = same_offence (texts c.args.words.now) 1 position (returns-in_default-as_str-clause-offence c) offence

@@ -1,6 +1,6 @@
-use Rattle.std.proofs.Common.{refl, sym, ap, subst, ◌∙◌, arith}
+use Rattle.std.proofs.Common.{refl, sym, subst, ◌∙◌, arith}
 use Rattle.std.specs.Prelude.{IsSome}
-use Rattle.avtp_tool.specs.state.Comparing.RefusesTwo.{first, second}
+use Rattle.avtp_tool.specs.state.Comparing.RefusesTwo.{second}
 use Rattle.avtp_tool.proofs.TwoFiles.{both_closed, closes_both, given_kept, opens_both, refused_around, refused_memory, second_refused, shown_before, shown_still, two_begun}
 use Rattle.avtp_tool.proofs.comparing.Comparing.open.Goals as goal
 

@@ -1,5 +1,5 @@
 use Rattle.std.proofs.Common.{refl}
-use Rattle.capture_io.proofs.Taking.{begins, opened_live}
+use Rattle.capture_io.proofs.Taking.{begins, opened_live, opened_named}
 use Rattle.capture_io.proofs.pieces.Pieces.open.Goals as goal
 
 pub returns : goal.returns
@@ -14,6 +14,7 @@ returns g c =
           free = did.fresh;
           files = did.files;
           live = opened_live _ _ _ did.opened;
+          named = λ told. opened_named _ _ _ did.opened told;
           others = did.others;
           reading = count.never_falls;
           writing = did.writing;

@@ -1,0 +1,202 @@
+-- What `gateway` prints, how it ends, and what it makes.
+use Rattle.std.specs.Prelude.{◌≡◌, ◌≢◌, ℕ, ◌==◌, if◌then◌else◌, codes, List, [], ◌∷◌, ◌++◌, flat_map, length, take, Option, Some, None}
+use Rattle.avtp_base.specs.Files.{Files}
+use Rattle.pcap_frames.specs.Capture.{Record}
+use Rattle.capture_io.specs.declared.end.End.{End}
+use Rattle.capture_io.specs.declared.end.End.TheVariants as end
+use Rattle.capture_io.specs.Ends.{EndsAt, end_of}
+use Rattle.capture_io.specs.Formats.{records_in}
+use Rattle.sample_schedule.specs.Batches.{Presented}
+use Rattle.listener.specs.Laws.{presented_of}
+use Rattle.talker.specs.Frames.{SentFrame, capture_of}
+use Rattle.am824_gateway.specs.declared.scan.ScanFault.{ScanFault}
+use Rattle.am824_gateway.specs.declared.scan.ScanFault.TheVariants as fault
+use Rattle.am824_gateway.specs.declared.scan.Shape.{Shape}
+use Rattle.am824_gateway.specs.declared.scan.To.{To}
+use Rattle.am824_gateway.specs.declared.scan.To.TheVariants as to
+use Rattle.am824_gateway.specs.declared.skip.Skip.{Skip}
+use Rattle.am824_gateway.specs.declared.skip.Skip.TheVariants as skip
+use Rattle.am824_gateway.specs.Packets.{gateway_frames}
+use Rattle.am824_gateway.specs.Pieces.{Given, given_with, nothing_given, skip_by, skip_of, unless}
+use Rattle.am824_gateway.specs.Scan.{FaultAt, first_fault, shape_in}
+use Rattle.avtp_words.specs.declared.gateway.GatewayFormat.{GatewayFormat}
+use Rattle.avtp_words.specs.declared.gateway.GatewayFormat.TheVariants as words
+use Rattle.avtp_words.specs.Grammar.{Turning}
+use Rattle.avtp_text.specs.Gateway.{gateway_input_line, gateway_line, skip_line}
+use Rattle.avtp_text.specs.Notices.{read_fault_line}
+use Rattle.avtp_tool.specs.declared.status.Status.{Status}
+use Rattle.avtp_tool.specs.declared.status.Status.TheVariants as status
+use Rattle.avtp_tool.specs.Agree.{IsUnopened, side_line}
+use Rattle.avtp_tool.specs.Listen.{plan_of, shown_by}
+use Rattle.avtp_tool.specs.Status.{status_of}
+
+-- the format that the words ask for
+abbrev pub format_of : GatewayFormat → To
+format_of words.Am824 = to.Am824
+format_of words.Aaf = to.Aaf
+
+-- ---- names and lines
+
+-- the name of what keeps a stream from being turned
+abbrev pub fault_name : ScanFault → List ℕ
+fault_name fault.Kind = codes "kind"
+fault_name fault.Format = codes "format"
+fault_name fault.Rate = codes "rate"
+fault_name fault.Channels = codes "channels"
+fault_name fault.Label = codes "label"
+
+-- the line of a record that cannot be turned
+abbrev pub fault_line : FaultAt → List ℕ
+fault_line at = gateway_input_line (fault_name at.fault) at.frame
+
+-- the name of a reason to skip a batch
+abbrev pub skip_name : Skip → List ℕ
+skip_name skip.ShapeOff = codes "shape"
+skip_name skip.Overlap = codes "overlap"
+skip_name skip.Range = codes "range"
+
+-- A batch that is skipped: the frame of its packet, and why.
+pub record Skipped : Type 0 where
+  pub frame : ℕ
+  pub why : Skip
+
+-- the line of a batch that is skipped
+abbrev pub skipped_line : Skipped → List ℕ
+skipped_line s = skip_line s.frame (skip_name s.why)
+
+-- ---- batches that are skipped
+
+-- a batch of this frame that is skipped for this reason, if there is one
+abbrev pub skipped_at : ℕ → Option Skip → List Skipped
+skipped_at frame None = []
+skipped_at frame (Some why) = record { frame = frame; why = why } ∷ []
+
+-- what was given out after a batch, which changes nothing if it is skipped
+abbrev pub given_next : To → Option Shape → Given → Presented → Given
+given_next to None given batch = given
+given_next to (Some shape) given batch = unless (skip_by to shape given batch) (given_with to shape given batch) given
+
+-- the batches that are skipped, in order, given what was given out before them
+abbrev pub skips_after : To → Option Shape → Given → List Presented → List Skipped
+skips_after to shape given [] = []
+skips_after to shape given (batch ∷ batches) =
+    skipped_at batch.frame (skip_of to shape given batch) ++ skips_after to shape (given_next to shape given batch) batches
+
+-- ---- a capture that is turned
+
+-- the first record that cannot be turned, if there is one
+abbrev pub fault_in : Turning → List Record → Option FaultAt
+fault_in asked records = first_fault (format_of asked.to) asked.listener.stream records
+
+-- the shape of the stream in these records
+abbrev pub shape_asked : Turning → List Record → Option Shape
+shape_asked asked records = shape_in asked.listener.stream records
+
+-- what a listener presents of these records if the reading of their capture ended in this way
+abbrev pub batches_by : Turning → List Record → End → List Presented
+batches_by asked records how = presented_of (shown_by (plan_of asked.listener) records how)
+
+-- the frames of the packets that carry batches of a stream of this shape
+abbrev pub turned_frames : Turning → Option Shape → List Presented → List SentFrame
+turned_frames asked shape batches = gateway_frames (format_of asked.to) shape asked.id batches
+
+-- the batches that are skipped
+abbrev pub skips_in : Turning → Option Shape → List Presented → List Skipped
+skips_in asked shape batches = skips_after (format_of asked.to) shape nothing_given batches
+
+-- the capture that is made: a record of each frame
+abbrev pub turned_capture : Turning → Option Shape → List Presented → List ℕ
+turned_capture asked shape batches = capture_of (turned_frames asked shape batches)
+
+-- the last line, if the reading ended in this way: the numbers of batches, packets and skipped batches, or why the capture was
+-- not read to its end
+abbrev pub turned_last : Turning → Option Shape → List Presented → End → List ℕ
+turned_last asked shape batches end.Whole =
+    gateway_line (length batches) (length (turned_frames asked shape batches)) (length (skips_in asked shape batches))
+turned_last asked shape batches how = side_line asked.listener.limit how
+
+-- the text: a line for each batch that is skipped, and the last line
+abbrev pub turned_text : Turning → Option Shape → List Presented → End → List ℕ
+turned_text asked shape batches how = flat_map skipped_line (skips_in asked shape batches) ++ turned_last asked shape batches how
+
+-- the status, by the number of batches that are skipped and by how the reading ended
+abbrev pub turned_status : ℕ → End → Status
+turned_status skipped end.Whole = if skipped == 0 then status.Done else status.Findings
+turned_status skipped how = status_of how
+
+-- ---- the outcomes of a run
+
+-- The capture was scanned to its end, and each record can be turned.
+pub record CanTurn (asked : Turning) (bytes : List ℕ) : Type 0 where
+  pub whole : end_of asked.listener.limit bytes ≡ end.Whole
+  pub none : fault_in asked (records_in (take asked.listener.limit bytes)) ≡ None
+
+-- Over the files that a shelf tells, `gateway` can reach these names, end with this status, print this and make this. `fault` is
+-- what a fault of reading needs.
+pub data GatewayOutcome (asked : Turning) (files : Files) (fault : Type 0) (came : List (List ℕ)) (ended : Status) (text : List ℕ) (made : Option (List ℕ)) : Type 0 where
+  -- IN was not opened.
+  unopened : IsUnopened files fault asked.input → came ≡ asked.input ∷ [] → ended ≡ status.ReadFault → text ≡ read_fault_line → made ≡ None
+      → GatewayOutcome asked files fault came ended text made
+  -- A record of IN cannot be turned.
+  faulty : (bytes : List ℕ) (at : FaultAt) → files asked.input ≡ Some bytes → fault_in asked (records_in (take asked.listener.limit bytes)) ≡ Some at
+      → came ≡ asked.input ∷ [] → ended ≡ status.TalkInput → text ≡ fault_line at → made ≡ None → GatewayOutcome asked files fault came ended text made
+  -- The scan ended before the end of IN, and each record before that place can be turned.
+  cut : (bytes prefix : List ℕ) (how : End) → files asked.input ≡ Some bytes → EndsAt asked.listener.limit (Some bytes) fault how prefix → how ≢ end.Whole
+      → fault_in asked (records_in prefix) ≡ None → came ≡ asked.input ∷ [] → ended ≡ status_of how → text ≡ side_line asked.listener.limit how → made ≡ None
+      → GatewayOutcome asked files fault came ended text made
+  -- IN was scanned, OUT was made, and IN was read again, to its end or to a fault of reading.
+  turned : (bytes prefix : List ℕ) (how : End) → files asked.input ≡ Some bytes → CanTurn asked bytes → EndsAt asked.listener.limit (Some bytes) fault how prefix
+      → came ≡ asked.input ∷ asked.output ∷ asked.input ∷ []
+      → ended ≡ turned_status (length (skips_in asked (shape_asked asked (records_in (take asked.listener.limit bytes))) (batches_by asked (records_in prefix) how))) how
+      → text ≡ turned_text asked (shape_asked asked (records_in (take asked.listener.limit bytes))) (batches_by asked (records_in prefix) how) how
+      → made ≡ Some (turned_capture asked (shape_asked asked (records_in (take asked.listener.limit bytes))) (batches_by asked (records_in prefix) how))
+      → GatewayOutcome asked files fault came ended text made
+
+-- ---- if no fault of reading comes
+
+-- the names that are asked for, by the scan's fault and how it ended
+abbrev pub came_by : Turning → Option FaultAt → End → List (List ℕ)
+came_by asked (Some at) how = asked.input ∷ []
+came_by asked None end.Whole = asked.input ∷ asked.output ∷ asked.input ∷ []
+came_by asked None how = asked.input ∷ []
+
+-- the status of `gateway` of a capture, by these records of it, the scan's fault in them and how it ended
+abbrev pub ended_by : Turning → List Record → Option FaultAt → End → Status
+ended_by asked records (Some at) how = status.TalkInput
+ended_by asked records None how = turned_status (length (skips_in asked (shape_asked asked records) (batches_by asked records how))) how
+
+-- its text
+abbrev pub text_by : Turning → List Record → Option FaultAt → End → List ℕ
+text_by asked records (Some at) how = fault_line at
+text_by asked records None end.Whole = turned_text asked (shape_asked asked records) (batches_by asked records end.Whole) end.Whole
+text_by asked records None how = side_line asked.listener.limit how
+
+-- the capture that it makes, if it makes one
+abbrev pub made_by : Turning → List Record → Option FaultAt → End → Option (List ℕ)
+made_by asked records (Some at) how = None
+made_by asked records None end.Whole = Some (turned_capture asked (shape_asked asked records) (batches_by asked records end.Whole))
+made_by asked records None how = None
+
+-- the records of IN that are read
+abbrev pub records_of : Turning → List ℕ → List Record
+records_of asked bytes = records_in (take asked.listener.limit bytes)
+
+-- the names that `gateway` asks for, by what a shelf tells of IN
+abbrev pub gateway_came : Turning → Option (List ℕ) → List (List ℕ)
+gateway_came asked None = asked.input ∷ []
+gateway_came asked (Some bytes) = came_by asked (fault_in asked (records_of asked bytes)) (end_of asked.listener.limit bytes)
+
+-- its status
+abbrev pub gateway_ended : Turning → Option (List ℕ) → Status
+gateway_ended asked None = status.ReadFault
+gateway_ended asked (Some bytes) = ended_by asked (records_of asked bytes) (fault_in asked (records_of asked bytes)) (end_of asked.listener.limit bytes)
+
+-- its text
+abbrev pub gateway_report : Turning → Option (List ℕ) → List ℕ
+gateway_report asked None = read_fault_line
+gateway_report asked (Some bytes) = text_by asked (records_of asked bytes) (fault_in asked (records_of asked bytes)) (end_of asked.listener.limit bytes)
+
+-- the capture that it makes
+abbrev pub gateway_made : Turning → Option (List ℕ) → Option (List ℕ)
+gateway_made asked None = None
+gateway_made asked (Some bytes) = made_by asked (records_of asked bytes) (fault_in asked (records_of asked bytes)) (end_of asked.listener.limit bytes)

@@ -1,0 +1,123 @@
+-- Kept for proofs: what the code's own parts hold and do. No clause of a public call rests on it.
+-- A run of `gateway` after its scan: OUT is made, and IN is read again.
+use Rattle.std.specs.Prelude.{◌≡◌, ◌≢◌, ◌⊎◌, ℕ, ◌-◌, ◌^◌, ◌≤◌, Bool, true, false, List, [], ◌∷◌, length, Option, Some, IfOk, IsErr, IsSome, Result, Ok, Err}
+use Rattle.avtp_base.specs.declared.failed.Failed.{Failed}
+use Rattle.avtp_base.specs.declared.failed.OpenFault.{OpenFault}
+use Rattle.avtp_base.specs.declared.failed.OpenFault.TheVariants as open_fault
+use Rattle.avtp_base.specs.Faults.{Rose}
+use Rattle.avtp_base.specs.Files.{Files, IsMissing, KeepsOtherFiles, name_in}
+use Rattle.avtp_base.specs.States.{Asks, ShelfState, SinkState}
+use Rattle.capture_io.specs.declared.end.End.{End}
+use Rattle.capture_io.specs.declared.end.End.TheVariants as end
+use Rattle.capture_io.specs.CaptureWriting.{ClosesCapture, FinishesCapture}
+use Rattle.capture_io.specs.Ends.{EndsAt, end_of}
+use Rattle.capture_io.specs.Formats.{records_in}
+use Rattle.capture_io.specs.Writing.{KeepsSlotsBut}
+use Rattle.sample_schedule.specs.Limits.{IsPlan}
+use Rattle.listener.specs.Heard.{schedule_plan}
+use Rattle.listener.specs.Listening.{ListenState, StandsFor, is_closed}
+use Rattle.am824_gateway.specs.declared.scan.Shape.{Shape}
+use Rattle.am824_gateway.specs.Gateways.{Gating}
+use Rattle.avtp_words.specs.Grammar.{Turning}
+use Rattle.avtp_text.specs.Gateway.{gateway_line}
+use Rattle.avtp_text.specs.Written.{written}
+use Rattle.avtp_tool.specs.declared.status.Status.{Status}
+use Rattle.avtp_tool.specs.declared.status.Status.TheVariants as status
+use Rattle.avtp_tool.specs.declared.turning.Output.{Output}
+use Rattle.avtp_tool.specs.declared.turning.Turned.{Turned}
+use Rattle.avtp_tool.specs.declared.turning.Turned.TheVariants as turned
+use Rattle.avtp_tool.specs.Agree.{side_line}
+use Rattle.avtp_tool.specs.Gateway.{batches_by, skips_in, turned_capture, turned_status, turned_text}
+use Rattle.avtp_tool.specs.Listen.{plan_of}
+use Rattle.avtp_tool.specs.Made.{KeepsFilesBut}
+use Rattle.avtp_tool.specs.Outcome.{AsksFor}
+use Rattle.avtp_tool.specs.state.Made.{CountsWriting, Produces}
+use Rattle.avtp_tool.specs.state.Outcome.{CountsReading, EndsWith, KeepsSink}
+use Rattle.avtp_tool.specs.state.Turning.{IsFreshOutput, TurnsTo, WritesOutput, ended_turn}
+
+-- what words ask of `gateway` is within its bounds
+pub record IsTurning (asked : Turning) : Type 0 where
+  pub limit : asked.listener.limit ≤ 2 ^ 40
+  pub plan : IsPlan (schedule_plan (plan_of asked.listener))
+  pub apart : asked.input ≢ asked.output
+
+-- ---- the second reading
+
+-- The capture to turn was opened again, turned as far as it could be read and written, and closed; or it was not opened.
+pub record TurnsInput (asked : Turning) (before after : ShelfState) (listener : ListenState) (old new : Output) (out out' : SinkState) (waits waits' : List ℕ) (result : Result Turned Failed) : Type 0 where
+  pub told : (shape : Option Shape) (bytes : List ℕ) (files : Option Files) (all : Files) → before.files ≡ Some all → all asked.input ≡ Some bytes → IsSome after.files → IsFreshOutput asked shape files before old
+      → StandsFor [] 0 listener → is_closed listener ≡ false → listener.plan ≡ plan_of asked.listener → end_of asked.listener.limit bytes ≡ end.Whole
+      → TurnsTo asked shape bytes (Rose before.reading_faults after.reading_faults) files after new (written out.held waits) (written out'.held waits') result
+  pub slots : KeepsOtherFiles before.slots after.slots (name_in before.slots old.writer.slot)
+  pub writes : WritesOutput before after old new result
+  -- a fault of reading was counted, or the file is missing; at any other end none was counted
+  pub fault : (presented : ℕ) → result ≡ Ok (turned.Ended end.ReadFault presented) → Rose before.reading_faults after.reading_faults ⊎ IsMissing before.files asked.input
+  pub quiet : (how : End) → ended_turn result ≡ Some how → how ≢ end.ReadFault → after.reading_faults ≡ before.reading_faults
+  pub asks : Asks (asked.input ∷ []) before after
+  pub sink : KeepsSink out out' result
+
+-- how far a capture was turned that could not be opened: nothing was presented of it
+abbrev pub unread_as : OpenFault → Turned
+unread_as open_fault.Memory = turned.NoMemory
+unread_as fault = turned.Ended end.ReadFault 0
+
+-- ---- the end
+
+-- the last line of a capture whose reading ended in this way, of which so many batches were presented
+abbrev pub ended_line : ℕ → ℕ → Gating → End → List ℕ
+ended_line limit presented g end.Whole = gateway_line presented g.given.packets (presented - g.given.batches)
+ended_line limit presented g how = side_line limit how
+
+-- nothing was printed
+pub record PrintsNothing (out out' : SinkState) (waits waits' : List ℕ) : Type 0 where
+  pub sink : out' ≡ out
+  pub text : waits' ≡ waits
+
+-- The capture that is made was finished, and the last line printed; or it could not be written to its end.
+pub data FinishesOutput (limit : ℕ) (how : End) (presented : ℕ) (before after : ShelfState) (o : Output) (out out' : SinkState) (waits waits' : List ℕ) (result : Result Status Failed) : Type 0 where
+  finished : FinishesCapture before after o.writer (Ok tt) → EndsWith (turned_status (presented - o.gateway.given.batches) how) out out' waits waits' result (ended_line limit presented o.gateway how)
+      → FinishesOutput limit how presented before after o out out' waits waits' result
+  unfinished : (e : Failed) → FinishesCapture before after o.writer (Err e) → result ≡ Ok status.WriteFault → PrintsNothing out out' waits waits' → FinishesOutput limit how presented before after o out out' waits waits' result
+
+-- The capture that is made was given up as it is, and the run ends so without a line.
+pub record AbandonsOutput (so : Result Status Failed → Type 0) (before after : ShelfState) (o : Output) (out out' : SinkState) (waits waits' : List ℕ) (result : Result Status Failed) : Type 0 where
+  pub closes : ClosesCapture before after o.writer (Ok tt)
+  pub ended : so result
+  pub nothing : PrintsNothing out out' waits waits'
+
+-- how the capture that is made is ended, by how far the other one was turned
+abbrev pub EndsOutput : ℕ → Result Turned Failed → ShelfState → ShelfState → Output → SinkState → SinkState → List ℕ → List ℕ → Result Status Failed → Type 0
+EndsOutput limit (Ok (turned.Ended how presented)) before after o out out' waits waits' result = FinishesOutput limit how presented before after o out out' waits waits' result
+EndsOutput limit (Ok turned.NoMemory) before after o out out' waits waits' result = AbandonsOutput (λ r. r ≡ Ok status.Memory) before after o out out' waits waits' result
+EndsOutput limit (Ok turned.Unwritten) before after o out out' waits waits' result = AbandonsOutput (λ r. r ≡ Ok status.WriteFault) before after o out out' waits waits' result
+EndsOutput limit (Err e) before after o out out' waits waits' result = AbandonsOutput IsErr before after o out out' waits waits' result
+
+-- ---- a capture that was scanned
+
+-- What a run can come to over an input of these bytes that was scanned, and whose stream has this shape.
+pub record TurnedOutcome (asked : Turning) (shape : Option Shape) (bytes : List ℕ) (fault : Type 0) (ended : Status) (text : List ℕ) (made : Option (List ℕ)) : Type 0 where
+  pub how : End
+  pub prefix : List ℕ
+  pub ends : EndsAt asked.listener.limit (Some bytes) fault how prefix
+  pub status : ended ≡ turned_status (length (skips_in asked shape (batches_by asked (records_in prefix) how))) how
+  pub printed : text ≡ turned_text asked shape (batches_by asked (records_in prefix) how) how
+  pub written : made ≡ Some (turned_capture asked shape (batches_by asked (records_in prefix) how))
+
+-- The status of a run of `gateway` that found no record that cannot be turned.
+abbrev pub is_of_gateway : Status → Bool
+is_of_gateway status.Words = false
+is_of_gateway status.DeviceFault = false
+is_of_gateway status.TalkInput = false
+is_of_gateway ended = true
+
+-- OUT was made of an input that was scanned.
+pub record TurnsFile (asked : Turning) (shape : Option Shape) (before after : ShelfState) (out out' : SinkState) (waits waits' : List ℕ) (result : Result Status Failed) : Type 0 where
+  pub told : (all : Files) (bytes : List ℕ) → before.files ≡ Some all → all asked.input ≡ Some bytes → IsSome after.files → end_of asked.listener.limit bytes ≡ end.Whole
+      → Produces (TurnedOutcome asked shape bytes (Rose before.reading_faults after.reading_faults)) (Some asked.output) (written out.held waits) (written out'.held waits') before.files after.files result
+  pub files : KeepsFilesBut (Some asked.output) before.files after.files
+  pub slots : KeepsSlotsBut before.files before.slots after.slots asked.output
+  pub reading : CountsReading (asked.input ∷ []) before.files before.reading_faults after.reading_faults result
+  pub writing : CountsWriting (Some asked.output) before.writing_faults after.writing_faults result
+  pub own : IfOk result (λ s. is_of_gateway s ≡ true)
+  pub asks : AsksFor (asked.output ∷ asked.input ∷ []) before after (IfOk result (λ s. (s ≢ status.Memory) × (s ≢ status.WriteFault)))
+  pub sink : KeepsSink out out' result

@@ -1,0 +1,185 @@
+-- Kept for proofs: what the code's own parts hold and do. No clause of a public call rests on it.
+-- A capture that is turned: what is presented of it is written as packets of the other format.
+use Rattle.std.specs.Prelude.{◌≡◌, ◌≢◌, ℕ, ◌+◌, ◌≤◌, List, [], ◌∷◌, ◌++◌, flat_map, length, map, slice_get, take, Option, Some, None, IfOk, IsSome, OnErr, OnOk, Result, Ok, Err, option_map, false}
+use Rattle.avtp_base.specs.declared.failed.Failed.{Failed}
+use Rattle.avtp_base.specs.Faults.{Rose}
+use Rattle.avtp_base.specs.Files.{Files, Slots, file_of, left_in, name_in}
+use Rattle.avtp_base.specs.States.{AsksNothing, ShelfState, SinkState}
+use Rattle.avtp_base.specs.Told.{Appends, Keeps}
+use Rattle.avtp_files.specs.ShelfCalls.{IsMadeIn}
+use Rattle.pcap_frames.specs.Capture.{Record}
+use Rattle.capture_io.specs.declared.end.End.{End}
+use Rattle.capture_io.specs.declared.end.End.TheVariants as end
+use Rattle.capture_io.specs.CaptureWriting.{HoldsCapture}
+use Rattle.capture_io.specs.Ends.{CountsFault, EndsAt}
+use Rattle.capture_io.specs.Formats.{records_in}
+use Rattle.capture_io.specs.Source.{HasGivenOf, Sourcing, slot_of}
+use Rattle.capture_io.specs.Writing.{WritesSlot, Writing}
+use Rattle.sample_schedule.specs.Batches.{Presented}
+use Rattle.listener.specs.Listening.{ListenState, StandsFor, is_closed}
+use Rattle.talker.specs.Frames.{SentFrame, record_of}
+use Rattle.am824_gateway.specs.declared.scan.Shape.{Shape}
+use Rattle.am824_gateway.specs.declared.scan.To.{To}
+use Rattle.am824_gateway.specs.Gateways.{Gating}
+use Rattle.am824_gateway.specs.Packets.{gateway_frames}
+use Rattle.am824_gateway.specs.Pieces.{Given, given_by, nothing_given, skip_of}
+use Rattle.avtp_words.specs.Grammar.{Turning as Asked}
+use Rattle.avtp_text.specs.Written.{AppendsPrefix, written}
+use Rattle.avtp_tool.specs.declared.hearing.Heard.{Heard}
+use Rattle.avtp_tool.specs.declared.hearing.Heard.TheVariants as heard
+use Rattle.avtp_tool.specs.declared.turning.Output.{Output}
+use Rattle.avtp_tool.specs.declared.turning.Put.{Put}
+use Rattle.avtp_tool.specs.declared.turning.Put.TheVariants as did
+use Rattle.avtp_tool.specs.declared.turning.Turned.{Turned}
+use Rattle.avtp_tool.specs.declared.turning.Turned.TheVariants as turned
+use Rattle.avtp_tool.specs.Gateway.{batches_by, format_of, skipped_at, skipped_line, skips_in, turned_frames}
+use Rattle.avtp_tool.specs.Listen.{plan_of}
+use Rattle.avtp_tool.specs.state.Outcome.{KeepsSink}
+
+-- ---- the batches so far
+
+-- what was given out after these batches
+abbrev pub given_over : To → Option Shape → List Presented → Given
+given_over to None batches = nothing_given
+given_over to (Some shape) batches = given_by to shape nothing_given batches
+
+-- A gateway to this format, for a stream of this shape and under this id, was given these batches.
+pub record HasPut (to : To) (shape : Option Shape) (id : ℕ) (batches : List Presented) (g : Gating) : Type 0 where
+  pub to_is : g.to ≡ to
+  pub shape_is : g.shape ≡ shape
+  pub id_is : g.id ≡ id
+  pub given : g.given ≡ given_over to shape batches
+
+-- the records of the frames of these batches
+abbrev pub records_for : To → Option Shape → ℕ → List Presented → List Record
+records_for to shape id batches = map record_of (gateway_frames to shape id batches)
+
+-- The file that is written has and holds a capture of the first of these records, however many.
+pub record HoldsFirst (files : Option Files) (shelf : ShelfState) (writer : Writing) (name : List ℕ) (records : List Record) : Type 0 where
+  pub count : ℕ
+  pub holds : HoldsCapture files shelf writer name (take count records)
+
+-- ---- the packets of a batch
+
+-- the bytes of frame i of the last batch that was not skipped
+abbrev pub frame_bytes : Option SentFrame → List ℕ
+frame_bytes None = []
+frame_bytes (Some f) = f.bytes
+
+abbrev pub piece_bytes : Gating → ℕ → List ℕ
+piece_bytes g i = frame_bytes (slice_get g.frames i)
+
+-- The first frames of the last batch that was not skipped were added to the capture, in order, or some of them if the shelf failed.
+pub record WritesFrames (g : Gating) (number : ℕ) (before after : ShelfState) (old new : Writing) (result : Result Unit Failed) : Type 0 where
+  pub added : OnOk result ((files : Option Files) (name : List ℕ) (records : List Record) → HoldsCapture files before old name records → HoldsCapture files after new name (records ++ map record_of (take number g.frames)))
+  pub part : OnErr result ((files : Option Files) (name : List ℕ) (records : List Record) → HoldsCapture files before old name records
+      → (n : ℕ) × HoldsCapture files after new name (records ++ map record_of (take n g.frames)))
+  pub writes : WritesSlot before after old new result
+
+-- what was written of a batch, as the writer's calls have it
+abbrev pub wrote : Result Put Failed → Result Unit Failed
+wrote (Ok did.Done) = Ok tt
+wrote (Ok did.Unwritten) = Err (record {})
+wrote (Err e) = Ok tt
+
+-- A batch was put: its packets were written, or the line that says why it is skipped was printed.
+pub record PutsBatch (batch : Presented) (before after : ShelfState) (old new : Output) (out out' : SinkState) (waits waits' : List ℕ) (result : Result Put Failed) : Type 0 where
+  -- one batch more
+  pub put : result ≡ Ok did.Done → (to : To) (shape : Option Shape) (id : ℕ) (batches : List Presented) → HasPut to shape id batches old.gateway → HasPut to shape id (batches ++ batch ∷ []) new.gateway
+  pub frames : result ≡ Ok did.Done → (to : To) (shape : Option Shape) (id : ℕ) (batches : List Presented) (files : Option Files) (name : List ℕ) → HasPut to shape id batches old.gateway
+      → HoldsCapture files before old.writer name (records_for to shape id batches) → HoldsCapture files after new.writer name (records_for to shape id (batches ++ batch ∷ []))
+  -- or a part of its packets
+  pub part : (to : To) (shape : Option Shape) (id : ℕ) (batches : List Presented) (files : Option Files) (name : List ℕ) → HasPut to shape id batches old.gateway
+      → HoldsCapture files before old.writer name (records_for to shape id batches) → HoldsFirst files after new.writer name (records_for to shape id (batches ++ batch ∷ []))
+  pub lines : IfOk result (λ so. Appends (written out.held waits) (written out'.held waits') (flat_map skipped_line (skipped_at batch.frame (skip_of old.gateway.to old.gateway.shape old.gateway.given batch))))
+  pub cut : OnErr result (Keeps (written out.held waits) (written out'.held waits'))
+  pub writes : WritesSlot before after old.writer new.writer (wrote result)
+  pub few : new.gateway.given.batches ≤ old.gateway.given.batches + 1
+  pub sink : KeepsSink out out' result
+
+-- ---- a capture
+
+-- how far a capture was turned that was heard so far
+abbrev pub turned_as : Heard → Turned
+turned_as (heard.Ended how counts) = turned.Ended how counts.presented
+turned_as heard.NoMemory = turned.NoMemory
+
+-- how the reading of a capture ended, if it was turned up to there
+abbrev pub ended_turn : Result Turned Failed → Option End
+ended_turn (Ok (turned.Ended how presented)) = Some how
+ended_turn (Ok other) = None
+ended_turn (Err e) = None
+
+-- what was written of a capture, as the writer's calls have it
+abbrev pub wrote_all : Result Turned Failed → Result Unit Failed
+wrote_all (Ok turned.Unwritten) = Err (record {})
+wrote_all other = Ok tt
+
+-- Nothing was put into the capture that is made, which had these files before it, of a stream of this shape. It has its own name.
+pub record IsFreshOutput (asked : Asked) (shape : Option Shape) (files : Option Files) (shelf : ShelfState) (o : Output) : Type 0 where
+  pub apart : asked.input ≢ asked.output
+  pub named : name_in shelf.slots o.writer.slot ≡ Some asked.output
+  pub none : HasPut (format_of asked.to) shape asked.id [] o.gateway
+  pub holds : HoldsCapture files shelf o.writer asked.output []
+
+-- Nor was anything heard of the capture that is read, which has these bytes and its own name.
+pub record IsToTurn (asked : Asked) (shape : Option Shape) (bytes : List ℕ) (files : Option Files) (shelf : ShelfState) (source : Sourcing) (listener : ListenState) (o : Output) : Type 0 where
+  pub fresh : IsFreshOutput asked shape files shelf o
+  pub named : name_in shelf.slots (slot_of source) ≡ Some asked.input
+  pub given : HasGivenOf asked.listener.limit bytes shelf source []
+  pub stands : StandsFor [] 0 listener
+  pub going : is_closed listener ≡ false
+  pub plan : listener.plan ≡ plan_of asked.listener
+
+-- These batches were put: each was written, or its line printed.
+pub record HasTurned (asked : Asked) (shape : Option Shape) (batches : List Presented) (files : Option Files) (shelf : ShelfState) (o : Output) (before now : Option (List ℕ)) : Type 0 where
+  pub put : HasPut (format_of asked.to) shape asked.id batches o.gateway
+  pub lines : Appends before now (flat_map skipped_line (skips_in asked shape batches))
+  pub holds : HoldsCapture files shelf o.writer asked.output (map record_of (turned_frames asked shape batches))
+
+-- What is presented of a capture of these bytes was put, as far as it could be read.
+pub record HasHeard (asked : Asked) (shape : Option Shape) (bytes : List ℕ) (fault : Type 0) (files : Option Files) (shelf : ShelfState) (o : Output) (how : End) (presented : ℕ) (before now : Option (List ℕ)) : Type 0 where
+  pub prefix : List ℕ
+  pub ends : EndsAt asked.listener.limit (Some bytes) fault how prefix
+  pub turned : HasTurned asked shape (batches_by asked (records_in prefix) how) files shelf o before now
+  pub counted : presented ≡ length (batches_by asked (records_in prefix) how)
+
+-- Of all batches of a capture of these bytes, some were put: the file holds the first of their records, and a prefix of the lines was
+-- printed.
+pub record IsCutShort (asked : Asked) (shape : Option Shape) (bytes : List ℕ) (files : Option Files) (shelf : ShelfState) (o : Output) (before now : Option (List ℕ)) : Type 0 where
+  pub lines : AppendsPrefix before now (flat_map skipped_line (skips_in asked shape (batches_by asked (records_in (take asked.listener.limit bytes)) end.Whole)))
+  pub holds : HoldsFirst files shelf o.writer asked.output (map record_of (turned_frames asked shape (batches_by asked (records_in (take asked.listener.limit bytes)) end.Whole)))
+
+abbrev pub TurnsTo : Asked → Option Shape → List ℕ → Type 0 → Option Files → ShelfState → Output → Option (List ℕ) → Option (List ℕ) → Result Turned Failed → Type 0
+TurnsTo asked shape bytes fault files shelf o before now (Ok (turned.Ended how presented)) = HasHeard asked shape bytes fault files shelf o how presented before now
+TurnsTo asked shape bytes fault files shelf o before now other = IsCutShort asked shape bytes files shelf o before now
+
+-- the file that is read is open, and the one that is written, each in its own slot
+pub record AreOpenIn (slots : Slots) (source : Sourcing) (o : Output) : Type 0 where
+  pub apart : slot_of source ≢ o.writer.slot
+  pub live : IsSome (slots (slot_of source))
+  pub made : IsMadeIn slots o.writer.slot
+
+-- A capture was written to a file through a writer, while another was read: what holds of the file, which had no record before,
+-- and of the counts of faults.
+pub record WritesOutput (before after : ShelfState) (old new : Output) (result : Result Turned Failed) : Type 0 where
+  pub slot : new.writer.slot ≡ old.writer.slot
+  pub made : IsMadeIn after.slots old.writer.slot
+  pub holds : (files : Option Files) (name : List ℕ) → HoldsCapture files before old.writer name [] → (more : List Record) × HoldsCapture files after new.writer name more
+  pub unwritten : OnErr (wrote_all result) (Rose before.writing_faults after.writing_faults)
+  pub written : OnOk (wrote_all result) (after.writing_faults ≡ before.writing_faults)
+  pub falls : before.writing_faults ≤ after.writing_faults
+  pub reading : before.reading_faults ≤ after.reading_faults
+
+-- A capture was turned, as far as it could be read and written.
+pub record Turns (before after : ShelfState) (source source' : Sourcing) (listener : ListenState) (old new : Output) (out out' : SinkState) (waits waits' : List ℕ) (result : Result Turned Failed) : Type 0 where
+  pub told : (asked : Asked) (shape : Option Shape) (bytes : List ℕ) (files : Option Files) → IsToTurn asked shape bytes files before source listener old
+      → TurnsTo asked shape bytes (Rose before.reading_faults after.reading_faults) files after new (written out.held waits) (written out'.held waits') result
+  pub slot : slot_of source' ≡ slot_of source
+  -- each slot keeps its file, and what is left to read there, but in the slot that is read and in those of the file that is written
+  pub same : (j : ℕ) → option_map file_of (after.slots j) ≡ option_map file_of (before.slots j)
+  pub left : (j : ℕ) → j ≢ slot_of source → name_in before.slots j ≢ name_in before.slots old.writer.slot → left_in after.slots j ≡ left_in before.slots j
+  pub writes : WritesOutput before after old new result
+  pub counted : (how : End) → ended_turn result ≡ Some how → CountsFault None (Some how) before.reading_faults after.reading_faults
+  pub asked : AsksNothing before after
+  pub sink : KeepsSink out out' result

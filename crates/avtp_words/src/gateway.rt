@@ -1,0 +1,98 @@
+//! The command `gateway`: which stream of a capture to turn into the other format.
+
+ghost use Rattle.std.specs.Prelude.{◌≡◌, ◌∷◌, codes, IfOk, IfErr, IfSome, IfNone, Some, take};
+ghost use Rattle.avtp_words.specs.Grammar.{IsCommandLine, IsOffence, SaysGateway, gateway_form, request_of, turning_of};
+ghost use Rattle.avtp_words.specs.Options.{gateway_format_name};
+ghost use Rattle.avtp_words.specs.state.Reading.{IsRestTo, value_after};
+ghost use Rattle.avtp_words.specs.Word.{texts};
+
+use crate::command::{Command, Offence};
+use crate::limits::{GATEWAY_OPTIONS, ID, TO};
+use crate::listener::{ListenerOptions, listener_after};
+use crate::operand::{STREAM_OPERANDS, StreamAndTwo, operands_at, stream_and_two};
+use crate::option::word_after;
+use crate::value::id_after;
+
+/// A format that `gateway` writes.
+#[derive(Clone, Copy, Debug, PartialEq, Eq)]
+pub enum GatewayFormat {
+    /// AM824 (IEC 61883-6).
+    Am824,
+    /// PCM in the AVTP audio format (IEEE 1722-2016, 7).
+    Aaf,
+}
+
+/// Which stream of a capture to turn into which format, and by which listener it is presented.
+#[derive(Clone, Copy, Debug, PartialEq, Eq)]
+pub struct Gateway<'a> {
+    /// The stream, and the listener to it.
+    pub listener: ListenerOptions,
+    /// The format of the capture that is written.
+    pub to: GatewayFormat,
+    /// The stream ID in the capture that is written.
+    pub id: u64,
+    /// The capture that is read.
+    pub input: &'a str,
+    /// The capture that is written.
+    pub output: &'a str,
+}
+
+/// The words after `gateway`. If each word is valid but `--to` is not given, or the capture that is written has the name of the
+/// one that is read, the offence is at the command.
+pub fn read_gateway(words: &[String]) -> Result<Command<'_>, Offence>
+    ensures ok { IfOk result (λ command. IsCommandLine (codes "gateway" ∷ texts words.now) (request_of command)) }
+    ensures err { IfErr result (λ offence. IsOffence (codes "gateway" ∷ texts words.now) offence.position) }
+{
+    let place = operands_at(&GATEWAY_OPTIONS, &STREAM_OPERANDS, words)?;
+    let Some(to) = format_after(&words[..place]) else {
+        return Err(Offence { position: 1 });
+    };
+    let asked = read_words(words, place, to);
+    if asked.input != asked.output {
+        Ok(Command::Gateway(asked))
+    } else {
+        Err(Offence { position: 1 })
+    }
+}
+
+/// What the words after `gateway` ask for, each by itself. The first operand is at this place, and the options before it give
+/// this format.
+fn read_words(words: &[String], place: usize, to: GatewayFormat) -> Gateway<'_>
+    requires rest { IsRestTo gateway_form.rows gateway_form.operands (texts words.now) place }
+    requires to { value_after (codes "--to") (texts (take place words.now)) ≡ Some (gateway_format_name to) }
+    ensures { SaysGateway (codes "gateway" ∷ texts words.now) (turning_of result) }
+{
+    let StreamAndTwo {
+        stream,
+        first: input,
+        second: output,
+    } = stream_and_two(&words[place..]);
+    let options = &words[..place];
+    Gateway {
+        listener: listener_after(options, stream),
+        to,
+        id: id_after(options, ID.name, stream),
+        input,
+        output,
+    }
+}
+
+/// The format that `--to` gives, if it is given.
+fn format_after(options: &[String]) -> Option<GatewayFormat>
+    ensures some { IfSome result (λ to. value_after (codes "--to") (texts options.now) ≡ Some (gateway_format_name to)) }
+    ensures none { IfNone result ((to : GatewayFormat) → value_after (codes "--to") (texts options.now) ≡ Some (gateway_format_name to) → ⊥) }
+{
+    gateway_format_of(word_after(options, TO.name)?)
+}
+
+/// The format of `gateway` that a word names.
+pub fn gateway_format_of(word: &str) -> Option<GatewayFormat>
+    ensures named { IfSome result (λ format. word.now ≡ gateway_format_name format) }
+    ensures none { IfNone result ((format : GatewayFormat) → word.now ≡ gateway_format_name format → ⊥) }
+{
+    match word {
+        "am824" => Some(GatewayFormat::Am824),
+        "aaf" => Some(GatewayFormat::Aaf),
+        _ => None,
+    }
+}

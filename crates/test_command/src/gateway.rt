@@ -1,0 +1,442 @@
+//! The command `gateway`. The first vector with 24 bits a sample is a packet of four stereo frames.
+
+use crate::faults::{ended, one_file};
+use crate::recipe::{bytes_of, file_of};
+use crate::transcript::follow;
+use avtp_base::NoMemory;
+use avtp_tool::Status;
+
+const TURNED: &str = "\
+< a.raw noise:36
+$ talk --format int24 a.raw c.pcap
+talk packets 1 clock 0
+$ gateway --to am824 0200000000010001 c.pcap d.pcap
+gateway batches 1 packets 1 skipped 0
+$ listen 0200000000010001 d.pcap
+capture d.pcap
+at 1002000000 frame 1 seq 0 sample 0 4000010240030405
+at 1002020833 frame 1 seq 0 sample 1 4006070840090a0b
+at 1002041666 frame 1 seq 0 sample 2 400c0d0e400f1011
+at 1002062500 frame 1 seq 0 sample 3 4012131440151617
+at 1002083333 frame 1 seq 0 sample 4 4018191a401b1c1d
+at 1002104166 frame 1 seq 0 sample 5 401e1f2040212223
+end frames 1 packets 1 presented 1 flagged 0
+$ check d.pcap
+capture d.pcap
+end frames 1 streams 1 findings 0
+$ gateway --to aaf 0200000000010001 d.pcap e.pcap
+gateway batches 1 packets 1 skipped 0
+~ e.pcap c.pcap
+< c.pcap V2 ..56 21=20 25=01 27=0c ts:705032704 capture:4997916666
++ c.pcap V2 ..56 1=8001 21=20 25=01 27=12 ts:0 record:4998041666
+$ gateway --to aaf 0200000000010001 c.pcap d.pcap
+gateway batches 2 packets 4 skipped 0
+$ listen 0200000000010001 d.pcap
+capture d.pcap
+at 4999916666 frame 1 seq 0 sample 0 000000
+at 4999937500 frame 2 seq 1 sample 0 000000
+at 4999958333 frame 2 seq 1 sample 1 000000
+at 4999979166 frame 2 seq 1 sample 2 000000
+at 5000000000 frame 2 seq 1 sample 3 000000
+at 5000020833 frame 2 seq 1 sample 4 000000
+at 5000041666 frame 3 seq 2 sample 0 000000
+at 5000062500 frame 4 seq 3 sample 0 000000
+at 5000083333 frame 4 seq 3 sample 1 000000
+at 5000104166 frame 4 seq 3 sample 2 000000
+at 5000125000 frame 4 seq 3 sample 3 000000
+at 5000145833 frame 4 seq 3 sample 4 000000
+end frames 4 packets 4 presented 4 flagged 0
+< c.pcap V1
+$ gateway --to am824 0200000000010001 c.pcap new.pcap
+gateway input: format at frame 1
+[9]
+$ show new.pcap
+read fault
+[4]
+< c.pcap V4 capture:1000000000
+$ gateway --to aaf 0200000000010001 c.pcap d.pcap
+gateway batches 0 packets 0 skipped 0
+? d.pcap V1 ..24
+";
+
+#[test]
+fn each_sample_is_due_when_it_was_in_the_other_format(rt: HostRuntime) -> Result<(), NoMemory> {
+    follow(&rt, rt.alloc(), TURNED)
+}
+
+/// The block count of a packet of four blocks goes on at the next multiple of eight.
+const OUTPUT: &str = "\
+< in V1 74=03 77=18
++ in V1/58 2=01 16=03 19=18 ts:1012000000 record:1010000000
+< first V2 ..32 21=28 x400001ff40ff000240fffe004003fffd400004ff40fc000540fffb004006fffa capture:1000000000
+< both V2 ..32 21=28 x400001ff40ff000240fffe004003fffd400004ff40fc000540fffb004006fffa capture:1000000000
++ both V2 ..32 2=01 21=28 27=08 ts:1012000000 x400001ff40ff000240fffe004003fffd400004ff40fc000540fffb004006fffa record:1010000000
+$ gateway --to am824 0200000000010001 in out
+gateway batches 2 packets 2 skipped 0
+~ out both
+$ check out
+capture out
+end frames 2 streams 1 findings 0
+! shelf 7
+$ gateway --to am824 0200000000010001 in out
+read fault
+[4]
+~ out first
+! shelf 6
+$ gateway --to am824 0200000000010001 in out
+read fault
+[4]
+? out V1 ..24
+! sink 1
+$ gateway --to am824 0200000000010001 in out
+[5]
+~ out both
+< in V5 122=03 125=18
+$ gateway --to am824 0200000000010001 in out
+gateway batches 1 packets 1 skipped 0
+~ out first
+$ gateway --to am824 --id 0200000000010009 0200000000010001 in out
+gateway batches 1 packets 1 skipped 0
+? out V2 ..32 11=09 21=28 x400001ff40ff000240fffe004003fffd400004ff40fc000540fffb004006fffa capture:1000000000
+$ gateway --to aaf 0200000000010009 out back
+gateway batches 1 packets 1 skipped 0
+? back V1 69=09 74=03 77=18
+";
+
+#[test]
+fn the_capture_has_the_packets_of_what_was_due(rt: HostRuntime) -> Result<(), NoMemory> {
+    follow(&rt, rt.alloc(), OUTPUT)
+}
+
+/// The last sample of the first packet is due at 1002062500. An arrival is at most a nanosecond below 2^32 seconds.
+const SKIPPED: &str = "\
+< in V1 74=03 77=18
++ in V1/58 2=01 16=03 19=18 ts:1002062500 record:1000062500
+$ gateway --to am824 0200000000010001 in out
+skip frame 2 overlap
+gateway batches 2 packets 1 skipped 1
+[1]
+# out 122
+< in V1 74=03 77=18
++ in V1/58 2=01 16=03 19=18 ts:1002062501 record:1000062501
+$ gateway --to am824 0200000000010001 in out
+gateway batches 2 packets 2 skipped 0
+# out 220
+< in V1/58 16=03 19=18 ts:2000000 capture:4294967295999000000
+$ gateway --to am824 0200000000010001 in out
+skip frame 1 range
+gateway batches 1 packets 0 skipped 1
+[1]
+? out V1 ..24
+< in V1/58 16=03 19=18 ts:1999999 capture:4294967295999000000
+$ gateway --to am824 0200000000010001 in out
+gateway batches 1 packets 1 skipped 0
+? out V2 ..32 21=28 ts:1999999 x400001ff40ff000240fffe004003fffd400004ff40fc000540fffb004006fffa capture:4294967295999999999
+";
+
+#[test]
+fn a_batch_that_overlaps_or_comes_too_late_is_skipped(rt: HostRuntime) -> Result<(), NoMemory> {
+    follow(&rt, rt.alloc(), SKIPPED)
+}
+
+const UNMADE: &str = "\
+< out x00
+$ gateway --to aaf 0200000000010001 in out
+read fault
+[4]
+? out x00
+< in V2 capture:1000000000
++ in x00
+$ gateway --to aaf 0200000000010001 in out
+capture refused: ts_sec at 138 short
+[3]
+? out x00
+$ gateway --to aaf --limit 138 0200000000010001 in out
+limit 138
+[7]
+? out x00
+< in V2 capture:1000000000
++ in V1/58 record:1000000000
+$ gateway --to aaf --limit 138 0200000000010001 in out
+limit 138
+[7]
+? out x00
+< in V1 0=00
+$ gateway --to aaf 0200000000010001 in out
+capture refused: magic at 0
+[3]
+? out x00
+< in V2 capture:1000000000
+$ gateway 0200000000010001 in out
+words: 1
+[2]
+$ gateway --to aaf 0200000000010001 in in
+words: 1
+[2]
+$ gateway --to int24 0200000000010001 in out
+words: 3
+[2]
+$ gateway --to aaf --ring 4 0200000000010001 in out
+words: 4
+[2]
+$ gateway --to aaf 0200000000010001 in
+words: 6
+[2]
+? out x00
+? in V2 capture:1000000000
+$ gateway --to aaf 0200000000010001 in out
+gateway batches 1 packets 1 skipped 0
+";
+
+#[test]
+fn a_run_that_ends_before_the_scan_does_makes_nothing(rt: HostRuntime) -> Result<(), NoMemory> {
+    follow(&rt, rt.alloc(), UNMADE)
+}
+
+/// The format that is asked for, two packets, and the fault that the scan finds.
+const FAULTS: &str = "\
+am824 | V2 | V1/58 16=03 19=18 | kind at frame 1
+am824 | V1/58 16=03 19=18 | V2 | kind at frame 2
+am824 | V3 | V1/58 16=03 19=18 | kind at frame 1
+am824 | V1/58 16=03 19=18 | V3 16=00 | kind at frame 2
+am824 | V1/58 | V2 | format at frame 1
+am824 | V1/58 16=03 19=18 | V1/58 16=02 19=20 | format at frame 2
+am824 | V1/58 16=03 19=00 | V1/58 16=03 19=10 | format at frame 2
+am824 | V1/58 16=03 17=10 19=18 | V1/58 | rate at frame 1
+am824 | V1/58 16=03 19=18 | V1/58 16=03 17=40 19=18 | rate at frame 2
+am824 | V1/58 ..24 16=03 17=5101 19=18 20=0303 zeros:771 | V1/58 | channels at frame 1
+am824 | V1/58 ..24 16=03 17=5100 19=18 20=0300 zeros:768 | V1/58 16=03 19=18 | channels at frame 2
+am824 | V1/58 16=03 19=18 | V1/58 16=03 17=4001 19=18 | rate at frame 2
+aaf | V1/58 | V2 | kind at frame 1
+aaf | V2 | V1/58 16=03 19=18 | kind at frame 2
+aaf | V2 | V3 | kind at frame 2
+aaf | V2 | V2 29=03 76=41 | rate at frame 2
+aaf | V2 | V2 25=01 76=41 | channels at frame 2
+aaf | V2 32=41 | V1/58 | label at frame 1
+aaf | V2 | V2 76=42 | label at frame 2
+";
+
+fn columns(row: &str) -> [&str; 4] {
+    let (first, rest) = row.split_once(" | ").unwrap_or((row, ""));
+    let (second, rest) = rest.split_once(" | ").unwrap_or((rest, ""));
+    let (third, fourth) = rest.split_once(" | ").unwrap_or((rest, ""));
+    [first, second, third, fourth]
+}
+
+#[test]
+fn the_first_fault_of_the_scan_ends_the_run(rt: HostRuntime) -> Result<(), NoMemory> {
+    for row in FAULTS.lines() {
+        let [to, first, second, fault] = columns(row);
+        let lines = format!(in rt.alloc();
+            "\
+< in {first} capture:1000000000
++ in {second} record:1000083333
+< out x00
+$ gateway --to {to} 0200000000010001 in out
+gateway input: {fault}
+[9]
+? out x00
+"
+        )?;
+        follow(&rt, rt.alloc(), &lines)?;
+    }
+    Ok(())
+}
+
+/// Packets that the scan passes over, and one after each that is turned.
+const PASSED: &str = "\
+am824 | V1/58 1=01 | V1/58 16=03 19=18
+am824 | V1/58 11=02 | V1/58 16=03 19=18
+am824 | V1/58 17=5000 | V1/58 16=03 19=18
+am824 | V1/58 ..24 20=0000 | V1/58 16=03 19=18
+am824 | V1/58 17=00 | V1/58 16=03 19=18
+am824 | V1/58 3=01 16=03 19=18 | V1/58 16=03 19=18
+am824 | V2 22=1f | V1/58 16=03 19=18
+am824 | V4 | V1/58 16=03 19=18
+aaf | V2 29=ff 76=42 | V2
+aaf | V2 ..32 21=08 | V2
+aaf | V1/58 ..24 20=0000 | V2
+";
+
+#[test]
+fn a_packet_without_samples_of_the_stream_has_no_fault(rt: HostRuntime) -> Result<(), NoMemory> {
+    for row in PASSED.lines() {
+        let [to, first, second, _] = columns(row);
+        let lines = format!(in rt.alloc();
+            "\
+< in {first} capture:1000000000
++ in {second} record:1000000000
+$ gateway --to {to} 0200000000010001 in out
+gateway batches 1 packets 1 skipped 0
+"
+        )?;
+        follow(&rt, rt.alloc(), &lines)?;
+    }
+    Ok(())
+}
+
+/// A second in 1,000 packets of each format. In the last, the timestamp of a packet of six blocks can be of a later block than
+/// the first.
+const SECONDS: &str = "\
+< a.raw noise:96000
+$ talk --format int24 --rate 32000 --channels 1 --count 32 a.raw c
+talk packets 1000 clock 0
+$ gateway --to am824 0200000000010001 c d
+gateway batches 1000 packets 1000 skipped 0
+$ check d
+capture d
+end frames 1000 streams 1 findings 0
+$ gateway --to aaf 0200000000010001 d e
+gateway batches 1000 packets 1000 skipped 0
+~ e c
+< a.raw x4000010240fffefd*16000
+$ talk --kind am824 --rate 32000 --channels 1 --count 32 a.raw c
+talk packets 1000 clock 0
+$ gateway --to aaf 0200000000010001 c d
+gateway batches 1000 packets 1000 skipped 0
+$ check d
+capture d
+end frames 1000 streams 1 findings 0
+$ gateway --to am824 0200000000010001 d e
+gateway batches 1000 packets 1000 skipped 0
+~ e c
+< a.raw x4000010240fffefd*6000
+$ talk --kind am824 a.raw c
+talk packets 1000 clock 0
+$ gateway --to aaf 0200000000010001 c d
+gateway batches 1000 packets *
+$ gateway --to am824 0200000000010001 d e
+gateway batches *
+$ check e
+capture e
+end frames *
+$ gateway --to aaf 0200000000010001 e f
+gateway batches *
+~ f d
+$ gateway --to am824 0200000000010001 f g
+gateway batches *
+~ g e
+";
+
+#[test]
+fn a_second_turned_there_and_back_is_the_same_bytes(rt: HostRuntime) -> Result<(), NoMemory> {
+    follow(&rt, rt.alloc(), SECONDS)
+}
+
+const TURN: &str = "gateway --to am824 0200000000010001 a.pcap c.pcap";
+
+/// What comes of a capture of 106 bytes if this call of the shelf fails and each call moves at most `most` bytes: the status,
+/// and the size of the capture that is made. The calls open the input, read it and find its end; make the capture; open and
+/// read the input again; and write the capture's 122 bytes, or only its header after a failed read.
+fn made(call: usize, most: usize) -> (Status, Option<usize>) {
+    let reading = 106usize.div_ceil(most.max(1)).saturating_add(2);
+    let create = reading.saturating_add(1);
+    let heard = create.saturating_add(reading);
+    let done = call.saturating_sub(heard);
+    if call <= reading {
+        return (Status::ReadFault, None);
+    }
+    if call == create {
+        return (Status::WriteFault, None);
+    }
+    if done == 0 {
+        return (Status::ReadFault, Some(24));
+    }
+    if done <= 122usize.div_ceil(most.max(1)) {
+        let written = done.saturating_sub(1).saturating_mul(most).min(122);
+        return (Status::WriteFault, Some(written));
+    }
+    (Status::Done, Some(122))
+}
+
+#[test]
+fn a_failing_call_of_either_reading_leaves_a_prefix(rt: HostRuntime) -> Result<(), NoMemory> {
+    let alloc = rt.alloc();
+    let input = bytes_of(alloc, "V1 74=03 77=18")?;
+    let whole = bytes_of(
+        alloc,
+        "V2 ..32 21=28 x400001ff40ff000240fffe004003fffd400004ff40fc000540fffb004006fffa capture:1000000000",
+    )?;
+    for most in [7, 65_536] {
+        for call in 1..=60 {
+            let ran = ended(
+                &rt,
+                alloc,
+                TURN,
+                one_file(alloc, "a.pcap", input.as_slice())?,
+                (call, 0),
+                most,
+            )?;
+            let (status, size) = made(call, most);
+            let text = match status {
+                Status::ReadFault => "read fault\n",
+                Status::WriteFault => "",
+                _ => "gateway batches 1 packets 1 skipped 0\n",
+            };
+            assert_eq!(rt; ran.status, status, "call {call} of {most} bytes");
+            assert!(rt;
+                ran.text.as_slice() == text.as_bytes(),
+                "call {call} of {most} bytes"
+            );
+            let stated = size.map(|size| whole.get(..size).unwrap_or(&[]));
+            assert!(rt;
+                ran.made.as_deref() == stated,
+                "call {call} of {most} bytes"
+            );
+        }
+    }
+    Ok(())
+}
+
+/// The second packet overlaps the first, and the third makes it due.
+const OVERLAPPED: &str = "\
+V1 74=03 77=18
+V1/58 2=01 16=03 19=18 ts:1002062500 record:1000062500
+V1/58 2=02 16=03 19=18 ts:1012000000 record:1010000000
+";
+
+#[test]
+fn a_failing_write_of_the_text_leaves_a_prefix_of_both(rt: HostRuntime) -> Result<(), NoMemory> {
+    let alloc = rt.alloc();
+    let input = file_of(alloc, OVERLAPPED)?;
+    let whole = ended(
+        &rt,
+        alloc,
+        TURN,
+        one_file(alloc, "a.pcap", input.as_slice())?,
+        (0, 0),
+        65_536,
+    )?;
+    assert_eq!(rt; whole.status, Status::Findings);
+    let text = "skip frame 2 overlap\ngateway batches 3 packets 2 skipped 1\n";
+    assert!(rt; whole.text.as_slice() == text.as_bytes());
+    let capture = whole.made.as_deref().unwrap_or(&[]);
+    for most in [7, 65_536] {
+        let mut status = Status::WriteFault;
+        for call in 1..=20 {
+            let ran = ended(
+                &rt,
+                alloc,
+                TURN,
+                one_file(alloc, "a.pcap", input.as_slice())?,
+                (0, call),
+                most,
+            )?;
+            assert!(rt;
+                text.as_bytes().starts_with(&ran.text),
+                "call {call} of {most} bytes"
+            );
+            assert!(rt;
+                capture.starts_with(ran.made.as_deref().unwrap_or(&[])),
+                "call {call} of {most} bytes"
+            );
+            assert!(rt;
+                ran.status == Status::WriteFault || ran.status == Status::Findings,
+                "call {call} of {most} bytes"
+            );
+            status = ran.status;
+        }
+        assert_eq!(rt; status, Status::Findings);
+    }
+    Ok(())
+}
