@@ -9,3 +9,4 @@ pub mod SampleLemmas
 pub mod Accepted
 pub mod Timely
 pub mod Shaped
+pub mod Scanned

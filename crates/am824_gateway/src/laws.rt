@@ -1,6 +1,6 @@
 //! Laws of a gateway. Each is stated by a contract; the call does nothing.
 
-ghost use Rattle.std.specs.Prelude.{◌≡◌, ◌≢◌, ◌++◌, ◌∷◌, [], ℕ, List, None, Option, Some, map};
+ghost use Rattle.std.specs.Prelude.{◌≡◌, ◌≢◌, ◌++◌, ◌∷◌, [], ℕ, IfSome, List, None, Option, Some, map};
 ghost use Rattle.std.specs.List.{AllByRecursion, flat_map};
 ghost use Rattle.talker.specs.Frames.{RiseByArrival};
 ghost use Rattle.sample_schedule.specs.Batches.{Presented};
@@ -49,6 +49,11 @@ pub fn frames_are_short_enough()
 pub fn samples_are_kept()
     ensures { (to : ToValue) (shape : ShapeValue) (given : Given) (batches : List Presented) → IsShape shape →
         flat_map (samples_sent to shape) (cuts_after to shape given batches) ≡ flat_map (samples_presented to shape) (given_batches to shape given batches) }
+{}
+
+/// The shape that a scan finds in records without a fault is one that a gateway can have, if they have any.
+pub fn scanned_shapes_can_be_turned()
+    ensures { (to : ToValue) (stream : ℕ) (records : List Record) → first_fault to stream records ≡ None → IfSome (shape_in stream records) IsShape }
 {}
 
 /// Each batch that a listener presents of records in which a scan finds no fault has the shape that the scan finds. So a gateway

@@ -1,5 +1,8 @@
 -- The outcomes of `gateway`.
-use Rattle.std.proofs.Common.{◌≡◌, ◌≢◌, ℕ, List, [], ◌∷◌, take, Option, Some, None, inl, inr, refl, sym, subst, ◌∙◌}
+use Rattle.std.proofs.Common.{◌≡◌, ◌≢◌, ℕ, ◌^◌, ◌<◌, Bool, true, false, List, [], ◌∷◌, ◌++◌, length, take, Option, Some, None, inl, inr, refl, sym, ap, subst, ◌∙◌, arith}
+use Rattle.std.specs.Prelude.{◌==◌, if◌then◌else◌, IfSome}
+use Rattle.std.specs.List.{AllByRecursion}
+use Rattle.std.proofs.lemmas.Bool.{eqb-true}
 use Rattle.avtp_base.specs.Files.{Files}
 use Rattle.pcap_frames.specs.Capture.{Record}
 use Rattle.capture_io.specs.declared.end.End.{End}
@@ -7,11 +10,24 @@ use Rattle.capture_io.specs.declared.end.End.TheVariants as end
 use Rattle.capture_io.specs.Ends.{EndsAt, end_of}
 use Rattle.capture_io.specs.Formats.{records_in}
 use Rattle.capture_io.proofs.Ending.{ends_here}
-use Rattle.am824_gateway.specs.Scan.{FaultAt}
+use Rattle.sample_schedule.specs.Batches.{Presented}
+use Rattle.am824_gateway.specs.declared.scan.Shape.{Shape}
+use Rattle.am824_gateway.specs.declared.scan.To.{To}
+use Rattle.am824_gateway.specs.declared.skip.Skip.{Skip}
+use Rattle.am824_gateway.specs.Laws.{given_batches}
+use Rattle.am824_gateway.specs.Pieces.{Given, given_with, nothing_given, skip_by, unless}
+use Rattle.am824_gateway.specs.Scan.{FaultAt, IsShape}
+use Rattle.am824_gateway.proofs.Scanned.{scanned_fits}
+use Rattle.gateway_laws.specs.Heard.{BeginsInTime}
+use Rattle.gateway_laws.specs.Kept.{Keeps, SkipsNone}
+use Rattle.gateway_laws.proofs.Kept.{all_kept}
+use Rattle.gateway_laws.proofs.Timely.{due_in_time, shown_in_time}
 use Rattle.avtp_words.specs.Grammar.{Turning}
 use Rattle.avtp_tool.specs.declared.status.Status.{Status}
 use Rattle.avtp_tool.specs.Agree.{side_line}
-use Rattle.avtp_tool.specs.Gateway.{GatewayOutcome, came_by, cut, ended_by, fault_in, faulty, gateway_came, gateway_ended, gateway_made, gateway_report, made_by, records_of, text_by, turned, unopened}
+use Rattle.avtp_tool.specs.declared.status.Status.TheVariants as status
+use Rattle.avtp_tool.specs.Gateway.{GatewayOutcome, HearsInput, KeepsInput, batches_by, came_by, cut, ended_by, fault_in, faulty, format_of, gateway_came, gateway_ended, gateway_made, gateway_report, made_by, records_of, shape_asked, skipped_at, skips_after, skips_in, text_by, turned, turned_capture, turned_status, unopened}
+use Rattle.avtp_tool.specs.Listen.{plan_of}
 use Rattle.avtp_tool.specs.Status.{status_of}
 
 -- ---- if no fault of reading comes
@@ -25,7 +41,9 @@ here_by : (asked : Turning) (files : Files) (fault : Type 0) (bytes : List ℕ) 
     → GatewayOutcome asked files fault (came_by asked at how) (ended_by asked (records_of asked bytes) at how) (text_by asked (records_of asked bytes) at how) (made_by asked (records_of asked bytes) at how)
 here_by asked files fault bytes (Some at) how is found ends = faulty bytes at is found refl refl refl refl
 here_by asked files fault bytes None end.Whole is none ends =
-    turned bytes (take asked.listener.limit bytes) end.Whole is (record { whole = ends; none = none }) (sym ends, refl) refl refl refl refl
+    let prefix : List ℕ = take asked.listener.limit bytes in
+    let hears : HearsInput asked files fault (shape_asked asked (records_of asked bytes)) (batches_by asked (records_in prefix) end.Whole) end.Whole = record { bytes = bytes; prefix = prefix; told = is; can = record { whole = ends; none = none }; ends = (sym ends, refl); shape_is = refl; presented = refl } in
+    turned (shape_asked asked (records_of asked bytes)) (batches_by asked (records_in prefix) end.Whole) end.Whole hears refl refl refl refl
 here_by asked files fault bytes None (end.Refused refusal) is none ends = cut bytes (take asked.listener.limit bytes) (end.Refused refusal) is (sym ends, refl) (λ e. cc) none refl refl refl refl
 here_by asked files fault bytes None end.ReadFault is none ends = absurd (never_fault asked.listener.limit bytes ends)
 here_by asked files fault bytes None end.Limit is none ends = cut bytes (take asked.listener.limit bytes) end.Limit is (sym ends, refl) (λ e. cc) none refl refl refl refl
@@ -77,9 +95,64 @@ gateway_complete {asked} {files} none (faulty bytes at is found c e t m) = turns
 gateway_complete {asked} {files} {fault} {came} {ended} {text} {made} none (cut bytes prefix how is ends other clean c e t m) =
     let at = by_end asked.listener.limit bytes prefix fault how none ends in
     turns_told asked files bytes None how is (subst (λ (p : List ℕ). fault_in asked (records_in p) ≡ None) at.1 clean) at.0 (cut_by asked (records_of asked bytes) came ended text made how other c e t m)
-gateway_complete {asked} {files} {fault} {came} {ended} {text} {made} none (turned bytes prefix how is can ends c e t m) =
-    let at = by_end asked.listener.limit bytes prefix fault how none ends in
-    let whole : how ≡ end.Whole = at.0 ∙ can.whole in
+gateway_complete {asked} {files} {fault} {came} {ended} {text} {made} none (turned shape batches how hears c e t m) =
+    let bytes = hears.bytes in
+    let at = by_end asked.listener.limit bytes hears.prefix fault how none hears.ends in
+    let whole : how ≡ end.Whole = at.0 ∙ hears.can.whole in
+    let all : batches ≡ batches_by asked (records_of asked bytes) end.Whole = hears.presented ∙ rw (whole, at.1) refl in
     let by : TurnsBy asked (records_of asked bytes) came ended text made None end.Whole =
-    subst (λ (p : List ℕ). TurnsBy asked (records_of asked bytes) came ended text made None end.Whole) at.1 (c, e ∙ rw (whole, at.1) refl, t ∙ rw (whole, at.1) refl, m ∙ rw (whole, at.1) refl) in
-    turns_told asked files bytes None end.Whole is can.none (sym can.whole) by
+    (c, e ∙ rw (whole, all, hears.shape_is) refl, t ∙ rw (whole, all, hears.shape_is) refl, m ∙ rw (all, hears.shape_is) refl) in
+    turns_told asked files bytes None end.Whole hears.told hears.can.none (sym hears.can.whole) by
+
+-- ---- what the capture keeps
+
+-- a batch that is not skipped is given out, and changes nothing otherwise
+none_skipped : (to : To) (shape : Shape) (given : Given) (batches : List Presented) → skips_after to (Some shape) given batches ≡ [] → given_batches to shape given batches ≡ batches
+none_skipped to shape given [] none = refl
+none_skipped to shape given (batch ∷ batches) none = by (skip_by to shape given batch) none (λ rest. none_skipped to shape (given_with to shape given batch) batches rest) where
+  by : (skip : Option Skip) → skipped_at batch.frame skip ++ skips_after to (Some shape) (unless skip (given_with to shape given batch) given) batches ≡ []
+      → (skips_after to (Some shape) (given_with to shape given batch) batches ≡ [] → given_batches to shape (given_with to shape given batch) batches ≡ batches)
+      → unless skip (batch ∷ given_batches to shape (given_with to shape given batch) batches) (given_batches to shape given batches) ≡ batch ∷ batches
+  by None none so = ap (λ (l : List Presented). batch ∷ l) (so none)
+  by (Some why) none so = absurd cc
+
+skips_none : (to : To) (shape : Option Shape) (batches : List Presented) → skips_after to shape nothing_given batches ≡ [] → SkipsNone to shape batches
+skips_none to None [] none = refl
+skips_none to None (batch ∷ batches) none = absurd cc
+skips_none to (Some shape) batches none = none_skipped to shape nothing_given batches none
+
+-- a run that ends with status 0 skipped nothing
+done_none : {S : Type 0} (skips : List S) (how : End) → turned_status (length skips) how ≡ status.Done → skips ≡ []
+done_none [] how done = refl
+done_none (skip ∷ skips) end.Whole done = absurd (by (length (skip ∷ skips) == 0) refl done) where
+  by : (b : Bool) → (length (skip ∷ skips) == 0) ≡ b → (if b then status.Done else status.Findings) ≡ status.Done → ⊥
+  by true none e = let n : length (skip ∷ skips) ≡ 0 = eqb-true _ _ none in omega (arith, n)
+  by false some e = cc
+done_none (skip ∷ skips) (end.Refused refusal) done = absurd cc
+done_none (skip ∷ skips) end.ReadFault done = absurd cc
+done_none (skip ∷ skips) end.Limit done = absurd cc
+
+-- batches that are presented begin in time
+begin_in_time : (asked : Turning) (records : List Record) (how : End) → AllByRecursion BeginsInTime (batches_by asked records how)
+begin_in_time asked records end.Whole = shown_in_time (plan_of asked.listener) records
+begin_in_time asked records (end.Refused refusal) = shown_in_time (plan_of asked.listener) records
+begin_in_time asked records end.ReadFault = due_in_time (plan_of asked.listener) records
+begin_in_time asked records end.Limit = due_in_time (plan_of asked.listener) records
+
+pub keeps_input : {asked : Turning} {files : Files} {fault : Type 0} {came : List (List ℕ)} {ended : Status} {text : List ℕ} {made : Option (List ℕ)} (capture : List ℕ) → asked.id < 2 ^ 64 → GatewayOutcome asked files fault came ended text made → made ≡ Some capture
+    → KeepsInput asked files fault ended capture
+keeps_input capture small (unopened is c e t m) some = absurd cc
+keeps_input capture small (faulty bytes at is found c e t m) some = absurd cc
+keeps_input capture small (cut bytes prefix how is ends other clean c e t m) some = absurd cc
+keeps_input {asked} {files} {fault} {ended = ended} capture small (turned shape batches how hears c e t m) some =
+    let is : turned_capture asked shape batches ≡ capture = cc in
+    let fits : IfSome shape IsShape = subst (λ (s : Option Shape). IfSome s IsShape) (sym hears.shape_is) (scanned_fits (format_of asked.to) asked.listener.stream (records_of asked hears.bytes) hears.can.none) in
+    let begins : AllByRecursion BeginsInTime batches = subst (AllByRecursion BeginsInTime) (sym hears.presented) (begin_in_time asked (records_in hears.prefix) how) in
+    record {
+      shape = shape;
+      batches = batches;
+      how = how;
+      heard = hears;
+      keeps = subst (Keeps (format_of asked.to) shape asked.id batches) is (all_kept (format_of asked.to) shape asked.id batches fits small begins);
+      all = λ done. skips_none (format_of asked.to) shape batches (done_none (skips_in asked shape batches) how (sym e ∙ done));
+    }

@@ -1,5 +1,5 @@
 -- A run that did what the words ask for, and whose text was then written, keeps what the command promises.
-use Rattle.std.proofs.Common.{◌≡◌, ◌≢◌, ℕ, ℤ, List, [], Some, Result, Bool, false, inl, inr, refl, sym, ap, subst, ◌∙◌, arith}
+use Rattle.std.proofs.Common.{◌≡◌, ◌≢◌, ℕ, ℤ, List, [], Option, Some, Result, Bool, false, inl, inr, refl, sym, ap, subst, ◌∙◌, arith}
 use Rattle.std.specs.Prelude.{IfOk, IsSome}
 use Rattle.avtp_base.specs.declared.failed.Failed.{Failed}
 use Rattle.avtp_base.specs.Faults.{IsCounted}
@@ -13,14 +13,17 @@ use Rattle.avtp_text.proofs.Growth.{grows_further}
 use Rattle.avtp_text.proofs.Printing.{prefix_none}
 use Rattle.packet_journal.specs.Packets.{PacketJournal}
 use Rattle.sample_schedule.specs.declared.shown.Shown.{Shown}
-use Rattle.avtp_words.specs.Grammar.{Agreeing, output_of, Listening, Request}
+use Rattle.avtp_words.specs.Grammar.{Agreeing, IsCommandLine, gateway, output_of, Listening, Request, Turning}
+use Rattle.avtp_words.proofs.Commands.{gateway_id}
 use Rattle.avtp_tool.specs.declared.status.Status.{Status}
 use Rattle.avtp_tool.specs.declared.status.Status.TheVariants as status
 use Rattle.avtp_tool.specs.Agree.{HasAgreement, agree_report, compared_text}
 use Rattle.avtp_tool.proofs.AgreeRun.{has_agreement}
+use Rattle.avtp_tool.specs.Gateway.{KeepsInput}
+use Rattle.avtp_tool.proofs.GatewayRun.{keeps_input}
 use Rattle.avtp_tool.specs.HasRun.{ComparesTalker, HasRun, HearsFile, RefusesWords, Reports}
 use Rattle.avtp_tool.specs.Listen.{HasHeadline}
-use Rattle.avtp_tool.specs.Run.{came_for, is_listening, made_for, names_of, status_for, yield_for}
+use Rattle.avtp_tool.specs.Run.{Outcome, came_for, is_listening, made_for, names_of, status_for, yield_for}
 use Rattle.avtp_tool.specs.Yield.{Yield}
 use Rattle.avtp_tool.specs.Made.{MakesOutput}
 use Rattle.avtp_tool.specs.state.Outcome.{EndsWith, Finishes}
@@ -47,10 +50,18 @@ headline_of request files failed yields asked name bytes shift p whole hears =
     subst (HasHeadline asked name shift p bytes) (sym same)
     (has_headline asked files failed hears.earlier hears.later name bytes shift p hears.named hears.done hears.told hears.fits hears.hears)
 
-reports_of : {request : Request} {handed : List Shown → Type 0} {failed : Bool} {shelf shelf' : ShelfState} {out mid out' : SinkState} {w w1 w2 : List ℕ} {r : Result Status Failed} {ended : Status}
-    → w ≡ [] → Runs request handed failed shelf shelf' out mid w w1 r → Finishes mid out' w1 w2 r ended → Grows out.held out'.held
+-- the capture that `gateway` makes, by an outcome of its run
+kept_of : (words : List (List ℕ)) (request : Request) (files : Files) (fault : Type 0) (failed : Bool) (came : List (List ℕ)) (reached : Status) (yields : Yield) (made : Option (List ℕ)) (asked : Turning) (capture : List ℕ)
+    → IsCommandLine words request → Outcome request files fault failed came reached yields made → request ≡ gateway asked → made ≡ Some capture → KeepsInput asked files fault reached capture
+kept_of words request files fault failed came reached yields made asked capture line outcome same some =
+    let says = subst (IsCommandLine words) same line in
+    let turns = subst (λ (q : Request). Outcome q files fault failed came reached yields made) same outcome in
+    keeps_input capture (gateway_id words asked says.0) turns.0 some
+
+reports_of : (words : List (List ℕ)) {request : Request} {handed : List Shown → Type 0} {failed : Bool} {shelf shelf' : ShelfState} {out mid out' : SinkState} {w w1 w2 : List ℕ} {r : Result Status Failed} {ended : Status}
+    → IsCommandLine words request → w ≡ [] → Runs request handed failed shelf shelf' out mid w w1 r → Finishes mid out' w1 w2 r ended → Grows out.held out'.held
     → (files : Files) → shelf.files ≡ Some files → IsSome shelf'.files → Reports request files failed handed shelf shelf' out out' ended
-reports_of {request} {handed} {failed} {shelf} {shelf'} {out} {mid} {out'} {w} {w1} {w2} {r} {ended} none runs finishes grown files told some =
+reports_of words {request} {handed} {failed} {shelf} {shelf'} {out} {mid} {out'} {w} {w1} {w2} {r} {ended} line none runs finishes grown files told some =
     let so = runs.tells files told some in
     let tells = so.tells in
     record {
@@ -77,17 +88,18 @@ reports_of {request} {handed} {failed} {shelf} {shelf'} {out} {mid} {out'} {w} {
       agreement = λ quiet asked x y shift p compares.
           agreement_of request files failed tells.yields asked x y shift p
           (complete_of request files _ failed tells.came tells.ended tells.yields so.made (quiet_not _ _ quiet) tells.outcome).2 compares;
+      kept = λ asked capture same some. kept_of words request files _ failed tells.came tells.ended tells.yields so.made asked capture line tells.outcome same some;
     }
 
 -- ---- the command
 
-pub has_run : {request : Request} {handed : List Shown → Type 0} {still : Type 0} {failed : Bool} {shelf shelf' : ShelfState} {out mid out' : SinkState} {w w1 w2 : List ℕ} {r : Result Status Failed} {ended : Status}
-    → w ≡ [] → Runs request handed failed shelf shelf' out mid w w1 r → Finishes mid out' w1 w2 r ended → (is_listening request ≡ false → still)
+pub has_run : (words : List (List ℕ)) {request : Request} {handed : List Shown → Type 0} {still : Type 0} {failed : Bool} {shelf shelf' : ShelfState} {out mid out' : SinkState} {w w1 w2 : List ℕ} {r : Result Status Failed} {ended : Status}
+    → IsCommandLine words request → w ≡ [] → Runs request handed failed shelf shelf' out mid w w1 r → Finishes mid out' w1 w2 r ended → (is_listening request ≡ false → still)
     → HasRun request handed still failed shelf shelf' out out' ended
-has_run {request} {handed} {still} {failed} {shelf} {shelf'} {out} {mid} {out'} {w} {w1} {w2} {r} {ended} none runs finishes silent =
+has_run words {request} {handed} {still} {failed} {shelf} {shelf'} {out} {mid} {out'} {w} {w1} {w2} {r} {ended} line none runs finishes silent =
     let grown = grows_further _ _ _ runs.sink.grows finishes.grows in
     record {
-      reports = reports_of none runs finishes grown;
+      reports = reports_of words line none runs finishes grown;
       grows = grown;
       files = runs.files;
       slots = runs.slots;
@@ -119,9 +131,9 @@ has_run {request} {handed} {still} {failed} {shelf} {shelf'} {out} {mid} {out'} 
     }
 
 -- no memory was found for the text, so nothing was done
-pub no_memory : (request : Request) (handed : List Shown → Type 0) (still : Type 0) (failed : Bool) (shelf : ShelfState) (out : SinkState) → handed [] → still
+pub no_memory : (words : List (List ℕ)) (request : Request) (handed : List Shown → Type 0) (still : Type 0) (failed : Bool) (shelf : ShelfState) (out : SinkState) → IsCommandLine words request → handed [] → still
     → HasRun request handed still failed shelf shelf out out status.Memory
-no_memory request handed still failed shelf out nothing kept = record {
+no_memory words request handed still failed shelf out line nothing kept = record {
   reports = λ files told some. record {
     came = came_for request files;
     reached = status_for request files failed;
@@ -137,6 +149,8 @@ no_memory request handed still failed shelf out nothing kept = record {
     complete = λ quiet. (refl, refl, refl, refl);
     headline = λ quiet asked name bytes shift p hears. headline_of request files failed (yield_for request files failed) asked name bytes shift p refl hears;
     agreement = λ quiet asked x y shift p compares. agreement_of request files failed (yield_for request files failed) asked x y shift p refl compares;
+    kept = λ asked capture same some.
+        kept_of words request files _ failed (came_for request files) (status_for request files failed) (yield_for request files failed) (made_for request files) asked capture line (outcome_here request files _ failed) same some;
   };
   grows = record { more = []; appends = Appends-nil out.held };
   files = files_still (output_of request) shelf.files;

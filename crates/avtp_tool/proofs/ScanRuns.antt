@@ -1,5 +1,5 @@
 -- The run of `gateway`, by what its scan found.
-use Rattle.std.proofs.Common.{◌≡◌, ◌≢◌, ℕ, true, false, List, [], ◌∷◌, length, take, Option, Some, None, Result, Ok, Err, inl, inr, refl, sym, ap, subst, ◌∙◌, arith}
+use Rattle.std.proofs.Common.{◌≡◌, ◌≢◌, ℕ, true, false, List, [], ◌∷◌, take, Option, Some, None, Result, Ok, Err, inl, inr, refl, sym, ap, subst, ◌∙◌, arith}
 use Rattle.std.specs.Prelude.{IfOk, IsErrOf, IsSome}
 use Rattle.avtp_base.specs.declared.failed.Failed.{Failed}
 use Rattle.avtp_base.specs.declared.failed.OpenFault.{OpenFault}
@@ -24,7 +24,7 @@ use Rattle.avtp_tool.specs.declared.scanning.Scanned.TheVariants as scanned
 use Rattle.avtp_tool.specs.declared.status.Status.{Status}
 use Rattle.avtp_tool.specs.declared.status.Status.TheVariants as status
 use Rattle.avtp_tool.specs.Agree.{side_line}
-use Rattle.avtp_tool.specs.Gateway.{CanTurn, GatewayOutcome, batches_by, cut, fault_line, faulty, gateway_came, gateway_ended, gateway_made, gateway_report, shape_asked, skips_in, turned, turned_capture, turned_status, turned_text, unopened}
+use Rattle.avtp_tool.specs.Gateway.{CanTurn, GatewayOutcome, HearsInput, batches_by, cut, fault_line, faulty, gateway_came, gateway_ended, gateway_made, gateway_report, records_of, shape_asked, turned, unopened}
 use Rattle.avtp_tool.specs.Made.{MakesOutput}
 use Rattle.avtp_tool.specs.Outcome.{AsksFor, is_done, IsOneMissing}
 use Rattle.avtp_tool.specs.Run.{Outcome}
@@ -141,13 +141,11 @@ unscanned_runs {s} {t} {result = result} asked why scan ends =
 
 -- for the files and the counts before the scan, and the shape that it found
 outcome_since : (asked : Turning) (all : Files) (shape : Option Shape) (bytes : List ℕ) (a b : Type 0) (ended : Status) (text : List ℕ) (made : Option (List ℕ)) → (a → b) → all asked.input ≡ Some bytes
-    → CanTurn asked bytes → shape ≡ shape_asked asked (records_in (take asked.listener.limit bytes)) → TurnedOutcome asked shape bytes a ended text made
+    → CanTurn asked bytes → shape ≡ shape_asked asked (records_of asked bytes) → TurnedOutcome asked shape bytes a ended text made
     → GatewayOutcome asked all b (asked.input ∷ asked.output ∷ asked.input ∷ []) ended text made
 outcome_since asked all shape bytes a b ended text made weaker is can same o =
-    turned bytes o.prefix o.how is can (ends_weaker asked.listener.limit (Some bytes) a b o.how o.prefix weaker o.ends) refl
-    (o.status ∙ ap (λ (x : Option Shape). turned_status (length (skips_in asked x (batches_by asked (records_in o.prefix) o.how))) o.how) same)
-    (o.printed ∙ ap (λ (x : Option Shape). turned_text asked x (batches_by asked (records_in o.prefix) o.how) o.how) same)
-    (o.written ∙ ap (λ (x : Option Shape). Some (turned_capture asked x (batches_by asked (records_in o.prefix) o.how))) same)
+    let hears : HearsInput asked all b shape (batches_by asked (records_in o.prefix) o.how) o.how = record { bytes = bytes; prefix = o.prefix; told = is; can = can; ends = ends_weaker asked.listener.limit (Some bytes) a b o.how o.prefix weaker o.ends; shape_is = same; presented = refl } in
+    turned shape (batches_by asked (records_in o.prefix) o.how) o.how hears refl o.status o.printed o.written
 
 own_never : (result : Result Status Failed) (other : Status) → is_of_gateway other ≡ false → IfOk result (λ e. is_of_gateway e ≡ true) → result ≡ Ok other → ⊥
 own_never (Ok e) other never own is = let same : e ≡ other = ok_same (Ok e) e other refl is in let t : true ≡ false = sym own ∙ (ap is_of_gateway same ∙ never) in cc

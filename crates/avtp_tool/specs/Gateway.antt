@@ -19,6 +19,7 @@ use Rattle.am824_gateway.specs.declared.skip.Skip.TheVariants as skip
 use Rattle.am824_gateway.specs.Packets.{gateway_frames}
 use Rattle.am824_gateway.specs.Pieces.{Given, given_with, nothing_given, skip_by, skip_of, unless}
 use Rattle.am824_gateway.specs.Scan.{FaultAt, first_fault, shape_in}
+use Rattle.gateway_laws.specs.Kept.{Keeps, SkipsNone}
 use Rattle.avtp_words.specs.declared.gateway.GatewayFormat.{GatewayFormat}
 use Rattle.avtp_words.specs.declared.gateway.GatewayFormat.TheVariants as words
 use Rattle.avtp_words.specs.Grammar.{Turning}
@@ -84,6 +85,10 @@ skips_after to shape given (batch ∷ batches) =
 
 -- ---- a capture that is turned
 
+-- the records of IN that are read
+abbrev pub records_of : Turning → List ℕ → List Record
+records_of asked bytes = records_in (take asked.listener.limit bytes)
+
 -- the first record that cannot be turned, if there is one
 abbrev pub fault_in : Turning → List Record → Option FaultAt
 fault_in asked records = first_fault (format_of asked.to) asked.listener.stream records
@@ -129,7 +134,18 @@ turned_status skipped how = status_of how
 -- The capture was scanned to its end, and each record can be turned.
 pub record CanTurn (asked : Turning) (bytes : List ℕ) : Type 0 where
   pub whole : end_of asked.listener.limit bytes ≡ end.Whole
-  pub none : fault_in asked (records_in (take asked.listener.limit bytes)) ≡ None
+  pub none : fault_in asked (records_of asked bytes) ≡ None
+
+-- IN can be turned, and its stream has this shape. It was read again, to its end or to a fault of reading, and a listener presents
+-- these batches of what was read.
+pub record HearsInput (asked : Turning) (files : Files) (fault : Type 0) (shape : Option Shape) (batches : List Presented) (how : End) : Type 0 where
+  pub bytes : List ℕ
+  pub prefix : List ℕ
+  pub told : files asked.input ≡ Some bytes
+  pub can : CanTurn asked bytes
+  pub ends : EndsAt asked.listener.limit (Some bytes) fault how prefix
+  pub shape_is : shape ≡ shape_asked asked (records_of asked bytes)
+  pub presented : batches ≡ batches_by asked (records_in prefix) how
 
 -- Over the files that a shelf tells, `gateway` can reach these names, end with this status, print this and make this. `fault` is
 -- what a fault of reading needs.
@@ -138,19 +154,26 @@ pub data GatewayOutcome (asked : Turning) (files : Files) (fault : Type 0) (came
   unopened : IsUnopened files fault asked.input → came ≡ asked.input ∷ [] → ended ≡ status.ReadFault → text ≡ read_fault_line → made ≡ None
       → GatewayOutcome asked files fault came ended text made
   -- A record of IN cannot be turned.
-  faulty : (bytes : List ℕ) (at : FaultAt) → files asked.input ≡ Some bytes → fault_in asked (records_in (take asked.listener.limit bytes)) ≡ Some at
+  faulty : (bytes : List ℕ) (at : FaultAt) → files asked.input ≡ Some bytes → fault_in asked (records_of asked bytes) ≡ Some at
       → came ≡ asked.input ∷ [] → ended ≡ status.TalkInput → text ≡ fault_line at → made ≡ None → GatewayOutcome asked files fault came ended text made
   -- The scan ended before the end of IN, and each record before that place can be turned.
   cut : (bytes prefix : List ℕ) (how : End) → files asked.input ≡ Some bytes → EndsAt asked.listener.limit (Some bytes) fault how prefix → how ≢ end.Whole
       → fault_in asked (records_in prefix) ≡ None → came ≡ asked.input ∷ [] → ended ≡ status_of how → text ≡ side_line asked.listener.limit how → made ≡ None
       → GatewayOutcome asked files fault came ended text made
-  -- IN was scanned, OUT was made, and IN was read again, to its end or to a fault of reading.
-  turned : (bytes prefix : List ℕ) (how : End) → files asked.input ≡ Some bytes → CanTurn asked bytes → EndsAt asked.listener.limit (Some bytes) fault how prefix
-      → came ≡ asked.input ∷ asked.output ∷ asked.input ∷ []
-      → ended ≡ turned_status (length (skips_in asked (shape_asked asked (records_in (take asked.listener.limit bytes))) (batches_by asked (records_in prefix) how))) how
-      → text ≡ turned_text asked (shape_asked asked (records_in (take asked.listener.limit bytes))) (batches_by asked (records_in prefix) how) how
-      → made ≡ Some (turned_capture asked (shape_asked asked (records_in (take asked.listener.limit bytes))) (batches_by asked (records_in prefix) how))
+  -- IN was scanned, OUT was made, and IN was read again.
+  turned : (shape : Option Shape) (batches : List Presented) (how : End) → HearsInput asked files fault shape batches how → came ≡ asked.input ∷ asked.output ∷ asked.input ∷ []
+      → ended ≡ turned_status (length (skips_in asked shape batches)) how → text ≡ turned_text asked shape batches how → made ≡ Some (turned_capture asked shape batches)
       → GatewayOutcome asked files fault came ended text made
+
+-- What a capture keeps that `gateway` makes of IN: it is whole; a listener presents just the samples of the batches that are presented
+-- of IN and not skipped, in order, with the same values at the same instants; and `check` finds nothing. With status 0 none is skipped.
+pub record KeepsInput (asked : Turning) (files : Files) (fault : Type 0) (ended : Status) (capture : List ℕ) : Type 0 where
+  pub shape : Option Shape
+  pub batches : List Presented
+  pub how : End
+  pub heard : HearsInput asked files fault shape batches how
+  pub keeps : Keeps (format_of asked.to) shape asked.id batches capture
+  pub all : ended ≡ status.Done → SkipsNone (format_of asked.to) shape batches
 
 -- ---- if no fault of reading comes
 
@@ -176,10 +199,6 @@ abbrev pub made_by : Turning → List Record → Option FaultAt → End → Opti
 made_by asked records (Some at) how = None
 made_by asked records None end.Whole = Some (turned_capture asked (shape_asked asked records) (batches_by asked records end.Whole))
 made_by asked records None how = None
-
--- the records of IN that are read
-abbrev pub records_of : Turning → List ℕ → List Record
-records_of asked bytes = records_in (take asked.listener.limit bytes)
 
 -- the names that `gateway` asks for, by what a shelf tells of IN
 abbrev pub gateway_came : Turning → Option (List ℕ) → List (List ℕ)

@@ -11,10 +11,11 @@ use Rattle.sample_schedule.specs.declared.shown.Shown.{Shown}
 use Rattle.listener.specs.Laws.{HearsTalker}
 use Rattle.avtp_text.specs.Notices.{words_line}
 use Rattle.avtp_text.specs.Written.{AppendsPrefix, Grows}
-use Rattle.avtp_words.specs.Grammar.{agree, Agreeing, files_of, listen, Listening, output_of, Request}
+use Rattle.avtp_words.specs.Grammar.{agree, Agreeing, files_of, gateway, listen, Listening, output_of, Request, Turning}
 use Rattle.avtp_tool.specs.declared.status.Status.{Status}
 use Rattle.avtp_tool.specs.declared.status.Status.TheVariants as status
 use Rattle.avtp_tool.specs.Agree.{HasAgreement}
+use Rattle.avtp_tool.specs.Gateway.{KeepsInput}
 use Rattle.avtp_tool.specs.Listen.{HasHeadline, listen_status, plan_of}
 use Rattle.avtp_tool.specs.Made.{KeepsFilesBut, KeepsSlotsFor, MakesOutput, MakesPart}
 use Rattle.avtp_tool.specs.Outcome.{AsksFor, IsOneMissing}
@@ -78,6 +79,9 @@ pub record Reports (request : Request) (files : Files) (failed : Bool) (handed :
   -- What `agree` prints of two captures of a talker that keeps the rules.
   pub agreement : ReadsAll shelf shelf' → (asked : Agreeing) (x y : List ℕ) (shift : ℤ) (p : PacketJournal) →
       ComparesTalker request files asked x y shift p → HasAgreement asked p x y yields.text
+  -- What a capture keeps that `gateway` makes.
+  pub kept : (asked : Turning) (capture : List ℕ) → request ≡ gateway asked → made ≡ Some capture →
+      KeepsInput asked files (Rose shelf.reading_faults shelf'.reading_faults) reached capture
 
 -- ---- why a run ended with a fault
 

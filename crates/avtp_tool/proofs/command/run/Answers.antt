@@ -8,7 +8,7 @@ use Rattle.avtp_tool.proofs.command.run.Goals as goal
 -- ---- no memory was found for the text
 
 pub returns-in_default-clause-has_run : goal.returns-in_default-clause-has_run
-returns-in_default-clause-has_run g c request line = no_memory request _ _ _ _ _ (hands_nothing g.D.Devices.handed c.args.rack.now) refl
+returns-in_default-clause-has_run g c request line = no_memory _ request _ _ _ _ _ line (hands_nothing g.D.Devices.handed c.args.rack.now) refl
 
 pub returns-in_default-clause-refuses : goal.returns-in_default-clause-refuses
 returns-in_default-clause-refuses g c position offence = tells_nothing position _ _ (refl, refl)
@@ -16,7 +16,7 @@ returns-in_default-clause-refuses g c position offence = tells_nothing position 
 -- ---- the text was written
 
 pub returns-clause-has_run : goal.returns-clause-has_run
-returns-clause-has_run g c request line = has_run c.in-Ok.ensures (c.execute-ended.ensures.runs request line) c.finish.ensures (c.execute-ended.ensures.devices request line)
+returns-clause-has_run g c request line = has_run _ line c.in-Ok.ensures (c.execute-ended.ensures.runs request line) c.finish.ensures (c.execute-ended.ensures.devices request line)
 
 pub returns-clause-refuses : goal.returns-clause-refuses
 returns-clause-refuses g c position offence =
