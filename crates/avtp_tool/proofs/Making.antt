@@ -1,16 +1,20 @@
 -- What a run leaves of the file that it makes.
-use Rattle.std.proofs.Common.{◌≡◌, ℕ, suc, ◌≤◌, take, if◌then◌else◌, List, [], ◌∷◌, ◌++◌, Option, Some, None, Result, Ok, Err, true, false, inl, inr, refl, sym, ap, subst, ◌∙◌, append-nil, append_assoc, arith}
-use Rattle.std.specs.Prelude.{◌≢◌, ◌⊎◌, IfOk, IsErr, IsOk, IsSome, is_err}
+use Rattle.std.proofs.Common.{◌≡◌, ℕ, suc, ◌≤◌, drop, take, take-append-drop, if◌then◌else◌, List, [], ◌∷◌, ◌++◌, Option, Some, None, Result, Ok, Err, true, false, inl, inr, refl, sym, ap, subst, ◌∙◌, append-nil, append_assoc, arith}
+use Rattle.std.specs.Prelude.{◌≢◌, ◌⊎◌, IfOk, IsOk, IsSome, flat_map, option_and_then, option_map}
+use Rattle.std.proofs.lemmas.Bool.Decides.{eqb_tells}
+use Rattle.std.proofs.lemmas.Grind.{flat_map-append}
 use Rattle.avtp_base.specs.declared.failed.Failed.{Failed}
 use Rattle.avtp_base.specs.declared.failed.OpenFault.{OpenFault}
 use Rattle.avtp_base.specs.declared.failed.OpenFault.TheVariants as open_fault
-use Rattle.avtp_base.specs.Faults.{IsCounted, Rose}
-use Rattle.avtp_base.specs.Files.{Files, Slots, KeepsFiles, KeepsSlots, PutsFile, name_in}
+use Rattle.avtp_base.specs.Faults.{Rose}
+use Rattle.avtp_base.specs.Files.{Files, Open, Slots, KeepsFiles, KeepsOtherFiles, KeepsSlots, PutsFile, file_of, left_in, name_in}
 use Rattle.avtp_base.specs.States.{Asks, ShelfState, WasAsked}
-use Rattle.avtp_base.proofs.Files.{KeepsFiles-refl, KeepsFiles-puts, KeepsFiles-trans}
-use Rattle.capture_io.specs.Writing.{IsWriting, KeepsSlotsBut, MakesPrefix, PutsPrefix, Writing}
+use Rattle.avtp_base.proofs.Files.{KeepsFiles-refl, KeepsFiles-puts, KeepsFiles-trans, named_as}
+use Rattle.pcap_frames.specs.Capture.{Record, header_spelling, record_spelling}
+use Rattle.capture_io.specs.CaptureWriting.{BeginsCapture, ClosesCapture, HoldsCapture, capture_bytes, written_style}
+use Rattle.capture_io.specs.Writing.{KeepsSlotsBut, MakesPrefix, PutsPrefix, Writing}
 use Rattle.avtp_tool.specs.Made.{KeepsFilesBut, KeepsSlotsFor, MakesOutput, MakesPart}
-use Rattle.avtp_tool.specs.state.Made.{CountsWriting, IsWritingPart, Makes, MakesFile, unmade_as}
+use Rattle.avtp_tool.specs.state.Made.{CountsWriting, Makes, MakesFile, unmade_as}
 use Rattle.avtp_tool.specs.Outcome.{AsksFor, is_done}
 use Rattle.avtp_tool.specs.state.Outcome.{IsDone}
 use Rattle.avtp_tool.specs.state.Talk.{WritesOnly}
@@ -90,32 +94,44 @@ made_all name bytes ok put slots reading writing asked = record {
   asked = asks_one name asked;
 }
 
--- ---- the bytes that were written
+-- ---- the capture that was written
 
--- the shelf failed, and a prefix of them was
-pub wrote_part : {s t : ShelfState} {w : Writing} {name : List ℕ} (bytes prefix rest : List ℕ) (result : Result Unit Failed) → IsErr result → prefix ++ rest ≡ bytes → IsWriting s t w name prefix
-    → IsWritingPart s t w name bytes result
-wrote_part bytes prefix rest (Ok x) err split writing = absurd cc
-wrote_part bytes prefix rest (Err e) err split writing = record { prefix = prefix; rest = rest; split = sym split; whole = tt; writing = writing }
+-- its first records make a prefix of it
+pub capture_first : (records : List Record) (n : ℕ) → (rest : List ℕ) × (capture_bytes records ≡ capture_bytes (take n records) ++ rest)
+capture_first records n =
+    let one : Record → List ℕ = record_spelling written_style in
+    let header : List ℕ = header_spelling written_style in (
+      flat_map one (drop n records),
+      sym (append_assoc header (flat_map one (take n records)) (flat_map one (drop n records))
+          ∙ ap (λ (b : List ℕ). header ++ b) (sym (flat_map-append one (take n records) (drop n records)) ∙ ap (flat_map one) (take-append-drop n records))),
+    )
 
--- no byte more was to be written
-pub wrote_to_end : {s t : ShelfState} {w : Writing} {name : List ℕ} (bytes prefix : List ℕ) (ok : Unit) → prefix ≡ bytes → IsWriting s t w name prefix → IsWritingPart s t w name bytes (Ok ok)
-wrote_to_end bytes prefix ok is writing = record { prefix = prefix; rest = []; split = sym is ∙ sym (append-nil prefix); whole = refl; writing = writing }
+-- its file was made, written and closed: each slot is as it was, but for what is left to read of the file
+pub slots_closed : {s t u v : ShelfState} {w w' : Writing} {name : List ℕ} {result : Result Unit Failed} (records : List Record) → BeginsCapture s t name (Ok w) → KeepsOtherFiles t.slots u.slots (name_in t.slots w.slot) → w'.slot ≡ w.slot
+    → HoldsCapture s.files u w' name records → ClosesCapture u v w' result → KeepsSlotsBut s.files s.slots v.slots name
+slots_closed {s} {t} {u} {v} {w} {w'} {name} records begins others slot holds closes = record { same = same; left = left } where
+  freed : v.slots w.slot ≡ s.slots w.slot
+  freed = ap v.slots (sym slot) ∙ (closes.free s.files name records holds ∙ sym begins.fresh)
 
--- all of them
-pub wrote_all : {s t : ShelfState} {w : Writing} {name bytes : List ℕ} (result : Result Unit Failed) → is_err result ≡ false → IsWritingPart s t w name bytes result → IsWriting s t w name bytes
-wrote_all {s} {t} {w} {name} {bytes} (Ok ok) went p = subst (IsWriting s t w name) (sym (p.split ∙ (ap (λ (l : List ℕ). p.prefix ++ l) p.whole ∙ append-nil p.prefix))) p.writing
-wrote_all (Err e) went p = absurd cc
+  same : (j : ℕ) → option_map file_of (v.slots j) ≡ option_map file_of (s.slots j)
+  same j =
+      elim (eqb_tells j w.slot) [
+        | inl is ↦ subst (λ (n : ℕ). option_map file_of (v.slots n) ≡ option_map file_of (s.slots n)) (sym is.1) (ap (option_map file_of) freed)
+        | inr other ↦ (closes.beside s.files name records holds).same j (λ e. other.1 (e ∙ slot)) ∙ (others.same j ∙ begins.beside.same j other.1)
+      ]
 
-pub still_counted : (result : Result Unit Failed) (before after : ℕ) → is_err result ≡ false → IsCounted before after result → after ≡ before
-still_counted (Ok ok) before after went counts = counts.ok
-still_counted (Err e) before after went counts = absurd cc
+  left : IsSome s.files → (j : ℕ) → name_in s.slots j ≢ Some name → left_in v.slots j ≡ left_in s.slots j
+  left told j differs =
+      elim (eqb_tells j w.slot) [
+        | inl is ↦ subst (λ (n : ℕ). left_in v.slots n ≡ left_in s.slots n) (sym is.1) (ap (option_and_then (λ (x : Open). x.left)) freed)
+        | inr other ↦
+            let named_t : name_in t.slots j ≡ name_in s.slots j = named_as (s.slots j) (t.slots j) (begins.beside.same j other.1) in
+            let named_u : name_in u.slots j ≡ name_in t.slots j = named_as (t.slots j) (u.slots j) (others.same j) in
+            (closes.beside s.files name records holds).left told j (λ e. other.1 (e ∙ slot)) (λ e. differs (sym named_t ∙ (sym named_u ∙ e)))
+            ∙ (others.left j (λ e. differs (sym named_t ∙ (e ∙ begins.begun.named told))) ∙ begins.beside.left told j other.1 differs)
+      ]
 
-pub failed_counted : (result : Result Unit Failed) (before after : ℕ) → is_err result ≡ true → IsCounted before after result → Rose before after
-failed_counted (Ok ok) before after is counts = absurd cc
-failed_counted (Err e) before after is counts = counts.failed
-
--- a prefix of them
+-- a file has a prefix of these bytes
 pub prefix_further : {f g : Option Files} {name prefix bytes : List ℕ} (rest : List ℕ) → bytes ≡ prefix ++ rest → PutsPrefix f g name prefix → PutsPrefix f g name bytes
 prefix_further rest split p = record { prefix = p.prefix; rest = p.rest ++ rest; split = split ∙ (ap (λ (l : List ℕ). l ++ rest) p.split ∙ append_assoc p.prefix p.rest rest); put = p.put }
 

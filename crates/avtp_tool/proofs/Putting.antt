@@ -1,9 +1,8 @@
 -- A batch that is put: its packets were written, or it was skipped.
-use Rattle.std.proofs.Common.{◌≡◌, ℕ, ◌+◌, ◌≤◌, List, [], ◌∷◌, ◌++◌, length, take, Option, Some, None, Ok, Err, refl, sym, ap, subst, ◌∙◌, arith, append_assoc, append-nil, take_all}
-use Rattle.std.specs.Prelude.{flat_map, map, option_map, slice_get}
+use Rattle.std.proofs.Common.{◌≡◌, ℕ, ◌+◌, ◌≤◌, List, [], ◌∷◌, ◌++◌, length, take, Option, Some, None, Ok, Err, refl, sym, ap, subst, ◌∙◌, arith, append-nil, take_all}
+use Rattle.std.specs.Prelude.{flat_map, map, slice_get}
 use Rattle.std.proofs.Math.Seq.{take-append-add}
-use Rattle.std.proofs.lemmas.List.{map-append, take-map, take_more}
-use Rattle.std.proofs.lemmas.Option.{get_or_from_slice_get, slice_get_within}
+use Rattle.std.proofs.lemmas.List.{take-map}
 use Rattle.avtp_base.specs.declared.failed.Failed.{Failed}
 use Rattle.avtp_base.specs.Files.{Files}
 use Rattle.avtp_base.specs.States.{ShelfState, SinkState}
@@ -12,12 +11,12 @@ use Rattle.avtp_base.proofs.Told.{Appends-nil}
 use Rattle.avtp_files.specs.ShelfCalls.{IsMadeIn}
 use Rattle.avtp_text.specs.Written.{Prints, written}
 use Rattle.pcap_frames.specs.Capture.{Record}
-use Rattle.capture_io.specs.CaptureWriting.{HoldsCapture, whole_record}
-use Rattle.capture_io.specs.Writing.{WritesSlot, Writing}
+use Rattle.capture_io.specs.CaptureWriting.{HoldsCapture}
+use Rattle.capture_io.specs.Writing.{Writing}
 use Rattle.sample_schedule.specs.Batches.{Presented}
 use Rattle.talker.specs.declared.turn.Turn.{Turn}
 use Rattle.talker.specs.Frames.{SentFrame, record_of}
-use Rattle.talker.specs.Turns.{frame_in, turn_of}
+use Rattle.talker.specs.Turns.{frame_in}
 use Rattle.am824_gateway.specs.declared.scan.Shape.{Shape}
 use Rattle.am824_gateway.specs.declared.scan.To.{To}
 use Rattle.am824_gateway.specs.declared.skip.Skip.{Skip}
@@ -27,58 +26,19 @@ use Rattle.am824_gateway.specs.Pieces.{Given, given_with, skip_of, unless}
 use Rattle.avtp_tool.specs.declared.turning.Output.{Output}
 use Rattle.avtp_tool.specs.declared.turning.Put.TheVariants as did
 use Rattle.avtp_tool.specs.Gateway.{given_next, skipped_at, skipped_line}
-use Rattle.avtp_tool.specs.state.Turning.{HasPut, HoldsFirst, PutsBatch, WritesFrames, frame_bytes, given_over, piece_bytes, records_for}
+use Rattle.avtp_tool.specs.state.Made.{WritesFrames, frame_bytes}
+use Rattle.avtp_tool.specs.state.Turning.{HasPut, HoldsFirst, PutsBatch, given_over, piece_bytes, records_for}
 use Rattle.avtp_tool.proofs.Outcomes.{sink_err, sink_ok, sink_printed, sink_still}
 use Rattle.avtp_tool.proofs.PutBatches.{frames_for, given_over_more, records_more}
+use Rattle.avtp_tool.proofs.Sending.{turned_size, writes_err, writes_nothing}
 
 -- ---- the frames of a batch
-
-turned_frame : (o : Option SentFrame) (turn : Turn) → option_map turn_of o ≡ Some turn → o ≡ Some (frame_in turn (frame_bytes o))
-turned_frame None turn is = absurd cc
-turned_frame (Some f) turn is = let same : turn_of f ≡ turn = cc in ap (λ (t : Turn). Some (frame_in t f.bytes)) same
-
-turned_size : (o : Option SentFrame) (turn : Turn) → option_map turn_of o ≡ Some turn → length (frame_bytes o) ≡ turn.size
-turned_size None turn is = absurd cc
-turned_size (Some f) turn is = let same : turn_of f ≡ turn = cc in ap (λ (t : Turn). t.size) same
 
 pub piece_size : (g : Gating) (i : ℕ) (turn : Turn) → IsPieceTurn g i turn → length (piece_bytes g i) ≡ turn.size
 piece_size g i turn is = turned_size (slice_get g.frames i) turn is.is
 
 pub piece_written : (g : Gating) (i : ℕ) (turn : Turn) (bytes : List ℕ) → slice_get g.frames i ≡ Some (frame_in turn bytes) → bytes ≡ piece_bytes g i
 piece_written g i turn bytes is = sym (ap frame_bytes is)
-
--- one frame more
-pub piece_more : (g : Gating) (i : ℕ) (turn : Turn) (records : List Record) → IsPieceTurn g i turn
-    → (records ++ map record_of (take i g.frames)) ++ whole_record turn.arrival (piece_bytes g i) ∷ [] ≡ records ++ map record_of (take (i + 1) g.frames)
-piece_more g i turn records is =
-    let f : SentFrame = frame_in turn (piece_bytes g i) in
-    let has : slice_get g.frames i ≡ Some f = turned_frame (slice_get g.frames i) turn is.is in
-    let longer : take (i + 1) g.frames ≡ take i g.frames ++ f ∷ [] =
-    take_more g.frames i f (slice_get_within g.frames i f has) ∙ ap (λ (x : SentFrame). take i g.frames ++ x ∷ []) (get_or_from_slice_get g.frames i f f has) in
-    append_assoc records (map record_of (take i g.frames)) (record_of f ∷ [])
-    ∙ ap (λ (rs : List Record). records ++ rs) (sym (ap (map record_of) longer ∙ map-append record_of (take i g.frames) (f ∷ [])))
-
--- nothing was written yet
-pub writes_nothing : (s : ShelfState) (w : Writing) → IsMadeIn s.slots w.slot → WritesSlot s s w w (Ok tt)
-writes_nothing s w made = record {
-  slot = refl;
-  made = made;
-  slots = record { same = λ j. refl; left = λ j differs. refl };
-  reading = refl;
-  counted = record { never_falls = omega arith; ok = refl; failed = tt };
-  asked = λ names stands. stands;
-}
-
--- a failure is one, whatever it says
-pub writes_err : {s t : ShelfState} {v w : Writing} {e e' : Failed} → WritesSlot s t v w (Err e) → WritesSlot s t v w (Err e')
-writes_err writes = record {
-  slot = writes.slot;
-  made = writes.made;
-  slots = writes.slots;
-  reading = writes.reading;
-  counted = record { never_falls = writes.counted.never_falls; ok = tt; failed = writes.counted.failed };
-  asked = writes.asked;
-}
 
 -- ---- a batch that is put
 
@@ -141,7 +101,7 @@ holds_all files s w name records holds = record { count = length records; holds 
 
 -- it was written
 pub puts_written : {s t : ShelfState} {old new : Output} {number : ℕ} (batch : Presented) (out : SinkState) (waits : List ℕ) → skip_of old.gateway.to old.gateway.shape old.gateway.given batch ≡ None → new.gateway ≡ given_out old.gateway.shape old.gateway batch
-    → number ≡ length new.gateway.frames → WritesFrames new.gateway number s t old.writer new.writer (Ok tt) → PutsBatch batch s t old new out out waits waits (Ok did.Done)
+    → number ≡ length new.gateway.frames → WritesFrames new.gateway.frames number s t old.writer new.writer (Ok tt) → PutsBatch batch s t old new out out waits waits (Ok did.Done)
 puts_written {s} {t} {old} {new} {number} batch out waits none is all wrote = record {
   put = λ done to shape id batches has. put_next after to shape id batches has;
   frames = λ done to shape id batches files name has holds. whole to shape id batches files name has holds;
@@ -164,7 +124,7 @@ puts_written {s} {t} {old} {new} {number} batch out waits none is all wrote = re
 
 -- a part of it was
 pub puts_part : {s t : ShelfState} {old new : Output} {number : ℕ} {e : Failed} (batch : Presented) (out : SinkState) (waits : List ℕ) → skip_of old.gateway.to old.gateway.shape old.gateway.given batch ≡ None → new.gateway ≡ given_out old.gateway.shape old.gateway batch
-    → WritesFrames new.gateway number s t old.writer new.writer (Err e) → PutsBatch batch s t old new out out waits waits (Ok did.Unwritten)
+    → WritesFrames new.gateway.frames number s t old.writer new.writer (Err e) → PutsBatch batch s t old new out out waits waits (Ok did.Unwritten)
 puts_part {s} {t} {old} {new} {number} batch out waits none is wrote = record {
   put = λ done. absurd cc;
   frames = λ done. absurd cc;

@@ -1,81 +1,76 @@
--- The frames of a talker, one after another.
-use Rattle.std.proofs.Common.{◌≡◌, ℕ, suc, ◌+◌, ◌-◌, ◌<◌, min, List, [], ◌∷◌, ◌++◌, length, take, drop, Some, refl, sym, ap, ◌∙◌, arith, append_assoc, take-append-drop}
-use Rattle.std.specs.Prelude.{slice_get, flat_map}
-use Rattle.talker.specs.declared.turn.Turn.{Turn}
-use Rattle.talker.specs.Talking.{Talking}
-use Rattle.talker.specs.Turns.{IsTurn, frame_in}
-use Rattle.talker.proofs.TurnLemmas.{frame_next}
-use Rattle.avtp_tool.specs.state.Talk.{next_record, spelled_frame}
-use Rattle.std.proofs.Math.Seq.{take-suc}
-use Rattle.std.proofs.lemmas.Grind.{flat_map-append}
-use Rattle.std.proofs.lemmas.List.{flat_map_more, take_all}
-use Rattle.std.proofs.lemmas.List.Folds.{flat_map-map}
+-- Frames that are added to a capture, one after another.
+use Rattle.std.proofs.Common.{◌≡◌, ℕ, ◌+◌, ◌-◌, ◌<◌, min, List, [], ◌∷◌, ◌++◌, length, take, Option, Some, None, Ok, Err, refl, sym, ap, subst, ◌∙◌, arith, append_assoc, append-nil, take_all}
+use Rattle.std.specs.Prelude.{map, option_map, slice_get}
+use Rattle.std.proofs.lemmas.List.{map-append, take_more}
 use Rattle.std.proofs.lemmas.Option.{get_or_from_slice_get, slice_get_within}
-use Rattle.pcap_frames.specs.Capture.{header_spelling, record_spelling}
-use Rattle.pcap_frames.specs.Layout as layout
-use Rattle.talk_plan.specs.declared.plan.TalkPlan.{TalkPlan}
-use Rattle.talker.specs.Frames.{SentFrame, capture, capture_style, frames, record_of}
+use Rattle.avtp_base.specs.declared.failed.Failed.{Failed}
+use Rattle.avtp_base.specs.Files.{Files}
+use Rattle.avtp_base.specs.States.{ShelfState}
+use Rattle.avtp_files.specs.ShelfCalls.{IsMadeIn}
+use Rattle.pcap_frames.specs.Capture.{Record}
+use Rattle.capture_io.specs.CaptureWriting.{HoldsCapture, whole_record}
+use Rattle.capture_io.specs.Writing.{WritesSlot, Writing}
+use Rattle.talker.specs.declared.turn.Turn.{Turn}
+use Rattle.talker.specs.Frames.{SentFrame, record_of}
+use Rattle.talker.specs.Turns.{frame_in, turn_of}
+use Rattle.avtp_tool.specs.state.Made.{frame_bytes}
 
--- the bytes of a frame's record
-abbrev pub record_bytes : SentFrame → List ℕ
-record_bytes f = record_spelling capture_style (record_of f)
+-- ---- a frame, by its turn
 
-pub header_length : length (header_spelling capture_style) ≡ 24
-unfolding layout.number_bytes
-header_length = refl
+turned_frame : (o : Option SentFrame) (turn : Turn) → option_map turn_of o ≡ Some turn → o ≡ Some (frame_in turn (frame_bytes o))
+turned_frame None turn is = absurd cc
+turned_frame (Some f) turn is = let same : turn_of f ≡ turn = cc in ap (λ (t : Turn). Some (frame_in t f.bytes)) same
 
-record_length : (f : SentFrame) → length (record_bytes f) ≡ 16 + length f.bytes
-unfolding layout.number_bytes
-record_length f = omega arith
+pub turned_size : (o : Option SentFrame) (turn : Turn) → option_map turn_of o ≡ Some turn → length (frame_bytes o) ≡ turn.size
+turned_size None turn is = absurd cc
+turned_size (Some f) turn is = let same : turn_of f ≡ turn = cc in ap (λ (t : Turn). t.size) same
 
--- the bytes of a capture of the first frames
-abbrev pub sent_bytes : TalkPlan → List ℕ → ℕ → List ℕ
-sent_bytes plan input given = header_spelling capture_style ++ flat_map record_bytes (take given (frames plan input))
+-- ---- one frame more
 
--- one frame more
-pub sent_more : (plan : TalkPlan) (input : List ℕ) (given next : ℕ) (f : SentFrame) → slice_get (frames plan input) given ≡ Some f → next ≡ min (given + 1) (length (frames plan input))
-    → sent_bytes plan input given ++ record_bytes f ≡ sent_bytes plan input next
-sent_more plan input given next f has is =
-    let within : given < length (frames plan input) = slice_get_within (frames plan input) given f has in
-    let one : next ≡ suc given = omega arith in
-    let longer : take (suc given) (frames plan input) ≡ take given (frames plan input) ++ f ∷ [] =
-    take-suc (frames plan input) given f within ∙ ap (λ (g : SentFrame). take given (frames plan input) ++ g ∷ []) (get_or_from_slice_get (frames plan input) given f f has) in
-    flat_map_more record_bytes (header_spelling capture_style) (take given (frames plan input)) f
-    ∙ (ap (λ (fs : List SentFrame). header_spelling capture_style ++ flat_map record_bytes fs) (sym longer) ∙ ap (sent_bytes plan input) (sym one))
-
--- and what follows it
-pub sent_rest : (plan : TalkPlan) (input : List ℕ) (given : ℕ) → sent_bytes plan input given ++ flat_map record_bytes (drop given (frames plan input)) ≡ capture plan input
-sent_rest plan input given =
-    let fs : List SentFrame = frames plan input in
-    append_assoc (header_spelling capture_style) (flat_map record_bytes (take given fs)) (flat_map record_bytes (drop given fs))
-    ∙ ap (λ (b : List ℕ). header_spelling capture_style ++ b) (sym (flat_map-append record_bytes (take given fs) (drop given fs)) ∙ (ap (flat_map record_bytes) (take-append-drop given fs) ∙ sym (flat_map-map (record_spelling capture_style) record_of fs)))
-
--- there is no frame more
-pub sent_all : (plan : TalkPlan) (input : List ℕ) (given : ℕ) → given ≡ length (frames plan input) → sent_bytes plan input given ≡ capture plan input
-sent_all plan input given all =
-    let fs : List SentFrame = frames plan input in
-    ap (λ (gs : List SentFrame). header_spelling capture_style ++ flat_map record_bytes gs) (take_all given fs (omega (arith, all))) ∙ ap (λ (b : List ℕ). header_spelling capture_style ++ b) (sym (flat_map-map (record_spelling capture_style) record_of fs))
-
--- ---- the frame that a talker sends next
-
--- of the same plan and input
-pub next_frame : (t : Talking) (plan : TalkPlan) (input : List ℕ) (turn : Turn) → t.plan ≡ plan → t.input ≡ input → (is : IsTurn t turn)
-    → slice_get (frames plan input) t.given ≡ Some (frame_in turn (frame_next t turn is).bytes)
-next_frame t plan input turn of_plan of_input is =
-    ap (λ (p : TalkPlan). slice_get (frames p input) t.given) (sym of_plan) ∙ (ap (λ (i : List ℕ). slice_get (frames t.plan i) t.given) (sym of_input) ∙ (frame_next t turn is).next)
-
--- its record
-pub next_is : (t : Talking) (turn : Turn) (is : IsTurn t turn) → next_record t ≡ record_bytes (frame_in turn (frame_next t turn is).bytes)
-next_is t turn is = ap spelled_frame (frame_next t turn is).next
-
-pub next_size : (t : Talking) (turn : Turn) → IsTurn t turn → length (next_record t) ≡ 16 + turn.size
-next_size t turn is =
-    let has = frame_next t turn is in
-    ap length (next_is t turn is) ∙ record_length (frame_in turn has.bytes) ∙ ap (λ (k : ℕ). 16 + k) has.size
+pub frames_more : (frames : List SentFrame) (i : ℕ) (turn : Turn) (records : List Record) → option_map turn_of (slice_get frames i) ≡ Some turn
+    → (records ++ map record_of (take i frames)) ++ whole_record turn.arrival (frame_bytes (slice_get frames i)) ∷ [] ≡ records ++ map record_of (take (i + 1) frames)
+frames_more frames i turn records is =
+    let f : SentFrame = frame_in turn (frame_bytes (slice_get frames i)) in
+    let has : slice_get frames i ≡ Some f = turned_frame (slice_get frames i) turn is in
+    let longer : take (i + 1) frames ≡ take i frames ++ f ∷ [] =
+    take_more frames i f (slice_get_within frames i f has) ∙ ap (λ (x : SentFrame). take i frames ++ x ∷ []) (get_or_from_slice_get frames i f f has) in
+    append_assoc records (map record_of (take i frames)) (record_of f ∷ [])
+    ∙ ap (λ (rs : List Record). records ++ rs) (sym (ap (map record_of) longer ∙ map-append record_of (take i frames) (f ∷ [])))
 
 -- fewer are left
-pub sent_fewer : (plan : TalkPlan) (input : List ℕ) (given next : ℕ) (f : SentFrame) → slice_get (frames plan input) given ≡ Some f → next ≡ min (given + 1) (length (frames plan input))
-    → length (frames plan input) - next < length (frames plan input) - given
-sent_fewer plan input given next f has is =
-    let within : given < length (frames plan input) = slice_get_within (frames plan input) given f has in
-    omega arith
+pub frames_fewer : (frames : List SentFrame) (i next : ℕ) (turn : Turn) → option_map turn_of (slice_get frames i) ≡ Some turn → next ≡ min (i + 1) (length frames) → (next ≡ i + 1) × (length frames - next < length frames - i)
+frames_fewer frames i next turn is goes =
+    let within : i < length frames = slice_get_within frames i _ (turned_frame (slice_get frames i) turn is) in
+    (omega arith, omega arith)
+
+-- no frame so far
+pub frames_none : (frames : List SentFrame) (i : ℕ) (records : List Record) → i ≡ 0 → records ≡ records ++ map record_of (take i frames)
+frames_none frames i records none = rw none (sym (append-nil records))
+
+-- all frames
+pub frames_all : {files : Option Files} {s : ShelfState} {w : Writing} {name : List ℕ} (frames : List SentFrame) → HoldsCapture files s w name (map record_of (take (length frames) frames)) → HoldsCapture files s w name (map record_of frames)
+frames_all {files} {s} {w} {name} frames holds = subst (λ (fs : List SentFrame). HoldsCapture files s w name (map record_of fs)) (take_all (length frames) frames (omega arith)) holds
+
+-- ---- the file
+
+-- nothing was written yet
+pub writes_nothing : (s : ShelfState) (w : Writing) → IsMadeIn s.slots w.slot → WritesSlot s s w w (Ok tt)
+writes_nothing s w made = record {
+  slot = refl;
+  made = made;
+  slots = record { same = λ j. refl; left = λ j differs. refl };
+  reading = refl;
+  counted = record { never_falls = omega arith; ok = refl; failed = tt };
+  asked = λ names stands. stands;
+}
+
+-- a failure is one, whatever it says
+pub writes_err : {s t : ShelfState} {v w : Writing} {e e' : Failed} → WritesSlot s t v w (Err e) → WritesSlot s t v w (Err e')
+writes_err writes = record {
+  slot = writes.slot;
+  made = writes.made;
+  slots = writes.slots;
+  reading = writes.reading;
+  counted = record { never_falls = writes.counted.never_falls; ok = tt; failed = writes.counted.failed };
+  asked = writes.asked;
+}

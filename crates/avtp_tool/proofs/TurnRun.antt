@@ -1,23 +1,21 @@
 -- A run of `gateway` after its scan: OUT is made, IN is read again, and OUT is finished.
-use Rattle.std.proofs.Common.{◌≡◌, ◌≢◌, ℕ, ◌-◌, ◌≤◌, true, false, List, [], ◌∷◌, ◌++◌, length, take, drop, Option, Some, None, Result, Ok, Err, inl, inr, refl, sym, ap, subst, ◌∙◌, arith, append_assoc, append-nil, take-append-drop}
-use Rattle.std.specs.Prelude.{◌⊎◌, ◌==◌, if◌then◌else◌, flat_map, IfOk, IsErr, IsSome, map, option_map, option_and_then}
-use Rattle.std.proofs.lemmas.Bool.Decides.{eqb_tells}
-use Rattle.std.proofs.lemmas.Grind.{flat_map-append}
+use Rattle.std.proofs.Common.{◌≡◌, ◌≢◌, ℕ, ◌-◌, ◌≤◌, true, false, List, [], ◌∷◌, ◌++◌, length, take, Option, Some, None, Result, Ok, Err, inl, inr, refl, sym, ap, subst, ◌∙◌, arith, append_assoc, append-nil}
+use Rattle.std.specs.Prelude.{◌⊎◌, ◌==◌, if◌then◌else◌, flat_map, IfOk, IsErr, IsSome, map}
 use Rattle.avtp_base.specs.declared.failed.Failed.{Failed}
 use Rattle.avtp_base.specs.declared.failed.OpenFault.{OpenFault}
 use Rattle.avtp_base.specs.declared.failed.OpenFault.TheVariants as open_fault
 use Rattle.avtp_base.specs.Faults.{Rose}
-use Rattle.avtp_base.specs.Files.{Files, IsMissing, Open, PutsFile, file_of, left_in, name_in}
+use Rattle.avtp_base.specs.Files.{Files, IsMissing, PutsFile}
 use Rattle.avtp_base.specs.States.{ShelfState, SinkState, WasAsked}
 use Rattle.avtp_base.specs.Told.{Appends}
-use Rattle.avtp_base.proofs.Files.{KeepsFiles-refl, named_as}
+use Rattle.avtp_base.proofs.Files.{KeepsFiles-refl}
 use Rattle.avtp_base.proofs.Told.{Appends-trans, Keeps-refl}
 use Rattle.avtp_text.specs.Written.{AppendsPrefix, written}
 use Rattle.avtp_text.proofs.Printing.{prefix_after, prefix_before, prefix_none, prefix_whole}
-use Rattle.pcap_frames.specs.Capture.{Record, header_spelling, record_spelling}
+use Rattle.pcap_frames.specs.Capture.{Record}
 use Rattle.capture_io.specs.declared.end.End.{End}
 use Rattle.capture_io.specs.declared.end.End.TheVariants as end
-use Rattle.capture_io.specs.CaptureWriting.{BeginsCapture, ClosesCapture, FinishesCapture, HoldsCapture, capture_bytes, written_style}
+use Rattle.capture_io.specs.CaptureWriting.{BeginsCapture, ClosesCapture, FinishesCapture, HoldsCapture, capture_bytes}
 use Rattle.capture_io.specs.Ends.{EndsAt, end_of}
 use Rattle.capture_io.specs.Formats.{records_in}
 use Rattle.capture_io.specs.Writing.{MakesPrefix, PutsPrefix}
@@ -43,7 +41,7 @@ use Rattle.avtp_tool.specs.state.Gateway.{EndsOutput, TurnedOutcome, TurnsFile, 
 use Rattle.avtp_tool.specs.state.Made.{CountsWriting, Produces, unmade_as}
 use Rattle.avtp_tool.specs.state.Outcome.{CountsReading, EndsWith, KeepsSink, TellsText}
 use Rattle.avtp_tool.specs.state.Turning.{HasPut, IsCutShort, IsFreshOutput, TurnsTo}
-use Rattle.avtp_tool.proofs.Making.{files_still, kept_but, prefix_further, slots_but, slots_still, whole_prefix}
+use Rattle.avtp_tool.proofs.Making.{capture_first, files_still, kept_but, prefix_further, slots_but, slots_closed, slots_still, whole_prefix}
 use Rattle.avtp_tool.proofs.Outcomes.{IsCut, ok_same, sink_err, sink_ok, sink_still, sink_then, tells_cut}
 use Rattle.avtp_tool.proofs.PutBatches.{batches_count, packets_count}
 
@@ -78,18 +76,6 @@ missing_put : (f g : Option Files) (name bytes other : List ℕ) → other ≢ n
 missing_put f None name bytes other differs put missing = absurd missing
 missing_put None (Some g) name bytes other differs put missing = absurd put
 missing_put (Some f) (Some g) name bytes other differs put missing = sym (put.1 other differs) ∙ missing
-
--- ---- captures
-
--- the first records make a prefix of the capture
-capture_first : (records : List Record) (n : ℕ) → (rest : List ℕ) × (capture_bytes records ≡ capture_bytes (take n records) ++ rest)
-capture_first records n =
-    let one : Record → List ℕ = record_spelling written_style in
-    let header : List ℕ = header_spelling written_style in (
-      flat_map one (drop n records),
-      sym (append_assoc header (flat_map one (take n records)) (flat_map one (drop n records))
-          ∙ ap (λ (b : List ℕ). header ++ b) (sym (flat_map-append one (take n records) (drop n records)) ∙ ap (flat_map one) (take-append-drop n records))),
-    )
 
 -- ---- texts
 
@@ -461,28 +447,6 @@ module _ {s t u : ShelfState} (v : ShelfState) {o o' : Output} {listener : Liste
   part : PutsPrefix s.files v.files asked.output (capture_bytes held.0)
   part = closed.closes.prefix s.files asked.output held.0 held.1
 
-  freed : v.slots o.writer.slot ≡ None
-  freed = ap v.slots (sym input.writes.slot) ∙ closed.closes.free s.files asked.output held.0 held.1
-
-  same_slot : (j : ℕ) → option_map file_of (v.slots j) ≡ option_map file_of (s.slots j)
-  same_slot j =
-      elim (eqb_tells j o.writer.slot) [
-        | inl same ↦ subst (λ (n : ℕ). option_map file_of (v.slots n) ≡ option_map file_of (s.slots n)) (sym same.1) (ap (option_map file_of) (freed ∙ sym begins.fresh))
-        | inr other ↦
-            (closed.closes.beside s.files asked.output held.0 held.1).same j (λ e. other.1 (e ∙ input.writes.slot)) ∙ (input.slots.same j ∙ begins.beside.same j other.1)
-      ]
-
-  left_slot : IsSome s.files → (j : ℕ) → name_in s.slots j ≢ Some asked.output → left_in v.slots j ≡ left_in s.slots j
-  left_slot first j differs =
-      elim (eqb_tells j o.writer.slot) [
-        | inl same ↦ subst (λ (n : ℕ). left_in v.slots n ≡ left_in s.slots n) (sym same.1) (ap (option_and_then (λ (x : Open). x.left)) (freed ∙ sym begins.fresh))
-        | inr other ↦
-            let named_t : name_in t.slots j ≡ name_in s.slots j = named_as (s.slots j) (t.slots j) (begins.beside.same j other.1) in
-            let named_u : name_in u.slots j ≡ name_in t.slots j = named_as (t.slots j) (u.slots j) (input.slots.same j) in
-            (closed.closes.beside s.files asked.output held.0 held.1).left first j (λ e. other.1 (e ∙ input.writes.slot)) (λ e. differs (sym named_t ∙ (sym named_u ∙ e)))
-            ∙ (input.slots.left j (λ e. differs (sym named_t ∙ (e ∙ begins.begun.named first))) ∙ begins.beside.left first j other.1 differs)
-      ]
-
   -- all of that is told only if files are still shown
   shown_u : IsSome v.files → IsSome u.files
   shown_u told =
@@ -503,7 +467,7 @@ module _ {s t u : ShelfState} (v : ShelfState) {o o' : Output} {listener : Liste
         produces_by s t u v o' out mid out' waits waits1 waits' asked shape bytes whole (λ (rose : Rose t.reading_faults u.reading_faults). (let r : Rose s.reading_faults v.reading_faults = omega (arith, rose, begins.reading, closed.closes.reading) in r)) turned result
         (input.told shape bytes s.files now.0 now.1 (now.2 asked.input apart ∙ has) still fresh stands going plan whole) ends;
     files = puts_but s.files v.files asked.output part.prefix part.put;
-    slots = record { same = same_slot; left = left_slot };
+    slots = slots_closed held.0 begins input.slots input.writes.slot held.1 closed.closes;
     reading = reading_by v out' waits' result asked begins turned apart input ends closed.closes.reading;
     writing = writing_by v out' waits' result asked begins turned input ends;
     own = ends_own asked.listener.limit u v o' out mid out' waits1 waits' turned result ends;

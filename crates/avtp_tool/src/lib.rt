@@ -3,7 +3,6 @@
 
 mod agree;
 mod ahead;
-mod capture_out;
 mod check;
 mod checked;
 mod command;

@@ -1,33 +1,55 @@
 //! The command `talk`: a capture of a stream, made from raw samples or from a byte stream of H.264.
 
 ghost use Rattle.std.specs.Prelude.{◌≡◌, ◌≤◌, ◌<◌, false, Option, option_map, Ok, Some, length};
-ghost use Rattle.talker.specs.Frames.{capture};
+ghost use Rattle.talker.specs.Frames.{capture, frames};
+ghost use Rattle.talker.specs.Turns.{IsTurn};
 ghost use Rattle.talk_plan.specs.Plan.{IsPlan, most_input};
 ghost use Rattle.avtp_words.specs.Grammar.{talk as talk_request, talking_of};
 ghost use Rattle.avtp_text.specs.Talk.{talk_input_line, talk_line};
 ghost use Rattle.avtp_text.specs.Notices.{limit_line};
 ghost use Rattle.avtp_files.specs.ShelfCalls.{IsMadeIn};
-ghost use Rattle.avtp_tool.specs.state.Made.{MakesFile, WritesPart, unmade_as};
+ghost use Rattle.avtp_tool.specs.state.Made.{MakesFile, WritesFrames, unmade_as};
 ghost use Rattle.avtp_tool.specs.Outcome.{Only};
 ghost use Rattle.avtp_tool.specs.state.Outcome.{EndsWith};
 ghost use Rattle.avtp_tool.specs.state.Run.{Runs};
 ghost use Rattle.avtp_tool.specs.state.Yield.{HandsNothing};
 ghost use Rattle.avtp_tool.specs.Talk.{sent_line, talk_clock, talk_kind, talk_plan, TalkedOutcome};
-ghost use Rattle.avtp_tool.specs.state.Talk.{EndsRefused, Talks, TalksContents};
+ghost use Rattle.avtp_tool.specs.state.Talk.{EndsRefused, Talks, TalksContents, next_bytes};
 
-use crate::capture_out::{FileHeader, NextRecord};
 use crate::command::{print_fault, print_unopened};
 use crate::status::Status;
-use avtp_base::{Buffer, Failed, OpenFault};
+use avtp_base::{Buffer, Failed, OpenFault, Spelled};
 use avtp_files::{Shelf, Sink};
 use avtp_text::Text;
 use avtp_words::{Crf, Kind, Talk};
-use capture_io::{Contents, FileWriter, Stop, read_contents};
+use capture_io::{CaptureWriter, Contents, Stop, read_contents};
 use std::alloc::Global;
-use talker::{CrfPlan, TalkFault, TalkKind, TalkPlan, Talker};
+use talker::{CrfPlan, TalkFault, TalkKind, TalkPlan, Talker, Turn};
 
 /// The most bytes of an input: 256 MiB.
 const LIMIT: u64 = 268_435_456;
+
+/// The frame that a talker sends next.
+#[derive(Drop)]
+struct NextFrame<'a, 'b> {
+    talker: &'a Talker<'b>,
+    turn: Turn,
+    ghost next: { IsTurn talker.now turn },
+}
+
+impl Spelled for NextFrame<'_, '_> {
+    ghost spelling = { λ f. next_bytes f.talker.now };
+
+    #[inline(always)]
+    fn size(&self) -> usize {
+        self.turn.size
+    }
+
+    #[inline(always)]
+    fn write(&self, out: &mut [u8]) {
+        self.talker.write(self.turn, out);
+    }
+}
 
 /// What the packets are made of.
 fn kind(asked: Kind) -> TalkKind
@@ -168,31 +190,31 @@ fn make_capture<F: Shelf>(
     let Ok(buffer) = Buffer::new(alloc) else {
         return Err(OpenFault::Memory);
     };
-    let mut writer = FileWriter::create(buffer, shelf, name)?;
-    let written = write_capture(&mut writer, shelf, talker);
-    if written.is_err() {
-        writer.abandon(shelf);
-        return Err(OpenFault::Failed);
-    }
-    match writer.finish(shelf) {
-        Ok(()) => Ok(()),
-        Err(Failed) => Err(OpenFault::Failed),
+    let mut writer = CaptureWriter::create(buffer, shelf, name)?;
+    match write_frames(&mut writer, shelf, talker) {
+        Ok(()) => match writer.finish(shelf) {
+            Ok(()) => Ok(()),
+            Err(Failed) => Err(OpenFault::Failed),
+        },
+        Err(Failed) => {
+            writer.abandon(shelf);
+            Err(OpenFault::Failed)
+        }
     }
 }
 
-/// Writes a capture's header and the records of all frames of a talker.
-fn write_capture<F: Shelf>(
-    writer: &mut FileWriter,
+/// Adds all frames of a talker to a capture.
+fn write_frames<F: Shelf>(
+    writer: &mut CaptureWriter,
     shelf: &mut F,
     talker: &mut Talker<'_>,
 ) -> Result<(), Failed>
     requires made { IsMadeIn (F.state shelf.old).slots writer.old.slot }
     requires begun { talker.old.given ≡ 0 }
-    ensures { WritesPart (F.state shelf.old) (F.state shelf.new) writer.old writer.new (capture talker.old.plan talker.old.input) result }
+    ensures { WritesFrames (frames talker.old.plan talker.old.input) (length (frames talker.old.plan talker.old.input)) (F.state shelf.old) (F.state shelf.new) writer.old writer.new result }
 {
-    writer.add(shelf, &FileHeader)?;
     while let Some(turn) = talker.turn() {
-        writer.add(shelf, &NextRecord { talker, turn })?;
+        writer.add(shelf, turn.arrival, &NextFrame { talker, turn })?;
         talker.go_on(turn);
     }
     Ok(())

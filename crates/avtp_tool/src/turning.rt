@@ -7,8 +7,9 @@ ghost use Rattle.am824_gateway.specs.Gateways.{IsPieceTurn};
 ghost use Rattle.am824_gateway.specs.Pieces.{nothing_given};
 ghost use Rattle.avtp_tool.specs.Gateway.{skip_name as skip_name_of, skipped_line};
 ghost use Rattle.avtp_tool.specs.state.Hearing.{IsAtReading};
+ghost use Rattle.avtp_tool.specs.state.Made.{WritesFrames};
 ghost use Rattle.avtp_tool.specs.state.Outcome.{WritesWaiting};
-ghost use Rattle.avtp_tool.specs.state.Turning.{AreOpenIn, PutsBatch, Turns, WritesFrames, piece_bytes, turned_as};
+ghost use Rattle.avtp_tool.specs.state.Turning.{AreOpenIn, PutsBatch, Turns, piece_bytes, turned_as};
 
 use crate::ahead::write_waiting;
 use crate::hearing::{Heard, Hearing};
@@ -107,7 +108,7 @@ fn write_frames<F: Shelf>(
 ) -> Result<(), Failed>
     requires number { number ≤ length gateway.now.frames }
     requires made { IsMadeIn (F.state shelf.old).slots writer.old.slot }
-    ensures { WritesFrames gateway.now number (F.state shelf.old) (F.state shelf.new) writer.old writer.new result }
+    ensures { WritesFrames gateway.now.frames number (F.state shelf.old) (F.state shelf.new) writer.old writer.new result }
 {
     for index in 0..number {
         let turn = gateway.turn(index);

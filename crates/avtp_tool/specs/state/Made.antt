@@ -1,13 +1,16 @@
 -- Kept for proofs: what the code's own parts hold and do. No clause of a public call rests on it.
 -- What a command does to the files of a shelf: it writes one of them, or none.
-use Rattle.std.specs.Prelude.{◌≡◌, ◌≢◌, ℕ, ◌≤◌, List, [], ◌∷◌, ◌++◌, Option, None, Result, Ok, IfOk, IsErrOf, IsOk, OnErr, OnOk}
+use Rattle.std.specs.Prelude.{◌≡◌, ◌≢◌, ℕ, ◌≤◌, List, [], ◌∷◌, ◌++◌, map, take, Option, None, Some, Result, Ok, IfOk, IsErrOf, IsOk, OnErr, OnOk}
 use Rattle.avtp_base.specs.declared.failed.OpenFault.{OpenFault}
 use Rattle.avtp_base.specs.declared.failed.OpenFault.TheVariants as open_fault
 use Rattle.avtp_base.specs.declared.failed.Failed.{Failed}
 use Rattle.avtp_base.specs.Faults.{IsOpenCounted, Rose}
 use Rattle.avtp_base.specs.Files.{Files, KeepsFiles, PutsFile}
 use Rattle.avtp_base.specs.States.{ShelfState}
-use Rattle.capture_io.specs.Writing.{IsWriting, KeepsSlotsBut, MakesPrefix, WritesSlot, Writing}
+use Rattle.pcap_frames.specs.Capture.{Record}
+use Rattle.capture_io.specs.CaptureWriting.{HoldsCapture}
+use Rattle.capture_io.specs.Writing.{KeepsSlotsBut, MakesPrefix, WritesSlot, Writing}
+use Rattle.talker.specs.Frames.{SentFrame, record_of}
 use Rattle.avtp_tool.specs.Made.{MakesOutput, MakesPart}
 use Rattle.avtp_tool.specs.Outcome.{AsksFor}
 use Rattle.avtp_tool.specs.state.Outcome.{TellsText}
@@ -42,17 +45,16 @@ pub record MakesFile (shelf shelf' : ShelfState) (name bytes : List ℕ) (result
   pub writing : IsOpenCounted shelf.writing_faults shelf'.writing_faults result
   pub asked : AsksFor (name ∷ []) shelf shelf' (IsOk result)
 
--- a file is being written: it has all of these bytes, or a prefix of them if the shelf failed
-pub record IsWritingPart (shelf shelf' : ShelfState) (writer : Writing) (name bytes : List ℕ) (result : Result Unit Failed) : Type 0 where
-  pub prefix : List ℕ
-  pub rest : List ℕ
-  pub split : bytes ≡ prefix ++ rest
-  pub whole : OnOk result (rest ≡ [])
-  pub writing : IsWriting shelf shelf' writer name prefix
+-- the bytes of a frame, if there is one
+abbrev pub frame_bytes : Option SentFrame → List ℕ
+frame_bytes None = []
+frame_bytes (Some f) = f.bytes
 
--- These bytes were written through a writer that had been given none, or a prefix of them if the shelf failed.
-pub record WritesPart (before after : ShelfState) (old new : Writing) (bytes : List ℕ) (result : Result Unit Failed) : Type 0 where
-  pub written : (begun : ShelfState) (name : List ℕ) → IsWriting begun before old name [] → IsWritingPart begun after new name bytes result
+-- The first of these frames were added to the capture, in order, or some of them if the shelf failed.
+pub record WritesFrames (frames : List SentFrame) (number : ℕ) (before after : ShelfState) (old new : Writing) (result : Result Unit Failed) : Type 0 where
+  pub added : OnOk result ((files : Option Files) (name : List ℕ) (records : List Record) → HoldsCapture files before old name records → HoldsCapture files after new name (records ++ map record_of (take number frames)))
+  pub part : OnErr result ((files : Option Files) (name : List ℕ) (records : List Record) → HoldsCapture files before old name records
+      → (n : ℕ) × HoldsCapture files after new name (records ++ map record_of (take n frames)))
   pub writes : WritesSlot before after old new result
 
 -- the status of a run whose file could not be made

@@ -1,6 +1,6 @@
 -- Kept for proofs: what the code's own parts hold and do. No clause of a public call rests on it.
 -- What `talk` prints and how it ends.
-use Rattle.std.specs.Prelude.{◌≡◌, ◌≢◌, ℕ, List, [], ◌∷◌, Option, Some, None, Result, Ok, IfOk, if◌then◌else◌, slice_get}
+use Rattle.std.specs.Prelude.{◌≡◌, ◌≢◌, ℕ, List, [], ◌∷◌, Option, Some, Result, Ok, IfOk, if◌then◌else◌, slice_get}
 use Rattle.avtp_base.specs.declared.failed.Failed.{Failed}
 use Rattle.avtp_base.specs.Files.{Files, KeepsFiles}
 use Rattle.avtp_base.specs.States.{Asks, ShelfState, SinkState}
@@ -9,17 +9,16 @@ use Rattle.capture_io.specs.Contents.{IsContents}
 use Rattle.capture_io.specs.declared.end.Stop.{Stop}
 use Rattle.capture_io.specs.declared.end.Stop.TheVariants as stop
 use Rattle.capture_io.specs.Writing.{KeepsSlotsBut}
-use Rattle.pcap_frames.specs.Capture.{record_spelling}
 use Rattle.talk_plan.specs.declared.fault.TalkFault.{TalkFault}
 use Rattle.talk_plan.specs.declared.plan.TalkPlan.{TalkPlan}
-use Rattle.talker.specs.Frames.{SentFrame, capture, capture_style, frames, record_of}
+use Rattle.talker.specs.Frames.{capture, frames}
 use Rattle.talker.specs.Talking.{Talking as Sending}
 use Rattle.talk_plan.specs.Plan.{most_input}
 use Rattle.avtp_text.specs.Talk.{talk_input_line}
 use Rattle.avtp_tool.specs.declared.status.Status.{Status}
 use Rattle.avtp_tool.specs.declared.status.Status.TheVariants as status
 use Rattle.avtp_tool.specs.Made.{KeepsFilesBut}
-use Rattle.avtp_tool.specs.state.Made.{CountsWriting, Makes}
+use Rattle.avtp_tool.specs.state.Made.{CountsWriting, frame_bytes, Makes}
 use Rattle.avtp_tool.specs.Outcome.{AsksFor, is_done}
 use Rattle.avtp_tool.specs.state.Outcome.{EndsWith, IsDone, KeepsSink, TellsText}
 use Rattle.talk_plan.specs.declared.fault.TalkFault.TheVariants as fault
@@ -27,16 +26,9 @@ use Rattle.avtp_base.specs.Told.{Keeps}
 use Rattle.avtp_text.specs.Written.{written}
 use Rattle.avtp_tool.specs.Talk.{TalkedOutcome}
 
--- ---- the records of its capture
-
--- the record of a frame, if there is one
-abbrev pub spelled_frame : Option SentFrame → List ℕ
-spelled_frame None = []
-spelled_frame (Some f) = record_spelling capture_style (record_of f)
-
--- the record of the frame that a talker sends next
-abbrev pub next_record : Sending → List ℕ
-next_record t = spelled_frame (slice_get (frames t.plan t.input) t.given)
+-- the bytes of the frame that a talker sends next
+abbrev pub next_bytes : Sending → List ℕ
+next_bytes t = frame_bytes (slice_get (frames t.plan t.input) t.given)
 
 -- ---- what is done
 

@@ -17,7 +17,7 @@ use Rattle.capture_io.specs.Source.{HasGivenOf, Sourcing, slot_of}
 use Rattle.capture_io.specs.Writing.{WritesSlot, Writing}
 use Rattle.sample_schedule.specs.Batches.{Presented}
 use Rattle.listener.specs.Listening.{ListenState, StandsFor, is_closed}
-use Rattle.talker.specs.Frames.{SentFrame, record_of}
+use Rattle.talker.specs.Frames.{record_of}
 use Rattle.am824_gateway.specs.declared.scan.Shape.{Shape}
 use Rattle.am824_gateway.specs.declared.scan.To.{To}
 use Rattle.am824_gateway.specs.Gateways.{Gating}
@@ -34,6 +34,7 @@ use Rattle.avtp_tool.specs.declared.turning.Turned.{Turned}
 use Rattle.avtp_tool.specs.declared.turning.Turned.TheVariants as turned
 use Rattle.avtp_tool.specs.Gateway.{batches_by, format_of, skipped_at, skipped_line, skips_in, turned_frames}
 use Rattle.avtp_tool.specs.Listen.{plan_of}
+use Rattle.avtp_tool.specs.state.Made.{frame_bytes}
 use Rattle.avtp_tool.specs.state.Outcome.{KeepsSink}
 
 -- ---- the batches so far
@@ -62,19 +63,8 @@ pub record HoldsFirst (files : Option Files) (shelf : ShelfState) (writer : Writ
 -- ---- the packets of a batch
 
 -- the bytes of frame i of the last batch that was not skipped
-abbrev pub frame_bytes : Option SentFrame → List ℕ
-frame_bytes None = []
-frame_bytes (Some f) = f.bytes
-
 abbrev pub piece_bytes : Gating → ℕ → List ℕ
 piece_bytes g i = frame_bytes (slice_get g.frames i)
-
--- The first frames of the last batch that was not skipped were added to the capture, in order, or some of them if the shelf failed.
-pub record WritesFrames (g : Gating) (number : ℕ) (before after : ShelfState) (old new : Writing) (result : Result Unit Failed) : Type 0 where
-  pub added : OnOk result ((files : Option Files) (name : List ℕ) (records : List Record) → HoldsCapture files before old name records → HoldsCapture files after new name (records ++ map record_of (take number g.frames)))
-  pub part : OnErr result ((files : Option Files) (name : List ℕ) (records : List Record) → HoldsCapture files before old name records
-      → (n : ℕ) × HoldsCapture files after new name (records ++ map record_of (take n g.frames)))
-  pub writes : WritesSlot before after old new result
 
 -- what was written of a batch, as the writer's calls have it
 abbrev pub wrote : Result Put Failed → Result Unit Failed

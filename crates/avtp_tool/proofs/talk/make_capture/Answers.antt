@@ -1,7 +1,9 @@
-use Rattle.std.proofs.Common.{◌≡◌, List, ℕ, arith, rules, sym, ◌∙◌, true, false}
-use Rattle.std.specs.Prelude.{is_err}
-use Rattle.talker.specs.Frames.{capture}
-use Rattle.avtp_tool.proofs.Making.{asks_one, failed_counted, made_all, prefix_further, still_counted, unmade_part, wrote_all}
+use Rattle.std.proofs.Common.{List, [], ℕ, map, arith, rules, sym, subst, ◌∙◌}
+use Rattle.std.proofs.lemmas.List.{take-map}
+use Rattle.capture_io.specs.CaptureWriting.{HoldsCapture}
+use Rattle.talker.specs.Frames.{SentFrame, capture, frames, record_of}
+use Rattle.avtp_tool.proofs.Making.{asks_one, capture_first, made_all, prefix_further, slots_closed, unmade_part}
+use Rattle.avtp_tool.proofs.Sending.{frames_all}
 use Rattle.avtp_tool.proofs.talk.make_capture.Goals as goal
 
 pub returns-in_err-writer : goal.returns-in_err-writer
@@ -15,40 +17,42 @@ returns-in_err-writer g c = record {
   asked = asks_one c.args.name.now c.create.ensures.asked;
 }
 
-pub returns-then-is_err : goal.returns-then-is_err
-returns-then-is_err g c =
+pub returns-in-Err : goal.returns-in-Err
+returns-in-Err g c =
     let created = c.in_ok-writer.ensures in
-    let written = c.write_capture-written.ensures in
+    let written = c.in-Err.ensures in
     let closed = c.abandon.ensures in
     let name : List ℕ = c.args.name.now in
-    let failed : is_err c.write_capture-written.result ≡ true = sym c.is_err.ensures.value ∙ c.if-is_err.true in
-    let rose = failed_counted c.write_capture-written.result _ _ failed written.writes.counted in
-    let part = written.written _ name created.begun in
-    unmade_part name (capture c.args.talker.now.plan c.args.talker.now.input) (prefix_further part.rest part.split (closed.prefix _ _ _ part.writing)) (closed.slots _ _ _ part.writing) (closed.reading ∙ part.writing.reading)
-    (omega (arith, created.counted.ok, written.writes.counted.never_falls, closed.counted.ok)) (omega (arith, created.counted.ok, rose, closed.counted.ok))
+    let all : List SentFrame = frames c.args.talker.now.plan c.args.talker.now.input in
+    let some = written.part _ name [] created.begun in
+    let holds = subst (HoldsCapture _ _ _ name) (sym (take-map record_of some.0 all)) some.1 in
+    let first = capture_first (map record_of all) some.0 in
+    unmade_part name (capture c.args.talker.now.plan c.args.talker.now.input) (prefix_further first.0 first.1 (closed.prefix _ _ _ holds)) (slots_closed _ created written.writes.slots written.writes.slot holds closed)
+    (closed.reading ∙ (written.writes.reading ∙ created.reading))
+    (omega (arith, created.counted.ok, written.writes.counted.never_falls, closed.counted.ok)) (omega (arith, created.counted.ok, written.writes.counted.failed, closed.counted.ok))
     (λ names stands. closed.asked _ (written.writes.asked _ (created.asked names stands)))
 
 pub returns-in-Ok-finish : goal.returns-in-Ok-finish
 returns-in-Ok-finish g c =
     let created = c.in_ok-writer.ensures in
-    let written = c.write_capture-written.ensures in
+    let written = c.in-Ok-write_frames.ensures in
     let closed = c.in-Ok-finish.ensures in
     let name : List ℕ = c.args.name.now in
-    let went_on : is_err c.write_capture-written.result ≡ false = sym c.is_err.ensures.value ∙ c.if-is_err.false in
-    let still = still_counted c.write_capture-written.result _ _ went_on written.writes.counted in
-    let writing = wrote_all c.write_capture-written.result went_on (written.written _ name created.begun) in
-    made_all name (capture c.args.talker.now.plan c.args.talker.now.input) _ (closed.put _ _ _ writing) (closed.closes.slots _ _ _ writing) (closed.closes.reading ∙ writing.reading)
-    (closed.closes.counted.ok ∙ (still ∙ created.counted.ok)) (λ names stands. closed.closes.asked _ (written.writes.asked _ (created.asked names stands)))
+    let all : List SentFrame = frames c.args.talker.now.plan c.args.talker.now.input in
+    let holds = frames_all all (written.added _ name [] created.begun) in
+    made_all name (capture c.args.talker.now.plan c.args.talker.now.input) _ (closed.put _ _ _ holds) (slots_closed _ created written.writes.slots written.writes.slot holds closed.closes)
+    (closed.closes.reading ∙ (written.writes.reading ∙ created.reading)) (closed.closes.counted.ok ∙ (written.writes.counted.ok ∙ created.counted.ok))
+    (λ names stands. closed.closes.asked _ (written.writes.asked _ (created.asked names stands)))
 
-pub returns-in-Err : goal.returns-in-Err
-returns-in-Err g c =
+pub returns-in-Err-finish : goal.returns-in-Err-finish
+returns-in-Err-finish g c =
     let created = c.in_ok-writer.ensures in
-    let written = c.write_capture-written.ensures in
-    let closed = c.in-Err.ensures in
+    let written = c.in-Ok-write_frames.ensures in
+    let closed = c.in-Err-finish.ensures in
     let name : List ℕ = c.args.name.now in
-    let went_on : is_err c.write_capture-written.result ≡ false = sym c.is_err.ensures.value ∙ c.if-is_err.false in
-    let still = still_counted c.write_capture-written.result _ _ went_on written.writes.counted in
-    let writing = wrote_all c.write_capture-written.result went_on (written.written _ name created.begun) in
-    unmade_part name (capture c.args.talker.now.plan c.args.talker.now.input) (closed.closes.prefix _ _ _ writing) (closed.closes.slots _ _ _ writing) (closed.closes.reading ∙ writing.reading)
-    (omega (arith, created.counted.ok, still, closed.closes.counted.never_falls)) (omega (arith, created.counted.ok, still, closed.closes.counted.failed))
+    let all : List SentFrame = frames c.args.talker.now.plan c.args.talker.now.input in
+    let holds = frames_all all (written.added _ name [] created.begun) in
+    unmade_part name (capture c.args.talker.now.plan c.args.talker.now.input) (closed.closes.prefix _ _ _ holds) (slots_closed _ created written.writes.slots written.writes.slot holds closed.closes)
+    (closed.closes.reading ∙ (written.writes.reading ∙ created.reading))
+    (omega (arith, created.counted.ok, written.writes.counted.ok, closed.closes.counted.never_falls)) (omega (arith, created.counted.ok, written.writes.counted.ok, closed.closes.counted.failed))
     (λ names stands. closed.closes.asked _ (written.writes.asked _ (created.asked names stands)))

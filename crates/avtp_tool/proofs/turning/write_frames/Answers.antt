@@ -5,9 +5,10 @@ use mir.Syntax.{w64}
 use Rattle.avtp_files.specs.ShelfCalls.{IsMadeIn}
 use Rattle.capture_io.specs.CaptureWriting.{HoldsCapture}
 use Rattle.capture_io.proofs.Making.{writes_then}
-use Rattle.avtp_tool.specs.state.Turning.{WritesFrames}
+use Rattle.avtp_tool.specs.state.Made.{WritesFrames}
 use Rattle.avtp_tool.proofs.Leaving.{on_err}
-use Rattle.avtp_tool.proofs.Putting.{piece_more, piece_size, writes_err, writes_nothing}
+use Rattle.avtp_tool.proofs.Putting.{piece_size}
+use Rattle.avtp_tool.proofs.Sending.{frames_more, writes_err, writes_nothing}
 use Rattle.avtp_tool.proofs.turning.write_frames.Goals as goal
 
 pub loop-index-init : goal.loop-index-init
@@ -36,7 +37,7 @@ pub returns-in_err-add : goal.returns-in_err-add
 returns-in_err-add g c =
     let before = c.loop-index.invariant in
     let added = c.in_err-add.ensures in
-    on_err (WritesFrames c.args.gateway.now c.args.number _ _ _ _) c.from_residual.result c.from_residual.ensures.0 (λ e. record {
+    on_err (WritesFrames c.args.gateway.now.frames c.args.number _ _ _ _) c.from_residual.result c.from_residual.ensures.0 (λ e. record {
       added = tt;
       part = λ files name records holds. (c.loop-index.index, added.kept files name _ (before.added files name records holds));
       writes = writes_err (writes_then {result = Err c.in_err-add.field-0.0} before.writes added.writes);
@@ -52,7 +53,7 @@ loop-index-preserved g c =
     record {
       added = λ files name records holds.
           let one = rw at at (added.added files name _ (before.added files name records holds)) in
-          subst (HoldsCapture files _ _ name) (piece_more c.args.gateway.now c.loop-index.index turn records is) one;
+          subst (HoldsCapture files _ _ name) (frames_more c.args.gateway.now.frames c.loop-index.index turn records is.is) one;
       writes = writes_then {result = Ok tt} before.writes added.writes;
     }
 
