@@ -1,0 +1,27 @@
+//! What a gateway makes of a capture of a talker's plan. Each call only states its contract, and does nothing.
+
+ghost use Rattle.std.specs.Prelude.{◌≡◌, ℕ, List, None};
+ghost use Rattle.am824_gateway.specs.declared.scan.To.{To as ToValue};
+ghost use Rattle.am824_gateway.specs.Scan.{first_fault, shape_in};
+ghost use Rattle.gateway_laws.specs.Kept.{SkipsNone};
+ghost use Rattle.listener.specs.declared.plan.ListenPlan.{ListenPlan};
+ghost use Rattle.listener.specs.Heard.{due_of, shown_of};
+ghost use Rattle.listener.specs.Laws.{presented_of};
+ghost use Rattle.talk_plan.specs.declared.plan.TalkPlan.{TalkPlan};
+ghost use Rattle.talked_headline.specs.Premises.{ListensTo, captured};
+
+use talked_headline::laws::talked_keeps_headline;
+use talker::laws::journal_conforms;
+
+/// A gateway skips nothing that a listener without a clock presents of a capture of an audio plan, whatever the capture loses,
+/// repeats or reorders, if a scan finds no fault in it: each packet begins after the end of those before it, and arrives before
+/// 2^32 seconds. So it is of what is due while more records may follow.
+pub fn nothing_talked_is_skipped()
+    ensures shown { (to : ToValue) (plan : TalkPlan) (input places : List ℕ) (listen : ListenPlan) → ListensTo plan input listen → listen.clock ≡ None → first_fault to listen.stream (captured plan input places) ≡ None
+        → SkipsNone to (shape_in listen.stream (captured plan input places)) (presented_of (shown_of listen (captured plan input places))) }
+    ensures due { (to : ToValue) (plan : TalkPlan) (input places : List ℕ) (listen : ListenPlan) → ListensTo plan input listen → listen.clock ≡ None → first_fault to listen.stream (captured plan input places) ≡ None
+        → SkipsNone to (shape_in listen.stream (captured plan input places)) (presented_of (due_of listen (captured plan input places))) }
+{
+    journal_conforms();
+    talked_keeps_headline();
+}
