@@ -29,7 +29,7 @@ use Rattle.listener.proofs.TrueOnce.{one_number}
 use Rattle.listener.proofs.TrueTimely.{entry_there, item_there, taken, welcome_judged}
 use Rattle.listener.proofs.Welcome.{arrives, both_early, first_time}
 use Rattle.listener_laws.specs.Anywhere.{ComesInTime, MustBePresented}
-use Rattle.listener_laws.proofs.Taken.{AreTaken, HoldsOf, IsAtPlace, all_taken, any_last, light as bytes_light, none_is, stays, taken_at}
+use Rattle.listener_laws.proofs.Taken.{HoldsOf, IsAtPlace, all_taken, any_last, audio_short, audio_step, light as bytes_light, none_first, none_is, passing, stays, taken_at}
 
 -- ---- lists
 
@@ -97,13 +97,13 @@ holds_at Q (OfClock m ∷ os) (suc place) zero o lt at all = let same : OfClock 
 holds_at Q (OfStream k ∷ os) (suc place) (suc j) o lt at all = holds_at Q os place j o (omega arith) at (All-tail Q k (stream_numbers (take place os)) all)
 holds_at Q (OfClock m ∷ os) (suc place) (suc j) o lt at all = holds_at Q os place j o (omega arith) at all
 
-not_full : (plan : SchedulePlan) (waiting : List Accepted) (size : ℕ) → length waiting < plan.buffer → total_bytes waiting + size ≤ plan.room → is_full plan waiting size ≡ false
+pub not_full : (plan : SchedulePlan) (waiting : List Accepted) (size : ℕ) → length waiting < plan.buffer → total_bytes waiting + size ≤ plan.room → is_full plan waiting size ≡ false
 not_full plan waiting size some fits = by (nat_le plan.buffer (length waiting)) (nat_lt plan.room (total_bytes waiting + size)) (grind (arith, nat_tests)) (grind (arith, nat_tests))
   where
     by : (a b : Bool) → a ≡ false → b ≡ false → (if a then true else b) ≡ false
     by a b e f = rw (e, f) refl
 
-fits : (waiting count total size most room : ℕ) → waiting ≤ count → total ≤ waiting * most → size ≤ most → (count + 1) * most ≤ room → total + size ≤ room
+pub fits : (waiting count total size most room : ℕ) → waiting ≤ count → total ≤ waiting * most → size ≤ most → (count + 1) * most ≤ room → total + size ≤ room
 fits waiting count total size most room few light short bytes = let times : waiting * most ≤ count * most = mul-le-mul_right most few in omega arith
 
 pub welcome_here : (shift : ℤ) (p : PacketJournal) (plan : ListenPlan) (records : List Record) (place n : ℕ) (d : Delivery) → HearsTalker shift p plan records → IsAudioKind p.times.kind → MustBePresented p plan records place n d → IsWelcome p plan records place n (made_of_one d)
@@ -115,11 +115,11 @@ welcome_here shift p plan records place n d h kind m =
     let xs = accepted_before plan records place in
     let Q : ℕ → Type 0 = λ (k : ℕ). k ≢ n in
     let within = slice_get_within (deliveries_of plan records) place d c.there in
-    let taken : AreTaken by p Q m.waits t (stream_numbers (take place os)) xs = all_taken p plan records Q m.waits t os place m.finds
-    (before_it shift p plan records Q os place h kind c.known.from within (λ j o lt at. holds_at Q os place j o lt at m.first)) in
+    let each = before_it shift p plan records Q os place h kind c.known.from within (λ j o lt at. holds_at Q os place j o lt at m.first) in
+    let taken = all_taken Q by p t (passing m.waits os) (accepted_before plan records) place (none_first plan records) (λ j lt. audio_step p plan records Q m.waits t os j m.finds (each j lt)) in
     let few = taken.few in
     let some = m.some in
-    let light = bytes_light by p Q t m.most xs kind m.size taken.all in
+    let light = bytes_light Q by p t m.most xs (λ k b is. audio_short by p m.most k b kind m.size is) taken.all in
     let own = m.size n c.copy.delivered.known in
     record {
       timely = timely_here shift p plan records place n d h kind c;
@@ -133,29 +133,21 @@ welcome_here shift p plan records place n d h kind m =
 -- ---- a further copy
 
 -- a copy that must be presented is among what was accepted, from then on
-accepted_later : (shift : ℤ) (p : PacketJournal) (plan : ListenPlan) (records : List Record) (earlier place n : ℕ) (made : MadeItem) (d : Delivery) → HearsTalker shift p plan records → IsAudioKind p.times.kind → IsWelcome p plan records earlier n made → earlier < place → ComesInTime p plan records place n d
+pub accepted_later : (shift : ℤ) (p : PacketJournal) (plan : ListenPlan) (records : List Record) (earlier place n : ℕ) (made : MadeItem) → HearsTalker shift p plan records → IsWelcome p plan records earlier n made → earlier < place
     → Any (λ (a : Accepted). IsOfPacket (by_clock plan) p n a.batch) (accepted_before plan records place)
-accepted_later shift p plan records earlier place n made d h kind w lt c =
+accepted_later shift p plan records earlier place n made h w lt =
     let P : Accepted → Type 0 = λ (a : Accepted). IsOfPacket (by_clock plan) p n a.batch in
     let judged = welcome_judged shift p plan records earlier n made h w in
     let there = entry_at (items_in plan records) earlier made w.timely.there ∙ ap Some judged.entry in
     let more : accepted_before plan records (suc earlier) ≡ accepted_before plan records earlier ++ taken earlier judged.batch ∷ [] =
     accepted-next clock_spot (schedule_plan plan) (entries_in plan records) earlier _ there ∙ rw judged.verdict_is_ok refl in
     let here : Any P (accepted_before plan records (suc earlier)) = subst (λ (xs : List Accepted). Any P xs) (sym more) (any_last P (accepted_before plan records earlier) (taken earlier judged.batch) judged.is.is) in
-    let rest : ℕ = place - suc earlier in
-    let sum : suc earlier + rest ≡ place = omega (arith, lt) in
-    let Q : ℕ → Type 0 = λ (k : ℕ). Unit {0} in
-    let within = slice_get_within (deliveries_of plan records) place d c.there in
-    subst (λ (m : ℕ). Any P (accepted_before plan records m)) sum
-    (stays P p plan records Q c.known.origins (suc earlier) rest (λ m lt. before_it shift p plan records Q c.known.origins place h kind c.known.from within (λ j o before at. any_of o) m (omega (arith, lt, sum))) here)
-  where
-    any_of : (o : Origin) → HoldsOf (λ (k : ℕ). Unit {0}) o
-    any_of (OfStream k) = tt
-    any_of (OfClock m) = tt
+    let sum : suc earlier + (place - suc earlier) ≡ place = omega (arith, lt) in
+    subst (λ (m : ℕ). Any P (accepted_before plan records m)) sum (stays P plan records (suc earlier) (place - suc earlier) here)
 
 pub further_here : (shift : ℤ) (p : PacketJournal) (plan : ListenPlan) (records : List Record) (earlier place n : ℕ) (made : MadeItem) (d : Delivery) → HearsTalker shift p plan records → IsAudioKind p.times.kind → IsWelcome p plan records earlier n made → earlier < place → ComesInTime p plan records place n d
     → IsFurther p plan records place n (made_of_one d)
 further_here shift p plan records earlier place n made d h kind w lt c = record {
   timely = timely_here shift p plan records place n d h kind c;
-  before = accepted_later shift p plan records earlier place n made d h kind w lt c;
+  before = accepted_later shift p plan records earlier place n made h w lt;
 }

@@ -29,7 +29,7 @@ of_stream : (before : List Delivery) (d : Delivery) (b : Bool) → b ≡ false �
 of_stream before d true e = absurd cc
 of_stream before d false e = refl
 
-gives_unit : (before : List Delivery) (d : Delivery) → d.subtype ≡ cvf_subtype → flaw_of d ≡ None → piece (events_to before d) ≡ Whole → given_by before d ≡ given_up_by before d ++ unit_by before d ∷ []
+pub gives_unit : (before : List Delivery) (d : Delivery) → d.subtype ≡ cvf_subtype → flaw_of d ≡ None → piece (events_to before d) ≡ Whole → given_by before d ≡ given_up_by before d ++ unit_by before d ∷ []
 gives_unit before d kind flaw whole =
     let video : (d.subtype == cvf_subtype) ≡ true = rw kind refl in
     let stream : (d.subtype == crf_subtype) ≡ false = rw kind refl in

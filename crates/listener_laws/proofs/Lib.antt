@@ -5,3 +5,4 @@ pub mod Carried
 pub mod Swapped
 pub mod Completed
 pub mod Shorter
+pub mod UnitsAnywhere

@@ -45,9 +45,9 @@ pub record IsPacketAt (by : Bool) (p : PacketJournal) (k : ℕ) (a : Accepted) :
   pub is : IsOfPacket by p k a.batch
 
 -- what a verdict accepts is the batch, at its first instant
-record IsAcceptedOf (P : Presented → Type 0) (a : Accepted) : Type 0 where
-  is : P a.batch
-  instant : a.instant ≡ first_instant a.batch
+pub record IsAcceptedOf (P : Presented → Type 0) (a : Accepted) : Type 0 where
+  pub is : P a.batch
+  pub instant : a.instant ≡ first_instant a.batch
 
 decided_so : (P : Presented → Type 0) (late copy full : Bool) (place : ℕ) (batch : Presented) → P batch → IfOk (decided late copy full place batch) (IsAcceptedOf P)
 decided_so P true copy full place batch is = tt
@@ -55,7 +55,7 @@ decided_so P false true full place batch is = tt
 decided_so P false false true place batch is = tt
 decided_so P false false false place batch is = record { is = is; instant = refl }
 
-verdict_so : (P : Presented → Type 0) (plan : SchedulePlan) (now : ℤ) (earlier : List Accepted) (place : ℕ) (r : Result Presented Reason) → IfOk r P → IfOk (verdict plan now earlier place r) (IsAcceptedOf P)
+pub verdict_so : (P : Presented → Type 0) (plan : SchedulePlan) (now : ℤ) (earlier : List Accepted) (place : ℕ) (r : Result Presented Reason) → IfOk r P → IfOk (verdict plan now earlier place r) (IsAcceptedOf P)
 unfolding verdict
 verdict_so P plan now earlier place (Err reason) is = tt
 verdict_so P plan now earlier place (Ok batch) is = decided_so P _ _ _ place batch is
@@ -133,47 +133,56 @@ pub record IsSomeOf (Q : ℕ → Type 0) (by : Bool) (p : PacketJournal) (a : Ac
   pub holds : Q k
   pub is : IsPacketAt by p k a
 
--- What is accepted of the first packets: only these, and no more wait than pass the test.
-pub record AreTaken (by : Bool) (p : PacketJournal) (Q : ℕ → Type 0) (waits : ℕ → Bool) (t : ℤ) (ks : List ℕ) (xs : List Accepted) : Type 0 where
+-- a packet of which Q holds is accepted, and it is counted if it still waits
+pub record IsMore (Q : ℕ → Type 0) (by : Bool) (p : PacketJournal) (t : ℤ) (count next : ℕ) (xs ys : List Accepted) : Type 0 where
+  pub a : Accepted
+  pub more : ys ≡ xs ++ a ∷ []
+  pub some : IsSomeOf Q by p a
+  pub counts : t ≤ℤ a.instant → count < next
+
+-- A delivery takes what is accepted from xs to ys, and a count of what may wait further: nothing more is accepted, or one packet is.
+pub record IsStep (Q : ℕ → Type 0) (by : Bool) (p : PacketJournal) (t : ℤ) (count next : ℕ) (xs ys : List Accepted) : Type 0 where
+  pub grows : count ≤ next
+  pub is : (ys ≡ xs) ⊎ IsMore Q by p t count next xs ys
+
+-- What is accepted of the first packets: only these, and no more of them wait than are counted.
+pub record AreTaken (Q : ℕ → Type 0) (by : Bool) (p : PacketJournal) (t : ℤ) (count : ℕ) (xs : List Accepted) : Type 0 where
   pub all : AllByRecursion (IsSomeOf Q by p) xs
-  pub few : length (standing t xs) ≤ length (filter waits ks)
+  pub few : length (standing t xs) ≤ count
 
-none_more : (by : Bool) (p : PacketJournal) (Q : ℕ → Type 0) (waits : ℕ → Bool) (t : ℤ) (ks rest : List ℕ) (xs : List Accepted) → AreTaken by p Q waits t ks xs → AreTaken by p Q waits t (ks ++ rest) xs
-none_more by p Q waits t ks rest xs w = record {
-  all = w.all;
-  few = let few = w.few in omega (arith, ap (λ (l : List ℕ). length l) (filter-append waits ks rest), length-append (filter waits ks) (filter waits rest));
-}
-
-one_more : (by : Bool) (p : PacketJournal) (Q : ℕ → Type 0) (waits : ℕ → Bool) (t : ℤ) (ks : List ℕ) (k : ℕ) (xs : List Accepted) (a : Accepted) → ((x : ℤ) → IsAt by p.times k 0 x → t ≤ℤ x → waits k ≡ true) → Q k → IsPacketAt by p k a → AreTaken by p Q waits t ks xs
-    → AreTaken by p Q waits t (ks ++ k ∷ []) (xs ++ a ∷ [])
-one_more by p Q waits t ks k xs a test holds is w =
+one_more : (Q : ℕ → Type 0) (by : Bool) (p : PacketJournal) (t : ℤ) (count next : ℕ) (xs : List Accepted) (a : Accepted) → IsSomeOf Q by p a → count ≤ next → (t ≤ℤ a.instant → count < next) → AreTaken Q by p t count xs → AreTaken Q by p t next (xs ++ a ∷ [])
+one_more Q by p t count next xs a some grows counts w =
     let few = w.few in
-    let numbers = ap (λ (l : List ℕ). length l) (filter-append waits ks (k ∷ [])) in
     let items = ap (λ (l : List Accepted). length l) (filter-append (λ (b : Accepted). int_le t b.instant) xs (a ∷ [])) in
-    let sum = length-append (filter waits ks) (filter waits (k ∷ [])) in
-    let item_sum = length-append (standing t xs) (standing t (a ∷ [])) in
-    let one : length (standing t (a ∷ [])) ≤ length (filter waits (k ∷ [])) =
-    by_lt_z a.instant t
-    (λ h. rw (le_false t a.instant h) (omega arith))
-    (λ h. rw (le_true t a.instant h, test a.instant is.at h) (omega arith)) in
+    let sum = length-append (standing t xs) (standing t (a ∷ [])) in
     record {
-      all = all-after (IsSomeOf Q by p) xs (a ∷ []) w.all (record { k = k; holds = holds; is = is }, tt);
-      few = omega arith;
+      all = all-after (IsSomeOf Q by p) xs (a ∷ []) w.all (some, tt);
+      few = by_lt_z a.instant t
+          (λ h. let none : length (standing t (a ∷ [])) ≡ 0 = rw (le_false t a.instant h) refl in omega arith)
+          (λ h. let one : length (standing t (a ∷ [])) ≡ 1 = rw (le_true t a.instant h) refl in let less = counts h in omega arith);
     }
+
+step_taken : (Q : ℕ → Type 0) (by : Bool) (p : PacketJournal) (t : ℤ) (count next : ℕ) (xs ys : List Accepted) → AreTaken Q by p t count xs → count ≤ next → (ys ≡ xs) ⊎ IsMore Q by p t count next xs ys → AreTaken Q by p t next ys
+step_taken Q by p t count next xs ys w grows (inl same) = let few = w.few in subst (AreTaken Q by p t next) (sym same) (record { all = w.all; few = omega arith })
+step_taken Q by p t count next xs ys w grows (inr m) = subst (AreTaken Q by p t next) (sym m.more) (one_more Q by p t count next xs m.a m.some grows m.counts w)
+
+pub all_taken : (Q : ℕ → Type 0) (by : Bool) (p : PacketJournal) (t : ℤ) (count : ℕ → ℕ) (xs : ℕ → List Accepted) (i : ℕ) → xs 0 ≡ [] → ((j : ℕ) → j < i → IsStep Q by p t (count j) (count (suc j)) (xs j) (xs (suc j))) → AreTaken Q by p t (count i) (xs i)
+all_taken Q by p t count xs zero none each = subst (AreTaken Q by p t (count 0)) (sym none) (record { all = tt; few = omega arith })
+all_taken Q by p t count xs (suc i) none each =
+    let here = each i (omega arith) in
+    step_taken Q by p t (count i) (count (suc i)) (xs i) (xs (suc i)) (all_taken Q by p t count xs i none (λ j lt. each j (omega arith))) here.grows here.is
+
+-- nothing is accepted before the first item
+pub none_first : (plan : ListenPlan) (records : List Record) → accepted_before plan records 0 ≡ []
+unfolding accepted
+none_first plan records = refl
+
+-- ---- a delivery of audio
 
 -- Q holds of the packet that a delivery is a copy of, if it is one of the stream
 abbrev pub HoldsOf : (ℕ → Type 0) → Origin → Type 0
 HoldsOf Q (OfStream k) = Q k
 HoldsOf Q (OfClock m) = Unit {0}
-
-taken_next : (p : PacketJournal) (plan : ListenPlan) (records : List Record) (Q : ℕ → Type 0) (waits : ℕ → Bool) (t : ℤ) (ks : List ℕ) (j : ℕ) (o : Origin) → ((k : ℕ) (x : ℤ) → IsAt (by_clock plan) p.times k 0 x → t ≤ℤ x → waits k ≡ true) → HoldsOf Q o → IsTakenAt p plan records j o
-    → AreTaken (by_clock plan) p Q waits t ks (accepted_before plan records j) → AreTaken (by_clock plan) p Q waits t (ks ++ stream_numbers (o ∷ [])) (accepted_before plan records (suc j))
-taken_next p plan records Q waits t ks j (OfClock m) test holds same w =
-    subst (λ (xs : List Accepted). AreTaken (by_clock plan) p Q waits t (ks ++ []) xs) (sym same) (none_more (by_clock plan) p Q waits t ks [] (accepted_before plan records j) w)
-taken_next p plan records Q waits t ks j (OfStream k) test holds (inl same) w =
-    subst (λ (xs : List Accepted). AreTaken (by_clock plan) p Q waits t (ks ++ k ∷ []) xs) (sym same) (none_more (by_clock plan) p Q waits t ks (k ∷ []) (accepted_before plan records j) w)
-taken_next p plan records Q waits t ks j (OfStream k) test holds (inr (a, (more, is))) w =
-    subst (λ (xs : List Accepted). AreTaken (by_clock plan) p Q waits t (ks ++ k ∷ []) xs) (sym more) (one_more (by_clock plan) p Q waits t ks k (accepted_before plan records j) a (test k) holds is w)
 
 -- the delivery at place j is a copy of the packet of an origin, of which Q holds
 pub record IsAtPlace (p : PacketJournal) (plan : ListenPlan) (records : List Record) (Q : ℕ → Type 0) (os : List Origin) (j : ℕ) : Type 0 where
@@ -182,18 +191,35 @@ pub record IsAtPlace (p : PacketJournal) (plan : ListenPlan) (records : List Rec
   pub holds : HoldsOf Q o
   pub taken : IsTakenAt p plan records j o
 
-taken_none : (p : PacketJournal) (plan : ListenPlan) (records : List Record) (Q : ℕ → Type 0) (waits : ℕ → Bool) (t : ℤ) (os : List Origin) → AreTaken (by_clock plan) p Q waits t (stream_numbers (take zero os)) (accepted_before plan records zero)
-unfolding accepted
-taken_none p plan records Q waits t os = record { all = tt; few = omega arith }
+-- how many of the stream's packets among the first ones pass a test
+abbrev pub passing : (ℕ → Bool) → List Origin → ℕ → ℕ
+passing waits os j = length (filter waits (stream_numbers (take j os)))
 
-pub all_taken : (p : PacketJournal) (plan : ListenPlan) (records : List Record) (Q : ℕ → Type 0) (waits : ℕ → Bool) (t : ℤ) (os : List Origin) (i : ℕ) → ((k : ℕ) (x : ℤ) → IsAt (by_clock plan) p.times k 0 x → t ≤ℤ x → waits k ≡ true)
-    → ((j : ℕ) → j < i → IsAtPlace p plan records Q os j) → AreTaken (by_clock plan) p Q waits t (stream_numbers (take i os)) (accepted_before plan records i)
-all_taken p plan records Q waits t os zero test each = taken_none p plan records Q waits t os
-all_taken p plan records Q waits t os (suc i) test each =
-    let here = each i (omega arith) in
-    let numbers : stream_numbers (take (suc i) os) ≡ stream_numbers (take i os) ++ stream_numbers (here.o ∷ []) = ap stream_numbers (more_taken os i here.o here.at) ∙ numbers_more (take i os) (here.o ∷ []) in
-    subst (λ (l : List ℕ). AreTaken (by_clock plan) p Q waits t l (accepted_before plan records (suc i))) (sym numbers)
-    (taken_next p plan records Q waits t (stream_numbers (take i os)) i here.o test here.holds here.taken (all_taken p plan records Q waits t os i test (λ j lt. each j (omega arith))))
+passing_more : (waits : ℕ → Bool) (os : List Origin) (j : ℕ) (o : Origin) → slice_get os j ≡ Some o → passing waits os (suc j) ≡ passing waits os j + length (filter waits (stream_numbers (o ∷ [])))
+passing_more waits os j o at =
+    ap (λ (l : List Origin). length (filter waits (stream_numbers l))) (more_taken os j o at)
+    ∙ (ap (λ (l : List ℕ). length (filter waits l)) (numbers_more (take j os) (o ∷ []))
+    ∙ (ap (λ (l : List ℕ). length l) (filter-append waits (stream_numbers (take j os)) (stream_numbers (o ∷ [])))
+    ∙ length-append (filter waits (stream_numbers (take j os))) (filter waits (stream_numbers (o ∷ [])))))
+
+taken_is : (p : PacketJournal) (plan : ListenPlan) (records : List Record) (Q : ℕ → Type 0) (waits : ℕ → Bool) (t : ℤ) (count next j : ℕ) (o : Origin) → ((k : ℕ) (x : ℤ) → IsAt (by_clock plan) p.times k 0 x → t ≤ℤ x → waits k ≡ true)
+    → next ≡ count + length (filter waits (stream_numbers (o ∷ []))) → HoldsOf Q o → IsTakenAt p plan records j o
+    → (accepted_before plan records (suc j) ≡ accepted_before plan records j) ⊎ IsMore Q (by_clock plan) p t count next (accepted_before plan records j) (accepted_before plan records (suc j))
+taken_is p plan records Q waits t count next j (OfClock m) test sum holds same = inl same
+taken_is p plan records Q waits t count next j (OfStream k) test sum holds (inl same) = inl same
+taken_is p plan records Q waits t count next j (OfStream k) test sum holds (inr (a, (more, is))) =
+    inr (record {
+      a = a;
+      more = more;
+      some = record { k = k; holds = holds; is = is };
+      counts = λ h. let one : length (filter waits (k ∷ [])) ≡ 1 = rw (test k a.instant is.at h) refl in omega arith;
+    })
+
+pub audio_step : (p : PacketJournal) (plan : ListenPlan) (records : List Record) (Q : ℕ → Type 0) (waits : ℕ → Bool) (t : ℤ) (os : List Origin) (j : ℕ) → ((k : ℕ) (x : ℤ) → IsAt (by_clock plan) p.times k 0 x → t ≤ℤ x → waits k ≡ true) → IsAtPlace p plan records Q os j
+    → IsStep Q (by_clock plan) p t (passing waits os j) (passing waits os (suc j)) (accepted_before plan records j) (accepted_before plan records (suc j))
+audio_step p plan records Q waits t os j test here =
+    let sum = passing_more waits os j here.o here.at in
+    record { grows = omega arith; is = taken_is p plan records Q waits t (passing waits os j) (passing waits os (suc j)) j here.o test sum here.holds here.taken }
 
 -- ---- what was accepted stays
 
@@ -209,33 +235,32 @@ pub any_last : (P : Accepted → Type 0) (xs : List Accepted) (a : Accepted) →
 any_last P [] a holds = (0, a, omega arith, refl, holds)
 any_last P (x ∷ xs) a holds = any_later P x (xs ++ a ∷ []) (any_last P xs a holds)
 
-stays_one : (P : Accepted → Type 0) (p : PacketJournal) (plan : ListenPlan) (records : List Record) (j : ℕ) (o : Origin) → IsTakenAt p plan records j o → Any P (accepted_before plan records j) → Any P (accepted_before plan records (suc j))
-stays_one P p plan records j (OfClock m) same any = subst (λ (xs : List Accepted). Any P xs) (sym same) any
-stays_one P p plan records j (OfStream k) (inl same) any = subst (λ (xs : List Accepted). Any P xs) (sym same) any
-stays_one P p plan records j (OfStream k) (inr (a, (more, is))) any = subst (λ (xs : List Accepted). Any P xs) (sym more) (any_front P (accepted_before plan records j) (a ∷ []) any)
-
-pub stays : (P : Accepted → Type 0) (p : PacketJournal) (plan : ListenPlan) (records : List Record) (Q : ℕ → Type 0) (os : List Origin) (j c : ℕ) → ((m : ℕ) → m < j + c → IsAtPlace p plan records Q os m) → Any P (accepted_before plan records j) → Any P (accepted_before plan records (j + c))
-stays P p plan records Q os j zero each any = let same : j ≡ j + 0 = omega arith in subst (λ (m : ℕ). Any P (accepted_before plan records m)) same any
-stays P p plan records Q os j (suc c) each any =
+-- what was accepted stays accepted
+pub stays : (P : Accepted → Type 0) (plan : ListenPlan) (records : List Record) (j c : ℕ) → Any P (accepted_before plan records j) → Any P (accepted_before plan records (j + c))
+unfolding accepted
+stays P plan records j zero any = let same : j ≡ j + 0 = omega arith in subst (λ (m : ℕ). Any P (accepted_before plan records m)) same any
+stays P plan records j (suc c) any =
     let next : suc (j + c) ≡ j + suc c = omega arith in
-    let here = each (j + c) (omega arith) in
-    subst (λ (m : ℕ). Any P (accepted_before plan records m)) next
-    (stays_one P p plan records (j + c) here.o here.taken (stays P p plan records Q os j c (λ m lt. each m (omega arith)) any))
+    subst (λ (m : ℕ). Any P (accepted_before plan records m)) next (any_front P (accepted_before plan records (j + c)) _ (stays P plan records j c any))
 
 -- ---- the room
 
-pub light : (by : Bool) (p : PacketJournal) (Q : ℕ → Type 0) (t : ℤ) (most : ℕ) (xs : List Accepted) → IsAudioKind p.times.kind → ((m : ℕ) → m < p.times.packets → length (carried (p.packet m)) ≤ most) → AllByRecursion (IsSomeOf Q by p) xs → total_bytes (standing t xs) ≤ length (standing t xs) * most
-light by p Q t most [] kind short all = omega arith
-light by p Q t most (x ∷ xs) kind short all =
+pub light : (Q : ℕ → Type 0) (by : Bool) (p : PacketJournal) (t : ℤ) (most : ℕ) (xs : List Accepted) → ((k : ℕ) (b : Presented) → IsOfPacket by p k b → length b.bytes ≤ most) → AllByRecursion (IsSomeOf Q by p) xs → total_bytes (standing t xs) ≤ length (standing t xs) * most
+light Q by p t most [] short all = omega arith
+light Q by p t most (x ∷ xs) short all =
     by_lt_z x.instant t
-    (λ h. rw (le_false t x.instant h) (light by p Q t most xs kind short all.1))
+    (λ h. rw (le_false t x.instant h) (light Q by p t most xs short all.1))
     (λ h. rw (le_true t x.instant h)
-    (let rest = light by p Q t most xs kind short all.1 in
-    let k = all.0.k in
-    let same : x.batch.bytes ≡ carried (p.packet k) = same_content p k x.batch.bytes (carried (p.packet k)) all.0.is.is.bytes (audio_content p.times.kind p k kind) in
-    let one : length x.batch.bytes ≤ most = rw same (short k all.0.is.is.known) in
+    (let rest = light Q by p t most xs short all.1 in
+    let one = short all.0.k x.batch all.0.is.is in
     let sum = sum_by-cons (λ (a : Accepted). length a.batch.bytes) x (standing t xs) in
     omega arith))
+
+-- a packet of audio has at most as many bytes as the longest
+pub audio_short : (by : Bool) (p : PacketJournal) (most k : ℕ) (b : Presented) → IsAudioKind p.times.kind → ((m : ℕ) → m < p.times.packets → length (carried (p.packet m)) ≤ most) → IsOfPacket by p k b → length b.bytes ≤ most
+audio_short by p most k b kind short is =
+    let same : b.bytes ≡ carried (p.packet k) = same_content p k b.bytes (carried (p.packet k)) is.bytes (audio_content p.times.kind p k kind) in
+    rw same (short k is.known)
 
 pub none_is : (by : Bool) (p : PacketJournal) (n : ℕ) (xs : List Accepted) → ((k : ℕ) (b : Presented) → k ≢ n → IsOfPacket by p k b → IsOfPacket by p n b → ⊥) → AllByRecursion (IsSomeOf (λ (k : ℕ). k ≢ n) by p) xs → All (λ (a : Accepted). ¬ IsOfPacket by p n a.batch) xs
 none_is by p n [] never all = All-nil (λ (a : Accepted). ¬ IsOfPacket by p n a.batch)

@@ -1,14 +1,18 @@
--- Copies of audio packets that must be presented, wherever they are in a capture.
-use Rattle.std.specs.Prelude.{◌≡◌, ◌≢◌, ◌+◌, ◌*◌, ◌<◌, ◌≤◌, ◌≤ℤ◌, ℕ, ℤ, Bool, true, pos, List, All, length, filter, take, slice_get, Some}
+-- Copies of audio packets and of units that must be presented, wherever they are in a capture.
+use Rattle.std.specs.Prelude.{◌≡◌, ◌≢◌, ◌+◌, ◌*◌, ◌<◌, ◌≤◌, ◌≤ℤ◌, ℕ, ℤ, Bool, true, pos, List, [], ◌∷◌, ◌++◌, All, length, filter, take, slice_get, Some}
 use Rattle.pcap_frames.specs.Capture.{Record}
-use Rattle.stream_journal.specs.Journal.{IsAt}
+use Rattle.stream_journal.specs.Conforming.{Ends}
+use Rattle.stream_journal.specs.Journal.{IsAt, Part}
 use Rattle.packet_journal.specs.Deliveries.{Delivery}
 use Rattle.packet_journal.specs.Delivered.{IsCopyOf, stream_numbers}
 use Rattle.packet_journal.specs.Packets.{PacketJournal, carried}
+use Rattle.packet_journal.specs.Units.{AreUnit, unit_bytes}
 use Rattle.listener.specs.declared.plan.ListenPlan.{ListenPlan}
 use Rattle.listener.specs.Heard.{deliveries_of}
+use Rattle.listener.specs.Items.{given_up_by, items_so_far}
 use Rattle.listener.specs.Known.{IsKnownCopy}
-use Rattle.listener.specs.Laws.{by_clock, time_of}
+use Rattle.listener.specs.Laws.{AreOfUnit, by_clock, time_of}
+use Rattle.listener.specs.Units.{in_stream}
 
 -- The delivery at a place is a copy of packet n that is known and comes in time: no delivery up to it was captured after the
 -- packet's first instant, by the clock or without.
@@ -35,3 +39,36 @@ pub record MustBePresented (p : PacketJournal) (plan : ListenPlan) (records : Li
   pub most : ℕ
   pub size : (m : ℕ) → m < p.times.packets → length (carried (p.packet m)) ≤ most
   pub bytes : (length (filter waits (stream_numbers (take place comes.known.origins))) + 1) * most ≤ plan.room
+
+-- ---- units of H.264
+
+-- the place of a unit among the items, if a delivery completes it after these: the fragments that this delivery gives up come first
+abbrev pub unit_place : List Delivery → Delivery → ℕ
+unit_place before last = length (items_so_far before ++ given_up_by before last)
+
+-- A delivery completes the unit of packets `from` to n: one copy of each of its packets came, in their order and with no other
+-- packet of the stream between them. No delivery up to it was captured after the unit is due.
+pub record UnitComesInTime (p : PacketJournal) (plan : ListenPlan) (records : List Record) (part : ℕ → Part) (from n : ℕ) (before : List Delivery) (last : Delivery) : Type 0 where
+  pub rest : List Delivery
+  pub there : deliveries_of plan records ≡ before ++ last ∷ rest
+  pub front : List Delivery
+  pub earlier : List Delivery
+  pub gathered : in_stream before ≡ front ++ earlier
+  pub unit : AreOfUnit p part plan.lead from n earlier last
+  pub in_time : All (λ (d : Delivery). d.arrival ≤ℤ pos (p.times.due n)) (before ++ last ∷ [])
+
+-- The test finds each delivery that can complete a unit which is not yet due when the item at a place is judged.
+abbrev pub FindsWaitingUnits : PacketJournal → ListenPlan → List Record → (ℕ → Part) → ℕ → (Delivery → Bool) → Type 0
+FindsWaitingUnits p plan records part place waits = (k : ℕ) (d : Delivery) → IsCopyOf p plan.lead k d → Ends (part k) → time_of plan records place ≤ℤ pos (p.times.due k) → waits d ≡ true
+
+-- The unit must be presented: it comes in time, its last packet did not come before, and the buffer has room for it and for all
+-- units before it that still wait, each of at most `most` bytes.
+pub record UnitMustBePresented (p : PacketJournal) (plan : ListenPlan) (records : List Record) (part : ℕ → Part) (from n : ℕ) (before : List Delivery) (last : Delivery) : Type 0 where
+  pub comes : UnitComesInTime p plan records part from n before last
+  pub first : All (λ (d : Delivery). ¬ IsCopyOf p plan.lead n d) before
+  pub waits : Delivery → Bool
+  pub finds : FindsWaitingUnits p plan records part (unit_place before last) waits
+  pub some : length (filter waits before) < plan.buffer
+  pub most : ℕ
+  pub size : (s m : ℕ) → AreUnit part s m → m < p.times.packets → length (unit_bytes p s m) ≤ most
+  pub bytes : (length (filter waits before) + 1) * most ≤ plan.room

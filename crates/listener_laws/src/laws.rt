@@ -20,7 +20,7 @@ ghost use Rattle.listener.specs.Items.{MadeItem, events_to, made_of_one, unit_by
 ghost use Rattle.listener.specs.Units.{flaw_of};
 ghost use Rattle.listener.specs.Laws.{HearsTalker, IsFurther, IsPresentedOf, IsUnitFrom, IsWelcome, by_clock, presented_of, shown_of_frame};
 ghost use Rattle.listener.specs.Listening.{ListenState, is_closed, out};
-ghost use Rattle.listener_laws.specs.Anywhere.{ComesInTime, MustBePresented};
+ghost use Rattle.listener_laws.specs.Anywhere.{ComesInTime, MustBePresented, UnitComesInTime, UnitMustBePresented, unit_place};
 ghost use Rattle.listener_laws.specs.Completed.{completed};
 ghost use Rattle.listener_laws.specs.Fronts.{IsTrueFront};
 
@@ -73,16 +73,37 @@ pub fn copies_anywhere_are_further()
         → ComesInTime p plan records place n d → IsFurther p plan records place n (made_of_one d) }
 {}
 
-/// The headline alone demands this, wherever a copy is in a capture, with a clock or without: what keeps it presents the copy if
-/// that must be presented, and flags a further copy as a repeat.
+/// A unit of H.264 must be presented, wherever it is in a capture and whatever the capture loses, repeats or reorders, if one copy of
+/// each of its packets came, in order and with none of the stream between them: if nothing up to the last was captured after the
+/// unit is due, its last packet did not come before, and the buffer has room for it. It is made of just these copies.
+pub fn units_anywhere_are_welcome()
+    ensures { (shift : ℤ) (p : PacketJournal) (plan : ListenPlan) (records : List Record) (part : ℕ → Part) (from n : ℕ) (before : List Delivery) (last : Delivery) → HearsTalker shift p plan records → p.times.kind ≡ H264 part
+        → UnitMustBePresented p plan records part from n before last → IsWelcome p plan records (unit_place before last) n (unit_by before last) }
+{}
+
+/// If the same unit comes whole again, anywhere later, and nothing up to its last packet was captured after the unit is due, it must
+/// be flagged as a repeat.
+pub fn units_anywhere_are_further()
+    ensures { (shift : ℤ) (p : PacketJournal) (plan : ListenPlan) (records : List Record) (part : ℕ → Part) (earlier from n : ℕ) (made : MadeItem) (before : List Delivery) (last : Delivery) → HearsTalker shift p plan records → p.times.kind ≡ H264 part → IsWelcome p plan records earlier n made
+        → earlier < unit_place before last → UnitComesInTime p plan records part from n before last → IsFurther p plan records (unit_place before last) n (unit_by before last) }
+{}
+
+/// The headline alone demands this, wherever a copy or a unit is in a capture, with a clock or without: what keeps it presents the
+/// copy or the unit if that must be presented, and flags a further one as a repeat.
 pub fn headline_demands()
     ensures presented { (shift : ℤ) (p : PacketJournal) (plan : ListenPlan) (records : List Record) (shown : List Shown) (place n : ℕ) (d : Delivery) → KeepsHeadline shift p plan records shown → HearsTalker shift p plan records → IsAudioKind p.times.kind → MustBePresented p plan records place n d
         → Any (IsPresentedOf (by_clock plan) p n (made_of_one d)) (presented_of shown) }
     ensures repeated { (shift : ℤ) (p : PacketJournal) (plan : ListenPlan) (records : List Record) (shown : List Shown) (earlier place n : ℕ) (made : MadeItem) (d : Delivery) → KeepsHeadline shift p plan records shown → HearsTalker shift p plan records → IsAudioKind p.times.kind
         → IsWelcome p plan records earlier n made → earlier < place → ComesInTime p plan records place n d → shown_of_frame d.frame shown ≡ Flag d.frame d.seq Repeat ∷ [] }
+    ensures unit_presented { (shift : ℤ) (p : PacketJournal) (plan : ListenPlan) (records : List Record) (shown : List Shown) (part : ℕ → Part) (from n : ℕ) (before : List Delivery) (last : Delivery) → KeepsHeadline shift p plan records shown → HearsTalker shift p plan records → p.times.kind ≡ H264 part
+        → UnitMustBePresented p plan records part from n before last → Any (IsPresentedOf (by_clock plan) p n (unit_by before last)) (presented_of shown) }
+    ensures unit_repeated { (shift : ℤ) (p : PacketJournal) (plan : ListenPlan) (records : List Record) (shown : List Shown) (part : ℕ → Part) (earlier from n : ℕ) (made : MadeItem) (before : List Delivery) (last : Delivery) → KeepsHeadline shift p plan records shown → HearsTalker shift p plan records
+        → p.times.kind ≡ H264 part → IsWelcome p plan records earlier n made → earlier < unit_place before last → UnitComesInTime p plan records part from n before last → shown_of_frame last.frame shown ≡ Flag last.frame last.seq Repeat ∷ [] }
 {
     copies_anywhere_are_welcome();
     copies_anywhere_are_further();
+    units_anywhere_are_welcome();
+    units_anywhere_are_further();
 }
 
 /// If a packet of H.264 completes a unit after those before it, which `Assembler::push` answers with `Whole`, then the unit is one
