@@ -39,12 +39,12 @@ some_at (x ∷ ds) zero lt = (x, refl)
 some_at (x ∷ ds) (suc j) lt = some_at ds j (omega arith)
 
 -- a delivery has an origin
-record HasOrigin (p : PacketJournal) (lead : ℕ) (os : List Origin) (j : ℕ) (d : Delivery) : Type 0 where
-  o : Origin
-  at : slice_get os j ≡ Some o
-  from : IsFrom p lead o d
+pub record HasOrigin (p : PacketJournal) (lead : ℕ) (os : List Origin) (j : ℕ) (d : Delivery) : Type 0 where
+  pub o : Origin
+  pub at : slice_get os j ≡ Some o
+  pub from : IsFrom p lead o d
 
-origin_at : (p : PacketJournal) (lead : ℕ) (os : List Origin) (ds : List Delivery) (j : ℕ) (d : Delivery) → AreFrom p lead os ds → slice_get ds j ≡ Some d → HasOrigin p lead os j d
+pub origin_at : (p : PacketJournal) (lead : ℕ) (os : List Origin) (ds : List Delivery) (j : ℕ) (d : Delivery) → AreFrom p lead os ds → slice_get ds j ≡ Some d → HasOrigin p lead os j d
 origin_at p lead [] [] j d from at = absurd cc
 origin_at p lead [] (x ∷ ds) j d from at = absurd from
 origin_at p lead (o ∷ os) [] j d from at = absurd cc

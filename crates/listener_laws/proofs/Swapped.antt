@@ -137,7 +137,7 @@ arrives_by (suc (suc (suc (suc (suc k))))) e at = absurd (none_at k e at)
 -- packet 33 comes in time, at the fourth and the fifth place
 comes_at : AreRead clocked_packets 2000000 → (place : ℕ) (d : Delivery) → 3 ≤ place → place ≤ 4 → slice_get ds place ≡ Some d → IsCopyOf clocked_packets 2000000 33 d → ComesInTime clocked_packets clocked_listener swapped_records place 33 d
 comes_at are place d low high at copy =
-    let same = all_delivered clocked_packets 2000000 swapped swapped_records are all_carried in
+    let same = all_delivered clocked_packets (Some 0x0200000000010002) 2000000 swapped swapped_records are (refl, (refl, (tt, (tt, (tt, tt))))) all_carried in
     record {
       there = rw same at;
       copy = copy;

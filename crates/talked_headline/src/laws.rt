@@ -9,13 +9,16 @@ ghost use Rattle.listener.specs.Heard.{shown_of};
 ghost use Rattle.listener.specs.Items.{MadeItem};
 ghost use Rattle.listener.specs.Laws.{HearsTalker, IsWelcome};
 ghost use Rattle.talk_plan.specs.declared.plan.TalkPlan.{TalkPlan};
+ghost use Rattle.pcap_frames.specs.Capture.{whole_records};
+ghost use Rattle.talker.specs.Frames.{capture};
 ghost use Rattle.talker.specs.Journal.{journal};
 ghost use Rattle.talked_headline.specs.Premises.{HasRoomForUnit, ListensTo, ListensToVideo, captured};
 
 use listener::laws::{first_fragments_are_welcome, headline_holds};
 use packet_journal::laws::carried_packet_is_delivered;
 use talker::laws::{
-    capture_delivers, journal_conforms, losses_are_delivered, packets_are_sent_in_time,
+    capture_delivers, capture_reads_back, journal_conforms, losses_are_delivered,
+    packets_are_sent_in_time,
 };
 
 /// A capture of the frames of an audio plan and of its clock meets the whole premise of the headline, whatever the capture
@@ -25,6 +28,15 @@ pub fn talked_is_heard()
 {
     journal_conforms();
     losses_are_delivered();
+}
+
+/// So does the whole capture that `talk` makes of the plan.
+pub fn whole_capture_is_heard()
+    ensures { (plan : TalkPlan) (input : List ℕ) (listen : ListenPlan) → ListensTo plan input listen → HearsTalker (pos 0) (journal plan input) listen (whole_records (capture plan input)) }
+{
+    journal_conforms();
+    capture_delivers();
+    capture_reads_back();
 }
 
 /// What a listener shows of such a capture keeps the headline, if the talker takes the plan and the listener listens to its

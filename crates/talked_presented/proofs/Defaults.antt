@@ -32,7 +32,7 @@ counted_by (Aaf format true) plan e = close plan e
 counted_by Am824 plan e = λ few. close plan e
 counted_by (H264 last_stamp) plan e = tt
 
-holds : (lead rate count : ℕ) → lead ≡ 2000000 → rate ≤ 192000 → 1 ≤ count → 4 * ((lead + 1) * rate) < 3 * (4096 * (count * 1000000000))
+pub holds : (lead rate count : ℕ) → lead ≡ 2000000 → rate ≤ 192000 → 1 ≤ count → 4 * ((lead + 1) * rate) < 3 * (4096 * (count * 1000000000))
 holds lead rate count e most some = rw e (omega arith)
 
 pub defaults_hear : (plan : TalkPlan) (input : List ℕ) → HasDefaultLead plan input → HearsAll plan input (default_listener plan.id)

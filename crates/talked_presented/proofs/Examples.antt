@@ -9,7 +9,9 @@ use Rattle.talker.specs.Examples.{six_blocks}
 use Rattle.talker.specs.Journal.{journal, stream_of}
 use Rattle.talk_plan.specs.Timing.{first_instant, nominal_instant}
 use Rattle.talked_presented.specs.Anywhere.{MustBePresented}
-use Rattle.talked_presented.specs.Examples.{plain, silence, thirty}
+use Rattle.aaf_format.specs.declared.aaf.AafFormat.TheVariants.{Int16}
+use Rattle.talked_presented.specs.Clocked.{HasDefaultClock}
+use Rattle.talked_presented.specs.Examples.{plain, silence, six_points, thirty, with_clock}
 use Rattle.talked_presented.proofs.Sent.{due_before}
 use Rattle.talked_presented.specs.Whole.{HasDefaultLead, IsDefaultVideo, default_listener}
 
@@ -55,6 +57,37 @@ blocks_plan = record {
 
 pub blocks_fit : (input : List ℕ) → length input ≤ most_input → HasDefaultLead (six_blocks 48000) input
 blocks_fit input limit = record { talked = blocks_plan; id = omega arith; limit = limit; alone = refl; lead = refl; heads = refl }
+
+clocked_plan : IsAudioPlan with_clock
+clocked_plan = record {
+  kind = tt;
+  rate = refl;
+  some_channels = omega arith;
+  channels = omega arith;
+  some_count = omega arith;
+  count = omega arith;
+  fits = omega arith;
+  started = omega (arith, ints);
+  start = omega (arith, ints);
+  some_lead = omega arith;
+  lead = omega arith;
+  restart = tt;
+  crf = record {
+    id = omega arith;
+    some_rate = omega arith;
+    most_rate = omega arith;
+    pull = omega arith;
+    some_interval = omega arith;
+    most_interval = omega arith;
+    some_points = omega arith;
+    most_points = omega arith;
+    whole = refl;
+    runs = tt;
+  };
+}
+
+pub clock_fits : (input : List ℕ) → length input ≤ most_input → HasDefaultClock with_clock six_points input
+clock_fits input limit = record { talked = clocked_plan; id = omega arith; limit = limit; format = Int16; dense = refl; steady = refl; crf_is = refl; lead = refl }
 
 pub video_fits : (input : List ℕ) (last_stamp : Bool) → length input ≤ most_input → IsDefaultVideo (thirty last_stamp) input
 video_fits input last_stamp limit = record {

@@ -16,3 +16,7 @@ pub mod Anywhere
 pub mod Examples
 pub mod Counts
 pub mod VideoHeard
+pub mod Merged
+pub mod Covered
+pub mod Clocked
+pub mod ClockedCapture

@@ -1,6 +1,7 @@
 -- Plans and captures that meet the premises.
-use Rattle.std.specs.Prelude.{ℕ, Bool, List, replicate, None}
+use Rattle.std.specs.Prelude.{ℕ, Bool, false, List, replicate, None, Some}
 use Rattle.aaf_format.specs.declared.aaf.AafFormat.TheVariants.{Int16}
+use Rattle.talk_plan.specs.declared.plan.CrfPlan.{CrfPlan}
 use Rattle.talk_plan.specs.declared.plan.TalkKind.TheVariants.{Aaf, H264}
 use Rattle.talk_plan.specs.declared.plan.TalkPlan.{TalkPlan}
 use Rattle.talker.specs.Examples.{restarting}
@@ -16,3 +17,11 @@ thirty last_stamp = record restarting { kind = H264 last_stamp; rate = 30; resta
 -- silence for three packets of the plain plan
 abbrev pub silence : List ℕ
 silence = replicate 72 0
+
+-- a clock of 48 kHz, with six timestamps in a packet, 160 sample frames apart
+abbrev pub six_points : CrfPlan
+six_points = record { id = 0x0200000000010002; rate = 48000; pull = 0; interval = 160; points = 6 }
+
+-- the plain plan of dense PCM with that clock
+abbrev pub with_clock : TalkPlan
+with_clock = record (plain false) { crf = Some six_points }

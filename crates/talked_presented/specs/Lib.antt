@@ -1,3 +1,4 @@
 pub mod Whole
 pub mod Anywhere
 pub mod Examples
+pub mod Clocked

@@ -1,6 +1,6 @@
 //! What a listener presents of a talker's captures. Each call only states its contract, and does nothing.
 
-ghost use Rattle.std.specs.Prelude.{List, ℕ, Bool, false, true, length, [], ◌≡◌, ◌<◌, ◌≤◌, ◌∷◌, ◌++◌};
+ghost use Rattle.std.specs.Prelude.{List, ℕ, Bool, false, true, pos, length, [], ◌≡◌, ◌<◌, ◌≤◌, ◌∷◌, ◌++◌};
 ghost use Rattle.std.specs.List.{range_with_len};
 ghost use Rattle.pcap_frames.specs.Capture.{Record, whole_records};
 ghost use Rattle.packet_journal.specs.Packets.{PacketJournal};
@@ -8,7 +8,8 @@ ghost use Rattle.packet_journal.specs.Units.{AreUnit};
 ghost use Rattle.listener.specs.declared.plan.ListenPlan.{ListenPlan};
 ghost use Rattle.listener.specs.Heard.{counts_of, shown_of};
 ghost use Rattle.listener.specs.Items.{MadeItem};
-ghost use Rattle.listener.specs.Laws.{IsFurther, IsWelcome, by_clock};
+ghost use Rattle.listener.specs.Laws.{HearsTalker, IsFurther, IsWelcome, by_clock};
+ghost use Rattle.talk_plan.specs.declared.plan.CrfPlan.{CrfPlan};
 ghost use Rattle.talk_plan.specs.declared.plan.TalkPlan.{TalkPlan};
 ghost use Rattle.talk_plan.specs.Plan.{most_input};
 ghost use Rattle.talker.specs.Examples.{six_blocks};
@@ -16,12 +17,26 @@ ghost use Rattle.talker.specs.Frames.{capture};
 ghost use Rattle.talker.specs.Journal.{journal};
 ghost use Rattle.talked_headline.specs.Premises.{HasRoomForUnit, ListensToVideo, captured, part_sent};
 ghost use Rattle.talked_presented.specs.Anywhere.{ComesInTime, MustBePresented};
-ghost use Rattle.talked_presented.specs.Examples.{plain, silence, thirty};
+ghost use Rattle.talked_presented.specs.Clocked.{ArePresentedFrom, HasDefaultClock, HearsClock, clocked_listener, first_covered};
+ghost use Rattle.talked_presented.specs.Examples.{plain, silence, six_points, thirty, with_clock};
 ghost use Rattle.talked_presented.specs.Whole.{ArePresented, HasDefaultLead, HearsAll, HearsUnits, IsDefaultVideo, default_listener, unit_ends};
 
-use packet_journal::laws::carried_packet_is_delivered;
-use talked_headline::laws::talked_is_heard;
+use packet_journal::laws::{carried_clock_packet_is_delivered, carried_packet_is_delivered};
+use talked_headline::laws::{talked_is_heard, whole_capture_is_heard};
 use talker::laws::{capture_delivers, capture_reads_back, journal_conforms, losses_are_delivered};
+
+/// Captures of plans with the default lead of `talk`, of each kind, meet the whole premise of the headline, for listeners with the
+/// default options of `listen`, without a clock and with the talker's.
+pub fn defaults_are_heard()
+    ensures audio { (plan : TalkPlan) (input : List ℕ) → HasDefaultLead plan input → HearsTalker (pos 0) (journal plan input) (default_listener plan.id) (whole_records (capture plan input)) }
+    ensures clocked { (plan : TalkPlan) (crf : CrfPlan) (input : List ℕ) → HasDefaultClock plan crf input → HearsTalker (pos 0) (journal plan input) (clocked_listener plan.id crf.id) (whole_records (capture plan input)) }
+    ensures h264 { (plan : TalkPlan) (input : List ℕ) → IsDefaultVideo plan input → HearsTalker (pos 0) (journal plan input) (default_listener plan.id) (whole_records (capture plan input)) }
+{
+    whole_capture_is_heard();
+    journal_conforms();
+    capture_delivers();
+    capture_reads_back();
+}
 
 /// Everything is presented of a whole capture of an audio plan without a clock: each packet is presented once, in order, and
 /// nothing is flagged.
@@ -29,7 +44,7 @@ pub fn whole_capture_is_presented()
     ensures { (plan : TalkPlan) (input : List ℕ) (listen : ListenPlan) → HearsAll plan input listen
         → ArePresented false (journal plan input) (range_with_len 0 (journal plan input).times.packets) (shown_of listen (whole_records (capture plan input))) }
 {
-    journal_conforms();
+    whole_capture_is_heard();
     capture_delivers();
     capture_reads_back();
     carried_packet_is_delivered();
@@ -43,6 +58,28 @@ pub fn defaults_present_all()
         → ArePresented false (journal plan input) (range_with_len 0 (journal plan input).times.packets) (shown_of (default_listener plan.id) (whole_records (capture plan input))) }
 {
     whole_capture_is_presented();
+}
+
+/// A listener with the talker's clock presents each packet of a whole capture of dense PCM without restarts, from the second
+/// timestamp of the clock on. Nothing else is shown, but for flags of the packets before it, with the reason `noclock`.
+pub fn clocked_capture_is_presented()
+    ensures { (plan : TalkPlan) (crf : CrfPlan) (input : List ℕ) (listen : ListenPlan) → HearsClock plan crf input listen
+        → ArePresentedFrom (journal plan input) (first_covered crf plan) (shown_of listen (whole_records (capture plan input))) }
+{
+    whole_capture_is_heard();
+    capture_reads_back();
+    carried_packet_is_delivered();
+    carried_clock_packet_is_delivered();
+}
+
+/// If such a plan has the default lead of `talk`, a listener with its clock and else the default options of `listen` presents
+/// these packets.
+pub fn defaults_present_by_clock()
+    ensures hears { (plan : TalkPlan) (crf : CrfPlan) (input : List ℕ) → HasDefaultClock plan crf input → HearsClock plan crf input (clocked_listener plan.id crf.id) }
+    ensures presented { (plan : TalkPlan) (crf : CrfPlan) (input : List ℕ) → HasDefaultClock plan crf input
+        → ArePresentedFrom (journal plan input) (first_covered crf plan) (shown_of (clocked_listener plan.id crf.id) (whole_records (capture plan input))) }
+{
+    clocked_capture_is_presented();
 }
 
 /// Everything is presented of a whole capture of an H.264 plan: each unit is presented once, in order, and nothing is flagged,
@@ -110,12 +147,13 @@ pub fn presented_are_counted()
     ensures flagged { (by : Bool) (p : PacketJournal) (packets : List ℕ) (plan : ListenPlan) (records : List Record) → ArePresented by p packets (shown_of plan records) → (counts_of plan records (shown_of plan records)).flagged ≡ 0 }
 {}
 
-/// Plans of each kind have the default lead and can be timed whole, whatever they send. And if packets 0, 2, 1 and 1 of a plan
+/// Plans of each kind, without a clock and with one, have the default lead and can be timed whole, whatever they send. And if packets 0, 2, 1 and 1 of a plan
 /// are captured, in this order, the first copy of packet 1 must be presented.
 pub fn examples_are_so()
     ensures dense { (input : List ℕ) → length input ≤ most_input → HasDefaultLead (plain false) input }
     ensures sparse { (input : List ℕ) → length input ≤ most_input → HasDefaultLead (plain true) input }
     ensures am824 { (input : List ℕ) → length input ≤ most_input → HasDefaultLead (six_blocks 48000) input }
     ensures h264 { (input : List ℕ) (last_stamp : Bool) → length input ≤ most_input → IsDefaultVideo (thirty last_stamp) input }
+    ensures clocked { (input : List ℕ) → length input ≤ most_input → HasDefaultClock with_clock six_points input }
     ensures repeated { MustBePresented (plain false) silence (default_listener 0x0200000000010001) (0 ∷ 2 ∷ []) 1 (1 ∷ []) }
 {}

@@ -1,4 +1,4 @@
-use Rattle.std.proofs.Common.{List, false, pos, sym, subst, ◌∙◌}
+use Rattle.std.proofs.Common.{List, false, pos, sym, subst}
 use Rattle.std.specs.List.{range_with_len}
 use Rattle.pcap_frames.specs.Capture.{Record}
 use Rattle.listener.specs.Heard.{shown_of}
@@ -9,7 +9,7 @@ use Rattle.talker.proofs.TalkLemmas.{audio_plan}
 use Rattle.talked_presented.specs.Whole.{ArePresented}
 use Rattle.talked_presented.proofs.Known.{each_known}
 use Rattle.talked_presented.proofs.Sent.{are_timely, heard_whole}
-use Rattle.talked_headline.proofs.Talked.{kind_heard, stream_is}
+use Rattle.talked_headline.proofs.Talked.{kind_heard}
 use Rattle.talked_presented.proofs.Whole.{all_presented}
 use Rattle.talked_presented.proofs.laws.whole_capture_is_presented.Goals as goal
 
@@ -19,17 +19,11 @@ returns c plan input listen h =
     let p = journal plan input in
     let rs = records plan input in
     let is_plan = audio_plan plan l.talked in
-    let conforming = c.journal_conforms.ensures.conforms plan input is_plan l.id l.limit in
     let kind = kind_heard plan input l.talked in
-    let stream = l.stream ∙ stream_is plan input in
-    let heard : HearsTalker (pos 0) p listen rs = record {
-      conforming = conforming;
-      stream = stream;
-      clock = l.clock;
-      delivered = c.capture_delivers.ensures.delivers plan input listen.clock listen.lead is_plan l.id l.limit l.lead;
-    } in
-    let w = heard_whole plan input listen l.talked h.alone l.limit kind stream heard (c.capture_delivers.ensures.carries plan input listen.lead is_plan h.alone l.limit l.lead)
-    (λ n r. c.carried_packet_is_delivered.ensures.belongs (pos 0) p listen.lead n r conforming)
+    let same = c.capture_reads_back.ensures.records plan input is_plan l.limit in
+    let heard = subst (λ (k : List Record). HearsTalker (pos 0) p listen k) same (c.whole_capture_is_heard.ensures plan input listen l) in
+    let w = heard_whole plan input listen l.talked h.alone l.limit kind heard.stream heard (c.capture_delivers.ensures.carries plan input listen.lead is_plan h.alone l.limit l.lead)
+    (λ n r. c.carried_packet_is_delivered.ensures.belongs (pos 0) p listen.lead n r heard.conforming)
     (λ n frame r. c.carried_packet_is_delivered.ensures.copy p listen.lead n frame r) in
     let timely = are_timely plan input listen rs l.talked h.alone kind h.without h.room w h.heads (λ n lt. each_known plan input listen rs h kind w n lt) in
-    subst (λ (l : List Record). ArePresented false p (range_with_len 0 p.times.packets) (shown_of listen l)) (sym (c.capture_reads_back.ensures.records plan input is_plan l.limit)) (all_presented (pos 0) p listen rs timely)
+    subst (λ (k : List Record). ArePresented false p (range_with_len 0 p.times.packets) (shown_of listen k)) (sym same) (all_presented (pos 0) p listen rs timely)

@@ -1,0 +1,180 @@
+-- A whole capture of dense PCM, and what a listener with the talker's clock has of it.
+use Rattle.std.proofs.Common.{◌≡◌, ℕ, zero, suc, ◌+◌, ◌-◌, ◌*◌, ◌≤◌, false, ℤ, pos, List, [], ◌∷◌, length, map, Option, Some, None, is_some, refl, sym, ap, ◌∙◌, subst, arith}
+use Rattle.std.specs.Prelude.{slice_get}
+use Rattle.std.specs.List.{AllByRecursion}
+use Rattle.aaf_format.specs.declared.aaf.AafFormat.{AafFormat}
+use Rattle.packet_journal.specs.Carried.{AllCarryFrom}
+use Rattle.packet_journal.specs.Deliveries.{Delivery, deliveries, delivery}
+use Rattle.packet_journal.specs.Delivered.{AreFrom, IsFrom as IsCopyFrom, Origin, OfClock, OfStream}
+use Rattle.packet_journal.specs.Packets.{PacketJournal}
+use Rattle.listener.specs.declared.plan.ListenPlan.{ListenPlan}
+use Rattle.listener.specs.Heard.{deliveries_of}
+use Rattle.listener.specs.Laws.{FollowsClock, HearsTalker}
+use Rattle.listener_laws.proofs.Carried.{AreRead, HearsOrigin, all_delivered, all_from, numbered, numbered_at}
+use Rattle.talk_plan.specs.declared.plan.CrfPlan.{CrfPlan}
+use Rattle.talk_plan.specs.declared.plan.TalkKind.{TalkKind}
+use Rattle.talk_plan.specs.declared.plan.TalkKind.TheVariants.{Aaf}
+use Rattle.talk_plan.specs.declared.plan.TalkPlan.{TalkPlan}
+use Rattle.talk_plan.specs.Plan.{IsAudioPlan, most_input}
+use Rattle.talk_plan.specs.Beats.{stamped_at}
+use Rattle.talk_plan.specs.Stamps.{beat_of, stamped_by}
+use Rattle.talk_plan.specs.Timing.{event_of, first_packet, run_of, run_start}
+use Rattle.talk_plan.proofs.RateLemmas.{rate_range}
+use Rattle.talk_audio.specs.Audio.{audio_by}
+use Rattle.talk_audio.specs.Streams.{audio_of, headers_of}
+use Rattle.talk_audio.proofs.FormatLemmas.{format_of, has_format}
+use Rattle.talk_clock.specs.Clock.{AreFew, clock_arrival_by}
+use Rattle.talker.specs.Frames.{record_of, records}
+use Rattle.talker.specs.Journal.{Stream, journal, stream_by, stream_of}
+use Rattle.talker.specs.state.Frames.{left_of}
+use Rattle.talker.proofs.AudioLemmas.{timely}
+use Rattle.talker.proofs.StreamLemmas.{clocks_in, frames_of, packets_in}
+use Rattle.talker.proofs.TalkLemmas.{audio_plan, is_of, plan_keeps, stream_is}
+use Rattle.talked_presented.specs.Clocked.{HasDefaultClock, HearsClock, clocked_listener}
+use Rattle.talked_presented.proofs.Clocked.{HasWhole}
+use Rattle.talked_presented.proofs.Covered.{IsClocked, stamp_at}
+use Rattle.talked_presented.proofs.Defaults.{holds}
+use Rattle.talked_presented.proofs.Merged.{all_by, all_merged, frame_by, sent_by}
+use Rattle.talked_presented.proofs.Sent.{has_times}
+
+-- ---- the journal
+
+few_packets : (plan : TalkPlan) (input : List ℕ) → IsAudioPlan plan → length input ≤ most_input → AreFew plan (journal plan input).times.packets
+few_packets plan input p limit =
+    let has = has_format plan p in
+    let s = has.stream in
+    let P : TalkPlan → Type 0 = λ (plan : TalkPlan). AreFew plan (journal plan input).times.packets in
+    let here : P s.plan = subst (λ (stream : Stream). AreFew s.plan stream.journal.times.packets) (sym (stream_is s input has.audio)) (λ n lt. timely s.plan (audio_of s) (headers_of s) input n has.audio.plan (format_of s has.audio) limit lt) in
+    subst P has.plan_is here
+
+stamp_is : (plan : TalkPlan) (crf : CrfPlan) (n : ℕ) → plan.crf ≡ Some crf → plan.restart ≡ None → stamped_by plan.crf plan n 0 ≡ stamp_at plan crf n
+stamp_is plan crf n e r =
+    let run : run_of plan n ≡ 0 = rw r refl in
+    let first : first_packet plan (run_of plan n) ≡ 0 = rw r refl in
+    let none : n - 0 ≡ n = omega arith in
+    let events : event_of plan n 0 ≡ n * plan.count = ap (λ (z : ℕ). (n - z) * plan.count + 0) first ∙ rw none (omega arith) in
+    ap (λ (o : Option CrfPlan). stamped_by o plan n 0) e
+    ∙ (ap (λ (g : ℕ). stamped_at (beat_of crf plan) (run_start plan g) (event_of plan n 0)) run ∙ ap (stamped_at (beat_of crf plan) (run_start plan 0)) events)
+
+dense_stamp : (kind : TalkKind) (format : AafFormat) (plan : TalkPlan) (input : List ℕ) (n : ℕ) → kind ≡ Aaf format false → (stream_by (audio_by kind plan) plan input).journal.times.stamp n ≡ Some (stamped_by plan.crf plan n 0)
+dense_stamp kind format plan input n e = rw e refl
+
+clocked_is : (plan : TalkPlan) (crf : CrfPlan) (input : List ℕ) (format : AafFormat) → IsAudioPlan plan → length input ≤ most_input → plan.kind ≡ Aaf format false → plan.crf ≡ Some crf → plan.restart ≡ None → IsClocked plan crf (journal plan input).times
+clocked_is plan crf input format p limit dense e r = record {
+  talked = p;
+  crf_is = e;
+  steady = r;
+  few = few_packets plan input p limit;
+  dense = rw dense refl;
+  rate = (has_times plan input p).rate;
+  clock = rw (dense, e) refl;
+  stamp = λ n. dense_stamp plan.kind format plan input n dense ∙ ap Some (stamp_is plan crf n e r);
+}
+
+-- ---- the capture
+
+all_left : (s : Stream) → left_of s 0 0 ≡ frames_of s
+all_left s =
+    let c : clocks_in s - 0 ≡ clocks_in s = omega arith in
+    let p : packets_in s - 0 ≡ packets_in s = omega arith in
+    rw (c, p) refl
+
+all_hear : (p : PacketJournal) (clock : Option ℕ) (os : List Origin) → clock ≡ Some p.clock → AllByRecursion (HearsOrigin p clock) os
+all_hear p clock [] e = tt
+all_hear p clock (OfStream n ∷ os) e = (tt, all_hear p clock os e)
+all_hear p clock (OfClock m ∷ os) e = (e, all_hear p clock os e)
+
+record_at : (s : Stream) (os : List Origin) (i : ℕ) (o : Origin) → slice_get os i ≡ Some o → slice_get (map record_of (map (frame_by s) os)) i ≡ Some (record_of (frame_by s o))
+record_at s [] i o e = absurd cc
+record_at s (x ∷ os) zero o e = let same : x ≡ o = cc in ap (λ (y : Origin). Some (record_of (frame_by s y))) same
+record_at s (x ∷ os) (suc i) o e = record_at s os i o e
+
+origin_at : (p : PacketJournal) (lead : ℕ) (os : List Origin) (ds : List Delivery) (i : ℕ) (o : Origin) (d : Delivery) → AreFrom p lead os ds → slice_get os i ≡ Some o → slice_get ds i ≡ Some d → IsCopyFrom p lead o d
+origin_at p lead [] ds i o d from at there = absurd cc
+origin_at p lead (x ∷ os) [] i o d from at there = absurd cc
+origin_at p lead (x ∷ os) (y ∷ ds) zero o d from at there =
+    let same : x ≡ o = cc in
+    let here : y ≡ d = cc in
+    subst (λ (z : Origin). IsCopyFrom p lead z d) same (subst (λ (z : Delivery). IsCopyFrom p lead x z) here from.0)
+origin_at p lead (x ∷ os) (y ∷ ds) (suc i) o d from at there = origin_at p lead os ds i o d from.1 at there
+
+arrives_at : (s : Stream) (i : ℕ) (o : Origin) → (delivery i (record_of (frame_by s o))).arrival ≡ pos (sent_by s o)
+arrives_at s i (OfStream n) = refl
+arrives_at s i (OfClock m) = refl
+
+follows_by : (p : PacketJournal) (shift : ℤ) (clock : Option ℕ) (id : ℕ) → clock ≡ Some id → FollowsClock (pos 0) p shift clock → (id ≡ p.clock) × (shift ≡ pos 0)
+follows_by p shift clock id e f = subst (FollowsClock (pos 0) p shift) e f
+
+pub record IsWholeHeard (plan : TalkPlan) (crf : CrfPlan) (input : List ℕ) (listen : ListenPlan) : Type 0 where
+  pub origins : List Origin
+  pub whole : HasWhole plan crf input listen (records plan input) origins
+
+pub whole_heard : (plan : TalkPlan) (crf : CrfPlan) (input : List ℕ) (listen : ListenPlan) → HearsClock plan crf input listen → HearsTalker (pos 0) (journal plan input) listen (records plan input) → AreRead (journal plan input) listen.lead → IsWholeHeard plan crf input listen
+whole_heard plan crf input listen h heard are =
+    let p = journal plan input in
+    let s = stream_of plan input in
+    let l = h.talk in
+    let is_plan = audio_plan plan l.talked in
+    let stream = plan_keeps plan input is_plan l.limit in
+    let merged = all_merged plan s stream in
+    let os = merged.origins in
+    let rs = map record_of (map (frame_by s) os) in
+    let carry : AllCarryFrom p listen.lead os rs = all_by plan s listen.lead os stream l.lead merged.sent in
+    let records_are : records plan input ≡ rs = ap (map record_of) (sym (all_left s) ∙ merged.frames) in
+    let follows = follows_by p listen.shift listen.clock crf.id h.with_clock l.clock in
+    let clock : listen.clock ≡ Some p.clock = h.with_clock ∙ ap Some follows.0 in
+    let ds : deliveries_of listen (records plan input) ≡ numbered 1 rs =
+    ap (deliveries_of listen) records_are ∙ (ap (λ (id : ℕ). deliveries id listen.clock rs) heard.stream ∙ all_delivered p listen.clock listen.lead os rs are (all_hear p listen.clock os clock) carry) in
+    let from_rs = all_from p listen.lead 1 os rs are carry in
+    record {
+      origins = os;
+      whole = record {
+        heard = heard;
+        stream = stream;
+        clocked = clocked_is plan crf input h.format l.talked l.limit h.dense h.crf_is h.steady;
+        ahead = h.ahead;
+        clock_sent = λ m. (is_of plan input is_plan l.limit).clock.arrival m ∙ ap (λ (o : Option CrfPlan). clock_arrival_by o plan m) h.crf_is;
+        on = ap is_some h.with_clock;
+        shift = follows.1;
+        now = h.now;
+        room = h.room;
+        merged = merged.merged;
+        from = subst (λ (l : List Delivery). AreFrom p listen.lead os l) (sym ds) from_rs;
+        each = λ i o at.
+            let there = numbered_at 1 i rs (record_of (frame_by s o)) (record_at s os i o at) in
+            record {
+              d = delivery (1 + i) (record_of (frame_by s o));
+              there = ap (λ (l : List Delivery). slice_get l i) ds ∙ there;
+              arrived = arrives_at s (1 + i) o;
+              copy = origin_at p listen.lead os (numbered 1 rs) i o (delivery (1 + i) (record_of (frame_by s o))) from_rs at there;
+            };
+      };
+    }
+
+-- ---- the defaults
+
+clock_is : (plan : TalkPlan) (crf : CrfPlan) (input : List ℕ) (format : AafFormat) → plan.kind ≡ Aaf format false → plan.crf ≡ Some crf → crf.id ≡ (journal plan input).clock
+clock_is plan crf input format dense e = rw (dense, e) refl
+
+pub default_hears : (plan : TalkPlan) (crf : CrfPlan) (input : List ℕ) → HasDefaultClock plan crf input → HearsClock plan crf input (clocked_listener plan.id crf.id)
+default_hears plan crf input h = record {
+  talk = record {
+    talked = h.talked;
+    id = h.id;
+    limit = h.limit;
+    lead = rw h.dense tt;
+    stream = refl;
+    clock = (clock_is plan crf input h.format h.dense h.crf_is, refl);
+  };
+  format = h.format;
+  dense = h.dense;
+  steady = h.steady;
+  crf_is = h.crf_is;
+  ahead = let lead = h.lead in omega arith;
+  with_clock = refl;
+  now = refl;
+  room = record {
+    packets = holds plan.lead plan.rate plan.count h.lead (rate_range plan h.talked).most h.talked.some_count;
+    bytes = omega arith;
+  };
+}

@@ -1,0 +1,59 @@
+-- What a listener with the talker's clock shows of a whole capture.
+use Rattle.std.specs.Prelude.{◌≡◌, ◌<◌, ◌≤◌, ◌%◌, ◌^◌, ℕ, true, false, List, length, All, Any, Some, None}
+use Rattle.std.specs.Int.{div_ceil}
+use Rattle.aaf_format.specs.declared.aaf.AafFormat.{AafFormat}
+use Rattle.sample_schedule.specs.declared.shown.Reason.TheVariants.{NoClock}
+use Rattle.sample_schedule.specs.declared.shown.Shown.{Shown}
+use Rattle.sample_schedule.specs.declared.shown.Shown.TheVariants.{Present, Flag}
+use Rattle.packet_journal.specs.Packets.{PacketJournal}
+use Rattle.listener.specs.declared.plan.ListenPlan.{ListenPlan}
+use Rattle.listener.specs.Laws.{IsOfPacket, presented_of}
+use Rattle.talk_plan.specs.declared.plan.CrfPlan.{CrfPlan}
+use Rattle.talk_plan.specs.declared.plan.TalkKind.TheVariants.{Aaf}
+use Rattle.talk_plan.specs.declared.plan.TalkPlan.{TalkPlan}
+use Rattle.talk_plan.specs.Plan.{IsAudioPlan, most_input, spacing_of}
+use Rattle.talked_headline.specs.Premises.{ListensTo}
+use Rattle.talked_presented.specs.Whole.{HoldsLead, default_listener}
+
+-- the first packet whose first sample is at the second timestamp of the clock, or after it
+abbrev pub first_covered : CrfPlan → TalkPlan → ℕ
+first_covered crf plan = div_ceil (spacing_of crf plan.rate) plan.count
+
+-- A batch is a packet from this one on. A flag is that of a packet before it, with the reason `noclock`.
+abbrev pub IsFrom : PacketJournal → ℕ → Shown → Type 0
+IsFrom p first (Present batch) = (n : ℕ) × ((first ≤ n) × IsOfPacket true p n batch)
+IsFrom p first (Flag frame seq reason) = (n : ℕ) × ((n < first) × ((seq ≡ n % 256) × (reason ≡ NoClock)))
+
+-- Each packet from this one on is presented, by the clock. Nothing else is shown, but for flags of the packets before it, with the
+-- reason `noclock`.
+pub record ArePresentedFrom (p : PacketJournal) (first : ℕ) (shown : List Shown) : Type 0 where
+  pub each : (n : ℕ) → first ≤ n → n < p.times.packets → Any (IsOfPacket true p n) (presented_of shown)
+  pub no_other : All (IsFrom p first) shown
+
+-- The listener has the talker's clock and does not look ahead. The plan is one of dense PCM, so each packet stamps its first
+-- sample, and it has no restarts.
+pub record HearsClock (plan : TalkPlan) (crf : CrfPlan) (input : List ℕ) (listen : ListenPlan) : Type 0 where
+  pub talk : ListensTo plan input listen
+  pub format : AafFormat
+  pub dense : plan.kind ≡ Aaf format false
+  pub steady : plan.restart ≡ None
+  pub crf_is : plan.crf ≡ Some crf
+  pub ahead : 3 ≤ plan.lead
+  pub with_clock : listen.clock ≡ Some crf.id
+  pub now : listen.look ≡ 0
+  pub room : HoldsLead plan listen
+
+-- the listener with the default options of `listen` and a clock
+abbrev pub clocked_listener : ℕ → ℕ → ListenPlan
+clocked_listener id clock = record (default_listener id) { clock = Some clock }
+
+-- A plan of dense PCM with this clock and without restarts, with the default lead of `talk`, 2 ms, sends this input.
+pub record HasDefaultClock (plan : TalkPlan) (crf : CrfPlan) (input : List ℕ) : Type 0 where
+  pub talked : IsAudioPlan plan
+  pub id : plan.id < 2 ^ 64
+  pub limit : length input ≤ most_input
+  pub format : AafFormat
+  pub dense : plan.kind ≡ Aaf format false
+  pub steady : plan.restart ≡ None
+  pub crf_is : plan.crf ≡ Some crf
+  pub lead : plan.lead ≡ 2000000
