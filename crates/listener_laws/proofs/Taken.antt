@@ -202,7 +202,7 @@ passing_more waits os j o at =
     ∙ (ap (λ (l : List ℕ). length l) (filter-append waits (stream_numbers (take j os)) (stream_numbers (o ∷ [])))
     ∙ length-append (filter waits (stream_numbers (take j os))) (filter waits (stream_numbers (o ∷ [])))))
 
-taken_is : (p : PacketJournal) (plan : ListenPlan) (records : List Record) (Q : ℕ → Type 0) (waits : ℕ → Bool) (t : ℤ) (count next j : ℕ) (o : Origin) → ((k : ℕ) (x : ℤ) → IsAt (by_clock plan) p.times k 0 x → t ≤ℤ x → waits k ≡ true)
+taken_is : (p : PacketJournal) (plan : ListenPlan) (records : List Record) (Q : ℕ → Type 0) (waits : ℕ → Bool) (t : ℤ) (count next j : ℕ) (o : Origin) → ((k : ℕ) (x : ℤ) → k < p.times.packets → IsAt (by_clock plan) p.times k 0 x → t ≤ℤ x → waits k ≡ true)
     → next ≡ count + length (filter waits (stream_numbers (o ∷ []))) → HoldsOf Q o → IsTakenAt p plan records j o
     → (accepted_before plan records (suc j) ≡ accepted_before plan records j) ⊎ IsMore Q (by_clock plan) p t count next (accepted_before plan records j) (accepted_before plan records (suc j))
 taken_is p plan records Q waits t count next j (OfClock m) test sum holds same = inl same
@@ -212,10 +212,10 @@ taken_is p plan records Q waits t count next j (OfStream k) test sum holds (inr 
       a = a;
       more = more;
       some = record { k = k; holds = holds; is = is };
-      counts = λ h. let one : length (filter waits (k ∷ [])) ≡ 1 = rw (test k a.instant is.at h) refl in omega arith;
+      counts = λ h. let one : length (filter waits (k ∷ [])) ≡ 1 = rw (test k a.instant is.is.known is.at h) refl in omega arith;
     })
 
-pub audio_step : (p : PacketJournal) (plan : ListenPlan) (records : List Record) (Q : ℕ → Type 0) (waits : ℕ → Bool) (t : ℤ) (os : List Origin) (j : ℕ) → ((k : ℕ) (x : ℤ) → IsAt (by_clock plan) p.times k 0 x → t ≤ℤ x → waits k ≡ true) → IsAtPlace p plan records Q os j
+pub audio_step : (p : PacketJournal) (plan : ListenPlan) (records : List Record) (Q : ℕ → Type 0) (waits : ℕ → Bool) (t : ℤ) (os : List Origin) (j : ℕ) → ((k : ℕ) (x : ℤ) → k < p.times.packets → IsAt (by_clock plan) p.times k 0 x → t ≤ℤ x → waits k ≡ true) → IsAtPlace p plan records Q os j
     → IsStep Q (by_clock plan) p t (passing waits os j) (passing waits os (suc j)) (accepted_before plan records j) (accepted_before plan records (suc j))
 audio_step p plan records Q waits t os j test here =
     let sum = passing_more waits os j here.o here.at in

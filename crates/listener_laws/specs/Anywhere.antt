@@ -26,7 +26,7 @@ pub record ComesInTime (p : PacketJournal) (plan : ListenPlan) (records : List R
 
 -- The test finds each packet whose first instant has not passed when the item at a place is judged.
 abbrev pub FindsWaiting : PacketJournal → ListenPlan → List Record → ℕ → (ℕ → Bool) → Type 0
-FindsWaiting p plan records place waits = (k : ℕ) (x : ℤ) → IsAt (by_clock plan) p.times k 0 x → time_of plan records place ≤ℤ x → waits k ≡ true
+FindsWaiting p plan records place waits = (k : ℕ) (x : ℤ) → k < p.times.packets → IsAt (by_clock plan) p.times k 0 x → time_of plan records place ≤ℤ x → waits k ≡ true
 
 -- The copy must be presented: it comes in time, it is the first of its packet, and the buffer has room for it and for all
 -- packets before it that still wait, each of at most `most` bytes.

@@ -77,23 +77,16 @@ use Rattle.talker.specs.Journal.{Stream, journal, stream_of}
 use Rattle.talker.proofs.StreamLemmas.{IsStream, clocks_in}
 use Rattle.talked_presented.specs.Clocked.{ArePresentedFrom, IsFrom, first_covered}
 use Rattle.talked_presented.specs.Whole.{HoldsLead}
+use Rattle.talked_presented.proofs.Caught.{IsCaught, came_by, not_before}
 use Rattle.talked_presented.proofs.Covered.{IsClocked, IsOverStamp, at_stamp, covered_here, first_head, head_is, not_over, over_stamp, stamp_at}
 use Rattle.talked_presented.proofs.Merged.{AreMerged, IsPlaced, has_place, placed, sent_by}
 use Rattle.talked_presented.proofs.Sent.{few_wait, has_times, packet_size}
 
 -- ---- what a listener has of the capture
 
--- delivery i is a copy of an origin's packet, captured when it was sent
-pub record IsCaughtAt (p : PacketJournal) (s : Stream) (listen : ListenPlan) (rs : List Record) (i : ℕ) (o : Origin) : Type 0 where
-  pub d : Delivery
-  pub there : slice_get (deliveries_of listen rs) i ≡ Some d
-  pub arrived : d.arrival ≡ pos (sent_by s o)
-  pub copy : IsCopyFrom p listen.lead o d
-
 -- the listener has a whole capture of dense PCM and of its clock
 pub record HasWhole (plan : TalkPlan) (crf : CrfPlan) (input : List ℕ) (listen : ListenPlan) (rs : List Record) (os : List Origin) : Type 0 where
-  pub heard : HearsTalker (pos 0) (journal plan input) listen rs
-  pub stream : IsStream plan (stream_of plan input)
+  pub caught : IsCaught plan input listen rs os
   pub clocked : IsClocked plan crf (journal plan input).times
   pub ahead : 3 ≤ plan.lead
   pub clock_sent : (m : ℕ) → (stream_of plan input).clock_arrival m ≡ clock_arrival crf plan m
@@ -102,11 +95,6 @@ pub record HasWhole (plan : TalkPlan) (crf : CrfPlan) (input : List ℕ) (listen
   pub now : listen.look ≡ 0
   pub room : HoldsLead plan listen
   pub merged : AreMerged (stream_of plan input) 0 0 os
-  pub from : AreFrom (journal plan input) listen.lead os (deliveries_of listen rs)
-  pub each : (i : ℕ) (o : Origin) → slice_get os i ≡ Some o → IsCaughtAt (journal plan input) (stream_of plan input) listen rs i o
-
-kind_of : (plan : TalkPlan) (crf : CrfPlan) (j : Journal) → IsClocked plan crf j → IsAudioKind j.kind
-kind_of plan crf j c = rw c.dense tt
 
 agrees : (plan : TalkPlan) (crf : CrfPlan) (j : Journal) → IsClocked plan crf j → Conforms j → AgreesWithClock j
 agrees plan crf j c is = (subst (λ (k : Kind). IsOfKind k j) c.dense is.kind).1
@@ -184,19 +172,6 @@ came_upto plan crf input os i n s c sent over at q =
 
 -- ---- a packet from the second point on must be presented
 
-late_by : (x y : ℤ) → y ≤ℤ int_max x y
-late_by x y = grind (arith, ints)
-
-not_before : (plan : TalkPlan) (crf : CrfPlan) (input : List ℕ) (listen : ListenPlan) (rs : List Record) (os : List Origin) (i n : ℕ) → HasWhole plan crf input listen rs os → slice_get os i ≡ Some (OfStream n) → pos ((stream_of plan input).arrival n) ≤ℤ time_of listen rs i
-not_before plan crf input listen rs os zero n w at =
-    let here = w.each 0 (OfStream n) at in
-    let all = others (pos 0) (journal plan input) listen rs w.heard (kind_of plan crf (journal plan input).times w.clocked) in
-    rw (first_time (entries_in listen rs) (entry_of here.d) (entry_there (deliveries_of listen rs) 0 here.d all here.there), arrives here.d, here.arrived) (late_by (pos 0) (pos ((stream_of plan input).arrival n)))
-not_before plan crf input listen rs os (suc i) n w at =
-    let here = w.each (suc i) (OfStream n) at in
-    let all = others (pos 0) (journal plan input) listen rs w.heard (kind_of plan crf (journal plan input).times w.clocked) in
-    rw (now-next (entries_in listen rs) (suc i) (entry_of here.d) (entry_there (deliveries_of listen rs) (suc i) here.d all here.there), arrives here.d, here.arrived) (late_by (latest (take (suc i) (entries_in listen rs))) (pos ((stream_of plan input).arrival n)))
-
 at_start : (instant : ℤ) (num den : ℕ) → instant_at (record { base = instant; num = num; den = den }) (pos 0) ≡ instant
 at_start instant num den = rw (zero-mul num, zero-div den) (omega (arith, ints))
 
@@ -270,18 +245,6 @@ covered_at plan crf j n shift look came head z c none e over =
 came_is : (os : List Origin) (i look : ℕ) → look ≡ 0 → clock_numbers (take (i + look + 1) os) ≡ clock_numbers (take (suc i) os)
 came_is os i look e = let same : i + look + 1 ≡ suc i = omega (arith, e) in ap (λ (k : ℕ). clock_numbers (take k os)) same
 
-earlier_arrival : (plan : TalkPlan) (crf : CrfPlan) (input : List ℕ) (listen : ListenPlan) (rs : List Record) (os : List Origin) (i n k : ℕ) (e : Delivery) → HasWhole plan crf input listen rs os → IsPlaced (stream_of plan input) 0 0 os i n → k ≤ i → slice_get (deliveries_of listen rs) k ≡ Some e
-    → e.arrival ≤ℤ pos ((stream_of plan input).arrival n)
-earlier_arrival plan crf input listen rs os i n k e w q le at =
-    let o = origin_at (journal plan input) listen.lead os (deliveries_of listen rs) k e w.from at in
-    let here = w.each k o.o o.at in
-    let same : here.d ≡ e = same_delivery here.d e (sym here.there ∙ at) in
-    let soon = q.before k o.o le o.at in
-    subst (λ (d : Delivery). d.arrival ≤ℤ pos ((stream_of plan input).arrival n)) same (rw here.arrived (omega (arith, ints, soon)))
-  where
-    same_delivery : (a b : Delivery) → Some a ≡ Some b → a ≡ b
-    same_delivery a b e = cc
-
 comes : (plan : TalkPlan) (crf : CrfPlan) (input : List ℕ) (listen : ListenPlan) (rs : List Record) (os : List Origin) (i n : ℕ) (d : Delivery) → HasWhole plan crf input listen rs os → slice_get os i ≡ Some (OfStream n) → slice_get (deliveries_of listen rs) i ≡ Some d → IsCopyOf (journal plan input) listen.lead n d
     → first_covered crf plan ≤ n → ComesInTime (journal plan input) listen rs i n d
 comes plan crf input listen rs os i n d w at there copy le =
@@ -289,8 +252,8 @@ comes plan crf input listen rs os i n d w at there copy le =
     let j = p.times in
     let c = w.clocked in
     let known = copy.delivered.known in
-    let conforming = w.heard.conforming.times in
-    let q = placed plan (stream_of plan input) 0 0 os i n w.stream (omega arith) w.merged at in
+    let conforming = w.caught.heard.conforming.times in
+    let q = placed plan (stream_of plan input) 0 0 os i n w.caught.stream (omega arith) w.merged at in
     let late = is_late plan crf n c.talked c.crf_is le in
     let over = over_stamp plan crf j n late.s c known late.at in
     let came = came_upto plan crf input os i n late.s c w.clock_sent over late.at q in
@@ -298,14 +261,14 @@ comes plan crf input listen rs os i n d w at there copy le =
     let numbers : clock_numbers (take (i + listen.look + 1) os) ≡ range_with_len 0 q.clocks = came_is os i listen.look w.now ∙ (q.clock_numbers_are ∙ ap (range_with_len 0) all) in
     let covered = covered_here plan crf j n late.s q.clocks over (clock_of plan crf c.talked c.crf_is).some_points came.0 came.1 in
     let at_it = at_stamp plan crf j n late.s c conforming.clock (agrees plan crf j c conforming) known over in
-    let due = due_is plan crf j n c (audio p (kind_of plan crf j c) conforming) known in
-    let early : (stream_of plan input).arrival n ≤ stamp_at plan crf n = omega (arith, w.stream.early n (rw c.crf_is w.ahead) known, due) in
+    let due = due_is plan crf j n c (audio p w.caught.kind conforming) known in
+    let early : (stream_of plan input).arrival n ≤ stamp_at plan crf n = omega (arith, w.caught.stream.early n (rw c.crf_is w.ahead) known, due) in
     record {
       there = there;
       copy = copy;
       known = record {
         origins = os;
-        from = w.from;
+        from = w.caught.from;
         is = record {
           timed = inl (ap is_some (c.stamp n));
           covered = λ on head e. subst (λ (l : List ℕ). IsCoveredBy j.clock listen.shift j.rate l head.instant) (sym numbers) (covered_at plan crf j n 0 0 (range_with_len 0 q.clocks) head listen.shift c w.shift e covered);
@@ -313,7 +276,7 @@ comes plan crf input listen rs os i n d w at there copy le =
       };
       instant = stamp_at plan crf n;
       at = subst (λ (by : Bool). IsAt by j n 0 (pos (stamp_at plan crf n))) (sym w.on) (by_dense j.kind j n 0 (pos (stamp_at plan crf n)) c.dense at_it);
-      in_time = λ k e before there. let sent = earlier_arrival plan crf input listen rs os i n k e w q before there in omega (arith, ints, sent, early);
+      in_time = λ k e before there. came_by plan input listen rs os k (stamp_at plan crf n) e w.caught there (λ o at. let sent = q.before k o before at in omega (arith, sent, early));
     }
 
 -- the instant of a packet that waits
@@ -325,8 +288,8 @@ waits_by plan crf input listen rs os i n k x w at known is late = elim (cases_lt
       let p = journal plan input in
       let j = p.times in
       let c = w.clocked in
-      let conforming = w.heard.conforming.times in
-      let sound = audio p (kind_of plan crf j c) conforming in
+      let conforming = w.caught.heard.conforming.times in
+      let sound = audio p w.caught.kind conforming in
       let lt : k < j.packets = omega arith in
       let here = dense_by j.kind j k 0 x c.dense (subst (λ (by : Bool). IsAt by j k 0 x) w.on is) in
       elim (cases_lt k (first_covered crf plan)) [
@@ -338,7 +301,7 @@ waits_by plan crf input listen rs os i n k x w at known is late = elim (cases_lt
             let at_it = at_stamp plan crf j k l.s c conforming.clock (agrees plan crf j c conforming) lt (over_stamp plan crf j k l.s c lt l.at) in
             let due = due_is plan crf j k c sound lt in
             let same : x ≡ pos (stamp_at plan crf k) = one_instant j conforming true k 0 x (pos (stamp_at plan crf k)) lt (by_dense j.kind j k 0 x c.dense here) (by_dense j.kind j k 0 (pos (stamp_at plan crf k)) c.dense at_it) in
-            let sent = not_before plan crf input listen rs os i n w at in
+            let sent = not_before plan input listen rs os i (OfStream n) w.caught at in
             few_wait plan input listen k n c.talked sound w.room (omega arith) known (omega (arith, ints, sent, late, same, due))
       ]
 ]
@@ -350,24 +313,24 @@ must_be plan crf input listen rs os i n d w at there copy le =
     let p = journal plan input in
     let c = w.clocked in
     let known = copy.delivered.known in
-    let conforming = w.heard.conforming.times in
-    let q = placed plan (stream_of plan input) 0 0 os i n w.stream (omega arith) w.merged at in
+    let conforming = w.caught.heard.conforming.times in
+    let q = placed plan (stream_of plan input) 0 0 os i n w.caught.stream (omega arith) w.merged at in
     let all : n - 0 ≡ n = omega arith in
     let numbers : stream_numbers (take i os) ≡ range_with_len 0 n = q.numbers ∙ ap (range_with_len 0) all in
     let waits : ℕ → Bool = λ (k : ℕ). nat_lt n (k + listen.buffer) in
-    let due = due_is plan crf p.times n c (audio p (kind_of plan crf p.times c) conforming) known in
-    let early = w.stream.early n (rw c.crf_is w.ahead) known in
-    let own = few_wait plan input listen n n c.talked (audio p (kind_of plan crf p.times c) conforming) w.room (omega arith) known early in
+    let due = due_is plan crf p.times n c (audio p w.caught.kind conforming) known in
+    let early = w.caught.stream.early n (rw c.crf_is w.ahead) known in
+    let own = few_wait plan input listen n n c.talked (audio p w.caught.kind conforming) w.room (omega arith) known early in
     let few : length (filter waits (stream_numbers (take i os))) < listen.buffer = rw numbers (few_last n listen.buffer 0 n (omega arith) (omega arith)) in
     let times : (length (filter waits (stream_numbers (take i os))) + 1) * 1500 ≤ listen.buffer * 1500 = mul-le-mul_right 1500 (omega (arith, few)) in
     record {
       comes = comes plan crf input listen rs os i n d w at there copy le;
       first = subst (λ (l : List ℕ). All (λ (m : ℕ). m ≢ n) l) (sym numbers) (other_numbers n 0 n (omega arith));
       waits = waits;
-      finds = λ k x is late. is_less n (k + listen.buffer) (waits_by plan crf input listen rs os i n k x w at known is late);
+      finds = λ k x lt is late. is_less n (k + listen.buffer) (waits_by plan crf input listen rs os i n k x w at known is late);
       some = few;
       most = 1500;
-      size = λ m lt. packet_size plan input m w.stream lt;
+      size = λ m lt. packet_size plan input m w.caught.stream lt;
       bytes = let room = w.room.bytes in omega (arith, times, room);
     }
 
@@ -424,9 +387,9 @@ flagged_early plan crf input listen rs os i n d w copy lt =
     let sp = schedule_plan listen in
     let es = entries_in listen rs in
     let prefix = prefix_of sp es i in
-    let kind = kind_of plan crf j c in
-    let is = followed (pos 0) p listen rs w.heard kind in
-    let known = prefix_true (items_in listen rs) (pos 0) p listen.lead prefix (λ heard. is.audio) (All-take (IsTrueEntry (items_in listen rs) (pos 0) p listen.lead) (i + listen.look + 1) es (entries_true (pos 0) p listen rs w.heard)) in
+    let kind = w.caught.kind in
+    let is = followed (pos 0) p listen rs w.caught.heard kind in
+    let known = prefix_true (items_in listen rs) (pos 0) p listen.lead prefix (λ heard. is.audio) (All-take (IsTrueEntry (items_in listen rs) (pos 0) p listen.lead) (i + listen.look + 1) es (entries_true (pos 0) p listen rs w.caught.heard)) in
     let spot = true_spot j (pos 0) (pos (stamp_at plan crf n)) (filter_map row_of prefix) is.clock known.rows in
     let none = no_spot j (stamp_at plan crf n) (clock_spot (filter_map row_of prefix) (pos 0) (pos (stamp_at plan crf n)) j.rate) (λ x at. not_over plan crf j n at.earlier at.later c (is_early plan crf n c.talked lt) at.joined at.covers) spot in
     refused_at sp (now_at es i) (accepted_before listen rs i) i _ NoClock
@@ -450,18 +413,18 @@ shown_stream : (plan : TalkPlan) (crf : CrfPlan) (input : List ℕ) (listen : Li
 shown_stream plan crf input listen rs os i n d item w at there copy entry =
     let p = journal plan input in
     let c = w.clocked in
-    let kind = kind_of plan crf p.times c in
+    let kind = w.caught.kind in
     let shows = at_place Shows (deliveries_of listen rs) i d (all_shown listen.stream listen.clock rs) there in
     elim (cases_lt n (first_covered crf plan)) [
       | inl early ↦
           let packet = OfPacket (sent p.times n d.frame copy.arrival (carried (p.packet n))) in
-          let same : item ≡ packet = same_item item packet (sym entry ∙ copy_entry (pos 0) p listen.lead n d w.heard.conforming kind copy shows) in
-          let seq : d.seq ≡ n % 256 = sym (seq_by (d.subtype == aaf_subtype) d) ∙ ap seq_of (copy_item (pos 0) p listen.lead n d w.heard.conforming kind copy shows) in
+          let same : item ≡ packet = same_item item packet (sym entry ∙ copy_entry (pos 0) p listen.lead n d w.caught.heard.conforming kind copy shows) in
+          let seq : d.seq ≡ n % 256 = sym (seq_by (d.subtype == aaf_subtype) d) ∙ ap seq_of (copy_item (pos 0) p listen.lead n d w.caught.heard.conforming kind copy shows) in
           let flag : verdict_of listen rs i item ≡ Err NoClock = ap (verdict_of listen rs i) same ∙ flagged_early plan crf input listen rs os i n d w copy early in
           rw flag (n, (early, (seq, refl)))
       | inr from ↦
-          let welcome = welcome_here (pos 0) p listen rs i n d w.heard kind (must_be plan crf input listen rs os i n d w at there copy from) in
-          let judged = welcome_judged (pos 0) p listen rs i n (made_of_one d) w.heard welcome in
+          let welcome = welcome_here (pos 0) p listen rs i n d w.caught.heard kind (must_be plan crf input listen rs os i n d w at there copy from) in
+          let judged = welcome_judged (pos 0) p listen rs i n (made_of_one d) w.caught.heard welcome in
           let same : item ≡ judged.item = same_item item judged.item (sym entry ∙ judged.entry) in
           let ok : verdict_of listen rs i item ≡ Ok (taken i judged.batch) = ap (verdict_of listen rs i) same ∙ judged.verdict_is_ok in
           rw ok (n, (from, subst (λ (by : Bool). IsOfPacket by p n judged.batch) w.on judged.is.is))
@@ -472,15 +435,15 @@ shown_from : (plan : TalkPlan) (crf : CrfPlan) (input : List ℕ) (listen : List
 shown_from plan crf input listen rs os (OfStream n) i d item w at there copy entry = shown_stream plan crf input listen rs os i n d item w at there copy entry
 shown_from plan crf input listen rs os (OfClock m) i d item w at there copy entry =
     let shows = at_place Shows (deliveries_of listen rs) i d (all_shown listen.stream listen.clock rs) there in
-    absurd (not_clock d.arrival (clock_row d) item (entry_of d) (clock_entry (pos 0) (journal plan input) m d w.heard.conforming copy shows) entry)
+    absurd (not_clock d.arrival (clock_row d) item (entry_of d) (clock_entry (pos 0) (journal plan input) m d w.caught.heard.conforming copy shows) entry)
 
 shown_so : (plan : TalkPlan) (crf : CrfPlan) (input : List ℕ) (listen : ListenPlan) (rs : List Record) (os : List Origin) (s : Shown) → HasWhole plan crf input listen rs os → IsShownItem listen rs s → IsFrom (journal plan input) (first_covered crf plan) s
 shown_so plan crf input listen rs os s w h =
     let p = journal plan input in
     let ds = deliveries_of listen rs in
-    let all = others (pos 0) p listen rs w.heard (kind_of plan crf p.times w.clocked) in
+    let all = others (pos 0) p listen rs w.caught.heard w.caught.kind in
     let at = made_at ds h.place h.made (subst (λ (l : List MadeItem). slice_get l h.place ≡ Some h.made) (items_other ds all) h.there) in
-    let o = origin_at p listen.lead os ds h.place at.0 w.from at.1.0 in
+    let o = origin_at p listen.lead os ds h.place at.0 w.caught.from at.1.0 in
     let entry : entry_of at.0 ≡ OfItem h.item = ap (λ (m : MadeItem). m.entry) at.1.1 ∙ h.is in
     let shown : s ≡ shown_by at.0 (verdict_of listen rs h.place h.item) = h.same ∙ ap (λ (m : MadeItem). shown_by m.last (verdict_of listen rs h.place h.item)) (sym at.1.1) in
     rw shown (shown_from plan crf input listen rs os o.o h.place at.0 h.item w o.at at.1.0 o.from entry)
@@ -493,8 +456,8 @@ all_presented plan crf input listen rs os w = record {
   each = λ n from lt.
       let p = journal plan input in
       let place = has_place (stream_of plan input) 0 0 os n w.merged (omega arith) lt in
-      let here = w.each place.0 (OfStream n) place.1 in
-      let welcome = welcome_here (pos 0) p listen rs place.0 n here.d w.heard (kind_of plan crf p.times w.clocked) (must_be plan crf input listen rs os place.0 n here.d w place.1 here.there here.copy from) in
-      any_packet p n (made_of_one here.d) (by_clock listen) (presented_of (shown_of listen rs)) w.on (welcome_shown (pos 0) p listen rs place.0 n (made_of_one here.d) w.heard welcome);
+      let here = w.caught.each place.0 (OfStream n) place.1 in
+      let welcome = welcome_here (pos 0) p listen rs place.0 n here.d w.caught.heard w.caught.kind (must_be plan crf input listen rs os place.0 n here.d w place.1 here.there here.copy from) in
+      any_packet p n (made_of_one here.d) (by_clock listen) (presented_of (shown_of listen rs)) w.on (welcome_shown (pos 0) p listen rs place.0 n (made_of_one here.d) w.caught.heard welcome);
   no_other = λ k s lt. shown_so plan crf input listen rs os _ w (no_other_shown listen rs k s lt);
 }

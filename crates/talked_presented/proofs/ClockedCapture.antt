@@ -31,6 +31,8 @@ use Rattle.talker.proofs.AudioLemmas.{timely}
 use Rattle.talker.proofs.StreamLemmas.{clocks_in, frames_of, packets_in}
 use Rattle.talker.proofs.TalkLemmas.{audio_plan, is_of, plan_keeps, stream_is}
 use Rattle.talked_presented.specs.Clocked.{HasDefaultClock, HearsClock, clocked_listener}
+use Rattle.talked_headline.proofs.Talked.{kind_heard}
+use Rattle.talked_presented.proofs.Caught.{is_caught}
 use Rattle.talked_presented.proofs.Clocked.{HasWhole}
 use Rattle.talked_presented.proofs.Covered.{IsClocked, stamp_at}
 use Rattle.talked_presented.proofs.Defaults.{holds}
@@ -84,24 +86,6 @@ all_hear p clock [] e = tt
 all_hear p clock (OfStream n ∷ os) e = (tt, all_hear p clock os e)
 all_hear p clock (OfClock m ∷ os) e = (e, all_hear p clock os e)
 
-record_at : (s : Stream) (os : List Origin) (i : ℕ) (o : Origin) → slice_get os i ≡ Some o → slice_get (map record_of (map (frame_by s) os)) i ≡ Some (record_of (frame_by s o))
-record_at s [] i o e = absurd cc
-record_at s (x ∷ os) zero o e = let same : x ≡ o = cc in ap (λ (y : Origin). Some (record_of (frame_by s y))) same
-record_at s (x ∷ os) (suc i) o e = record_at s os i o e
-
-origin_at : (p : PacketJournal) (lead : ℕ) (os : List Origin) (ds : List Delivery) (i : ℕ) (o : Origin) (d : Delivery) → AreFrom p lead os ds → slice_get os i ≡ Some o → slice_get ds i ≡ Some d → IsCopyFrom p lead o d
-origin_at p lead [] ds i o d from at there = absurd cc
-origin_at p lead (x ∷ os) [] i o d from at there = absurd cc
-origin_at p lead (x ∷ os) (y ∷ ds) zero o d from at there =
-    let same : x ≡ o = cc in
-    let here : y ≡ d = cc in
-    subst (λ (z : Origin). IsCopyFrom p lead z d) same (subst (λ (z : Delivery). IsCopyFrom p lead x z) here from.0)
-origin_at p lead (x ∷ os) (y ∷ ds) (suc i) o d from at there = origin_at p lead os ds i o d from.1 at there
-
-arrives_at : (s : Stream) (i : ℕ) (o : Origin) → (delivery i (record_of (frame_by s o))).arrival ≡ pos (sent_by s o)
-arrives_at s i (OfStream n) = refl
-arrives_at s i (OfClock m) = refl
-
 follows_by : (p : PacketJournal) (shift : ℤ) (clock : Option ℕ) (id : ℕ) → clock ≡ Some id → FollowsClock (pos 0) p shift clock → (id ≡ p.clock) × (shift ≡ pos 0)
 follows_by p shift clock id e f = subst (FollowsClock (pos 0) p shift) e f
 
@@ -118,19 +102,13 @@ whole_heard plan crf input listen h heard are =
     let stream = plan_keeps plan input is_plan l.limit in
     let merged = all_merged plan s stream in
     let os = merged.origins in
-    let rs = map record_of (map (frame_by s) os) in
-    let carry : AllCarryFrom p listen.lead os rs = all_by plan s listen.lead os stream l.lead merged.sent in
-    let records_are : records plan input ≡ rs = ap (map record_of) (sym (all_left s) ∙ merged.frames) in
+    let records_are : records plan input ≡ map record_of (map (frame_by s) os) = ap (map record_of) (sym (all_left s) ∙ merged.frames) in
     let follows = follows_by p listen.shift listen.clock crf.id h.with_clock l.clock in
     let clock : listen.clock ≡ Some p.clock = h.with_clock ∙ ap Some follows.0 in
-    let ds : deliveries_of listen (records plan input) ≡ numbered 1 rs =
-    ap (deliveries_of listen) records_are ∙ (ap (λ (id : ℕ). deliveries id listen.clock rs) heard.stream ∙ all_delivered p listen.clock listen.lead os rs are (all_hear p listen.clock os clock) carry) in
-    let from_rs = all_from p listen.lead 1 os rs are carry in
     record {
       origins = os;
       whole = record {
-        heard = heard;
-        stream = stream;
+        caught = is_caught plan input listen (records plan input) os heard stream (kind_heard plan input l.talked) l.lead are merged.sent (all_hear p listen.clock os clock) records_are;
         clocked = clocked_is plan crf input h.format l.talked l.limit h.dense h.crf_is h.steady;
         ahead = h.ahead;
         clock_sent = λ m. (is_of plan input is_plan l.limit).clock.arrival m ∙ ap (λ (o : Option CrfPlan). clock_arrival_by o plan m) h.crf_is;
@@ -139,15 +117,6 @@ whole_heard plan crf input listen h heard are =
         now = h.now;
         room = h.room;
         merged = merged.merged;
-        from = subst (λ (l : List Delivery). AreFrom p listen.lead os l) (sym ds) from_rs;
-        each = λ i o at.
-            let there = numbered_at 1 i rs (record_of (frame_by s o)) (record_at s os i o at) in
-            record {
-              d = delivery (1 + i) (record_of (frame_by s o));
-              there = ap (λ (l : List Delivery). slice_get l i) ds ∙ there;
-              arrived = arrives_at s (1 + i) o;
-              copy = origin_at p listen.lead os (numbered 1 rs) i o (delivery (1 + i) (record_of (frame_by s o))) from_rs at there;
-            };
       };
     }
 

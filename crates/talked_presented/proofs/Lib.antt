@@ -11,12 +11,12 @@ pub mod UnitCapture
 pub mod UnitsPresented
 pub mod VideoSent
 pub mod VideoDefaults
-pub mod Taken
 pub mod Anywhere
 pub mod Examples
 pub mod Counts
 pub mod VideoHeard
 pub mod Merged
+pub mod Caught
 pub mod Covered
 pub mod Clocked
 pub mod ClockedCapture

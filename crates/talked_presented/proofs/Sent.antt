@@ -177,7 +177,7 @@ judged_at plan rs at (suc n) all rises each =
 
 -- ---- a packet that is known and came in time
 
-due_head : (j : Journal) (n : ℕ) (o : Option Head) → IsAudioKind j.kind → IsAudio j → n < j.packets → head_of j n ≡ o → IsSome o → IsAt false j n 0 (pos (j.due n))
+pub due_head : (j : Journal) (n : ℕ) (o : Option Head) → IsAudioKind j.kind → IsAudio j → n < j.packets → head_of j n ≡ o → IsSome o → IsAt false j n 0 (pos (j.due n))
 due_head j n None kind is known e some = absurd cc
 due_head j n (Some head) kind is known e some = at_nominal j.kind j n 0 _ kind (record { head = head; is_head = e; at = is.first_instants n head known e })
 

@@ -37,7 +37,7 @@ use Rattle.talked_presented.proofs.Accepting.{AcceptsEach, AreOf, IsAcceptedAt, 
 use Rattle.talked_presented.proofs.Sent.{later_one}
 use Rattle.talked_presented.proofs.UnitCapture.{AreMade, AreUnitsFrom, IsUnitMade, IsVideoCapture, all_units, first_ones}
 use Rattle.talked_presented.proofs.UnitRuns.{ends_so, inside_unit, unit_ends, unit_low}
-use Rattle.talked_presented.proofs.Whole.{not_full}
+use Rattle.listener_laws.proofs.Anywhere.{not_full}
 
 -- Each unit comes in time, and when packet n is judged, the packets that wait are among the last `buffer`.
 pub record AreTimelyUnits (p : PacketJournal) (part : ℕ → Part) (plan : ListenPlan) (d : ℕ → Delivery) (arr : ℕ → ℕ) : Type 0 where

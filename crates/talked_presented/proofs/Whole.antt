@@ -29,6 +29,7 @@ use Rattle.listener.proofs.TrueList.{audio}
 use Rattle.listener.proofs.TrueOnce.{first_at, nominal_due, one_number, same_content}
 use Rattle.listener.proofs.TrueTimely.{taken, welcome_judged}
 use Rattle.stream_journal.proofs.Spacing.{rising}
+use Rattle.listener_laws.proofs.Anywhere.{not_full}
 use Rattle.talked_presented.specs.Whole.{ArePresented}
 use Rattle.talked_presented.proofs.Accepting.{AcceptsEach, AreOf, IsAcceptedAt, all_accepted, shown_all}
 
@@ -82,7 +83,7 @@ stands_few p now buffer k n (x ∷ xs) some few e are =
         (λ h. rw (le_false now x.instant h) (let most = standing_short now xs in omega arith))
         (λ h. rw (le_true now x.instant h) (let most = standing_short now xs in omega arith))
 
-pub batch_size : (p : PacketJournal) (n : ℕ) (a : Accepted) → IsAudioKind p.times.kind → IsPacketAt p n a → length (carried (p.packet n)) ≤ 1500 → length a.batch.bytes ≤ 1500
+batch_size : (p : PacketJournal) (n : ℕ) (a : Accepted) → IsAudioKind p.times.kind → IsPacketAt p n a → length (carried (p.packet n)) ≤ 1500 → length a.batch.bytes ≤ 1500
 batch_size p n a kind is short =
     let same : a.batch.bytes ≡ carried (p.packet n) = same_content p n a.batch.bytes (carried (p.packet n)) is.is.bytes (audio_content p.times.kind p n kind) in
     rw same short
@@ -98,12 +99,6 @@ stands_light p now k n (x ∷ xs) kind short e are =
     let one = batch_size p k x kind are.0 (short k are.0.is.known) in
     let sum = sum_by-cons (λ (a : Accepted). length a.batch.bytes) x (standing now xs) in
     omega arith))
-
-pub not_full : (plan : SchedulePlan) (waiting : List Accepted) (size : ℕ) → length waiting < plan.buffer → total_bytes waiting + size ≤ plan.room → is_full plan waiting size ≡ false
-not_full plan waiting size some fits = by (nat_le plan.buffer (length waiting)) (nat_lt plan.room (total_bytes waiting + size)) (grind (arith, nat_tests)) (grind (arith, nat_tests))
-  where
-    by : (a b : Bool) → a ≡ false → b ≡ false → (if a then true else b) ≡ false
-    by a b e f = rw (e, f) refl
 
 fits_all : (waiting size total buffer room : ℕ) → waiting < buffer → total ≤ waiting * 1500 → size ≤ 1500 → buffer * 1500 ≤ room → total + size ≤ room
 fits_all waiting size total buffer room few light short bytes = omega arith

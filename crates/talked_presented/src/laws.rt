@@ -21,6 +21,7 @@ ghost use Rattle.talked_presented.specs.Clocked.{ArePresentedFrom, HasDefaultClo
 ghost use Rattle.talked_presented.specs.Examples.{plain, silence, six_points, thirty, with_clock};
 ghost use Rattle.talked_presented.specs.Whole.{ArePresented, HasDefaultLead, HearsAll, HearsUnits, IsDefaultVideo, default_listener, unit_ends};
 
+use listener_laws::laws::{copies_anywhere_are_further, copies_anywhere_are_welcome};
 use packet_journal::laws::{carried_clock_packet_is_delivered, carried_packet_is_delivered};
 use talked_headline::laws::{talked_is_heard, whole_capture_is_heard};
 use talker::laws::{capture_delivers, capture_reads_back, journal_conforms, losses_are_delivered};
@@ -121,10 +122,10 @@ pub fn talked_copy_is_welcome()
         → (made : MadeItem) × IsWelcome (journal plan input) listen (captured plan input (before ++ n ∷ after)) (length before) n made }
 {
     talked_is_heard();
-    journal_conforms();
-    capture_delivers();
     losses_are_delivered();
     carried_packet_is_delivered();
+    carried_clock_packet_is_delivered();
+    copies_anywhere_are_welcome();
 }
 
 /// If the packet comes again, anywhere later in the capture, and no packet up to that copy was captured after it is due, the copy
@@ -135,10 +136,10 @@ pub fn talked_copy_is_further()
 {
     talked_is_heard();
     talked_copy_is_welcome();
-    journal_conforms();
-    capture_delivers();
     losses_are_delivered();
     carried_packet_is_delivered();
+    carried_clock_packet_is_delivered();
+    copies_anywhere_are_further();
 }
 
 /// If exactly these packets are shown, a listener's counts say so: as many are presented, and none is flagged.
