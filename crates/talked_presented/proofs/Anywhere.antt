@@ -1,26 +1,23 @@
 -- A copy of a talker's packet that must be presented without a clock, wherever it is in a capture.
-use Rattle.std.proofs.Common.{◌≡◌, ◌≢◌, ℕ, zero, suc, ◌+◌, ◌-◌, ◌<◌, ◌≤◌, Bool, true, false, ℤ, pos, ◌≤ℤ◌, List, [], ◌∷◌, ◌++◌, All, length, map, filter, take, Option, Some, None, is_some, refl, sym, ap, ◌∙◌, subst, inl, inr, arith, length-append}
+use Rattle.std.proofs.Common.{◌≡◌, ◌≢◌, ℕ, zero, suc, ◌+◌, ◌-◌, ◌<◌, ◌≤◌, Bool, false, pos, List, [], ◌∷◌, ◌++◌, All, length, map, take, Some, None, is_some, refl, sym, ap, ◌∙◌, subst, inl, inr, arith}
 use Rattle.std.specs.Prelude.{IsSome, nat_le, slice_get}
 use Rattle.std.specs.List.{AllByRecursion}
 use Rattle.std.proofs.Math.Seq.{take-append_seam}
 use Rattle.std.proofs.lemmas.Bool.{le-leb}
 use Rattle.std.proofs.lemmas.Int.{ints}
 use Rattle.std.proofs.lemmas.List.Elements.{All-head, All-tail}
-use Rattle.pcap_frames.specs.Capture.{Record}
 use Rattle.stream_journal.specs.Delivered.{Copy}
 use Rattle.stream_journal.specs.Journal.{IsAt, Journal, head_of}
 use Rattle.stream_journal.specs.Known.{IsCounted, IsTimed}
 use Rattle.stream_journal.proofs.TrueHeads.{head_back}
 use Rattle.packet_journal.specs.Deliveries.{Delivery}
 use Rattle.packet_journal.specs.Delivered.{Origin, OfStream, stream_numbers}
-use Rattle.packet_journal.specs.Packets.{PacketJournal}
 use Rattle.listener.specs.declared.plan.ListenPlan.{ListenPlan}
-use Rattle.listener.specs.Laws.{HearsTalker, by_clock, time_of}
-use Rattle.listener.proofs.ItemKinds.{at_place}
+use Rattle.listener.specs.Laws.{HearsTalker, by_clock}
 use Rattle.listener.proofs.TrueList.{audio}
 use Rattle.listener.proofs.TrueOnce.{nominal_due}
 use Rattle.listener_laws.specs.Anywhere.{ComesInTime as CopyComesInTime, MustBePresented as CopyMustBePresented}
-use Rattle.listener_laws.proofs.Carried.{AreRead, HearsOrigin}
+use Rattle.listener_laws.proofs.Carried.{AreRead}
 use Rattle.talk_plan.specs.declared.plan.TalkPlan.{TalkPlan}
 use Rattle.talker.specs.Frames.{SentFrame, frame_of, frames, frames_at, record_of}
 use Rattle.talker.specs.Journal.{Stream, journal, stream_of}
@@ -28,8 +25,8 @@ use Rattle.talker.proofs.StreamLemmas.{at_number, packets_in}
 use Rattle.talker.proofs.TalkLemmas.{audio_plan, frames_alone, plan_keeps}
 use Rattle.talked_headline.specs.Premises.{ListensTo, captured}
 use Rattle.talked_headline.proofs.Talked.{first_kept, kind_heard}
-use Rattle.talked_presented.specs.Anywhere.{ComesInTime, MustBePresented, sent_copy, waiting_at}
-use Rattle.talked_presented.proofs.Caught.{IsCaught, came_by, is_caught, not_before}
+use Rattle.talked_presented.specs.Anywhere.{ComesInTime, MustBePresented, sent_copy}
+use Rattle.talked_presented.proofs.Caught.{IsCaught, came_by, is_caught, not_before, stream_heard}
 use Rattle.talked_presented.proofs.Known.{one_arrival}
 use Rattle.talked_presented.proofs.Merged.{IsSent, frame_by, sent_by}
 use Rattle.talked_presented.proofs.Sent.{due_head, not_both, packet_size, stamped_head}
@@ -45,7 +42,7 @@ numbers_taken zero ks = refl
 numbers_taken (suc m) [] = refl
 numbers_taken (suc m) (k ∷ ks) = ap (λ (l : List ℕ). k ∷ l) (numbers_taken m ks)
 
-kept_frames : (plan : TalkPlan) (input ks : List ℕ) → ((k : ℕ) → k < (journal plan input).times.packets → slice_get (frames plan input) k ≡ Some (frame_of (stream_of plan input) k)) → All (λ (k : ℕ). k < (journal plan input).times.packets) ks
+pub kept_frames : (plan : TalkPlan) (input ks : List ℕ) → ((k : ℕ) → k < (journal plan input).times.packets → slice_get (frames plan input) k ≡ Some (frame_of (stream_of plan input) k)) → All (λ (k : ℕ). k < (journal plan input).times.packets) ks
     → frames_at plan input ks ≡ map (frame_by (stream_of plan input)) (map OfStream ks)
 kept_frames plan input [] each all = refl
 kept_frames plan input (k ∷ ks) each all =
@@ -56,10 +53,6 @@ all_sent : (s : Stream) (ks : List ℕ) → All (λ (k : ℕ). k < packets_in s)
 all_sent s [] all = tt
 all_sent s (k ∷ ks) all = (All-head (λ (m : ℕ). m < packets_in s) k ks all, all_sent s ks (All-tail (λ (m : ℕ). m < packets_in s) k ks all))
 
-all_hear : (p : PacketJournal) (clock : Option ℕ) (ks : List ℕ) → AllByRecursion (HearsOrigin p clock) (map OfStream ks)
-all_hear p clock [] = tt
-all_hear p clock (k ∷ ks) = (tt, all_hear p clock ks)
-
 pub caught : (plan : TalkPlan) (input ks : List ℕ) (listen : ListenPlan) → ListensTo plan input listen → plan.crf ≡ None → All (λ (k : ℕ). k < (journal plan input).times.packets) ks → HearsTalker (pos 0) (journal plan input) listen (captured plan input ks)
     → captured plan input ks ≡ map record_of (frames_at plan input ks) → AreRead (journal plan input) listen.lead → IsCaught plan input listen (captured plan input ks) (map OfStream ks)
 caught plan input ks listen l none known heard read are =
@@ -68,7 +61,7 @@ caught plan input ks listen l none known heard read are =
     let at : (k : ℕ) → k < packets_in s → slice_get (frames plan input) k ≡ Some (frame_of s k) =
     λ k lt. ap (λ (fs : List SentFrame). slice_get fs k) (frames_alone plan input plan_is none l.limit) ∙ at_number s k lt in
     is_caught plan input listen (captured plan input ks) (map OfStream ks) heard (plan_keeps plan input plan_is l.limit) (kind_heard plan input l.talked) l.lead are
-    (all_sent s ks known) (all_hear (journal plan input) listen.clock ks) (read ∙ ap (map record_of) (kept_frames plan input ks at known))
+    (all_sent s ks known) (stream_heard (journal plan input) listen.clock ks) (read ∙ ap (map record_of) (kept_frames plan input ks at known))
 
 -- ---- it comes in time
 

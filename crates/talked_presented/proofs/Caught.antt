@@ -1,5 +1,5 @@
 -- What a listener has of a capture of some frames of a plan.
-use Rattle.std.proofs.Common.{◌≡◌, ℕ, zero, suc, ◌+◌, ◌≤◌, ℤ, pos, ◌≤ℤ◌, List, [], ◌∷◌, map, take, Option, Some, refl, sym, ap, ◌∙◌, subst, arith}
+use Rattle.std.proofs.Common.{◌≡◌, ℕ, zero, suc, ◌+◌, ◌≤◌, ℤ, pos, ◌≤ℤ◌, List, [], ◌∷◌, length, map, take, Option, Some, refl, sym, ap, ◌∙◌, subst, arith}
 use Rattle.std.specs.Prelude.{slice_get}
 use Rattle.std.specs.Int.{int_max}
 use Rattle.std.specs.List.{AllByRecursion}
@@ -60,6 +60,17 @@ copy_at p lead (x ∷ os) (y ∷ ds) (suc i) o d from at there = copy_at p lead 
 arrives_at : (s : Stream) (i : ℕ) (o : Origin) → (delivery i (record_of (frame_by s o))).arrival ≡ pos (sent_by s o)
 arrives_at s i (OfStream n) = refl
 arrives_at s i (OfClock m) = refl
+
+-- packets of the stream are heard with any clock
+pub stream_heard : (p : PacketJournal) (clock : Option ℕ) (ks : List ℕ) → AllByRecursion (HearsOrigin p clock) (map OfStream ks)
+stream_heard p clock [] = tt
+stream_heard p clock (k ∷ ks) = (tt, stream_heard p clock ks)
+
+pub as_many : (p : PacketJournal) (lead : ℕ) (os : List Origin) (ds : List Delivery) → AreFrom p lead os ds → length ds ≡ length os
+as_many p lead [] [] from = refl
+as_many p lead [] (d ∷ ds) from = absurd from
+as_many p lead (o ∷ os) [] from = absurd from
+as_many p lead (o ∷ os) (d ∷ ds) from = ap suc (as_many p lead os ds from.1)
 
 pub is_caught : (plan : TalkPlan) (input : List ℕ) (listen : ListenPlan) (rs : List Record) (os : List Origin) → HearsTalker (pos 0) (journal plan input) listen rs → IsStream plan (stream_of plan input) → IsAudioKind (journal plan input).times.kind → Expects plan listen.lead → AreRead (journal plan input) listen.lead
     → AllByRecursion (IsSent (stream_of plan input)) os → AllByRecursion (HearsOrigin (journal plan input) listen.clock) os → rs ≡ map record_of (map (frame_by (stream_of plan input)) os) → IsCaught plan input listen rs os

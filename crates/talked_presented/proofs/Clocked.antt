@@ -1,7 +1,6 @@
 -- What a listener with the talker's clock shows of a whole capture of dense PCM.
 use Rattle.std.proofs.Common.{◌≡◌, ◌≢◌, ℕ, zero, suc, ◌+◌, ◌-◌, ◌*◌, ◌/◌, ◌%◌, ◌^◌, ◌<◌, ◌≤◌, Bool, true, false, ℤ, pos, neg_ℤ, ◌≤ℤ◌, List, [], ◌∷◌, All, length, filter, map, take, Option, Some, None, Ok, zero-mul, refl, sym, ap, ◌∙◌, subst, inl, inr, arith}
 use Rattle.std.specs.Prelude.{Any, Err, IfSome, Result, is_some, option_map, nat_lt, slice_get, ◌==◌, if◌then◌else◌}
-use Rattle.std.specs.Int.{int_max}
 use Rattle.std.specs.List.{filter_map, range_with_len}
 use Rattle.std.proofs.Math.Nat.{div-mul-le_self, lt-div-mul-add, mul-le-mul_right, zero-div}
 use Rattle.std.proofs.lemmas.Bool.{cases_lt}
@@ -24,7 +23,7 @@ use Rattle.aaf_format.specs.Aaf.{aaf_of, aaf_refusal, aaf_subtype}
 use Rattle.iec61883_format.specs.Iec.{iec_of, iec_refusal}
 use Rattle.stream_journal.specs.ClockRows.{IsSpotAt}
 use Rattle.stream_journal.specs.Conforming.{AgreesWithClock, Conforms, IsAudio, IsOfKind}
-use Rattle.stream_journal.specs.Delivered.{IsAudioKind, IsDelivered}
+use Rattle.stream_journal.specs.Delivered.{IsDelivered}
 use Rattle.stream_journal.specs.Journal.{DenseAaf, IsAt, IsAtBy, IsAtByClock, Journal, Kind, head_of, rule_of}
 use Rattle.stream_journal.specs.Known.{IsCoveredBy}
 use Rattle.stream_journal.proofs.OneInstant.{one_instant}
@@ -41,26 +40,24 @@ use Rattle.sample_schedule.specs.declared.shown.Reason.{Reason}
 use Rattle.sample_schedule.specs.declared.shown.Reason.TheVariants.{Empty, NoClock, NoRate}
 use Rattle.sample_schedule.specs.declared.shown.Shown.{Shown}
 use Rattle.sample_schedule.specs.Batches.{Presented}
-use Rattle.sample_schedule.specs.Schedule.{latest, now_at, prefix_of, seq_of}
+use Rattle.sample_schedule.specs.Schedule.{now_at, prefix_of, seq_of}
 use Rattle.sample_schedule.specs.Verdicts.{counted_from, row_of, timed, verdict}
 use Rattle.sample_schedule.specs.Heads as heads
-use Rattle.sample_schedule.proofs.StageLemmas.{now-next}
 use Rattle.packet_journal.specs.Deliveries.{Delivery}
-use Rattle.packet_journal.specs.Delivered.{AreFrom, IsCopyOf, IsFrom as IsCopyFrom, Origin, OfClock, OfStream, stream_numbers}
+use Rattle.packet_journal.specs.Delivered.{IsCopyOf, IsFrom as IsCopyFrom, Origin, OfClock, OfStream, stream_numbers}
 use Rattle.packet_journal.specs.Packets.{PacketJournal, carried}
 use Rattle.listener.specs.declared.plan.ListenPlan.{ListenPlan}
 use Rattle.listener.specs.Heard.{deliveries_of, entries_in, items_in, schedule_plan, shown_of}
 use Rattle.listener.specs.Items.{MadeItem, aaf_item, blocks_of, clock_row, entry_of, iec_item, made_of_one, refused_or, samples_of}
 use Rattle.listener.specs.Known.{clock_numbers}
-use Rattle.listener.specs.Laws.{HearsTalker, IsOfPacket, IsPresentedOf, IsShownItem, accepted_before, by_clock, presented_of, shown_by, time_of, verdict_of}
+use Rattle.listener.specs.Laws.{IsOfPacket, IsPresentedOf, IsShownItem, accepted_before, by_clock, presented_of, shown_by, time_of, verdict_of}
 use Rattle.listener.proofs.ItemKinds.{at_place}
 use Rattle.listener.proofs.Made.{items_other}
 use Rattle.listener.proofs.Shown.{no_other_shown}
 use Rattle.listener.proofs.TrueHeard.{usable}
 use Rattle.listener.proofs.TrueItems.{Shows, all_shown, clock_entry, copy_entry, copy_item, sent}
 use Rattle.listener.proofs.TrueList.{IsTrueEntry, audio, entries_true, followed, others, prefix_true}
-use Rattle.listener.proofs.TrueTimely.{entry_there, taken, welcome_judged, welcome_shown}
-use Rattle.listener.proofs.Welcome.{arrives, first_time}
+use Rattle.listener.proofs.TrueTimely.{taken, welcome_judged, welcome_shown}
 use Rattle.listener_laws.specs.Anywhere.{ComesInTime, MustBePresented}
 use Rattle.listener_laws.proofs.Anywhere.{origin_at, welcome_here}
 use Rattle.talk_plan.specs.declared.plan.CrfPlan.{CrfPlan}
@@ -73,13 +70,13 @@ use Rattle.talk_plan.proofs.StampLemmas.{clock_of, is_beat}
 use Rattle.talk_plan.proofs.TimingLemmas.{is_offset}
 use Rattle.talk_clock.specs.Clock.{clock_arrival, first_point}
 use Rattle.talk_clock.proofs.ClockPoints.{steady_points}
-use Rattle.talker.specs.Journal.{Stream, journal, stream_of}
-use Rattle.talker.proofs.StreamLemmas.{IsStream, clocks_in}
+use Rattle.talker.specs.Journal.{journal, stream_of}
+use Rattle.talker.proofs.StreamLemmas.{clocks_in}
 use Rattle.talked_presented.specs.Clocked.{ArePresentedFrom, IsFrom, first_covered}
 use Rattle.talked_presented.specs.Whole.{HoldsLead}
 use Rattle.talked_presented.proofs.Caught.{IsCaught, came_by, not_before}
 use Rattle.talked_presented.proofs.Covered.{IsClocked, IsOverStamp, at_stamp, covered_here, first_head, head_is, not_over, over_stamp, stamp_at}
-use Rattle.talked_presented.proofs.Merged.{AreMerged, IsPlaced, has_place, placed, sent_by}
+use Rattle.talked_presented.proofs.Merged.{AreMerged, IsPlaced, has_place, placed}
 use Rattle.talked_presented.proofs.Sent.{few_wait, has_times, packet_size}
 
 -- ---- what a listener has of the capture

@@ -1,16 +1,12 @@
 -- A whole capture of dense PCM, and what a listener with the talker's clock has of it.
-use Rattle.std.proofs.Common.{◌≡◌, ℕ, zero, suc, ◌+◌, ◌-◌, ◌*◌, ◌≤◌, false, ℤ, pos, List, [], ◌∷◌, length, map, Option, Some, None, is_some, refl, sym, ap, ◌∙◌, subst, arith}
-use Rattle.std.specs.Prelude.{slice_get}
+use Rattle.std.proofs.Common.{◌≡◌, ℕ, ◌+◌, ◌-◌, ◌*◌, ◌≤◌, false, ℤ, pos, List, [], ◌∷◌, length, map, Option, Some, None, is_some, refl, sym, ap, ◌∙◌, subst, arith}
 use Rattle.std.specs.List.{AllByRecursion}
 use Rattle.aaf_format.specs.declared.aaf.AafFormat.{AafFormat}
-use Rattle.packet_journal.specs.Carried.{AllCarryFrom}
-use Rattle.packet_journal.specs.Deliveries.{Delivery, deliveries, delivery}
-use Rattle.packet_journal.specs.Delivered.{AreFrom, IsFrom as IsCopyFrom, Origin, OfClock, OfStream}
+use Rattle.packet_journal.specs.Delivered.{Origin, OfClock, OfStream}
 use Rattle.packet_journal.specs.Packets.{PacketJournal}
 use Rattle.listener.specs.declared.plan.ListenPlan.{ListenPlan}
-use Rattle.listener.specs.Heard.{deliveries_of}
 use Rattle.listener.specs.Laws.{FollowsClock, HearsTalker}
-use Rattle.listener_laws.proofs.Carried.{AreRead, HearsOrigin, all_delivered, all_from, numbered, numbered_at}
+use Rattle.listener_laws.proofs.Carried.{AreRead, HearsOrigin}
 use Rattle.talk_plan.specs.declared.plan.CrfPlan.{CrfPlan}
 use Rattle.talk_plan.specs.declared.plan.TalkKind.{TalkKind}
 use Rattle.talk_plan.specs.declared.plan.TalkKind.TheVariants.{Aaf}
@@ -36,7 +32,7 @@ use Rattle.talked_presented.proofs.Caught.{is_caught}
 use Rattle.talked_presented.proofs.Clocked.{HasWhole}
 use Rattle.talked_presented.proofs.Covered.{IsClocked, stamp_at}
 use Rattle.talked_presented.proofs.Defaults.{holds}
-use Rattle.talked_presented.proofs.Merged.{all_by, all_merged, frame_by, sent_by}
+use Rattle.talked_presented.proofs.Merged.{all_merged, frame_by}
 use Rattle.talked_presented.proofs.Sent.{has_times}
 
 -- ---- the journal

@@ -20,7 +20,7 @@ use Rattle.talk_plan.proofs.TimingLemmas.{lead_within}
 use Rattle.talker.specs.Journal.{journal, stream_of}
 use Rattle.talked_presented.specs.Whole.{ExpectsCounted, HearsAll, IsCloseLead}
 use Rattle.talked_presented.proofs.Counted.{known_counted}
-use Rattle.talked_presented.proofs.Sent.{IsHeardWhole, due_after, due_before, has_times, known_stamped}
+use Rattle.talked_presented.proofs.Sent.{IsWhole, caught_at, due_after, due_before, has_times, known_stamped}
 use Rattle.talked_headline.proofs.Talked.{dense_stamped}
 
 -- ---- the leads are close, if a packet has no timestamp
@@ -89,17 +89,17 @@ expected plan input lead n p close =
 pub one_arrival : (a b : ℕ) (z : ℤ) → z ≡ pos a → z ≡ pos b → b ≡ a
 one_arrival a b z e f = omega (arith, ints)
 
-known_by : (plan : TalkPlan) (input : List ℕ) (listen : ListenPlan) (rs : List Record) (n : ℕ) (o : Option ℕ) → HearsAll plan input listen → IsAudioKind (journal plan input).times.kind → (w : IsHeardWhole plan input listen rs) → (lt : n < (journal plan input).times.packets)
-    → (journal plan input).times.stamp n ≡ o → IsKnownCopy (journal plan input) listen rs n (record { number = n; arrival = (w.each n lt).copy.arrival })
-known_by plan input listen rs n (Some instant) h kind w lt e = known_stamped (pos 0) (journal plan input) listen rs n (record { number = n; arrival = (w.each n lt).copy.arrival }) w.heard h.without (ap is_some e)
+known_by : (plan : TalkPlan) (input : List ℕ) (listen : ListenPlan) (rs : List Record) (n : ℕ) (o : Option ℕ) → HearsAll plan input listen → IsAudioKind (journal plan input).times.kind → (w : IsWhole plan input listen rs) → (lt : n < (journal plan input).times.packets)
+    → (journal plan input).times.stamp n ≡ o → IsKnownCopy (journal plan input) listen rs n (record { number = n; arrival = (caught_at plan input listen rs n w lt).copy.arrival })
+known_by plan input listen rs n (Some instant) h kind w lt e = known_stamped (pos 0) (journal plan input) listen rs n (record { number = n; arrival = (caught_at plan input listen rs n w lt).copy.arrival }) w.heard h.without (ap is_some e)
 known_by plan input listen rs n None h kind w lt e =
     let p = journal plan input in
-    let here = w.each n lt in
+    let here = caught_at plan input listen rs n w lt in
     let close = close_by plan.kind plan input listen.lead n refl h.talk.talked.kind h.counted e in
     let same : (stream_of plan input).arrival n ≡ here.copy.arrival = one_arrival here.copy.arrival ((stream_of plan input).arrival n) here.d.arrival here.copy.arrived here.arrived in
     let near = subst (λ (a : ℕ). IsExpected p.times listen.lead (record { number = n; arrival = a })) same (expected plan input listen.lead n h.talk.talked close) in
     known_counted p listen rs (record { number = n; arrival = here.copy.arrival }) h.without (audio p kind w.heard.conforming.times) w.heard.conforming.times.holds lt e (h.heads n lt) near w.from
 
-pub each_known : (plan : TalkPlan) (input : List ℕ) (listen : ListenPlan) (rs : List Record) → HearsAll plan input listen → IsAudioKind (journal plan input).times.kind → (w : IsHeardWhole plan input listen rs) → (n : ℕ) (lt : n < (journal plan input).times.packets)
-    → IsKnownCopy (journal plan input) listen rs n (record { number = n; arrival = (w.each n lt).copy.arrival })
+pub each_known : (plan : TalkPlan) (input : List ℕ) (listen : ListenPlan) (rs : List Record) → HearsAll plan input listen → IsAudioKind (journal plan input).times.kind → (w : IsWhole plan input listen rs) → (n : ℕ) (lt : n < (journal plan input).times.packets)
+    → IsKnownCopy (journal plan input) listen rs n (record { number = n; arrival = (caught_at plan input listen rs n w lt).copy.arrival })
 each_known plan input listen rs h kind w n lt = known_by plan input listen rs n ((journal plan input).times.stamp n) h kind w lt refl

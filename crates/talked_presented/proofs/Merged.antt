@@ -23,6 +23,10 @@ abbrev pub frame_by : Stream → Origin → SentFrame
 frame_by s (OfStream n) = frame_of s n
 frame_by s (OfClock m) = clock_frame_of s m
 
+pub stream_frames_are : (s : Stream) (ks : List ℕ) → map (frame_by s) (map OfStream ks) ≡ map (frame_of s) ks
+stream_frames_are s [] = refl
+stream_frames_are s (k ∷ ks) = ap (λ (l : List SentFrame). frame_of s k ∷ l) (stream_frames_are s ks)
+
 -- when the frame of an origin is sent
 abbrev pub sent_by : Stream → Origin → ℕ
 sent_by s (OfStream n) = s.arrival n

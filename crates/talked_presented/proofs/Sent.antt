@@ -1,8 +1,8 @@
 -- What a listener gets of a whole capture of an audio plan without a clock: packet n in record n, in order and in time.
-use Rattle.std.proofs.Common.{◌≡◌, ℕ, zero, suc, ◌+◌, ◌-◌, ◌*◌, ◌<◌, ◌≤◌, Bool, true, false, ℤ, pos, ◌≤ℤ◌, List, [], ◌∷◌, All, length, map, Option, Some, None, is_some, refl, sym, ap, ◌∙◌, subst, inl, inr, arith, append-nil, length-append}
+use Rattle.std.proofs.Common.{◌≡◌, ℕ, zero, suc, ◌+◌, ◌-◌, ◌*◌, ◌<◌, ◌≤◌, Bool, true, false, ℤ, pos, ◌≤ℤ◌, List, [], All, length, map, Option, Some, None, is_some, refl, sym, ap, ◌∙◌, subst, inl, inr, arith, append-nil, length-append}
 use Rattle.std.specs.Prelude.{IsSome, slice_get}
 use Rattle.std.specs.Int.{int_max}
-use Rattle.std.specs.List.{range_with_len}
+use Rattle.std.specs.List.{AllByRecursion, range_with_len}
 use Rattle.std.proofs.lemmas.Bool.{cases_lt}
 use Rattle.std.proofs.lemmas.Int.{ints}
 use Rattle.std.proofs.lemmas.List.{length-map}
@@ -17,9 +17,8 @@ use Rattle.stream_journal.specs.Conforming.{IsAudio}
 use Rattle.stream_journal.specs.Delivered.{Copy, IsAudioKind}
 use Rattle.stream_journal.specs.Journal.{IsAt, Journal, head_of}
 use Rattle.stream_journal.proofs.Spacing.{spaced}
-use Rattle.packet_journal.specs.Carried.{AllCarry, Carries}
-use Rattle.packet_journal.specs.Deliveries.{Delivery, belongs, deliveries, delivery, stream_kinds}
-use Rattle.packet_journal.specs.Delivered.{AreFrom, IsCopyOf, OfStream}
+use Rattle.packet_journal.specs.Deliveries.{Delivery, deliveries}
+use Rattle.packet_journal.specs.Delivered.{IsCopyOf, OfStream}
 use Rattle.packet_journal.specs.Packets.{PacketJournal, PacketView, Pcm, Am824Data, H264Data, carried, spelling_of}
 use Rattle.sample_schedule.proofs.StageLemmas.{now-next}
 use Rattle.listener.specs.declared.plan.ListenPlan.{ListenPlan}
@@ -36,7 +35,8 @@ use Rattle.listener.proofs.Welcome.{arrives, first_time}
 use Rattle.talk_plan.specs.declared.plan.TalkKind.{TalkKind}
 use Rattle.talk_plan.specs.declared.plan.TalkKind.TheVariants.{Aaf, Am824, H264}
 use Rattle.talk_plan.specs.declared.plan.TalkPlan.{TalkPlan}
-use Rattle.talk_plan.specs.Plan.{IsAhead, IsAudioKind as IsAudioTalk, IsAudioPlan, most_input}
+use Rattle.listener_laws.proofs.Carried.{AreRead}
+use Rattle.talk_plan.specs.Plan.{Expects, IsAhead, IsAudioKind as IsAudioTalk, IsAudioPlan, most_input}
 use Rattle.talk_plan.specs.Timing.{arrival_of as sent_at, first_instant}
 use Rattle.talk_plan.proofs.HeaderLemmas.{bytes_size}
 use Rattle.talk_plan.proofs.StampLemmas.{most_early, most_late}
@@ -45,14 +45,14 @@ use Rattle.talk_audio.specs.Audio.{audio_by}
 use Rattle.talk_audio.specs.Streams.{audio_of, packets_of}
 use Rattle.talk_audio.proofs.DueLemmas.{due_near}
 use Rattle.talk_audio.proofs.FormatLemmas.{format_of, has_format}
-use Rattle.talker.specs.Frames.{SentFrame, frame_of, frames, record_of, records, stream_frames}
+use Rattle.talker.specs.Frames.{record_of, records}
 use Rattle.talker.specs.Journal.{Stream, journal, stream_by, stream_of}
-use Rattle.talker.proofs.StreamLemmas.{IsStream, at_number, count_of}
+use Rattle.talker.proofs.StreamLemmas.{IsStream, packets_in}
 use Rattle.talker.proofs.TalkLemmas.{audio_plan, frames_alone, plan_keeps, stream_is}
 use Rattle.talked_presented.specs.Whole.{HoldsLead}
-use Rattle.talked_headline.proofs.Fragments.{AllBelong, all_belong, delivered_first, numbered, numbered_long}
-use Rattle.talked_presented.proofs.Counted.{all_from}
-use Rattle.talked_headline.proofs.Talked.{carries_at}
+use Rattle.talked_headline.proofs.Fragments.{AllBelong, delivered_first, numbered}
+use Rattle.talked_presented.proofs.Caught.{IsCaught, IsCaughtAt, as_many, is_caught, stream_heard}
+use Rattle.talked_presented.proofs.Merged.{IsSent, stream_frames_are}
 use Rattle.talked_presented.proofs.Whole.{AreTimely}
 
 -- ---- the journal of a plan of audio
@@ -139,17 +139,6 @@ packet_size plan input n is known =
 
 -- ---- the deliveries
 
-pub numbered_at : (i n : ℕ) (rs : List Record) (r : Record) → slice_get rs n ≡ Some r → slice_get (numbered i rs) n ≡ Some (delivery (i + n) r)
-unfolding numbered
-numbered_at i n [] r e = absurd cc
-numbered_at i zero (x ∷ rs) r e =
-    let same : x ≡ r = cc in
-    let number : i ≡ i + 0 = omega arith in
-    ap (λ (y : Record). Some (delivery i y)) same ∙ ap (λ (m : ℕ). Some (delivery m r)) number
-numbered_at i (suc n) (x ∷ rs) r e =
-    let number : i + 1 + n ≡ i + suc n = omega arith in
-    numbered_at (i + 1) n rs r e ∙ ap (λ (m : ℕ). Some (delivery m r)) number
-
 -- records of the stream alone are all delivered
 pub whole_deliveries : (stream id : ℕ) (clock : Option ℕ) (rs : List Record) → stream ≡ id → AllBelong id rs → deliveries stream clock rs ≡ numbered 1 rs
 whole_deliveries stream id clock rs same all = rw same (ap (λ (l : List Record). deliveries id clock l) (sym (append-nil rs)) ∙ (delivered_first id clock 1 rs [] all ∙ append-nil (numbered 1 rs)))
@@ -217,83 +206,59 @@ stamped_head j n some = some_head j n (j.stamp n) refl some
 
 -- ---- a whole capture
 
--- delivery n is a copy of packet n, which comes when it was sent
-pub record IsHeardAt (plan : TalkPlan) (input : List ℕ) (listen : ListenPlan) (rs : List Record) (n : ℕ) : Type 0 where
-  pub d : Delivery
-  pub there : slice_get (deliveries_of listen rs) n ≡ Some d
-  pub arrived : d.arrival ≡ pos ((stream_of plan input).arrival n)
-  pub copy : IsCopyOf (journal plan input) listen.lead n d
-
--- the listener gets each packet once, in order
-pub record IsHeardWhole (plan : TalkPlan) (input : List ℕ) (listen : ListenPlan) (rs : List Record) : Type 0 where
-  pub heard : HearsTalker (pos 0) (journal plan input) listen rs
-  pub stream : IsStream plan (stream_of plan input)
-  pub long : length (entries_in listen rs) ≡ (journal plan input).times.packets
-  pub from : AreFrom (journal plan input) listen.lead (map OfStream (range_with_len 0 (journal plan input).times.packets)) (deliveries_of listen rs)
-  pub each : (n : ℕ) → n < (journal plan input).times.packets → IsHeardAt plan input listen rs n
-
 entries_long : (ds : List Delivery) → All IsOther ds → length (entries ds) ≡ length ds
 entries_long ds all = length-map (items_of ds) made_entry ∙ (ap (λ (l : List MadeItem). length l) (items_other ds all) ∙ length-map ds made_of_one)
 
-record_at : (fs : List SentFrame) (n : ℕ) (f : SentFrame) → slice_get fs n ≡ Some f → slice_get (map record_of fs) n ≡ Some (record_of f)
-record_at [] n f e = absurd cc
-record_at (x ∷ fs) zero f e = let same : x ≡ f = cc in ap (λ (y : SentFrame). Some (record_of y)) same
-record_at (x ∷ fs) (suc n) f e = record_at fs n f e
+range_long : (a k : ℕ) → length (map OfStream (range_with_len a k)) ≡ k
+range_long a zero = refl
+range_long a (suc k) = ap suc (range_long (a + 1) k)
 
-pub heard_whole : (plan : TalkPlan) (input : List ℕ) (listen : ListenPlan) → IsAudioPlan plan → plan.crf ≡ None → length input ≤ most_input → IsAudioKind (journal plan input).times.kind → listen.stream ≡ (journal plan input).stream
-    → HearsTalker (pos 0) (journal plan input) listen (records plan input)
-    → AllCarry (journal plan input) listen.lead (range_with_len 0 (journal plan input).times.packets) (records plan input)
-    → ((n : ℕ) (r : Record) → Carries (journal plan input) listen.lead n r → belongs stream_kinds (journal plan input).stream r.bytes ≡ true)
-    → ((n frame : ℕ) (r : Record) → Carries (journal plan input) listen.lead n r → IsCopyOf (journal plan input) listen.lead n (delivery frame r))
-    → IsHeardWhole plan input listen (records plan input)
-heard_whole plan input listen p none limit kind stream h carry belong copies =
-    let j = journal plan input in
+pub packet_at : (a k i n : ℕ) → i < k → a + i ≡ n → slice_get (map OfStream (range_with_len a k)) i ≡ Some (OfStream n)
+packet_at a zero i n lt e = absurd (omega arith)
+packet_at a (suc k) zero n lt e = let same : a ≡ n = omega arith in ap (λ (m : ℕ). Some (OfStream m)) same
+packet_at a (suc k) (suc i) n lt e = packet_at (a + 1) k i n (omega arith) (omega arith)
+
+all_sent : (s : Stream) (a k : ℕ) → a + k ≤ packets_in s → AllByRecursion (IsSent s) (map OfStream (range_with_len a k))
+all_sent s a zero le = tt
+all_sent s a (suc k) le = (omega arith, all_sent s (a + 1) k (omega arith))
+
+-- the listener gets each packet once, in order
+abbrev pub IsWhole : TalkPlan → List ℕ → ListenPlan → List Record → Type 0
+IsWhole plan input listen rs = IsCaught plan input listen rs (map OfStream (range_with_len 0 (journal plan input).times.packets))
+
+pub whole_caught : (plan : TalkPlan) (input : List ℕ) (listen : ListenPlan) → IsAudioPlan plan → plan.crf ≡ None → length input ≤ most_input → IsAudioKind (journal plan input).times.kind → Expects plan listen.lead → HearsTalker (pos 0) (journal plan input) listen (records plan input)
+    → AreRead (journal plan input) listen.lead → IsWhole plan input listen (records plan input)
+whole_caught plan input listen p none limit kind expects h are =
     let s = stream_of plan input in
-    let fs = frames plan input in
-    let rs = records plan input in
-    let N = j.times.packets in
+    let N = packets_in s in
     let plan_is = audio_plan plan p in
-    let frames_are : fs ≡ stream_frames plan input = frames_alone plan input plan_is none limit in
-    let in_it = all_belong j listen.lead 0 N rs belong carry in
-    let ds_are : deliveries_of listen rs ≡ numbered 1 rs = whole_deliveries listen.stream j.stream listen.clock rs stream in_it in
-    let count : length fs ≡ N = ap (λ (l : List SentFrame). length l) frames_are ∙ count_of s in
-    record {
-      heard = h;
-      stream = plan_keeps plan input plan_is limit;
-      long = entries_long (deliveries_of listen rs) (others (pos 0) j listen rs h kind)
-          ∙ (ap (λ (l : List Delivery). length l) ds_are ∙ (numbered_long 1 rs ∙ (length-map fs record_of ∙ count)));
-      from = subst (λ (l : List Delivery). AreFrom j listen.lead (map OfStream (range_with_len 0 N)) l) (sym ds_are) (all_from j listen.lead 0 N 1 rs copies carry);
-      each = λ n lt.
-          let f = frame_of s n in
-          let at : slice_get fs n ≡ Some f = ap (λ (l : List SentFrame). slice_get l n) frames_are ∙ at_number s n lt in
-          record {
-            d = delivery (1 + n) (record_of f);
-            there = ap (λ (l : List Delivery). slice_get l n) ds_are ∙ numbered_at 1 n rs (record_of f) (record_at fs n f at);
-            arrived = refl;
-            copy = copies n (1 + n) (record_of f) (carries_at j listen.lead 0 N n n fs f (omega arith) carry lt at);
-          };
-    }
+    is_caught plan input listen (records plan input) (map OfStream (range_with_len 0 N)) h (plan_keeps plan input plan_is limit) kind expects are (all_sent s 0 N (omega arith)) (stream_heard (journal plan input) listen.clock (range_with_len 0 N))
+    (ap (map record_of) (frames_alone plan input plan_is none limit ∙ sym (stream_frames_are s (range_with_len 0 N))))
+
+-- the delivery of packet n
+pub caught_at : (plan : TalkPlan) (input : List ℕ) (listen : ListenPlan) (rs : List Record) (n : ℕ) → IsWhole plan input listen rs → n < (journal plan input).times.packets → IsCaughtAt (journal plan input) (stream_of plan input) listen rs n (OfStream n)
+caught_at plan input listen rs n w lt = w.each n (OfStream n) (packet_at 0 (journal plan input).times.packets n n lt (omega arith))
 
 -- so if each has a head and is known, each is timely
 pub are_timely : (plan : TalkPlan) (input : List ℕ) (listen : ListenPlan) (rs : List Record) → IsAudioPlan plan → plan.crf ≡ None → IsAudioKind (journal plan input).times.kind → listen.clock ≡ None → HoldsLead plan listen
-    → (w : IsHeardWhole plan input listen rs)
+    → (w : IsWhole plan input listen rs)
     → ((n : ℕ) → n < (journal plan input).times.packets → IsSome (head_of (journal plan input).times n))
-    → ((n : ℕ) (lt : n < (journal plan input).times.packets) → IsKnownCopy (journal plan input) listen rs n (record { number = n; arrival = (w.each n lt).copy.arrival }))
+    → ((n : ℕ) (lt : n < (journal plan input).times.packets) → IsKnownCopy (journal plan input) listen rs n (record { number = n; arrival = (caught_at plan input listen rs n w lt).copy.arrival }))
     → AreTimely (pos 0) (journal plan input) listen rs
 are_timely plan input listen rs p none kind off room w heads known =
     let j = journal plan input in
     let s = stream_of plan input in
     let all = others (pos 0) j listen rs w.heard kind in
     let time : (n : ℕ) → n < j.times.packets → time_of listen rs n ≡ pos (s.arrival n) =
-    λ n lt. judged_at listen rs s.arrival n all w.stream.rising (λ m le. let here = w.each m (omega (arith, le, lt)) in (here.d, (here.there, here.arrived))) in
+    λ n lt. judged_at listen rs s.arrival n all w.stream.rising (λ m le. let here = caught_at plan input listen rs m w (omega (arith, le, lt)) in (here.d, (here.there, here.arrived))) in
     let ready : IsAhead plan.crf plan.lead = rw none tt in
     record {
       heard = w.heard;
       kind = kind;
       off = off;
-      entries = w.long;
+      entries = entries_long (deliveries_of listen rs) all ∙ (as_many j listen.lead (map OfStream (range_with_len 0 j.times.packets)) (deliveries_of listen rs) w.from ∙ range_long 0 j.times.packets);
       each = λ n lt.
-          let here = w.each n lt in
+          let here = caught_at plan input listen rs n w lt in
           let early : time_of listen rs n ≤ℤ pos (j.times.due n) = omega (arith, ints, time n lt, w.stream.early n ready lt) in
           record {
             made = made_of_one here.d;

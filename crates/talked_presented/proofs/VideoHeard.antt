@@ -18,6 +18,7 @@ use Rattle.talked_headline.proofs.Fragments.{few_packets, parts_are, unit_small}
 use Rattle.talked_headline.proofs.Talked.{video_plan}
 use Rattle.talked_presented.specs.Whole.{IsDefaultVideo, default_listener}
 use Rattle.talked_presented.proofs.Anywhere.{kept_frames}
+use Rattle.talked_presented.proofs.Merged.{stream_frames_are}
 use Rattle.talked_presented.proofs.UnitRuns.{unit_low}
 
 all_below : (n a m : ℕ) → a + n ≤ m → All (λ (k : ℕ). k < m) (range_with_len a n)
@@ -31,7 +32,7 @@ all_frames plan input h =
     let all = frames_alone plan input (video_plan plan h.last_stamp h.kind h.talked) h.talked.crf h.limit in
     kept_frames plan input (range_with_len 0 (journal plan input).times.packets) (λ k lt. ap (λ (l : List SentFrame). slice_get l k) all ∙ at_number s k lt)
     (all_below (journal plan input).times.packets 0 (journal plan input).times.packets (omega arith))
-    ∙ sym all
+    ∙ (stream_frames_are s (range_with_len 0 (journal plan input).times.packets) ∙ sym all)
 
 pub whole_heard : (plan : TalkPlan) (input : List ℕ) → IsDefaultVideo plan input → ListensToVideo plan input (range_with_len 0 (journal plan input).times.packets) (default_listener plan.id)
 whole_heard plan input h = record {

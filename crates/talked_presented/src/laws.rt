@@ -46,9 +46,9 @@ pub fn whole_capture_is_presented()
         → ArePresented false (journal plan input) (range_with_len 0 (journal plan input).times.packets) (shown_of listen (whole_records (capture plan input))) }
 {
     whole_capture_is_heard();
-    capture_delivers();
     capture_reads_back();
     carried_packet_is_delivered();
+    carried_clock_packet_is_delivered();
 }
 
 /// If the plan has the default lead of `talk`, a listener with the default options of `listen` presents everything, whatever the
