@@ -1,6 +1,6 @@
 -- A unit of H.264 that must be presented, wherever it is in a capture.
-use Rattle.std.proofs.Common.{◌≡◌, ◌≢◌, ◌⊎◌, ℕ, zero, suc, ◌+◌, ◌<◌, ◌≤◌, Bool, true, false, ℤ, pos, ◌≤ℤ◌, List, [], ◌∷◌, ◌++◌, All, length, filter, map, take, Option, Some, None, Ok, refl, sym, ap, ◌∙◌, subst, inl, inr, arith, append-nil, append_assoc, length-append}
-use Rattle.std.specs.Prelude.{◌==◌, Contains, Err, IfOk, Result, fold, if◌then◌else◌, slice_get}
+use Rattle.std.proofs.Common.{◌≡◌, ◌≢◌, ◌⊎◌, ℕ, zero, suc, ◌+◌, ◌%◌, ◌^◌, ◌<◌, ◌≤◌, Bool, true, false, ℤ, pos, ◌≤ℤ◌, List, [], ◌∷◌, ◌++◌, All, length, filter, map, take, Option, Some, None, Ok, refl, sym, ap, ◌∙◌, subst, inl, inr, arith, append-nil, append_assoc, length-append}
+use Rattle.std.specs.Prelude.{◌==◌, Contains, Err, IfOk, IfSome, Result, is_some, fold, if◌then◌else◌, slice_get}
 use Rattle.std.specs.Int.{int_max}
 use Rattle.std.specs.List.{slice_index_or}
 use Rattle.std.proofs.Math.Seq.{take-append_seam}
@@ -8,13 +8,15 @@ use Rattle.std.proofs.lemmas.Bool.{cases_lt, eqb-true}
 use Rattle.std.proofs.lemmas.Int.{ints}
 use Rattle.std.proofs.lemmas.List.Elements.{All-head, All-map, All-tail, filter-append}
 use Rattle.crf_format.specs.Crf.{crf_subtype}
-use Rattle.cvf_format.specs.Cvf.{cvf_subtype}
+use Rattle.cvf_format.specs.Cvf.{Cvf, cvf_of, cvf_subtype}
 use Rattle.cvf_format.specs.declared.piece.Piece.{Piece}
 use Rattle.cvf_format.specs.declared.piece.Piece.TheVariants.{Whole, Held, Lost}
 use Rattle.cvf_format.specs.Stretches.{given_up, piece, reason}
 use Rattle.clock_track.specs.Rows.{clock_spot}
+use Rattle.time_unfold.specs.Time.{unfolded}
+use Rattle.stream_journal.proofs.TrueTime.{true_time}
 use Rattle.pcap_frames.specs.Capture.{Record}
-use Rattle.stream_journal.specs.Conforming.{Ends}
+use Rattle.stream_journal.specs.Conforming.{Ends, IsVideo}
 use Rattle.stream_journal.specs.Delivered.{IsAudioKind}
 use Rattle.stream_journal.specs.Journal.{H264, IsAtBy, Kind, Part}
 use Rattle.sample_schedule.specs.declared.accepted.Accepted.{Accepted}
@@ -28,7 +30,7 @@ use Rattle.sample_schedule.specs.Verdicts.{timed, total_bytes, unit_at_once, ver
 use Rattle.sample_schedule.proofs.StageLemmas.{accepted-next}
 use Rattle.packet_journal.specs.Deliveries.{Delivery}
 use Rattle.packet_journal.specs.Delivered.{IsCopyOf, IsFrom, Origin, OfClock, OfStream}
-use Rattle.packet_journal.specs.Packets.{PacketJournal}
+use Rattle.packet_journal.specs.Packets.{IsConforming, PacketJournal, part_of}
 use Rattle.packet_journal.specs.Units.{AreUnit, IsContentBy, IsUnitOf, unit_bytes}
 use Rattle.listener.specs.declared.plan.ListenPlan.{ListenPlan}
 use Rattle.listener.specs.Heard.{deliveries_of, entries_in, items_in, schedule_plan}
@@ -42,8 +44,8 @@ use Rattle.listener.proofs.Made.{IsOther, OfEach, items_all, so_far_more, so_far
 use Rattle.listener.proofs.Shown.{Rising, deliveries_rise, entry_at}
 use Rattle.listener.proofs.TrueItems.{IsCopied, Shows, audio_other, clock_entry}
 use Rattle.listener.proofs.TrueList.{are_heard}
-use Rattle.listener.proofs.TrueOnce.{first_at, one_number}
-use Rattle.listener.proofs.TrueUnits.{unit_ends, unit_item, unit_made, unit_packet, video_copy}
+use Rattle.listener.proofs.TrueOnce.{first_at, one_number, one_packet}
+use Rattle.listener.proofs.TrueUnits.{IsVideoCopy, end_stamped, unit_ends, unit_item, unit_made, unit_packet, video, video_copy}
 use Rattle.listener.proofs.UnitWelcome.{unit_made_whole}
 use Rattle.listener.proofs.Welcome.{arrives, both_early}
 use Rattle.listener_laws.specs.Anywhere.{UnitComesInTime, UnitMustBePresented, unit_place}
@@ -318,7 +320,7 @@ abbrev pub counting : (Delivery → Bool) → List Delivery → ℕ → ℕ
 counting waits ds j = length (filter waits (take j ds))
 
 unit_step : (shift : ℤ) (p : PacketJournal) (plan : ListenPlan) (records : List Record) (part : ℕ → Part) (Q : ℕ → Type 0) (waits : Delivery → Bool) (t : ℤ) (before tail : List Delivery) (j : ℕ) → HearsTalker shift p plan records → p.times.kind ≡ H264 part → deliveries_of plan records ≡ before ++ tail
-    → All (λ (d : Delivery). (k : ℕ) → IsCopyOf p plan.lead k d → Q k) before → ((k : ℕ) (d : Delivery) → IsCopyOf p plan.lead k d → Ends (part k) → t ≤ℤ pos (p.times.due k) → waits d ≡ true) → j < length before
+    → All (λ (d : Delivery). (k : ℕ) → IsCopyOf p plan.lead k d → Q k) before → ((i k : ℕ) (d : Delivery) → slice_get before i ≡ Some d → IsCopyOf p plan.lead k d → Ends (part k) → t ≤ℤ pos (p.times.due k) → waits d ≡ true) → j < length before
     → IsStep Q (by_clock plan) p t (counting waits before j) (counting waits before (suc j)) (given_to plan records (take j before)) (given_to plan records (take (suc j) before))
 unit_step shift p plan records part Q waits t before tail j h kind split holds finds lt =
     let d = some_at before j lt in
@@ -330,7 +332,7 @@ unit_step shift p plan records part Q waits t before tail j h kind split holds f
     ap (λ (l : List Delivery). length (filter waits l)) f.1.0 ∙ (ap (λ (l : List Delivery). length l) (filter-append waits front (d.0 ∷ [])) ∙ length-append (filter waits front) (filter waits (d.0 ∷ []))) in
     let more = delivery_more shift p plan records part Q t count (counting waits before (suc j)) front d.0 (f.0 ++ tail) h kind all (record {
       holds = at_place (λ (x : Delivery). (k : ℕ) → IsCopyOf p plan.lead k x → Q k) before j d.0 holds d.1;
-      counts = λ k copy ends late. let one : length (filter waits (d.0 ∷ [])) ≡ 1 = rw (finds k d.0 copy ends late) refl in omega arith;
+      counts = λ k copy ends late. let one : length (filter waits (d.0 ∷ [])) ≡ 1 = rw (finds j k d.0 d.1 copy ends late) refl in omega arith;
     }) in
     record {
       grows = omega arith;
@@ -422,3 +424,36 @@ unit_further_here shift p plan records part earlier from n made before last h ki
   timely = unit_timely shift p plan records part from n before last h kind c;
   before = accepted_later shift p plan records earlier (unit_place before last) n made h w lt;
 }
+
+-- ---- one copy, one packet
+
+-- a packet that ends a unit has the unit's instant in its timestamp
+due_of : (p : PacketJournal) (part : ℕ → Part) (lead n : ℕ) (d : Delivery) (r : Option ℕ) → IsVideo p.times part → (copy : IsCopyOf p lead n d) → IsVideoCopy p part n d → p.times.stamp n ≡ r → is_some r ≡ true → unfolded (cvf_of d.packet).header.timestamp d.arrival ≡ pos (p.times.due n)
+due_of p part lead n d None is copy c e some = absurd cc
+due_of p part lead n d (Some x) is copy c e some =
+    let stamp : c.view.header.timestamp ≡ x % 2 ^ 32 = subst (λ (o : Option ℕ). IfSome o (λ (y : ℕ). c.view.header.timestamp ≡ y % 2 ^ 32)) e c.packet.header.timestamp in
+    let timestamp : (cvf_of d.packet).header.timestamp ≡ x % 2 ^ 32 = sym (ap (λ (w : Cvf). w.header.timestamp) c.same) ∙ stamp in
+    let at : unfolded (x % 2 ^ 32) (pos copy.arrival) ≡ pos x = true_time p.times lead (record { number = n; arrival = copy.arrival }) x copy.delivered e in
+    rw (timestamp, copy.arrived) (at ∙ ap (λ (k : ℕ). pos k) (is.one_instant n x copy.delivered.known e))
+
+-- the part of a unit that a delivery carries
+abbrev pub part_in : Delivery → Part
+part_in d = part_of (cvf_of d.packet).part
+
+pub part_seen : (shift : ℤ) (p : PacketJournal) (part : ℕ → Part) (lead n : ℕ) (d : Delivery) → IsConforming shift p → p.times.kind ≡ H264 part → IsCopyOf p lead n d → Shows d → part_in d ≡ part n
+part_seen shift p part lead n d is kind copy shows =
+    let c = video_copy shift p part lead n d is kind copy shows in
+    sym (ap (λ (w : Cvf). part_of w.part) c.same) ∙ c.packet.part_is
+
+-- a delivery that ends a unit is a copy of one packet
+pub one_end : (shift : ℤ) (p : PacketJournal) (part : ℕ → Part) (lead n k : ℕ) (d : Delivery) → IsConforming shift p → p.times.kind ≡ H264 part → Shows d → Ends (part n) → IsCopyOf p lead n d → IsCopyOf p lead k d → n ≡ k
+one_end shift p part lead n k d is kind shows ends a b =
+    let sound = video p part kind is.times in
+    let x = video_copy shift p part lead n d is kind a shows in
+    let y = video_copy shift p part lead k d is kind b shows in
+    let same : part n ≡ part k = sym (part_seen shift p part lead n d is kind a shows) ∙ part_seen shift p part lead k d is kind b shows in
+    let first = due_of p part lead n d (p.times.stamp n) sound a x refl (end_stamped p.times part n sound a.delivered.known ends) in
+    let second = due_of p part lead k d (p.times.stamp k) sound b y refl (end_stamped p.times part k sound b.delivered.known (subst Ends same ends)) in
+    let due : p.times.due n ≡ p.times.due k = let e = sym first ∙ second in omega (arith, ints) in
+    one_packet false p n k (pos (p.times.due n)) is.times a.delivered.known b.delivered.known (sym x.seq ∙ y.seq) (time_is p.times.kind part false p n kind)
+    (rw due (time_is p.times.kind part false p k kind))

@@ -57,9 +57,9 @@ pub record UnitComesInTime (p : PacketJournal) (plan : ListenPlan) (records : Li
   pub unit : AreOfUnit p part plan.lead from n earlier last
   pub in_time : All (λ (d : Delivery). d.arrival ≤ℤ pos (p.times.due n)) (before ++ last ∷ [])
 
--- The test finds each delivery that can complete a unit which is not yet due when the item at a place is judged.
-abbrev pub FindsWaitingUnits : PacketJournal → ListenPlan → List Record → (ℕ → Part) → ℕ → (Delivery → Bool) → Type 0
-FindsWaitingUnits p plan records part place waits = (k : ℕ) (d : Delivery) → IsCopyOf p plan.lead k d → Ends (part k) → time_of plan records place ≤ℤ pos (p.times.due k) → waits d ≡ true
+-- The test finds each of these deliveries that can complete a unit which is not yet due when the item at a place is judged.
+abbrev pub FindsWaitingUnits : PacketJournal → ListenPlan → List Record → (ℕ → Part) → List Delivery → ℕ → (Delivery → Bool) → Type 0
+FindsWaitingUnits p plan records part before place waits = (j k : ℕ) (d : Delivery) → slice_get before j ≡ Some d → IsCopyOf p plan.lead k d → Ends (part k) → time_of plan records place ≤ℤ pos (p.times.due k) → waits d ≡ true
 
 -- The unit must be presented: it comes in time, its last packet did not come before, and the buffer has room for it and for all
 -- units before it that still wait, each of at most `most` bytes.
@@ -67,7 +67,7 @@ pub record UnitMustBePresented (p : PacketJournal) (plan : ListenPlan) (records 
   pub comes : UnitComesInTime p plan records part from n before last
   pub first : All (λ (d : Delivery). ¬ IsCopyOf p plan.lead n d) before
   pub waits : Delivery → Bool
-  pub finds : FindsWaitingUnits p plan records part (unit_place before last) waits
+  pub finds : FindsWaitingUnits p plan records part before (unit_place before last) waits
   pub some : length (filter waits before) < plan.buffer
   pub most : ℕ
   pub size : (s m : ℕ) → AreUnit part s m → m < p.times.packets → length (unit_bytes p s m) ≤ most

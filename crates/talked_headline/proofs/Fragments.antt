@@ -89,14 +89,13 @@ pub first_before : (part : ℕ → Part) (from n : ℕ) → AreUnit part from n 
 first_before part from n (inl a) = let same = a.0 in omega arith
 first_before part from n (inr a) = let some = a.some in omega arith
 
+-- the packets of a unit are due at one instant
+pub one_due : (plan : TalkPlan) (input : List ℕ) (last_stamp : Bool) (from n k : ℕ) → plan.kind ≡ H264 last_stamp → AreUnit (part_sent input) from n → from ≤ k → k ≤ n → (journal plan input).times.due k ≡ (journal plan input).times.due from
+one_due plan input last_stamp from n k e unit low high =
+    due_is plan input last_stamp k e ∙ (ap (λ (u : ℕ). access_instant plan (access_unit input (sent_units input) u)) (same_unit input from n k unit low high) ∙ sym (due_is plan input last_stamp from e))
+
 pub few_packets : (plan : TalkPlan) (input : List ℕ) (last_stamp : Bool) (from n : ℕ) → plan.kind ≡ H264 last_stamp → IsVideo (journal plan input).times (part_sent input) → n < (journal plan input).times.packets → AreUnit (part_sent input) from n → n < from + 255
-few_packets plan input last_stamp from n e is known unit =
-    let low = first_before (part_sent input) from n unit in
-    let same : (journal plan input).times.due from ≡ (journal plan input).times.due n =
-    due_is plan input last_stamp from e
-    ∙ (ap (λ (u : ℕ). access_instant plan (access_unit input (sent_units input) u)) (sym (same_unit input from n n unit low (omega arith)))
-    ∙ sym (due_is plan input last_stamp n e)) in
-    is.few from n known same
+few_packets plan input last_stamp from n e is known unit = is.few from n known (sym (one_due plan input last_stamp from n n e unit (first_before (part_sent input) from n unit) (omega arith)))
 
 short : (plan : TalkPlan) (input : List ℕ) (last_stamp : Bool) (k : ℕ) → plan.kind ≡ H264 last_stamp → length (carried ((journal plan input).packet k)) ≤ 1428
 short plan input last_stamp k e =

@@ -23,8 +23,9 @@ use Rattle.talker.specs.Frames.{SentFrame, frame_of, frames, frames_at, record_o
 use Rattle.talker.specs.Journal.{Stream, journal, stream_of}
 use Rattle.talker.proofs.StreamLemmas.{at_number, packets_in}
 use Rattle.talker.proofs.TalkLemmas.{audio_plan, frames_alone, plan_keeps}
-use Rattle.talked_headline.specs.Premises.{ListensTo, captured}
-use Rattle.talked_headline.proofs.Talked.{first_kept, kind_heard}
+use Rattle.talk_plan.specs.Plan.{Expects, IsPlan, most_input}
+use Rattle.talked_headline.specs.Premises.{ListensTo, ListensToVideo, captured}
+use Rattle.talked_headline.proofs.Talked.{first_kept, kind_heard, video_expects, video_plan}
 use Rattle.talked_presented.specs.Anywhere.{ComesInTime, MustBePresented, sent_copy}
 use Rattle.talked_presented.proofs.Caught.{IsCaught, came_by, is_caught, not_before, stream_heard}
 use Rattle.talked_presented.proofs.Known.{one_arrival}
@@ -53,15 +54,22 @@ all_sent : (s : Stream) (ks : List ℕ) → All (λ (k : ℕ). k < packets_in s)
 all_sent s [] all = tt
 all_sent s (k ∷ ks) all = (All-head (λ (m : ℕ). m < packets_in s) k ks all, all_sent s ks (All-tail (λ (m : ℕ). m < packets_in s) k ks all))
 
+caught_of : (plan : TalkPlan) (input ks : List ℕ) (listen : ListenPlan) → IsPlan plan → length input ≤ most_input → Expects plan listen.lead → plan.crf ≡ None → All (λ (k : ℕ). k < (journal plan input).times.packets) ks → HearsTalker (pos 0) (journal plan input) listen (captured plan input ks)
+    → captured plan input ks ≡ map record_of (frames_at plan input ks) → AreRead (journal plan input) listen.lead → IsCaught plan input listen (captured plan input ks) (map OfStream ks)
+caught_of plan input ks listen plan_is limit expects none known heard read are =
+    let s = stream_of plan input in
+    let at : (k : ℕ) → k < packets_in s → slice_get (frames plan input) k ≡ Some (frame_of s k) =
+    λ k lt. ap (λ (fs : List SentFrame). slice_get fs k) (frames_alone plan input plan_is none limit) ∙ at_number s k lt in
+    is_caught plan input listen (captured plan input ks) (map OfStream ks) heard (plan_keeps plan input plan_is limit) expects are
+    (all_sent s ks known) (stream_heard (journal plan input) listen.clock ks) (read ∙ ap (map record_of) (kept_frames plan input ks at known))
+
 pub caught : (plan : TalkPlan) (input ks : List ℕ) (listen : ListenPlan) → ListensTo plan input listen → plan.crf ≡ None → All (λ (k : ℕ). k < (journal plan input).times.packets) ks → HearsTalker (pos 0) (journal plan input) listen (captured plan input ks)
     → captured plan input ks ≡ map record_of (frames_at plan input ks) → AreRead (journal plan input) listen.lead → IsCaught plan input listen (captured plan input ks) (map OfStream ks)
-caught plan input ks listen l none known heard read are =
-    let s = stream_of plan input in
-    let plan_is = audio_plan plan l.talked in
-    let at : (k : ℕ) → k < packets_in s → slice_get (frames plan input) k ≡ Some (frame_of s k) =
-    λ k lt. ap (λ (fs : List SentFrame). slice_get fs k) (frames_alone plan input plan_is none l.limit) ∙ at_number s k lt in
-    is_caught plan input listen (captured plan input ks) (map OfStream ks) heard (plan_keeps plan input plan_is l.limit) (kind_heard plan input l.talked) l.lead are
-    (all_sent s ks known) (stream_heard (journal plan input) listen.clock ks) (read ∙ ap (map record_of) (kept_frames plan input ks at known))
+caught plan input ks listen l none = caught_of plan input ks listen (audio_plan plan l.talked) l.limit l.lead none
+
+pub caught_video : (plan : TalkPlan) (input ks : List ℕ) (listen : ListenPlan) → ListensToVideo plan input ks listen → All (λ (k : ℕ). k < (journal plan input).times.packets) ks → HearsTalker (pos 0) (journal plan input) listen (captured plan input ks)
+    → captured plan input ks ≡ map record_of (frames_at plan input ks) → AreRead (journal plan input) listen.lead → IsCaught plan input listen (captured plan input ks) (map OfStream ks)
+caught_video plan input ks listen l = caught_of plan input ks listen (video_plan plan l.last_stamp l.kind l.talked) l.limit (video_expects plan l.last_stamp listen.lead l.kind) l.talked.crf
 
 -- ---- it comes in time
 
@@ -92,6 +100,7 @@ pub record IsCopyAfter (plan : TalkPlan) (input : List ℕ) (listen : ListenPlan
 pub comes_here : (plan : TalkPlan) (input before after : List ℕ) (n : ℕ) (listen : ListenPlan) → ComesInTime plan input listen before n after → IsCaught plan input listen (captured plan input (before ++ n ∷ after)) (map OfStream (before ++ n ∷ after)) → IsCopyAfter plan input listen before n after
 comes_here plan input before after n listen h w =
     let p = journal plan input in
+    let kind = kind_heard plan input h.talk.talked in
     let ks = before ++ n ∷ after in
     let i : ℕ = length before in
     let here = w.each i (OfStream n) (in_place before n after) in
@@ -116,7 +125,7 @@ comes_here plan input before after n listen h w =
           };
         };
         instant = p.times.due n;
-        at = subst (λ (by : Bool). IsAt by p.times n 0 (pos (p.times.due n))) (sym by_is) (due_head p.times n (head_of p.times n) w.kind (audio p w.kind w.heard.conforming.times) known refl head);
+        at = subst (λ (by : Bool). IsAt by p.times n 0 (pos (p.times.due n))) (sym by_is) (due_head p.times n (head_of p.times n) kind (audio p kind w.heard.conforming.times) known refl head);
         in_time = λ k e le there. came_by plan input listen (captured plan input ks) (map OfStream ks) k (p.times.due n) e w there (λ o at. all_early plan input before after n (p.times.due n) k o h.in_time own le at);
       };
     }
@@ -128,20 +137,21 @@ pub must_be : (plan : TalkPlan) (input before after : List ℕ) (n : ℕ) (liste
 unfolding comes_here
 must_be plan input before after n listen h w =
     let p = journal plan input in
+    let kind = kind_heard plan input h.comes.talk.talked in
     let ks = before ++ n ∷ after in
     let i : ℕ = length before in
     let by_is : by_clock listen ≡ false = rw h.comes.without refl in
     let here = comes_here plan input before after n listen h.comes w in
     let front : stream_numbers (take i (map OfStream ks)) ≡ before = numbers_taken i ks ∙ take-append_seam before (n ∷ after) in
-    let least = not_before plan input listen (captured plan input ks) (map OfStream ks) i (OfStream n) w (in_place before n after) in
-    let sound = audio p w.kind w.heard.conforming.times in (
+    let least = not_before plan input listen (captured plan input ks) (map OfStream ks) i (OfStream n) w kind (in_place before n after) in
+    let sound = audio p kind w.heard.conforming.times in (
       here.d,
       record {
         comes = here.comes;
         first = subst (λ (l : List ℕ). All (λ (k : ℕ). k ≢ n) l) (sym front) h.first;
         waits = λ k. nat_le ((stream_of plan input).arrival n) (p.times.due k);
         finds = λ k x lt at late.
-            let same = nominal_due p.times k x w.kind sound lt (subst (λ (by : Bool). IsAt by p.times k 0 x) by_is at) in
+            let same = nominal_due p.times k x kind sound lt (subst (λ (by : Bool). IsAt by p.times k 0 x) by_is at) in
             le-leb ((stream_of plan input).arrival n) (p.times.due k) (omega (arith, ints, least, late, same));
         some = rw front h.some;
         most = 1500;

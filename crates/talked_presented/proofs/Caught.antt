@@ -39,7 +39,6 @@ pub record IsCaughtAt (p : PacketJournal) (s : Stream) (listen : ListenPlan) (rs
 pub record IsCaught (plan : TalkPlan) (input : List ℕ) (listen : ListenPlan) (rs : List Record) (os : List Origin) : Type 0 where
   pub heard : HearsTalker (pos 0) (journal plan input) listen rs
   pub stream : IsStream plan (stream_of plan input)
-  pub kind : IsAudioKind (journal plan input).times.kind
   pub from : AreFrom (journal plan input) listen.lead os (deliveries_of listen rs)
   pub each : (i : ℕ) (o : Origin) → slice_get os i ≡ Some o → IsCaughtAt (journal plan input) (stream_of plan input) listen rs i o
 
@@ -72,9 +71,9 @@ as_many p lead [] (d ∷ ds) from = absurd from
 as_many p lead (o ∷ os) [] from = absurd from
 as_many p lead (o ∷ os) (d ∷ ds) from = ap suc (as_many p lead os ds from.1)
 
-pub is_caught : (plan : TalkPlan) (input : List ℕ) (listen : ListenPlan) (rs : List Record) (os : List Origin) → HearsTalker (pos 0) (journal plan input) listen rs → IsStream plan (stream_of plan input) → IsAudioKind (journal plan input).times.kind → Expects plan listen.lead → AreRead (journal plan input) listen.lead
+pub is_caught : (plan : TalkPlan) (input : List ℕ) (listen : ListenPlan) (rs : List Record) (os : List Origin) → HearsTalker (pos 0) (journal plan input) listen rs → IsStream plan (stream_of plan input) → Expects plan listen.lead → AreRead (journal plan input) listen.lead
     → AllByRecursion (IsSent (stream_of plan input)) os → AllByRecursion (HearsOrigin (journal plan input) listen.clock) os → rs ≡ map record_of (map (frame_by (stream_of plan input)) os) → IsCaught plan input listen rs os
-is_caught plan input listen rs os heard stream kind expects are sent hears records =
+is_caught plan input listen rs os heard stream expects are sent hears records =
     let p = journal plan input in
     let s = stream_of plan input in
     let all = map record_of (map (frame_by s) os) in
@@ -85,7 +84,6 @@ is_caught plan input listen rs os heard stream kind expects are sent hears recor
     record {
       heard = heard;
       stream = stream;
-      kind = kind;
       from = subst (λ (l : List Delivery). AreFrom p listen.lead os l) (sym ds) from;
       each = λ i o at.
           let there = numbered_at 1 i all (record_of (frame_by s o)) (record_at s os i o at) in
@@ -102,14 +100,14 @@ is_caught plan input listen rs os heard stream kind expects are sent hears recor
 late_by : (x y : ℤ) → y ≤ℤ int_max x y
 late_by x y = grind (arith, ints)
 
-pub not_before : (plan : TalkPlan) (input : List ℕ) (listen : ListenPlan) (rs : List Record) (os : List Origin) (i : ℕ) (o : Origin) → IsCaught plan input listen rs os → slice_get os i ≡ Some o → pos (sent_by (stream_of plan input) o) ≤ℤ time_of listen rs i
-not_before plan input listen rs os zero o w at =
+pub not_before : (plan : TalkPlan) (input : List ℕ) (listen : ListenPlan) (rs : List Record) (os : List Origin) (i : ℕ) (o : Origin) → IsCaught plan input listen rs os → IsAudioKind (journal plan input).times.kind → slice_get os i ≡ Some o → pos (sent_by (stream_of plan input) o) ≤ℤ time_of listen rs i
+not_before plan input listen rs os zero o w kind at =
     let here = w.each 0 o at in
-    let all = others (pos 0) (journal plan input) listen rs w.heard w.kind in
+    let all = others (pos 0) (journal plan input) listen rs w.heard kind in
     rw (first_time (entries_in listen rs) (entry_of here.d) (entry_there (deliveries_of listen rs) 0 here.d all here.there), arrives here.d, here.arrived) (late_by (pos 0) (pos (sent_by (stream_of plan input) o)))
-not_before plan input listen rs os (suc i) o w at =
+not_before plan input listen rs os (suc i) o w kind at =
     let here = w.each (suc i) o at in
-    let all = others (pos 0) (journal plan input) listen rs w.heard w.kind in
+    let all = others (pos 0) (journal plan input) listen rs w.heard kind in
     rw (now-next (entries_in listen rs) (suc i) (entry_of here.d) (entry_there (deliveries_of listen rs) (suc i) here.d all here.there), arrives here.d, here.arrived) (late_by (latest (take (suc i) (entries_in listen rs))) (pos (sent_by (stream_of plan input) o)))
 
 same_delivery : (a b : Delivery) → Some a ≡ Some b → a ≡ b

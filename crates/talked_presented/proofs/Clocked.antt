@@ -84,6 +84,7 @@ use Rattle.talked_presented.proofs.Sent.{few_wait, has_times, packet_size}
 -- the listener has a whole capture of dense PCM and of its clock
 pub record HasWhole (plan : TalkPlan) (crf : CrfPlan) (input : List ℕ) (listen : ListenPlan) (rs : List Record) (os : List Origin) : Type 0 where
   pub caught : IsCaught plan input listen rs os
+  pub kind : IsAudioKind (journal plan input).times.kind
   pub clocked : IsClocked plan crf (journal plan input).times
   pub ahead : 3 ≤ plan.lead
   pub clock_sent : (m : ℕ) → (stream_of plan input).clock_arrival m ≡ clock_arrival crf plan m
@@ -258,7 +259,7 @@ comes plan crf input listen rs os i n d w at there copy le =
     let numbers : clock_numbers (take (i + listen.look + 1) os) ≡ range_with_len 0 q.clocks = came_is os i listen.look w.now ∙ (q.clock_numbers_are ∙ ap (range_with_len 0) all) in
     let covered = covered_here plan crf j n late.s q.clocks over (clock_of plan crf c.talked c.crf_is).some_points came.0 came.1 in
     let at_it = at_stamp plan crf j n late.s c conforming.clock (agrees plan crf j c conforming) known over in
-    let due = due_is plan crf j n c (audio p w.caught.kind conforming) known in
+    let due = due_is plan crf j n c (audio p w.kind conforming) known in
     let early : (stream_of plan input).arrival n ≤ stamp_at plan crf n = omega (arith, w.caught.stream.early n (rw c.crf_is w.ahead) known, due) in
     record {
       there = there;
@@ -286,7 +287,7 @@ waits_by plan crf input listen rs os i n k x w at known is late = elim (cases_lt
       let j = p.times in
       let c = w.clocked in
       let conforming = w.caught.heard.conforming.times in
-      let sound = audio p w.caught.kind conforming in
+      let sound = audio p w.kind conforming in
       let lt : k < j.packets = omega arith in
       let here = dense_by j.kind j k 0 x c.dense (subst (λ (by : Bool). IsAt by j k 0 x) w.on is) in
       elim (cases_lt k (first_covered crf plan)) [
@@ -298,7 +299,7 @@ waits_by plan crf input listen rs os i n k x w at known is late = elim (cases_lt
             let at_it = at_stamp plan crf j k l.s c conforming.clock (agrees plan crf j c conforming) lt (over_stamp plan crf j k l.s c lt l.at) in
             let due = due_is plan crf j k c sound lt in
             let same : x ≡ pos (stamp_at plan crf k) = one_instant j conforming true k 0 x (pos (stamp_at plan crf k)) lt (by_dense j.kind j k 0 x c.dense here) (by_dense j.kind j k 0 (pos (stamp_at plan crf k)) c.dense at_it) in
-            let sent = not_before plan input listen rs os i (OfStream n) w.caught at in
+            let sent = not_before plan input listen rs os i (OfStream n) w.caught w.kind at in
             few_wait plan input listen k n c.talked sound w.room (omega arith) known (omega (arith, ints, sent, late, same, due))
       ]
 ]
@@ -315,9 +316,9 @@ must_be plan crf input listen rs os i n d w at there copy le =
     let all : n - 0 ≡ n = omega arith in
     let numbers : stream_numbers (take i os) ≡ range_with_len 0 n = q.numbers ∙ ap (range_with_len 0) all in
     let waits : ℕ → Bool = λ (k : ℕ). nat_lt n (k + listen.buffer) in
-    let due = due_is plan crf p.times n c (audio p w.caught.kind conforming) known in
+    let due = due_is plan crf p.times n c (audio p w.kind conforming) known in
     let early = w.caught.stream.early n (rw c.crf_is w.ahead) known in
-    let own = few_wait plan input listen n n c.talked (audio p w.caught.kind conforming) w.room (omega arith) known early in
+    let own = few_wait plan input listen n n c.talked (audio p w.kind conforming) w.room (omega arith) known early in
     let few : length (filter waits (stream_numbers (take i os))) < listen.buffer = rw numbers (few_last n listen.buffer 0 n (omega arith) (omega arith)) in
     let times : (length (filter waits (stream_numbers (take i os))) + 1) * 1500 ≤ listen.buffer * 1500 = mul-le-mul_right 1500 (omega (arith, few)) in
     record {
@@ -384,7 +385,7 @@ flagged_early plan crf input listen rs os i n d w copy lt =
     let sp = schedule_plan listen in
     let es = entries_in listen rs in
     let prefix = prefix_of sp es i in
-    let kind = w.caught.kind in
+    let kind = w.kind in
     let is = followed (pos 0) p listen rs w.caught.heard kind in
     let known = prefix_true (items_in listen rs) (pos 0) p listen.lead prefix (λ heard. is.audio) (All-take (IsTrueEntry (items_in listen rs) (pos 0) p listen.lead) (i + listen.look + 1) es (entries_true (pos 0) p listen rs w.caught.heard)) in
     let spot = true_spot j (pos 0) (pos (stamp_at plan crf n)) (filter_map row_of prefix) is.clock known.rows in
@@ -410,7 +411,7 @@ shown_stream : (plan : TalkPlan) (crf : CrfPlan) (input : List ℕ) (listen : Li
 shown_stream plan crf input listen rs os i n d item w at there copy entry =
     let p = journal plan input in
     let c = w.clocked in
-    let kind = w.caught.kind in
+    let kind = w.kind in
     let shows = at_place Shows (deliveries_of listen rs) i d (all_shown listen.stream listen.clock rs) there in
     elim (cases_lt n (first_covered crf plan)) [
       | inl early ↦
@@ -438,7 +439,7 @@ shown_so : (plan : TalkPlan) (crf : CrfPlan) (input : List ℕ) (listen : Listen
 shown_so plan crf input listen rs os s w h =
     let p = journal plan input in
     let ds = deliveries_of listen rs in
-    let all = others (pos 0) p listen rs w.caught.heard w.caught.kind in
+    let all = others (pos 0) p listen rs w.caught.heard w.kind in
     let at = made_at ds h.place h.made (subst (λ (l : List MadeItem). slice_get l h.place ≡ Some h.made) (items_other ds all) h.there) in
     let o = origin_at p listen.lead os ds h.place at.0 w.caught.from at.1.0 in
     let entry : entry_of at.0 ≡ OfItem h.item = ap (λ (m : MadeItem). m.entry) at.1.1 ∙ h.is in
@@ -454,7 +455,7 @@ all_presented plan crf input listen rs os w = record {
       let p = journal plan input in
       let place = has_place (stream_of plan input) 0 0 os n w.merged (omega arith) lt in
       let here = w.caught.each place.0 (OfStream n) place.1 in
-      let welcome = welcome_here (pos 0) p listen rs place.0 n here.d w.caught.heard w.caught.kind (must_be plan crf input listen rs os place.0 n here.d w place.1 here.there here.copy from) in
+      let welcome = welcome_here (pos 0) p listen rs place.0 n here.d w.caught.heard w.kind (must_be plan crf input listen rs os place.0 n here.d w place.1 here.there here.copy from) in
       any_packet p n (made_of_one here.d) (by_clock listen) (presented_of (shown_of listen rs)) w.on (welcome_shown (pos 0) p listen rs place.0 n (made_of_one here.d) w.caught.heard welcome);
   no_other = λ k s lt. shown_so plan crf input listen rs os _ w (no_other_shown listen rs k s lt);
 }

@@ -104,7 +104,8 @@ whole_heard plan crf input listen h heard are =
     record {
       origins = os;
       whole = record {
-        caught = is_caught plan input listen (records plan input) os heard stream (kind_heard plan input l.talked) l.lead are merged.sent (all_hear p listen.clock os clock) records_are;
+        caught = is_caught plan input listen (records plan input) os heard stream l.lead are merged.sent (all_hear p listen.clock os clock) records_are;
+        kind = kind_heard plan input l.talked;
         clocked = clocked_is plan crf input h.format l.talked l.limit h.dense h.crf_is h.steady;
         ahead = h.ahead;
         clock_sent = λ m. (is_of plan input is_plan l.limit).clock.arrival m ∙ ap (λ (o : Option CrfPlan). clock_arrival_by o plan m) h.crf_is;

@@ -20,3 +20,4 @@ pub mod Caught
 pub mod Covered
 pub mod Clocked
 pub mod ClockedCapture
+pub mod UnitsAnywhere

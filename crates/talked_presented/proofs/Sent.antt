@@ -226,13 +226,13 @@ all_sent s a (suc k) le = (omega arith, all_sent s (a + 1) k (omega arith))
 abbrev pub IsWhole : TalkPlan → List ℕ → ListenPlan → List Record → Type 0
 IsWhole plan input listen rs = IsCaught plan input listen rs (map OfStream (range_with_len 0 (journal plan input).times.packets))
 
-pub whole_caught : (plan : TalkPlan) (input : List ℕ) (listen : ListenPlan) → IsAudioPlan plan → plan.crf ≡ None → length input ≤ most_input → IsAudioKind (journal plan input).times.kind → Expects plan listen.lead → HearsTalker (pos 0) (journal plan input) listen (records plan input)
+pub whole_caught : (plan : TalkPlan) (input : List ℕ) (listen : ListenPlan) → IsAudioPlan plan → plan.crf ≡ None → length input ≤ most_input → Expects plan listen.lead → HearsTalker (pos 0) (journal plan input) listen (records plan input)
     → AreRead (journal plan input) listen.lead → IsWhole plan input listen (records plan input)
-whole_caught plan input listen p none limit kind expects h are =
+whole_caught plan input listen p none limit expects h are =
     let s = stream_of plan input in
     let N = packets_in s in
     let plan_is = audio_plan plan p in
-    is_caught plan input listen (records plan input) (map OfStream (range_with_len 0 N)) h (plan_keeps plan input plan_is limit) kind expects are (all_sent s 0 N (omega arith)) (stream_heard (journal plan input) listen.clock (range_with_len 0 N))
+    is_caught plan input listen (records plan input) (map OfStream (range_with_len 0 N)) h (plan_keeps plan input plan_is limit) expects are (all_sent s 0 N (omega arith)) (stream_heard (journal plan input) listen.clock (range_with_len 0 N))
     (ap (map record_of) (frames_alone plan input plan_is none limit ∙ sym (stream_frames_are s (range_with_len 0 N))))
 
 -- the delivery of packet n

@@ -1,11 +1,14 @@
--- Which copies of a talker's packets must be presented, wherever they are in a capture.
-use Rattle.std.specs.Prelude.{◌≡◌, ◌≢◌, ◌+◌, ◌*◌, ◌<◌, ◌≤◌, ℕ, nat_le, List, ◌∷◌, ◌++◌, length, filter, take, All, None}
+-- Which copies of a talker's packets and units must be presented, wherever they are in a capture.
+use Rattle.std.specs.Prelude.{◌≡◌, ◌≢◌, ◌+◌, ◌-◌, ◌*◌, ◌<◌, ◌≤◌, ℕ, nat_le, List, ◌∷◌, ◌++◌, length, filter, take, All, None}
+use Rattle.std.specs.List.{range_with_len}
 use Rattle.stream_journal.specs.Delivered.{Copy}
 use Rattle.stream_journal.specs.Known.{IsTimed}
+use Rattle.packet_journal.specs.Units.{AreUnit}
 use Rattle.listener.specs.declared.plan.ListenPlan.{ListenPlan}
 use Rattle.talk_plan.specs.declared.plan.TalkPlan.{TalkPlan}
 use Rattle.talker.specs.Journal.{journal, stream_of}
-use Rattle.talked_headline.specs.Premises.{ListensTo}
+use Rattle.talked_headline.specs.Premises.{ListensTo, ListensToVideo, part_sent}
+use Rattle.talked_presented.specs.Whole.{ends_unit}
 
 -- a copy of packet n that is captured when the packet is sent
 abbrev pub sent_copy : TalkPlan → List ℕ → ℕ → Copy
@@ -33,3 +36,16 @@ pub record MustBePresented (plan : TalkPlan) (input : List ℕ) (listen : Listen
   pub first : All (λ (k : ℕ). k ≢ n) before
   pub some : length (waiting_at plan input n before) < listen.buffer
   pub bytes : (length (waiting_at plan input n before) + 1) * 1500 ≤ listen.room
+
+-- Packets `from` to n of a plan of H.264, which carry one unit, are captured in their order after the packets `front`, and the
+-- packets `after` follow. The unit must be presented: no packet before it was captured after it is due, its last packet did not
+-- come before, and the buffer has room for it beside all units that were completed before. A unit has at most 255 packets of 1,500
+-- bytes.
+pub record UnitMustBePresented (plan : TalkPlan) (input : List ℕ) (listen : ListenPlan) (front : List ℕ) (from n : ℕ) (after : List ℕ) : Type 0 where
+  pub talk : ListensToVideo plan input (front ++ (range_with_len from (n - from) ++ n ∷ after)) listen
+  pub sent : All (λ (k : ℕ). k < (journal plan input).times.packets) (front ++ n ∷ after)
+  pub packets : AreUnit (part_sent input) from n
+  pub in_time : All (λ (k : ℕ). (stream_of plan input).arrival k ≤ (journal plan input).times.due n) front
+  pub first : All (λ (k : ℕ). k ≢ n) front
+  pub some : length (filter (λ (k : ℕ). ends_unit (part_sent input k)) front) < listen.buffer
+  pub bytes : (length (filter (λ (k : ℕ). ends_unit (part_sent input k)) front) + 1) * 382500 ≤ listen.room

@@ -1,6 +1,6 @@
 //! What a listener presents of a talker's captures. Each call only states its contract, and does nothing.
 
-ghost use Rattle.std.specs.Prelude.{List, ℕ, Bool, false, true, pos, length, [], ◌≡◌, ◌<◌, ◌≤◌, ◌∷◌, ◌++◌};
+ghost use Rattle.std.specs.Prelude.{List, ℕ, Bool, false, true, pos, length, [], ◌≡◌, ◌-◌, ◌<◌, ◌≤◌, ◌∷◌, ◌++◌};
 ghost use Rattle.std.specs.List.{range_with_len};
 ghost use Rattle.pcap_frames.specs.Capture.{Record, whole_records};
 ghost use Rattle.packet_journal.specs.Packets.{PacketJournal};
@@ -16,14 +16,16 @@ ghost use Rattle.talker.specs.Examples.{six_blocks};
 ghost use Rattle.talker.specs.Frames.{capture};
 ghost use Rattle.talker.specs.Journal.{journal};
 ghost use Rattle.talked_headline.specs.Premises.{HasRoomForUnit, ListensToVideo, captured, part_sent};
-ghost use Rattle.talked_presented.specs.Anywhere.{ComesInTime, MustBePresented};
+ghost use Rattle.talked_presented.specs.Anywhere.{ComesInTime, MustBePresented, UnitMustBePresented};
 ghost use Rattle.talked_presented.specs.Clocked.{ArePresentedFrom, HasDefaultClock, HearsClock, clocked_listener, first_covered};
 ghost use Rattle.talked_presented.specs.Examples.{plain, silence, six_points, thirty, with_clock};
 ghost use Rattle.talked_presented.specs.Whole.{ArePresented, HasDefaultLead, HearsAll, HearsUnits, IsDefaultVideo, default_listener, unit_ends};
 
-use listener_laws::laws::{copies_anywhere_are_further, copies_anywhere_are_welcome};
+use listener_laws::laws::{
+    copies_anywhere_are_further, copies_anywhere_are_welcome, units_anywhere_are_welcome,
+};
 use packet_journal::laws::{carried_clock_packet_is_delivered, carried_packet_is_delivered};
-use talked_headline::laws::{talked_is_heard, whole_capture_is_heard};
+use talked_headline::laws::{talked_is_heard, talked_video_is_heard, whole_capture_is_heard};
 use talker::laws::{capture_delivers, capture_reads_back, journal_conforms, losses_are_delivered};
 
 /// Captures of plans with the default lead of `talk`, of each kind, meet the whole premise of the headline, for listeners with the
@@ -140,6 +142,20 @@ pub fn talked_copy_is_further()
     carried_packet_is_delivered();
     carried_clock_packet_is_delivered();
     copies_anywhere_are_further();
+}
+
+/// A unit of an H.264 plan must be presented, wherever it is in a capture and whatever the capture loses, repeats or reorders, if all
+/// its packets are captured in their order, with none of the stream between them, no packet before it was captured after it is
+/// due, its last packet did not come before, and the buffer has room for it.
+pub fn talked_unit_anywhere_is_welcome()
+    ensures { (plan : TalkPlan) (input front after : List ℕ) (from n : ℕ) (listen : ListenPlan) → UnitMustBePresented plan input listen front from n after
+        → (place : ℕ) × ((made : MadeItem) × IsWelcome (journal plan input) listen (captured plan input (front ++ (range_with_len from (n - from) ++ n ∷ after))) place n made) }
+{
+    talked_video_is_heard();
+    losses_are_delivered();
+    carried_packet_is_delivered();
+    carried_clock_packet_is_delivered();
+    units_anywhere_are_welcome();
 }
 
 /// If exactly these packets are shown, a listener's counts say so: as many are presented, and none is flagged.
